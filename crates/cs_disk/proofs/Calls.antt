@@ -1,0 +1,21 @@
+-- One more call joins what a disk in memory has held.
+use Rattle.std.proofs.Common.{◌≡◌, ◌⊎◌, inl, inr, ℕ, ◌≤◌, List, ◌∷◌, length, sym, subst, arith}
+use Rattle.cs_disk.specs.Disk.{State, Image, MayLeave, Elapses}
+use Rattle.cs_disk.specs.Past.{MightHaveLeft, LeftSince}
+
+call_more : (past : List State) (old new : State) → Elapses (length past) (length (old ∷ past)) (LeftSince past old) (LeftSince (old ∷ past) new) new
+call_more past old new = record { later = omega arith; nothing_else = was; keeps = λ t c le left. inr (still t c le left) }
+  where
+    was : (t : ℕ) (c : Image) → t ≤ length past → LeftSince (old ∷ past) new t c → LeftSince past old t c ⊎ MayLeave new c
+    was t c le (inl now) = inr now
+    was t c le (inr (inl here)) = inl (inl here.1)
+    was t c le (inr (inr had)) = inl (inr had)
+
+    still : (t : ℕ) (c : Image) → t ≤ length past → LeftSince past old t c → MightHaveLeft (old ∷ past) t c
+    still t c le (inl here) = inl (le, here)
+    still t c le (inr had) = inr had
+
+-- a write or a flush, before which the contents were noted
+pub elapses_call : (past later : List State) (old new : State) → later ≡ old ∷ past → Elapses (length past) (length later) (LeftSince past old) (LeftSince later new) new
+elapses_call past later old new noted =
+    subst (λ (l : List State). Elapses (length past) (length l) (LeftSince past old) (LeftSince l new) new) (sym noted) (call_more past old new)

@@ -1,0 +1,5 @@
+pub mod Calls
+pub mod Crashes
+pub mod Images
+pub mod Moments
+pub mod Whole

@@ -1,0 +1,6 @@
+pub mod Disk
+pub mod Fails
+pub mod Faults
+pub mod Files
+pub mod Memory
+pub mod Past

@@ -1,0 +1,177 @@
+// A disk in a file.
+ghost use Rattle.std.specs.Prelude.{◌≡◌, ◌<◌, ◌^◌, ◌↔◌, [], IsOk, IfOk, IsOkUnless};
+ghost use Rattle.cs_disk.specs.Disk.{HasCause};
+
+use crate::{CrashDisk, DiskFault, OpenFault, PageDisk};
+use std::fs::File;
+use std::io;
+use std::os::unix::fs::FileExt;
+use std::rt::Files;
+
+/// A disk in a file, page 0 first. No clause can say what a file holds, so nothing says that it is honest: what is
+/// proved of an honest disk holds of it on the premise that the operating system keeps to the model, `sync_all` being
+/// the flush. No crash of it can be tried out.
+///
+/// A call of the operating system that fails is 1 DeviceFault, and counted; it never answers 9 OutOfMemory. A read and
+/// a write are of one page at its place, a flush is one `sync_all`.
+#[derive(Drop)]
+pub struct FileDisk {
+    file: File,
+    pages: u64,
+    failures: u64,
+    ghost small: { pages < 2 ^ 52 },
+}
+
+impl FileDisk {
+    ghost use Rattle.cs_disk.specs.Files.{file_pages, file_failures};
+
+    // A body that always refuses, or opens another file, would be proved too: no clause can say what the operating
+    // system answers. A test opens a file that is there.
+    /// Opens a file that is there, with as many pages as its length has. Refused 1 DeviceFault where the operating
+    /// system refuses it, and 6 OddLength where its length is no multiple of 4,096 bytes.
+    pub fn open<R: Files<File = File>>(rt: &R, path: &str) -> Result<Self, OpenFault>
+        ensures pages { IfOk result (λ d. file_pages d < 2 ^ 52) }
+        ensures failures { IfOk result (λ d. file_failures d ≡ 0) }
+    {
+        let Ok((file, length)) = existing(rt, path) else {
+            return Err(OpenFault::DeviceFault);
+        };
+        if length % 4096 != 0 {
+            return Err(OpenFault::OddLength);
+        }
+        Ok(FileDisk {
+            file,
+            pages: length / 4096,
+            failures: 0,
+        })
+    }
+
+    // As at `open`, a test shows that it makes the file that is named.
+    /// Makes a file of so many pages of zeros, and syncs it and its folder. One that is there is emptied. Refused
+    /// 1 DeviceFault alone, also where so many pages are more than a file can have; a file may be there then, of any
+    /// length.
+    pub fn create<R: Files<File = File>>(rt: &R, path: &str, pages: u64) -> Result<Self, OpenFault>
+        ensures pages { IfOk result (λ d. file_pages d ≡ pages) }
+        ensures failures { IfOk result (λ d. file_failures d ≡ 0) }
+        ensures fault { IsOkUnless result OpenFault.DeviceFault }
+    {
+        let Some(length) = pages.checked_mul(4096) else {
+            return Err(OpenFault::DeviceFault);
+        };
+        match file_of_zeros(rt, path, length) {
+            Ok(file) => Ok(FileDisk {
+                file,
+                pages,
+                failures: 0,
+            }),
+            Err(_) => Err(OpenFault::DeviceFault),
+        }
+    }
+}
+
+// Of this function and the next two no clause can say more than their types do; a test calls them.
+/// A file that is there, and its length in bytes.
+fn existing<R: Files<File = File>>(rt: &R, path: &str) -> io::Result<(File, u64)> {
+    let file = File::options().read(true).write(true).open(rt, path)?;
+    let length = file.metadata()?.len();
+    Ok((file, length))
+}
+
+/// A new or emptied file of so many bytes of zeros. Its folder is synced too, so that a crash leaves its name there.
+fn file_of_zeros<R: Files<File = File>>(rt: &R, path: &str, length: u64) -> io::Result<File> {
+    let mut options = File::options();
+    options.read(true).write(true).create(true).truncate(true);
+    let file = options.open(rt, path)?;
+    file.set_len(length)?;
+    file.sync_all()?;
+    folder_of(rt, path)?.sync_all()?;
+    Ok(file)
+}
+
+/// The folder that a file stands in.
+fn folder_of<R: Files<File = File>>(rt: &R, path: &str) -> io::Result<File> {
+    match path.rsplit_once('/') {
+        None => File::open(rt, "."),
+        Some(("", _)) => File::open(rt, "/"),
+        Some((folder, _)) => File::open(rt, folder),
+    }
+}
+
+/// Counts a call that failed, and answers 1 DeviceFault for it.
+fn counted(failures: &mut u64, answer: io::Result<()>) -> Result<(), DiskFault>
+    ensures ok { IsOk result ↔ IsOk answer }
+    ensures cause { HasCause failures.old failures.new result }
+{
+    if answer.is_err() {
+        *failures = failures.saturating_add(1);
+        return Err(DiskFault::DeviceFault);
+    }
+    Ok(())
+}
+
+impl PageDisk for FileDisk {
+    ghost honest = { λ _. ⊥ };
+
+    ghost state = { λ _. record { durable = []; volatile = [] } };
+
+    ghost page_count = { λ d. d.pages };
+
+    ghost failure_count = { λ d. d.failures };
+
+    ghost moment = { λ _. 0 };
+
+    ghost left_since = { λ _ _ _. ⊥ };
+
+    fn pages(&self) -> u64 {
+        self.pages
+    }
+
+    fn failures(&self) -> u64 {
+        self.failures
+    }
+
+    // The body `Ok(())` would be proved here, in `write` and in `flush`, since nothing says that the disk is honest, nor
+    // that a call of the operating system fails. A test reads back what was written.
+    fn read(&mut self, number: u64, buffer: &mut [u8; 4096]) -> Result<(), DiskFault> {
+        let answer = self.file.read_exact_at(buffer, number * 4096);
+        counted(&mut self.failures, answer)
+    }
+
+    fn write(&mut self, number: u64, bytes: &[u8; 4096]) -> Result<(), DiskFault> {
+        let answer = self.file.write_all_at(bytes, number * 4096);
+        counted(&mut self.failures, answer)
+    }
+
+    fn flush(&mut self) -> Result<(), DiskFault> {
+        let answer = self.file.sync_all();
+        counted(&mut self.failures, answer)
+    }
+
+    ghost sized = { λ d h. absurd h };
+
+    ghost whole = { λ d h. absurd h };
+
+    ghost counts_now = { λ d t c h le now. absurd h };
+
+    ghost only_now = { λ d c h left. absurd h };
+}
+
+impl CrashDisk for FileDisk {
+    ghost can_crash = { λ _. ⊥ };
+
+    ghost volatile_count = { λ _. 0 };
+
+    fn crashable(&self) -> bool {
+        false
+    }
+
+    fn volatile(&self) -> usize {
+        0
+    }
+
+    fn crash(self, _mask: &[bool]) -> Self {
+        self
+    }
+
+    ghost counted = { λ d h can. absurd h };
+}

@@ -1,0 +1,168 @@
+use crate::{CrashDisk, DiskFault, FailAt, FileDisk, ImageFault, MemoryDisk, OpenFault, PageDisk};
+use std::process::Abort;
+use std::test::Fail;
+
+const ONES: [u8; 4096] = [1; 4096];
+
+const TWOS: [u8; 4096] = [2; 4096];
+
+fn crash_and_look(
+    rt: &(impl Abort + AllocGlobal),
+    mask: &[bool; 2],
+    first: u8,
+    last: u8,
+) -> Result<(), Fail> {
+    let alloc = rt.alloc();
+    let mut disk = MemoryDisk::new(alloc, 3)?;
+    assert!(rt; disk.pages() == 3);
+    disk.write(0, &ONES)?;
+    assert!(rt; disk.pages() == 3);
+    disk.write(2, &TWOS)?;
+    assert!(rt; disk.crashable());
+    assert!(rt; disk.volatile() == 2);
+    let disk = disk.crash(mask);
+    let image = disk.image();
+    assert_eq!(rt; image.len(), 12288);
+    assert_eq!(rt;
+        (image[0], image[4095], image[4096], image[8192]),
+        (first, first, 0, last)
+    );
+    Ok(())
+}
+
+#[test]
+fn a_crash_keeps_what_the_mask_says(rt: HostRuntime) -> Result<(), Fail> {
+    crash_and_look(&rt, &[false, true], 0, 2)?;
+    crash_and_look(&rt, &[true, false], 1, 0)
+}
+
+#[test]
+fn a_flush_makes_writes_durable(rt: HostRuntime) -> Result<(), Fail> {
+    let alloc = rt.alloc();
+    let mut disk = MemoryDisk::of_image(alloc, [9; 8192].to_vec(alloc)?)?;
+    assert!(rt; disk.pages() == 2);
+    disk.write(1, &ONES)?;
+    assert!(rt; disk.pages() == 2);
+    disk.write(1, &TWOS)?;
+    let mut buffer = [0; 4096];
+    assert!(rt; disk.pages() == 2);
+    disk.read(1, &mut buffer)?;
+    assert_eq!(rt; buffer[7], 2);
+    disk.flush()?;
+    assert_eq!(rt; disk.volatile(), 0);
+    assert_eq!(rt; disk.failures(), 0);
+    let image = disk.image();
+    assert_eq!(rt; image.len(), 8192);
+    assert_eq!(rt; (image[0], image[4096]), (9, 2));
+    let odd = MemoryDisk::of_image(alloc, [9; 8191].to_vec(alloc)?);
+    assert!(rt; matches!(odd, Err(ImageFault::OddLength)));
+    Ok(())
+}
+
+/// A write, a read and a flush of which the `n`-th fails, so that it isn't seen below.
+fn fail_at(
+    rt: &(impl Abort + AllocGlobal),
+    n: u64,
+    succeed: (bool, bool, bool),
+    byte: u8,
+    volatile: usize,
+) -> Result<(), Fail> {
+    let mut disk = FailAt::new(MemoryDisk::new(rt.alloc(), 1)?, n);
+    let mut buffer = [7; 4096];
+    assert!(rt; disk.pages() == 1);
+    let written = disk.write(0, &ONES);
+    assert!(rt; disk.pages() == 1);
+    let read = disk.read(0, &mut buffer);
+    let flushed = disk.flush();
+    let failed = Err(DiskFault::DeviceFault);
+    assert_eq!(rt;
+        written,
+        if succeed.0 { Ok(()) } else { failed },
+        "write at {n}"
+    );
+    assert_eq!(rt;
+        read,
+        if succeed.1 { Ok(()) } else { failed },
+        "read at {n}"
+    );
+    assert_eq!(rt;
+        flushed,
+        if succeed.2 { Ok(()) } else { failed },
+        "flush at {n}"
+    );
+    assert_eq!(rt; buffer[0], byte, "what was read at {n}");
+    assert_eq!(rt; disk.volatile(), volatile, "what is volatile at {n}");
+    assert_eq!(rt; disk.failures(), if n == 0 || n > 3 { 0 } else { 1 });
+    Ok(())
+}
+
+#[test]
+fn the_chosen_call_fails(rt: HostRuntime) -> Result<(), Fail> {
+    fail_at(&rt, 0, (true, true, true), 1, 0)?;
+    fail_at(&rt, 1, (false, true, true), 0, 0)?;
+    fail_at(&rt, 2, (true, false, true), 7, 0)?;
+    fail_at(&rt, 3, (true, true, false), 1, 1)?;
+    fail_at(&rt, 4, (true, true, true), 1, 0)
+}
+
+#[test]
+fn the_count_goes_on_through_a_crash(rt: HostRuntime) -> Result<(), Fail> {
+    let mut disk = FailAt::new(MemoryDisk::new(rt.alloc(), 2)?, 2);
+    assert!(rt; disk.pages() == 2);
+    disk.write(0, &ONES)?;
+    assert!(rt; disk.crashable());
+    assert!(rt; disk.volatile() == 1);
+    let mut disk = disk.crash(&[true]);
+    assert_eq!(rt; disk.flush(), Err(DiskFault::DeviceFault));
+    let mut buffer = [0; 4096];
+    assert!(rt; disk.pages() == 2);
+    disk.read(0, &mut buffer)?;
+    assert_eq!(rt; buffer[0], 1);
+    assert_eq!(rt; disk.failures(), 1);
+    Ok(())
+}
+
+#[test]
+fn a_file_keeps_its_pages(rt: HostRuntime) -> Result<(), Fail> {
+    let path = "cs_disk_pages";
+    std::fs::write(&rt, path, "one that is there is emptied")?;
+    let mut disk = FileDisk::create(&rt, path, 2)?;
+    assert!(rt; disk.pages() == 2);
+    disk.write(1, &TWOS)?;
+    disk.flush()?;
+    assert!(rt; !disk.crashable());
+    assert!(rt; disk.volatile() == 0);
+    let disk = disk.crash(&[]);
+    assert_eq!(rt; disk.failures(), 0);
+    let mut disk = FileDisk::open(&rt, "./cs_disk_pages")?;
+    let mut buffer = [9; 4096];
+    assert!(rt; disk.pages() == 2);
+    disk.read(0, &mut buffer)?;
+    assert_eq!(rt; (buffer[0], buffer[4095]), (0, 0));
+    assert!(rt; disk.pages() == 2);
+    disk.read(1, &mut buffer)?;
+    assert_eq!(rt; (buffer[0], buffer[4095]), (2, 2));
+    std::fs::write(&rt, path, "odd")?;
+    assert!(rt; disk.pages() == 2);
+    assert_eq!(rt; disk.read(1, &mut buffer), Err(DiskFault::DeviceFault));
+    assert_eq!(rt; disk.failures(), 1);
+    assert!(rt; matches!(FileDisk::open(&rt, path), Err(OpenFault::OddLength)));
+    std::fs::remove_file(&rt, path)?;
+    assert!(rt; matches!(FileDisk::open(&rt, path), Err(OpenFault::DeviceFault)));
+    Ok(())
+}
+
+#[test]
+fn a_file_that_cannot_be_made(rt: HostRuntime) -> Result<(), Fail> {
+    for (path, pages) in [("no_such_folder/pages", 1), ("cs_disk_too_long", 1 << 60)] {
+        let made = FileDisk::create(&rt, path, pages);
+        assert!(rt; matches!(made, Err(OpenFault::DeviceFault)), "{path}");
+    }
+    assert!(rt;
+        matches!(
+            FileDisk::open(&rt, "cs_disk_too_long"),
+            Err(OpenFault::DeviceFault)
+        )
+    );
+    Ok(())
+}
