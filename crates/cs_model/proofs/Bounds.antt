@@ -1,0 +1,230 @@
+-- All numbers keep to their bounds, so that what is staged can be spelled.
+use Rattle.std.proofs.Common.{◌≡◌, ◌≢◌, ◌⊎◌, inl, inr, ⊎_elim, ℕ, suc, ◌+◌, ◌<◌, ◌≤◌, true, false, List, [], ◌∷◌, ◌++◌, length, Option, Some, None, ◌==◌, eq-eqb, ne_eqb, true≢false, le_trans, le_of_eq, refl, sym, ap, ap₂, ◌∙◌, subst, arith}
+use Rattle.std.specs.Prelude.{is_some}
+use Rattle.std.proofs.lemmas.Bool.{cases_eq, cases_Bool}
+use Rattle.cs_model.proofs.Parts.{each}
+use Rattle.cs_model.proofs.Counting.{names_le, ascending_names, ascending_lookup, lookup_here, lookup_there}
+use Rattle.cs_model.proofs.Roots.{RootFits}
+use Rattle.cs_model.proofs.Gives.{lookup_append}
+use Rattle.cs_model.specs.Device.{IsShape, Page, Shape}
+use Rattle.cs_model.specs.Disk.{written}
+use Rattle.cs_model.specs.Element.{Entry, Locator, Map, Run}
+use Rattle.cs_model.specs.Events.{newest_page}
+use Rattle.cs_model.specs.Formats.{Formats, places}
+use Rattle.cs_model.specs.Frames.{IsFormat}
+use Rattle.cs_model.specs.Index.{AllPass, Ascending, Gives, InBounds, InRange, IsRunList, Passes, entries_of, if_live, live, lookup, names}
+use Rattle.cs_model.specs.Lists.{◌∈◌}
+use Rattle.cs_model.specs.Refusal.{Refusal}
+use Rattle.cs_model.specs.Sound.{Bounded, Sound}
+use Rattle.cs_model.specs.State.{Command, State, index_now, map_now}
+
+-- where the first ground doesn't stand, the others decide
+pub not_first : {Ground : Type 0} {Others : Refusal → Type 0} (n : Refusal)
+    → ((f : Refusal) → ((Ground × (f ≡ n)) ⊎ ((Ground → ⊥) × Others f)) → ⊥) → (Ground → ⊥)
+    × ((f : Refusal) → Others f → ⊥)
+not_first n none = ((λ g. none n (inl (g, refl))), (λ f o. none f (inr ((λ g. none n (inl (g, refl))), o))))
+
+pub not_found : {Damage Others : Refusal → Type 0}
+    → ((f : Refusal) → (Damage f ⊎ (((g : Refusal) → Damage g → ⊥) × Others f)) → ⊥) → (f : Refusal) → Others f → ⊥
+not_found none f o = none f (inr ((λ g d. none g (inl d)), o))
+
+pub lookup_front : (id : ℕ) (xs ys : List Entry) (ls : List Locator) → lookup id xs ≡ Some ls
+    → lookup id (xs ++ ys) ≡ Some ls
+lookup_front id [] ys ls at = absurd (let e : None ≡ Some ls = at in cc)
+lookup_front id (x ∷ xs) ys ls at = elim (cases_eq x.id id) [
+  | inl is ↦ lookup_here x (xs ++ ys) id is ∙ sym (lookup_here x xs id is) ∙ at
+  | inr not ↦ lookup_there x (xs ++ ys) id not ∙ lookup_front id xs ys ls (sym (lookup_there x xs id not) ∙ at)
+]
+
+pub some_named : (o : Option (List Locator)) → is_some o ≡ true → (ls : List Locator) × (o ≡ Some ls)
+some_named None is = absurd (true≢false (sym is))
+some_named (Some ls) is = (ls, refl)
+
+pub if_live_some : (o : Option (List Locator)) (ls : List Locator) → if_live o ≡ Some ls → o ≡ Some ls
+if_live_some None ls is = is
+if_live_some (Some []) ls is = absurd (let e : None ≡ Some ls = is in cc)
+if_live_some (Some (l ∷ ks)) ls is = is
+
+pub not_empty : (table entries : List Entry) → table ≢ [] → ((id : ℕ) → lookup id entries ≡ lookup id table)
+    → entries ≢ []
+not_empty [] entries some same = λ none. some refl
+not_empty (x ∷ xs) entries some same = λ none. (let e : None ≡ Some x.locators = ap (lookup x.id) (sym none)
+    ∙ same x.id ∙ lookup_here x xs x.id refl in cc)
+
+places_length : (runs : List Run) → length (places runs) ≡ length runs
+places_length [] = refl
+places_length (run ∷ runs) = ap suc (places_length runs)
+
+module _ (S : Shape) (F : Formats) (shape : IsShape S) (format : IsFormat S F) where
+  in_range : (s : State) (img : ℕ → Page) (p : ℕ → ℕ) (l : Locator) → Sound S F s
+      → Passes S F img p s.world.extents.generation l → InRange S l
+  in_range s img p l sound pass =
+      (pass.inside, le_trans (le_of_eq (sym pass.generation)) (sound.safe.extents_fit l.extent).1)
+
+  places_in : (runs : List Run) → ((run : Run) → run ∈ runs → InRange S run.place) → (l : Locator) → l ∈ places runs
+      → InRange S l
+  places_in [] all l none = absurd none
+  places_in (run ∷ runs) all l (inl is) = subst (λ (k : Locator). InRange S k) (sym is) (all run (inl refl))
+  places_in (run ∷ runs) all l (inr has) = places_in runs (λ r h. all r (inr h)) l has
+
+  run_list : (s : State) (v n k : ℕ) (index entries : List Entry) (img : ℕ → Page) (p : ℕ → ℕ) → Sound S F s
+      → InBounds S v n k index → entries ≢ [] → Ascending entries
+      → ((id : ℕ) (ls : List Locator) → lookup id entries ≡ Some ls → lookup id index ≡ Some ls)
+      → ((id : ℕ) → AllPass S F img p s.world.extents.generation (lookup id entries)) → IsRunList S entries
+  run_list s v n k index entries img p sound bounds some order in_index pass = record {
+    some = some;
+    ascending = order;
+    few = le_trans (le_of_eq (sym (ascending_names entries order)))
+        (le_trans (names_le entries index
+        (λ id is. (let at = some_named (lookup id entries) is in
+        ap (λ (o : Option (List Locator)). is_some o) (in_index id at.0 at.1)))) bounds.named);
+    locators = λ x has. (let at = ascending_lookup entries x order has in (
+      subst (λ (o : Option (List Locator)). length (live o) ≤ S.most_chunks) (in_index x.id x.locators at)
+          (bounds.chunks_fit x.id),
+      λ l there. in_range s img p l sound
+          (subst (λ (o : Option (List Locator)). AllPass S F img p s.world.extents.generation o) at
+          (pass x.id) l there),
+    ));
+  }
+
+  -- the next root of these runs
+  fits : (s : State) (runs : List Run) (img : ℕ → Page) (p : ℕ → ℕ) (m : Map) → Sound S F s
+      → Gives S F s.opening img p s.world.extents.generation [] runs m
+      → InBounds S (suc s.world.root) (s.count + length s.commands) (length runs) (entries_of runs)
+      → ((run : Run) → run ∈ runs → F.fits_run run.entries ≡ true) → RootFits S F s runs
+  fits s runs img p m sound gives bounds all = (
+    format.root_fits (suc s.world.root) (s.count + length s.commands)
+        (places runs) bounds.some_version bounds.version_fits bounds.commands_fit
+        (le_trans (le_of_eq (places_length runs)) bounds.few_runs)
+        (places_in runs (λ run has. in_range s img p run.place sound (gives.runs_read run has).passes)),
+    all,
+    bounds,
+  )
+
+  pub stage_fits : (s : State) (l : Locator) (entries : List Entry) → Sound S F s → Bounded S F s
+      → suc s.world.root ≤ S.greatest_number → length s.runs < 4 → entries ≢ [] → Ascending entries
+      → ((id : ℕ) → lookup id entries ≡ lookup id s.table)
+      → Gives S F s.opening (newest_page s) s.world.extents.pointer s.world.extents.generation []
+      (record { place = l; entries = entries } ∷ s.runs) (map_now s)
+      → RootFits S F s (record { place = l; entries = entries } ∷ s.runs)
+  stage_fits s l entries sound b root few some order same gives =
+      fits s (record { place = l; entries = entries } ∷ s.runs) (newest_page s) s.world.extents.pointer
+      (map_now s) sound gives
+      (record {
+        some_version = omega arith;
+        version_fits = root;
+        commands_fit = b.bounds.commands_fit;
+        few_runs = few;
+        named = le_trans (names_le (entries ++ entries_of s.runs) (s.table ++ entries_of s.runs)
+            (λ id is. ap (λ (o : Option (List Locator)). is_some o) (sym (both id)) ∙ is)) b.bounds.named;
+        chunks_fit = λ id. subst (λ (o : Option (List Locator)). length (live o) ≤ S.most_chunks) (sym (both id))
+            (b.bounds.chunks_fit id);
+      })
+      (each (λ (run : Run). F.fits_run run.entries ≡ true) _ _
+      (format.run_fits entries
+      (run_list s _ _ _ (s.table ++ entries_of s.runs) entries
+      (newest_page s) s.world.extents.pointer sound b.bounds some order
+      (λ id ls at. lookup_front id s.table (entries_of s.runs) ls (sym (same id) ∙ at))
+      (λ id. gives.runs_pass (record { place = l; entries = entries }) (inl refl) id)))
+      b.runs_fit)
+    where
+      both : (id : ℕ) → lookup id (entries ++ entries_of s.runs) ≡ lookup id (s.table ++ entries_of s.runs)
+      both id = lookup_append id entries s.table (entries_of s.runs) (same id)
+
+  pub merged_fits : (s : State) (l : Locator) (entries : List Entry) (q : ℕ → ℕ) → Sound S F s → Bounded S F s
+      → suc s.world.root ≤ S.greatest_number → entries ≢ [] → Ascending entries
+      → ((id : ℕ) → lookup id entries ≡ if_live (lookup id (index_now s)))
+      → Gives S F s.opening (newest_page s) q s.world.extents.generation []
+      (record { place = l; entries = entries } ∷ []) (map_now s)
+      → RootFits S F s (record { place = l; entries = entries } ∷ [])
+  merged_fits s l entries q sound b root some order same gives =
+      fits s (record { place = l; entries = entries } ∷ []) (newest_page s) q (map_now s) sound gives
+      (record {
+        some_version = omega arith;
+        version_fits = root;
+        commands_fit = b.bounds.commands_fit;
+        few_runs = omega arith;
+        named = le_trans (names_le (entries ++ []) (index_now s)
+            (λ id is. (let at = some_named (lookup id (entries ++ [])) is in
+            ap (λ (o : Option (List Locator)). is_some o) (in_index id at.0 (sym (whole id) ∙ at.1)))))
+            b.bounds.named;
+        chunks_fit = λ id. small id (lookup id (entries ++ [])) refl;
+      })
+      (each (λ (run : Run). F.fits_run run.entries ≡ true) _ []
+      (format.run_fits entries
+      (run_list s _ _ _ (index_now s) entries (newest_page s) q sound b.bounds some order in_index
+      (λ id. gives.runs_pass (record { place = l; entries = entries }) (inl refl) id)))
+      (λ r none. absurd none))
+    where
+      append_none : (xs : List Entry) → xs ++ [] ≡ xs
+      append_none [] = refl
+      append_none (x ∷ xs) = ap (λ (ys : List Entry). x ∷ ys) (append_none xs)
+
+      whole : (id : ℕ) → lookup id (entries ++ []) ≡ lookup id entries
+      whole id = ap (lookup id) (append_none entries)
+
+      in_index : (id : ℕ) (ls : List Locator) → lookup id entries ≡ Some ls → lookup id (index_now s) ≡ Some ls
+      in_index id ls at = if_live_some (lookup id (index_now s)) ls (sym (same id) ∙ at)
+
+      small : (id : ℕ) (o : Option (List Locator)) → lookup id (entries ++ []) ≡ o → length (live o) ≤ S.most_chunks
+      small id None at = omega arith
+      small id (Some ls) at = subst (λ (o : Option (List Locator)). length (live o) ≤ S.most_chunks)
+          (in_index id ls (sym (whole id) ∙ at)) (b.bounds.chunks_fit id)
+
+  pub empty_fits : (s : State) (q : ℕ → ℕ) → Sound S F s → Bounded S F s → suc s.world.root ≤ S.greatest_number
+      → Gives S F s.opening (newest_page s) q s.world.extents.generation [] [] (map_now s) → RootFits S F s []
+  empty_fits s q sound b root gives = fits s [] (newest_page s) q (map_now s) sound gives
+      (record {
+        some_version = omega arith;
+        version_fits = root;
+        commands_fit = b.bounds.commands_fit;
+        few_runs = omega arith;
+        named = omega arith;
+        chunks_fit = λ id. omega arith;
+      }) (λ r none. absurd none)
+
+  pub bounded_same : (s t : State) → t.world.written ≤ S.greatest_number → t.world.root ≡ s.world.root
+      → t.count ≡ s.count → t.commands ≡ s.commands → t.runs ≡ s.runs → t.table ≡ s.table → Bounded S F s
+      → Bounded S F t
+  bounded_same s t written root count commands runs table b = record {
+    bounds = record {
+      some_version = le_trans b.bounds.some_version (le_of_eq (sym root));
+      version_fits = le_trans (le_of_eq root) b.bounds.version_fits;
+      commands_fit = le_trans
+          (le_of_eq (ap₂ (λ (c : ℕ) (cs : List Command). c + length cs) count commands)) b.bounds.commands_fit;
+      few_runs = le_trans (le_of_eq (ap length runs)) b.bounds.few_runs;
+      named = le_trans (le_of_eq (ap names index)) b.bounds.named;
+      chunks_fit = λ id. subst (λ (es : List Entry). length (live (lookup id es)) ≤ S.most_chunks) (sym index)
+          (b.bounds.chunks_fit id);
+    };
+    runs_fit = λ run has. b.runs_fit run (subst (λ (rs : List Run). run ∈ rs) runs has);
+    written_fits = written;
+  }
+    where
+      index : index_now t ≡ index_now s
+      index = ap₂ (λ (x : List Entry) (y : List Run). x ++ entries_of y) table runs
+
+  -- an entry more
+  pub bounded_entry : (s : State) (id : ℕ) (ls : List Locator) (cs : List Command) → Bounded S F s
+      → (is_some (lookup id (index_now s)) ≡ true) ⊎ (names (index_now s) < S.most_names) → length ls ≤ S.most_chunks
+      → s.count + length cs ≤ S.greatest_number
+      → Bounded S F (record s { table = record { id = id; locators = ls } ∷ s.table; commands = cs })
+  bounded_entry s id ls cs b room few fit = record {
+    bounds = record {
+      some_version = b.bounds.some_version;
+      version_fits = b.bounds.version_fits;
+      commands_fit = fit;
+      few_runs = b.bounds.few_runs;
+      named = elim (cases_Bool (is_some (lookup id (index_now s)))) [
+        | inl old ↦ rw old b.bounds.named
+        | inr new ↦ ⊎_elim (λ (old : is_some (lookup id (index_now s)) ≡ true). absurd (true≢false (sym old ∙ new)))
+            (λ (lt : names (index_now s) < S.most_names). rw new lt) room
+      ];
+      chunks_fit = λ k. elim (cases_eq id k) [
+        | inl is ↦ (let test : (id == k) ≡ true = eq-eqb id k is in rw test few)
+        | inr not ↦ (let test : (id == k) ≡ false = ne_eqb id k not in rw test (b.bounds.chunks_fit k))
+      ];
+    };
+    runs_fit = b.runs_fit;
+    written_fits = b.written_fits;
+  }

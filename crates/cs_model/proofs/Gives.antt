@@ -1,0 +1,220 @@
+-- What an index gives, when its table, its runs or the pointers change.
+use Rattle.std.proofs.Common.{◌≡◌, ◌≢◌, inl, inr, ⊎_elim, ℕ, ◌+◌, ◌<◌, ◌≤◌, Bool, true, false, List, [], ◌∷◌, ◌++◌, length, Option, Some, None, if◌then◌else◌, ◌==◌, eq-eqb, ne_eqb, append-nil, refl, sym, ap, ◌∙◌, subst}
+use Rattle.std.proofs.lemmas.Bool.{cases_eq}
+use Rattle.cs_model.specs.Device.{IsShape, Page, Shape}
+use Rattle.cs_model.specs.Element.{Content, Entry, Locator, Map, Opening, Run}
+use Rattle.cs_model.specs.Formats.{ChunkFrame, Formats, RunFrame}
+use Rattle.cs_model.specs.Frames.{IsFormat}
+use Rattle.cs_model.specs.Index.{AllPass, Chunks, Gives, Holds, Passes, Reads, ReadsAs, Value, entries_of, if_live, live, lookup}
+use Rattle.cs_model.specs.Lists.{◌∈◌}
+use Rattle.cs_model.proofs.Parts.{each}
+
+-- the value of an identifier in two lists
+pub lookup_append : (id : ℕ) (xs ys zs : List Entry) → lookup id xs ≡ lookup id ys
+    → lookup id (xs ++ zs) ≡ lookup id (ys ++ zs)
+lookup_append id xs ys zs same = split xs ∙ ap or_else same ∙ sym (split ys)
+  where
+    or_else : Option (List Locator) → Option (List Locator)
+    or_else None = lookup id zs
+    or_else (Some ls) = Some ls
+
+    split : (us : List Entry) → lookup id (us ++ zs) ≡ or_else (lookup id us)
+    split [] = refl
+    split (u ∷ us) = elim (cases_eq u.id id) [
+      | inl is ↦ let test : (u.id == id) ≡ true = eq-eqb u.id id is in rw test
+      | inr not ↦ let test : (u.id == id) ≡ false = ne_eqb u.id id not in rw test (split us)
+    ]
+
+module _ (S : Shape) (F : Formats) (shape : IsShape S) (format : IsFormat S F) where
+  module _ (opening : Opening) (img : ℕ → Page) (p g : ℕ → ℕ) where
+    pub chunks_pass : (ls : List Locator) (cs : List (List ℕ)) → Chunks S F opening img p g ls cs → (l : Locator)
+        → l ∈ ls → Passes S F img p g l
+    chunks_pass [] cs all l has = absurd has
+    chunks_pass (k ∷ ls) [] all l has = absurd all
+    chunks_pass (k ∷ ls) (c ∷ cs) all l (inl is) = subst (λ (x : Locator). Passes S F img p g x) (sym is) all.0.passes
+    chunks_pass (k ∷ ls) (c ∷ cs) all l (inr has) = chunks_pass ls cs all.1 l has
+
+    pub chunks_hold : (ls : List Locator) (cs : List (List ℕ)) → Chunks S F opening img p g ls cs → (l : Locator)
+        → l ∈ ls → Holds S F opening img p g l
+    chunks_hold [] cs all l has = absurd has
+    chunks_hold (k ∷ ls) [] all l has = absurd all
+    chunks_hold (k ∷ ls) (c ∷ cs) all l (inl is) = subst (λ (x : Locator). Holds S F opening img p g x) (sym is)
+        (inr (c, all.0))
+    chunks_hold (k ∷ ls) (c ∷ cs) all l (inr has) = chunks_hold ls cs all.1 l has
+
+    -- one entry more in the table
+    pub gives_set : (table : List Entry) (runs : List Run) (m new : Map) (id : ℕ) (ls : List Locator)
+        → Gives S F opening img p g table runs m
+        → ((l : Locator) → l ∈ ls → Passes S F img p g l) → ((l : Locator) → l ∈ ls → Holds S F opening img p g l)
+        → Value S F opening img p g (Some ls) (new id) → ((x : ℕ) → x ≢ id → new x ≡ m x)
+        → Gives S F opening img p g (record { id = id; locators = ls } ∷ table) runs new
+    gives_set table runs m new id ls gives passes hold value same = record {
+      runs_read = gives.runs_read;
+      runs_pass = gives.runs_pass;
+      holds = λ x l. elim (cases_eq id x) [
+        | inl is ↦ let test : (id == x) ≡ true = eq-eqb id x is in rw test (hold l)
+        | inr not ↦ let test : (id == x) ≡ false = ne_eqb id x not in rw test (gives.holds x l)
+      ];
+      table_passes = λ x. elim (cases_eq id x) [
+        | inl is ↦ let test : (id == x) ≡ true = eq-eqb id x is in rw test passes
+        | inr not ↦ let test : (id == x) ≡ false = ne_eqb id x not in rw test (gives.table_passes x)
+      ];
+      values = λ x. elim (cases_eq id x) [
+        | inl is ↦ let test : (id == x) ≡ true = eq-eqb id x is in
+            rw test (subst (λ (y : ℕ). Value S F opening img p g (Some ls) (new y)) is value)
+        | inr not ↦ let test : (id == x) ≡ false = ne_eqb id x not in
+            rw test (subst (λ (v : Option Content). Value S F opening img p g
+            (lookup x (table ++ entries_of runs)) v) (sym (same x (λ is. not (sym is)))) (gives.values x))
+      ];
+    }
+
+    -- the table becomes a run
+    pub gives_run : (table : List Entry) (runs : List Run) (m : Map) (l : Locator) (entries : List Entry)
+        → Gives S F opening img p g table runs m
+        → ((id : ℕ) → lookup id entries ≡ lookup id table)
+        → Reads S F opening img p g l (F.frame RunFrame (F.run entries))
+        → Gives S F opening img p g [] (record { place = l; entries = entries } ∷ runs) m
+    gives_run table runs m l entries gives same reads = record {
+      runs_read = each (λ (r : Run). Reads S F opening img p g r.place (F.frame RunFrame (F.run r.entries))) _ _
+          reads gives.runs_read;
+      table_passes = λ id. tt;
+      runs_pass = each (λ (r : Run). (id : ℕ) → AllPass S F img p g (lookup id r.entries)) _ _
+          (λ id. subst (λ (o : Option (List Locator)). AllPass S F img p g o) (sym (same id))
+          (gives.table_passes id)) gives.runs_pass;
+      holds = λ id k has. gives.holds id k
+          (subst (λ (o : Option (List Locator)). k ∈ live o)
+          (lookup_append id entries table (entries_of runs) (same id)) has);
+      values = λ id. subst (λ (o : Option (List Locator)). Value S F opening img p g o (m id))
+          (sym (lookup_append id entries table (entries_of runs) (same id))) (gives.values id);
+    }
+
+  -- under other pointers that agree where the locators are
+  reads_under : (opening : Opening) (img : ℕ → Page) (p q g : ℕ → ℕ) (l : Locator) (bs : List Page)
+      → q l.extent ≡ p l.extent → Reads S F opening img p g l bs → Reads S F opening img q g l bs
+  reads_under opening img p q g l bs same r = record {
+    passes = record {
+      generation = r.passes.generation;
+      below = subst (λ (n : ℕ). l.page < n) (sym same) r.passes.below;
+      inside = r.passes.inside;
+    };
+    below = ⊎_elim (λ (below : l.page + length bs ≤ p l.extent). inl
+        (subst (λ (n : ℕ). l.page + length bs ≤ n) (sym same) below)) (λ fz. inr fz) r.below;
+    inside = r.inside;
+    stand = r.stand;
+  }
+
+  reading_under : (opening : Opening) → (img : ℕ → Page) (p q g : ℕ → ℕ) (ls : List Locator) (content : Content)
+      → ((l : Locator) → l ∈ ls → q l.extent ≡ p l.extent) → ReadsAs S F opening img p g ls content
+      → ReadsAs S F opening img q g ls content
+  reading_under opening img p q g [] content same is = is
+  reading_under opening img p q g (l ∷ ls) content same (inl r) = inl (
+    r.0,
+    r.1,
+    reads_under opening img p q g l (F.frame ChunkFrame r.0) (same l (inl refl)) r.2,
+    reading_under opening img p q g ls r.1 (λ k has. same k (inr has)) r.3,
+    r.4,
+  )
+  reading_under opening img p q g (l ∷ ls) content same (inr bad) = inr bad
+
+  live_value : (opening : Opening)
+      → (img : ℕ → Page) (p q g : ℕ → ℕ) (o : Option (List Locator)) (v : Option Content)
+      → ((l : Locator) → l ∈ live o → q l.extent ≡ p l.extent) → Value S F opening img p g o v
+      → Value S F opening img q g (if_live o) v
+  live_value opening img p q g None v same value = value
+  live_value opening img p q g (Some []) v same value = value
+  live_value opening img p q g (Some (l ∷ ls)) v same value =
+      (value.0, reading_under opening img p q g (l ∷ ls) value.0 same value.1, value.2)
+
+  in_live : (o : Option (List Locator)) (l : Locator) → l ∈ live (if_live o) → l ∈ live o
+  in_live None l has = has
+  in_live (Some []) l has = has
+  in_live (Some (k ∷ ls)) l has = has
+
+  holds_under : (opening : Opening) → (img : ℕ → Page) (p q g : ℕ → ℕ) (l : Locator) → q l.extent ≡ p l.extent
+      → Holds S F opening img p g l → Holds S F opening img q g l
+  holds_under opening img p q g l same (inl bad) = inl bad
+  holds_under opening img p q g l same (inr has) = inr
+      (has.0, reads_under opening img p q g l (F.frame ChunkFrame has.0) same has.1)
+
+  live_pass : (img : ℕ → Page) (p q g : ℕ → ℕ) (o : Option (List Locator))
+      → ((l : Locator) → l ∈ live o → q l.extent ≡ p l.extent) → AllPass S F img p g o → AllPass S F img q g (if_live o)
+  live_pass img p q g None same pass = tt
+  live_pass img p q g (Some []) same pass = tt
+  live_pass img p q g (Some (l ∷ ls)) same pass = λ k has.
+      (let old = pass k has in
+      record {
+        generation = old.generation;
+        below = subst (λ (n : ℕ). k.page < n) (sym (same k has)) old.below;
+        inside = old.inside;
+      })
+
+  pass_if : (img : ℕ → Page) (p g : ℕ → ℕ) (b : Bool) (ls : List Locator) (o r : Option (List Locator))
+      → (AllPass S F img p g o → AllPass S F img p g r)
+      → AllPass S F img p g (if b then Some ls else o) → AllPass S F img p g (if b then Some ls else r)
+  pass_if img p g true ls o r on a = a
+  pass_if img p g false ls o r on a = on a
+
+  pass_append : (img : ℕ → Page) (p g : ℕ → ℕ) (id : ℕ) (xs ys : List Entry) → AllPass S F img p g (lookup id xs)
+      → AllPass S F img p g (lookup id ys) → AllPass S F img p g (lookup id (xs ++ ys))
+  pass_append img p g id [] ys a b = b
+  pass_append img p g id (x ∷ xs) ys a b = pass_if img p g (x.id == id) x.locators _ _
+      (λ old. pass_append img p g id xs ys old b) a
+
+  pass_runs : (img : ℕ → Page) (p g : ℕ → ℕ) (id : ℕ) (runs : List Run)
+      → ((run : Run) → run ∈ runs → AllPass S F img p g (lookup id run.entries))
+      → AllPass S F img p g (lookup id (entries_of runs))
+  pass_runs img p g id [] all = tt
+  pass_runs img p g id (run ∷ runs) all = pass_append img p g id run.entries (entries_of runs) (all run (inl refl))
+      (pass_runs img p g id runs (λ r has. all r (inr has)))
+
+  -- each locator of what an identifier has passes
+  pub entry_passes : {opening : Opening}
+      → (img : ℕ → Page) (p g : ℕ → ℕ) (table : List Entry) (runs : List Run) (m : Map)
+      → Gives S F opening img p g table runs m → (id : ℕ) → AllPass S F img p g (lookup id (table ++ entries_of runs))
+  entry_passes img p g table runs m gives id = pass_append img p g id table (entries_of runs)
+      (gives.table_passes id) (pass_runs img p g id runs (λ run has. gives.runs_pass run has id))
+
+  none_value : (opening : Opening) → (img : ℕ → Page) (p g : ℕ → ℕ) (o : Option (List Locator)) (v : Option Content)
+      → live o ≡ [] → Value S F opening img p g o v → v ≡ None
+  none_value opening img p g None v none value = value
+  none_value opening img p g (Some []) v none value = value
+  none_value opening img p g (Some (l ∷ ls)) v none value = absurd (let e : l ∷ ls ≡ [] = none in cc)
+
+  -- one run of all that is live
+  pub gives_merged : {opening : Opening}
+      → (img : ℕ → Page) (p q g : ℕ → ℕ) (table : List Entry) (runs : List Run) (m : Map) (l : Locator)
+      (entries : List Entry) → Gives S F opening img p g table runs m
+      → ((id : ℕ) → lookup id entries ≡ if_live (lookup id (table ++ entries_of runs)))
+      → ((id : ℕ) (k : Locator) → k ∈ live (lookup id (table ++ entries_of runs)) → q k.extent ≡ p k.extent)
+      → q l.extent ≡ p l.extent → Reads S F opening img p g l (F.frame RunFrame (F.run entries))
+      → Gives S F opening img q g [] (record { place = l; entries = entries } ∷ []) m
+  gives_merged {opening} img p q g table runs m l entries gives same agree here reads = record {
+    runs_read = each (λ (r : Run). Reads S F opening img q g r.place (F.frame RunFrame (F.run r.entries))) _ []
+        (reads_under opening img p q g l (F.frame RunFrame (F.run entries)) here reads) (λ r none. absurd none);
+    table_passes = λ id. tt;
+    runs_pass = each (λ (r : Run). (id : ℕ) → AllPass S F img q g (lookup id r.entries)) _ []
+        (λ id. subst (λ (o : Option (List Locator)). AllPass S F img q g o) (sym (same id))
+        (live_pass img p q g _ (agree id) (entry_passes img p g table runs m gives id))) (λ r none. absurd none);
+    holds = λ id k has.
+        (let old : k ∈ live (lookup id (table ++ entries_of runs)) = in_live
+        (lookup id (table ++ entries_of runs)) k
+        (subst (λ (o : Option (List Locator)). k ∈ live o) (lookup_nil id entries ∙ same id) has) in
+        holds_under opening img p q g k (agree id k old) (gives.holds id k old));
+    values = λ id. subst (λ (o : Option (List Locator)). Value S F opening img q g o (m id))
+        (sym (lookup_nil id entries ∙ same id)) (live_value opening img p q g _ (m id) (agree id) (gives.values id));
+  }
+    where
+      lookup_nil : (id : ℕ) (xs : List Entry) → lookup id (xs ++ []) ≡ lookup id xs
+      lookup_nil id xs = ap (lookup id) (append-nil xs)
+
+  pub gives_nothing : {opening : Opening}
+      → (img : ℕ → Page) (p q g : ℕ → ℕ) (table : List Entry) (runs : List Run) (m : Map)
+      → Gives S F opening img p g table runs m
+      → ((id : ℕ) → live (lookup id (table ++ entries_of runs)) ≡ []) → Gives S F opening img q g [] [] m
+  gives_nothing {opening} img p q g table runs m gives none = record {
+    runs_read = λ r has. absurd has;
+    table_passes = λ id. tt;
+    runs_pass = λ r has. absurd has;
+    holds = λ id l has. absurd has;
+    values = λ id. none_value opening img p g _ (m id) (none id) (gives.values id);
+  }

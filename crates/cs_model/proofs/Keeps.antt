@@ -1,0 +1,139 @@
+-- Every event keeps a state sound.
+use Rattle.std.proofs.Common.{◌≡◌, ◌≢◌, inl, inr, ⊎_elim, ℕ, ◌<◌, Bool, true, false, List, [], ◌∷◌, ◌++◌, Option, Some, if◌then◌else◌, ◌==◌, eq-eqb, ne_eqb, true≢false, refl, sym, subst}
+use Rattle.std.proofs.lemmas.Bool.{cases_eq}
+use Rattle.cs_model.specs.Device.{IsShape, Shape}
+use Rattle.cs_model.specs.Element.{A_root, A_superblock, A_write, Element}
+use Rattle.cs_model.specs.Events.{Does, mark}
+use Rattle.cs_model.specs.Extents.{marked}
+use Rattle.cs_model.specs.Formats.{Formats}
+use Rattle.cs_model.specs.Frames.{IsFormat}
+use Rattle.cs_model.specs.Grounds.{Refuses}
+use Rattle.cs_model.specs.Machine.{World}
+use Rattle.cs_model.specs.Recovery.{RootGives}
+use Rattle.cs_model.specs.Refusal.{Refusal}
+use Rattle.cs_model.specs.Round.{IsMember}
+use Rattle.cs_model.specs.Sound.{Bounded, Sound}
+use Rattle.cs_model.specs.State.{Abandon, Abandoned, Absent, Accepted, Begin, BeginSweep, Begun, Delete, End, Ended, Event, Found, Get, Issue, Issued, MoveOne, Moved, NoneLive, NotYet, Nothing, Persistent, Put, Refused, Reply, Retire, Retired, Settle, Stage, Staged, State, Sweeping, Unchanged}
+use Rattle.cs_model.specs.Step.{History, Step}
+use Rattle.cs_model.proofs.RoundMoves.{keeps_marks}
+use Rattle.cs_model.proofs.Carries.{root_local}
+use Rattle.cs_model.proofs.Commands.{both, keeps_put, keeps_delete}
+use Rattle.cs_model.proofs.Stagings.{keeps_stage, keeps_retire}
+use Rattle.cs_model.proofs.Movings.{keeps_move}
+use Rattle.cs_model.proofs.KeptRounds.{keeps_take, keeps_end_round, keeps_issue}
+
+module _ (S : Shape) (F : Formats) (shape : IsShape S) (format : IsFormat S F) where
+  marks_member : (w : World) (o : Option ℕ) (swept : ℕ → Bool) (m : Element) → IsMember S w m
+      → IsMember S (record w { extents = record w.extents { open_extent = o; swept = swept } }) m
+  marks_member w o swept (A_write x) is = is
+  marks_member w o swept (A_superblock u) is = is
+  marks_member w o swept (A_root r) is = is
+
+  marks_back : (w : World) (o : Option ℕ) (swept : ℕ → Bool) (m : Element)
+      → IsMember S (record w { extents = record w.extents { open_extent = o; swept = swept } }) m → IsMember S w m
+  marks_back w o swept (A_write x) is = is
+  marks_back w o swept (A_superblock u) is = is
+  marks_back w o swept (A_root r) is = is
+
+  other_sweeps : (s : State) (e : ℕ) (b : Bool) → Sound S F s
+      → ((d : ℕ) → (if d == e then b else s.world.extents.swept d) ≡ true → (s.world.extents.open_extent ≢ Some d)
+      × (0 < s.world.extents.pointer d) × (d < S.extents)) → Sound S F (mark s e b)
+  other_sweeps s e b sound new = record {
+    safe = keeps_marks S (RootGives S F s.opening) s.opening.frozen s.opened
+        (root_local S F shape) s.world s.world.extents.open_extent swept sound.safe;
+    settled = λ d. (let o = sound.settled d in record { last = o.last; pages = o.pages; current = o.current });
+    gives = sound.gives;
+    maps = sound.maps;
+    caught_up = sound.caught_up;
+    frozen = sound.frozen;
+    damaged = sound.damaged;
+    left = λ m has. marks_member s.world s.world.extents.open_extent swept m (sound.left m has);
+    issued = λ m has. marks_member s.world s.world.extents.open_extent swept m (sound.issued m has);
+    complete = λ busy m is. sound.complete busy m (marks_back s.world s.world.extents.open_extent swept m is);
+    swept = new;
+  }
+    where
+      swept : ℕ → Bool
+      swept = (marked s.world.extents e b).swept
+
+  keeps_begin_sweep : (s t : State) (e : ℕ) → Sound S F s → Does S F s (BeginSweep e) Sweeping t → Sound S F t
+  keeps_begin_sweep s t e sound d = subst (λ (x : State). Sound S F x) (sym d.4)
+      (other_sweeps s e true sound (λ k. elim (cases_eq k e) [
+        | inl is ↦ (λ has. subst (λ (x : ℕ). (s.world.extents.open_extent ≢ Some x) × (0 < s.world.extents.pointer x)
+            × (x < S.extents)) (sym is) (d.1, d.3, d.2))
+        | inr not ↦ (let test : (k == e) ≡ false = ne_eqb k e not in rw test (λ has. sound.swept k has))
+      ]))
+
+  keeps_abandon : (s t : State) (e : ℕ) → Sound S F s → Does S F s (Abandon e) Abandoned t → Sound S F t
+  keeps_abandon s t e sound d = subst (λ (x : State). Sound S F x) (sym d.1)
+      (other_sweeps s e false sound (λ k. elim (cases_eq k e) [
+        | inl is ↦ (let test : (k == e) ≡ true = eq-eqb k e is in rw test (λ wrong. absurd (true≢false (sym wrong))))
+        | inr not ↦ (let test : (k == e) ≡ false = ne_eqb k e not in rw test (λ has. sound.swept k has))
+      ]))
+
+  -- what leaves the numbers, the table and the runs as they are
+  rest : (s t u : State) → t ≡ u → Sound S F t → Bounded S F u → Sound S F t × Bounded S F t
+  rest s t u is sound b = (sound, subst (λ (x : State). Bounded S F x) (sym is) b)
+
+  pub keeps : (s t : State) (event : Event) (reply : Reply) → Sound S F s → Bounded S F s
+      → ((f : Refusal) → Refuses S F s event f → ⊥) → Does S F s event reply t → Sound S F t × Bounded S F t
+  keeps s t (Put id bytes) (Accepted n) sound b none d = keeps_put S F shape format s t id n bytes sound b none d
+  keeps s t (Get id) (Found bytes) sound b none d = both S F shape format s t d.1 sound b
+  keeps s t (Get id) Absent sound b none d = both S F shape format s t d.1 sound b
+  keeps s t (Delete id) (Accepted n) sound b none d = keeps_delete S F shape format s t id n sound b none d
+  keeps s t (Delete id) Absent sound b none d = both S F shape format s t d.1 sound b
+  keeps s t Stage Unchanged sound b none d = both S F shape format s t d.1 sound b
+  keeps s t Stage (Staged v) sound b none d = keeps_stage S F shape format s t v sound b none d
+  keeps s t Begin Nothing sound b none d = both S F shape format s t d.2 sound b
+  keeps s t Begin (Begun members) sound b none d = rest s t _ d.5 (keeps_take S F shape format s t members sound d)
+      (record { bounds = b.bounds; runs_fit = b.runs_fit; written_fits = b.written_fits })
+  keeps s t Issue (Issued m) sound b none d = rest s t _ d.3 (keeps_issue S F shape format s t m sound d)
+      (record { bounds = b.bounds; runs_fit = b.runs_fit; written_fits = b.written_fits })
+  keeps s t End (Ended n) sound b none d = rest s t _ d.2 (keeps_end_round S F shape format s t n sound d)
+      (record { bounds = b.bounds; runs_fit = b.runs_fit; written_fits = b.written_fits })
+  keeps s t (BeginSweep e) Sweeping sound b none d = rest s t _ d.4 (keeps_begin_sweep s t e sound d)
+      (record { bounds = b.bounds; runs_fit = b.runs_fit; written_fits = b.written_fits })
+  keeps s t (MoveOne e) NoneLive sound b none d = both S F shape format s t d.2 sound b
+  keeps s t (MoveOne e) (Moved id k) sound b none d = keeps_move S F shape format s t e id k sound b none d
+  keeps s t (Retire e) (Retired v) sound b none d = keeps_retire S F shape format s t e v sound b none d
+  keeps s t (Abandon e) Abandoned sound b none d = rest s t _ d.1 (keeps_abandon s t e sound d)
+      (record { bounds = b.bounds; runs_fit = b.runs_fit; written_fits = b.written_fits })
+  keeps s t (Settle n) Persistent sound b none d = both S F shape format s t d.4 sound b
+  keeps s t (Settle n) (NotYet f) sound b none d = both S F shape format s t d.2 sound b
+  keeps s t event reply sound b none d = absurd d
+
+  halts : (s : State) → Sound S F s → Sound S F (record s { halted = true })
+  halts s sound = record {
+    safe = sound.safe;
+    settled = sound.settled;
+    gives = sound.gives;
+    maps = sound.maps;
+    caught_up = sound.caught_up;
+    frozen = sound.frozen;
+    damaged = sound.damaged;
+    left = sound.left;
+    issued = sound.issued;
+    complete = sound.complete;
+    swept = sound.swept;
+  }
+
+  pub steps : (s t : State) (event : Event) (reply : Reply) → Sound S F s → Bounded S F s → Step S F s event reply t
+      → Sound S F t × Bounded S F t
+  steps s t Issue (Refused f) sound b (inl same) = both S F shape format s t same.1 sound b
+  steps s t Issue (Refused f) sound b (inr fault) = ⊎_elim
+      (λ (is : t ≡ record s { halted = true }). both S F shape format _ t is (halts s sound)
+      (record { bounds = b.bounds; runs_fit = b.runs_fit; written_fits = b.written_fits }))
+      (λ w. let u : State = record s { left = w.1 ++ w.2; issued = s.issued ++ w.0 ∷ [] } in
+      both S F shape format _ t w.4 (halts u (keeps_issue S F shape format s u w.0 sound (w.1, w.2, w.3, refl)))
+      (record { bounds = b.bounds; runs_fit = b.runs_fit; written_fits = b.written_fits })) fault.2
+  steps s t End (Refused f) sound b (inl same) = both S F shape format s t same.1 sound b
+  steps s t End (Refused f) sound b (inr fault) = both S F shape format _ t fault.2 (halts s sound)
+      (record { bounds = b.bounds; runs_fit = b.runs_fit; written_fits = b.written_fits })
+  steps s t event (Refused f) sound b d = both S F shape format s t d.1 sound b
+  steps s t event reply sound b d = keeps s t event reply sound b d.0 d.1
+
+  pub histories : (s t : State) (history : List (Event × Reply)) → Sound S F s → Bounded S F s
+      → History S F s history t → Sound S F t × Bounded S F t
+  histories s t [] sound b is = both S F shape format s t is sound b
+  histories s t (x ∷ xs) sound b run = let next = steps s run.0 x.0 x.1 sound b run.1 in
+      histories run.0 t xs next.0 next.1 run.2

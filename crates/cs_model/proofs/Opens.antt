@@ -1,0 +1,245 @@
+-- A store that is opened on what a crash left is sound.
+use Rattle.std.proofs.Common.{nat_lt, ◌==◌, ◌&&◌, ◌-◌, Some, None, eqb-true, ◌≡◌, inl, inr, ℕ, zero, suc, List, ◌+◌, ◌<◌, ◌≤◌, [], ◌∷◌, le_of_eq, le_refl, true≢false, refl, sym, ap, ◌∙◌, subst, arith}
+use Rattle.std.proofs.lemmas.Bool.{cases_eq}
+use Rattle.cs_model.specs.Cut.{page_in}
+use Rattle.cs_model.specs.Device.{IsShape, Page, Shape}
+use Rattle.cs_model.specs.Element.{Map, Root, RootBefore, Superblock, SuperblockBefore, Write, WriteBefore, roots_of, superblocks_of, writes_of}
+use Rattle.cs_model.specs.Formats.{ChunkFrame, Formats, opening_in, pages_from}
+use Rattle.cs_model.specs.Guard.{page_as_staged}
+use Rattle.cs_model.specs.Index.{Gives}
+use Rattle.cs_model.specs.Lists.{Descends, ◌∈◌}
+use Rattle.cs_model.specs.Machine.{everything}
+use Rattle.cs_model.specs.Open.{opened_state, opened_world, root_read, superblock_read, superblocks_read}
+use Rattle.cs_model.specs.Recovery.{Recovers, RootGives}
+use Rattle.cs_model.specs.Safe.{FitsExtent}
+use Rattle.cs_model.specs.Sound.{Bounded, Sound}
+use Rattle.cs_model.proofs.Tests.{some_pages, not_empty_at, where_damaged}
+use Rattle.cs_model.proofs.Parts.{each}
+use Rattle.cs_model.proofs.Carries.{and_true, and_left, and_right}
+
+module _ (S : Shape) (F : Formats) (shape : IsShape S) (img : ℕ → Page) (n : ℕ) (m : Map)
+    (g : Recovers S F img n m) where
+  is_read : (k : ℕ) (u : Superblock) → u ∈ superblocks_of (superblocks_read S F img n m g k)
+      → (u ≡ superblock_read S F img n m g u.section) × (u.section < k)
+  is_read zero u none = absurd none
+  is_read (suc k) u (inl is) = (
+    is ∙ ap (λ (v : Superblock). superblock_read S F img n m g v.section) (sym is),
+    le_of_eq (ap (λ (v : Superblock). suc v.section) is),
+  )
+  is_read (suc k) u (inr has) = let old = is_read k u has in (old.0, let lt : u.section < k = old.1 in omega arith)
+
+  there : (k j : ℕ) → j < k → superblock_read S F img n m g j ∈ superblocks_of (superblocks_read S F img n m g k)
+  there zero j lt = absurd (omega arith)
+  there (suc k) j lt = elim (cases_eq j k) [
+    | inl same ↦ inl (ap (superblock_read S F img n m g) same)
+    | inr not ↦ inr (there k j (omega arith))
+  ]
+
+  in_order : (k : ℕ) → Descends SuperblockBefore (superblocks_of (superblocks_read S F img n m g k))
+  in_order zero = tt
+  in_order (suc k) = (
+    (λ u has sec. absurd (let lt : u.section < k = (is_read k u has).1 in
+        let same : u.section ≡ k = sec in omega arith)),
+    in_order k,
+  )
+
+  root_zero : (u : Superblock) → u ∈ superblocks_of (superblocks_read S F img n m g S.sections) → u.root ≡ 0
+  root_zero u has = ap (λ (v : Superblock). v.root) (is_read S.sections u has).0
+
+  writes_zero : (u : Superblock) → u ∈ superblocks_of (superblocks_read S F img n m g S.sections) → u.writes ≡ 0
+  writes_zero u has = ap (λ (v : Superblock). v.writes) (is_read S.sections u has).0
+
+  version_is : (u : Superblock) → u ∈ superblocks_of (superblocks_read S F img n m g S.sections)
+      → u.version ≡ g.versions u.section
+  version_is u has = ap (λ (v : Superblock). v.version) (is_read S.sections u has).0
+
+  no_writes : (k : ℕ) → writes_of (superblocks_read S F img n m g k) ≡ []
+  no_writes zero = refl
+  no_writes (suc k) = no_writes k
+
+  no_roots : (k : ℕ) → roots_of (superblocks_read S F img n m g k) ≡ []
+  no_roots zero = refl
+  no_roots (suc k) = no_roots k
+
+  no_write : (x : Write) → x ∈ writes_of (superblocks_read S F img n m g S.sections) → ⊥
+  no_write x has = subst (λ (ws : List Write). x ∈ ws) (no_writes S.sections) has
+
+  no_root : (r : Root) → r ∈ roots_of (superblocks_read S F img n m g S.sections) → ⊥
+  no_root r has = subst (λ (rs : List Root). r ∈ rs) (no_roots S.sections) has
+
+  as_read : (p : ℕ) → page_in (everything (opened_world S F img n m g)) img
+      (writes_of (superblocks_read S F img n m g S.sections)) p ≡ img p
+  as_read p = ap (λ (ws : List Write). page_in (everything (opened_world S F img n m g)) img ws p)
+      (no_writes S.sections)
+
+  pub opens_sound : Sound S F (opened_state S F img n m g)
+  opens_sound = record {
+    safe = record {
+      guarded = each _ _ (roots_of (superblocks_read S F img n m g S.sections))
+          (λ h c. record {
+            kept = λ w none. absurd (no_write w none);
+            recorded = λ u has sec ver. inl
+                (record {
+                  generation = ap (λ (v : Superblock). v.generations (S.extent h.page))
+                      (is_read S.sections u has).0 ∙ c.generation;
+                  below = subst (λ (k : ℕ). S.index h.page < k)
+                      (ap (λ (v : Superblock). v.pointers (S.extent h.page)) (sym (is_read S.sections u has).0))
+                      c.below;
+                });
+          }) (λ r none. absurd (no_root r none));
+      needed = each _ _ (roots_of (superblocks_read S F img n m g S.sections))
+          (λ e. (
+            superblock_read S F img n m g (S.section e),
+            there S.sections (S.section e) (shape.section e),
+            refl,
+            refl,
+            le_refl _,
+          )) (λ r none. absurd (no_root r none));
+      fresh = each _ _ (roots_of (superblocks_read S F img n m g S.sections)) (λ h c. inl c)
+          (λ r none. absurd (no_root r none));
+      same_or_reset = each _ _ (roots_of (superblocks_read S F img n m g S.sections)) (λ e some. inl refl)
+          (λ r none. absurd (no_root r none));
+      written_later = λ r is e fz some x none. absurd (no_write x none);
+      unwritten = λ e fz x none at. absurd (no_write x none);
+      frozen_before = λ e k fz. le_of_eq
+          (sym (eqb-true (g.generations e) k (and_left (g.generations e == k) (nat_lt 0 (g.pointers e)) fz)));
+      written_once = λ x none. absurd (no_write x none);
+      rewritten = λ x y none. absurd (no_write x none);
+      good = each _ _ (roots_of (superblocks_read S F img n m g S.sections))
+          (subst (λ (ws : List Write). RootGives S F (opening_in S F img g.pointers g.generations)
+          (root_read S F img n m g) (page_as_staged S (root_read S F img n m g) img ws))
+          (sym (no_writes S.sections)) (g.gives, g.root_fits, g.runs_fit, g.bounds))
+          (λ r none. absurd (no_root r none));
+      writes_below = λ x none. absurd (no_write x none);
+      superblocks_below = λ u has. (le_of_eq (version_is u has), le_of_eq (writes_zero u has));
+      roots_below = each _ _ (roots_of (superblocks_read S F img n m g S.sections))
+          (le_refl _, (λ j. le_refl _), (λ j. le_refl _)) (λ r none. absurd (no_root r none));
+      behind_below = λ j. le_refl _;
+      frames = λ x none. absurd (no_write x none);
+      writes_order = subst (λ (ws : List Write). Descends WriteBefore ws) (sym (no_writes S.sections)) tt;
+      superblocks_order = in_order S.sections;
+      roots_order = (
+        (λ r none. absurd (no_root r none)),
+        subst (λ (rs : List Root). Descends RootBefore rs) (sym (no_roots S.sections)) tt,
+      );
+      nested_superblocks = λ u v is_u is_v sec ver. (
+        le_of_eq (root_zero u is_u ∙ sym (root_zero v is_v)),
+        le_of_eq (writes_zero u is_u ∙ sym (writes_zero v is_v)),
+      );
+      nested_roots = λ r q is_r is_q ver j. le_of_eq (only r is_r j ∙ sym (only q is_q j));
+      extents_fit = g.extents_fit;
+      resets_there = λ e out. refl;
+      superblocks_fit = λ u has. subst (λ (v : Superblock). (1 ≤ v.version) × (v.version ≤ S.greatest_number)
+          × ((e : ℕ) → FitsExtent S (v.pointers e) (v.generations e))) (sym (is_read S.sections u has).0) (
+            (g.versions_fit u.section (is_read S.sections u has).1).0,
+            (g.versions_fit u.section (is_read S.sections u has).1).1,
+            g.extents_fit,
+          );
+      sections_there = λ u has. (is_read S.sections u has).1;
+      write_roots = λ x none. absurd (no_write x none);
+      superblock_roots = λ u has. subst (λ (k : ℕ). k ≤ g.version) (sym (root_zero u has)) (omega arith);
+      reset_roots = λ e. omega arith;
+      earlier = λ r u is has ver q up. (
+        subst (λ (k : ℕ). k ≤ q) (sym (root_zero u has)) (omega arith),
+        λ x none. absurd (no_write x none),
+      );
+      superblocks_there = λ j n lo hi. absurd (let a : g.versions j < n = lo in let b : n ≤ g.versions j = hi in
+          omega arith);
+      roots_there = λ n lo hi. absurd (let a : g.version < n = lo in let b : n ≤ g.version = hi in omega arith);
+      counts = λ r q is_r is_q ver. le_of_eq (count r is_r ∙ sym (count q is_q));
+      closed = record {
+        write_root = λ w none. absurd (no_write w none);
+        superblock_root = λ u has ver. subst (λ (k : ℕ). k ≤ g.version) (sym (root_zero u has)) (omega arith);
+        superblock_writes = λ u w has none. absurd (no_write w none);
+        root_superblocks = λ r has ver j. le_of_eq (only r has j);
+      };
+      exact = record {
+        superblock = superblock_read S F img n m g;
+        superblocks = λ j lt. (there S.sections j lt, refl, refl);
+        root = (root_read S F img n m g, inl refl, refl);
+      };
+      round_exact = record {
+        superblock = superblock_read S F img n m g;
+        superblocks = λ j lt. (there S.sections j lt, refl, refl);
+        root = (root_read S F img n m g, inl refl, refl);
+      };
+      staged = record {
+        writes = λ k wrong. absurd (true≢false (sym wrong));
+        superblocks = λ j. le_refl _;
+        root = le_refl _;
+      };
+      round_staged = record {
+        writes = λ k wrong. absurd (true≢false (sym wrong));
+        superblocks = λ j. le_refl _;
+        root = le_refl _;
+      };
+      within = record { writes = λ k has. has; superblocks = λ j. le_refl _; root = le_refl _ };
+      ready = record {
+        writes = λ x none. absurd (no_write x none);
+        superblock_root = λ u has ver. inl ver;
+        superblock_writes = λ u x has none. absurd (no_write x none);
+        roots = λ r has ver. inl ver;
+      };
+    };
+    settled = λ e. record {
+      last = (
+        superblock_read S F img n m g (S.section e),
+        there S.sections (S.section e) (shape.section e),
+        refl,
+        refl,
+        le_refl _,
+      );
+      pages = λ x none. absurd (no_write x none);
+      current = λ u has sec ver. inl (
+        ap (λ (v : Superblock). v.pointers e) (is_read S.sections u has).0,
+        ap (λ (v : Superblock). v.generations e) (is_read S.sections u has).0,
+      );
+    };
+    gives = subst (λ (ws : List Write). Gives S F (opening_in S F img g.pointers g.generations)
+        (page_in (everything (opened_world S F img n m g)) img ws) g.pointers g.generations [] g.runs m)
+        (sym (no_writes S.sections)) g.gives;
+    maps = each _ _ (roots_of (superblocks_read S F img n m g S.sections))
+        (0, le_refl _, (let e : n ≡ n + 0 = omega arith in e), refl) (λ r none. absurd (no_root r none));
+    caught_up = λ none r is ver. (let e : n ≡ n + 0 = omega arith in count r is ∙ e);
+    left = λ x none. absurd none;
+    issued = λ x none. absurd none;
+    complete = λ wrong. absurd (true≢false (sym wrong));
+    swept = λ e wrong. absurd (true≢false (sym wrong));
+    frozen = λ e fz. (
+      (λ same. let wrong : None ≡ Some e = same in cc),
+      some_pages (and_right (g.generations e == g.generations e) (nat_lt 0 (g.pointers e)) fz),
+    );
+    damaged = λ l f is.
+        (let at = where_damaged ((g.generations l.extent == l.generation) && nat_lt l.page (g.pointers l.extent))
+        (F.fault ChunkFrame (pages_from S F img l.extent l.page (S.pages - l.page))) f is in (
+          and_true (g.generations l.extent == l.generation) (nat_lt 0 (g.pointers l.extent))
+              (and_left (g.generations l.extent == l.generation) (nat_lt l.page (g.pointers l.extent)) at.0)
+              (not_empty_at l.page (g.pointers l.extent)
+              (and_right (g.generations l.extent == l.generation) (nat_lt l.page (g.pointers l.extent)) at.0)),
+          at.1,
+        ));
+  }
+    where
+      only : (r : Root) → r ∈ (root_read S F img n m g ∷ roots_of (superblocks_read S F img n m g S.sections))
+          → (j : ℕ) → r.superblocks j ≡ g.versions j
+      only r (inl is) j = ap (λ (q : Root). q.superblocks j) is
+      only r (inr none) j = absurd (no_root r none)
+
+      count : (r : Root) → r ∈ (root_read S F img n m g ∷ roots_of (superblocks_read S F img n m g S.sections))
+          → r.commands ≡ n
+      count r (inl is) = ap (λ (q : Root). q.commands) is
+      count r (inr none) = absurd (no_root r none)
+
+  pub opens_bounded : Bounded S F (opened_state S F img n m g)
+  opens_bounded = record {
+    bounds = record {
+      some_version = g.bounds.some_version;
+      version_fits = g.bounds.version_fits;
+      commands_fit = (let old : n ≤ S.greatest_number = g.bounds.commands_fit in omega arith);
+      few_runs = g.bounds.few_runs;
+      named = g.bounds.named;
+      chunks_fit = g.bounds.chunks_fit;
+    };
+    runs_fit = g.runs_fit;
+    written_fits = omega arith;
+  }

@@ -1,0 +1,57 @@
+-- What is appended is read, and what was read before is read as before.
+use Rattle.std.proofs.Common.{inl, inr, ⊎_elim, ℕ, ◌<◌, ◌≤◌, List, subst, sym}
+use Rattle.std.proofs.lemmas.Bool.{cases_lt}
+use Rattle.cs_model.proofs.Carries.{carry_reads}
+use Rattle.cs_model.proofs.Frames.{added, put_in}
+use Rattle.cs_model.specs.Append.{AppendsChunks, AppendsFrame}
+use Rattle.cs_model.specs.Device.{IsShape, Shape}
+use Rattle.cs_model.specs.Element.{Locator, Opening}
+use Rattle.cs_model.specs.Events.{ReadsNow, newest_page}
+use Rattle.cs_model.specs.Extents.{Purpose}
+use Rattle.cs_model.specs.Formats.{Formats, FrameKind}
+use Rattle.cs_model.specs.Frames.{IsFormat}
+use Rattle.cs_model.specs.Index.{Chunks, Reads}
+use Rattle.cs_model.specs.Machine.{PastGreatest, World}
+use Rattle.cs_model.specs.Sound.{Sound}
+use Rattle.cs_model.specs.State.{State}
+
+in_bounds : (S : Shape) (w : World) → (PastGreatest S w → ⊥) → (j : ℕ) → j < S.sections
+    → w.superblocks j ≤ S.greatest_number
+in_bounds S w fits j lt = ⊎_elim
+    (λ (past : S.greatest_number < w.superblocks j). absurd (fits (inr (inl (j, lt, past)))))
+    (λ (le : w.superblocks j ≤ S.greatest_number). le)
+    (cases_lt S.greatest_number (w.superblocks j))
+
+pub frame_sound : (S : Shape) (F : Formats) (s t : State) (purpose : Purpose) (kind : FrameKind) (payload : List ℕ)
+    (l : Locator)
+    → IsShape S → IsFormat S F → Sound S F s → (PastGreatest S t.world → ⊥)
+    → AppendsFrame S F s purpose kind payload l t → Sound S F t
+frame_sound S F s t purpose kind payload l shape format sound fits a =
+    (added S F shape format s t purpose kind payload l sound a (in_bounds S t.world fits)).sound
+
+pub frame_read : (S : Shape) (F : Formats) (s t : State) (purpose : Purpose) (kind : FrameKind) (payload : List ℕ)
+    (l : Locator)
+    → IsShape S → IsFormat S F → Sound S F s → (PastGreatest S t.world → ⊥)
+    → AppendsFrame S F s purpose kind payload l t → ReadsNow S F t l kind payload
+frame_read S F s t purpose kind payload l shape format sound fits a =
+    (added S F shape format s t purpose kind payload l sound a (in_bounds S t.world fits)).reads
+
+pub read_before : (S : Shape) (F : Formats) (s t : State) (purpose : Purpose) (kind old : FrameKind)
+    (payload bytes : List ℕ) (l k : Locator)
+    → IsShape S → IsFormat S F → Sound S F s → (PastGreatest S t.world → ⊥)
+    → AppendsFrame S F s purpose kind payload l t
+    → ReadsNow S F s k old bytes → ReadsNow S F t k old bytes
+read_before S F s t purpose kind old payload bytes l k shape format sound fits a reads =
+    let step = added S F shape format s t purpose kind payload l sound a (in_bounds S t.world fits) in
+    subst (λ (o : Opening). Reads S F o (newest_page t) t.world.extents.pointer t.world.extents.generation k
+    (F.frame old bytes)) (sym step.opening)
+    (carry_reads S F s.opening (newest_page t)
+    (newest_page s) s.world.extents.pointer s.world.extents.generation t.world.extents.pointer
+    t.world.extents.generation
+    step.carries step.still k (F.frame old bytes) reads)
+
+pub chunks_read : (S : Shape) (F : Formats) (s t : State) (cs : List (List ℕ)) (ls : List Locator)
+    → IsShape S → IsFormat S F → Sound S F s → (PastGreatest S t.world → ⊥) → AppendsChunks S F s cs ls t
+    → Chunks S F t.opening (newest_page t) t.world.extents.pointer t.world.extents.generation ls cs
+chunks_read S F s t cs ls shape format sound fits a =
+    (put_in S F shape format s t cs ls sound a (in_bounds S t.world fits)).chunks

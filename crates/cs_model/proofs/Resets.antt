@@ -1,0 +1,132 @@
+-- A root that locates nothing on an extent, and the reset of the extent, keep a state sound.
+use Rattle.std.proofs.Common.{◌≡◌, ◌≢◌, ◌⊎◌, inl, inr, ⊎_elim, ℕ, suc, ◌+◌, ◌<◌, ◌≤◌, true, false, List, [], length, if◌then◌else◌, ◌==◌, eq-eqb, ne_eqb, true≢false, refl, sym, ap, ◌∙◌, subst, arith}
+use Rattle.std.proofs.lemmas.Bool.{cases_eq}
+use Rattle.cs_model.specs.Device.{IsShape, Shape}
+use Rattle.cs_model.specs.Element.{A_root, A_superblock, A_write, Element, Root, Run}
+use Rattle.cs_model.specs.Events.{newest_page, retired}
+use Rattle.cs_model.specs.Formats.{Formats}
+use Rattle.cs_model.specs.Frames.{IsFormat}
+use Rattle.cs_model.specs.Index.{Gives}
+use Rattle.cs_model.specs.Lists.{with}
+use Rattle.cs_model.specs.Machine.{ResetExtent, StageRoot, World, happens, root_now}
+use Rattle.cs_model.specs.Recovery.{RootGives}
+use Rattle.cs_model.specs.Round.{IsMember}
+use Rattle.cs_model.specs.Sound.{Sound}
+use Rattle.cs_model.specs.State.{State, map_now}
+use Rattle.cs_model.proofs.Parts.{each, with_same, with_other}
+use Rattle.cs_model.proofs.RootMoves.{keeps_root}
+use Rattle.cs_model.proofs.ResetMoves.{keeps_reset}
+use Rattle.cs_model.proofs.RoundMoves.{keeps_marks}
+use Rattle.cs_model.proofs.Carries.{root_local, carry}
+use Rattle.cs_model.proofs.Roots.{RootFits, root_staged, root_maps, root_last, root_member, root_back}
+
+module _ (S : Shape) (F : Formats) (shape : IsShape S) (format : IsFormat S F) where
+  -- a root is staged that covers nothing of an extent, and the extent is reset
+  pub reset_sound : (s : State) (runs : List Run) (e : ℕ) → Sound S F s
+      → Gives S F s.opening (newest_page s) (with s.world.extents.pointer e 0) s.world.extents.generation [] runs
+      (map_now s) → RootFits S F s runs → s.world.extents.generation e < S.greatest_generation
+      → e < S.extents → Sound S F (retired S F s runs e)
+  reset_sound s runs e sound gives fit young exists = record {
+    damaged = sound.damaged;
+    frozen = λ d. elim (cases_eq d e) [
+      | inl same ↦ (λ fz. absurd (
+          let up : with s.world.extents.generation e (suc (s.world.extents.generation e)) d ≡ suc
+          (s.world.extents.generation d) = with_same s.world.extents.generation e
+          (suc (s.world.extents.generation e)) d same
+          ∙ ap (λ (n : ℕ). suc (s.world.extents.generation n)) (sym same) in
+          let le : suc (s.world.extents.generation d) ≤ s.world.extents.generation d = sound.safe.frozen_before d
+          (suc (s.world.extents.generation d)) (ap (s.opening.frozen d) (sym up) ∙ fz) in omega arith))
+      | inr not ↦ (λ fz. let old = sound.frozen d
+          (ap (s.opening.frozen d)
+          (sym (with_other s.world.extents.generation e (suc (s.world.extents.generation e)) d not)) ∙ fz) in
+          (old.0, subst (λ (k : ℕ). 0 < k) (sym (with_other s.world.extents.pointer e 0 d not)) old.1))
+    ];
+    safe = keeps_marks S (RootGives S F s.opening) s.opening.frozen s.opened (root_local S F shape)
+        (happens S w (ResetExtent e)) s.world.extents.open_extent (retired S F s runs e).world.extents.swept
+        (keeps_reset S (RootGives S F s.opening) s.opening.frozen s.opened (root_local S F shape) w e (
+          each (λ (r : Root). suc s.world.root ≤ r.version → r.pointers e ≡ 0) _ _
+              (λ ver. with_same s.world.extents.pointer e 0 e refl)
+              (λ r is ver. absurd (let old : r.version ≤ s.world.root = (sound.safe.roots_below r is).0 in
+              omega arith)),
+          (
+            root_now s.world n runs (map_now s) pointers,
+            inl refl,
+            refl,
+            λ x is at. subst (λ (d : ℕ). x.number ≤ s.world.behind (S.section d)) refl
+                ((sound.settled e).pages x is at),
+          ),
+          young,
+          exists,
+        )
+        (keeps_root S (RootGives S F s.opening) s.opening.frozen s.opened (root_local S F shape) s.world n runs
+        (map_now s) pointers (root_staged S F shape format s runs pointers sound agree gives fit) sound.safe));
+    settled = λ d. let o = sound.settled d in record {
+      last = o.last;
+      pages = o.pages;
+      current = λ u is sec ver. elim (cases_eq d e) [
+        | inl same ↦ inr (with_same s.world.extents.pointer e 0 d same)
+        | inr not ↦ ⊎_elim
+            (λ eqs. inl (
+              eqs.0 ∙ sym (with_other s.world.extents.pointer e 0 d not),
+              eqs.1
+                  ∙ sym (with_other s.world.extents.generation e (suc (s.world.extents.generation e)) d not),
+            ))
+            (λ (none : s.world.extents.pointer d ≡ 0). inr (with_other s.world.extents.pointer e 0 d not ∙ none))
+            (o.current u is sec ver)
+      ];
+    };
+    gives = carry S F s.opening (newest_page s) (newest_page s) pointers s.world.extents.generation pointers
+        (with s.world.extents.generation e (suc (s.world.extents.generation e)))
+        (λ d k lt inside. (
+          refl,
+          with_other s.world.extents.generation e (suc (s.world.extents.generation e)) d
+              (λ same. let zero_there : pointers d ≡ 0 = with_same s.world.extents.pointer e 0 d same in
+              let some : k < pointers d = lt in omega arith),
+          lt,
+        )) (λ d k fz some inside. refl)
+        [] runs (map_now s) gives;
+    maps = root_maps S F shape format s runs pointers sound;
+    caught_up = λ none. root_last S F shape format s runs pointers sound;
+    complete = λ busy m is. sound.complete busy m
+        (root_back S F shape format s runs pointers sound m (reset_back m is));
+    left = λ m has. reset_member m
+        (root_member S F shape format s.world n runs (map_now s) pointers m (sound.left m has));
+    issued = λ m has. reset_member m
+        (root_member S F shape format s.world n runs (map_now s) pointers m (sound.issued m has));
+    swept = λ d is. (let l = less d is in let o = sound.swept d l.1 in
+        (o.0, subst (λ (k : ℕ). 0 < k) (sym (with_other s.world.extents.pointer e 0 d l.0)) o.1, o.2));
+  }
+    where
+      less : (d : ℕ) → (if d == e then false else s.world.extents.swept d) ≡ true → (d ≢ e)
+          × (s.world.extents.swept d ≡ true)
+      less d = elim (cases_eq d e) [
+        | inl is ↦ (let test : (d == e) ≡ true = eq-eqb d e is in rw test (λ wrong. absurd (true≢false (sym wrong))))
+        | inr not ↦ (let test : (d == e) ≡ false = ne_eqb d e not in rw test (λ has. (not, has)))
+      ]
+
+      n : ℕ
+      n = s.count + length s.commands
+
+      pointers : ℕ → ℕ
+      pointers = with s.world.extents.pointer e 0
+
+      w : World
+      w = happens S s.world (StageRoot n runs (map_now s) pointers)
+
+      agree : (d : ℕ) → (pointers d ≡ s.world.extents.pointer d) ⊎ (pointers d ≡ 0)
+      agree d = elim (cases_eq d e) [
+        | inl same ↦ inr
+            (with_same s.world.extents.pointer e 0 d same)
+        | inr not ↦ inl
+            (with_other s.world.extents.pointer e 0 d not)
+      ]
+
+      reset_back : (m : Element) → IsMember S (retired S F s runs e).world m → IsMember S w m
+      reset_back (A_write x) is = is
+      reset_back (A_superblock u) is = is
+      reset_back (A_root r) is = is
+
+      reset_member : (m : Element) → IsMember S w m → IsMember S (retired S F s runs e).world m
+      reset_member (A_write x) is = is
+      reset_member (A_superblock u) is = is
+      reset_member (A_root r) is = is

@@ -1,0 +1,85 @@
+-- The device's pages are apart.
+use Rattle.std.proofs.Common.{◌≡◌, ◌≢◌, inl, inr, ℕ, suc, ◌+◌, ◌-◌, ◌*◌, ◌/◌, ◌%◌, ◌<◌, ◌≤◌, true, false, ◌==◌, nat_lt, eq-eqb, ne_eqb, mul-le-mul_right, refl, sym, ap, ◌∙◌, arith}
+use Rattle.std.proofs.lemmas.Bool.{cases_eq, cases_lt}
+use Rattle.std.proofs.lemmas.Bool.Decides.{nat_tests}
+use Rattle.std.proofs.lemmas.Nat.{div-mul-add, mod-mul-add, div_below}
+use Rattle.cs_model.specs.Device.{FramePage, IsShape, RootPage, SectionPage, Shape}
+use Rattle.cs_model.specs.Geometry.{IsGeometry, shape_of}
+
+module _ (E P N Q f : ℕ) (g : IsGeometry E P N Q) where
+  S : Shape
+  S = shape_of E P N Q f
+
+  at_zero : (p : ℕ) → p ≡ 0 → (shape_of E P N Q f).kind p ≡ SectionPage 0
+  at_zero p is = let test : (p == 0) ≡ true = eq-eqb p 0 is in rw test
+
+  at_one : (p : ℕ) → p ≡ 1 → (shape_of E P N Q f).kind p ≡ RootPage
+  at_one p is = let test : (p == 0) ≡ false = ne_eqb p 0 (λ z. omega arith) in
+      let test2 : (p == 1) ≡ true = eq-eqb p 1 is in rw (test, test2)
+
+  at_frames : (p : ℕ) → 2 ≤ p → p < 2 + E * P → (shape_of E P N Q f).kind p ≡ FramePage
+  at_frames p low high = let not_first : (p == 0) ≡ false = ne_eqb p 0 (λ z. omega arith) in
+      let not_second : (p == 1) ≡ false = ne_eqb p 1 (λ z. omega arith) in
+      let in_frames : nat_lt p (2 + E * P) ≡ true = grind (arith, nat_tests) in rw (not_first, not_second, in_frames)
+
+  at_behind : (p : ℕ) → 2 + E * P ≤ p → (shape_of E P N Q f).kind p ≡ SectionPage (p - (1 + E * P))
+  at_behind p low = let not_first : (p == 0) ≡ false = ne_eqb p 0 (λ z. omega arith) in
+      let not_second : (p == 1) ≡ false = ne_eqb p 1 (λ z. omega arith) in
+      let in_frames : nat_lt p (2 + E * P) ≡ false = grind (arith, nat_tests) in rw (not_first, not_second, in_frames)
+
+  inside_below : (e i : ℕ) → e < E → i < P → 2 + (e * P + i) < 2 + E * P
+  inside_below e i le li = let more : suc e * P ≤ E * P = mul-le-mul_right P le in omega arith
+
+  page_of_section : (j : ℕ) → j ≢ 0 → (shape_of E P N Q f).section_page j ≡ 1 + E * P + j
+  page_of_section j some = let t : (j == 0) ≡ false = ne_eqb j 0 some in rw t
+
+  only_root : (p : ℕ) → (shape_of E P N Q f).kind p ≡ RootPage → p ≡ 1
+  only_root p fam = elim (cases_eq p 0) [
+    | inl z ↦ absurd (let e : SectionPage 0 ≡ RootPage = sym (at_zero p z) ∙ fam in cc)
+    | inr nz ↦ elim (cases_eq p 1) [
+      | inl is ↦ is
+      | inr not ↦ elim (cases_lt p (2 + E * P)) [
+        | inl lt ↦ absurd (let e : FramePage ≡ RootPage = sym (at_frames p (omega arith) lt) ∙ fam in cc)
+        | inr ge ↦ absurd (let e : SectionPage (p - (1 + E * P)) ≡ RootPage = sym (at_behind p ge) ∙ fam in cc)
+      ]
+    ]
+  ]
+
+  only_section : (p j : ℕ) → (shape_of E P N Q f).kind p ≡ SectionPage j → p ≡ (shape_of E P N Q f).section_page j
+  only_section p j fam = elim (cases_eq p 0) [
+    | inl z ↦ (let e : SectionPage 0 ≡ SectionPage j = sym (at_zero p z) ∙ fam in let is : 0 ≡ j = cc in
+        let t : (j == 0) ≡ true = eq-eqb j 0 (sym is) in rw t z)
+    | inr nz ↦ elim (cases_eq p 1) [
+      | inl is ↦ absurd (let e : RootPage ≡ SectionPage j = sym (at_one p is) ∙ fam in cc)
+      | inr not ↦ elim (cases_lt p (2 + E * P)) [
+        | inl lt ↦ absurd (let e : FramePage ≡ SectionPage j = sym (at_frames p (omega arith) lt) ∙ fam in cc)
+        | inr ge ↦ (let e : SectionPage (p - (1 + E * P)) ≡ SectionPage j = sym (at_behind p ge) ∙ fam in
+            let is : p - (1 + E * P) ≡ j = cc in
+            let page = page_of_section j (λ z. omega arith) in omega arith)
+      ]
+    ]
+  ]
+
+  pub is_shape : IsShape (shape_of E P N Q f)
+  is_shape = record {
+    root_kind = at_one 1 refl;
+    section_kind = λ j lt. elim (cases_eq j 0) [
+      | inl z ↦ (let t : (j == 0) ≡ true = eq-eqb j 0 z in rw t (at_zero 0 refl ∙ ap SectionPage (sym z)))
+      | inr nz ↦ ap (shape_of E P N Q f).kind (page_of_section j nz) ∙ at_behind (1 + E * P + j) (omega arith)
+          ∙ ap SectionPage (let e : 1 + E * P + j - (1 + E * P) ≡ j = omega arith in e)
+    ];
+    root_only = only_root;
+    some_chunk = omega arith;
+    some_byte = (let p : 0 < P = g.some_page in omega arith);
+    section_only = only_section;
+    frame_kind = λ e i inside. at_frames (2 + (e * P + i)) (omega arith) (inside_below e i inside.0 inside.1);
+    extent = λ e i inside. ap (λ (n : ℕ). n / P) (let m : 2 + (e * P + i) - 2 ≡ e * P + i = omega arith in m)
+        ∙ div-mul-add e P i inside.1;
+    index = λ e i inside. ap (λ (n : ℕ). n % P) (let m : 2 + (e * P + i) - 2 ≡ e * P + i = omega arith in m)
+        ∙ mod-mul-add e P i inside.1;
+    section = λ e. elim (cases_lt e E) [
+      | inl lt ↦ (let t : nat_lt e E ≡ true = grind (arith, nat_tests) in
+          rw t (div_below e Q N g.some_extent (let a : E ≤ N * Q = g.all in omega arith)))
+      | inr ge ↦ (let t : nat_lt e E ≡ false = grind (arith, nat_tests) in rw t g.some_section)
+    ];
+  }

@@ -1,0 +1,15 @@
+-- What the tests of a locator say.
+use Rattle.std.proofs.Common.{◌≡◌, ℕ, ◌<◌, nat_lt, Bool, true, false, Option, Some, None, if◌then◌else◌, refl, arith}
+use Rattle.std.proofs.lemmas.Bool.Decides.{nat_tests}
+use Rattle.cs_model.specs.Refusal.{Refusal}
+
+pub some_pages : {n : ℕ} → nat_lt 0 n ≡ true → 0 < n
+some_pages is = grind (arith, nat_tests)
+
+pub not_empty_at : (i n : ℕ) → nat_lt i n ≡ true → nat_lt 0 n ≡ true
+not_empty_at i n is = (let lt : i < n = grind (arith, nat_tests) in grind (arith, nat_tests))
+
+pub where_damaged : (b : Bool) (o : Option Refusal) (f : Refusal) → (if b then o else None) ≡ Some f
+    → (b ≡ true) × (o ≡ Some f)
+where_damaged true o f is = (refl, is)
+where_damaged false o f is = absurd (let wrong : None ≡ Some f = is in cc)

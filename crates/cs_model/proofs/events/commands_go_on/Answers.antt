@@ -1,0 +1,12 @@
+use Rattle.cs_model.proofs.events.commands_go_on.Goals as goal
+use Rattle.std.proofs.Common.{ap₂, ◌∙◌}
+use Rattle.cs_model.proofs.Kept.{history_on, after_both}
+use Rattle.cs_model.specs.State.{after_all, commands_of}
+
+pub returns : goal.returns
+returns c = record {
+  commands = λ S F s t history run. (history_on S F s t history run).commands;
+  map = λ S F s t history run. (let g = history_on S F s t history run in
+      ap₂ after_all g.start g.commands ∙ after_both s.start (commands_of history) s.commands);
+  opened = λ S F s t history run. (let g = history_on S F s t history run in (g.opened, g.start, g.opening, g.count));
+}

@@ -1,0 +1,13 @@
+use Rattle.cs_model.proofs.events.what_an_event_does_is_one_thing.Goals as goal
+use Rattle.cs_model.proofs.Answered.{put_one, delete_one}
+use Rattle.cs_model.proofs.AnsweredStages.{stage_one}
+use Rattle.cs_model.proofs.AnsweredSweeps.{move_one, retire_one}
+
+pub returns : goal.returns
+returns c = record {
+  put = λ S F s t u id bytes r q shape format a b. put_one S F shape format s id bytes r q t u a b;
+  delete = λ S F s t u id r q shape format a b. delete_one S F shape format s id r q t u a b;
+  stage = λ S F s t u r q shape format a b. stage_one S F shape format s r q t u a b;
+  move_one = λ S F s t u e r q shape format a b. move_one S F shape format s e r q t u a b;
+  retire = λ S F s t u e r q shape format a b. retire_one S F shape format s e r q t u a b;
+}

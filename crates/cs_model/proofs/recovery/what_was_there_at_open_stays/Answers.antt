@@ -1,0 +1,10 @@
+use Rattle.cs_model.proofs.recovery.what_was_there_at_open_stays.Goals as goal
+use Rattle.cs_model.proofs.Frozen.{as_at_open, damage_stays, new_undamaged}
+
+pub returns : goal.returns
+returns c = record {
+  pages = λ S F s e i shape sound fz inside. as_at_open S F shape s sound e i fz inside;
+  damage = λ S F s l f shape sound is pass. damage_stays S F shape s sound l f is pass;
+  appended = λ S F s t purpose kind payload l f shape sound a.
+      new_undamaged S F shape s sound t purpose kind payload l f a;
+}

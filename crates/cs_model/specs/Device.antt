@@ -1,0 +1,60 @@
+-- The device: its pages, what lies on each, and the limits of a store.
+use Rattle.std.specs.Prelude.{◌≡◌, ◌<◌, ℕ, List}
+
+-- the bytes of a page
+abbrev pub Page : Type 0
+Page = List ℕ
+
+-- what is written to a page of the device: the root, a section of the superblock, or frames
+pub data PageKind : Type 0 where
+  RootPage : PageKind
+  SectionPage : ℕ → PageKind
+  FramePage : PageKind
+
+-- where each page of the device lies, which section of the superblock speaks of an extent, and the limits
+pub record Shape : Type 0 where
+  -- the number of extents, of pages in each, and of sections of the superblock
+  pub extents : ℕ
+  pub pages : ℕ
+  pub sections : ℕ
+  -- the format that new superblocks are written in
+  pub format : ℕ
+  -- what is written to a page; the pages of the root and of the sections
+  pub kind : ℕ → PageKind
+  pub root_page : ℕ
+  pub section_page : ℕ → ℕ
+  -- of a page of frames: its extent, and its place there; and back
+  pub extent : ℕ → ℕ
+  pub index : ℕ → ℕ
+  pub address : ℕ → ℕ → ℕ
+  -- the section that speaks of an extent
+  pub section : ℕ → ℕ
+  -- the greatest chunk in bytes, how many chunks a shard may have, and how many identifiers may be named
+  pub chunk_bytes : ℕ
+  pub most_chunks : ℕ
+  pub most_names : ℕ
+  -- the greatest number of a write, of a version or of commands, and the greatest generation
+  pub greatest_number : ℕ
+  pub greatest_generation : ℕ
+
+-- an extent, and a page of it, that are there
+abbrev pub Inside : Shape → ℕ → ℕ → Type 0
+Inside S e i = (e < S.extents) × (i < S.pages)
+
+-- no two things lie on one page, and a shard can be put
+pub record IsShape (S : Shape) : Type 0 where
+  pub root_kind : S.kind S.root_page ≡ RootPage
+  pub section_kind : (j : ℕ) → j < S.sections → S.kind (S.section_page j) ≡ SectionPage j
+  pub root_only : (p : ℕ) → S.kind p ≡ RootPage → p ≡ S.root_page
+  pub section_only : (p j : ℕ) → S.kind p ≡ SectionPage j → p ≡ S.section_page j
+  pub frame_kind : (e i : ℕ) → Inside S e i → S.kind (S.address e i) ≡ FramePage
+  pub extent : (e i : ℕ) → Inside S e i → S.extent (S.address e i) ≡ e
+  pub index : (e i : ℕ) → Inside S e i → S.index (S.address e i) ≡ i
+  pub section : (e : ℕ) → S.section e < S.sections
+  pub some_chunk : 0 < S.most_chunks
+  pub some_byte : 0 < S.chunk_bytes
+
+-- a page of the device as one generation of its extent has it
+pub record Place : Type 0 where
+  pub page : ℕ
+  pub generation : ℕ

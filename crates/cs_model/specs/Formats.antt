@@ -1,0 +1,67 @@
+-- How pages are spelled, and the image of a set of elements.
+use Rattle.std.specs.Prelude.{◌≡◌, ◌-◌, ◌&&◌, ◌∷◌, ◌==◌, ℕ, zero, suc, Bool, List, Option, None, nat_le, nat_lt, [], if◌then◌else◌}
+use Rattle.cs_model.specs.Cut.{Cut, page_in}
+use Rattle.cs_model.specs.Device.{FramePage, Page, PageKind, RootPage, SectionPage, Shape}
+use Rattle.cs_model.specs.Element.{Entry, Locator, Log, Opening, Run}
+use Rattle.cs_model.specs.Lists.{latest}
+use Rattle.cs_model.specs.Refusal.{Refusal}
+
+-- what a frame holds: a chunk of a shard, or a run of the index
+pub data FrameKind : Type 0 where
+  ChunkFrame RunFrame : FrameKind
+
+-- how pages are spelled
+pub record Formats : Type 0 where
+  pub superblock : (format section version : ℕ) → (pointers generations : ℕ → ℕ) → Page
+  pub root : (version commands : ℕ) → List Locator → Page
+  -- the pages of a frame, by its kind and payload
+  pub frame : FrameKind → List ℕ → List Page
+  -- why no frame of that kind stands at the head of these pages, the rest of an extent; None where one does
+  pub fault : FrameKind → List Page → Option Refusal
+  -- the payload of a run
+  pub run : List Entry → List ℕ
+  -- these can be spelled
+  pub fits_root : (version commands : ℕ) → List Locator → Bool
+  pub fits_run : List Entry → Bool
+
+-- where the frames of the runs begin
+abbrev pub places : List Run → List Locator
+places [] = []
+places (run ∷ runs) = run.place ∷ places runs
+
+module _ (S : Shape) (F : Formats) where
+  -- the page p, of this kind, in the image of X
+  abbrev pub image_at : PageKind → Cut → (ℕ → Page) → Log → ℕ → Page
+  image_at RootPage X opened log p =
+      latest (λ r. nat_le r.version X.root) (λ r. F.root r.version r.commands (places r.runs)) (opened p) log.roots
+  image_at (SectionPage j) X opened log p =
+      latest (λ u. (u.section == j) && nat_le u.version (X.superblocks j))
+      (λ u. F.superblock u.format j u.version u.pointers u.generations) (opened p) log.superblocks
+  image_at FramePage X opened log p = page_in X opened log.writes p
+
+  -- the image of X: on each page the last write to it of X's elements, else what was there at open
+  abbrev pub image : Cut → (ℕ → Page) → Log → ℕ → Page
+  image X opened log p = image_at (S.kind p) X opened log p
+
+  -- these pages stand one after another, from page i of extent e on
+  abbrev pub Stand : (ℕ → Page) → ℕ → ℕ → List Page → Type 0
+  Stand img e i [] = Unit {0}
+  Stand img e i (b ∷ bs) = (img (S.address e i) ≡ b) × Stand img e (suc i) bs
+
+  -- so many pages, from page i of extent e on
+  abbrev pub pages_from : (ℕ → Page) → (e i count : ℕ) → List Page
+  pages_from img e i zero = []
+  pages_from img e i (suc count) = img (S.address e i) ∷ pages_from img e (suc i) count
+
+  -- the refusal of the chunk that a locator has in an image, under its superblock, where it is damaged
+  abbrev pub damage_in : (ℕ → Page) → (pointers generations : ℕ → ℕ) → Locator → Option Refusal
+  damage_in img pointers generations l =
+      if (generations l.extent == l.generation) && nat_lt l.page (pointers l.extent)
+      then F.fault ChunkFrame (pages_from img l.extent l.page (S.pages - l.page)) else None
+
+  -- what is known of an image, under its superblock
+  abbrev pub opening_in : (ℕ → Page) → (pointers generations : ℕ → ℕ) → Opening
+  opening_in img pointers generations = record {
+    damage = damage_in img pointers generations;
+    frozen = λ e g. (generations e == g) && nat_lt 0 (pointers e);
+  }

@@ -1,0 +1,32 @@
+-- Where everything lies on the device, for a superblock of any number of sections.
+use Rattle.std.specs.Prelude.{◌+◌, ◌*◌, ◌-◌, ◌/◌, ◌%◌, ◌<◌, ◌≤◌, ◌==◌, ℕ, nat_lt, if◌then◌else◌}
+use Rattle.cs_model.specs.Device.{FramePage, RootPage, SectionPage, Shape}
+
+-- section 0 is on page 0, the root on page 1, the extents begin at page 2, and behind them are the other sections
+abbrev pub shape_of : (extents pages sections per_section format : ℕ) → Shape
+shape_of extents pages sections per_section format = record {
+  extents = extents;
+  pages = pages;
+  sections = sections;
+  format = format;
+  kind = λ p. if p == 0 then SectionPage 0 else if p == 1 then RootPage
+      else if nat_lt p (2 + extents * pages) then FramePage else SectionPage (p - (1 + extents * pages));
+  root_page = 1;
+  section_page = λ j. if j == 0 then 0 else 1 + extents * pages + j;
+  extent = λ p. (p - 2) / pages;
+  index = λ p. (p - 2) % pages;
+  address = λ e i. 2 + (e * pages + i);
+  section = λ e. if nat_lt e extents then e / per_section else 0;
+  chunk_bytes = 4096 * pages - 41;
+  most_chunks = 8;
+  most_names = (4096 * pages - 45) / 81;
+  greatest_number = 9223372036854775807;
+  greatest_generation = 4294967295;
+}
+
+-- there is a page and a section, and each extent belongs to a section
+pub record IsGeometry (extents pages sections per_section : ℕ) : Type 0 where
+  pub some_page : 0 < pages
+  pub some_section : 0 < sections
+  pub some_extent : 0 < per_section
+  pub all : extents ≤ sections * per_section

@@ -1,0 +1,97 @@
+-- The grounds of each event's refusals, in their order.
+use Rattle.std.specs.Prelude.{◌≡◌, ◌≢◌, ◌⊎◌, ◌+◌, ◌*◌, ◌<◌, ◌≤◌, ℕ, Bool, true, false, List, length, Some, is_some, []}
+use Rattle.cs_model.specs.Append.{AppendsChunks, AppendsFrame}
+use Rattle.cs_model.specs.Device.{Shape}
+use Rattle.cs_model.specs.Element.{Damaged, Entry, Locator, Run}
+use Rattle.cs_model.specs.Events.{Chunked, Does, Merged, ReadsNow}
+use Rattle.cs_model.specs.Extents.{ForMove, ForRun, Purpose}
+use Rattle.cs_model.specs.Formats.{ChunkFrame, Formats, RunFrame}
+use Rattle.cs_model.specs.Index.{FirstLive, IsTableRun, NothingLive, lookup, names}
+use Rattle.cs_model.specs.Machine.{PastGreatest}
+use Rattle.cs_model.specs.Refusal.{Full, Halted, InFlight, IndexFull, NoRound, NotSweepable, Refusal, StillLive, TooLarge, WornOut}
+use Rattle.cs_model.specs.State.{Abandon, Begin, BeginSweep, Delete, End, Event, Get, Issue, MoveOne, Put, Reply, Retire, Settle, Stage, State, index_now, map_now}
+
+-- the first of the grounds that stands gives the refusal f: this one gives r, else the others decide
+abbrev pub First : Refusal → Type 0 → (Refusal → Type 0) → Refusal → Type 0
+First r Ground Others f = (Ground × (f ≡ r)) ⊎ ((Ground → ⊥) × Others f)
+
+-- there are no further grounds
+abbrev pub NoMore : Refusal → Type 0
+NoMore f = ⊥
+
+-- what is read is damaged and gives the refusal f, else the others decide
+abbrev pub FoundDamaged : (Refusal → Type 0) → (Refusal → Type 0) → Refusal → Type 0
+FoundDamaged Damage Others f = Damage f ⊎ (((g : Refusal) → Damage g → ⊥) × Others f)
+
+module _ (S : Shape) (F : Formats) where
+  -- the first live chunk on the extent is damaged
+  abbrev pub DamagedFirst : State → (extent : ℕ) → Refusal → Type 0
+  DamagedFirst s e f =
+      (id : ℕ) × (chunk : ℕ) × (l : Locator) × FirstLive (index_now s) e id chunk l × (s.opening.damage l ≡ Some f)
+
+  -- the identifier has an entry, a deletion too
+  abbrev pub is_named : State → ℕ → Bool
+  is_named s id = is_some (lookup id (index_now s))
+
+  -- a number is past its greatest, that of the commands too
+  abbrev pub PastLimit : State → Type 0
+  PastLimit t = PastGreatest S t.world ⊎ (S.greatest_number < t.count + length t.commands)
+
+  -- what the event does would take a number past its greatest
+  abbrev pub WouldPass : State → Event → Type 0
+  WouldPass s event = (reply : Reply) × (t : State) × Does S F s event reply t × PastLimit t
+
+  -- the chunks of these bytes don't fit
+  abbrev pub NoRoomToPut : State → List ℕ → Type 0
+  NoRoomToPut s bytes = (cs : List (List ℕ)) (ls : List Locator) (mid : State)
+      → Chunked S.chunk_bytes bytes cs → AppendsChunks S F s cs ls mid → ⊥
+
+  -- the table doesn't fit as a run
+  abbrev pub NoRoomForTable : State → Type 0
+  NoRoomForTable s = (entries : List Entry) (l : Locator) (mid : State)
+      → IsTableRun s.table entries → AppendsFrame S F s ForRun RunFrame (F.run entries) l mid → ⊥
+
+  -- what is live doesn't fit as a run
+  abbrev pub NoRoomForRun : State → Purpose → Type 0
+  NoRoomForRun s purpose = (mid : State) (runs : List Run) → Merged S F s purpose mid runs → ⊥
+
+  -- the first live chunk on the extent has nowhere to go
+  abbrev pub NoRoomToMove : State → ℕ → Type 0
+  NoRoomToMove s e = (id chunk : ℕ) (l new : Locator) (payload : List ℕ) (mid : State)
+      → FirstLive (index_now s) e id chunk l → ReadsNow S F s l ChunkFrame payload
+      → AppendsFrame S F s ForMove ChunkFrame payload new mid → ⊥
+
+  -- the event is refused with f
+  abbrev pub Refuses : State → Event → Refusal → Type 0
+  Refuses s (Put id bytes) = First Halted (s.halted ≡ true)
+      (First TooLarge (S.most_chunks * S.chunk_bytes < length bytes)
+      (First IndexFull ((is_named s id ≡ false) × (S.most_names ≤ names (index_now s)))
+      (First Full (NoRoomToPut s bytes)
+      (First WornOut (WouldPass s (Put id bytes)) NoMore))))
+  Refuses s (Get id) = FoundDamaged (λ f. map_now s id ≡ Some (Damaged f)) NoMore
+  Refuses s (Delete id) = First Halted (s.halted ≡ true) (First WornOut (WouldPass s (Delete id)) NoMore)
+  Refuses s Stage = First Halted (s.halted ≡ true)
+      (First Full ((s.table ≢ []) × (((length s.runs < 4) × NoRoomForTable s)
+      ⊎ ((4 ≤ length s.runs) × NoRoomForRun s ForRun)))
+      (First WornOut (WouldPass s Stage) NoMore))
+  Refuses s Begin = First Halted (s.halted ≡ true) (First InFlight (s.round_out ≡ true) NoMore)
+  Refuses s Issue = First Halted (s.halted ≡ true)
+      (First NoRound ((s.round_out ≡ false) ⊎ (s.left ≡ [])) NoMore)
+  Refuses s End = First Halted (s.halted ≡ true)
+      (First NoRound ((s.round_out ≡ false) ⊎ (s.left ≢ [])) NoMore)
+  Refuses s (BeginSweep e) = First Halted (s.halted ≡ true)
+      (First NotSweepable ((s.world.extents.open_extent ≡ Some e) ⊎ (S.extents ≤ e)
+      ⊎ (s.world.extents.pointer e ≡ 0) ⊎ (s.world.extents.swept e ≡ true)) NoMore)
+  Refuses s (MoveOne e) = First Halted (s.halted ≡ true)
+      (First NotSweepable (s.world.extents.swept e ≡ false)
+      (FoundDamaged (DamagedFirst s e)
+      (First Full ((NothingLive (index_now s) e → ⊥) × NoRoomToMove s e)
+      (First WornOut (WouldPass s (MoveOne e)) NoMore))))
+  Refuses s (Retire e) = First Halted (s.halted ≡ true)
+      (First NotSweepable (s.world.extents.swept e ≡ false)
+      (First StillLive (NothingLive (index_now s) e → ⊥)
+      (First Full (NoRoomForRun s ForMove)
+      (First WornOut (WouldPass s (Retire e)) NoMore))))
+  Refuses s (Abandon e) = First Halted (s.halted ≡ true)
+      (First NotSweepable (s.world.extents.swept e ≡ false) NoMore)
+  Refuses s (Settle n) = NoMore

@@ -1,0 +1,89 @@
+-- The store as it is opened on an image.
+use Rattle.std.specs.Prelude.{◌∷◌, ℕ, zero, suc, false, List, None, []}
+use Rattle.cs_model.specs.Cut.{Cut}
+use Rattle.cs_model.specs.Device.{Page, Shape}
+use Rattle.cs_model.specs.Element.{A_root, A_superblock, Element, Map, Root, Superblock}
+use Rattle.cs_model.specs.Extents.{Extents}
+use Rattle.cs_model.specs.Formats.{Formats, opening_in}
+use Rattle.cs_model.specs.Machine.{World}
+use Rattle.cs_model.specs.Recovery.{Recovers}
+use Rattle.cs_model.specs.State.{State}
+
+module _ (S : Shape) (F : Formats) where
+  -- an image that gives this number of commands and this map
+  module _ (img : ℕ → Page) (n : ℕ) (m : Map) (image_gives : Recovers S F img n m) where
+    open image_gives use {formats, versions, pointers, generations, version, runs}
+
+    -- the version of a section that was read
+    abbrev pub superblock_read : ℕ → Superblock
+    superblock_read j = record {
+      format = formats j;
+      section = j;
+      version = versions j;
+      pointers = pointers;
+      generations = generations;
+      writes = 0;
+      root = 0;
+    }
+
+    -- the versions of the sections below this one
+    abbrev pub superblocks_read : ℕ → List Element
+    superblocks_read zero = []
+    superblocks_read (suc j) = A_superblock (superblock_read j) ∷ superblocks_read j
+
+    -- the root that was read
+    abbrev pub root_read : Root
+    root_read = record {
+      version = version;
+      commands = n;
+      runs = runs;
+      superblocks = versions;
+      map = m;
+      writes = λ j. 0;
+      pointers = pointers;
+      generations = generations;
+    }
+
+    -- what is persistent: what was read
+    abbrev pub nothing_staged : Cut
+    nothing_staged = record { writes = λ k. false; superblocks = versions; root = version }
+
+    -- the extents as they were read: none is open, none was reset, none is being swept
+    abbrev pub extents_read : Extents
+    extents_read = record {
+      pointer = pointers;
+      generation = generations;
+      reset = λ e. 0;
+      open_extent = None;
+      swept = λ e. false;
+    }
+
+    -- what was staged, the extents and what is persistent, at open
+    abbrev pub opened_world : World
+    opened_world = record {
+      elements = A_root root_read ∷ superblocks_read S.sections;
+      extents = extents_read;
+      written = 0;
+      superblocks = versions;
+      behind = λ j. 0;
+      root = version;
+      persistent = nothing_staged;
+      round = nothing_staged;
+    }
+
+    -- the state at open
+    abbrev pub opened_state : State
+    opened_state = record {
+      opened = img;
+      world = opened_world;
+      table = [];
+      runs = runs;
+      start = m;
+      opening = opening_in S F img pointers generations;
+      count = n;
+      commands = [];
+      round_out = false;
+      left = [];
+      issued = [];
+      halted = false;
+    }

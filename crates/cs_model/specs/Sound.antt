@@ -1,0 +1,61 @@
+-- What every event keeps, and what a crash may leave.
+use Rattle.std.specs.Prelude.{◌≡◌, ◌≢◌, ◌⊎◌, ◌+◌, ◌-◌, ◌<◌, ◌≤◌, ℕ, Bool, true, List, length, Some, []}
+use Rattle.cs_model.specs.Device.{Page, Shape}
+use Rattle.cs_model.specs.Disk.{applied, kept_of, page_writes}
+use Rattle.cs_model.specs.Element.{Element, Locator, Root, Run, log_of, roots_of}
+use Rattle.cs_model.specs.Events.{IsFrontier, newest_page}
+use Rattle.cs_model.specs.Formats.{ChunkFrame, Formats, image, pages_from}
+use Rattle.cs_model.specs.Index.{Gives, InBounds, IsWhole}
+use Rattle.cs_model.specs.Lists.{◌∈◌}
+use Rattle.cs_model.specs.Recovery.{Recovers, RecoversBut, RootGives}
+use Rattle.cs_model.specs.Refusal.{Refusal}
+use Rattle.cs_model.specs.Round.{IsMember}
+use Rattle.cs_model.specs.Safe.{Safe, Settled}
+use Rattle.cs_model.specs.State.{State, index_now, map_after, map_now}
+
+module _ (S : Shape) (F : Formats) where
+  -- what every event keeps
+  pub record Sound (s : State) : Type 0 where
+    pub safe : Safe S (RootGives S F s.opening) s.opening.frozen s.opened s.world
+    pub settled : (e : ℕ) → Settled S s.world e
+    -- reading what was written last gives the map, by the index
+    pub gives : Gives S F s.opening (newest_page s) s.world.extents.pointer s.world.extents.generation
+        s.table s.runs (map_now s)
+    -- each root was staged with the map after as many commands as it says
+    pub maps : (r : Root) → r ∈ roots_of s.world.elements
+        → (n : ℕ) × (n ≤ length s.commands) × (r.commands ≡ s.count + n) × (r.map ≡ map_after s.start s.commands n)
+    -- where the table is empty the last root has all commands
+    pub caught_up : s.table ≡ [] → (r : Root) → r ∈ roots_of s.world.elements → r.version ≡ s.world.root
+        → r.commands ≡ s.count + length s.commands
+    -- the members of the round that is out are those left and those issued
+    pub left : (m : Element) → m ∈ s.left → IsMember S s.world m
+    pub issued : (m : Element) → m ∈ s.issued → IsMember S s.world m
+    pub complete : s.round_out ≡ true → (m : Element) → IsMember S s.world m → (m ∈ s.left) ⊎ (m ∈ s.issued)
+    -- an extent that is being swept is there, and neither open nor empty
+    pub swept : (e : ℕ) → s.world.extents.swept e ≡ true
+        → (s.world.extents.open_extent ≢ Some e) × (0 < s.world.extents.pointer e) × (e < S.extents)
+    -- a frozen extent that wasn't reset since is neither open nor empty
+    pub frozen : (e : ℕ) → s.opening.frozen e (s.world.extents.generation e) ≡ true
+        → (s.world.extents.open_extent ≢ Some e) × (0 < s.world.extents.pointer e)
+    -- a chunk that is known as damaged lies in such an extent, and is damaged in the image at open
+    pub damaged : (l : Locator) (f : Refusal) → s.opening.damage l ≡ Some f
+        → (s.opening.frozen l.extent l.generation ≡ true)
+        × (F.fault ChunkFrame (pages_from S F s.opened l.extent l.page (S.pages - l.page)) ≡ Some f)
+
+  -- all numbers keep to their bounds, and each run can be spelled
+  pub record Bounded (s : State) : Type 0 where
+    pub bounds : InBounds S s.world.root (s.count + length s.commands) (length s.runs) (index_now s)
+    pub runs_fit : (run : Run) → run ∈ s.runs → F.fits_run run.entries ≡ true
+    pub written_fits : s.world.written ≤ S.greatest_number
+
+  -- what a crash may leave now: the durable image with those of the issued writes that a mask keeps
+  abbrev pub crashed : State → List Bool → ℕ → Page
+  crashed s mask = applied (image S F s.world.persistent s.opened (log_of s.world.elements))
+      (kept_of mask (page_writes S F s.issued))
+
+  -- a crash now leaves the map after some number of commands between the frontier and all of them; in the image's own
+  -- terms where no shard was damaged at open, else by what is known of the image at open
+  abbrev pub LeavesPrefix : State → List Bool → Type 0
+  LeavesPrefix s mask = (n : ℕ) × (n ≤ length s.commands) × ((f : ℕ) → IsFrontier S F s f → f ≤ n)
+      × RecoversBut S F (λ p g. s.opening) (crashed s mask) (s.count + n) (map_after s.start s.commands n)
+      × (IsWhole s.start → Recovers S F (crashed s mask) (s.count + n) (map_after s.start s.commands n))

@@ -1,0 +1,73 @@
+//! Where frames go, and what an append does.
+ghost use Rattle.cs_model.specs.Append.{Append, AppendAll, AppendsChunks, AppendsFrame, appended, page_counts};
+ghost use Rattle.cs_model.specs.Device.{IsShape, Page, Shape};
+ghost use Rattle.cs_model.specs.Element.{Locator};
+ghost use Rattle.cs_model.specs.Events.{ReadsNow, newest_page};
+ghost use Rattle.cs_model.specs.Extents.{Extents, Fits, NoPlace, Placed, Purpose, taken};
+ghost use Rattle.cs_model.specs.Formats.{Formats, FrameKind};
+ghost use Rattle.cs_model.specs.Frames.{IsFormat};
+ghost use Rattle.cs_model.specs.Index.{Chunks, after};
+ghost use Rattle.cs_model.specs.Lists.{with};
+ghost use Rattle.cs_model.specs.Machine.{PastGreatest, World};
+ghost use Rattle.cs_model.specs.Sound.{Sound};
+ghost use Rattle.cs_model.specs.State.{State};
+ghost use Rattle.std.specs.Prelude.{suc, ◌⊎◌, ◌≡◌, ◌↔◌, ◌≤◌, ◌<◌, ◌+◌, ℕ, List, length};
+
+/// A frame of so many pages goes to one extent alone.
+pub fn a_frame_goes_to_one_extent()
+    ensures { (S : Shape) (x : Extents) (purpose : Purpose) (pages d e : ℕ) → Placed S x purpose pages d
+        → Placed S x purpose pages e → d ≡ e }
+{}
+
+/// An append gives one locator and one world.
+pub fn an_append_has_one_outcome()
+    ensures { (S : Shape) (w v u : World) (purpose : Purpose) (bs : List Page) (l k : Locator)
+        → Append S w purpose bs l v → Append S w purpose bs k u → (l ≡ k) × (v ≡ u) }
+{}
+
+/// What an append does to the extents: one pointer rises, and its extent is open where it isn't full. It takes a number
+/// for each page and one version of the extent's section, and leaves the root and what is persistent as they are.
+pub fn an_append_takes_pages()
+    ensures extents { (S : Shape) (w : World) (e need : ℕ) (bs : List Page) → IsShape S → e < S.extents
+        → w.extents.pointer e + length bs ≤ S.pages
+        → (appended S w e need bs).extents ≡ taken S w.extents e (length bs) }
+    ensures numbers { (S : Shape) (w : World) (e need : ℕ) (bs : List Page) → IsShape S
+        → ((appended S w e need bs).written ≡ w.written + length bs)
+        × ((appended S w e need bs).superblocks
+        ≡ with w.superblocks (S.section e) (suc (w.superblocks (S.section e))))
+        × ((appended S w e need bs).root ≡ w.root)
+        × ((appended S w e need bs).persistent ≡ w.persistent) × ((appended S w e need bs).round ≡ w.round) }
+{}
+
+/// Frames fit by their numbers of pages exactly where they can be appended one after another.
+pub fn frames_fit_where_they_can_be_appended()
+    ensures { (S : Shape) (w : World) (purpose : Purpose) (frames : List (List Page)) → IsShape S
+        → Fits S w.extents purpose (page_counts frames)
+        ↔ ((ls : List Locator) × (v : World) × AppendAll S w purpose frames ls v) }
+{}
+
+/// A frame can be appended, or the extents are full for it.
+pub fn a_frame_is_appended_or_the_extents_are_full()
+    ensures { (S : Shape) (w : World) (purpose : Purpose) (bs : List Page)
+        → ((l : Locator) × (v : World) × Append S w purpose bs l v) ⊎ NoPlace S w.extents purpose (length bs) }
+{}
+
+/// A frame that is appended is read where it begins, what was read before is read as before, and the state stays sound;
+/// the chunks of a put are read in their order.
+pub fn what_is_appended_is_read()
+    ensures sound { (S : Shape) (F : Formats) (s t : State) (purpose : Purpose) (kind : FrameKind)
+        (payload : List ℕ) (l : Locator)
+        → IsShape S → IsFormat S F → Sound S F s → (PastGreatest S t.world → ⊥)
+        → AppendsFrame S F s purpose kind payload l t → Sound S F t }
+    ensures frame { (S : Shape) (F : Formats) (s t : State) (purpose : Purpose) (kind : FrameKind)
+        (payload : List ℕ) (l : Locator)
+        → IsShape S → IsFormat S F → Sound S F s → (PastGreatest S t.world → ⊥)
+        → AppendsFrame S F s purpose kind payload l t → ReadsNow S F t l kind payload }
+    ensures before { (S : Shape) (F : Formats) (s t : State) (purpose : Purpose) (kind old : FrameKind)
+        (payload bytes : List ℕ)
+        (l k : Locator) → IsShape S → IsFormat S F → Sound S F s → (PastGreatest S t.world → ⊥)
+        → AppendsFrame S F s purpose kind payload l t → ReadsNow S F s k old bytes → ReadsNow S F t k old bytes }
+    ensures chunks { (S : Shape) (F : Formats) (s t : State) (cs : List (List ℕ)) (ls : List Locator)
+        → IsShape S → IsFormat S F → Sound S F s → (PastGreatest S t.world → ⊥) → AppendsChunks S F s cs ls t
+        → Chunks S F t.opening (newest_page t) t.world.extents.pointer t.world.extents.generation ls cs }
+{}

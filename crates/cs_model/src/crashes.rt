@@ -1,0 +1,58 @@
+//! What every event keeps, and the map that a crash leaves.
+ghost use Rattle.cs_model.specs.Checkpoint.{AtRest, LegalFrom};
+ghost use Rattle.cs_model.specs.Device.{IsShape, Page, Shape};
+ghost use Rattle.cs_model.specs.Element.{Map};
+ghost use Rattle.cs_model.specs.Events.{IsFrontier};
+ghost use Rattle.cs_model.specs.Formats.{Formats, image};
+ghost use Rattle.cs_model.specs.Frames.{IsFormat};
+ghost use Rattle.cs_model.specs.Index.{after};
+ghost use Rattle.cs_model.specs.Open.{opened_state};
+ghost use Rattle.cs_model.specs.Recovery.{Recovers};
+ghost use Rattle.cs_model.specs.Sound.{Bounded, LeavesPrefix, Sound};
+ghost use Rattle.cs_model.specs.State.{Event, Reply, State};
+ghost use Rattle.cs_model.specs.Step.{History, Step};
+ghost use Rattle.std.specs.Prelude.{◌≡◌, ◌+◌, [], ℕ, Bool, List, length};
+
+/// Every event keeps a state sound.
+pub fn every_event_keeps()
+    ensures { (S : Shape) (F : Formats) (s t : State) (event : Event) (reply : Reply)
+        → IsShape S → IsFormat S F → Sound S F s → Bounded S F s → Step S F s event reply t → Sound S F t
+        × Bounded S F t }
+{}
+
+/// A crash of a sound state leaves the map after some commands, no fewer than the frontier's.
+pub fn a_crash_leaves_a_prefix()
+    ensures { (S : Shape) (F : Formats) (s : State) (mask : List Bool)
+        → IsShape S → IsFormat S F → Sound S F s → LeavesPrefix S F s mask }
+{}
+
+/// A crash during an event leaves what one before it or after it leaves.
+pub fn any_moment_of_an_event()
+    ensures { (S : Shape) (F : Formats) (s t : State) (event : Event) (reply : Reply) (mask : List Bool)
+        → IsShape S → IsFormat S F → Sound S F s → Bounded S F s → Step S F s event reply t
+        → LeavesPrefix S F s mask × LeavesPrefix S F t mask }
+{}
+
+/// A store that is opened on an image that gives a map starts sound, and so do all histories from there end.
+pub fn every_history_is_safe()
+    ensures sound { (S : Shape) (F : Formats) (img : ℕ → Page) (n : ℕ) (m : Map) (gives : Recovers S F img n m)
+        → IsShape S → Sound S F (opened_state S F img n m gives) × Bounded S F (opened_state S F img n m gives) }
+    ensures prefix { (S : Shape) (F : Formats) (img : ℕ → Page) (n : ℕ) (m : Map) (gives : Recovers S F img n m)
+        (history : List (Event × Reply)) (t : State) (mask : List Bool)
+        → IsShape S → IsFormat S F → History S F (opened_state S F img n m gives) history t
+        → LeavesPrefix S F t mask }
+{}
+
+/// A history that is kept from a checkpoint on is as safe as a whole one, and a checkpoint comes where all commands are
+/// persistent.
+pub fn checkpoints_are_safe()
+    ensures prefix { (S : Shape) (F : Formats) (img : ℕ → Page) (n : ℕ) (m : Map)
+        (gives : Recovers S F img n m) (base : ℕ)
+        (history : List (Event × Reply)) (t : State) (mask : List Bool)
+        → IsShape S → IsFormat S F → LegalFrom S F (opened_state S F img n m gives) base history t
+        → LeavesPrefix S F t mask }
+    ensures frontier { (S : Shape) (F : Formats) (s : State) (f : ℕ) → Sound S F s → AtRest s → IsFrontier S F s f
+        → f ≡ length s.commands }
+    ensures again { (S : Shape) (F : Formats) (opened s t : State) (base : ℕ) (history : List (Event × Reply))
+        → LegalFrom S F opened base history s → AtRest s → LegalFrom S F opened (base + length history) [] s }
+{}

@@ -1,0 +1,35 @@
+//! The machine of a store that orders its writeback by needs. Its definitions are in `specs`, and each function here
+//! has a law over them as its contract and an empty body.
+#![tactic(auto)]
+
+mod allocation;
+mod crashes;
+mod events;
+mod premises;
+mod recovery;
+mod sets;
+mod writeback;
+
+pub use allocation::{
+    a_frame_goes_to_one_extent, a_frame_is_appended_or_the_extents_are_full,
+    an_append_has_one_outcome, an_append_takes_pages, frames_fit_where_they_can_be_appended,
+    what_is_appended_is_read,
+};
+pub use crashes::{
+    a_crash_leaves_a_prefix, any_moment_of_an_event, checkpoints_are_safe, every_event_keeps,
+    every_history_is_safe,
+};
+pub use events::{
+    all_is_persistent_at_rest, commands_go_on, every_event_has_an_answer, the_frontier_is_exact,
+    there_is_a_frontier, there_is_a_round, what_an_event_does_is_one_thing,
+};
+pub use premises::{a_format_can_be, geometries_are_shapes};
+pub use recovery::{
+    a_new_store_is_empty, an_image_gives_one_map, frames_tell_their_payload,
+    what_was_there_at_open_stays,
+};
+pub use sets::{
+    closed_sets_are_intact, crashes_leave_sets, every_move_keeps, needs_are_met_in_closed_sets,
+    nothing_ready_is_nothing_waits, one_list_of_elements, rounds_are_closed,
+};
+pub use writeback::{a_flush_makes_the_next_image, an_issue_adds_one_write};

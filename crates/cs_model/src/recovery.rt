@@ -1,0 +1,50 @@
+//! What a store finds on an image, and what stays of it.
+ghost use Rattle.cs_model.specs.Append.{AppendsFrame, appended};
+ghost use Rattle.cs_model.specs.Device.{Inside, IsShape, Page, Shape};
+ghost use Rattle.cs_model.specs.Element.{Locator, Map};
+ghost use Rattle.cs_model.specs.Events.{newest_page};
+ghost use Rattle.cs_model.specs.Extents.{Purpose};
+ghost use Rattle.cs_model.specs.Formats.{ChunkFrame, Formats, FrameKind, Stand, image, pages_from};
+ghost use Rattle.cs_model.specs.Frames.{IsFormat, IsFrameFormat};
+ghost use Rattle.cs_model.specs.Index.{Passes};
+ghost use Rattle.cs_model.specs.Lists.{with};
+ghost use Rattle.cs_model.specs.Recovery.{IsNew, Recovers};
+ghost use Rattle.cs_model.specs.Refusal.{Refusal};
+ghost use Rattle.cs_model.specs.Sound.{Sound};
+ghost use Rattle.cs_model.specs.State.{State};
+ghost use Rattle.std.specs.Prelude.{◌≡◌, ◌≢◌, ◌-◌, Some, ◌≤◌, ℕ, true, List, None, length};
+
+/// An image gives one number of commands and one map.
+pub fn an_image_gives_one_map()
+    ensures { (S : Shape) (F : Formats) (img : ℕ → Page) (n k : ℕ) (m o : Map) → IsFormat S F
+        → Recovers S F img n m → Recovers S F img k o → (n ≡ k) × ((id : ℕ) → m id ≡ o id) }
+{}
+
+/// A store that is made gives no command and no shard.
+pub fn a_new_store_is_empty()
+    ensures { (S : Shape) (F : Formats) (img : ℕ → Page) → IsNew S F img → Recovers S F img 0 (λ id. None) }
+{}
+
+/// What stands at a place is the frame of one payload, where the first page tells the payload's length.
+pub fn frames_tell_their_payload()
+    ensures { (S : Shape) (F : Formats) (img : ℕ → Page) (e i : ℕ) (kind : FrameKind) (a b : List ℕ)
+        → IsFrameFormat F.frame S.pages
+        → length (F.frame kind a) ≤ S.pages → length (F.frame kind b) ≤ S.pages
+        → Stand S F img e i (F.frame kind a) → Stand S F img e i (F.frame kind b) → a ≡ b }
+{}
+
+/// An extent that wasn't empty at open holds what it held then until it is reset. So a chunk that was damaged at open
+/// is read with the same refusal as long as its locator passes, and no chunk that is appended is a damaged one.
+pub fn what_was_there_at_open_stays()
+    ensures pages { (S : Shape) (F : Formats) (s : State) (e i : ℕ) → IsShape S → Sound S F s
+        → s.opening.frozen e (s.world.extents.generation e) ≡ true → Inside S e i
+        → newest_page s (S.address e i) ≡ s.opened (S.address e i) }
+    ensures damage { (S : Shape) (F : Formats) (s : State) (l : Locator) (f : Refusal) → IsShape S → Sound S F s
+        → s.opening.damage l ≡ Some f
+        → Passes S F (newest_page s) s.world.extents.pointer s.world.extents.generation l
+        → F.fault ChunkFrame (pages_from S F (newest_page s) l.extent l.page (S.pages - l.page)) ≡ Some f }
+    ensures appended { (S : Shape) (F : Formats) (s t : State) (purpose : Purpose) (kind : FrameKind)
+        (payload : List ℕ) (l : Locator)
+        (f : Refusal) → IsShape S → Sound S F s
+        → AppendsFrame S F s purpose kind payload l t → s.opening.damage l ≢ Some f }
+{}

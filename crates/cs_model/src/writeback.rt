@@ -1,0 +1,24 @@
+//! The device through a round.
+ghost use Rattle.cs_model.specs.Device.{IsShape, Shape};
+ghost use Rattle.cs_model.specs.Disk.{applied, page_write, page_writes, written};
+ghost use Rattle.cs_model.specs.Element.{Element, log_of};
+ghost use Rattle.cs_model.specs.Formats.{Formats, image};
+ghost use Rattle.cs_model.specs.Lists.{with};
+ghost use Rattle.cs_model.specs.Sound.{Sound, crashed};
+ghost use Rattle.cs_model.specs.State.{State};
+ghost use Rattle.std.specs.Prelude.{◌≡◌, ◌++◌, ◌∷◌, [], ℕ, Bool, true, List, if◌then◌else◌};
+
+/// A write that is issued leaves what a crash might have left before, with the write or without.
+pub fn an_issue_adds_one_write()
+    ensures { (S : Shape) (F : Formats) (s : State) (m : Element) (mask : List Bool) (k : Bool)
+        → (more : List Bool) × (crashed S F (record s { issued = s.issued ++ m ∷ [] }) more
+        ≡ (if k then written (crashed S F s mask) (page_write S F m).0
+        (page_write S F m).1 else crashed S F s mask)) }
+{}
+
+/// Once all of a round is issued, a flush makes the image of what is persistent then.
+pub fn a_flush_makes_the_next_image()
+    ensures { (S : Shape) (F : Formats) (s : State) (p : ℕ) → IsShape S → Sound S F s → s.round_out ≡ true → s.left ≡ []
+        → applied (image S F s.world.persistent s.opened (log_of s.world.elements)) (page_writes S F s.issued) p
+        ≡ image S F s.world.round s.opened (log_of s.world.elements) p }
+{}
