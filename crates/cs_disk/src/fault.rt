@@ -9,7 +9,7 @@ use thiserror::Error;
 /// Why a call on a disk was refused.
 #[derive(Clone, Copy, Debug, PartialEq, Eq, Error)]
 pub enum DiskFault {
-    /// Refusal 1: the device failed. The disk's count of failures rose in that call, or stood at its last value.
+    /// Refusal 1: the device failed. The call raised the count of failures, or found it at its end.
     #[error("the device failed")]
     DeviceFault,
     /// Refusal 9: memory was asked for and refused. The disk is as it was.

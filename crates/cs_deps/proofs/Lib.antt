@@ -1,0 +1,15 @@
+pub mod Sets
+pub mod LowerBound
+pub mod Chains
+pub mod ByHeight
+pub mod Plains
+pub mod Within
+pub mod Kept
+pub mod Filtered
+pub mod Settled
+pub mod HeightSteps
+pub mod StateSteps
+pub mod Extended
+pub mod Ready
+pub mod Entries
+pub mod AllHeights

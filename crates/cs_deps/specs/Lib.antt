@@ -1,0 +1,10 @@
+pub mod Named
+pub mod Pending
+pub mod Schedule
+pub mod Chain
+pub mod Rounds
+pub mod View
+pub mod Staging
+pub mod State
+pub mod Refusals
+pub mod Entries

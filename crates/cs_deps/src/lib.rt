@@ -1,0 +1,25 @@
+//! Page writes that wait, what each of them needs, and the rounds in which they become persistent.
+#![tactic(auto)]
+
+mod dependencies;
+mod elements;
+mod graphs;
+mod laws;
+mod refusals;
+mod rounds;
+#[cfg(test)]
+mod tests;
+mod views;
+mod waiting;
+mod writes;
+
+pub use dependencies::Dependency;
+pub use elements::Element;
+pub use graphs::Graph;
+pub use laws::{
+    a_chain_bounds_every_schedule, a_first_round_waits_no_more, a_round_lowers_heights,
+    each_waiting_element_has_a_height,
+};
+pub use refusals::Refusal;
+pub use views::{GraphView, Plan};
+pub use waiting::find;

@@ -1,0 +1,54 @@
+//! What a round satisfies.
+ghost use Rattle.std.specs.Prelude.{◌≡◌, ◌<◌, [], ◌∷◌};
+ghost use Rattle.cs_deps.specs.Staging.{stands_for, raised};
+ghost use Rattle.cs_deps.specs.State.{waits_still};
+
+use crate::elements::Element;
+
+/// Whether the first stands for the second.
+pub fn stands(y: Element, x: Element) -> bool
+    ensures { result ≡ stands_for y x }
+{
+    match y {
+        Element::Plain(m) => match x {
+            Element::Plain(n) => m == n,
+            Element::Version(_, _) => false,
+        },
+        Element::Version(f, v) => match x {
+            Element::Plain(_) => false,
+            Element::Version(g, w) => f == g && w <= v,
+        },
+    }
+}
+
+/// Whether nothing of the round stands for an element.
+pub fn still_waits(round: &[Element], element: Element) -> bool
+    ensures { result ≡ waits_still round.now element }
+{
+    for y in round {
+        if stands(*y, element) {
+            return false;
+        }
+    }
+    true
+}
+
+/// Raises the version of an element's family.
+fn raise_one(versions: &mut Vec<u64>, y: Element)
+    ensures { versions.new.items ≡ raised versions.old.items (y ∷ []) }
+{
+    if let Element::Version(f, v) = y {
+        if f < versions.len() {
+            versions[f] = versions[f].max(v);
+        }
+    }
+}
+
+/// Raises each version to those of the round.
+pub fn raise_all(versions: &mut Vec<u64>, round: &[Element])
+    ensures { versions.new.items ≡ raised versions.old.items round.now }
+{
+    for y in round {
+        raise_one(versions, *y);
+    }
+}
