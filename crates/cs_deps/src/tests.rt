@@ -9,7 +9,7 @@ use std::alloc::{AllocError, Global};
 use std::process::Abort;
 use std::test::Fail;
 
-/// One put of one byte and the root over it: w1; s2 needing w1; w2; s3 needing both; r2 needing s3.
+/// One put of one byte and the root over it, as a store stages them: shard, superblock, run, superblock, root.
 fn one_put(rt: &(impl Abort + AllocGlobal)) -> Result<Graph, Fail> {
     let alloc = rt.alloc();
     let mut graph = Graph::new(alloc, &[1, 1])?;

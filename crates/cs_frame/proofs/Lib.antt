@@ -1,0 +1,9 @@
+pub mod Fields
+pub mod Pieces
+pub mod TestLaws
+pub mod PageLaws
+pub mod LocatorLaws
+pub mod RootLaws
+pub mod SuperblockLaws
+pub mod FrameLaws
+pub mod RunLaws

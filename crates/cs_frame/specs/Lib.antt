@@ -1,0 +1,10 @@
+pub mod Bytes
+pub mod Faults
+pub mod Pages
+pub mod Buffers
+pub mod Locators
+pub mod Roots
+pub mod Superblocks
+pub mod Frames
+pub mod Runs
+pub mod Geometries

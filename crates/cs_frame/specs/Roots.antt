@@ -1,0 +1,78 @@
+-- The page of a root, field by field, and the tests of its decoder in order.
+use Rattle.std.specs.Prelude.{◌≡◌, ℕ, ◌+◌, ◌*◌, ◌^◌, ◌<◌, ◌≤◌, ◌&&◌, List, [], ◌∷◌, ◌++◌, length, Option, codes, nat_le, nat_lt, slice_index}
+use Rattle.std.specs.List.{AllByRecursion}
+use Rattle.byteorder.specs.Endian.{big_bytes}
+use Rattle.cs_frame.specs.declared.faults.FormatFault.{FormatFault}
+use Rattle.cs_frame.specs.declared.faults.FormatFault.TheVariants.{BadLength, BadVersion}
+use Rattle.cs_frame.specs.declared.locators.Locator.{Locator}
+use Rattle.cs_frame.specs.declared.roots.Root.{Root}
+use Rattle.cs_frame.specs.Bytes.{field, number}
+use Rattle.cs_frame.specs.Faults.{first_fault, unless}
+use Rattle.cs_frame.specs.Locators.{FitsLocator, locators_in, spelled_locators}
+use Rattle.cs_frame.specs.Pages.{digest_test, magic_test, padded, padding_test, sealed, version_test}
+
+-- |  0 | 4     | CSR1                                         |
+-- |  4 | 8     | version                                      |
+-- | 12 | 8     | number of commands                           |
+-- | 20 | 1     | k, the number of runs                        |
+-- | 21 | 8 * k | locators of the runs, oldest first           |
+abbrev pub root_fields : (version commands : ℕ) → List Locator → List ℕ
+root_fields version commands runs =
+    codes "CSR1" ++ big_bytes 8 version ++ big_bytes 8 commands ++ length runs ∷ [] ++ spelled_locators runs
+
+-- | 21 + 8 * k | 32 | digest of all bytes before |
+-- | 53 + 8 * k |    | zeros to the end           |
+abbrev pub spelled_root : (version commands : ℕ) → List Locator → List ℕ
+spelled_root version commands runs = padded (sealed (root_fields version commands runs))
+
+-- what has a spelling
+pub record FitsRoot (version commands : ℕ) (runs : List Locator) : Type 0 where
+  pub first_version : 1 ≤ version
+  pub last_version : version < 2 ^ 63
+  pub last_command : commands < 2 ^ 63
+  pub count : length runs ≤ 4
+  pub each : AllByRecursion FitsLocator runs
+
+-- the bytes are the spelling of these
+pub record SpellsRoot (bytes : List ℕ) (version commands : ℕ) (runs : List Locator) : Type 0 where
+  pub fits : FitsRoot version commands runs
+  pub spelled : bytes ≡ spelled_root version commands runs
+
+-- a root that can be spelled: what its type doesn't say of its numbers
+pub record IsRoot (root : Root) : Type 0 where
+  pub first_version : 1 ≤ root.version
+  pub last_version : root.version < 2 ^ 63
+  pub last_command : root.commands < 2 ^ 63
+  pub count : length root.runs.items ≤ 4
+
+-- where the digest begins
+abbrev pub root_end : List ℕ → ℕ
+root_end bytes = 21 + 8 * slice_index bytes 20
+
+-- the locators that the bytes spell
+abbrev pub runs_in : List ℕ → List Locator
+runs_in bytes = locators_in (field 21 (root_end bytes) bytes)
+
+-- at most four runs
+abbrev pub root_length_test : List ℕ → Option FormatFault
+root_length_test bytes = unless (nat_le (slice_index bytes 20) 4) BadLength
+
+-- version and number of commands are in range
+abbrev pub root_range_test : List ℕ → Option FormatFault
+root_range_test bytes =
+    unless (nat_le 1 (number 4 12 bytes) && nat_lt (number 4 12 bytes) (2 ^ 63) && nat_lt (number 12 20 bytes) (2 ^ 63)) BadVersion
+
+-- the tests of a root in order
+abbrev pub root_tests : List ℕ → List (Option FormatFault)
+root_tests bytes =
+    magic_test (codes "CSR") bytes
+    ∷ version_test bytes
+    ∷ root_length_test bytes
+    ∷ digest_test (root_end bytes) bytes
+    ∷ root_range_test bytes
+    ∷ padding_test (root_end bytes + 32) bytes
+    ∷ []
+
+-- what is wrong with a page as a root
+abbrev pub root_fault : List ℕ → Option FormatFault
+root_fault bytes = first_fault (root_tests bytes)

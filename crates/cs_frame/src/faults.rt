@@ -1,0 +1,64 @@
+//! What is wrong with bytes that should spell a value.
+
+ghost use Rattle.std.specs.Prelude.{◌≡◌};
+ghost use Rattle.cs_frame.specs.declared.faults.FormatFault.TheVariants.{OutOfMemory};
+
+use std::alloc::AllocError;
+use thiserror::Error;
+
+/// Why a value was refused or not read.
+#[derive(Clone, Copy, Debug, PartialEq, Eq, Error)]
+pub enum FormatFault {
+    /// 7: the numbers of extents and of their pages aren't those of a store.
+    #[error("no such geometry")]
+    BadGeometry,
+    /// 9: memory ran out. The bytes had no fault.
+    #[error("out of memory")]
+    OutOfMemory,
+    /// 20: the first three bytes are another format's.
+    #[error("not of this format")]
+    BadMagic,
+    /// 21: the digest isn't that of the bytes.
+    #[error("wrong digest")]
+    BadDigest,
+    /// 22: a count or a length is out of range.
+    #[error("a length is out of range")]
+    BadLength,
+    /// 23: a byte after the end isn't 0.
+    #[error("bytes after the end")]
+    BadPadding,
+    /// 24: another version of the format, another kind of frame, or a number that no store reaches.
+    #[error("not of this version")]
+    BadVersion,
+    /// 25: the identifiers of a run don't rise.
+    #[error("identifiers out of order")]
+    OutOfOrder,
+}
+
+impl FormatFault {
+    ghost use Rattle.cs_frame.specs.Faults.{fault_number};
+
+    /// The number under which the fault is reported.
+    pub fn number(self) -> u8
+        ensures { result ≡ fault_number self }
+    {
+        match self {
+            FormatFault::BadGeometry => 7,
+            FormatFault::OutOfMemory => 9,
+            FormatFault::BadMagic => 20,
+            FormatFault::BadDigest => 21,
+            FormatFault::BadLength => 22,
+            FormatFault::BadPadding => 23,
+            FormatFault::BadVersion => 24,
+            FormatFault::OutOfOrder => 25,
+        }
+    }
+}
+
+impl From<AllocError> for FormatFault {
+    ghost from_gives = { λ _ e. e ≡ OutOfMemory };
+
+    fn from(_: AllocError) -> Self {
+        FormatFault::OutOfMemory
+    }
+}

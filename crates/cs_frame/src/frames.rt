@@ -1,0 +1,145 @@
+//! Frames: a payload with its digest, in whole pages.
+
+ghost use Rattle.std.specs.Prelude.{◌≡◌, ◌≢◌, ◌↔◌, ◌+◌, ◌^◌, ◌<◌, ◌≤◌, ℕ, List, Some, None, Ok, Err, IfOk, MatchResult, length, vec_len};
+ghost use Rattle.cs_frame.specs.Bytes.{EachHas, IsBytes};
+ghost use Rattle.cs_frame.specs.Faults.{HasFault, OkUnlessMemory, fault_in};
+ghost use Rattle.cs_frame.specs.Frames.{SpellsFrame, bytes_in, frame_fault, header_fault, kind_byte, page_count, payload_in, payload_length, spelled_frame};
+
+use crate::faults::FormatFault;
+use crate::pages::{check_magic, check_version, is_zero};
+use byteorder::{BigEndian, ByteOrder};
+use sha2::{Digest, Sha256};
+use std::alloc::{AllocError, Global};
+
+/// What a frame holds.
+#[derive(Clone, Copy, Debug, PartialEq, Eq)]
+pub enum FrameKind {
+    /// A chunk of a shard.
+    Chunk,
+    /// A run of the index.
+    Run,
+}
+
+impl FrameKind {
+    fn byte(self) -> u8
+        ensures { result ≡ kind_byte self }
+    {
+        match self {
+            FrameKind::Chunk => 0,
+            FrameKind::Run => 1,
+        }
+    }
+}
+
+/// What a frame's first page says of the pages after it.
+#[derive(Clone, Copy, Debug, PartialEq, Eq)]
+pub struct FrameHeader {
+    /// The bytes of the payload.
+    pub payload_len: u32,
+}
+
+impl FrameHeader {
+    /// The pages of the frame, the first included.
+    pub fn pages(self) -> usize
+        ensures { result ≡ page_count self.payload_len }
+    {
+        frame_pages(self.payload_len as usize)
+    }
+}
+
+/// The pages that a frame with so many bytes of payload takes.
+pub fn frame_pages(payload_len: usize) -> usize
+    requires { payload_len < 2 ^ 32 }
+    ensures { result ≡ page_count payload_len }
+{
+    (41 + payload_len).div_ceil(4096)
+}
+
+/// The pages that spell a frame.
+pub fn encode_frame(
+    alloc: Global,
+    kind: FrameKind,
+    payload: &[u8],
+) -> Result<Vec<[u8; 4096]>, AllocError>
+    requires { length payload.now < 2 ^ 32 }
+    ensures spelled { IfOk result (λ pages. pages.items ≡ spelled_frame (kind_byte kind) payload.now) }
+    ensures count { IfOk result (λ pages. vec_len pages ≡ page_count (length payload.now)) }
+{
+    let size = 4096 * frame_pages(payload.len());
+    let mut bytes = Vec::with_capacity(alloc, size)?;
+    bytes.extend_from_slice(b"CSF1")?;
+    bytes.push(kind.byte())?;
+    bytes.extend_from_slice(&(payload.len() as u32).to_be_bytes())?;
+    bytes.extend_from_slice(&Sha256::digest(payload))?;
+    bytes.extend_from_slice(payload)?;
+    bytes.resize(size, 0)?;
+    let (pages, _) = bytes.as_chunks::<4096>();
+    Vec::from_slice(alloc, pages)
+}
+
+/// The header in a frame's first page. A reader calls it before it reads further pages: `there` pages
+/// lie from the first to the end of its extent, and the frame's pages are among them.
+pub fn decode_frame_header(
+    kind: FrameKind,
+    first: &[u8; 4096],
+    there: usize,
+) -> Result<FrameHeader, FormatFault>
+    ensures fault { fault_in result ≡ header_fault (kind_byte kind) first.now there }
+    ensures length { IfOk result (λ header. header.payload_len ≡ payload_length first.now) }
+    ensures room { IfOk result (λ header. page_count header.payload_len ≤ there) }
+{
+    check_magic(first, b"CSF")?;
+    check_version(first)?;
+    if first[4] != kind.byte() {
+        return Err(FormatFault::BadVersion);
+    }
+    let header = FrameHeader {
+        payload_len: BigEndian::read_u32(&first[5..9]),
+    };
+    if header.pages() > there {
+        return Err(FormatFault::BadLength);
+    }
+    Ok(header)
+}
+
+/// The payload in the pages of a frame. Makes the tests in order.
+fn payload_of(kind: FrameKind, pages: &[[u8; 4096]]) -> Result<&[u8], FormatFault>
+    requires { 0 < length pages.now }
+    ensures fault { fault_in result ≡ frame_fault (kind_byte kind) pages.now }
+    ensures payload { IfOk result (λ payload. payload.now ≡ payload_in pages.now) }
+    ensures pages { EachHas 4096 pages.now }
+    ensures bytes { IfOk result (λ _. IsBytes (bytes_in pages.now)) }
+{
+    let header = decode_frame_header(kind, &pages[0], pages.len())?;
+    let bytes = pages[..header.pages()].as_flattened();
+    let end = 41 + header.payload_len as usize;
+    if bytes[9..41] != Sha256::digest(&bytes[41..end])[..] {
+        return Err(FormatFault::BadDigest);
+    }
+    if !is_zero(&bytes[end..]) {
+        return Err(FormatFault::BadPadding);
+    }
+    Ok(&bytes[41..end])
+}
+
+/// The payload of the frame that begins in the first of these pages, which lie from it to the end of
+/// its extent; those after the frame's own, as the header counts them, are not read and may be left
+/// out. The first test that fails is answered, and 9 only where the pages begin with a frame.
+pub fn decode_frame(
+    alloc: Global,
+    kind: FrameKind,
+    pages: &[[u8; 4096]],
+) -> Result<Vec<u8>, FormatFault>
+    requires { 0 < length pages.now }
+    // What is read is spelled by the pages.
+    ensures spelled { IfOk result (λ payload. SpellsFrame (kind_byte kind) pages.now payload.items) }
+    // What the pages spell is read, unless memory runs out.
+    ensures read { (payload : List ℕ) → SpellsFrame (kind_byte kind) pages.now payload
+        → OkUnlessMemory result (λ found. found.items ≡ payload) }
+    // Each other fault is that of the first test that fails.
+    ensures fault { HasFault result (frame_fault (kind_byte kind) pages.now) }
+    ensures memory { result ≡ Err FormatFault.OutOfMemory → frame_fault (kind_byte kind) pages.now ≡ None }
+{
+    let payload = payload_of(kind, pages)?;
+    Ok(Vec::from_slice(alloc, payload)?)
+}

@@ -1,0 +1,70 @@
+//! The laws of the formats: a page without a fault is one value's spelling and no other's, and what is
+//! spelled has no fault.
+
+ghost use Rattle.std.specs.Prelude.{◌≡◌, ◌↔◌, ◌+◌, ◌^◌, ◌<◌, ◌≤◌, ◌++◌, ℕ, List, Some, None, length, take};
+ghost use Rattle.cs_frame.specs.declared.faults.FormatFault.{FormatFault as Fault};
+ghost use Rattle.cs_frame.specs.declared.locators.Locator.{Locator as Place};
+ghost use Rattle.cs_frame.specs.Bytes.{EachHas, IsBytes, IsPage};
+ghost use Rattle.cs_frame.specs.Frames.{SpellsFrame, bytes_in, first_page, frame_count, frame_fault, header_fault, payload_in, spelled_frame};
+ghost use Rattle.cs_frame.specs.Roots.{SpellsRoot, root_fault};
+ghost use Rattle.cs_frame.specs.Runs.{Entry, SpellsRun, run_fault};
+ghost use Rattle.cs_frame.specs.Superblocks.{SpellsSuperblock, superblock_fault};
+
+/// A page is a superblock's spelling exactly where no test fails, and of one superblock alone.
+pub fn superblock_has_one_spelling()
+    ensures exact { (page : List ℕ) → IsPage page
+        → (superblock_fault page ≡ None)
+        ↔ ((version : ℕ) × (pages : ℕ) × (extents : List (ℕ × ℕ)) × SpellsSuperblock page version pages extents) }
+    ensures one_page { (page other : List ℕ) (version pages : ℕ) (extents : List (ℕ × ℕ))
+        → SpellsSuperblock page version pages extents → SpellsSuperblock other version pages extents → page ≡ other }
+    ensures one_superblock { (page : List ℕ) (version w pages p : ℕ) (extents es : List (ℕ × ℕ))
+        → SpellsSuperblock page version pages extents → SpellsSuperblock page w p es
+        → (version ≡ w) × (pages ≡ p) × (extents ≡ es) }
+{}
+
+/// A page is a root's spelling exactly where no test fails, and of one root alone.
+pub fn root_has_one_spelling()
+    ensures exact { (page : List ℕ) → IsPage page
+        → (root_fault page ≡ None)
+        ↔ ((version : ℕ) × (commands : ℕ) × (runs : List Place) × SpellsRoot page version commands runs) }
+    ensures one_page { (page other : List ℕ) (version commands : ℕ) (runs : List Place)
+        → SpellsRoot page version commands runs → SpellsRoot other version commands runs → page ≡ other }
+    ensures one_root { (page : List ℕ) (version w commands n : ℕ) (runs ls : List Place)
+        → SpellsRoot page version commands runs → SpellsRoot page w n ls
+        → (version ≡ w) × (commands ≡ n) × (runs ≡ ls) }
+{}
+
+/// A payload is a run's spelling exactly where no test fails, and of one run alone.
+pub fn run_has_one_spelling()
+    ensures exact { (payload : List ℕ) → IsBytes payload
+        → (run_fault payload ≡ None) ↔ ((entries : List Entry) × SpellsRun payload entries) }
+    ensures one_payload { (payload other : List ℕ) (entries : List Entry)
+        → SpellsRun payload entries → SpellsRun other entries → payload ≡ other }
+    ensures one_run { (payload : List ℕ) (entries es : List Entry)
+        → SpellsRun payload entries → SpellsRun payload es → entries ≡ es }
+{}
+
+/// Pages begin with a frame of a kind exactly where no test fails, and with one payload alone.
+pub fn frame_has_one_spelling()
+    ensures exact { (kind : ℕ) (pages : List (List ℕ)) → EachHas 4096 pages → IsBytes (bytes_in pages)
+        → (frame_fault kind pages ≡ None) ↔ ((payload : List ℕ) × SpellsFrame kind pages payload) }
+    ensures one_payload { (kind : ℕ) (pages : List (List ℕ)) (payload other : List ℕ)
+        → SpellsFrame kind pages payload → SpellsFrame kind pages other → payload ≡ other }
+    // Whatever follows its pages, a frame stands in them.
+    ensures stands { (kind : ℕ) (payload : List ℕ) (rest : List (List ℕ))
+        → length payload < 2 ^ 32 → SpellsFrame kind (spelled_frame kind payload ++ rest) payload }
+{}
+
+/// A reader may take a frame's first page alone, and then as many pages as its header says.
+pub fn frame_is_read_by_its_header()
+    // What the first page is refused for, all pages are.
+    ensures refused { (kind : ℕ) (pages : List (List ℕ)) (fault : Fault)
+        → header_fault kind (first_page pages) (length pages) ≡ Some fault → frame_fault kind pages ≡ Some fault }
+    // The pages after the frame's own change nothing.
+    ensures fault { (kind : ℕ) (pages : List (List ℕ)) (count : ℕ)
+        → frame_count pages ≤ count → frame_count pages ≤ length pages
+        → frame_fault kind (take count pages) ≡ frame_fault kind pages }
+    ensures payload { (pages : List (List ℕ)) (count : ℕ)
+        → frame_count pages ≤ count → frame_count pages ≤ length pages
+        → payload_in (take count pages) ≡ payload_in pages }
+{}

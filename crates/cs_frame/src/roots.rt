@@ -1,0 +1,102 @@
+//! The root: the runs of the index, and how many commands they include.
+
+ghost use Rattle.std.specs.Prelude.{◌≡◌, ◌≢◌, ◌↔◌, ℕ, List, Some, None, Ok, Err, IfOk, MatchResult, ◌≤◌, slice_index};
+ghost use Rattle.cs_frame.specs.declared.locators.Locator.{Locator as Place};
+ghost use Rattle.cs_frame.specs.Faults.{HasFault, OkUnlessMemory, fault_in};
+ghost use Rattle.cs_frame.specs.Roots.{IsRoot, SpellsRoot, root_fault, root_range_test, runs_in};
+ghost use Rattle.cs_frame.specs.Bytes.{IsPage, number};
+
+use crate::faults::FormatFault;
+use crate::locators::{Locator, append_locators, locators_from};
+use crate::pages::{PageBuffer, check_digest, check_magic, check_padding, check_version};
+use byteorder::{BigEndian, ByteOrder};
+use std::alloc::{AllocError, Global};
+
+/// What page 1 spells: the index as of one version.
+#[derive(Debug, Drop)]
+pub struct Root {
+    /// From 1 to 2^63 - 1.
+    pub version: u64,
+    /// How many puts and deletes are included, up to 2^63 - 1.
+    pub commands: u64,
+    /// The frames of the runs, oldest first, at most 4.
+    pub runs: Vec<Locator>,
+}
+
+/// The page that spells a root.
+pub fn encode_root(root: &Root) -> [u8; 4096]
+    requires { IsRoot root.now }
+    ensures { SpellsRoot result root.now.version root.now.commands root.now.runs.items }
+{
+    let mut page = PageBuffer::new();
+    page.append(b"CSR1");
+    page.append(&root.version.to_be_bytes());
+    page.append(&root.commands.to_be_bytes());
+    page.append(&[root.runs.len() as u8]);
+    append_locators(&mut page, &root.runs);
+    page.seal();
+    page.finish()
+}
+
+/// Version and number of commands are in range.
+fn check_range(page: &[u8; 4096]) -> Result<(), FormatFault>
+    ensures { fault_in result ≡ root_range_test page.now }
+{
+    let version = BigEndian::read_u64(&page[4..12]);
+    let commands = BigEndian::read_u64(&page[12..20]);
+    if 1 <= version && version < 1 << 63 && commands < 1 << 63 {
+        Ok(())
+    } else {
+        Err(FormatFault::BadVersion)
+    }
+}
+
+/// Makes the tests of a root in order.
+fn check_root(page: &[u8; 4096]) -> Result<(), FormatFault>
+    ensures fault { fault_in result ≡ root_fault page.now }
+    ensures page { IsPage page.now }
+{
+    check_magic(page, b"CSR")?;
+    check_version(page)?;
+    let count = page[20];
+    if count > 4 {
+        return Err(FormatFault::BadLength);
+    }
+    let end = 21 + 8 * usize::from(count);
+    check_digest(page, end)?;
+    check_range(page)?;
+    check_padding(page, end + 32)
+}
+
+/// The root that a page without a fault spells.
+fn root_from(alloc: Global, page: &[u8; 4096]) -> Result<Root, AllocError>
+    requires { slice_index page.now 20 ≤ 4 }
+    ensures version { IfOk result (λ root. root.version ≡ number 4 12 page.now) }
+    ensures commands { IfOk result (λ root. root.commands ≡ number 12 20 page.now) }
+    ensures runs { IfOk result (λ root. root.runs.items ≡ runs_in page.now) }
+{
+    let end = 21 + 8 * usize::from(page[20]);
+    let runs = locators_from(alloc, &page[21..end])?;
+    Ok(Root {
+        version: BigEndian::read_u64(&page[4..12]),
+        commands: BigEndian::read_u64(&page[12..20]),
+        runs,
+    })
+}
+
+/// The root that a page spells. The first test that fails is answered, and 9 only for a page that
+/// spells a root.
+pub fn decode_root(alloc: Global, page: &[u8; 4096]) -> Result<Root, FormatFault>
+    // What is read is spelled by the page.
+    ensures spelled { IfOk result (λ root. SpellsRoot page.now root.version root.commands root.runs.items) }
+    // What the page spells is read, unless memory runs out.
+    ensures read { (version commands : ℕ) (runs : List Place) → SpellsRoot page.now version commands runs
+        → OkUnlessMemory result (λ root.
+        (root.version ≡ version) × (root.commands ≡ commands) × (root.runs.items ≡ runs)) }
+    // Each other fault is that of the first test that fails.
+    ensures fault { HasFault result (root_fault page.now) }
+    ensures memory { result ≡ Err FormatFault.OutOfMemory → root_fault page.now ≡ None }
+{
+    check_root(page)?;
+    Ok(root_from(alloc, page)?)
+}

@@ -1,0 +1,187 @@
+//! Runs of the index.
+
+ghost use Rattle.std.specs.Prelude.{◌≡◌, ◌≢◌, ◌↔◌, ◌+◌, ◌-◌, ◌/◌, ◌<◌, ◌≤◌, ◌++◌, ℕ, List, Some, None, Ok, Err, IfOk, OnOk, MatchResult, length, map, drop, option_map, slice_index, slice_index_or, []};
+ghost use Rattle.cs_frame.specs.Bytes.{EachHas, IsBytes};
+ghost use Rattle.cs_frame.specs.Locators.{FitsLocator, spelled_locators};
+ghost use Rattle.std.specs.List.{AllByRecursion};
+ghost use Rattle.cs_frame.specs.Faults.{HasFault, OkUnlessMemory, fault_in, first_fault};
+ghost use Rattle.cs_frame.specs.Runs.{Entry, FitsEntry, IsRun, SpellsRun, entries_in, entries_of, entries_tests, entry_in, entry_of, entry_tests, id_in, order_test, pieces_in, run_fault, run_length_test, spelled_entry, spelled_run};
+
+use crate::faults::FormatFault;
+use crate::identifiers::ShardId;
+use crate::locators::{Locator, locators_from};
+use crate::pages::is_zero;
+use byteorder::{BigEndian, ByteOrder};
+use std::alloc::{AllocError, Global};
+
+/// A run of the index: what some commands changed.
+#[derive(Debug, Drop)]
+pub struct Run {
+    /// At least one entry, by rising identifiers. An entry has the locators of a shard's chunks in
+    /// order, 1 to 8 of them, or none where the shard was deleted.
+    pub entries: Vec<(ShardId, Vec<Locator>)>,
+}
+
+/// As many bytes as the entries that are counted.
+fn check_length(payload: &[u8]) -> Result<(), FormatFault>
+    ensures fault { fault_in result ≡ run_length_test payload.now }
+    ensures bytes { IsBytes payload.now }
+    ensures size { IfOk result (λ _. 4 ≤ length payload.now) }
+{
+    if payload.len() < 4 {
+        return Err(FormatFault::BadLength);
+    }
+    let count = BigEndian::read_u32(&payload[0..4]) as usize;
+    if count >= 1 && payload.len() == 4 + 81 * count {
+        Ok(())
+    } else {
+        Err(FormatFault::BadLength)
+    }
+}
+
+fn id_from(piece: &[u8; 81]) -> ShardId
+    ensures { result.0 ≡ id_in piece.now }
+{
+    let mut id = [0; 16];
+    id.copy_from_slice(&piece[..16]);
+    ShardId(id)
+}
+
+/// The identifier is greater than the one before, if there is one.
+fn check_order(previous: Option<ShardId>, id: ShardId) -> Result<(), FormatFault>
+    ensures { fault_in result ≡ order_test (option_map (λ id. id.0) previous) id.0 }
+{
+    match previous {
+        None => Ok(()),
+        Some(previous) => {
+            if previous.cmp(&id).is_lt() {
+                Ok(())
+            } else {
+                Err(FormatFault::OutOfOrder)
+            }
+        }
+    }
+}
+
+/// Makes the tests of the entry after one with this identifier, and gives its identifier.
+fn check_entry(previous: Option<ShardId>, piece: &[u8; 81]) -> Result<ShardId, FormatFault>
+    ensures fault { fault_in result ≡ first_fault (entry_tests (option_map (λ id. id.0) previous) piece.now) }
+    ensures id { IfOk result (λ id. id.0 ≡ id_in piece.now) }
+{
+    let id = id_from(piece);
+    check_order(previous, id)?;
+    let count = piece[16];
+    if count > 8 {
+        return Err(FormatFault::BadLength);
+    }
+    if !is_zero(&piece[17 + 8 * usize::from(count)..]) {
+        return Err(FormatFault::BadPadding);
+    }
+    Ok(id)
+}
+
+/// Makes the tests of all entries in order.
+fn check_entries(pieces: &[[u8; 81]]) -> Result<(), FormatFault>
+    ensures { fault_in result ≡ first_fault (entries_tests None pieces.now) }
+{
+    let mut previous = None;
+    for piece in pieces {
+        previous = Some(check_entry(previous, piece)?);
+    }
+    Ok(())
+}
+
+/// The pieces of 81 bytes after the count, one for each entry.
+fn pieces_of(payload: &[u8]) -> &[[u8; 81]]
+    requires { 4 ≤ length payload.now }
+    ensures { result.now ≡ pieces_in payload.now }
+{
+    let (pieces, _) = payload[4..].as_chunks::<81>();
+    pieces
+}
+
+/// Makes the tests of a run in order.
+fn check_run(payload: &[u8]) -> Result<(), FormatFault>
+    ensures fault { fault_in result ≡ run_fault payload.now }
+    ensures bytes { IsBytes payload.now }
+    ensures size { IfOk result (λ _. 4 ≤ length payload.now) }
+{
+    check_length(payload)?;
+    check_entries(pieces_of(payload))
+}
+
+fn entry_from(alloc: Global, piece: &[u8; 81]) -> Result<(ShardId, Vec<Locator>), AllocError>
+    requires { slice_index piece.now 16 ≤ 8 }
+    ensures { IfOk result (λ entry. entry_of entry ≡ entry_in piece.now) }
+{
+    let end = 17 + 8 * usize::from(piece[16]);
+    let locators = locators_from(alloc, &piece[17..end])?;
+    Ok((id_from(piece), locators))
+}
+
+fn entries_from(
+    alloc: Global,
+    pieces: &[[u8; 81]],
+) -> Result<Vec<(ShardId, Vec<Locator>)>, AllocError>
+    requires { (i : ℕ) → i < length pieces.now → slice_index (slice_index_or pieces.now i []) 16 ≤ 8 }
+    ensures { IfOk result (λ v. entries_of v.items ≡ map entry_in pieces.now) }
+{
+    let mut entries = Vec::new(alloc);
+    for piece in pieces {
+        entries.push(entry_from(alloc, piece)?)?;
+    }
+    Ok(entries)
+}
+
+fn append_locators(payload: &mut Vec<u8>, locators: &[Locator]) -> Result<(), AllocError>
+    ensures spelled { OnOk result (payload.new.items ≡ payload.old.items ++ spelled_locators locators.now) }
+    ensures fit { OnOk result (AllByRecursion FitsLocator locators.now) }
+{
+    for locator in locators {
+        payload.extend_from_slice(&locator.bytes())?;
+    }
+    Ok(())
+}
+
+fn append_entry(payload: &mut Vec<u8>, entry: &(ShardId, Vec<Locator>)) -> Result<(), AllocError>
+    requires { length entry.now.1.items ≤ 8 }
+    ensures spelled { OnOk result (payload.new.items ≡ payload.old.items ++ spelled_entry (entry_of entry.now)) }
+    ensures fits { OnOk result (FitsEntry (entry_of entry.now)) }
+{
+    let (id, locators) = entry;
+    payload.extend_from_slice(&id.bytes())?;
+    payload.push(locators.len() as u8)?;
+    append_locators(payload, locators)?;
+    let end = payload.len() + 64 - 8 * locators.len();
+    payload.resize(end, 0)
+}
+
+/// The payload that spells a run.
+pub fn encode_run(alloc: Global, run: &Run) -> Result<Vec<u8>, AllocError>
+    requires { IsRun run.now }
+    ensures { IfOk result (λ payload. SpellsRun payload.items (entries_of run.now.entries.items)) }
+{
+    let mut payload = Vec::new(alloc);
+    payload.extend_from_slice(&(run.entries.len() as u32).to_be_bytes())?;
+    for entry in &run.entries {
+        append_entry(&mut payload, entry)?;
+    }
+    Ok(payload)
+}
+
+/// The run that a payload spells. The first test that fails is answered, and 9 only for a payload
+/// that spells a run.
+pub fn decode_run(alloc: Global, payload: &[u8]) -> Result<Run, FormatFault>
+    // What is read is spelled by the payload.
+    ensures spelled { IfOk result (λ run. SpellsRun payload.now (entries_of run.entries.items)) }
+    // What the payload spells is read, unless memory runs out.
+    ensures read { (entries : List Entry) → SpellsRun payload.now entries
+        → OkUnlessMemory result (λ run. entries_of run.entries.items ≡ entries) }
+    // Each other fault is that of the first test that fails.
+    ensures fault { HasFault result (run_fault payload.now) }
+    ensures memory { result ≡ Err FormatFault.OutOfMemory → run_fault payload.now ≡ None }
+{
+    check_run(payload)?;
+    let entries = entries_from(alloc, pieces_of(payload))?;
+    Ok(Run { entries })
+}
