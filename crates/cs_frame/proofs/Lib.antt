@@ -7,3 +7,4 @@ pub mod RootLaws
 pub mod SuperblockLaws
 pub mod FrameLaws
 pub mod RunLaws
+pub mod FormatLaws

@@ -8,3 +8,4 @@ pub mod Superblocks
 pub mod Frames
 pub mod Runs
 pub mod Geometries
+pub mod Formats

@@ -2,10 +2,15 @@
 //! spelled has no fault.
 
 ghost use Rattle.std.specs.Prelude.{◌≡◌, ◌↔◌, ◌+◌, ◌^◌, ◌<◌, ◌≤◌, ◌++◌, ℕ, List, Some, None, length, take};
+ghost use Rattle.byteorder.specs.Endian.{big_bytes, big_number};
+ghost use Rattle.cs_model.specs.Frames.{IsFormat};
+ghost use Rattle.cs_model.specs.Geometry.{shape_of};
 ghost use Rattle.cs_frame.specs.declared.faults.FormatFault.{FormatFault as Fault};
 ghost use Rattle.cs_frame.specs.declared.locators.Locator.{Locator as Place};
 ghost use Rattle.cs_frame.specs.Bytes.{EachHas, IsBytes, IsPage};
+ghost use Rattle.cs_frame.specs.Formats.{formats_of, id_bytes};
 ghost use Rattle.cs_frame.specs.Frames.{SpellsFrame, bytes_in, first_page, frame_count, frame_fault, header_fault, payload_in, spelled_frame};
+ghost use Rattle.cs_frame.specs.Geometries.{IsGeometry};
 ghost use Rattle.cs_frame.specs.Roots.{SpellsRoot, root_fault};
 ghost use Rattle.cs_frame.specs.Runs.{Entry, SpellsRun, run_fault};
 ghost use Rattle.cs_frame.specs.Superblocks.{SpellsSuperblock, superblock_fault};
@@ -67,4 +72,15 @@ pub fn frame_is_read_by_its_header()
     ensures payload { (pages : List (List ℕ)) (count : ℕ)
         → frame_count pages ≤ count → frame_count pages ≤ length pages
         → payload_in (take count pages) ≡ payload_in pages }
+{}
+
+/// These formats keep what the machine's model asks of the spelling of its pages.
+pub fn these_formats_are_formats()
+    ensures formats { (extents pages per_section format : ℕ) → IsGeometry extents pages
+        → IsFormat (shape_of extents pages 1 per_section format) (formats_of (shape_of extents pages 1 per_section format)) }
+    // The model doesn't bound the number of an identifier. One that 16 bytes can spell has these bytes, and any
+    // 16 bytes are those of their number.
+    ensures identifier { (id : ℕ) → id < 2 ^ 128 → id_bytes id ≡ big_bytes 16 id }
+    ensures identifier_number { (bytes : List ℕ) → IsBytes bytes → length bytes ≡ 16
+        → id_bytes (big_number 16 bytes) ≡ bytes }
 {}

@@ -23,7 +23,7 @@ pub use geometries::Geometry;
 pub use identifiers::ShardId;
 pub use laws::{
     frame_has_one_spelling, frame_is_read_by_its_header, root_has_one_spelling,
-    run_has_one_spelling, superblock_has_one_spelling,
+    run_has_one_spelling, superblock_has_one_spelling, these_formats_are_formats,
 };
 pub use locators::Locator;
 pub use roots::{Root, decode_root, encode_root};

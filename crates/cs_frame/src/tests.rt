@@ -301,4 +301,5 @@ fn laws() {
     run_has_one_spelling();
     frame_has_one_spelling();
     frame_is_read_by_its_header();
+    these_formats_are_formats();
 }

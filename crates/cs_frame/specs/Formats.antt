@@ -1,0 +1,88 @@
+-- The machine's pages in these formats.
+use Rattle.std.specs.Prelude.{ℕ, ◌^◌, ◌/◌, ◌==◌, ◌&&◌, zero, suc, Bool, true, List, [], ◌∷◌, length, map, nat_le, nat_lt, option_map, if◌then◌else◌}
+use Rattle.std.specs.List.{list_all}
+use Rattle.byteorder.specs.Endian.{big_bytes}
+use Rattle.cs_model.specs.Device.{Shape}
+use Rattle.cs_model.specs.Element.{Entry as NamedEntry, Locator as Place}
+use Rattle.cs_model.specs.Formats.{Formats, FrameKind, ChunkFrame, RunFrame}
+use Rattle.cs_model.specs.Refusal.{Refusal, BadMagic, BadDigest, BadLength, BadPadding, BadVersion}
+use Rattle.cs_frame.specs.declared.faults.FormatFault.{FormatFault}
+use Rattle.cs_frame.specs.declared.faults.FormatFault.TheVariants as fault
+use Rattle.cs_frame.specs.declared.locators.Locator.{Locator}
+use Rattle.cs_frame.specs.Frames.{frame_fault, spelled_frame}
+use Rattle.cs_frame.specs.Roots.{spelled_root}
+use Rattle.cs_frame.specs.Runs.{Entry, spelled_run}
+use Rattle.cs_frame.specs.Superblocks.{spelled_superblock}
+
+-- the byte of a kind of frame
+abbrev pub kind_number : FrameKind → ℕ
+kind_number ChunkFrame = 0
+kind_number RunFrame = 1
+
+-- the 16 bytes of an identifier's number, high byte first: a number of more bytes has all that is above the lowest
+-- 15 in the first
+abbrev pub id_bytes : ℕ → List ℕ
+id_bytes id = id / 256 ^ 15 ∷ big_bytes 15 id
+
+-- a locator and an entry of the machine as they are spelled here
+abbrev pub as_locator : Place → Locator
+as_locator l = record { extent = l.extent; page = l.page; generation = l.generation }
+
+abbrev pub as_entry : NamedEntry → Entry
+as_entry x = record { id = id_bytes x.id; locators = map as_locator x.locators }
+
+-- pointer and generation of each of these extents, from the first on, that the section speaks of
+abbrev pub extents_of : (speaks pointers generations : ℕ → ℕ) → (section first count : ℕ) → List (ℕ × ℕ)
+extents_of speaks pointers generations section first zero = []
+extents_of speaks pointers generations section first (suc count) =
+    if speaks first == section
+    then (pointers first, generations first) ∷ extents_of speaks pointers generations section (suc first) count
+    else extents_of speaks pointers generations section (suc first) count
+
+-- a fault as the machine's refusal of the same number; for the last three there is none, and no frame has them
+abbrev pub refusal_of : FormatFault → Refusal
+refusal_of fault.BadMagic = BadMagic
+refusal_of fault.BadDigest = BadDigest
+refusal_of fault.BadLength = BadLength
+refusal_of fault.BadPadding = BadPadding
+refusal_of fault.BadVersion = BadVersion
+refusal_of fault.BadGeometry = BadLength
+refusal_of fault.OutOfMemory = BadLength
+refusal_of fault.OutOfOrder = BadLength
+
+-- each number of a locator fits its field
+abbrev pub fits_locator : Place → Bool
+fits_locator l = nat_lt l.extent (2 ^ 16) && nat_lt l.page (2 ^ 16) && nat_lt l.generation (2 ^ 32)
+
+-- a root has a spelling
+abbrev pub fits_root : (version commands : ℕ) → List Place → Bool
+fits_root version commands runs =
+    nat_le 1 version && nat_lt version (2 ^ 63) && nat_lt commands (2 ^ 63) && nat_le (length runs) 4 && list_all fits_locator runs
+
+-- an entry has at most eight locators, which fit
+abbrev pub fits_entry : NamedEntry → Bool
+fits_entry x = nat_le (length x.locators) 8 && list_all fits_locator x.locators
+
+-- each identifier is greater than the one before
+abbrev pub rises : List NamedEntry → Bool
+rises [] = true
+rises (x ∷ []) = true
+rises (x ∷ y ∷ entries) = nat_lt x.id y.id && rises (y ∷ entries)
+
+-- a run has a spelling; the model sets no bound to an identifier's number, and here there is none
+abbrev pub fits_run : List NamedEntry → Bool
+fits_run entries =
+    nat_le 1 (length entries) && nat_lt (length entries) (2 ^ 32) && list_all fits_entry entries && rises entries
+
+-- the formats of a store of this shape: there is one format of superblocks, whatever its number
+abbrev pub formats_of : Shape → Formats
+formats_of S = record {
+  superblock = λ format section version pointers generations.
+      spelled_superblock version S.pages (extents_of S.section pointers generations section 0 S.extents);
+  root = λ version commands runs. spelled_root version commands (map as_locator runs);
+  frame = λ kind payload. spelled_frame (kind_number kind) payload;
+  fault = λ kind pages. option_map refusal_of (frame_fault (kind_number kind) pages);
+  run = λ entries. spelled_run (map as_entry entries);
+  fits_root = fits_root;
+  fits_run = fits_run;
+}
