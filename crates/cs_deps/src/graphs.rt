@@ -82,6 +82,7 @@ impl Graph {
         ensures room { OnOk result (stagings ≤ self.new.room) }
         ensures kept { self.old.room ≤ self.new.room }
         ensures rest { self.new ≡ record self.old { room = self.new.room } }
+        ensures memory { stagings ≤ self.old.room → IsOk result }
     {
         let room = make_room(&mut self.entries, &mut self.writes, self.room, stagings)?;
         self.room = room;

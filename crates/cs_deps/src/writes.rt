@@ -46,6 +46,7 @@ pub fn make_room(
     ensures more_entries { vec_capacity entries.old ≤ vec_capacity entries.new }
     ensures more_writes { vec_capacity writes.old ≤ vec_capacity writes.new }
     ensures room { IfOk result (λ made. made ≡ max room stagings) }
+    ensures memory { stagings ≤ room → IsOk result }
     ensures entries_fit { IfOk result (λ made. vec_len entries.new + made ≤ vec_capacity entries.new) }
     ensures writes_fit { IfOk result (λ made. vec_len writes.new + made ≤ vec_capacity writes.new) }
 {

@@ -1,0 +1,10 @@
+use Rattle.cs_check.proofs.documents.to_document.Goals as goal
+
+pub returns-clause-text : goal.returns-clause-text
+returns-clause-text c = rw (← c.deref.ensures.value) (rw (← c.deref-2.ensures.value) c.written.ensures.text)
+
+pub returns-clause-bad : goal.returns-clause-bad
+returns-clause-bad c = rw (← c.deref.ensures.value) (rw (← c.deref-2.ensures.value) c.written.ensures.bad)
+
+pub returns-clause-ok : goal.returns-clause-ok
+returns-clause-ok c = rw (← c.deref.ensures.value) (rw (← c.deref-2.ensures.value) c.written.ensures.ok)

@@ -1,0 +1,52 @@
+use Rattle.std.proofs.Common.{◌∙◌, ◌+◌, List, length, sym, subst, inr, refl, arith, ℕ}
+use Rattle.std.proofs.lemmas.Option.{slice_get_read}
+use Rattle.cs_deps.specs.View.{pending_of}
+use Rattle.cs_check.specs.Progress.{IsUpTo, MayStand, plain_after}
+use Rattle.cs_check.proofs.ListingSteps.{up_to_none, may_stand_from, listed_from, up_to_next, listed_next, all_listed, latest_at_end}
+use Rattle.cs_check.proofs.listings.latest_versions.Goals as goal
+
+pub loop-k-init : goal.loop-k-init
+loop-k-init c = record {
+  up = subst (λ (xs : List ℕ). IsUpTo (pending_of c.args.view.now) 0 0 xs) (sym (c.in_ok-latest.ensures.items ∙ c.deref.ensures.value)) (up_to_none (pending_of c.args.view.now));
+  listed = λ j x d lt at. absurd (omega (arith, lt));
+}
+
+pub returns-then-not-may_stand-clause-err : goal.returns-then-not-may_stand-clause-err
+returns-then-not-may_stand-clause-err c = inr (
+  refl,
+  λ listing.
+      let g = pending_of c.args.view.now in
+      let x = c.index-entry.result.now.0 in
+      let d = c.index-entry.result.now.1 in
+      let at = slice_get_read c.args.view.now.waiting.items (length c.args.view.now.waiting.items) c.loop-k.k c.index-entry.result.now refl (omega arith) c.index-entry.ensures in
+      let may = may_stand_from g c.loop-k.k c.loop-k.plain c.loop-k.latest.items x d listing c.loop-k.invariant.up at in
+      let given = subst (λ (xs : List ℕ). MayStand g c.loop-k.k c.loop-k.plain xs x d) (sym c.deref-in-loop-k.ensures.value) may in
+      absurd (cc (c.may_stand.ensures.1 given, c.if-not-may_stand.true)),
+)
+
+pub loop-k-preserved : goal.loop-k-preserved
+loop-k-preserved c =
+    let g = pending_of c.args.view.now in
+    let x = c.index-entry.result.now.0 in
+    let d = c.index-entry.result.now.1 in
+    let at = slice_get_read c.args.view.now.waiting.items (length c.args.view.now.waiting.items) c.loop-k.k c.index-entry.result.now refl (omega arith) c.index-entry.ensures in
+    let said = c.may_stand.ensures.0 c.if-not-may_stand.false in
+    let may = subst (λ (xs : List ℕ). MayStand g c.loop-k.k c.loop-k.plain xs x d) c.deref-in-loop-k.ensures.value said in
+    let listed = listed_from g c.loop-k.k c.loop-k.plain c.loop-k.latest.items x d c.loop-k.invariant.up c.loop-k.invariant.listed may in
+    let next = up_to_next g c.loop-k.k c.loop-k.plain c.loop-k.latest.items x d c.loop-k.invariant.up at listed.number in
+    let moved = subst (λ (n : ℕ). IsUpTo g (c.loop-k.k + 1) n c.raise.new.latest.items) (sym c.last_plain-plain.ensures) (subst (λ (xs : List ℕ). IsUpTo g (c.loop-k.k + 1) (plain_after c.loop-k.plain x) xs) (sym c.raise.ensures) next) in
+    record {
+      up = moved;
+      listed = listed_next g c.loop-k.k x d c.loop-k.invariant.listed at listed;
+    }
+
+pub returns : goal.returns
+returns c =
+    let g = pending_of c.args.view.now in
+    record {
+      ok = (
+        all_listed g c.loop-k.k (omega arith) c.loop-k.invariant.listed,
+        latest_at_end g c.loop-k.k c.loop-k.plain c.loop-k.latest.items (omega arith) c.loop-k.invariant.up,
+      );
+      err = tt;
+    }

@@ -1,0 +1,7 @@
+pub mod Listing
+pub mod Tests
+pub mod Faults
+pub mod Progress
+pub mod Names
+pub mod Documents
+pub mod Written

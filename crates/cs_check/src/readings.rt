@@ -1,0 +1,135 @@
+//! From the value of a text to a document.
+ghost use Rattle.std.specs.Prelude.{◌≡◌, ◌↔◌, List, IfOk, IfErr, IsTrue, All, Contains, codes};
+ghost use Rattle.serde_json.specs.Data.{Data, number, array, unsigned};
+ghost use Rattle.serde_json.specs.View.{view, items_of};
+ghost use Rattle.cs_deps.specs.declared.elements.Element.{Element as Item};
+ghost use Rattle.cs_deps.specs.Named.{Named};
+ghost use Rattle.cs_deps.specs.View.{pending_of, rounds_of};
+ghost use Rattle.cs_check.specs.Documents.{HasMember, IsEntry, AreEntries, IsDocument, IsDocumentOf, NamesThese, names_data, elements_in};
+ghost use Rattle.cs_check.specs.Faults.{Blames};
+ghost use Rattle.cs_check.specs.Names.{AreLetters, IsName};
+
+use crate::documents::Document;
+use crate::faults::CheckFault;
+use crate::values::{element, elements, items, letters, member, named, rounds, versions};
+use crate::verdicts::well_formed;
+use cs_deps::{Dependency, Element, GraphView, Plan, find};
+use serde_json::Value;
+use std::alloc::Global;
+
+/// Whether the element is listed.
+fn is_listed(waiting: &[(Element, Dependency)], element: Element) -> bool
+    ensures { IsTrue result ↔ Contains (elements_in waiting.now) element }
+{
+    find(waiting, element).is_some()
+}
+
+/// Whether each of the elements is listed.
+fn all_listed(waiting: &[(Element, Dependency)], elements: &[Element]) -> bool
+    ensures { IsTrue result ↔ All (Contains (elements_in waiting.now)) elements.now }
+{
+    for element in elements {
+        if !is_listed(waiting, *element) {
+            return false;
+        }
+    }
+    true
+}
+
+/// An element with its needs, each of which is listed already.
+fn entry(
+    alloc: Global,
+    letters: &[char],
+    waiting: &[(Element, Dependency)],
+    value: &Value,
+) -> Result<(Element, Dependency), CheckFault>
+    requires { AreLetters letters.now }
+    ensures ok { IfOk result (λ e. IsEntry letters.now (elements_in waiting.now) (view value.now) e.0 e.1) }
+    ensures err { IfErr result (λ fault. Blames fault ((x : Item) × (n : Named) × IsEntry letters.now (elements_in waiting.now) (view value.now) x n)) }
+{
+    let element = element(letters, member(value, "e")?)?;
+    let needs = elements(alloc, letters, member(value, "needs")?)?;
+    if !all_listed(waiting, &needs) {
+        return Err(CheckFault::BadDocument);
+    }
+    let needs = named(alloc, &needs)?;
+    Ok((element, needs))
+}
+
+/// The waiting elements with their needs.
+fn entries(
+    alloc: Global,
+    letters: &[char],
+    value: &Value,
+) -> Result<Vec<(Element, Dependency)>, CheckFault>
+    requires { AreLetters letters.now }
+    ensures ok { IfOk result (λ waiting. (entries : List Data) × (view value.now ≡ array (items_of entries)) × AreEntries letters.now entries waiting.items) }
+    ensures err { IfErr result (λ fault. Blames fault ((entries : List Data) × (waiting : List (Item × Named)) × (view value.now ≡ array (items_of entries)) × AreEntries letters.now entries waiting)) }
+{
+    let values = items(value)?;
+    let mut waiting = Vec::new(alloc);
+    for i in 0..values.len() {
+        let entry = entry(alloc, letters, &waiting, &values[i])?;
+        waiting.push(entry)?;
+    }
+    Ok(waiting)
+}
+
+/// What the target names, each of them listed.
+fn target(
+    alloc: Global,
+    letters: &[char],
+    waiting: &[(Element, Dependency)],
+    value: &Value,
+) -> Result<Dependency, CheckFault>
+    requires { AreLetters letters.now }
+    ensures ok { IfOk result (λ d. (xs : List Item) × All (IsName letters.now) xs × All (Contains (elements_in waiting.now)) xs × (view value.now ≡ names_data letters.now xs) × NamesThese d xs) }
+    ensures err { IfErr result (λ fault. Blames fault ((xs : List Item) × All (IsName letters.now) xs × All (Contains (elements_in waiting.now)) xs × (view value.now ≡ names_data letters.now xs))) }
+{
+    let elements = elements(alloc, letters, value)?;
+    if !all_listed(waiting, &elements) {
+        return Err(CheckFault::BadDocument);
+    }
+    Ok(named(alloc, &elements)?)
+}
+
+/// Whether the value names the one format that there is.
+fn is_format(value: &Value) -> bool
+    ensures { IsTrue result ↔ HasMember (view value.now) (codes "format") (number (unsigned 1)) }
+{
+    match value.get("format").and_then(Value::as_u64) {
+        Some(format) => format == 1,
+        None => false,
+    }
+}
+
+/// The document that a value says.
+pub fn document(alloc: Global, value: &Value) -> Result<Document, CheckFault>
+    ensures ok { IfOk result (λ doc. IsDocumentOf (view value.now) doc.letters.items (pending_of doc.view) doc.target (rounds_of doc.plan) doc.plan.chain.items) }
+    ensures err { IfErr result (λ fault. Blames fault (IsDocument (view value.now))) }
+{
+    if !is_format(value) {
+        return Err(CheckFault::BadDocument);
+    }
+    let letters = letters(alloc, member(value, "families")?)?;
+    let persistent = versions(alloc, member(value, "persistent")?)?;
+    if persistent.len() != letters.len() {
+        return Err(CheckFault::BadDocument);
+    }
+    let waiting = entries(alloc, &letters, member(value, "elements")?)?;
+    let target = target(alloc, &letters, &waiting, member(value, "target")?)?;
+    let rounds = rounds(alloc, &letters, member(value, "rounds")?)?;
+    let chain = elements(alloc, &letters, member(value, "chain")?)?;
+    let view = GraphView {
+        persistent,
+        waiting,
+    };
+    let plan = Plan { rounds, chain };
+    let _ = well_formed(alloc, &view, &target, &plan.rounds, &plan.chain)?;
+    Ok(Document {
+        view,
+        target,
+        plan,
+        letters,
+    })
+}

@@ -1,0 +1,7 @@
+pub mod Changes
+pub mod Empties
+pub mod Fitting
+pub mod Staged
+pub mod Given
+pub mod Joined
+pub mod TestStores

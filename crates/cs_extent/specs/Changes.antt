@@ -1,0 +1,31 @@
+-- What happens to extents, one change after another, and which pages are given.
+use Rattle.std.specs.Prelude.{◌≡◌, ◌++◌, ◌∷◌, ℕ, zero, suc, Bool, List, []}
+use Rattle.cs_model.specs.Device.{Shape}
+use Rattle.cs_model.specs.Extents.{Extents, Purpose as Reason, Placed, emptied, marked, taken}
+
+pub data Change : Type 0 where
+  -- a frame of so many pages goes to an extent
+  Append : (reason : Reason) (pages extent : ℕ) → Change
+  -- an extent is emptied under a version of the root
+  Reset : (extent root : ℕ) → Change
+  -- an extent is marked as being swept, or no longer
+  Mark : (extent : ℕ) (swept : Bool) → Change
+
+-- a page of an extent, in one of its generations
+pub record Given : Type 0 where
+  pub extent : ℕ
+  pub page : ℕ
+  pub generation : ℕ
+
+-- so many pages of an extent, in order from this page on
+abbrev pub given_from : (extent page generation count : ℕ) → List Given
+given_from e p g zero = []
+given_from e p g (suc n) = record { extent = e; page = p; generation = g } ∷ given_from e (suc p) g n
+
+-- these changes lead from the extents x to y, and give these pages, in order
+abbrev pub LeadsTo : Shape → Extents → List Change → List Given → Extents → Type 0
+LeadsTo S x [] given y = (x ≡ y) × (given ≡ [])
+LeadsTo S x (Append reason k e ∷ changes) given y = (rest : List Given)
+    × Placed S x reason k e × (given ≡ given_from e (x.pointer e) (x.generation e) k ++ rest) × LeadsTo S (taken S x e k) changes rest y
+LeadsTo S x (Reset e root ∷ changes) given y = LeadsTo S (emptied x e root) changes given y
+LeadsTo S x (Mark e b ∷ changes) given y = LeadsTo S (marked x e b) changes given y

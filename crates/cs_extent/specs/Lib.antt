@@ -1,0 +1,5 @@
+pub mod Changes
+pub mod Frames
+pub mod Places
+pub mod Purposes
+pub mod State

@@ -1,0 +1,15 @@
+-- Room for frames, as two numbers.
+use Rattle.std.specs.Prelude.{ℕ, ◌-◌, Option, Some, None, nat_le, nat_lt, if◌then◌else◌}
+use Rattle.cs_extent.specs.declared.supplies.Supply.{Supply}
+
+-- how many pages of the open extent are left
+abbrev pub room_at : (pages : ℕ) → (pointer : ℕ → ℕ) → Option ℕ → ℕ
+room_at pages pointer None = 0
+room_at pages pointer (Some e) = pages - pointer e
+
+-- what is left once a frame of k pages was placed, where it can be
+abbrev pub left_after : (pages spare : ℕ) → Supply → ℕ → Option Supply
+left_after pages spare s k =
+    if nat_le k s.room then Some (record { room = s.room - k; empty = s.empty })
+    else if nat_lt spare s.empty then Some (record { room = pages - k; empty = s.empty - 1 })
+    else None

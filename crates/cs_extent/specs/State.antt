@@ -1,0 +1,56 @@
+-- What the extents of a store are, in the words of the store's machine.
+use Rattle.std.specs.Prelude.{◌≡◌, ℕ, ◌<◌, ◌≤◌, ◌^◌, Bool, false, List, Option, Some, length, slice_index, slice_index_or}
+use Rattle.cs_model.specs.Device.{Shape}
+use Rattle.cs_model.specs.Geometry.{shape_of}
+use Rattle.cs_model.specs.Extents.{Extents}
+use Rattle.cs_frame.specs.Superblocks.{SpellsSuperblock}
+use Rattle.cs_extent.specs.Frames.{greatest}
+
+pub record State : Type 0 where
+  -- how many pages each extent has
+  pub pages : ℕ
+  -- of each extent: how many of its pages are given, and its generation
+  pub written : List (ℕ × ℕ)
+  -- of each extent: the version of the root that its last reset since the store was opened goes with, 0 for none
+  pub resets : List ℕ
+  -- of each extent: whether it is being swept
+  pub swept : List Bool
+  -- the extent that frames are appended to, if there is one
+  pub open_extent : Option ℕ
+
+-- the extents as functions of their numbers
+abbrev pub extents_of : State → Extents
+extents_of s = record {
+  pointer = λ e. (slice_index_or s.written e (0, 0)).0;
+  generation = λ e. (slice_index_or s.written e (0, 0)).1;
+  reset = λ e. slice_index s.resets e;
+  open_extent = s.open_extent;
+  swept = λ e. slice_index_or s.swept e false;
+}
+
+-- the device, whose superblock has one section, that of all extents
+abbrev pub shape : State → Shape
+shape s = shape_of (length s.written) s.pages 1 (length s.written) 1
+
+-- the greatest version of the root that goes with a last reset
+abbrev pub need_of : State → ℕ
+need_of s = greatest (extents_of s).reset (length s.written)
+
+-- the page spells a version of the superblock as the extents are
+abbrev pub SpellsExtents : State → (version : ℕ) → List ℕ → Type 0
+SpellsExtents s version page = SpellsSuperblock page version s.pages s.written
+
+-- what all extents of a store keep
+pub record IsWhole (s : State) : Type 0 where
+  pub fewest_extents : 4 ≤ length s.written
+  pub most_extents : length s.written ≤ 512
+  pub fewest_pages : 2 ≤ s.pages
+  pub most_pages : s.pages ≤ 256
+  pub all_resets : length s.resets ≡ length s.written
+  pub all_swept : length s.swept ≡ length s.written
+  pub pointers : (e : ℕ) → (extents_of s).pointer e ≤ s.pages
+  pub roots : (e : ℕ) → (extents_of s).reset e < 2 ^ 63
+  -- an extent that is open is there, not empty and not full
+  pub open_inside : (e : ℕ) → s.open_extent ≡ Some e → e < length s.written
+  pub open_begun : (e : ℕ) → s.open_extent ≡ Some e → 0 < (extents_of s).pointer e
+  pub open_unfilled : (e : ℕ) → s.open_extent ≡ Some e → (extents_of s).pointer e < s.pages
