@@ -1,0 +1,10 @@
+pub mod MemberSteps
+pub mod StagedSteps
+pub mod Pendings
+pub mod Sound
+pub mod SoundRounds
+pub mod Appended
+pub mod Words
+pub mod SyncSteps
+pub mod LineSteps
+pub mod RootSteps

@@ -1,0 +1,65 @@
+-- What a line of a script says.
+use Rattle.std.specs.Prelude.{ℕ, Bool, true, List, [], ◌∷◌, length, codes, nat_lt, ◌==◌, if◌then◌else◌, filter, Option, Some, None, Result, Ok, Err}
+use Rattle.std.specs.List.{slice_split}
+use Rattle.std.specs.Str.{bytes_eq}
+use Rattle.uuid.specs.Text.{parsed}
+use Rattle.hex.specs.Hex.{decode_of}
+use Rattle.hex.specs.declared.error.FromHexError.{FromHexError}
+use Rattle.cs_cli.specs.declared.lines.Line.{Line}
+use Rattle.cs_cli.specs.declared.lines.Line.TheVariants.{Put, Sync, Nothing, Bad}
+
+-- to put these bytes under this identifier, to make all persistent, nothing, or it isn't readable
+pub data Said : Type 0 where
+  says_put : List ℕ → List ℕ → Said
+  says_sync : Said
+  says_nothing : Said
+  unreadable : Said
+
+abbrev pub said_by : Line → Said
+said_by (Put id bytes) = says_put id bytes.items
+said_by Sync = says_sync
+said_by Nothing = says_nothing
+said_by Bad = unreadable
+
+-- an empty line, or one that begins with `#`
+abbrev pub is_silent : List ℕ → Bool
+is_silent [] = true
+is_silent (b ∷ bs) = b == 35
+
+-- the words of a line, which spaces part
+abbrev pub words : List ℕ → List (List ℕ)
+words text = filter (λ word. nat_lt 0 (length word)) (slice_split (λ b. b == 32) text)
+
+abbrev pub ok_of : Result (List ℕ) FromHexError → Option (List ℕ)
+ok_of (Ok bytes) = Some bytes
+ok_of (Err e) = None
+
+-- the bytes of hex digits, `-` for none
+abbrev pub payload_of : List ℕ → Option (List ℕ)
+payload_of word = if bytes_eq word (codes "-") then Some [] else ok_of (decode_of word)
+
+-- to put what was read, if both words are readable
+abbrev pub put_of : Option (List ℕ) → Option (List ℕ) → Said
+put_of (Some id) (Some bytes) = says_put id bytes
+put_of (Some id) None = unreadable
+put_of None payload = unreadable
+
+-- with these words behind `put`
+abbrev pub said_put : List (List ℕ) → Said
+said_put [] = unreadable
+said_put (id ∷ []) = unreadable
+said_put (id ∷ payload ∷ []) = put_of (parsed id) (payload_of payload)
+said_put (id ∷ payload ∷ word ∷ rest) = unreadable
+
+-- with these words behind `sync`
+abbrev pub said_sync : List (List ℕ) → Said
+said_sync [] = says_sync
+said_sync (word ∷ rest) = unreadable
+
+abbrev pub said_words : List (List ℕ) → Said
+said_words [] = unreadable
+said_words (word ∷ rest) = if bytes_eq word (codes "put") then said_put rest else if bytes_eq word (codes "sync") then said_sync rest else unreadable
+
+-- what a line says, without its line feed
+abbrev pub said_of : List ℕ → Said
+said_of text = if is_silent text then says_nothing else said_words (words text)

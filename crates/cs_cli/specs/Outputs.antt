@@ -1,0 +1,52 @@
+-- The lines that a script prints.
+use Rattle.std.specs.Prelude.{ℕ, ◌+◌, List, [], ◌∷◌, ◌++◌, codes, decimal, if◌then◌else◌, ◌==◌}
+use Rattle.std.specs.List.{flat_map}
+use Rattle.cs_deps.specs.declared.elements.Element.{Element}
+use Rattle.cs_deps.specs.declared.elements.Element.TheVariants.{Plain, Version}
+use Rattle.cs_deps.specs.declared.refusals.Refusal.{Refusal}
+use Rattle.cs_deps.specs.Refusals.{number_of, name_of}
+
+-- a text and a line feed
+abbrev pub line_of : List ℕ → List ℕ
+line_of text = text ++ 10 ∷ []
+
+abbrev pub put_line : ℕ → List ℕ
+put_line n = line_of (codes "put " ++ decimal n)
+
+abbrev pub bad_line : List ℕ
+bad_line = line_of (codes "bad line")
+
+-- the number and the name of a refusal
+abbrev pub refusal_line : Refusal → List ℕ
+refusal_line r = line_of (codes "refused " ++ decimal (number_of r) ++ codes " " ++ name_of r)
+
+abbrev pub end_line : ℕ → List ℕ
+end_line n = line_of (codes "end acknowledged " ++ decimal n)
+
+-- a plain write, a version of the superblock or one of the root
+abbrev pub element_name : Element → List ℕ
+element_name (Plain n) = codes "w" ++ decimal n
+element_name (Version f v) = (if f == 0 then codes "s" else codes "r") ++ decimal v
+
+-- a space and a name for each element
+abbrev pub element_names : List Element → List ℕ
+element_names xs = flat_map (λ x. codes " " ++ element_name x) xs
+
+abbrev pub round_line : ℕ → List Element → List ℕ
+round_line i round = line_of (codes "round " ++ decimal i ++ codes ":" ++ element_names round)
+
+-- a chain, or a dash for none
+abbrev pub chain_line : List Element → List ℕ
+chain_line [] = line_of (codes "chain: -")
+chain_line (x ∷ xs) = line_of (codes "chain:" ++ element_names (x ∷ xs))
+
+abbrev pub flushes_line : ℕ → List ℕ
+flushes_line n = line_of (codes "flushes " ++ decimal n)
+
+abbrev pub acknowledged_line : ℕ → List ℕ
+acknowledged_line n = line_of (codes "acknowledged " ++ decimal n)
+
+-- the lines of rounds, the first of which has this number
+abbrev pub round_lines : ℕ → List (List Element) → List ℕ
+round_lines i [] = []
+round_lines i (round ∷ rounds) = round_line i round ++ round_lines (i + 1) rounds

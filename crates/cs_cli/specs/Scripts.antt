@@ -1,0 +1,64 @@
+-- What a script writes and what it leaves behind, line by line, for any store that answers its commands.
+use Rattle.std.specs.Prelude.{◌≡◌, ◌≢◌, ◌⊎◌, ℕ, List, [], ◌∷◌, ◌++◌, length}
+use Rattle.std.specs.Io.BufRead.{first_piece, drop_through}
+use Rattle.cs_deps.specs.declared.elements.Element.{Element}
+use Rattle.cs_deps.specs.declared.refusals.Refusal.{Refusal}
+use Rattle.cs_cli.specs.Commands.{Command}
+use Rattle.cs_cli.specs.Lines.{Said, says_put, says_sync, says_nothing, unreadable, said_of}
+use Rattle.cs_cli.specs.Outputs.{put_line, bad_line, refusal_line, end_line, round_lines, chain_line, flushes_line, acknowledged_line}
+
+-- the accepted commands, and how many they were at the last sync that wasn't refused
+pub record Reached : Type 0 where
+  pub accepted : List Command
+  pub synced : ℕ
+
+-- The command is accepted: it is added, and its number is printed.
+pub record Accepts (id bytes : List ℕ) (old new : Reached) (out : List ℕ) : Type 0 where
+  pub accepted : new.accepted ≡ old.accepted ++ (id, bytes) ∷ []
+  pub synced : new.synced ≡ old.synced
+  pub printed : out ≡ put_line (length new.accepted)
+
+-- The command is refused: nothing is added, and the refusal is printed.
+pub record Refuses (old new : Reached) (out : List ℕ) : Type 0 where
+  pub same : new ≡ old
+  pub printed : (r : Refusal) × (out ≡ refusal_line r)
+
+-- a round that was out may be ended first
+abbrev pub IsEnded : List ℕ → Type 0
+IsEnded out = (out ≡ []) ⊎ ((n : ℕ) × (out ≡ end_line n))
+
+-- the lines of a sync up to its last round
+abbrev pub AreRoundLines : List (List Element) → List ℕ → Type 0
+AreRoundLines rounds out = (first : List ℕ) × IsEnded first × (out ≡ first ++ round_lines 1 rounds)
+
+-- The sync ends well: all accepted commands are acknowledged, and how many they are is printed last.
+pub record Acknowledges (old new : Reached) (out : List ℕ) : Type 0 where
+  pub accepted : new.accepted ≡ old.accepted
+  pub synced : new.synced ≡ length old.accepted
+  pub printed : (rounds : List (List Element)) × (chain : List Element) × (before : List ℕ) × AreRoundLines rounds before × (out ≡ before ++ chain_line chain ++ flushes_line (length rounds) ++ acknowledged_line new.synced)
+
+-- The sync is refused after some rounds: no more is acknowledged than before.
+pub record Stops (old new : Reached) (out : List ℕ) : Type 0 where
+  pub same : new ≡ old
+  pub printed : (rounds : List (List Element)) × (before : List ℕ) × (r : Refusal) × AreRoundLines rounds before × (out ≡ before ++ refusal_line r)
+
+-- what a line changes and prints
+abbrev pub Answers : Said → Reached → Reached → List ℕ → Type 0
+Answers (says_put id bytes) old new out = Accepts id bytes old new out ⊎ Refuses old new out
+Answers says_sync old new out = Acknowledges old new out ⊎ Stops old new out
+Answers says_nothing old new out = (new ≡ old) × (out ≡ [])
+Answers unreadable old new out = (new ≡ old) × (out ≡ bad_line)
+
+-- the exit status after a line: 1 from the first line on that isn't readable
+abbrev pub status_after : Said → ℕ → ℕ
+status_after (says_put id bytes) status = status
+status_after says_sync status = status
+status_after says_nothing status = status
+status_after unreadable status = 1
+
+-- A script runs: nothing is left of it, or its first line is answered and the rest runs. Each line ends with a line feed, the last one may end with the text.
+pub data Runs : List ℕ → Reached → ℕ → Reached → ℕ → List ℕ → Type 0 where
+  ended : (reached : Reached) (status : ℕ) → Runs [] reached status reached status []
+  then_runs : (text : List ℕ) (old mid new : Reached) (status last : ℕ) (out rest : List ℕ)
+      → text ≢ [] → Answers (said_of (first_piece 10 text)) old mid out → Runs (drop_through 10 text) mid (status_after (said_of (first_piece 10 text)) status) new last rest
+      → Runs text old status new last (out ++ rest)

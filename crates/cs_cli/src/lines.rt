@@ -1,0 +1,135 @@
+//! The lines of a script.
+ghost use Rattle.std.specs.Prelude.{◌≡◌, ◌==◌, ◌∷◌, [], IfOk, MatchOption, option_map, not};
+ghost use Rattle.std.specs.Prelude.{position};
+ghost use Rattle.uuid.specs.Text.{parsed};
+ghost use Rattle.cs_cli.specs.Lines.{said_by, is_silent, words, payload_of, said_put, said_sync, said_of};
+
+use hex::FromHexError;
+use std::alloc::{AllocError, Global};
+use uuid::Uuid;
+
+/// The byte that parts words.
+const SPACE: u8 = b' ';
+
+/// What a line says.
+#[derive(Debug, Drop)]
+pub enum Line {
+    /// Puts a shard.
+    Put { id: [u8; 16], bytes: Vec<u8> },
+    /// Makes all that was put persistent.
+    Sync,
+    /// An empty line, or a remark.
+    Nothing,
+    /// Not readable.
+    Bad,
+}
+
+impl Line {
+    /// Reads a line without its line feed. Words are parted by spaces alone: a tab belongs to its word. An identifier
+    /// is any text that `uuid` reads, a payload is hex digits in either case, or `-` for no byte. The only memory that
+    /// it takes is for that payload.
+    pub fn read(alloc: Global, text: &[u8]) -> Result<Line, AllocError>
+        ensures { IfOk result (λ line. said_by line ≡ said_of text.now) }
+    {
+        if is_silent(text) {
+            return Ok(Line::Nothing);
+        }
+        let Some((word, rest)) = take_word(text) else {
+            return Ok(Line::Bad);
+        };
+        if word == b"put".as_slice() {
+            read_put(alloc, rest)
+        } else if word == b"sync".as_slice() {
+            Ok(read_sync(rest))
+        } else {
+            Ok(Line::Bad)
+        }
+    }
+}
+
+/// Whether a line is empty or a remark.
+fn is_silent(text: &[u8]) -> bool
+    ensures { result ≡ is_silent text.now }
+{
+    text.is_empty() || text[0] == b'#'
+}
+
+/// The first word, and what follows it.
+fn take_word(text: &[u8]) -> Option<(&[u8], &[u8])>
+    ensures { MatchOption result (words text.now ≡ []) (λ r. words text.now ≡ r.0.now ∷ words r.1.now) }
+{
+    let start = word_start(text)?;
+    let (_, text) = text.split_at(start);
+    let end = word_end(text).unwrap_or(text.len());
+    Some(text.split_at(end))
+}
+
+/// The place of the first byte that is no space.
+fn word_start(text: &[u8]) -> Option<usize>
+    ensures { result ≡ position (λ b. not (b == SPACE)) text.now }
+{
+    text.iter().position(|byte| *byte != SPACE)
+}
+
+/// The place of the first space.
+fn word_end(text: &[u8]) -> Option<usize>
+    ensures { result ≡ position (λ b. b == SPACE) text.now }
+{
+    text.iter().position(|byte| *byte == SPACE)
+}
+
+/// The line with these words behind `sync`.
+fn read_sync(rest: &[u8]) -> Line
+    ensures { said_by result ≡ said_sync (words rest.now) }
+{
+    match take_word(rest) {
+        None => Line::Sync,
+        Some(_) => Line::Bad,
+    }
+}
+
+/// The line with these words behind `put`.
+fn read_put(alloc: Global, rest: &[u8]) -> Result<Line, AllocError>
+    ensures { IfOk result (λ line. said_by line ≡ said_put (words rest.now)) }
+{
+    let Some((id, rest)) = take_word(rest) else {
+        return Ok(Line::Bad);
+    };
+    let Some((payload, rest)) = take_word(rest) else {
+        return Ok(Line::Bad);
+    };
+    if take_word(rest).is_some() {
+        return Ok(Line::Bad);
+    }
+    let Some(id) = read_id(id) else {
+        return Ok(Line::Bad);
+    };
+    match read_payload(alloc, payload)? {
+        Some(bytes) => Ok(Line::Put { id, bytes }),
+        None => Ok(Line::Bad),
+    }
+}
+
+/// The identifier that a word stands for.
+fn read_id(word: &[u8]) -> Option<[u8; 16]>
+    ensures { result ≡ parsed word.now }
+{
+    match Uuid::try_parse_ascii(word) {
+        Ok(id) => Some(id.into_bytes()),
+        Err(_) => None,
+    }
+}
+
+/// The bytes that a word of hex digits stands for, `-` for none.
+fn read_payload(alloc: Global, word: &[u8]) -> Result<Option<Vec<u8>>, AllocError>
+    ensures { IfOk result (λ found. option_map (λ bytes. bytes.items) found ≡ payload_of word.now) }
+{
+    if word == b"-".as_slice() {
+        return Ok(Some(Vec::new(alloc)));
+    }
+    match hex::decode(alloc, word) {
+        Ok(bytes) => Ok(Some(bytes)),
+        Err(FromHexError::OutOfMemory) => Err(AllocError),
+        Err(_) => Ok(None),
+    }
+}

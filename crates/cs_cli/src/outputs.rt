@@ -1,0 +1,95 @@
+//! The lines that a script prints. Any write may fail, and nothing says when, so each of these may answer an error.
+ghost use Rattle.std.specs.Prelude.{OnOk};
+ghost use Rattle.std.specs.Io.KnownBytes.{Appends};
+ghost use Rattle.cs_cli.specs.Outputs.{put_line, bad_line, refusal_line, end_line, element_name, element_names, round_line, chain_line, flushes_line, acknowledged_line};
+
+use cs_deps::{Element, Refusal};
+use std::io;
+use std::io::Write;
+
+/// `put n`.
+pub fn print_put<W: Write>(writer: &mut W, number: usize) -> io::Result<()>
+    ensures { OnOk result (Appends (W.contents writer.old) (W.contents writer.new) (put_line number)) }
+{
+    writeln!(writer, "put {number}")
+}
+
+/// `bad line`.
+pub fn print_bad_line<W: Write>(writer: &mut W) -> io::Result<()>
+    ensures { OnOk result (Appends (W.contents writer.old) (W.contents writer.new) bad_line) }
+{
+    writeln!(writer, "bad line")
+}
+
+/// `refused N Name`.
+pub fn print_refusal<W: Write>(writer: &mut W, refusal: Refusal) -> io::Result<()>
+    ensures { OnOk result (Appends (W.contents writer.old) (W.contents writer.new) (refusal_line refusal)) }
+{
+    let number = refusal.number();
+    let name = refusal.name();
+    writeln!(writer, "refused {number} {name}")
+}
+
+/// `end acknowledged n`.
+pub fn print_end<W: Write>(writer: &mut W, number: usize) -> io::Result<()>
+    ensures { OnOk result (Appends (W.contents writer.old) (W.contents writer.new) (end_line number)) }
+{
+    writeln!(writer, "end acknowledged {number}")
+}
+
+/// `round i:` and its elements.
+pub fn print_round<W: Write>(writer: &mut W, index: usize, round: &[Element]) -> io::Result<()>
+    ensures { OnOk result (Appends (W.contents writer.old) (W.contents writer.new) (round_line index round.now)) }
+{
+    write!(writer, "round {index}:")?;
+    print_elements(writer, round)?;
+    writeln!(writer)
+}
+
+/// `chain:` and its elements, or a dash.
+pub fn print_chain<W: Write>(writer: &mut W, chain: &[Element]) -> io::Result<()>
+    ensures { OnOk result (Appends (W.contents writer.old) (W.contents writer.new) (chain_line chain.now)) }
+{
+    if chain.is_empty() {
+        return writeln!(writer, "chain: -");
+    }
+    write!(writer, "chain:")?;
+    print_elements(writer, chain)?;
+    writeln!(writer)
+}
+
+/// `flushes n`.
+pub fn print_flushes<W: Write>(writer: &mut W, number: usize) -> io::Result<()>
+    ensures { OnOk result (Appends (W.contents writer.old) (W.contents writer.new) (flushes_line number)) }
+{
+    writeln!(writer, "flushes {number}")
+}
+
+/// `acknowledged n`.
+pub fn print_acknowledged<W: Write>(writer: &mut W, number: usize) -> io::Result<()>
+    ensures { OnOk result (Appends (W.contents writer.old) (W.contents writer.new) (acknowledged_line number)) }
+{
+    writeln!(writer, "acknowledged {number}")
+}
+
+/// A space and a name for each element.
+fn print_elements<W: Write>(writer: &mut W, elements: &[Element]) -> io::Result<()>
+    ensures { OnOk result (Appends (W.contents writer.old) (W.contents writer.new) (element_names elements.now)) }
+{
+    for element in elements {
+        write!(writer, " ")?;
+        print_element(writer, *element)?;
+    }
+    Ok(())
+}
+
+/// The name of an element: `w` is a plain write, `s` a superblock, `r` a root.
+fn print_element<W: Write>(writer: &mut W, element: Element) -> io::Result<()>
+    ensures { OnOk result (Appends (W.contents writer.old) (W.contents writer.new) (element_name element)) }
+{
+    match element {
+        Element::Plain(number) => write!(writer, "w{number}"),
+        Element::Version(0, version) => write!(writer, "s{version}"),
+        Element::Version(_, version) => write!(writer, "r{version}"),
+    }
+}
