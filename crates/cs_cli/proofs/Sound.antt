@@ -18,7 +18,7 @@ use Rattle.cs_cli.specs.declared.roots.Root.{Root}
 use Rattle.cs_cli.specs.Allocation.{HasRoom}
 use Rattle.cs_cli.specs.Commands.{Command, command_of, commands_of}
 use Rattle.cs_cli.specs.Pages.{page_with, page_of_version}
-use Rattle.cs_cli.specs.Staged.{Adds, AddsPlain, AddsVersion, AddsFrame, AddsRoot, AddsPart}
+use Rattle.cs_cli.specs.Staged.{Adds, AddsPlain, AddsVersion, AddsFrame, AddsRoot, SameButRoom}
 use Rattle.cs_cli.specs.Stored.{Stored, IsAt, IsPlaced, IsCounted, IsSound, frames_of, new_graph}
 use Rattle.cs_cli.proofs.Pendings.{waits_after, new_waits, persistent_after, persistent_was}
 
@@ -249,17 +249,26 @@ sound_put s sound g command room (mid, plain, version) accepted is_accepted at i
     number : frames_of s + 1 ≡ frames_of s + 2 - 1
     number = omega arith
 
--- where memory for the superblock was refused
-pub sound_refused : (s : Stored) → IsSound s → (g : GraphState) (bytes : List ℕ) (purpose : Purpose) → HasRoom (frames_of s) purpose → (g ≡ s.graph) ⊎ AddsPlain s.graph g bytes
+-- soundness does not depend on how many stagings the graph has room for
+pub sound_room : (s : Stored) → IsSound s → (room : ℕ) → IsSound (with_graph s (record s.graph { room = room }))
+sound_room s sound room = record {
+  counted = sound.counted;
+  paged = sound.paged;
+  writes = record { placed = sound.writes.placed; bytes = sound.writes.bytes };
+  pages = sound.pages;
+  acknowledged = sound.acknowledged;
+  rooted = sound.rooted;
+  round = record { same = sound.round.same; waits = sound.round.waits };
+}
+
+-- where memory for a staging was refused
+pub sound_refused : (s : Stored) → IsSound s → (g : GraphState) → SameButRoom s.graph g
     → (accepted : List Command) → accepted ≡ s.accepted → (at : List ℕ) → at ≡ s.at
     → IsSound (record { graph = g; disk = s.disk; accepted = accepted; at = at; rooted = s.rooted; roots = s.roots; out = s.out; synced = s.synced })
-sound_refused s sound g bytes purpose room left accepted is_accepted at is_at =
+sound_refused s sound g same accepted is_accepted at is_at =
     subst (λ (l : List ℕ). IsSound (record { graph = g; disk = s.disk; accepted = accepted; at = l; rooted = s.rooted; roots = s.roots; out = s.out; synced = s.synced })) (sym is_at)
     (subst (λ (l : List Command). IsSound (record { graph = g; disk = s.disk; accepted = l; at = s.at; rooted = s.rooted; roots = s.roots; out = s.out; synced = s.synced })) (sym is_accepted)
-    (⊎_elim
-    (λ (e : g ≡ s.graph). subst (λ (h : GraphState). IsSound (with_graph s h)) (sym e) sound)
-    (λ (h : AddsPlain s.graph g bytes). sound_plain s sound g bytes (room_left (frames_of s) purpose sound.counted.frames room) h)
-    left))
+    (subst (λ (h : GraphState). IsSound (with_graph s h)) (sym same) (sound_room s sound g.room)))
 
 pub commands_push : (accepted : List Accepted) (a : Accepted) → commands_of (accepted ++ a ∷ []) ≡ commands_of accepted ++ command_of a ∷ []
 commands_push [] a = refl
@@ -278,12 +287,6 @@ sound_root s sound g room (mid, (first, plain, version), root) rooted is roots =
     omega (arith, ap (λ (l : List ℕ). slice_index l 1) version.latest, get_or-set_other first.staging.latest 0 1 (slice_index first.staging.latest 0 + 1) 0 (λ e. absurd (cc e)), ap (λ (l : List ℕ). slice_index l 1) plain.latest, sound.counted.versions 1, plain.staged, version.staged) in
     let whole = sound_version (with_graph s mid) behind g 1 (omega arith) last root in
     record { counted = whole.counted; paged = whole.paged; writes = whole.writes; pages = whole.pages; acknowledged = whole.acknowledged; rooted = omega (arith, is); round = whole.round }
-
--- where memory for some of it was refused
-pub sound_part : (s : Stored) → IsSound s → (g : GraphState) → HasRoom (frames_of s) Run → AddsPart s.graph g → IsSound (with_graph s g)
-sound_part s sound g room (inl e) = subst (λ (h : GraphState). IsSound (with_graph s h)) (sym e) sound
-sound_part s sound g room (inr (inl h)) = sound_plain s sound g (replicate 4096 0) (room_left (frames_of s) Run sound.counted.frames room) h
-sound_part s sound g room (inr (inr h)) = sound_frame s sound g (replicate 4096 0) (room_left (frames_of s) Run sound.counted.frames room) h
 
 -- whatever is known of its roots
 pub any_roots : (s : Stored) → IsSound s → (roots : List Root) → IsSound (record { graph = s.graph; disk = s.disk; accepted = s.accepted; at = s.at; rooted = s.rooted; roots = roots; out = s.out; synced = s.synced })

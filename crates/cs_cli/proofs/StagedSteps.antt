@@ -1,6 +1,6 @@
 -- Staging of the next plain write and of the next version.
 use Rattle.std.proofs.Common.{◌≡◌, ◌∙◌, ℕ, ◌+◌, ◌<◌, ◌≤◌, List, Some, length, sym, ap, subst, arith}
-use Rattle.std.specs.Prelude.{slice_index, slice_set, ◌↔◌, Result, Ok, Err, OnErr}
+use Rattle.std.specs.Prelude.{slice_index, slice_set, ◌↔◌}
 use Rattle.std.proofs.lemmas.List.{get_or-set_same, get_or-set_other, length-set}
 use Rattle.cs_deps.specs.declared.elements.Element.{Element}
 use Rattle.cs_deps.specs.declared.elements.Element.TheVariants.{Plain, Version}
@@ -8,7 +8,7 @@ use Rattle.cs_deps.specs.Named.{Named, Names, IsWithin}
 use Rattle.cs_deps.specs.Staging.{Staging, IsVersionStaged, staged_after}
 use Rattle.cs_deps.specs.State.{State, write_of, KeepsOthers}
 use Rattle.cs_cli.specs.Pages.{page_of_version}
-use Rattle.cs_cli.specs.Staged.{AddsPlain, AddsVersion, AddsFrame, AddsRoot}
+use Rattle.cs_cli.specs.Staged.{AddsVersion, AddsFrame, AddsRoot, SameButRoom}
 
 -- the next version of a family
 pub adds_version : (old new : State) (f v : ℕ) (d : Named) (bytes : List ℕ) → IsVersionStaged old.staging f v d new.staging → new.round ≡ old.round → bytes ≡ page_of_version (slice_index old.staging.latest f + 1) → write_of new (Version f v) ≡ Some (f, bytes) → KeepsOthers old new (Version f v) → AddsVersion old new f
@@ -38,25 +38,12 @@ version_within d f v n latest plain version last (Version g w) named =
     let h = (version g w).0 named in
     subst (λ i. w ≤ slice_index latest i) (sym h.0) (omega (arith, h.2, last))
 
--- the next plain write
-pub adds_plain : (old new : State) (n page : ℕ) (d : Named) (bytes : List ℕ) → n ≡ old.staging.staged + 1 → new.staging ≡ record { pending = staged_after old.staging.pending (Plain n) d; staged = n; latest = old.staging.latest } → new.round ≡ old.round → page ≡ old.staging.staged + 2 → write_of new (Plain n) ≡ Some (page, bytes) → KeepsOthers old new (Plain n) → AddsPlain old new bytes
-adds_plain old new n page d bytes is staged round at write others =
-    let plain : Plain n ≡ Plain (old.staging.staged + 1) = ap (λ m. Plain m) is in
-    record {
-      adds = record {
-        waiting = (d, ap (λ (s : Staging). s.pending) staged ∙ ap (λ (x : Element). staged_after old.staging.pending x d) plain);
-        round = round;
-        write = subst (λ (x : Element). write_of new x ≡ Some (old.staging.staged + 2, bytes)) plain (write ∙ ap (λ p. Some (p, bytes)) at);
-        others = subst (KeepsOthers old new) plain others;
-      };
-      staged = ap (λ (s : Staging). s.staged) staged ∙ is;
-      latest = ap (λ (s : Staging). s.latest) staged;
-    }
-
--- a fact that holds anyway
-pub on_err : {T E : Type 0} (r : Result T E) (P : Type 0) → P → OnErr r P
-on_err (Ok v) P p = tt
-on_err (Err e) P p = p
+-- from a graph with another room, the same is added
+pub frame_room : (old mid new : State) (bytes : List ℕ) → SameButRoom old mid → AddsFrame mid new bytes → AddsFrame old new bytes
+frame_room old mid new bytes same adds = at_room (subst (λ (s : State). AddsFrame s new bytes) same adds)
+  where
+    at_room : AddsFrame (record old { room = mid.room }) new bytes → AddsFrame old new bytes
+    at_room (first, plain, version) = (first, record { adds = record { waiting = plain.adds.waiting; round = plain.adds.round; write = plain.adds.write; others = plain.adds.others }; staged = plain.staged; latest = plain.latest }, version)
 
 -- the superblock over a frame is the next one
 pub superblock_after : (old new : State) (bytes : List ℕ) → length old.staging.latest ≡ 2 → AddsFrame old new bytes → slice_index new.staging.latest 0 ≡ slice_index old.staging.latest 0 + 1

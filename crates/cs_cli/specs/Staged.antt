@@ -1,5 +1,5 @@
 -- What staging does to a graph.
-use Rattle.std.specs.Prelude.{◌≡◌, ◌⊎◌, ℕ, ◌+◌, List, Some, replicate, slice_index, slice_set}
+use Rattle.std.specs.Prelude.{◌≡◌, ℕ, ◌+◌, List, Some, replicate, slice_index, slice_set}
 use Rattle.cs_deps.specs.declared.elements.Element.{Element}
 use Rattle.cs_deps.specs.declared.elements.Element.TheVariants.{Plain, Version}
 use Rattle.cs_deps.specs.Named.{Named}
@@ -34,6 +34,6 @@ AddsFrame old new bytes = (mid : State) × AddsPlain old mid bytes × AddsVersio
 abbrev pub AddsRoot : State → State → Type 0
 AddsRoot old new = (mid : State) × AddsFrame old mid (replicate 4096 0) × AddsVersion mid new 1
 
--- Some of it was staged before memory was refused.
-abbrev pub AddsPart : State → State → Type 0
-AddsPart old new = (new ≡ old) ⊎ AddsPlain old new (replicate 4096 0) ⊎ AddsFrame old new (replicate 4096 0)
+-- Nothing differs but for how many stagings there is room.
+abbrev pub SameButRoom : State → State → Type 0
+SameButRoom old new = new ≡ record old { room = new.room }

@@ -89,6 +89,10 @@ pub record IsSound (s : Stored) : Type 0 where
   pub rooted : s.rooted ≤ length s.accepted
   pub round : KnowsRound s.graph s.out
 
+-- Nothing differs but for how many stagings the graph has room.
+abbrev pub SameButGraphRoom : Stored → Stored → Type 0
+SameButGraphRoom old new = new ≡ record old { graph = record old.graph { room = new.graph.room } }
+
 -- what is acknowledged is durable, on pages that rise
 pub record AreDurable (image : List (List ℕ)) (at : List ℕ) (accepted : List Command) (synced : ℕ) : Type 0 where
   pub counted : length at ≡ length accepted

@@ -1,7 +1,7 @@
 //! Staging of frames of one page.
-ghost use Rattle.std.specs.Prelude.{◌≡◌, ℕ, ◌+◌, ◌≤◌, ◌<◌, ◌⊎◌, ◌↔◌, IfOk, IfErr, OnOk, OnErr, length, slice_index};
+ghost use Rattle.std.specs.Prelude.{◌≡◌, ℕ, ◌+◌, ◌≤◌, ◌<◌, ◌↔◌, IfOk, IfErr, IsOk, OnOk, OnErr, length, slice_index};
 ghost use Rattle.cs_deps.specs.Named.{IsWithin, NamesFamily, Names};
-ghost use Rattle.cs_cli.specs.Staged.{AddsPlain, AddsVersion, AddsFrame, AddsRoot, AddsPart};
+ghost use Rattle.cs_cli.specs.Staged.{AddsVersion, AddsFrame, AddsRoot, SameButRoom};
 
 use crate::allocations::FIRST_PAGE;
 use crate::pages::version_page;
@@ -27,6 +27,8 @@ pub fn stage_family(graph: &mut Graph, family: usize, needs: Dependency) -> Resu
     ensures staged { OnOk result (AddsVersion graph.old graph.new family) }
     ensures refusals { IfErr result (λ r. r ≡ Refusal.OutOfMemory) }
     ensures refused { OnErr result (graph.new ≡ graph.old) }
+    ensures memory { 0 < graph.old.room → IsOk result }
+    ensures room { graph.old.room ≤ graph.new.room + 1 }
 {
     let version = graph.last_version(family) + 1;
     graph.stage_version(family, family as u64, &version_page(version), needs)?;
@@ -35,7 +37,7 @@ pub fn stage_family(graph: &mut Graph, family: usize, needs: Dependency) -> Resu
 
 /// Stages one page behind the others, and the superblock over it. It gives the page's number.
 ///
-/// Refused 9 OutOfMemory alone. The page may then be staged without its superblock.
+/// Refused 9 OutOfMemory alone. The graph may then have more room, and nothing is staged.
 pub fn stage_frame(alloc: Global, graph: &mut Graph, bytes: &[u8; 4096]) -> Result<u64, Refusal>
     requires families { length graph.old.staging.latest ≡ 2 }
     requires frames { graph.old.staging.staged ≤ 9 }
@@ -43,8 +45,11 @@ pub fn stage_frame(alloc: Global, graph: &mut Graph, bytes: &[u8; 4096]) -> Resu
     ensures page { IfOk result (λ page. page ≡ graph.old.staging.staged + 2) }
     ensures staged { OnOk result (AddsFrame graph.old graph.new bytes.now) }
     ensures refusals { IfErr result (λ r. r ≡ Refusal.OutOfMemory) }
-    ensures refused { OnErr result ((graph.new ≡ graph.old) ⊎ AddsPlain graph.old graph.new bytes.now) }
+    ensures refused { OnErr result (SameButRoom graph.old graph.new) }
+    ensures memory { 2 ≤ graph.old.room → IsOk result }
+    ensures room { graph.old.room ≤ graph.new.room + 2 }
 {
+    graph.reserve(2)?;
     let page = FIRST_PAGE + graph.last_plain();
     let number = graph.stage_plain(page, bytes, Dependency::none(alloc))?;
     stage_family(graph, SUPERBLOCK, Dependency::through(alloc, number))?;
@@ -52,6 +57,8 @@ pub fn stage_frame(alloc: Global, graph: &mut Graph, bytes: &[u8; 4096]) -> Resu
 }
 
 /// Stages the page of a run as a frame, and the root over it. It gives a dependency on that root.
+///
+/// Refused 9 OutOfMemory alone. The graph may then have more room, and nothing is staged.
 pub fn stage_root(alloc: Global, graph: &mut Graph) -> Result<Dependency, Refusal>
     requires families { length graph.old.staging.latest ≡ 2 }
     requires frames { graph.old.staging.staged ≤ 9 }
@@ -60,13 +67,13 @@ pub fn stage_root(alloc: Global, graph: &mut Graph) -> Result<Dependency, Refusa
     ensures plain { IfOk result (λ d. (n : ℕ) → ¬ Names d (Element.Plain n)) }
     ensures version { IfOk result (λ d. (f v : ℕ) → Names d (Element.Version f v) ↔ ((f ≡ ROOT) × (1 ≤ v) × (v ≤ slice_index graph.new.staging.latest ROOT))) }
     ensures refusals { IfErr result (λ r. r ≡ Refusal.OutOfMemory) }
-    ensures refused { OnErr result (AddsPart graph.old graph.new) }
+    ensures refused { OnErr result (SameButRoom graph.old graph.new) }
 {
     let superblock = graph.last_version(SUPERBLOCK) + 1;
     let root = graph.last_version(ROOT) + 1;
     let needs = Dependency::on_version(alloc, SUPERBLOCK, superblock)?;
     let version = Dependency::on_version(alloc, ROOT, root)?;
-    // Here the graph will reserve three stagings, so that none of them is refused.
+    graph.reserve(3)?;
     stage_frame(alloc, graph, &ZEROS)?;
     stage_family(graph, ROOT, needs)?;
     Ok(version)

@@ -1,5 +1,5 @@
 //! The store behind a script, before there are formats.
-ghost use Rattle.std.specs.Prelude.{◌≡◌, ◌≢◌, ◌+◌, ◌≤◌, ◌<◌, ◌⊎◌, ◌↔◌, [], ◌∷◌, ◌++◌, IfOk, IfErr, OnOk, OnErr, IsTrue, IsSome, IsErrOf, List, true, false, length, vec_len};
+ghost use Rattle.std.specs.Prelude.{◌≡◌, ◌≢◌, ◌+◌, ◌≤◌, ◌<◌, ◌⊎◌, ◌↔◌, [], ◌∷◌, ◌++◌, IfOk, IfErr, OnOk, OnErr, IsTrue, IsSome, List, true, false, length, vec_len};
 ghost use Rattle.cs_deps.specs.declared.elements.Element.{Element as Item};
 ghost use Rattle.cs_deps.specs.State.{everything};
 ghost use Rattle.cs_deps.specs.Chain.{IsChainOf};
@@ -10,7 +10,7 @@ ghost use Rattle.cs_cli.specs.declared.allocations.Purpose.TheVariants.{Put as F
 ghost use Rattle.cs_cli.specs.declared.roots.Root.{Root as StagedRoot};
 ghost use Rattle.cs_cli.specs.Pages.{page_with};
 ghost use Rattle.cs_cli.specs.Commands.{commands_of};
-ghost use Rattle.cs_cli.specs.Stored.{Stored, frames_of, AreDurable, IsFrontier, NamesRoot, new_graph};
+ghost use Rattle.cs_cli.specs.Stored.{Stored, frames_of, AreDurable, IsFrontier, NamesRoot, SameButGraphRoom, new_graph};
 ghost use Rattle.cs_cli.specs.Staged.{AddsFrame, AddsRoot};
 
 use crate::accepts::Accepted;
@@ -79,8 +79,7 @@ impl ScriptStore {
 
     /// Stages a shard on a page of its own, and gives its number among the accepted commands.
     ///
-    /// Refused 31 TooLarge for more than 4,055 bytes, else 30 Full where no extent has room, and 9 OutOfMemory. After
-    /// 9 the page may be taken, though nothing was put.
+    /// Refused 31 TooLarge for more than 4,055 bytes, else 30 Full where no extent has room, and 9 OutOfMemory.
     pub fn put(&mut self, id: [u8; 16], bytes: Vec<u8>) -> Result<usize, Refusal>
         ensures accepted { OnOk result (self.new.accepted ≡ self.old.accepted ++ (id, bytes.items) ∷ []) }
         ensures number { IfOk result (λ n. n ≡ length self.new.accepted) }
@@ -89,7 +88,7 @@ impl ScriptStore {
         ensures too_large { (result ≡ Err Refusal.TooLarge) ↔ (4055 < vec_len bytes) }
         ensures full { (result ≡ Err Refusal.Full) ↔ ((vec_len bytes ≤ 4055) × (¬ HasRoom (frames_of self.old) ForPut)) }
         ensures refusals { IfErr result (λ r. (r ≡ Refusal.TooLarge) ⊎ (r ≡ Refusal.Full) ⊎ (r ≡ Refusal.OutOfMemory)) }
-        ensures refused { OnErr result ((self.new ≡ self.old) ⊎ IsErrOf result Refusal.OutOfMemory) }
+        ensures refused { OnErr result (SameButGraphRoom self.old self.new) }
         ensures refused_accepted { OnErr result ((self.new.accepted ≡ self.old.accepted) × (self.new.at ≡ self.old.at)) }
         ensures others { (self.new.rooted ≡ self.old.rooted) × (self.new.synced ≡ self.old.synced) × (self.new.roots ≡ self.old.roots) × (self.new.disk ≡ self.old.disk) × (self.new.out ≡ self.old.out) }
     {
@@ -101,7 +100,6 @@ impl ScriptStore {
         }
         self.accepted.reserve(1)?;
         self.at.reserve(1)?;
-        // Here the graph will reserve two stagings, so that neither of them is refused.
         let page = stage_frame(self.alloc, &mut self.graph, &page_of(&bytes))?;
         self.accepted.push_reserved(Accepted { id, bytes });
         self.at.push_reserved(page);
@@ -110,7 +108,7 @@ impl ScriptStore {
 
     /// Stages a run for the commands since the last root, and a root over it. Nothing is staged where there are none.
     ///
-    /// Refused 30 Full where no extent has room, and 9 OutOfMemory. After 9 the page of the run may be taken.
+    /// Refused 30 Full where no extent has room, and 9 OutOfMemory.
     pub fn stage(&mut self) -> Result<(), Refusal>
         ensures nothing { self.old.rooted ≡ length self.old.accepted → (result ≡ Ok tt) × (self.new ≡ self.old) }
         ensures frame { self.old.rooted ≢ length self.old.accepted → OnOk result (AddsRoot self.old.graph self.new.graph) }
@@ -119,7 +117,7 @@ impl ScriptStore {
         ensures roots { OnErr result (self.new.roots ≡ self.old.roots) }
         ensures full { (result ≡ Err Refusal.Full) ↔ ((self.old.rooted ≢ length self.old.accepted) × (¬ HasRoom (frames_of self.old) ForRun)) }
         ensures refusals { IfErr result (λ r. (r ≡ Refusal.Full) ⊎ (r ≡ Refusal.OutOfMemory)) }
-        ensures refused { OnErr result ((self.new ≡ self.old) ⊎ IsErrOf result Refusal.OutOfMemory) }
+        ensures refused { OnErr result (SameButGraphRoom self.old self.new) }
         ensures accepted { (self.new.accepted ≡ self.old.accepted) × (self.new.at ≡ self.old.at) × (self.new.synced ≡ self.old.synced) }
         ensures others { (self.new.disk ≡ self.old.disk) × (self.new.out ≡ self.old.out) }
     {

@@ -13,8 +13,7 @@ use Rattle.cs_cli.proofs.stores.ScriptStore.put.Goals as goal
 pub invariant_of-self-in_err-page : goal.invariant_of-self-in_err-page
 invariant_of-self-in_err-page c =
     let s : Stored = the_view c.self.inside in
-    let room : HasRoom (frames_of s) Put = subst (λ n. HasRoom n Put) c.last_plain.ensures (c.has_room.ensures.0 c.if-not-has_room.false) in
-    sound_refused s c.self.invariant c.stage_frame.new.graph c.page_of.result Put room c.in_err-page.ensures.refused (commands_of c.reserve.new.self.items) (ap commands_of c.reserve.ensures.items) c.reserve-2.new.self.items c.reserve-2.ensures.items
+    sound_refused s c.self.invariant c.stage_frame.new.graph c.in_err-page.ensures.refused (commands_of c.reserve.new.self.items) (ap commands_of c.reserve.ensures.items) c.reserve-2.new.self.items c.reserve-2.ensures.items
 
 pub invariant_of-self-2 : goal.invariant_of-self-2
 invariant_of-self-2 c =

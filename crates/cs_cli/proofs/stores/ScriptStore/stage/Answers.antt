@@ -1,17 +1,16 @@
-use Rattle.std.proofs.Common.{◌≡◌, ◌∙◌, ◌++◌, ◌∷◌, [], subst, ap}
+use Rattle.std.proofs.Common.{◌≡◌, ◌∙◌, ◌++◌, ◌∷◌, [], refl, subst, ap}
 use Rattle.cs_cli.specs.declared.roots.Root.{Root}
 use Rattle.cs_cli.specs.contracts.stores.ScriptStore.{the_view}
 use Rattle.cs_cli.specs.declared.allocations.Purpose.TheVariants.{Run}
 use Rattle.cs_cli.specs.Allocation.{HasRoom}
 use Rattle.cs_cli.specs.Stored.{Stored, frames_of}
-use Rattle.cs_cli.proofs.Sound.{with_graph, any_roots, sound_root, sound_part, commands_count}
+use Rattle.cs_cli.proofs.Sound.{with_graph, any_roots, sound_root, sound_refused, commands_count}
 use Rattle.cs_cli.proofs.stores.ScriptStore.stage.Goals as goal
 
 pub invariant_of-self-in_err-version : goal.invariant_of-self-in_err-version
 invariant_of-self-in_err-version c =
     let s : Stored = the_view c.self.inside in
-    let room : HasRoom (frames_of s) Run = subst (λ n. HasRoom n Run) c.last_plain.ensures (c.has_room.ensures.0 c.if-not-has_room.false) in
-    any_roots (with_graph s c.stage_root.new.graph) (sound_part s c.self.invariant c.stage_root.new.graph room c.in_err-version.ensures.refused) c.reserve.new.self.items
+    any_roots (with_graph s c.stage_root.new.graph) (sound_refused s c.self.invariant c.stage_root.new.graph c.in_err-version.ensures.refused s.accepted refl s.at refl) c.reserve.new.self.items
 
 pub invariant_of-self-2 : goal.invariant_of-self-2
 invariant_of-self-2 c =
