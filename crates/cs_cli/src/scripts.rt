@@ -1,4 +1,4 @@
-//! Scripts.
+//! Scripts, line by line. Any write may fail, and nothing says when, so what prints may answer an error.
 ghost use Rattle.std.specs.Prelude.{◌≡◌, ℕ, ◌≤◌, ◌<◌, [], List, IfOk, OnOk, Some, length};
 ghost use Rattle.std.specs.Io.BufRead.{strip_last};
 ghost use Rattle.std.specs.Io.KnownBytes.{Appends};

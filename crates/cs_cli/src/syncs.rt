@@ -82,7 +82,8 @@ fn end_round<W: Write>(store: &mut ScriptStore, writer: &mut W) -> Result<(), St
     Ok(())
 }
 
-/// Begins and ends round after round, until nothing waits. It gives how many they were.
+/// Begins and ends round after round, until nothing waits. It gives how many they were. Why it stops, if it does, is said
+/// by `ScriptStore::begin` and `end`: for want of memory, or because the writer failed.
 fn run_rounds<W: Write>(store: &mut ScriptStore, writer: &mut W) -> Result<usize, Stop>
     requires none { store.old.out ≡ None }
     requires few { length store.old.graph.staging.pending.waiting ≤ 32 }
