@@ -13,3 +13,4 @@ pub mod Extended
 pub mod Ready
 pub mod Entries
 pub mod AllHeights
+pub mod Newest

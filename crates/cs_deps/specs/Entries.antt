@@ -1,10 +1,11 @@
 -- How a graph holds what waits: a list of entries with their own needs, and what each waiting element needs in all.
-use Rattle.std.specs.Prelude.{◌≡◌, ℕ, ◌+◌, ◌≤◌, ◌<◌, List, [], ◌∷◌, ◌++◌, Bool, true, Option, Some, max, map, filter, nat_lt, slice_get, slice_index, if◌then◌else◌}
+use Rattle.std.specs.Prelude.{◌≡◌, ◌==◌, ℕ, ◌+◌, ◌≤◌, ◌<◌, List, [], ◌∷◌, ◌++◌, Bool, true, Option, Some, max, map, filter, nat_lt, slice_get, slice_index, if◌then◌else◌}
 use Rattle.cs_deps.specs.declared.elements.Element.{Element}
 use Rattle.cs_deps.specs.declared.elements.Element.TheVariants.{Plain, Version}
 use Rattle.cs_deps.specs.Named.{Named}
+use Rattle.cs_deps.specs.Pending.{Waits}
 use Rattle.cs_deps.specs.Staging.{stands_for}
-use Rattle.cs_deps.specs.State.{State, Write, IsWhole, waits_still}
+use Rattle.cs_deps.specs.State.{State, Write, IsWhole, waits_still, write_of}
 
 -- what names nothing
 abbrev pub nothing : Named
@@ -57,9 +58,19 @@ state_of persistent entries staged latest round writes room = record {
 abbrev pub AreCurrent : List ℕ → List ℕ → List (Element × Named) → Type 0
 AreCurrent persistent latest entries = (k f v : ℕ) (d : Named) → slice_get entries k ≡ Some (Version f v, d) → (v ≤ slice_index latest f) × (slice_index persistent f < slice_index latest f)
 
+-- each plain write that is listed waits, and is the one that is kept
+abbrev pub ArePlainsWaiting : State → Type 0
+ArePlainsWaiting s = (k n : ℕ) (w : Write) → slice_get s.pages k ≡ Some (Plain n, w) → Waits s.staging.pending (Plain n) × (write_of s (Plain n) ≡ Some w)
+
+-- the number of a listed plain write to page p, 0 for what is none
+abbrev pub number_on : ℕ → Element × Write → ℕ
+number_on p (Plain n, w) = if w.0 == p then n else 0
+number_on p (Version f v, w) = 0
+
 -- What a graph keeps of its fields: its value's laws, and room for as many stagings as it says.
 pub record IsHeld (s : State) (entries : List (Element × Named)) (entry_count entry_capacity write_count write_capacity : ℕ) : Type 0 where
   pub whole : IsWhole s
   pub current : AreCurrent s.staging.pending.persistent s.staging.latest entries
+  pub plains : ArePlainsWaiting s
   pub entries_fit : entry_count + s.room ≤ entry_capacity
   pub writes_fit : write_count + s.room ≤ write_capacity

@@ -5,7 +5,7 @@ ghost use Rattle.cs_deps.specs.Named.{Names, NamesFamily, IsNumbered, IsWithin, 
 ghost use Rattle.cs_deps.specs.Staging.{IsSatisfied, staged_after, IsVersionStaged, IsKept, settled};
 ghost use Rattle.cs_deps.specs.View.{pending_of};
 ghost use Rattle.cs_deps.specs.Pending.{Waits, WaitsAt, IsPersistent};
-ghost use Rattle.cs_deps.specs.State.{State, write_of, after, everything, IsOut, IsReady, KeepsBytes, KeepsOthers, AddsNone};
+ghost use Rattle.cs_deps.specs.State.{State, write_of, after, everything, IsNewestOn, IsOut, IsReady, IsWhole, KeepsBytes, KeepsOthers, AddsNone, NoneOn};
 
 use crate::dependencies::Dependency;
 use crate::elements::Element;
@@ -13,7 +13,7 @@ use crate::refusals::Refusal;
 use crate::rounds::raise_all;
 use crate::views::GraphView;
 use crate::waiting::{copy_all, elements_of, keep_entries, names_one, needs_of};
-use crate::writes::{keep_writes, make_room, place_of, push_both};
+use crate::writes::{keep_writes, make_room, newest_place, place_of, push_both};
 use std::alloc::{AllocError, Global};
 use std::marker::Model;
 
@@ -240,6 +240,24 @@ impl Graph {
             Some(k) => Some(self.writes[k].1.0),
             None => None,
         }
+    }
+
+    /// The bytes of the newest waiting plain write to a page. It goes through all that waits, and takes no memory.
+    pub fn newest_on(&self, page: u64) -> Option<&[u8; 4096]>
+        ensures newest { MatchOption result (NoneOn self.now page) (λ bytes. IsNewestOn self.now page bytes.now) }
+        ensures whole { IsWhole self.now }
+    {
+        match newest_place(&self.writes, page) {
+            Some(place) => Some(&self.writes[place].1.1),
+            None => None,
+        }
+    }
+
+    /// What every graph keeps, for contracts of the layers above. It does nothing.
+    pub fn what_it_keeps(&self)
+        ensures { IsWhole self.now }
+    {
+        let _ = &self.writes;
     }
 
     /// Takes a round: its members may be written, and it is out until it is settled. It takes no memory.

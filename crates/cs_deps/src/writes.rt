@@ -1,6 +1,7 @@
 //! The page writes that are kept, and room for more.
-ghost use Rattle.std.specs.Prelude.{◌≡◌, ◌+◌, ◌≤◌, ◌<◌, ◌∷◌, [], ◌++◌, IfOk, OnOk, OnErr, IsOk, MatchOption, filter, length, max, slice_get, Some, None, vec_len, vec_capacity};
+ghost use Rattle.std.specs.Prelude.{◌≡◌, ℕ, ◌+◌, ◌≤◌, ◌<◌, ◌∷◌, [], ◌++◌, IfOk, OnOk, OnErr, IsOk, MatchOption, filter, length, max, slice_get, Some, None, vec_len, vec_capacity};
 ghost use Rattle.cs_deps.specs.declared.elements.Element.{Element as Item};
+ghost use Rattle.cs_deps.specs.Entries.{number_on};
 ghost use Rattle.cs_deps.specs.State.{Write, last_write, same_element, waits_still};
 
 use crate::dependencies::Dependency;
@@ -28,6 +29,40 @@ fn is_write_of(writes: &[(Element, (u64, [u8; 4096]))], k: usize, element: Eleme
 {
     let entry = &writes[k];
     element.is_equal(entry.0)
+}
+
+/// The place of the plain write of greatest number among those to a page.
+pub fn newest_place(writes: &[(Element, (u64, [u8; 4096]))], page: u64) -> Option<usize>
+    ensures { MatchOption result ((k : ℕ) (e : Item × Write) → slice_get writes.now k ≡ Some e → number_on page e ≡ 0) (λ k. (e : Item × Write) × (slice_get writes.now k ≡ Some e) × (0 < number_on page e) × ((j : ℕ) (f : Item × Write) → slice_get writes.now j ≡ Some f → number_on page f ≤ number_on page e)) }
+{
+    let mut greatest: u64 = 0;
+    let mut place: Option<usize> = None;
+    for k in 0..writes.len() {
+        let number = number_at(writes, k, page);
+        if greatest < number {
+            greatest = number;
+            place = Some(k);
+        }
+    }
+    place
+}
+
+/// The number of the write at a place, where it is a plain one to this page, else 0.
+fn number_at(writes: &[(Element, (u64, [u8; 4096]))], k: usize, page: u64) -> u64
+    requires { k < length writes.now }
+    ensures { (e : Item × Write) → slice_get writes.now k ≡ Some e → result ≡ number_on page e }
+{
+    let entry = &writes[k];
+    match entry.0 {
+        Element::Plain(number) => {
+            if entry.1.0 == page {
+                number
+            } else {
+                0
+            }
+        }
+        Element::Version(_, _) => 0,
+    }
 }
 
 /// Makes room for more stagings, where there is less, and tells for how many there is.

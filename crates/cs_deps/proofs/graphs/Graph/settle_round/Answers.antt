@@ -9,6 +9,7 @@ use Rattle.cs_deps.specs.Staging.{Staging, raised}
 use Rattle.cs_deps.specs.Entries.{entry_stays}
 use Rattle.cs_deps.proofs.StateSteps.{settled_round_adds, last_left_was}
 use Rattle.cs_deps.proofs.Entries.{whole_left, current_settled, waiting_settled}
+use Rattle.cs_deps.proofs.Newest.{plains_left}
 use Rattle.cs_deps.proofs.graphs.Graph.settle_round.Goals as goal
 
 pub invariant_of-self : goal.invariant_of-self
@@ -22,6 +23,7 @@ invariant_of-self c =
     rw (persistent, entries, c.keep_writes.ensures.items, c.deref.ensures.value, c.take.ensures.after) (record {
       whole = whole_left g.persistent.items g.entries.items g.staged g.latest.items s.round g.writes.items g.room round c.self.invariant.whole c.self.invariant.current out;
       current = current_settled g.persistent.items g.latest.items g.entries.items c.self.invariant.current c.self.invariant.whole.kept.families round;
+      plains = plains_left g.persistent.items g.entries.items g.staged g.latest.items s.round g.writes.items g.room c.self.invariant.whole c.self.invariant.current c.self.invariant.plains round;
       entries_fit = omega (arith, c.self.invariant.entries_fit, c.keep_entries.ensures.count, c.keep_entries.ensures.capacity);
       writes_fit = omega (arith, c.self.invariant.writes_fit, c.keep_writes.ensures.count, c.keep_writes.ensures.capacity);
     })

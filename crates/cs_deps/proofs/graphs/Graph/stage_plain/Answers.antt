@@ -9,6 +9,7 @@ use Rattle.cs_deps.specs.Entries.{waiting_of}
 use Rattle.cs_deps.proofs.Kept.{not_false}
 use Rattle.cs_deps.proofs.StateSteps.{last_of_new, last_of_others}
 use Rattle.cs_deps.proofs.Entries.{whole_plain, current_plain, waiting_plain}
+use Rattle.cs_deps.proofs.Newest.{plains_plain}
 use Rattle.cs_deps.proofs.graphs.Graph.stage_plain.Goals as goal
 
 pub invariant_of-self : goal.invariant_of-self
@@ -18,6 +19,7 @@ invariant_of-self c =
     rw (c.in-Ok.ensures.ok, c.in-Ok.ensures.written) (record {
       whole = whole_plain g.persistent.items g.entries.items g.staged g.latest.items (option_map (λ r. r.items) g.round) g.writes.items g.room c.in-Ok.left c.args.needs (c.args.page, c.args.bytes.now) c.self.invariant.whole (says.0 (not_false c.is_staged.result c.if-not-is_staged.false));
       current = current_plain g.persistent.items g.latest.items g.entries.items (g.staged + 1) c.args.needs c.self.invariant.current;
+      plains = plains_plain g.persistent.items g.entries.items g.staged g.latest.items (option_map (λ r. r.items) g.round) g.writes.items g.room c.self.invariant.whole c.self.invariant.current c.self.invariant.plains c.in-Ok.left c.args.needs (c.args.page, c.args.bytes.now);
       entries_fit = c.in-Ok.ensures.entries_fit;
       writes_fit = c.in-Ok.ensures.writes_fit;
     })

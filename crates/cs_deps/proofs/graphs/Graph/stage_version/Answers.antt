@@ -9,6 +9,7 @@ use Rattle.cs_deps.specs.State.{last_write}
 use Rattle.cs_deps.specs.Entries.{waiting_of}
 use Rattle.cs_deps.proofs.StateSteps.{last_of_new, last_of_others}
 use Rattle.cs_deps.proofs.Entries.{whole_version, current_version, waiting_next, joined_next, next_needs}
+use Rattle.cs_deps.proofs.Newest.{plains_version}
 use Rattle.cs_deps.proofs.graphs.Graph.stage_version.Goals as goal
 
 pub invariant_of-self : goal.invariant_of-self
@@ -22,6 +23,7 @@ invariant_of-self c =
     rw (c.in-Ok.ensures.ok, c.in-Ok.ensures.written) (record {
       whole = whole_version g.persistent.items g.entries.items g.staged g.latest.items (option_map (λ r. r.items) g.round) g.writes.items g.room c.self.invariant.whole c.self.invariant.current f inside before last c.args.needs c.in-Ok.left (c.args.page, c.args.bytes.now) (says.0 c.if-not-is_staged.false) (λ v n. absurd (cc (c.names_family.ensures.no v n, c.if-names_family.false)));
       current = current_version g.persistent.items g.entries.items g.staged g.latest.items (option_map (λ r. r.items) g.round) g.writes.items g.room c.self.invariant.whole c.self.invariant.current f inside before last c.args.needs;
+      plains = plains_version g.persistent.items g.entries.items g.staged g.latest.items (option_map (λ r. r.items) g.round) g.writes.items g.room c.self.invariant.whole c.self.invariant.current c.self.invariant.plains c.in-Ok.left f inside before last c.args.needs (c.args.page, c.args.bytes.now);
       entries_fit = c.in-Ok.ensures.entries_fit;
       writes_fit = c.in-Ok.ensures.writes_fit;
     })
