@@ -1,12 +1,14 @@
 -- What the machine's model asks of its formats, of these.
-use Rattle.std.proofs.Common.{◌≡◌, ◌≢◌, inl, inr, ℕ, zero, suc, ◌+◌, ◌-◌, ◌*◌, ◌/◌, ◌%◌, ◌≤◌, ◌<◌, ◌^◌, ◌==◌, ◌&&◌, true, false, Bool, List, [], ◌∷◌, ◌++◌, length, take, drop, map, None, refl, sym, ap, ap₂, ◌∙◌, arith, append_assoc, append-nil, length-append, nat_le, nat_lt, if◌then◌else◌}
-use Rattle.std.specs.Prelude.{option_map}
+use Rattle.std.proofs.Common.{◌≡◌, ◌≢◌, inl, inr, ℕ, zero, suc, ◌+◌, ◌-◌, ◌*◌, ◌/◌, ◌%◌, ◌≤◌, ◌<◌, ◌^◌, ◌==◌, ◌&&◌, true, false, Bool, List, [], ◌∷◌, ◌++◌, length, take, drop, map, None, refl, sym, subst, ap, ap₂, ◌∙◌, arith, append_assoc, append-nil, length-append, nat_le, nat_lt, if◌then◌else◌}
+use Rattle.std.specs.Prelude.{option_map, reverse}
 use Rattle.std.specs.List.{AllByRecursion, list_all, flat_map}
 use Rattle.std.specs.Int.{bytes_high_first}
 use Rattle.std.proofs.Math.Nat.{div-eq_of_lt, mod-eq_of_lt, mod-lt, mul-add-div_right, mul-add-mod_self_right}
 use Rattle.std.proofs.lemmas.Nat.{div-add-mod'}
 use Rattle.std.proofs.lemmas.Bool.{and_parts, and_from, eqb-true, leb-true, ltb-true, le-leb, lt-ltb}
-use Rattle.std.proofs.lemmas.List.{take_at, drop_at, length-map, length-replicate}
+use Rattle.std.proofs.lemmas.Grind.{reverse_onto}
+use Rattle.std.proofs.lemmas.List.Folds.{list_all-append}
+use Rattle.std.proofs.lemmas.List.{take_at, drop_at, length-map, length-replicate, length-reverse, reverse-reverse}
 use Rattle.byteorder.specs.Endian.{big_bytes, big_from, big_number}
 use Rattle.byteorder.specs.Numbers.{big_from-bytes, big_from-cons, big_from-lt, length-bytes_high_first}
 use Rattle.cs_model.specs.Device.{Page, Shape}
@@ -120,12 +122,33 @@ root_of v n ls h =
       each = all_fit ls a.1;
     }
 
-one_page_one_root : (v w n k : ℕ) (xs ys : List Place) → fits_root v n xs ≡ true → fits_root w k ys ≡ true
+one_page_one_list : (v w n k : ℕ) (xs ys : List Place) → fits_root v n xs ≡ true → fits_root w k ys ≡ true
     → spelled_root v n (map as_locator xs) ≡ spelled_root w k (map as_locator ys) → (n ≡ k) × (xs ≡ ys)
-one_page_one_root v w n k xs ys fx fy is =
+one_page_one_list v w n k xs ys fx fy is =
     let x = one_root (spelled_root w k (map as_locator ys)) v n (map as_locator xs) (record { fits = root_of v n xs fx; spelled = sym is }) in
     let y = one_root (spelled_root w k (map as_locator ys)) w k (map as_locator ys) (record { fits = root_of w k ys fy; spelled = refl }) in
     (sym x.1 ∙ y.1, one_list xs ys (sym x.2 ∙ y.2))
+
+-- a page lists the runs in the other order
+all_fit_reversed : (ls : List Place) → list_all fits_locator ls ≡ true → list_all fits_locator (reverse ls) ≡ true
+all_fit_reversed [] h = refl
+all_fit_reversed (l ∷ ls) h =
+    let both = and_parts (fits_locator l) (list_all fits_locator ls) h in
+    subst (λ (xs : List Place). list_all fits_locator xs ≡ true) (sym (reverse_onto ls l []))
+    (list_all-append fits_locator (reverse ls) (l ∷ [])
+    ∙ and_from (list_all fits_locator (reverse ls)) (fits_locator l && true) (all_fit_reversed ls both.1) (and_from (fits_locator l) true both.0 refl))
+
+fits_reversed : (v n : ℕ) (ls : List Place) → fits_root v n ls ≡ true → fits_root v n (reverse ls) ≡ true
+fits_reversed v n ls h =
+    let a = and_parts _ (list_all fits_locator ls) h in
+    let b = and_parts _ (nat_le (length ls) 4) a.0 in
+    and_from _ _ (and_from _ _ b.0 (subst (λ (k : ℕ). nat_le k 4 ≡ true) (sym (length-reverse ls)) b.1)) (all_fit_reversed ls a.1)
+
+one_page_one_root : (v w n k : ℕ) (xs ys : List Place) → fits_root v n xs ≡ true → fits_root w k ys ≡ true
+    → spelled_root v n (map as_locator (reverse xs)) ≡ spelled_root w k (map as_locator (reverse ys)) → (n ≡ k) × (xs ≡ ys)
+one_page_one_root v w n k xs ys fx fy is =
+    let both = one_page_one_list v w n k (reverse xs) (reverse ys) (fits_reversed v n xs fx) (fits_reversed w k ys fy) is in
+    (both.0, sym (reverse-reverse xs) ∙ ap (λ (ls : List Place). reverse ls) both.1 ∙ reverse-reverse ys)
 
 -- what is there has numbers that fit
 in_range : (extents pages g : ℕ) (l : Place) → extents ≤ 512 → pages ≤ 256 → g < 2 ^ 32 → l.extent < extents → l.page < pages

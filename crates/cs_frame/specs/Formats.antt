@@ -1,5 +1,5 @@
 -- The machine's pages in these formats.
-use Rattle.std.specs.Prelude.{ℕ, ◌^◌, ◌/◌, ◌==◌, ◌&&◌, zero, suc, Bool, true, List, [], ◌∷◌, length, map, nat_le, nat_lt, option_map, if◌then◌else◌}
+use Rattle.std.specs.Prelude.{ℕ, ◌^◌, ◌/◌, ◌==◌, ◌&&◌, zero, suc, Bool, true, List, [], ◌∷◌, length, map, nat_le, nat_lt, option_map, reverse, if◌then◌else◌}
 use Rattle.std.specs.List.{list_all}
 use Rattle.byteorder.specs.Endian.{big_bytes}
 use Rattle.cs_model.specs.Device.{Shape}
@@ -24,9 +24,12 @@ kind_number RunFrame = 1
 abbrev pub id_bytes : ℕ → List ℕ
 id_bytes id = id / 256 ^ 15 ∷ big_bytes 15 id
 
--- a locator and an entry of the machine as they are spelled here
+-- a locator and an entry of the machine as they are spelled here, and a locator as the machine has it
 abbrev pub as_locator : Place → Locator
 as_locator l = record { extent = l.extent; page = l.page; generation = l.generation }
+
+abbrev pub place_of : Locator → Place
+place_of l = record { extent = l.extent; page = l.page; generation = l.generation }
 
 abbrev pub as_entry : NamedEntry → Entry
 as_entry x = record { id = id_bytes x.id; locators = map as_locator x.locators }
@@ -74,12 +77,13 @@ abbrev pub fits_run : List NamedEntry → Bool
 fits_run entries =
     nat_le 1 (length entries) && nat_lt (length entries) (2 ^ 32) && list_all fits_entry entries && rises entries
 
--- the formats of a store of this shape: there is one format of superblocks, whatever its number
+-- the formats of a store of this shape: there is one format of superblocks, whatever its number, and a root lists its
+-- runs oldest first, which the machine has newest first
 abbrev pub formats_of : Shape → Formats
 formats_of S = record {
   superblock = λ format section version pointers generations.
       spelled_superblock version S.pages (extents_of S.section pointers generations section 0 S.extents);
-  root = λ version commands runs. spelled_root version commands (map as_locator runs);
+  root = λ version commands runs. spelled_root version commands (map as_locator (reverse runs));
   frame = λ kind payload. spelled_frame (kind_number kind) payload;
   fault = λ kind pages. option_map refusal_of (frame_fault (kind_number kind) pages);
   run = λ entries. spelled_run (map as_entry entries);
