@@ -1,3 +1,4 @@
+pub mod Appending
 pub mod Changes
 pub mod Empties
 pub mod Fitting

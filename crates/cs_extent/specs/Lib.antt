@@ -1,3 +1,4 @@
+pub mod Appended
 pub mod Changes
 pub mod Frames
 pub mod Places

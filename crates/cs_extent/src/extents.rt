@@ -5,6 +5,7 @@ ghost use Rattle.cs_deps.specs.Named.{Names};
 ghost use Rattle.cs_deps.specs.State.{write_of};
 ghost use Rattle.cs_frame.specs.Superblocks.{IsSuperblock};
 ghost use Rattle.cs_model.specs.Extents.{Fits, IsFirstEmpty, Placed, empties, emptied, marked, taken};
+ghost use Rattle.cs_extent.specs.Appended.{IsAppended};
 ghost use Rattle.cs_extent.specs.Frames.{AreResetsStaged, AreWritten, IsFrameStaged, IsOfFrame, IsVersionUpTo, IsWorn, KeepsBut, greatest, next_place, next_superblock, root_family, superblock_family};
 ghost use Rattle.cs_extent.specs.Places.{room_at};
 ghost use Rattle.cs_extent.specs.Purposes.{reason_of};
@@ -342,6 +343,9 @@ impl Extents {
         ensures others { OnOk result (KeepsBut graph.old graph.new (IsOfFrame graph.old.staging (length frame.now))) }
         ensures round { graph.new.round ≡ graph.old.round }
         ensures dependency { IfOk result (λ r. (x : Item) → Names r.1 x ↔ IsVersionUpTo superblock_family (slice_index graph.old.staging.latest superblock_family + 1) x) }
+
+        // All of this in one word, for the layers above.
+        ensures appended { IfOk result (λ r. IsAppended self.old graph.old (reason_of purpose) frame.now r.0 self.new graph.new) }
 
         // Whatever the answer, the next append may be made.
         ensures resets { AreResetsStaged (extents_of self.new) graph.new.staging }

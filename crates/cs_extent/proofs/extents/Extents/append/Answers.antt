@@ -1,11 +1,33 @@
-use Rattle.std.proofs.Common.{◌≡◌, ◌+◌, ap, subst, get_or, List, ℕ, Some}
+use Rattle.std.proofs.Common.{◌≡◌, ◌+◌, ap, subst, sym, get_or, refl, List, ℕ, Some}
 use Rattle.cs_deps.specs.Staging.{Staging}
 use Rattle.cs_deps.specs.State.{State, write_of}
+use Rattle.cs_frame.specs.declared.locators.Locator.{Locator}
+use Rattle.cs_extent.specs.Appended.{IsAppended}
 use Rattle.cs_extent.specs.Frames.{next_superblock, superblock_family}
+use Rattle.cs_extent.specs.Purposes.{reason_of}
 use Rattle.cs_extent.specs.State.{SpellsExtents}
+use Rattle.cs_extent.proofs.Appending.{whatever_room}
 use Rattle.cs_extent.proofs.extents.Extents.append.Goals as goal
 
 pub returns-in-Ok-clause-superblock : goal.returns-in-Ok-clause-superblock
 returns-in-Ok-clause-superblock c =
     subst (λ (s : Staging). (page : List ℕ) × (write_of c.give.new.graph (next_superblock s) ≡ Some (0, page)) × SpellsExtents c.give.new.self (get_or s.latest superblock_family 0 + 1) page)
     (ap (λ (g : State). g.staging) c.in-Ok.ensures.rest) c.give.ensures.superblock
+
+pub returns-in-Ok-clause-appended : goal.returns-in-Ok-clause-appended
+returns-in-Ok-clause-appended c =
+    subst (λ (l : Locator). IsAppended c.args.self.now c.args.graph.now (reason_of c.args.purpose) c.args.frame.now l c.give.new.self c.give.new.graph)
+    (sym c.give.ensures.locator)
+    (whatever_room c.args.self.now c.args.graph.now c.reserve.new.self (reason_of c.args.purpose) c.args.frame.now _ c.give.new.self c.give.new.graph
+    c.in-Ok.ensures.rest
+    (record {
+      placed = c.in-Some.ensures;
+      place = refl;
+      extents = c.give.ensures.extents;
+      same_shape = c.give.ensures.shape;
+      staged = c.give.ensures.staged;
+      writes = c.give.ensures.pages;
+      superblock = c.give.ensures.superblock;
+      others = c.give.ensures.others;
+      round = c.give.ensures.round;
+    }))

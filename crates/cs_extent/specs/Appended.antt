@@ -1,0 +1,29 @@
+-- What an append does to the extents and to the graph.
+use Rattle.std.specs.Prelude.{◌≡◌, ◌+◌, ℕ, List, [], ◌∷◌, Some, length, slice_index}
+use Rattle.cs_deps.specs.State.{State as GraphState, write_of}
+use Rattle.cs_frame.specs.declared.locators.Locator.{Locator}
+use Rattle.cs_model.specs.Extents.{Placed, Purpose as Reason, taken}
+use Rattle.cs_extent.specs.Frames.{AreWritten, IsFrameStaged, IsOfFrame, KeepsBut, next_place, next_superblock, superblock_family}
+use Rattle.cs_extent.specs.State.{SpellsExtents, State, extents_of, need_of, shape}
+
+-- A frame was appended at l: its pages were given and staged behind the pointer of an extent that may take them, and
+-- then a version of the superblock that records them. Nothing else was staged, and no other write is kept.
+pub record IsAppended (x : State) (g : GraphState) (reason : Reason) (frame : List (List ℕ)) (l : Locator) (y : State) (h : GraphState) : Type 0 where
+  pub placed : Placed (shape x) (extents_of x) reason (length frame) l.extent
+  pub place : l ≡ next_place (extents_of x) l.extent
+  pub extents : extents_of y ≡ taken (shape x) (extents_of x) l.extent (length frame)
+  pub same_shape : shape y ≡ shape x
+  pub staged : IsFrameStaged g.staging h.staging (length frame) ((extents_of x).reset l.extent) (need_of x)
+  pub writes : AreWritten h g.staging.staged (length frame) (λ i. (shape x).address l.extent (l.page + i)) frame
+  pub superblock : (page : List ℕ) × (write_of h (next_superblock g.staging) ≡ Some ((shape x).section_page 0, page))
+      × SpellsExtents y (slice_index g.staging.latest superblock_family + 1) page
+  pub others : KeepsBut g h (IsOfFrame g.staging (length frame))
+  pub round : h.round ≡ g.round
+
+-- frames were appended one after another at these places; where there are none the graph may have other room
+abbrev pub AreAppended : State → GraphState → Reason → List (List (List ℕ)) → List Locator → State → GraphState → Type 0
+AreAppended x g reason [] [] y h = (y ≡ x) × (h ≡ record g { room = h.room })
+AreAppended x g reason (frame ∷ frames) (l ∷ ls) y h =
+    (mid : State) × (between : GraphState) × IsAppended x g reason frame l mid between × AreAppended mid between reason frames ls y h
+AreAppended x g reason [] (l ∷ ls) y h = ⊥
+AreAppended x g reason (frame ∷ frames) [] y h = ⊥
