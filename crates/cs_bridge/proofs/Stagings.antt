@@ -8,12 +8,10 @@ use Rattle.cs_deps.specs.Pending.{Pending}
 use Rattle.cs_deps.specs.Staging.{staged_after}
 use Rattle.cs_model.specs.Lists.{◌∈◌}
 use Rattle.cs_model.specs.Device.{Shape, Page}
-use Rattle.cs_model.specs.Element.{Opening, Element, A_write, A_superblock, A_root, Write, Superblock, Root, writes_of}
+use Rattle.cs_model.specs.Element.{Element, A_write, A_superblock, A_root, Write, Superblock, Root, superblocks_of, writes_of}
 use Rattle.cs_model.specs.Cut.{Cut, satisfied}
 use Rattle.cs_model.specs.Machine.{World, StagePage, happens}
-use Rattle.cs_model.specs.Safe.{Safe}
-use Rattle.cs_model.specs.Formats.{Formats}
-use Rattle.cs_model.specs.Recovery.{RootGives}
+use Rattle.cs_model.specs.Safe.{IsStaged}
 use Rattle.cs_model.proofs.ClosedSets.{gt-leb}
 use Rattle.cs_model.proofs.Waiting.{Listed, listed}
 use Rattle.cs_bridge.specs.Bridge.{family_of, name, NeedsName, Matches, waiting_in, IsPendingOf}
@@ -43,7 +41,7 @@ same_needs S old new same (A_superblock u) (Version f v) = ((λ h. h), (λ h. h)
 same_needs S old new same (A_root r) (Plain n) = ((λ h. h), (λ h. h))
 same_needs S old new same (A_root r) (Version f v) = ((λ h. h), (λ h. h))
 
-module _ (S : Shape) (F : Formats) {opening : Opening} (opened : ℕ → Page) (w : World) (g : Pending) (safe : Safe S (RootGives S F opening) opening.frozen opened w) (is : IsPendingOf S w g) where
+module _ (S : Shape) (w : World) (g : Pending) (low : IsStaged S w w.persistent) (below : (u : Superblock) → u ∈ superblocks_of w.elements → u.writes ≤ w.written) (is : IsPendingOf S w g) where
   pushed : (e : Element) (d : Named) (b : Bool) → b ≡ false → ((m : Element) → m ∈ waiting_in w.persistent w.elements → (z : Name) → NeedsName S w.elements m z ↔ NeedsName S (e ∷ w.elements) m z)
       → ((z : Name) → Names d z ↔ NeedsName S (e ∷ w.elements) e z)
       → Matches S (e ∷ w.elements) (if b then waiting_in w.persistent w.elements else waiting_in w.persistent w.elements ++ e ∷ []) (g.waiting ++ (name e, d) ∷ [])
@@ -57,7 +55,7 @@ module _ (S : Shape) (F : Formats) {opening : Opening} (opened : ℕ → Page) (
     (λ h. (h.0, inr h.1, h.2, h.3, h.4)),
     (λ h. (
       h.0,
-      ⊎_elim (λ (same : h.0 ≡ x). absurd (let low : u.writes ≤ w.written = (safe.superblocks_below u has).1 in let le : h.0.number ≤ u.writes = h.3 in let e : h.0.number ≡ x.number = ap (λ (y : Write). y.number) same in omega arith))
+      ⊎_elim (λ (same : h.0 ≡ x). absurd (let old : u.writes ≤ w.written = below u has in let le : h.0.number ≤ u.writes = h.3 in let e : h.0.number ≡ x.number = ap (λ (y : Write). y.number) same in omega arith))
           (λ (old : h.0 ∈ writes_of w.elements). old) h.1,
       h.2,
       h.3,
@@ -74,7 +72,7 @@ module _ (S : Shape) (F : Formats) {opening : Opening} (opened : ℕ → Page) (
     families = is.families;
     root = is.root;
     sections = is.sections;
-    waiting = pushed (A_write x) d (w.persistent.writes (suc w.written)) (false_from_ne_true (w.persistent.writes (suc w.written)) (λ has. absurd (let le : suc w.written ≤ w.written = safe.staged.writes (suc w.written) has in omega arith)))
+    waiting = pushed (A_write x) d (w.persistent.writes (suc w.written)) (false_from_ne_true (w.persistent.writes (suc w.written)) (λ has. absurd (let le : suc w.written ≤ w.written = low.writes (suc w.written) has in omega arith)))
         (λ m has z. page_needs x refl m (listed w.elements m (from_waiting w.persistent w.elements m has).0) z) needs;
   }
     where
@@ -89,7 +87,7 @@ module _ (S : Shape) (F : Formats) {opening : Opening} (opened : ℕ → Page) (
     sections = λ j lt. is.sections j lt ∙ ap (λ (X : Cut). X.superblocks j) (sym same);
     waiting = subst (λ (X : Cut). Matches S next.elements (waiting_in X next.elements) (g.waiting ++ (Version (family_of u.section) u.version, d) ∷ [])) (sym same)
         (subst (λ (es : List Element). Matches S es (waiting_in w.persistent es) (g.waiting ++ (Version (family_of u.section) u.version, d) ∷ [])) (sym els)
-        (pushed (A_superblock u) d (satisfied w.persistent (A_superblock u)) (gt-leb _ _ (let low : w.persistent.superblocks u.section ≤ w.superblocks u.section = safe.staged.superblocks u.section in omega arith))
+        (pushed (A_superblock u) d (satisfied w.persistent (A_superblock u)) (gt-leb _ _ (let behind : w.persistent.superblocks u.section ≤ w.superblocks u.section = low.superblocks u.section in omega arith))
         (λ m has z. same_needs S w.elements (A_superblock u ∷ w.elements) refl m z) needs));
   }
 
@@ -101,6 +99,6 @@ module _ (S : Shape) (F : Formats) {opening : Opening} (opened : ℕ → Page) (
     sections = λ j lt. is.sections j lt ∙ ap (λ (X : Cut). X.superblocks j) (sym same);
     waiting = subst (λ (X : Cut). Matches S next.elements (waiting_in X next.elements) (g.waiting ++ (Version 1 r.version, d) ∷ [])) (sym same)
         (subst (λ (es : List Element). Matches S es (waiting_in w.persistent es) (g.waiting ++ (Version 1 r.version, d) ∷ [])) (sym els)
-        (pushed (A_root r) d (satisfied w.persistent (A_root r)) (gt-leb _ _ (let low : w.persistent.root ≤ w.root = safe.staged.root in omega arith))
+        (pushed (A_root r) d (satisfied w.persistent (A_root r)) (gt-leb _ _ (let behind : w.persistent.root ≤ w.root = low.root in omega arith))
         (λ m has z. same_needs S w.elements (A_root r ∷ w.elements) refl m z) needs));
   }
