@@ -1,0 +1,94 @@
+-- The faults of frames, as refusals.
+use Rattle.std.proofs.Common.{◌≡◌, ◌≢◌, ◌∙◌, ℕ, ◌≤◌, ◌⊎◌, Bool, true, false, List, [], ◌∷◌, codes, length, Option, Some, None, refl, ap, subst, inl, inr, ⊎_elim, arith, bytes_eq, nat_le, drop, ◌+◌, slice_index}
+use Rattle.std.specs.Prelude.{◌==◌}
+use Rattle.std.proofs.lemmas.Option.{same_Some}
+use Rattle.cs_chunk.specs.Reads.{IsNoAnswer, IsOfFault, refusal_for}
+use Rattle.cs_deps.specs.declared.refusals.Refusal.{Refusal}
+use Rattle.cs_deps.specs.declared.refusals.Refusal.TheVariants.{OutOfMemory as NoMemory}
+use Rattle.cs_deps.specs.Refusals.{number_of}
+use Rattle.cs_frame.specs.declared.faults.FormatFault.{FormatFault}
+use Rattle.cs_frame.specs.declared.faults.FormatFault.TheVariants.{BadGeometry, OutOfMemory, BadMagic, BadDigest, BadLength, BadPadding, BadVersion, OutOfOrder}
+use Rattle.cs_frame.specs.Bytes.{all_zero, field}
+use Rattle.cs_frame.specs.Faults.{fault_number, first_fault, unless}
+use Rattle.cs_frame.specs.Frames.{bytes_in, first_page, frame_count, frame_fault, kind_test, payload_length, payload_test, rest_test, room_test}
+use Rattle.cs_frame.specs.Pages.{magic_test, version_test}
+
+-- the faults that a frame may have
+abbrev pub IsInRange : FormatFault → Type 0
+IsInRange f = (20 ≤ fault_number f) × (fault_number f ≤ 24)
+
+-- a test that fails finds its fault
+fails_so : (b : Bool) (g f : FormatFault) → unless b g ≡ Some f → g ≡ f
+fails_so true g f h = absurd (cc h)
+fails_so false g f h = same_Some g f h
+
+digest_fails : (pages : List (List ℕ)) (f : FormatFault) → payload_test pages ≡ Some f → BadDigest ≡ f
+digest_fails pages f h = search fails_so
+
+-- one test more, that finds this fault if any
+more : (test : Option FormatFault) (g : FormatFault) (tests : List (Option FormatFault)) → ((f : FormatFault) → test ≡ Some f → g ≡ f) → IsInRange g → ((f : FormatFault) → first_fault tests ≡ Some f → IsInRange f) → (f : FormatFault) → first_fault (test ∷ tests) ≡ Some f → IsInRange f
+more None g tests own here rest f h = rest f h
+more (Some e) g tests own here rest f h = subst IsInRange (own f h) here
+
+pub in_range : (kind : ℕ) (pages : List (List ℕ)) (f : FormatFault) → frame_fault kind pages ≡ Some f → IsInRange f
+in_range kind pages =
+    let rest : List (Option FormatFault) = payload_test pages ∷ rest_test pages ∷ [] in
+    more (magic_test (codes "CSF") (first_page pages)) BadMagic (version_test (first_page pages) ∷ kind_test kind (first_page pages) ∷ room_test (first_page pages) (length pages) ∷ rest) (fails_so (bytes_eq (field 0 3 (first_page pages)) (codes "CSF")) BadMagic) (omega arith, omega arith)
+    (more (version_test (first_page pages)) BadVersion (kind_test kind (first_page pages) ∷ room_test (first_page pages) (length pages) ∷ rest) (fails_so (slice_index (first_page pages) 3 == 49) BadVersion) (omega arith, omega arith)
+    (more (kind_test kind (first_page pages)) BadVersion (room_test (first_page pages) (length pages) ∷ rest) (fails_so (slice_index (first_page pages) 4 == kind) BadVersion) (omega arith, omega arith)
+    (more (room_test (first_page pages) (length pages)) BadLength rest (fails_so (nat_le (frame_count pages) (length pages)) BadLength) (omega arith, omega arith)
+    (more (payload_test pages) BadDigest (rest_test pages ∷ []) (digest_fails pages) (omega arith, omega arith)
+    (more (rest_test pages) BadPadding [] (fails_so (all_zero (drop (41 + payload_length (first_page pages)) (bytes_in pages))) BadPadding) (omega arith, omega arith)
+    (λ f h. absurd (cc h)))))))
+
+pub same_number : (f : FormatFault) → number_of (refusal_for f) ≡ fault_number f
+same_number BadGeometry = refl
+same_number OutOfMemory = refl
+same_number BadMagic = refl
+same_number BadDigest = refl
+same_number BadLength = refl
+same_number BadPadding = refl
+same_number BadVersion = refl
+same_number OutOfOrder = refl
+
+-- the refusal of a fault that was found, unless memory ran out
+pub answered : (f : FormatFault) (found : Option FormatFault) (r : Refusal) → r ≡ refusal_for f → (f ≢ OutOfMemory → found ≡ Some f) → IsNoAnswer r ⊎ IsOfFault found r
+answered OutOfMemory found r is h = inl (inr is)
+answered BadGeometry found r is h = inr (BadGeometry, h (λ e. cc e), is)
+answered BadMagic found r is h = inr (BadMagic, h (λ e. cc e), is)
+answered BadDigest found r is h = inr (BadDigest, h (λ e. cc e), is)
+answered BadLength found r is h = inr (BadLength, h (λ e. cc e), is)
+answered BadPadding found r is h = inr (BadPadding, h (λ e. cc e), is)
+answered BadVersion found r is h = inr (BadVersion, h (λ e. cc e), is)
+answered OutOfOrder found r is h = inr (OutOfOrder, h (λ e. cc e), is)
+
+not_memory : (f : FormatFault) → IsInRange f → f ≢ OutOfMemory
+not_memory f r e = let same : fault_number f ≡ fault_number OutOfMemory = ap fault_number e in absurd (omega (arith, r.0, same))
+
+-- where it is none of the faults there is none
+pub none_found : (kind : ℕ) (pages : List (List ℕ)) → ((f : FormatFault) → f ≢ OutOfMemory → frame_fault kind pages ≡ Some f → ⊥) → frame_fault kind pages ≡ None
+none_found kind pages never = go (frame_fault kind pages) refl
+  where
+    go : (found : Option FormatFault) → frame_fault kind pages ≡ found → found ≡ None
+    go None is = refl
+    go (Some f) is = absurd (never f (not_memory f (in_range kind pages f is)) is)
+
+memory_or : (f : FormatFault) → (f ≡ OutOfMemory) ⊎ (f ≢ OutOfMemory)
+memory_or OutOfMemory = inl refl
+memory_or BadGeometry = inr (λ e. cc e)
+memory_or BadMagic = inr (λ e. cc e)
+memory_or BadDigest = inr (λ e. cc e)
+memory_or BadLength = inr (λ e. cc e)
+memory_or BadPadding = inr (λ e. cc e)
+memory_or BadVersion = inr (λ e. cc e)
+memory_or OutOfOrder = inr (λ e. cc e)
+
+-- so it is 9 or 20 to 24
+pub decode_refusal : (kind : ℕ) (pages : List (List ℕ)) (f : FormatFault) (r : Refusal) → r ≡ refusal_for f → (f ≢ OutOfMemory → frame_fault kind pages ≡ Some f) → (r ≡ NoMemory) ⊎ ((20 ≤ number_of r) × (number_of r ≤ 24))
+decode_refusal kind pages f r is h = ⊎_elim
+    (λ (e : f ≡ OutOfMemory). inl (is ∙ ap refusal_for e))
+    (λ (ne : f ≢ OutOfMemory).
+    let range = in_range kind pages f (h ne) in
+    let number : number_of r ≡ fault_number f = ap number_of is ∙ same_number f in
+    inr (omega (arith, number, range.0), omega (arith, number, range.1)))
+    (memory_or f)

@@ -1,0 +1,161 @@
+-- Frames in the pages from a place on.
+use Rattle.std.proofs.Common.{◌≡◌, ◌∙◌, ℕ, zero, suc, ◌+◌, ◌-◌, ◌<◌, ◌≤◌, List, [], ◌∷◌, length, take, get_or, Option, Some, None, Result, Ok, Err, MatchResult, IfOk, refl, sym, ap, subst, ⊎_elim, arith}
+use Rattle.std.specs.Prelude.{option_map}
+use Rattle.std.proofs.lemmas.List.{ext_get_or, get_or-take, length-take, length-take-le, take-take}
+use Rattle.cs_chunk.specs.Chunks.{IsFrameAt, kind_of}
+use Rattle.cs_chunk.specs.Newest.{AreNewest, IsReadAs}
+use Rattle.cs_chunk.specs.Reads.{AnswersFault, AreReadAs, IsFrameFront, IsNoAnswer, IsOfFault, fault_at, pages_at}
+use Rattle.cs_chunk.proofs.Chunkings.{length-spelled}
+use Rattle.cs_chunk.proofs.Newest.{reads_image, reads_newest}
+use Rattle.cs_deps.specs.declared.refusals.Refusal.{Refusal}
+use Rattle.cs_deps.specs.State.{IsNewestOn, NoneOn, State as Graph}
+use Rattle.cs_disk.specs.Disk.{Image, page}
+use Rattle.cs_extent.specs.State.{IsWhole, State, shape}
+use Rattle.cs_frame.specs.declared.faults.FormatFault.{FormatFault}
+use Rattle.cs_frame.specs.declared.frames.FrameKind.{FrameKind}
+use Rattle.cs_frame.specs.declared.frames.FrameKind.TheVariants.{Chunk, Run}
+use Rattle.cs_frame.specs.declared.locators.Locator.{Locator}
+use Rattle.cs_frame.specs.Formats.{formats_of, kind_number, refusal_of}
+use Rattle.cs_frame.specs.Frames.{SpellsFrame, first_page, frame_count, frame_fault, header_fault, kind_byte, page_count, payload_length, spelled_frame}
+use Rattle.cs_frame.proofs.FormatLaws.{is_format}
+use Rattle.cs_frame.proofs.FrameLaws.{fault_of_taken, header_first}
+use Rattle.cs_model.specs.Device.{Shape}
+use Rattle.cs_model.specs.Formats.{Formats, Stand, pages_from}
+
+-- what is read is what the view has
+pub reads_same : (g : Graph) (image : Image) (view : ℕ → List ℕ) (p : ℕ) (b : List ℕ) → AreNewest g image view → IsReadAs g image p b → b ≡ view p
+reads_same g image view p b are is = ⊎_elim
+    (λ (n : IsNewestOn g p b). sym (reads_newest g image view p b are n))
+    (λ (h : NoneOn g p × (b ≡ page image p)). h.1 ∙ sym (reads_image g image view p are h.0))
+    is
+
+length-from : (S : Shape) (F : Formats) (view : ℕ → List ℕ) (e p n : ℕ) → length (pages_from S F view e p n) ≡ n
+length-from S F view e p zero = refl
+length-from S F view e p (suc n) = ap suc (length-from S F view e (suc p) n)
+
+at_from : (S : Shape) (F : Formats) (view : ℕ → List ℕ) (e p n i : ℕ) → i < n → get_or (pages_from S F view e p n) i [] ≡ view (S.address e (p + i))
+at_from S F view e p zero i lt = absurd (omega (arith, lt))
+at_from S F view e p (suc n) zero lt = let same : p ≡ p + 0 = omega arith in ap (λ q. view (S.address e q)) same
+at_from S F view e p (suc n) (suc i) lt = let same : suc p + i ≡ p + suc i = omega arith in at_from S F view e (suc p) n i (omega (arith, lt)) ∙ ap (λ q. view (S.address e q)) same
+
+-- a list that the front of the pages is stands there
+stand_front : (S : Shape) (F : Formats) (view : ℕ → List ℕ) (e p n : ℕ) (bs : List (List ℕ)) → length bs ≤ n → take (length bs) (pages_from S F view e p n) ≡ bs → Stand S F view e p bs
+stand_front S F view e p n [] le is = tt
+stand_front S F view e p zero (b ∷ bs) le is = absurd (omega (arith, le))
+stand_front S F view e p (suc n) (b ∷ bs) le is =
+    let both : view (S.address e p) ∷ take (length bs) (pages_from S F view e (suc p) n) ≡ b ∷ bs = is in
+    let head : view (S.address e p) ≡ b = cc in
+    let tail : take (length bs) (pages_from S F view e (suc p) n) ≡ bs = cc in
+    (head, stand_front S F view e (suc p) n bs (omega (arith, le)) tail)
+
+same_kind : (kind : FrameKind) → kind_number (kind_of kind) ≡ kind_byte kind
+same_kind Chunk = refl
+same_kind Run = refl
+
+-- the frame of what pages spell has no more pages than they are
+pub fits_there : (S : Shape) (kind : FrameKind) (l : Locator) (pages : List (List ℕ)) (payload : List ℕ) → l.page + length pages ≤ S.pages → SpellsFrame (kind_byte kind) pages payload
+    → l.page + length ((formats_of S).frame (kind_of kind) payload) ≤ S.pages
+fits_there S kind l pages payload le spells =
+    subst (λ k. l.page + length (spelled_frame k payload) ≤ S.pages) (sym (same_kind kind))
+    (omega (arith, le, length-spelled (kind_byte kind) payload, ap length spells.spelled, length-take (page_count (length payload)) pages))
+
+pub all_fit : {V : Type 0} (S : Shape) (kind : FrameKind) (l : Locator) (pages : List (List ℕ)) (items : V → List ℕ) (result : Result V Refusal) → l.page + length pages ≤ S.pages → IfOk result (λ v. SpellsFrame (kind_byte kind) pages (items v))
+    → IfOk result (λ v. l.page + length ((formats_of S).frame (kind_of kind) (items v)) ≤ S.pages)
+all_fit S kind l pages items (Ok v) le spells = fits_there S kind l pages (items v) le spells
+all_fit S kind l pages items (Err r) le spells = tt
+
+module _ (x : State) (whole : IsWhole x) (view : ℕ → List ℕ) (kind : FrameKind) (l : Locator) (inside : l.page < x.pages) where
+  abbrev there : ℕ
+  there = x.pages - l.page
+
+  -- all pages from the place on
+  abbrev all : List (List ℕ)
+  all = pages_at (shape x) view l
+
+  length-all : length all ≡ x.pages - l.page
+  length-all = length-from (shape x) (formats_of (shape x)) view l.extent l.page (x.pages - l.page)
+
+  pub first_is : first_page all ≡ view ((shape x).address l.extent l.page)
+  first_is =
+      let same : l.page + 0 ≡ l.page = omega arith in
+      at_from (shape x) (formats_of (shape x)) view l.extent l.page (x.pages - l.page) 0 (omega (arith, inside)) ∙ ap (λ q. view ((shape x).address l.extent q)) same
+
+  module _ (g : Graph) (image : Image) (are : AreNewest g image view) (number : ℕ) (at : number ≡ (shape x).address l.extent l.page) (first : List ℕ) (read : IsReadAs g image number first) where
+    first_read : first_page all ≡ first
+    first_read = first_is ∙ ap view (sym at) ∙ sym (reads_same g image view number first are read)
+
+    -- what the header is refused for, the frame is
+    pub header_refused : (f : FormatFault) → header_fault (kind_byte kind) first (x.pages - l.page) ≡ Some f → fault_at (shape x) view kind l ≡ Some f
+    header_refused f is =
+        header_first (kind_byte kind) all f
+        (ap (λ b. header_fault (kind_byte kind) b (length all)) first_read ∙ ap (λ n. header_fault (kind_byte kind) first n) length-all ∙ is)
+
+    -- the pages that the header counts are the frame's
+    pub front_read : (pages : List (List ℕ)) (count : ℕ) → count ≡ page_count (payload_length first) → count ≤ x.pages - l.page → AreReadAs g image number count pages → IsFrameFront all pages
+    front_read pages count counted fits were =
+        let same : frame_count all ≡ count = ap (λ b. page_count (payload_length b)) first_read ∙ sym counted in
+        let long : length (take count all) ≡ count = length-take-le count all (omega (arith, fits, length-all)) in
+        record {
+          enough = omega (arith, same, fits, length-all);
+          taken = ext_get_or [] pages (take count all) (were.size ∙ sym long) (λ i lt. each i (omega (arith, lt, were.size)))
+              ∙ ap (λ n. take n all) (sym same);
+        }
+      where
+        each : (i : ℕ) → i < count → get_or pages i [] ≡ get_or (take count all) i []
+        each i lt =
+            let next : number + i ≡ (shape x).address l.extent (l.page + i) = omega (arith, at) in
+            reads_same g image view (number + i) (get_or pages i []) are (were.each i lt) ∙ ap view next
+            ∙ sym (get_or-take count all i [] lt ∙ at_from (shape x) (formats_of (shape x)) view l.extent l.page (x.pages - l.page) i (omega (arith, lt, fits)))
+
+    pub fronts_read : {V : Type 0} (items : V → List (List ℕ)) (result : Result V Refusal) (count : ℕ) → count ≡ page_count (payload_length first) → count ≤ x.pages - l.page → IfOk result (λ v. AreReadAs g image number count (items v)) → IfOk result (λ v. IsFrameFront all (items v))
+    fronts_read items (Ok v) count counted fits were = front_read (items v) count counted fits were
+    fronts_read items (Err r) count counted fits were = tt
+
+  module _ (pages : List (List ℕ)) (front : IsFrameFront all pages) where
+    -- these pages have the fault of all
+    pub same_fault : frame_fault (kind_byte kind) pages ≡ fault_at (shape x) view kind l
+    same_fault = ap (frame_fault (kind_byte kind)) front.taken ∙ fault_of_taken all (frame_count all) (omega arith) front.enough (kind_byte kind)
+
+    -- what they spell is a frame there
+    pub frame_there : (payload : List ℕ) → SpellsFrame (kind_byte kind) pages payload → IsFrameAt (shape x) view (kind_of kind) l payload
+    frame_there payload spells =
+        let n : ℕ = page_count (length payload) in
+        let size : length (spelled_frame (kind_byte kind) payload) ≡ page_count (length payload) = length-spelled (kind_byte kind) payload in
+        let is : take (page_count (length payload)) (take (frame_count all) all) ≡ spelled_frame (kind_byte kind) payload = ap (take (page_count (length payload))) (sym front.taken) ∙ spells.spelled in
+        let few : page_count (length payload) ≤ frame_count all = omega (arith, ap length is, size, length-take (page_count (length payload)) (take (frame_count all) all), length-take (frame_count all) all) in
+        let fits : page_count (length payload) ≤ x.pages - l.page = omega (arith, few, front.enough, length-all) in
+        let taken : take (length (spelled_frame (kind_byte kind) payload)) all ≡ spelled_frame (kind_byte kind) payload =
+        ap (λ k. take k all) size ∙ sym (take-take (page_count (length payload)) (frame_count all) all few) ∙ is in
+        subst (λ k. (l.page + length (spelled_frame k payload) ≤ x.pages) × Stand (shape x) (formats_of (shape x)) view l.extent l.page (spelled_frame k payload)) (sym (same_kind kind))
+        (omega (arith, size, fits, inside), stand_front (shape x) (formats_of (shape x)) view l.extent l.page (x.pages - l.page) (spelled_frame (kind_byte kind) payload) (omega (arith, size, fits)) taken)
+
+    pub frames_there : {V : Type 0} (items : V → List ℕ) (result : Result V Refusal) → IfOk result (λ v. SpellsFrame (kind_byte kind) pages (items v)) → IfOk result (λ v. IsFrameAt (shape x) view (kind_of kind) l (items v))
+    frames_there items (Ok v) spells = frame_there (items v) spells
+    frames_there items (Err r) spells = tt
+
+    pub answers : {V : Type 0} (result : Result V Refusal) → AnswersFault (frame_fault (kind_byte kind) pages) result → AnswersFault (fault_at (shape x) view kind l) result
+    answers result was = subst (λ found. AnswersFault found result) same_fault was
+
+  -- a frame that is there has no fault
+  pub no_fault_there : (payload : List ℕ) → IsFrameAt (shape x) view (kind_of kind) l payload → fault_at (shape x) view kind l ≡ None
+  no_fault_there payload at =
+      let law = is_format (length x.written) x.pages (length x.written) 1 (record { fewest_extents = whole.fewest_extents; most_extents = whole.most_extents; fewest_pages = whole.fewest_pages; most_pages = whole.most_pages }) in
+      ap (λ k. frame_fault k all) (sym (same_kind kind)) ∙ is_none (frame_fault (kind_number (kind_of kind)) all) (law.no_fault view l.extent l.page (kind_of kind) payload at.0 at.1)
+    where
+      is_none : (o : Option FormatFault) → option_map refusal_of o ≡ None → o ≡ None
+      is_none None h = refl
+      is_none (Some f) h = absurd (cc h)
+
+  pub one_frame : (a b : List ℕ) → IsFrameAt (shape x) view (kind_of kind) l a → IsFrameAt (shape x) view (kind_of kind) l b → a ≡ b
+  one_frame a b at bt =
+      let law = is_format (length x.written) x.pages (length x.written) 1 (record { fewest_extents = whole.fewest_extents; most_extents = whole.most_extents; fewest_pages = whole.fewest_pages; most_pages = whole.most_pages }) in
+      law.one_payload view l.extent l.page (kind_of kind) a b (omega (arith, at.0)) (omega (arith, bt.0)) at.1 bt.1
+
+  -- what is there is read
+  pub reads_it : {V : Type 0} (items : V → List ℕ) (result : Result V Refusal) (payload : List ℕ) → AnswersFault (fault_at (shape x) view kind l) result → IfOk result (λ v. IsFrameAt (shape x) view (kind_of kind) l (items v)) → IsFrameAt (shape x) view (kind_of kind) l payload
+      → MatchResult result (λ v. items v ≡ payload) IsNoAnswer
+  reads_it items (Ok v) payload answer at there = one_frame (items v) payload at there
+  reads_it items (Err r) payload answer at there = ⊎_elim
+      (λ (n : IsNoAnswer r). n)
+      (λ (f : IsOfFault (fault_at (shape x) view kind l) r). let none = no_fault_there payload there in absurd (cc (none, f.1)))
+      answer

@@ -1,0 +1,12 @@
+pub mod Pieces
+pub mod Chunkings
+pub mod Newest
+pub mod Appends
+pub mod Putting
+pub mod Planned
+pub mod Prepared
+pub mod FrameFaults
+pub mod OnlyRead
+pub mod Framed
+pub mod Sharded
+pub mod Staying

@@ -1,0 +1,45 @@
+-- Reads one after another.
+use Rattle.std.proofs.Common.{◌≡◌, ◌∙◌, ℕ, ◌+◌, ◌≤◌, List, sym, ap, subst, inl, inr, ⊎_elim, arith, ◌++◌, ◌∷◌, [], ◌<◌, get_or}
+use Rattle.std.proofs.lemmas.Bool.{cases_lt}
+use Rattle.std.proofs.lemmas.List.{get_or_append_left, get_or_push, length_push}
+use Rattle.cs_chunk.specs.Newest.{IsReadAs}
+use Rattle.cs_chunk.specs.Reads.{AreReadAs, OnlyReads}
+use Rattle.cs_deps.specs.State.{State as Graph}
+use Rattle.cs_disk.specs.Disk.{Image, MayLeave, State}
+
+module _ {D : Type 0} (honest : D → Type 0) (state : D → State) (page_count failure_count moment : D → ℕ) (left_since : D → ℕ → Image → Type 0) where
+  -- some reads, and some more
+  pub reads_on : (a b c : D) → OnlyReads honest state page_count failure_count moment left_since a b → OnlyReads honest state page_count failure_count moment left_since b c → OnlyReads honest state page_count failure_count moment left_since a c
+  reads_on a b c first more = record {
+    same = λ h. more.same (first.honesty.0 h) ∙ first.same h;
+    time = λ h.
+        let one = first.time h in
+        let two = more.time (first.honesty.0 h) in
+        let still = more.same (first.honesty.0 h) in
+        record {
+          later = omega (arith, one.later, two.later);
+          nothing_else = λ t i le left. ⊎_elim
+              (λ (was : left_since b t i). ⊎_elim (λ (w : left_since a t i). inl w) (λ (n : MayLeave (state b) i). inr (subst (λ (s : State). MayLeave s i) (sym still) n)) (one.nothing_else t i le was))
+              (λ (n : MayLeave (state c) i). inr n)
+              (two.nothing_else t i (omega (arith, le, one.later)) left);
+          keeps = λ t i le past. two.keeps t i (omega (arith, le, one.later)) (one.keeps t i le past);
+        };
+    honesty = ((λ h. more.honesty.0 (first.honesty.0 h)), (λ h. first.honesty.1 (more.honesty.1 h)));
+    pages = more.pages ∙ first.pages;
+    failures = omega (arith, first.failures, more.failures);
+  }
+
+-- one page more was read
+read_more : (g : Graph) (image : Image) (first count : ℕ) (pages : List (List ℕ)) (page : List ℕ) → AreReadAs g image first count pages → IsReadAs g image (first + count) page → AreReadAs g image first (count + 1) (pages ++ page ∷ [])
+read_more g image first count pages page was is = record {
+  size = length_push pages page ∙ ap (λ n. n + 1) was.size;
+  each = λ i lt. ⊎_elim
+      (λ (l : i < count). subst (IsReadAs g image (first + i)) (sym (get_or_append_left pages (page ∷ []) [] i (omega (arith, l, was.size)))) (was.each i l))
+      (λ (l : count ≤ i).
+      let here : i ≡ count = omega (arith, l, lt) in
+      subst (λ k. IsReadAs g image (first + k) (get_or (pages ++ page ∷ []) k [])) (sym here) (subst (IsReadAs g image (first + count)) (sym (get_or_push pages page [] count was.size)) is))
+      (cases_lt i count);
+}
+
+pub read_pushed : (g : Graph) (image : Image) (first count : ℕ) (pages new : List (List ℕ)) (page : List ℕ) → new ≡ pages ++ page ∷ [] → AreReadAs g image first count pages → IsReadAs g image (first + count) page → AreReadAs g image first (count + 1) new
+read_pushed g image first count pages new page pushed was is = subst (λ ps. AreReadAs g image first (count + 1) ps) (sym pushed) (read_more g image first count pages page was is)

@@ -1,0 +1,97 @@
+-- What a plan says of the chunks of a put.
+use Rattle.std.proofs.Common.{◌≡◌, ◌∙◌, ℕ, ◌*◌, ◌<◌, ◌⊎◌, List, length, refl, sym, ap, subst, ⊎_elim, arith}
+use Rattle.std.specs.Prelude.{◌↔◌, Result, Err}
+use Rattle.cs_chunk.specs.declared.cuts.Cut.{Cut}
+use Rattle.cs_chunk.specs.Chunks.{IsPutWorn}
+use Rattle.cs_chunk.specs.Cuts.{IsCut, pages_of, pieces}
+use Rattle.cs_chunk.proofs.Chunkings.{cut_chunked, cut_only, cut_pages}
+use Rattle.cs_deps.specs.declared.refusals.Refusal.{Refusal}
+use Rattle.cs_deps.specs.declared.refusals.Refusal.TheVariants.{Full, TooLarge, WornOut}
+use Rattle.cs_deps.specs.Staging.{Staging}
+use Rattle.cs_extent.specs.State.{IsWhole, State, extents_of, shape}
+use Rattle.cs_frame.specs.Formats.{formats_of}
+use Rattle.cs_model.specs.Append.{chunk_frames, page_counts}
+use Rattle.cs_model.specs.Device.{Shape}
+use Rattle.cs_model.specs.Events.{Chunked}
+use Rattle.cs_model.specs.Extents.{Fits, ForPut}
+
+module _ (x : State) (s : Staging) (bytes : List ℕ) (whole : IsWhole x) where
+  abbrev S : Shape
+  S = shape x
+
+  -- the pages of the frames of these chunks
+  abbrev pub counts : List (List ℕ) → List ℕ
+  counts cs = page_counts (chunk_frames (shape x) (formats_of (shape x)) cs)
+
+  abbrev pub IsTooLarge : Type 0
+  IsTooLarge = (shape x).most_chunks * (shape x).chunk_bytes < length bytes
+
+  abbrev pub IsFull : Type 0
+  IsFull = (IsTooLarge → ⊥) × ((cs : List (List ℕ)) → Chunked (shape x).chunk_bytes bytes cs → Fits (shape x) (extents_of x) ForPut (counts cs) → ⊥)
+
+  abbrev pub IsPutOut : Type 0
+  IsPutOut = (IsTooLarge → ⊥) × ((cs : List (List ℕ)) × Chunked (shape x).chunk_bytes bytes cs × Fits (shape x) (extents_of x) ForPut (counts cs) × IsPutWorn s (counts cs))
+
+  module _ (cut : Cut) (is : IsCut (shape x) (length bytes) cut) where
+    some_byte : 0 < cut.size
+    some_byte = omega (arith, is.size, whole.fewest_pages)
+
+    pub chunked : Chunked (shape x).chunk_bytes bytes (pieces cut.size cut.count bytes)
+    chunked = cut_chunked (shape x) bytes cut is some_byte refl
+
+    pub pages : counts (pieces cut.size cut.count bytes) ≡ pages_of cut
+    pages = cut_pages (shape x) bytes cut is some_byte refl
+
+    pub one_cut : (cs : List (List ℕ)) → Chunked (shape x).chunk_bytes bytes cs → cs ≡ pieces cut.size cut.count bytes
+    one_cut = cut_only (shape x) bytes cut is some_byte refl
+
+    pub only : (cs : List (List ℕ)) → Chunked (shape x).chunk_bytes bytes cs → counts cs ≡ pages_of cut
+    only cs h = ap (λ (ds : List (List ℕ)). counts ds) (one_cut cs h) ∙ pages
+
+    -- they fit, so it is not refused as full
+    pub not_full : {T : Type 0} (r : Result T Refusal) → (r ≡ Err Full → ⊥) → Fits (shape x) (extents_of x) ForPut (pages_of cut) → (r ≡ Err Full) ↔ IsFull
+    not_full r never fits = ((λ e. absurd (never e)), (λ h. absurd (h.1 (pieces cut.size cut.count bytes) chunked (subst (λ ks. Fits (shape x) (extents_of x) ForPut ks) (sym pages) fits))))
+
+    -- no number is worn out, so it is not refused so
+    pub not_worn_out : {T : Type 0} (r : Result T Refusal) → (r ≡ Err WornOut → ⊥) → (IsPutWorn s (pages_of cut) → ⊥) → (r ≡ Err WornOut) ↔ IsPutOut
+    not_worn_out r never fine = ((λ e. absurd (never e)), (λ h. absurd (fine (subst (λ ks. IsPutWorn s ks) (only h.1.0 h.1.1) h.1.3))))
+
+  -- what is refused
+  module _ (plan : Result Cut Refusal) (r : Refusal) (is : plan ≡ Err r) (large : (plan ≡ Err TooLarge) ↔ IsTooLarge)
+      (full : plan ≡ Err Full → (cut : Cut) × IsCut (shape x) (length bytes) cut × (Fits (shape x) (extents_of x) ForPut (pages_of cut) → ⊥))
+      (worn : plan ≡ Err WornOut → (cut : Cut) × IsCut (shape x) (length bytes) cut × Fits (shape x) (extents_of x) ForPut (pages_of cut) × IsPutWorn s (pages_of cut))
+      (refusals : (r ≡ TooLarge) ⊎ (r ≡ Full) ⊎ (r ≡ WornOut)) where
+    is_err : (q : Refusal) → r ≡ q → plan ≡ Err q
+    is_err q e = is ∙ ap (λ (u : Refusal). Err u) e
+
+    full_out : r ≡ Full → IsFull
+    full_out e =
+        let f = full (is_err Full e) in (
+          (λ t. let l : plan ≡ Err TooLarge = large.1 t in absurd (cc (l, is_err Full e))),
+          (λ cs h fits. f.2 (subst (λ ks. Fits (shape x) (extents_of x) ForPut ks) (only f.0 f.1 cs h) fits)),
+        )
+
+    worn_out : r ≡ WornOut → IsPutOut
+    worn_out e =
+        let f = worn (is_err WornOut e) in (
+          (λ t. let l : plan ≡ Err TooLarge = large.1 t in absurd (cc (l, is_err WornOut e))),
+          (pieces f.0.size f.0.count bytes, chunked f.0 f.1, subst (λ ks. Fits (shape x) (extents_of x) ForPut ks) (sym (pages f.0 f.1)) f.2, subst (λ ks. IsPutWorn s ks) (sym (pages f.0 f.1)) f.3),
+        )
+
+    out_full : IsFull → r ≡ Full
+    out_full h = ⊎_elim
+        (λ (l : r ≡ TooLarge). absurd (h.0 (large.0 (is_err TooLarge l))))
+        (λ (m : (r ≡ Full) ⊎ (r ≡ WornOut)). ⊎_elim (λ (e : r ≡ Full). e) (λ (e : r ≡ WornOut). let w = worn_out e in absurd (h.1 w.1.0 w.1.1 w.1.2)) m)
+        refusals
+
+    out_worn : IsPutOut → r ≡ WornOut
+    out_worn h = ⊎_elim
+        (λ (l : r ≡ TooLarge). absurd (h.0 (large.0 (is_err TooLarge l))))
+        (λ (m : (r ≡ Full) ⊎ (r ≡ WornOut)). ⊎_elim (λ (e : r ≡ Full). absurd ((full_out e).1 h.1.0 h.1.1 h.1.2)) (λ (e : r ≡ WornOut). e) m)
+        refusals
+
+    pub exit_full : {T : Type 0} (result : Result T Refusal) → result ≡ Err r → (result ≡ Err Full) ↔ IsFull
+    exit_full result same = ((λ e. full_out (cc (same, e))), (λ h. same ∙ ap (λ (q : Refusal). Err q) (out_full h)))
+
+    pub exit_worn : {T : Type 0} (result : Result T Refusal) → result ≡ Err r → (result ≡ Err WornOut) ↔ IsPutOut
+    exit_worn result same = ((λ e. worn_out (cc (same, e))), (λ h. same ∙ ap (λ (q : Refusal). Err q) (out_worn h)))

@@ -1,0 +1,7 @@
+use Rattle.cs_chunk.proofs.puts.plan.Goals as goal
+
+pub returns-then-not-fits-clause-full : goal.returns-then-not-fits-clause-full
+returns-then-not-fits-clause-full c = λ e. (c.in-Some.cut, c.in-Some.ensures, λ h. absurd (cc (c.if-not-fits.true, c.fits.ensures.1 h)))
+
+pub returns-then-is_worn-clause-worn : goal.returns-then-is_worn-clause-worn
+returns-then-is_worn-clause-worn c = λ e. (c.in-Some.cut, c.in-Some.ensures, c.fits.ensures.0 c.if-not-fits.false, c.is_worn.ensures.0 c.if-is_worn.true)

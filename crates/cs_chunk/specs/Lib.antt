@@ -1,0 +1,6 @@
+pub mod Chunks
+pub mod Cuts
+pub mod Newest
+pub mod Puts
+pub mod Reads
+pub mod Stays

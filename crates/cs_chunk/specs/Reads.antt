@@ -1,0 +1,81 @@
+-- Reads of frames: what they leave of the disk, and how they are refused.
+use Rattle.std.specs.Prelude.{◌≡◌, ◌⊎◌, ◌+◌, ◌-◌, ◌<◌, ◌≤◌, ◌↔◌, ℕ, List, [], Option, Some, None, Result, MatchResult, IsErrOf, length, slice_get, slice_index_or, take}
+use Rattle.cs_chunk.specs.Chunks.{AreChunksAt}
+use Rattle.cs_chunk.specs.Newest.{IsReadAs}
+use Rattle.cs_deps.specs.declared.refusals.Refusal.{Refusal}
+use Rattle.cs_deps.specs.declared.refusals.Refusal.TheVariants as refusal
+use Rattle.cs_deps.specs.Refusals.{number_of}
+use Rattle.cs_deps.specs.State.{State as Graph}
+use Rattle.cs_disk.specs.Disk.{Elapses, Image, Rises, State}
+use Rattle.cs_frame.specs.declared.faults.FormatFault.{FormatFault}
+use Rattle.cs_frame.specs.declared.faults.FormatFault.TheVariants as fault
+use Rattle.cs_frame.specs.declared.frames.FrameKind.{FrameKind}
+use Rattle.cs_frame.specs.declared.frames.FrameKind.TheVariants.{Chunk}
+use Rattle.cs_frame.specs.declared.locators.Locator.{Locator}
+use Rattle.cs_frame.specs.Formats.{formats_of}
+use Rattle.cs_frame.specs.Frames.{frame_count, frame_fault, kind_byte}
+use Rattle.cs_model.specs.Device.{Shape}
+use Rattle.cs_model.specs.Formats.{pages_from}
+
+-- the refusal with the number of a fault
+abbrev pub refusal_for : FormatFault → Refusal
+refusal_for fault.BadGeometry = refusal.BadGeometry
+refusal_for fault.OutOfMemory = refusal.OutOfMemory
+refusal_for fault.BadMagic = refusal.BadMagic
+refusal_for fault.BadDigest = refusal.BadDigest
+refusal_for fault.BadLength = refusal.BadLength
+refusal_for fault.BadPadding = refusal.BadPadding
+refusal_for fault.BadVersion = refusal.BadVersion
+refusal_for fault.OutOfOrder = refusal.OutOfOrder
+
+-- the device or memory refused
+abbrev pub IsNoAnswer : Refusal → Type 0
+IsNoAnswer r = (r ≡ refusal.DeviceFault) ⊎ (r ≡ refusal.OutOfMemory)
+
+-- the device or memory refused, or the frame is damaged: 1, 9 and 20 to 24
+abbrev pub IsReadRefusal : Refusal → Type 0
+IsReadRefusal r = IsNoAnswer r ⊎ ((20 ≤ number_of r) × (number_of r ≤ 24))
+
+-- the refusal is that of this fault, where there is one
+abbrev pub IsOfFault : Option FormatFault → Refusal → Type 0
+IsOfFault found r = (f : FormatFault) × (found ≡ Some f) × (r ≡ refusal_for f)
+
+-- Something was read, and there is no fault; or the refusal is that of the fault; or the device or memory refused.
+abbrev pub AnswersFault : {T : Type 0} → Option FormatFault → Result T Refusal → Type 0
+AnswersFault found result = MatchResult result (λ _. found ≡ None) (λ r. IsNoAnswer r ⊎ IsOfFault found r)
+
+-- what lies from a place to the end of its extent
+abbrev pub pages_at : Shape → (view : ℕ → List ℕ) → Locator → List (List ℕ)
+pages_at S view l = pages_from S (formats_of S) view l.extent l.page (S.pages - l.page)
+
+-- the first test that fails of the frame at a place
+abbrev pub fault_at : Shape → (view : ℕ → List ℕ) → FrameKind → Locator → Option FormatFault
+fault_at S view kind l = frame_fault (kind_byte kind) (pages_at S view l)
+
+-- the pages are those of the frame that the first of all pages begins, as many as its header counts
+pub record IsFrameFront (all pages : List (List ℕ)) : Type 0 where
+  pub enough : frame_count all ≤ length all
+  pub taken : pages ≡ take (frame_count all) all
+
+-- so many pages from number `first` on were read
+pub record AreReadAs (g : Graph) (image : Image) (first count : ℕ) (pages : List (List ℕ)) : Type 0 where
+  pub size : length pages ≡ count
+  pub each : (i : ℕ) → i < count → IsReadAs g image (first + i) (slice_index_or pages i [])
+
+-- 1 is answered only where the disk's count of failures rose, or stood at its end.
+pub record IsCaused {T : Type 0} (before now : ℕ) (result : Result T Refusal) : Type 0 where
+  pub later : before ≤ now
+  pub failed : IsErrOf result refusal.DeviceFault → Rises before now
+
+-- Nothing but reads was asked of the disk.
+pub record OnlyReads {D : Type 0} (honest : D → Type 0) (state : D → State) (page_count failure_count moment : D → ℕ) (left_since : D → ℕ → Image → Type 0) (old new : D) : Type 0 where
+  pub same : honest old → state new ≡ state old
+  pub time : honest old → Elapses (moment old) (moment new) (left_since old) (left_since new) (state new)
+  pub honesty : honest old ↔ honest new
+  pub pages : page_count new ≡ page_count old
+  pub failures : failure_count old ≤ failure_count new
+
+-- The chunks before place k are there, and the refusal is that of the fault at k; or the device or memory refused.
+abbrev pub IsOfChunk : Shape → (view : ℕ → List ℕ) → List Locator → Refusal → Type 0
+IsOfChunk S view ls r = IsNoAnswer r
+    ⊎ ((k : ℕ) × (l : Locator) × (cs : List (List ℕ)) × (slice_get ls k ≡ Some l) × AreChunksAt S view (take k ls) cs × IsOfFault (fault_at S view Chunk l) r)

@@ -1,0 +1,99 @@
+//! How the bytes of a put are cut in chunks.
+ghost use Rattle.std.specs.Prelude.{◌≡◌, ◌↔◌, ◌*◌, ◌+◌, ◌-◌, ◌^◌, ◌<◌, ◌≤◌, IfOk, IsTrue, MatchOption, length, map, sum};
+ghost use Rattle.cs_chunk.specs.Chunks.{IsPutWorn};
+ghost use Rattle.cs_chunk.specs.Cuts.{IsCut, pages_of, pieces};
+ghost use Rattle.cs_extent.specs.Frames.{root_family};
+ghost use Rattle.cs_extent.specs.State.{IsWhole, extents_of, shape};
+ghost use Rattle.cs_frame.specs.Frames.{spelled_frame};
+ghost use Rattle.cs_model.specs.Extents.{Fits, ForPut};
+
+use crate::cuts::Cut;
+use cs_deps::Graph;
+use cs_extent::{Extents, Purpose};
+use cs_frame::{FrameKind, encode_frame, frame_pages};
+use std::alloc::{AllocError, Global};
+
+/// The greatest number of a plain write or of a version.
+const LAST_NUMBER: u64 = 0x7fff_ffff_ffff_ffff;
+
+/// The bytes that a frame's page has before its payload.
+const HEADER: usize = 41;
+
+/// The most chunks of a shard.
+const MOST_CHUNKS: usize = 8;
+
+/// The most bytes of a chunk.
+fn chunk_bytes(extents: &Extents) -> usize
+    ensures bytes { result ≡ (shape extents.now).chunk_bytes }
+    ensures whole { IsWhole extents.now }
+{
+    // Its contract tells how many pages an extent may have.
+    extents.extent_count();
+    4096 * extents.extent_pages() - HEADER
+}
+
+impl Cut {
+    /// How so many bytes are cut, where they are not too many.
+    pub fn of(extents: &Extents, length: usize) -> Option<Cut>
+        ensures { MatchOption result ((shape extents.now).most_chunks * (shape extents.now).chunk_bytes < length) (IsCut (shape extents.now) length) }
+    {
+        let size = chunk_bytes(extents);
+        if MOST_CHUNKS * size < length {
+            return None;
+        }
+        let count = length.div_ceil(size).max(1);
+        Some(Cut {
+            size,
+            count,
+            pages: extents.extent_pages(),
+            last: frame_pages(length - (count - 1) * size),
+        })
+    }
+
+    /// The pages of all frames.
+    pub fn all_pages(self) -> usize
+        ensures sum { result ≡ sum (pages_of self) }
+        ensures small { result ≤ 2048 }
+    {
+        (self.count - 1) * self.pages + self.last
+    }
+
+    /// Whether the frames of these chunks find their places.
+    pub fn fits(self, extents: &Extents) -> bool
+        requires { self.pages ≡ (shape extents.now).pages }
+        ensures { IsTrue result ↔ Fits (shape extents.now) (extents_of extents.now) ForPut (pages_of self) }
+    {
+        let mut frames = [self.pages; MOST_CHUNKS];
+        frames[self.count - 1] = self.last;
+        extents.fits(&frames[..self.count], Purpose::Put)
+    }
+
+    /// Whether a number would pass the greatest.
+    pub fn is_worn(self, graph: &Graph) -> bool
+        requires { root_family < length graph.now.staging.latest }
+        ensures { IsTrue result ↔ IsPutWorn graph.now.staging (pages_of self) }
+    {
+        LAST_NUMBER < graph.last_plain().saturating_add(self.all_pages() as u64)
+            || LAST_NUMBER < graph.last_version(0).saturating_add(self.count as u64)
+    }
+}
+
+/// The frames of chunks, cut off the bytes one after another.
+pub fn encode_chunks(
+    alloc: Global,
+    bytes: &[u8],
+    size: usize,
+    count: usize,
+) -> Result<Vec<Vec<[u8; 4096]>>, AllocError>
+    requires { size < 2 ^ 32 }
+    ensures { IfOk result (λ frames. map (λ f. f.items) frames.items ≡ map (spelled_frame 0) (pieces size count bytes.now)) }
+{
+    let mut frames = Vec::with_capacity(alloc, count)?;
+    let mut rest = bytes;
+    for _ in 0..count {
+        let (chunk, behind) = rest.split_at(size.min(rest.len()));
+        frames.push(encode_frame(alloc, FrameKind::Chunk, chunk)?)?;
+        rest = behind;
+    }
+    Ok(frames)
+}

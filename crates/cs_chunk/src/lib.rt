@@ -1,0 +1,20 @@
+//! Shards as chunks: the bytes of a put are cut in chunks, each of which is a frame on the extents, and read back by the
+//! places of these frames.
+#![tactic(auto)]
+
+mod chunks;
+mod cuts;
+mod laws;
+mod puts;
+mod reads;
+mod refusals;
+mod shards;
+
+pub use laws::{pages_have_one_newest, what_was_put_stays};
+pub use puts::put_chunks;
+pub use reads::read_frame;
+pub use refusals::{refusal_of_disk, refusal_of_fault};
+pub use shards::read_chunks;
+
+#[cfg(test)]
+mod tests;

@@ -1,0 +1,171 @@
+//! Puts.
+ghost use Rattle.std.specs.Prelude.{◌≡◌, ◌↔◌, ◌⊎◌, ◌+◌, ◌*◌, ◌^◌, ◌<◌, ◌≤◌, ℕ, List, [], IfErr, IfOk, OnErr, OnOk, Err, length, map, sum, vec_capacity, vec_len};
+ghost use Rattle.cs_chunk.specs.Chunks.{AreChunksAt, IsPutWorn};
+ghost use Rattle.cs_chunk.specs.Cuts.{IsCut, pages_of, pieces};
+ghost use Rattle.cs_chunk.specs.Newest.{AreNewest};
+ghost use Rattle.cs_chunk.specs.Puts.{IsPutSoFar, MayPut};
+ghost use Rattle.cs_chunk.specs.declared.cuts.Cut.{Cut as Pieces};
+ghost use Rattle.cs_deps.specs.State.{IsWhole as IsWholeGraph};
+ghost use Rattle.cs_disk.specs.Disk.{Image};
+ghost use Rattle.cs_extent.specs.Appended.{AreAppended, IsAppended};
+ghost use Rattle.cs_extent.specs.Frames.{AreResetsStaged, IsWorn, root_family};
+ghost use Rattle.cs_extent.specs.State.{IsWhole, extents_of, shape};
+ghost use Rattle.cs_frame.specs.Formats.{formats_of};
+ghost use Rattle.cs_frame.specs.Frames.{spelled_frame};
+ghost use Rattle.cs_model.specs.Append.{chunk_frames, page_counts};
+ghost use Rattle.cs_model.specs.Events.{Chunked};
+ghost use Rattle.cs_model.specs.Extents.{Fits, ForPut, Placed};
+
+use crate::chunks::encode_chunks;
+use crate::cuts::Cut;
+use cs_deps::{Graph, Refusal};
+use cs_extent::{Extents, Purpose};
+use cs_frame::Locator;
+use std::alloc::{AllocError, Global};
+
+/// How the bytes of a put are cut, where nothing but memory can refuse them: 31 `TooLarge`, then 30 `Full`, then 35
+/// `WornOut`.
+fn plan(extents: &Extents, graph: &Graph, size: usize) -> Result<Cut, Refusal>
+    requires { root_family < length graph.now.staging.latest }
+    ensures whole { IsWhole extents.now }
+    ensures cut { IfOk result (IsCut (shape extents.now) size) }
+    ensures fits { IfOk result (λ cut. Fits (shape extents.now) (extents_of extents.now) ForPut (pages_of cut)) }
+    ensures numbers { IfOk result (λ cut. ¬ IsPutWorn graph.now.staging (pages_of cut)) }
+    ensures too_large { (result ≡ Err Refusal.TooLarge) ↔ ((shape extents.now).most_chunks * (shape extents.now).chunk_bytes < size) }
+    ensures full { result ≡ Err Refusal.Full → (cut : Pieces) × IsCut (shape extents.now) size cut × ¬ Fits (shape extents.now) (extents_of extents.now) ForPut (pages_of cut) }
+    ensures worn { result ≡ Err Refusal.WornOut → (cut : Pieces) × IsCut (shape extents.now) size cut
+        × Fits (shape extents.now) (extents_of extents.now) ForPut (pages_of cut) × IsPutWorn graph.now.staging (pages_of cut) }
+    ensures refusals { IfErr result (λ r. (r ≡ Refusal.TooLarge) ⊎ (r ≡ Refusal.Full) ⊎ (r ≡ Refusal.WornOut)) }
+{
+    // Its contract tells what all extents keep.
+    extents.extent_count();
+    let Some(cut) = Cut::of(extents, size) else {
+        return Err(Refusal::TooLarge);
+    };
+    if !cut.fits(extents) {
+        return Err(Refusal::Full);
+    }
+    if cut.is_worn(graph) {
+        return Err(Refusal::WornOut);
+    }
+    Ok(cut)
+}
+
+/// Appends a frame, where nothing refuses it.
+fn append_one(extents: &mut Extents, graph: &mut Graph, frame: &[[u8; 4096]]) -> Locator
+    requires families { root_family < length graph.old.staging.latest }
+    requires resets { AreResetsStaged (extents_of extents.old) graph.old.staging }
+    requires pages { (1 ≤ length frame.now) × (length frame.now ≤ (shape extents.old).pages) }
+    requires place { (e : ℕ) × Placed (shape extents.old) (extents_of extents.old) ForPut (length frame.now) e }
+    requires numbers { ¬ IsWorn graph.old.staging (length frame.now) }
+    requires room { length frame.now + 1 ≤ graph.old.room }
+    ensures appended { IsAppended extents.old graph.old ForPut frame.now result extents.new graph.new }
+    ensures whole { IsWholeGraph graph.new }
+    ensures resets { AreResetsStaged (extents_of extents.new) graph.new.staging }
+    ensures families { length graph.new.staging.latest ≡ length graph.old.staging.latest }
+    ensures room { graph.old.room ≤ graph.new.room + (length frame.now + 1) }
+{
+    match extents.append(graph, frame, Purpose::Put) {
+        Ok((place, _)) => {
+            graph.what_it_keeps();
+            place
+        }
+        Err(_) => unreachable!(),
+    }
+}
+
+/// Appends frames, one after another, where nothing refuses one of them.
+fn append_all(
+    extents: &mut Extents,
+    graph: &mut Graph,
+    frames: &[Vec<[u8; 4096]>],
+    places: &mut Vec<Locator>,
+)
+    requires may { MayPut extents.old graph.old (map (λ f. f.items) frames.now) }
+    requires none { places.old.items ≡ [] }
+    requires room { vec_len places.old + length frames.now ≤ vec_capacity places.old }
+    ensures { IsPutSoFar extents.old graph.old (map (λ f. f.items) frames.now) [] places.new.items extents.new graph.new }
+{
+    for k in 0..frames.len() {
+        let place = append_one(extents, graph, &frames[k]);
+        places.push_reserved(place);
+    }
+}
+
+/// The frames of the chunks, a place for each of their locators, and room for them in the graph.
+fn prepare(
+    alloc: Global,
+    extents: &Extents,
+    graph: &mut Graph,
+    bytes: &[u8],
+    cut: Cut,
+) -> Result<(Vec<Vec<[u8; 4096]>>, Vec<Locator>), AllocError>
+    requires { cut.size < 2 ^ 32 }
+    ensures frames { IfOk result (λ made. map (λ f. f.items) made.0.items ≡ map (spelled_frame 0) (pieces cut.size cut.count bytes.now)) }
+    ensures places { IfOk result (λ made. made.1.items ≡ []) }
+    ensures capacity { IfOk result (λ made. vec_len made.1 + cut.count ≤ vec_capacity made.1) }
+    ensures room { OnOk result (cut.count + sum (pages_of cut) ≤ graph.new.room) }
+    ensures kept { graph.old.room ≤ graph.new.room }
+    ensures rest { graph.new ≡ record graph.old { room = graph.new.room } }
+{
+    let frames = encode_chunks(alloc, bytes, cut.size, cut.count)?;
+    let places = Vec::with_capacity(alloc, cut.count)?;
+    extents.reserve(graph, cut.count, cut.all_pages())?;
+    Ok((frames, places))
+}
+
+/// Cuts bytes in chunks, one at least, all but the last as long as may be, and appends a frame of each for a put.
+/// Answers where the frames begin, in order.
+///
+/// A chunk has 4,096 bytes for each page of an extent, less 41, and there are at most eight: 31 `TooLarge` for more
+/// bytes. 30 `Full` where the frames find no places, 35 `WornOut` where a number would pass 2^63 - 1. 9 `OutOfMemory`
+/// comes last, and asks for the pages of all frames. After a refusal nothing is staged.
+pub fn put_chunks(
+    alloc: Global,
+    extents: &mut Extents,
+    graph: &mut Graph,
+    bytes: &[u8],
+) -> Result<Vec<Locator>, Refusal>
+    requires families { root_family < length graph.old.staging.latest }
+    requires resets { AreResetsStaged (extents_of extents.old) graph.old.staging }
+
+    // The frames of the chunks are appended, and read back.
+    ensures chunks { IfOk result (λ ls. (cs : List (List ℕ)) × Chunked (shape extents.old).chunk_bytes bytes.now cs
+        × AreAppended extents.old graph.old ForPut (chunk_frames (shape extents.old) (formats_of (shape extents.old)) cs) ls.items extents.new graph.new
+        × ((image : Image) (view : ℕ → List ℕ) → AreNewest graph.new image view → AreChunksAt (shape extents.old) view ls.items cs)) }
+    ensures few { IfOk result (λ ls. (1 ≤ length ls.items) × (length ls.items ≤ 8)) }
+    ensures shape { shape extents.new ≡ shape extents.old }
+
+    ensures too_large { (result ≡ Err Refusal.TooLarge) ↔ ((shape extents.old).most_chunks * (shape extents.old).chunk_bytes < length bytes.now) }
+    ensures full { (result ≡ Err Refusal.Full) ↔ (¬ ((shape extents.old).most_chunks * (shape extents.old).chunk_bytes < length bytes.now)
+        × ((cs : List (List ℕ)) → Chunked (shape extents.old).chunk_bytes bytes.now cs
+        → ¬ Fits (shape extents.old) (extents_of extents.old) ForPut (page_counts (chunk_frames (shape extents.old) (formats_of (shape extents.old)) cs)))) }
+    ensures worn { (result ≡ Err Refusal.WornOut) ↔ (¬ ((shape extents.old).most_chunks * (shape extents.old).chunk_bytes < length bytes.now)
+        × ((cs : List (List ℕ)) × Chunked (shape extents.old).chunk_bytes bytes.now cs
+        × Fits (shape extents.old) (extents_of extents.old) ForPut (page_counts (chunk_frames (shape extents.old) (formats_of (shape extents.old)) cs))
+        × IsPutWorn graph.old.staging (page_counts (chunk_frames (shape extents.old) (formats_of (shape extents.old)) cs)))) }
+    ensures refusals { IfErr result (λ r. (r ≡ Refusal.TooLarge) ⊎ (r ≡ Refusal.Full) ⊎ (r ≡ Refusal.WornOut) ⊎ (r ≡ Refusal.OutOfMemory)) }
+    ensures refused { OnErr result (extents.new ≡ extents.old) }
+    ensures unstaged { OnErr result (graph.new ≡ record graph.old { room = graph.new.room }) }
+
+    // Whatever the answer, the next append may be made.
+    ensures resets { AreResetsStaged (extents_of extents.new) graph.new.staging }
+    ensures families { length graph.new.staging.latest ≡ length graph.old.staging.latest }
+
+    // What is used up of the room: one staging a page, and one a frame.
+    ensures kept { OnErr result (graph.old.room ≤ graph.new.room) }
+    ensures room { (cs : List (List ℕ)) → Chunked (shape extents.old).chunk_bytes bytes.now cs
+        → graph.old.room ≤ graph.new.room + (length cs + sum (page_counts (chunk_frames (shape extents.old) (formats_of (shape extents.old)) cs))) }
+{
+    let cut = match plan(extents, graph, bytes.len()) {
+        Ok(cut) => cut,
+        Err(refusal) => return Err(refusal),
+    };
+    match prepare(alloc, extents, graph, bytes, cut) {
+        Ok((frames, mut places)) => {
+            append_all(extents, graph, &frames, &mut places);
+            Ok(places)
+        }
+        Err(_) => Err(Refusal::OutOfMemory),
+    }
+}

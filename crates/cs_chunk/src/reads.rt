@@ -1,0 +1,180 @@
+//! Reads of frames.
+ghost use Rattle.std.specs.Prelude.{◌≡◌, ◌↔◌, ◌⊎◌, ◌+◌, ◌*◌, ◌-◌, ◌^◌, ◌<◌, ◌≤◌, ℕ, List, IfErr, IfOk, MatchResult, OnOk, length, take};
+ghost use Rattle.cs_chunk.specs.Chunks.{IsFrameAt, kind_of};
+ghost use Rattle.cs_chunk.specs.Newest.{AreNewest, IsReadAs};
+ghost use Rattle.cs_chunk.specs.Reads.{AnswersFault, AreReadAs, IsCaused, IsFrameFront, IsNoAnswer, IsOfFault, IsReadRefusal, OnlyReads, fault_at, pages_at};
+ghost use Rattle.cs_deps.specs.Refusals.{number_of};
+ghost use Rattle.cs_disk.specs.Disk.{Elapses, seen};
+ghost use Rattle.cs_extent.specs.State.{IsWhole, shape};
+ghost use Rattle.cs_frame.specs.Formats.{formats_of};
+ghost use Rattle.cs_frame.specs.Frames.{SpellsFrame, frame_count, frame_fault, kind_byte};
+
+use crate::refusals::{refusal_of_disk, refusal_of_fault};
+use cs_deps::{Graph, Refusal};
+use cs_disk::PageDisk;
+use cs_extent::Extents;
+use cs_frame::{FrameKind, Locator, decode_frame, decode_frame_header};
+use std::alloc::Global;
+
+/// Reads a page: the newest waiting plain write to it, and where none waits what the device has.
+fn read_page<D: PageDisk>(
+    graph: &Graph,
+    disk: &mut D,
+    number: u64,
+    buffer: &mut [u8; 4096],
+) -> Result<(), Refusal>
+    requires { number < D.page_count disk.old }
+    ensures page { D.honest disk.old → OnOk result (IsReadAs graph.now (seen (D.state disk.old)) number buffer.new) }
+    ensures refusals { IfErr result IsNoAnswer }
+    ensures disk { OnlyReads D.honest D.state D.page_count D.failure_count D.moment D.left_since disk.old disk.new }
+    ensures cause { IsCaused (D.failure_count disk.old) (D.failure_count disk.new) result }
+{
+    if let Some(bytes) = graph.newest_on(number) {
+        *buffer = *bytes;
+        return Ok(());
+    }
+    match disk.read(number, buffer) {
+        Ok(()) => Ok(()),
+        Err(fault) => Err(refusal_of_disk(fault)),
+    }
+}
+
+/// Reads so many pages from a number on; the first of them was read already.
+fn read_pages<D: PageDisk>(
+    alloc: Global,
+    graph: &Graph,
+    disk: &mut D,
+    first: u64,
+    page: &[u8; 4096],
+    count: usize,
+) -> Result<Vec<[u8; 4096]>, Refusal>
+    requires there { first + count ≤ D.page_count disk.old }
+    requires some { 1 ≤ count }
+    requires small { first + count < 2 ^ 63 }
+    ensures pages { D.honest disk.old → IsReadAs graph.now (seen (D.state disk.old)) first page.now
+        → IfOk result (λ pages. AreReadAs graph.now (seen (D.state disk.old)) first count pages.items) }
+    ensures size { IfOk result (λ pages. length pages.items ≡ count) }
+    ensures refusals { IfErr result IsNoAnswer }
+    ensures disk { OnlyReads D.honest D.state D.page_count D.failure_count D.moment D.left_since disk.old disk.new }
+    ensures cause { IsCaused (D.failure_count disk.old) (D.failure_count disk.new) result }
+{
+    let mut pages = Vec::with_capacity(alloc, count)?;
+    pages.push_reserved(*page);
+    for i in 1..count {
+        let mut buffer = [0; 4096];
+        match read_page(graph, disk, first + i as u64, &mut buffer) {
+            Ok(()) => {}
+            Err(refusal) => return Err(refusal),
+        }
+        pages.push(buffer)?;
+    }
+    Ok(pages)
+}
+
+/// The number of the page of the device where a place lies.
+fn page_number(extents: &Extents, locator: Locator) -> u64
+    requires extent { locator.extent < (shape extents.now).extents }
+    requires page { locator.page < (shape extents.now).pages }
+    ensures number { result ≡ (shape extents.now).address locator.extent locator.page }
+    ensures inside { result + ((shape extents.now).pages - locator.page) ≤ 2 + (shape extents.now).extents * (shape extents.now).pages }
+    ensures small { result < 2 ^ 32 }
+    ensures whole { IsWhole extents.now }
+{
+    // Its contract tells how many pages an extent may have.
+    extents.extent_count();
+    let before = usize::from(locator.extent) * extents.extent_pages();
+    (2 + before + usize::from(locator.page)) as u64
+}
+
+/// The payload of the frame in these pages.
+fn decoded(alloc: Global, kind: FrameKind, pages: &[[u8; 4096]]) -> Result<Vec<u8>, Refusal>
+    requires { 0 < length pages.now }
+    ensures spelled { IfOk result (λ payload. SpellsFrame (kind_byte kind) pages.now payload.items) }
+    ensures fault { AnswersFault (frame_fault (kind_byte kind) pages.now) result }
+    ensures refusals { IfErr result (λ r. (r ≡ Refusal.OutOfMemory) ⊎ ((20 ≤ number_of r) × (number_of r ≤ 24))) }
+{
+    match decode_frame(alloc, kind, pages) {
+        Ok(payload) => Ok(payload),
+        Err(fault) => Err(refusal_of_fault(fault)),
+    }
+}
+
+/// The pages of the frame that begins at a place. The header's tests are made before the second page is read.
+fn frame_pages<D: PageDisk>(
+    alloc: Global,
+    extents: &Extents,
+    graph: &Graph,
+    disk: &mut D,
+    kind: FrameKind,
+    locator: Locator,
+) -> Result<Vec<[u8; 4096]>, Refusal>
+    requires extent { locator.extent < (shape extents.now).extents }
+    requires page { locator.page < (shape extents.now).pages }
+    requires device { 2 + (shape extents.now).extents * (shape extents.now).pages ≤ D.page_count disk.old }
+    ensures pages { D.honest disk.old → (view : ℕ → List ℕ) → AreNewest graph.now (seen (D.state disk.old)) view
+        → IfOk result (λ pages. IsFrameFront (pages_at (shape extents.now) view locator) pages.items) }
+    ensures fault { D.honest disk.old → (view : ℕ → List ℕ) → AreNewest graph.now (seen (D.state disk.old)) view
+        → IfErr result (λ r. IsNoAnswer r ⊎ IsOfFault (fault_at (shape extents.now) view kind locator) r) }
+    ensures some { IfOk result (λ pages. 0 < length pages.items) }
+    ensures fits { IfOk result (λ pages. locator.page + length pages.items ≤ (shape extents.now).pages) }
+    ensures refusals { IfErr result IsReadRefusal }
+    ensures whole { IsWhole extents.now }
+    ensures disk { OnlyReads D.honest D.state D.page_count D.failure_count D.moment D.left_since disk.old disk.new }
+    ensures cause { IsCaused (D.failure_count disk.old) (D.failure_count disk.new) result }
+{
+    let number = page_number(extents, locator);
+    let there = extents.extent_pages() - usize::from(locator.page);
+    let mut first = [0; 4096];
+    match read_page(graph, disk, number, &mut first) {
+        Ok(()) => {}
+        Err(refusal) => return Err(refusal),
+    }
+    match decode_frame_header(kind, &first, there) {
+        Ok(header) => read_pages(alloc, graph, disk, number, &first, header.pages()),
+        Err(fault) => Err(refusal_of_fault(fault)),
+    }
+}
+
+/// The payload of the frame that begins at a place. Each page is read once, the newest waiting write to it where there
+/// is one, and then the device isn't asked; the header's tests are made before the second page is read.
+///
+/// 20 `BadMagic`, 21 `BadDigest`, 22 `BadLength`, 23 `BadPadding` or 24 `BadVersion`, the first test that fails, where
+/// no frame of this kind begins there; 1 `DeviceFault` where a read failed; 9 `OutOfMemory`. The disk holds what it
+/// held.
+pub fn read_frame<D: PageDisk>(
+    alloc: Global,
+    extents: &Extents,
+    graph: &Graph,
+    disk: &mut D,
+    kind: FrameKind,
+    locator: Locator,
+) -> Result<Vec<u8>, Refusal>
+    requires extent { locator.extent < (shape extents.now).extents }
+    requires page { locator.page < (shape extents.now).pages }
+    requires device { 2 + (shape extents.now).extents * (shape extents.now).pages ≤ D.page_count disk.old }
+
+    // What is read is the payload of a frame there.
+    ensures payload { D.honest disk.old → (view : ℕ → List ℕ) → AreNewest graph.now (seen (D.state disk.old)) view
+        → IfOk result (λ payload. IsFrameAt (shape extents.now) view (kind_of kind) locator payload.items) }
+    // Where there is a frame its payload is read, unless the device or memory refuses.
+    ensures read { D.honest disk.old → (view : ℕ → List ℕ) (payload : List ℕ) → AreNewest graph.now (seen (D.state disk.old)) view
+        → IsFrameAt (shape extents.now) view (kind_of kind) locator payload → MatchResult result (λ found. found.items ≡ payload) IsNoAnswer }
+    // Each other refusal is that of the first test that fails.
+    ensures fault { D.honest disk.old → (view : ℕ → List ℕ) → AreNewest graph.now (seen (D.state disk.old)) view
+        → AnswersFault (fault_at (shape extents.now) view kind locator) result }
+    ensures refusals { IfErr result IsReadRefusal }
+    // Whatever the disk answers, the frame of what is read lies in the extent.
+    ensures size { IfOk result (λ payload. locator.page + length ((formats_of (shape extents.now)).frame (kind_of kind) payload.items) ≤ (shape extents.now).pages) }
+
+    ensures state { D.honest disk.old → D.state disk.new ≡ D.state disk.old }
+    ensures time { D.honest disk.old → Elapses (D.moment disk.old) (D.moment disk.new) (D.left_since disk.old) (D.left_since disk.new) (D.state disk.new) }
+    ensures honest { D.honest disk.old ↔ D.honest disk.new }
+    ensures pages { D.page_count disk.new ≡ D.page_count disk.old }
+    ensures cause { IsCaused (D.failure_count disk.old) (D.failure_count disk.new) result }
+    ensures whole { IsWhole extents.now }
+{
+    match frame_pages(alloc, extents, graph, disk, kind, locator) {
+        Ok(pages) => decoded(alloc, kind, &pages),
+        Err(refusal) => Err(refusal),
+    }
+}

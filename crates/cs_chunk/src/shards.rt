@@ -1,0 +1,59 @@
+//! Reads of shards.
+ghost use Rattle.std.specs.Prelude.{All, ◌≡◌, ◌↔◌, ◌⊎◌, ◌+◌, ◌*◌, ◌<◌, ◌≤◌, ℕ, List, IfErr, IfOk, MatchResult};
+ghost use Rattle.cs_chunk.specs.Chunks.{AreChunksAt};
+ghost use Rattle.cs_chunk.specs.Newest.{AreNewest};
+ghost use Rattle.cs_chunk.specs.Reads.{IsCaused, IsNoAnswer, IsOfChunk, IsReadRefusal};
+ghost use Rattle.cs_disk.specs.Disk.{Elapses, seen};
+ghost use Rattle.cs_extent.specs.State.{shape};
+ghost use Rattle.cs_model.specs.Index.{joined};
+
+use crate::reads::read_frame;
+use cs_deps::{Graph, Refusal};
+use cs_disk::PageDisk;
+use cs_extent::Extents;
+use cs_frame::{FrameKind, Locator};
+use std::alloc::Global;
+
+/// The bytes of the chunks whose frames begin at these places, one after another.
+///
+/// The first refusal that is met is answered: 20 to 24 as `read_frame` does, 1 `DeviceFault`, 9 `OutOfMemory`. No frame
+/// behind it is read.
+pub fn read_chunks<D: PageDisk>(
+    alloc: Global,
+    extents: &Extents,
+    graph: &Graph,
+    disk: &mut D,
+    locators: &[Locator],
+) -> Result<Vec<u8>, Refusal>
+    requires places { All (λ l. (l.extent < (shape extents.now).extents) × (l.page < (shape extents.now).pages)) locators.now }
+    requires device { 2 + (shape extents.now).extents * (shape extents.now).pages ≤ D.page_count disk.old }
+
+    // What is read is the bytes of chunks there.
+    ensures bytes { D.honest disk.old → (view : ℕ → List ℕ) → AreNewest graph.now (seen (D.state disk.old)) view
+        → IfOk result (λ bytes. (cs : List (List ℕ)) × AreChunksAt (shape extents.now) view locators.now cs × (bytes.items ≡ joined cs)) }
+    // Where there are chunks their bytes are read, unless the device or memory refuses.
+    ensures read { D.honest disk.old → (view : ℕ → List ℕ) (cs : List (List ℕ)) → AreNewest graph.now (seen (D.state disk.old)) view
+        → AreChunksAt (shape extents.now) view locators.now cs → MatchResult result (λ bytes. bytes.items ≡ joined cs) IsNoAnswer }
+    // Each other refusal is that of the first place that has no chunk.
+    ensures fault { D.honest disk.old → (view : ℕ → List ℕ) → AreNewest graph.now (seen (D.state disk.old)) view
+        → IfErr result (IsOfChunk (shape extents.now) view locators.now) }
+    ensures refusals { IfErr result IsReadRefusal }
+
+    ensures state { D.honest disk.old → D.state disk.new ≡ D.state disk.old }
+    ensures time { D.honest disk.old → Elapses (D.moment disk.old) (D.moment disk.new) (D.left_since disk.old) (D.left_since disk.new) (D.state disk.new) }
+    ensures honest { D.honest disk.old ↔ D.honest disk.new }
+    ensures pages { D.page_count disk.new ≡ D.page_count disk.old }
+    ensures cause { IsCaused (D.failure_count disk.old) (D.failure_count disk.new) result }
+{
+    let mut bytes = Vec::new(alloc);
+    // Its contract tells what all extents keep.
+    extents.extent_count();
+    for k in 0..locators.len() {
+        let locator = locators[k];
+        match read_frame(alloc, extents, graph, disk, FrameKind::Chunk, locator) {
+            Ok(chunk) => bytes.extend_from_slice(&chunk)?,
+            Err(refusal) => return Err(refusal),
+        }
+    }
+    Ok(bytes)
+}
