@@ -1,0 +1,11 @@
+pub mod Numbers
+pub mod Names
+pub mod Sorted
+pub mod Newest
+pub mod Merging
+pub mod Whole
+pub mod Spelled
+pub mod Rooted
+pub mod Merged
+pub mod Staging
+pub mod Exact

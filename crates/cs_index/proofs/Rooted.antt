@@ -1,0 +1,88 @@
+-- The next version of the root.
+use Rattle.std.proofs.Common.{◌≡◌, ℕ, ◌+◌, ◌<◌, ◌≤◌, List, [], ◌∷◌, ◌++◌, length, map, get_or, set, get_or-set_same, refl, sym, ap, subst, ◌∙◌, arith}
+use Rattle.std.specs.Prelude.{◌↔◌, reverse}
+use Rattle.std.proofs.lemmas.List.{length-set, map-append, reverse-append}
+use Rattle.cs_deps.specs.declared.elements.Element.{Element}
+use Rattle.cs_deps.specs.declared.elements.Element.TheVariants.{Plain, Version}
+use Rattle.cs_deps.specs.Named.{IsWithin, Named, Names, NamesFamily}
+use Rattle.cs_deps.specs.Staging.{IsVersionStaged, Staging}
+use Rattle.cs_deps.specs.State.{State as GraphState}
+use Rattle.cs_extent.proofs.Appending.{whatever_room}
+use Rattle.cs_extent.specs.Appended.{IsAppended}
+use Rattle.cs_extent.specs.Frames.{IsVersionUpTo, root_family, superblock_family}
+use Rattle.cs_extent.specs.State.{State as ExtentsState}
+use Rattle.cs_frame.specs.Formats.{as_locator, place_of}
+use Rattle.cs_frame.specs.declared.locators.Locator.{Locator}
+use Rattle.cs_index.specs.declared.runs.StoredRun.{StoredRun}
+use Rattle.cs_model.specs.Element.{Entry, Locator as Place, Run}
+use Rattle.cs_model.specs.Extents.{Purpose as Reason}
+use Rattle.cs_model.specs.Formats.{places}
+use Rattle.cs_index.specs.Staged.{IsRootOver, IsRunStaged, run_frame}
+use Rattle.cs_index.specs.State.{newest_first, run_of}
+
+pub within_versions : (d : Named) (staged : ℕ) (latest : List ℕ) → ((x : Element) → Names d x ↔ IsVersionUpTo superblock_family (get_or latest superblock_family 0) x) → IsWithin d staged latest
+within_versions d staged latest names (Plain n) h = absurd ((names (Plain n)).0 h)
+within_versions d staged latest names (Version f v) h =
+    let r = (names (Version f v)).0 h in subst (λ g. v ≤ get_or latest g 0) (sym r.0) r.2
+
+pub not_own_family : (d : Named) (version : ℕ) → ((x : Element) → Names d x ↔ IsVersionUpTo superblock_family version x) → NamesFamily d root_family → ⊥
+not_own_family d version names h = let r = (names (Version root_family h.0)).0 h.1 in omega (arith, r.0)
+
+module _ (old new : Staging) (v : ℕ) (d : Named) (staged : IsVersionStaged old root_family v d new) where
+  pub root_number : get_or old.latest root_family 0 + 1 ≡ v
+  root_number = omega (arith, staged.2, staged.3)
+
+  root_latest : new.latest ≡ set old.latest root_family v
+  root_latest = ap (λ (s : Staging). s.latest) staged.5
+
+  pub root_families : length new.latest ≡ length old.latest
+  root_families = ap length root_latest ∙ length-set old.latest root_family v
+
+  pub root_rises : root_family < length old.latest → get_or old.latest root_family 0 ≤ get_or new.latest root_family 0
+  root_rises lt =
+      let e : get_or new.latest root_family 0 ≡ v = ap (λ l. get_or l root_family 0) root_latest ∙ get_or-set_same old.latest root_family v 0 lt in
+      omega (arith, root_number, e)
+
+-- ---- the places of runs
+
+places_append : (xs ys : List Run) → places (xs ++ ys) ≡ places xs ++ places ys
+places_append [] ys = refl
+places_append (x ∷ xs) ys = ap (λ ls. x.place ∷ ls) (places_append xs ys)
+
+oldest_places : (older : List StoredRun) → map as_locator (reverse (places (newest_first older))) ≡ map (λ run. run.place) older
+oldest_places [] = refl
+oldest_places (run ∷ older) =
+    ap (λ ls. map as_locator (reverse ls)) (places_append (newest_first older) (run_of run ∷ []))
+    ∙ ap (map as_locator) (reverse-append (places (newest_first older)) (place_of run.place ∷ []))
+    ∙ ap (λ ls. run.place ∷ ls) (oldest_places older)
+
+newer_place : (older : List StoredRun) (place : Place) → map as_locator (reverse (place ∷ places (newest_first older))) ≡ map (λ run. run.place) older ++ as_locator place ∷ []
+newer_place older place =
+    ap (map as_locator) (reverse-append (place ∷ []) (places (newest_first older)))
+    ∙ map-append as_locator (reverse (places (newest_first older))) (place ∷ [])
+    ∙ ap (λ ls. ls ++ as_locator place ∷ []) (oldest_places older)
+
+-- a frame was appended and a root staged over the places of runs: a run was staged over them
+pub run_staged : (x : ExtentsState) (g k : GraphState) (reason : Reason) (entries : List Entry) (older : List StoredRun) (place : Locator) (v commands : ℕ) (y : ExtentsState) (h : GraphState)
+    (frame : List (List ℕ)) (oldest : List Locator) → k ≡ record g { room = k.room } → frame ≡ run_frame x entries → oldest ≡ map (λ run. run.place) older
+    → (between : GraphState) × IsAppended x k reason frame place y between × IsRootOver between h v commands (oldest ++ place ∷ [])
+    → IsRunStaged x g reason entries (newest_first older) (place_of place) v commands y h
+run_staged x g k reason entries older place v commands y h frame oldest same is are done = (
+  done.0,
+  subst (λ (f : List (List ℕ)). IsAppended x g reason f place y done.0) is (whatever_room x g k reason frame place y done.0 same done.1),
+  subst (λ (ls : List Locator). IsRootOver done.0 h v commands ls) (ap (λ (ls : List Locator). ls ++ place ∷ []) are ∙ sym (newer_place older (place_of place))) done.2,
+)
+
+-- a root over a graph that differs in room alone
+root_room : (g h : GraphState) (room v commands : ℕ) (ls : List Locator) → IsRootOver (record g { room = room }) h v commands ls → IsRootOver g h v commands ls
+root_room g h room v commands ls root = record {
+  needs = root.needs;
+  names = root.names;
+  version = root.version;
+  page = root.page;
+  others = root.others;
+  round = root.round;
+}
+
+pub root_over : (g k h : GraphState) (v commands : ℕ) (ls : List Locator) → k ≡ record g { room = k.room } → IsRootOver k h v commands ls → IsRootOver g h v commands ls
+root_over g k h v commands ls same root = root_room g h k.room v commands ls (subst (λ (s : GraphState). IsRootOver s h v commands ls) same root)

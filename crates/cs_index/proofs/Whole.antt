@@ -1,0 +1,219 @@
+-- What an index keeps.
+use Rattle.std.proofs.Common.{◌≡◌, ◌≢◌, inl, inr, ℕ, ◌+◌, ◌<◌, ◌≤◌, ◌^◌, ◌==◌, ◌&&◌, true, false, true≢false, List, [], ◌∷◌, ◌++◌, length, length-append, map, Bool, Option, Some, None, MatchBool, Vec, eq-eqb, ne_eqb, if◌then◌else◌, refl, sym, ap, ap₂, subst, ◌∙◌, arith}
+use Rattle.std.proofs.Common.{Bor}
+use Rattle.std.specs.Prelude.{IfSome, is_some, option_copied, option_map}
+use Rattle.std.specs.List.{AllByRecursion}
+use Rattle.std.specs.declared.alloc.Global.{Global}
+use Rattle.std.proofs.lemmas.Bool.{and_from, and_parts, cases_eq, eqb-true, ltb-true}
+use Rattle.std.proofs.lemmas.List.{length-map}
+use Rattle.cs_frame.specs.declared.identifiers.ShardId.{ShardId}
+use Rattle.cs_frame.specs.declared.locators.Locator.{Locator}
+use Rattle.cs_frame.specs.Runs.{IsRun, Rises, entries_of as spelled_entries}
+use Rattle.cs_index.specs.declared.runs.StoredRun.{StoredRun}
+use Rattle.cs_model.proofs.Counting.{lookup_here, lookup_there}
+use Rattle.cs_model.specs.Element.{Entry, Locator as Place, Run}
+use Rattle.cs_model.specs.Index.{Ascending, entries_of, lookup, names}
+use Rattle.cs_index.specs.Sorted.{IsPut}
+use Rattle.cs_frame.specs.Formats.{place_of}
+use Rattle.cs_index.specs.State.{IsId, IsSet, IsShort, IsStored, IsWhole, State, id_number, index_of, named_entry, newest_first, run_of, state_of}
+use Rattle.cs_index.proofs.Names.{names_of_lookups}
+use Rattle.cs_index.proofs.Newest.{all_newest, lookup_first, lookup_second, names_here, names_more}
+use Rattle.cs_index.proofs.Numbers.{before_is}
+use Rattle.cs_index.proofs.Sorted.{all_append}
+
+abbrev pub Entries : Type 0
+Entries = List (ShardId × Vec Locator Global)
+
+pub length-newest : (xs : List StoredRun) → length (newest_first xs) ≡ length xs
+length-newest [] = refl
+length-newest (x ∷ xs) = let e : length (newest_first xs) ≡ length xs = length-newest xs in let a : length (newest_first xs ++ run_of x ∷ []) ≡ length (newest_first xs) + 1 = length-append (newest_first xs) (run_of x ∷ []) in omega arith
+
+-- ---- short entries
+
+short_runs : (runs : List Run) → AllByRecursion IsStored runs → AllByRecursion IsShort (entries_of runs)
+short_runs [] all = tt
+short_runs (run ∷ runs) all = all_append IsShort run.entries (entries_of runs) all.0.2 (short_runs runs all.1)
+
+short_in : (xs : List Entry) (id : ℕ) (ls : List Place) → AllByRecursion IsShort xs → lookup id xs ≡ Some ls → length ls ≤ 8
+short_in [] id ls all is = absurd (let e : None ≡ Some ls = is in cc)
+short_in (x ∷ xs) id ls all is = elim (cases_eq x.id id) [
+  | inl here ↦ (let e : Some x.locators ≡ Some ls = sym (lookup_here x xs id here) ∙ is in let same : x.locators ≡ ls = cc in subst (λ (k : List Place). length k ≤ 8) same all.0)
+  | inr there ↦ short_in xs id ls all.1 (sym (lookup_there x xs id there) ∙ is)
+]
+
+pub short_lookup : (s : State) (id : ℕ) (ls : List Locator) → IsWhole s → Some (map place_of ls) ≡ lookup id (index_of s) → length ls ≤ 8
+short_lookup s id ls whole is =
+    let few : length (map place_of ls) ≤ 8 = short_in (index_of s) id (map place_of ls) (all_append IsShort s.table (entries_of s.runs) whole.short (short_runs s.runs whole.runs)) (sym is) in
+    omega (arith, length-map ls place_of)
+
+-- ---- places
+
+one_place : (l m : Locator) → place_of l ≡ place_of m → l ≡ m
+one_place l m is = λ i. record { extent = (is i).extent; page = (is i).page; generation = (is i).generation }
+
+pub one_places : (ls ms : List Locator) → map place_of ls ≡ map place_of ms → ls ≡ ms
+one_places [] [] is = refl
+one_places [] (m ∷ ms) is = cc
+one_places (l ∷ ls) [] is = cc
+one_places (l ∷ ls) (m ∷ ms) is =
+    let e : place_of l ∷ map place_of ls ≡ place_of m ∷ map place_of ms = is in
+    let here : place_of l ≡ place_of m = cc in
+    let more : map place_of ls ≡ map place_of ms = cc in
+    ap₂ (λ (x : Locator) (xs : List Locator). x ∷ xs) (one_place l m here) (one_places ls ms more)
+
+-- ---- runs that can be spelled
+
+ascending_of : (xs : Entries) → AllByRecursion (λ entry. IsId entry.0) xs → Rises (spelled_entries xs) → Ascending (map named_entry xs)
+ascending_of [] ids rises = tt
+ascending_of (x ∷ []) ids rises = tt
+ascending_of (x ∷ y ∷ xs) ids rises =
+    (ltb-true (id_number x.0) (id_number y.0) (sym (before_is x.0 y.0 ids.0 ids.1.0) ∙ rises.0), ascending_of (y ∷ xs) ids.1 rises.1)
+
+short_of : (xs : Entries) → AllByRecursion (λ entry. length entry.1.items ≤ 8) xs → AllByRecursion IsShort (map named_entry xs)
+short_of [] all = tt
+short_of (x ∷ xs) all = ((let e : length (map place_of x.1.items) ≡ length x.1.items = length-map x.1.items place_of in let few : length x.1.items ≤ 8 = all.0 in omega arith), short_of xs all.1)
+
+some_of : (xs : Entries) → 1 ≤ length xs → map named_entry xs ≢ []
+some_of [] some is = omega arith
+some_of (x ∷ xs) some is = cc
+
+stored_of : (runs : List StoredRun) → AllByRecursion (λ run. AllByRecursion (λ entry. IsId entry.0) run.entries.items) runs
+    → AllByRecursion (λ run. IsRun (record { entries = run.entries })) runs → AllByRecursion (λ run. IsStored (run_of run)) runs
+stored_of [] ids all = tt
+stored_of (run ∷ runs) ids all = (
+  (ascending_of run.entries.items ids.0 all.0.rising, some_of run.entries.items all.0.some, short_of run.entries.items all.0.counts),
+  stored_of runs ids.1 all.1,
+)
+
+pub stored_runs : (runs : List StoredRun) → AllByRecursion (λ run. AllByRecursion (λ entry. IsId entry.0) run.entries.items) runs
+    → AllByRecursion (λ run. IsRun (record { entries = run.entries })) runs → AllByRecursion IsStored (newest_first runs)
+stored_runs runs ids all = all_newest IsStored runs (stored_of runs ids all)
+
+pub lengths_of : (runs : List StoredRun) → AllByRecursion (λ run. IsRun (record { entries = run.entries })) runs → AllByRecursion (λ run. length run.entries.items < 2 ^ 32) runs
+lengths_of [] all = tt
+lengths_of (run ∷ runs) all = (all.0.most, lengths_of runs all.1)
+
+-- ---- an entry is put into the table
+
+same_first : (d : ℕ) (xs ys rest : List Entry) (o : Option (List Place)) → lookup d xs ≡ o → lookup d ys ≡ o → lookup d (ys ++ rest) ≡ lookup d (xs ++ rest)
+same_first d xs ys rest None a b = lookup_second d ys rest b ∙ sym (lookup_second d xs rest a)
+same_first d xs ys rest (Some ls) a b = lookup_first d ys rest ls b ∙ sym (lookup_first d xs rest ls a)
+
+put_index : (xs ys rest : List Entry) (id : ℕ) (ls : List Place) (d : ℕ) → IsPut xs id ls ys
+    → lookup d (ys ++ rest) ≡ (if id == d then Some ls else lookup d (xs ++ rest))
+put_index xs ys rest id ls d put = elim (cases_eq id d) [
+  | inl is ↦ (let test : (id == d) ≡ true = eq-eqb id d is in
+      lookup_first d ys rest ls (put.lookups d ∙ ap (λ b. if b then Some ls else lookup d xs) test) ∙ sym (ap (λ b. if b then Some ls else lookup d (xs ++ rest)) test))
+  | inr not ↦ (let test : (id == d) ≡ false = ne_eqb id d not in
+      same_first d xs ys rest _ refl (put.lookups d ∙ ap (λ b. if b then Some ls else lookup d xs) test) ∙ sym (ap (λ b. if b then Some ls else lookup d (xs ++ rest)) test))
+]
+
+some_is : (o : Option (List Place)) → o ≢ None → is_some o ≡ true
+some_is None not = absurd (not refl)
+some_is (Some ls) not = refl
+
+none_is : (o : Option (List Place)) → o ≡ None → is_some o ≡ false
+none_is o is = ap (λ (p : Option (List Place)). is_some p) is
+
+put_names : (xs ys rest : List Entry) (id named more : ℕ) (ls : List Place) (known : Bool) → IsPut xs id ls ys → named ≡ names (xs ++ rest)
+    → MatchBool known (lookup id (xs ++ rest) ≢ None) (lookup id (xs ++ rest) ≡ None)
+    → more ≡ (if known then named else named + 1) → more ≡ names (ys ++ rest)
+put_names xs ys rest id named more ls known put was is count =
+    by known is count ∙ sym (names_of_lookups (ys ++ rest) (record { id = id; locators = ls } ∷ (xs ++ rest)) (λ d. put_index xs ys rest id ls d put))
+  where
+    by : (b : Bool) → MatchBool b (lookup id (xs ++ rest) ≢ None) (lookup id (xs ++ rest) ≡ None) → more ≡ (if b then named else named + 1)
+        → more ≡ names (record { id = id; locators = ls } ∷ (xs ++ rest))
+    by true old count = count ∙ was ∙ sym (names_here (record { id = id; locators = ls }) (xs ++ rest) true (some_is _ old) refl)
+    by false new count = count ∙ ap (λ (n : ℕ). n + 1) was ∙ sym (names_more (record { id = id; locators = ls }) (xs ++ rest) (none_is _ new))
+
+within : (known : Bool) (named more limit : ℕ) (P : Type 0) (Q : Type 0) → MatchBool known P Q → (Q → named < limit) → named ≤ limit → more ≡ (if known then named else named + 1) → more ≤ limit
+within true named more limit P Q is lt le count = omega (arith, count, le)
+within false named more limit P Q is lt le count = omega (arith, count, lt is)
+
+module _ (xs ys : Entries) (runs : List StoredRun) (limit room left : ℕ) where
+  abbrev old : State
+  old = state_of xs runs limit room
+
+  abbrev new : State
+  new = state_of ys runs limit left
+
+  pub enter_set : (id : ℕ) (ls : List Place) → IsPut (map named_entry xs) id ls (map named_entry ys) → IsSet (state_of xs runs limit room) id ls (state_of ys runs limit left)
+  enter_set id ls put = record {
+    table = put.lookups;
+    index = λ d. put_index (map named_entry xs) (map named_entry ys) (entries_of (newest_first runs)) id ls d put;
+    runs = refl;
+    limit = refl;
+  }
+
+  pub enter_count : (id named more : ℕ) (ls : List Place) (known : Bool) → IsPut (map named_entry xs) id ls (map named_entry ys) → named ≡ names (index_of (state_of xs runs limit room))
+      → MatchBool known (lookup id (index_of (state_of xs runs limit room)) ≢ None) (lookup id (index_of (state_of xs runs limit room)) ≡ None)
+      → more ≡ (if known then named else named + 1) → more ≡ names (index_of (state_of ys runs limit left))
+  enter_count id named more ls known put was is count = put_names (map named_entry xs) (map named_entry ys) (entries_of (newest_first runs)) id named more ls known put was is count
+
+  pub enter_whole : (id named more : ℕ) (ls : List Place) (known : Bool) → IsPut (map named_entry xs) id ls (map named_entry ys) → length ls ≤ 8 → named ≡ names (index_of (state_of xs runs limit room))
+      → MatchBool known (lookup id (index_of (state_of xs runs limit room)) ≢ None) (lookup id (index_of (state_of xs runs limit room)) ≡ None)
+      → (lookup id (index_of (state_of xs runs limit room)) ≡ None → names (index_of (state_of xs runs limit room)) < limit)
+      → more ≡ (if known then named else named + 1) → IsWhole (state_of xs runs limit room) → IsWhole (state_of ys runs limit left)
+  enter_whole id named more ls known put few was is lt count whole =
+      let n : more ≡ names (index_of (state_of ys runs limit left)) = enter_count id named more ls known put was is count in
+      let most : more ≤ limit = within known named more limit _ _ is (λ none. (let l : names (index_of (state_of xs runs limit room)) < limit = lt none in omega arith)) (let w : names (index_of (state_of xs runs limit room)) ≤ limit = whole.named in omega arith) count in
+      record {
+        ascending = put.ascending;
+        short = put.short whole.short few;
+        runs = whole.runs;
+        few = whole.few;
+        named = omega arith;
+      }
+
+-- ---- what is looked up in the table and then in the runs
+
+pub index_first : (s : State) (xs : Entries) (id : ℕ) (ls : List Place) → map named_entry xs ≡ s.table → Some ls ≡ lookup id (map named_entry xs) → Some ls ≡ lookup id (index_of s)
+index_first s xs id ls same is = sym (lookup_first id s.table (entries_of s.runs) ls (ap (lookup id) (sym same) ∙ sym is))
+
+pub index_second : (s : State) (xs : Entries) (runs : List StoredRun) (id : ℕ) (o : Option (List Place)) → map named_entry xs ≡ s.table → newest_first runs ≡ s.runs → None ≡ lookup id (map named_entry xs)
+    → o ≡ lookup id (entries_of (newest_first runs)) → o ≡ lookup id (index_of s)
+index_second s xs runs id o same same' not is =
+    is ∙ ap (λ (rs : List Run). lookup id (entries_of rs)) same' ∙ sym (lookup_second id s.table (entries_of s.runs) (ap (lookup id) (sym same) ∙ sym not))
+
+pub empty_whole : (runs : List StoredRun) (limit named : ℕ) (xs : Entries) → xs ≡ [] → AllByRecursion IsStored (newest_first runs) → length runs ≤ 4 → named ≡ names (entries_of (newest_first runs)) → named ≤ limit
+    → IsWhole (state_of xs runs limit 0) × (named ≡ names (index_of (state_of xs runs limit 0)))
+empty_whole runs limit named xs none stored few is le =
+    subst (λ (ys : Entries). IsWhole (state_of ys runs limit 0) × (named ≡ names (index_of (state_of ys runs limit 0)))) (sym none) (
+      record {
+        ascending = tt;
+        short = tt;
+        runs = stored;
+        few = (let e : length (newest_first runs) ≡ length runs = length-newest runs in omega arith);
+        named = omega arith;
+      },
+      is,
+    )
+
+pub same_locators : (found other : List Locator) (o : Option (List Place)) (b : Bool) → Some (map place_of found) ≡ o → ((b ≡ true → found ≡ other) × (found ≡ other → b ≡ true))
+    → MatchBool b (o ≡ Some (map place_of other)) (o ≢ Some (map place_of other))
+same_locators found other o true is decides = sym is ∙ ap (λ (ls : List Locator). Some (map place_of ls)) (decides.0 refl)
+same_locators found other o false is decides = λ same.
+    let e : Some (map place_of found) ≡ Some (map place_of other) = is ∙ same in
+    let places : map place_of found ≡ map place_of other = cc in
+    true≢false (sym (decides.1 (one_places found other places)))
+
+pub short_found : (s : State) (id : ℕ) (o : Option (Bor (List Locator))) → IsWhole s → option_map (map place_of) (option_copied o) ≡ lookup id (index_of s) → IfSome o (λ ls. length ls.now ≤ 8)
+short_found s id None whole is = tt
+short_found s id (Some ls) whole is = short_lookup s id ls.now whole is
+
+pub no_ids : (xs : Entries) → xs ≡ [] → AllByRecursion (λ entry. IsId entry.0) xs
+no_ids xs is = subst (λ (ys : Entries). AllByRecursion (λ entry. IsId entry.0) ys) (sym is) tt
+
+-- the comparison of two locators decides whether they are the same
+pub locators_decide : (a b : Locator) → (((a.extent == b.extent) && ((a.page == b.page) && (a.generation == b.generation))) ≡ true → a ≡ b)
+    × (a ≡ b → ((a.extent == b.extent) && ((a.page == b.page) && (a.generation == b.generation))) ≡ true)
+locators_decide a b = (
+  (λ h. let first = and_parts (a.extent == b.extent) ((a.page == b.page) && (a.generation == b.generation)) h in
+      let second = and_parts (a.page == b.page) (a.generation == b.generation) first.1 in
+      let extent : a.extent ≡ b.extent = eqb-true a.extent b.extent first.0 in
+      let page : a.page ≡ b.page = eqb-true a.page b.page second.0 in
+      let generation : a.generation ≡ b.generation = eqb-true a.generation b.generation second.1 in
+      λ i. record { extent = extent i; page = page i; generation = generation i }),
+  (λ is. and_from _ _ (eq-eqb a.extent b.extent (ap (λ (l : Locator). l.extent) is))
+      (and_from _ _ (eq-eqb a.page b.page (ap (λ (l : Locator). l.page) is)) (eq-eqb a.generation b.generation (ap (λ (l : Locator). l.generation) is)))),
+)

@@ -1,0 +1,31 @@
+use Rattle.std.proofs.Common.{◌∙◌, ◌<◌, ◌^◌, ap, arith, length, subst, sym, List}
+use Rattle.std.specs.List.{AllByRecursion}
+use Rattle.cs_index.specs.declared.runs.StoredRun.{StoredRun}
+use Rattle.cs_model.specs.Index.{entries_of, names}
+use Rattle.cs_index.specs.State.{IsId, IsStored, newest_first}
+use Rattle.cs_index.proofs.Whole.{empty_whole, lengths_of, no_ids, stored_runs}
+use Rattle.cs_index.proofs.indexes.Index.load.Goals as goal
+use Rattle.cs_index.proofs.indexes.Index.load.Goals.{After-deref-2}
+
+stored : (c : After-deref-2) → AllByRecursion IsStored (newest_first c.args.runs.items)
+stored c =
+    stored_runs c.args.runs.items
+    (subst (λ (runs : List StoredRun). AllByRecursion (λ run. AllByRecursion (λ entry. IsId entry.0) run.entries.items) runs) c.deref.ensures.value c.check_ids.ensures) c.requires.runs
+
+pub count_names-named-requires-clause-stored : goal.count_names-named-requires-clause-stored
+count_names-named-requires-clause-stored c = subst (λ (runs : List StoredRun). AllByRecursion IsStored (newest_first runs)) (sym c.deref-2.ensures.value) (stored c)
+
+pub count_names-named-requires-clause-short : goal.count_names-named-requires-clause-short
+count_names-named-requires-clause-short c =
+    subst (λ (runs : List StoredRun). AllByRecursion (λ run. length run.entries.items < 2 ^ 32) runs) (sym c.deref-2.ensures.value) (lengths_of c.args.runs.items c.requires.runs)
+
+pub invariant_of-result : goal.invariant_of-result
+invariant_of-result c =
+    let all = empty_whole c.args.runs.items c.args.limit c.count_names-named.result c.new.result.items c.new.ensures.items (stored (goal.at.invariant_of-result c).After-deref-2) c.requires.few
+    (c.count_names-named.ensures ∙ ap (λ (runs : List StoredRun). names (entries_of (newest_first runs))) c.deref-2.ensures.value) c.if-limit-named.false in
+    record {
+      whole = all.0;
+      ids = no_ids c.new.result.items c.new.ensures.items;
+      count = all.1;
+      fits = omega (arith, c.new.ensures.len);
+    }

@@ -1,0 +1,105 @@
+-- What staging an index does to the extents and to the graph.
+use Rattle.std.specs.Prelude.{◌≡◌, ◌≢◌, ◌⊎◌, ◌↔◌, ◌+◌, ◌^◌, ◌<◌, ◌≤◌, ◌∷◌, ℕ, List, [], Some, Result, Ok, Err, length, map, reverse, slice_index}
+use Rattle.cs_deps.specs.declared.elements.Element.{Element}
+use Rattle.cs_deps.specs.declared.elements.Element.TheVariants.{Version}
+use Rattle.cs_deps.specs.declared.refusals.Refusal.{Refusal}
+use Rattle.cs_deps.specs.declared.refusals.Refusal.TheVariants.{Full, OutOfMemory, WornOut}
+use Rattle.cs_deps.specs.Named.{Named, Names}
+use Rattle.cs_deps.specs.Staging.{IsVersionStaged, Staging}
+use Rattle.cs_deps.specs.State.{KeepsOthers, State as GraphState, write_of}
+use Rattle.cs_extent.specs.Appended.{IsAppended}
+use Rattle.cs_extent.specs.Frames.{IsVersionUpTo, IsWorn, root_family, superblock_family}
+use Rattle.cs_extent.specs.State.{State as ExtentsState, extents_of, shape}
+use Rattle.cs_frame.specs.declared.locators.Locator.{Locator}
+use Rattle.cs_frame.specs.Formats.{as_locator, formats_of}
+use Rattle.cs_frame.specs.Roots.{SpellsRoot}
+use Rattle.cs_model.specs.Element.{Entry, Locator as Place, Run}
+use Rattle.cs_model.specs.Extents.{ForRun, NoPlace, Purpose as Reason}
+use Rattle.cs_model.specs.Formats.{RunFrame, places}
+use Rattle.cs_model.specs.Index.{IsMergedRun, IsTableRun, live_at}
+use Rattle.cs_index.specs.State.{State, index_of}
+
+-- the pages of a run's frame
+unfoldable pub run_frame : ExtentsState → List Entry → List (List ℕ)
+run_frame x entries = (formats_of (shape x)).frame RunFrame ((formats_of (shape x)).run entries)
+
+-- the frame of a run was appended at a place
+abbrev pub IsRunAppended : ExtentsState → GraphState → Reason → List Entry → Place → ExtentsState → GraphState → Type 0
+IsRunAppended x g reason entries place y h = IsAppended x g reason (run_frame x entries) (as_locator place) y h
+
+-- The next version of the root was staged to page 1: its page spells so many commands and the runs at these places,
+-- oldest first. It needs all versions of the superblock so far, and nothing else of its own.
+pub record IsRootOver (g h : GraphState) (v commands : ℕ) (oldest_first : List Locator) : Type 0 where
+  pub needs : Named
+  pub names : (x : Element) → Names needs x ↔ IsVersionUpTo superblock_family (slice_index g.staging.latest superblock_family) x
+  pub version : IsVersionStaged g.staging root_family v needs h.staging
+  pub page : (page : List ℕ) × (write_of h (Version root_family v) ≡ Some (1, page)) × SpellsRoot page v commands oldest_first
+  pub others : KeepsOthers g h (Version root_family v)
+  pub round : h.round ≡ g.round
+
+-- the root over these runs was staged
+abbrev pub IsRootStaged : GraphState → GraphState → (v commands : ℕ) → List Run → Type 0
+IsRootStaged g h v commands runs = IsRootOver g h v commands (map as_locator (reverse (places runs)))
+
+-- the frame of a run was appended, and the root over it and over the older runs was staged
+abbrev pub IsRunStaged : ExtentsState → GraphState → Reason → List Entry → (older : List Run) → Place → (v commands : ℕ) → ExtentsState → GraphState → Type 0
+IsRunStaged x g reason entries older place v commands y h = (between : GraphState)
+    × IsRunAppended x g reason entries place y between × IsRootStaged between h v commands (record { place = place; entries = entries } ∷ older)
+
+-- The table became a run over those before, and the root over all of them was staged.
+pub record IsTableStaged (s : State) (x : ExtentsState) (g : GraphState) (v commands : ℕ) (t : State) (y : ExtentsState) (h : GraphState) : Type 0 where
+  pub entries : List Entry
+  pub place : Place
+  pub run : IsTableRun s.table entries
+  pub staged : IsRunStaged x g ForRun entries s.runs place v commands y h
+  pub table : t.table ≡ []
+  pub runs : t.runs ≡ record { place = place; entries = entries } ∷ s.runs
+  pub limit : t.limit ≡ s.limit
+
+-- one run of all that is live was appended, or none where nothing is
+abbrev pub IsMergeAppended : List Entry → ExtentsState → GraphState → Reason → List Run → ExtentsState → GraphState → Type 0
+IsMergeAppended index x g reason runs y h =
+    ((entries : List Entry) × (place : Place) × (entries ≢ []) × IsMergedRun index entries × IsRunAppended x g reason entries place y h
+    × (runs ≡ record { place = place; entries = entries } ∷ []))
+    ⊎ (((id : ℕ) → live_at index id ≡ []) × (y ≡ x) × (h ≡ g) × (runs ≡ []))
+
+-- The whole index became one run, or none where nothing is live, and the root over it was staged.
+pub record IsMergeStaged (s : State) (x : ExtentsState) (g : GraphState) (reason : Reason) (v commands : ℕ) (t : State) (y : ExtentsState) (h : GraphState) : Type 0 where
+  pub between : GraphState
+  pub appended : IsMergeAppended (index_of s) x g reason t.runs y between
+  pub root : IsRootStaged between h v commands t.runs
+  pub table : t.table ≡ []
+  pub limit : t.limit ≡ s.limit
+
+-- the run of all that is live, if anything is
+abbrev pub WritesMerged : State → List Entry → Type 0
+WritesMerged s entries = IsMergedRun (index_of s) entries × (entries ≢ [])
+
+-- the run that staging writes: the table's where fewer than four stand, else the one of all that is live
+abbrev pub WritesRun : State → List Entry → Type 0
+WritesRun s entries = (s.table ≢ []) × (((length s.runs < 4) × IsTableRun s.table entries) ⊎ ((4 ≤ length s.runs) × WritesMerged s entries))
+
+-- a run is to be written, and no extent takes its pages
+abbrev pub IsFull : (List Entry → Type 0) → ExtentsState → Reason → Type 0
+IsFull Writes x reason = (entries : List Entry) × Writes entries × NoPlace (shape x) (extents_of x) reason (length (run_frame x entries))
+
+-- the root's number would pass 2^63 - 1
+abbrev pub IsRootWorn : Staging → Type 0
+IsRootWorn s = 2 ^ 63 ≤ slice_index s.latest root_family + 1
+
+-- the root's number would pass 2^63 - 1, or a run is to be written and one of its plain writes' or the superblock's would
+abbrev pub IsStageWorn : (List Entry → Type 0) → ExtentsState → Staging → Type 0
+IsStageWorn Writes x s = IsRootWorn s ⊎ ((entries : List Entry) × Writes entries × IsWorn s (length (run_frame x entries)))
+
+-- why a call was refused: 30 where there was no place, 35 where there was one and a number would pass its greatest,
+-- and 9 whenever memory ran out
+abbrev pub IsWhy : Refusal → (full worn : Type 0) → Type 0
+IsWhy Full full worn = full
+IsWhy WornOut full worn = (full → ⊥) × worn
+IsWhy OutOfMemory full worn = Unit {0}
+IsWhy _ full worn = ⊥
+
+-- a call gave what it gives exactly where neither holds, unless memory ran out
+abbrev pub IsExact : {T : Type 0} → Result T Refusal → (full worn : Type 0) → Type 0
+IsExact (Ok x) full worn = (full → ⊥) × (worn → ⊥)
+IsExact (Err refusal) full worn = IsWhy refusal full worn

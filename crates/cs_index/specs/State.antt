@@ -1,0 +1,93 @@
+-- What an index is, in the words of the store's machine.
+use Rattle.std.specs.Prelude.{◌≡◌, ◌≢◌, ℕ, ◌+◌, ◌<◌, ◌≤◌, ◌==◌, List, [], ◌∷◌, ◌++◌, Option, Some, None, length, map, Vec, if◌then◌else◌}
+use Rattle.std.specs.List.{AllByRecursion}
+use Rattle.std.specs.declared.alloc.Global.{Global}
+use Rattle.byteorder.specs.Endian.{big_number}
+use Rattle.cs_frame.specs.Bytes.{IsBytes}
+use Rattle.cs_frame.specs.declared.identifiers.ShardId.{ShardId}
+use Rattle.cs_frame.specs.declared.locators.Locator.{Locator}
+use Rattle.cs_frame.specs.Formats.{place_of}
+use Rattle.cs_index.specs.declared.runs.StoredRun.{StoredRun}
+use Rattle.cs_model.specs.Element.{Entry, Locator as Place, Run}
+use Rattle.cs_model.specs.Index.{Ascending, entries_of, lookup, names}
+
+-- an identifier as a number, its first byte the highest
+unfoldable pub id_number : ShardId → ℕ
+id_number id = big_number 16 id.0
+
+-- sixteen bytes
+pub record IsId (id : ShardId) : Type 0 where
+  pub bytes : IsBytes id.0
+  pub size : length id.0 ≡ 16
+
+-- an entry and a run as the machine has them
+abbrev pub named_entry : ShardId × Vec Locator Global → Entry
+named_entry entry = record { id = id_number entry.0; locators = map place_of entry.1.items }
+
+abbrev pub run_of : StoredRun → Run
+run_of run = record { place = place_of run.place; entries = map named_entry run.entries.items }
+
+-- runs that are listed oldest first, newest first
+abbrev pub newest_first : List StoredRun → List Run
+newest_first [] = []
+newest_first (run ∷ runs) = newest_first runs ++ run_of run ∷ []
+
+pub record State : Type 0 where
+  -- the entries that no run has yet
+  pub table : List Entry
+  -- the runs, newest first
+  pub runs : List Run
+  -- how many identifiers may be named
+  pub limit : ℕ
+  -- so many more entries of the table will ask for no memory
+  pub room : ℕ
+
+-- all entries, the last of each identifier first
+abbrev pub index_of : State → List Entry
+index_of s = s.table ++ entries_of s.runs
+
+-- an entry has at most eight locators
+abbrev pub IsShort : Entry → Type 0
+IsShort x = length x.locators ≤ 8
+
+-- the entries of a run: some, by rising identifiers
+abbrev pub IsStored : Run → Type 0
+IsStored run = Ascending run.entries × (run.entries ≢ []) × AllByRecursion IsShort run.entries
+
+-- what every index keeps
+pub record IsWhole (s : State) : Type 0 where
+  pub ascending : Ascending s.table
+  pub short : AllByRecursion IsShort s.table
+  pub runs : AllByRecursion IsStored s.runs
+  pub few : length s.runs ≤ 4
+  pub named : names (index_of s) ≤ s.limit
+
+-- An identifier has other locators, in the table and so in the whole index, and nothing else changed but the room.
+pub record IsSet (old : State) (id : ℕ) (locators : List Place) (new : State) : Type 0 where
+  pub table : (d : ℕ) → lookup d new.table ≡ (if id == d then Some locators else lookup d old.table)
+  pub index : (d : ℕ) → lookup d (index_of new) ≡ (if id == d then Some locators else lookup d (index_of old))
+  pub runs : new.runs ≡ old.runs
+  pub limit : new.limit ≡ old.limit
+
+-- d comes after an identifier, every one where there is none
+abbrev pub IsAfter : Option ℕ → ℕ → Type 0
+IsAfter None d = Unit {0}
+IsAfter (Some id) d = id < d
+
+-- the least identifier that has an entry and comes after this one, if there is one
+abbrev pub IsNext : List Entry → (after : Option ℕ) → Option ℕ → Type 0
+IsNext index after None = (d : ℕ) → IsAfter after d → lookup d index ≡ None
+IsNext index after (Some id) =
+    IsAfter after id × (lookup id index ≢ None) × ((d : ℕ) → IsAfter after d → d < id → lookup d index ≡ None)
+
+-- the value of an index with these fields
+abbrev pub state_of : List (ShardId × Vec Locator Global) → List StoredRun → (limit room : ℕ) → State
+state_of table runs limit room =
+    record { table = map named_entry table; runs = newest_first runs; limit = limit; room = room }
+
+-- What an index keeps of its fields: its value's laws, the table's identifiers, how many are named, and room in the table.
+pub record IsHeld (s : State) (entries : List (ShardId × Vec Locator Global)) (named table_length table_capacity : ℕ) : Type 0 where
+  pub whole : IsWhole s
+  pub ids : AllByRecursion (λ entry. IsId entry.0) entries
+  pub count : named ≡ names (index_of s)
+  pub fits : table_length + s.room ≤ table_capacity

@@ -1,0 +1,501 @@
+//! The index of a store.
+ghost use Rattle.std.specs.Prelude.{◌≡◌, ◌≢◌, ℕ, ◌+◌, ◌∷◌, ◌<◌, ◌≤◌, ◌^◌, ◌⊎◌, ◌↔◌, ◌==◌, [], IfErr, IfOk, IfSome, IsOk, IsTrue, MatchOption, OnErr, OnOk, None, Some, MatchBool, false, if◌then◌else◌, length, map, option_copied, option_map, true};
+ghost use Rattle.std.specs.List.{AllByRecursion};
+ghost use Rattle.cs_extent.specs.Frames.{AreResetsStaged, IsWorn, root_family};
+ghost use Rattle.cs_extent.specs.Purposes.{reason_of};
+ghost use Rattle.cs_extent.specs.State.{extents_of, shape};
+ghost use Rattle.cs_frame.specs.Runs.{IsRun};
+ghost use Rattle.cs_model.specs.Element.{Locator as Place};
+ghost use Rattle.cs_model.specs.Extents.{ForRun, NoPlace};
+ghost use Rattle.cs_model.specs.Index.{Ascending, entries_of, live_at, lookup, names};
+ghost use Rattle.cs_index.specs.Staged.{IsExact, IsFull, IsMergeStaged, IsRootWorn, IsRunStaged, IsStageWorn, IsTableStaged, WritesMerged, WritesRun, run_frame};
+ghost use Rattle.cs_frame.specs.Formats.{place_of};
+ghost use Rattle.cs_index.specs.State.{IsId, IsNext, IsSet, IsShort, IsStored, IsWhole, id_number, index_of, named_entry, newest_first};
+
+use crate::mergers::merged;
+use crate::merges::{least, next_in, next_in_runs};
+use crate::runs::{StoredRun, check_ids, count_names, find_in_runs};
+use crate::stagings::{run_fits, stage_empty, stage_run};
+use crate::tables::{find, put};
+use cs_deps::{Graph, Refusal};
+use cs_extent::{Extents, Purpose};
+use cs_frame::{Locator, Run, ShardId};
+use std::alloc::{AllocError, Global};
+use std::marker::Model;
+use std::mem::replace;
+
+/// Which locators each shard has: a table in memory over at most four runs.
+#[derive(Drop)]
+pub struct Index {
+    /// The entries that no run has yet, by rising identifiers.
+    table: Run,
+    /// Oldest first.
+    runs: Vec<StoredRun>,
+    /// How many identifiers have an entry.
+    named: usize,
+    /// How many may have one.
+    limit: usize,
+    /// So many more entries of the table have their place already.
+    room: usize,
+}
+
+impl Model for Index {
+    ghost use Rattle.std.specs.Prelude.{vec_capacity, vec_len};
+    ghost use Rattle.cs_index.specs.State.{State, IsHeld, state_of};
+
+    ghost Value = { State };
+
+    ghost view = { λ x. state_of x.table.entries.items x.runs.items x.limit x.room };
+
+    ghost invariant = { λ x. IsHeld (state_of x.table.entries.items x.runs.items x.limit x.room) x.table.entries.items x.named (vec_len x.table.entries) (vec_capacity x.table.entries) };
+}
+
+impl Index {
+    /// The index of these runs, oldest first, with an empty table. `limit` is how many identifiers may have an entry:
+    /// as many as one run in one extent can have.
+    ///
+    /// 43 `NotAStore` where the runs name more. Asks for no memory. Seeks each entry among the older runs.
+    pub fn load(alloc: Global, limit: usize, runs: Vec<StoredRun>) -> Result<Index, Refusal>
+        requires few { length runs.items ≤ 4 }
+        requires runs { AllByRecursion (λ run. IsRun (record { entries = run.entries })) runs.items }
+        ensures loaded { IfOk result (λ x. x ≡ record { table = []; runs = newest_first runs.items; limit = limit; room = 0 }) }
+        ensures full { (result ≡ Err Refusal.NotAStore) ↔ (limit < names (entries_of (newest_first runs.items))) }
+        ensures refusals { IfErr result (λ r. r ≡ Refusal.NotAStore) }
+    {
+        check_ids(&runs);
+        let named = count_names(&runs);
+        if limit < named {
+            return Err(Refusal::NotAStore);
+        }
+        Ok(Index {
+            table: Run {
+                entries: Vec::new(alloc),
+            },
+            runs,
+            named,
+            limit,
+            room: 0,
+        })
+    }
+
+    /// The locators of an identifier by its last entry, none of them where that is a deletion. Searches the table, and
+    /// then one run after another, the newest first.
+    pub fn lookup(&self, id: ShardId) -> Option<&[Locator]>
+        ensures last { option_map (map place_of) (option_copied result) ≡ lookup (id_number id) (index_of self.now) }
+        ensures short { IfSome result (λ locators. length locators.now ≤ 8) }
+    {
+        match find(&self.table.entries, id) {
+            Some(locators) => Some(locators),
+            None => find_in_runs(&self.runs, id),
+        }
+    }
+
+    /// The least identifier after this one, or of all, that has an entry, with the locators of its last entry. Searches
+    /// the table and each run twice.
+    pub fn next_after(&self, after: Option<ShardId>) -> Option<(ShardId, &[Locator])>
+        ensures next { IsNext (index_of self.now) (option_map id_number after) (option_map (λ found. id_number found.0) result) }
+        ensures last { IfSome result (λ found. lookup (id_number found.0) (index_of self.now) ≡ Some (map place_of found.1.now)) }
+        ensures short { IfSome result (λ found. length found.1.now ≤ 8) }
+    {
+        match self.next_id(after) {
+            Some(id) => match self.lookup(id) {
+                Some(locators) => Some((id, locators)),
+                None => unreachable!(),
+            },
+            None => None,
+        }
+    }
+
+    /// The least identifier after this one that has an entry.
+    fn next_id(&self, after: Option<ShardId>) -> Option<ShardId>
+        ensures { IsNext (index_of self.now) (option_map id_number after) (option_map id_number result) }
+    {
+        least(
+            next_in(&self.table.entries, after),
+            next_in_runs(&self.runs, after),
+        )
+    }
+
+    /// How many identifiers have an entry, deletions included. It costs no search.
+    pub fn named_count(&self) -> usize
+        ensures count { result ≡ names (index_of self.now) }
+        ensures limit { result ≤ self.now.limit }
+    {
+        self.named
+    }
+
+    /// How many identifiers may have an entry.
+    pub fn limit(&self) -> usize
+        ensures { result ≡ self.now.limit }
+    {
+        self.limit
+    }
+
+    /// How many runs there are, at most 4.
+    pub fn run_count(&self) -> usize
+        ensures count { result ≡ length self.now.runs }
+        ensures few { result ≤ 4 }
+        ensures whole { IsWhole self.now }
+    {
+        self.runs.len()
+    }
+
+    /// Whether all entries are in runs.
+    pub fn is_table_empty(&self) -> bool
+        ensures { IsTrue result ↔ (self.now.table ≡ []) }
+    {
+        self.table.entries.is_empty()
+    }
+
+    /// Makes room for so many entries in all: as many of the next calls of `set`, `erase` and `replace_if` ask for no
+    /// memory. Each of them takes at most one from the room. Where memory is refused the index stays as it is.
+    pub fn reserve(&mut self, identifiers: usize) -> Result<(), AllocError>
+        ensures room { OnOk result (identifiers ≤ self.new.room) }
+        ensures kept { self.old.room ≤ self.new.room }
+        ensures rest { self.new ≡ record self.old { room = self.new.room } }
+        ensures memory { identifiers ≤ self.old.room → IsOk result }
+    {
+        self.table.entries.reserve(identifiers)?;
+        self.room = self.room.max(identifiers);
+        Ok(())
+    }
+
+    /// Whether an identifier has an entry.
+    fn is_known(&self, id: ShardId) -> bool
+        ensures { MatchBool result (lookup (id_number id) (index_of self.now) ≢ None) (lookup (id_number id) (index_of self.now) ≡ None) }
+    {
+        match self.lookup(id) {
+            Some(_) => true,
+            None => false,
+        }
+    }
+
+    /// Whether an identifier would be one too many.
+    fn is_full_for(&self, id: ShardId) -> bool
+        ensures { IsTrue result ↔ ((lookup (id_number id) (index_of self.now) ≡ None) × (self.now.limit ≤ names (index_of self.now))) }
+    {
+        !self.is_known(id) && self.limit <= self.named
+    }
+
+    /// Gives an identifier other locators in the table.
+    fn enter(&mut self, id: ShardId, locators: Vec<Locator>) -> Result<(), AllocError>
+        requires short { length locators.items ≤ 8 }
+        requires limit { lookup (id_number id) (index_of self.old) ≡ None → names (index_of self.old) < self.old.limit }
+        ensures entered { OnOk result (IsSet self.old (id_number id) (map place_of locators.items) self.new) }
+        ensures room { self.old.room ≤ self.new.room + 1 }
+        ensures memory { 0 < self.old.room → IsOk result }
+        ensures err { OnErr result (self.new ≡ self.old) }
+    {
+        let known = self.is_known(id);
+        let left = put(&mut self.table.entries, self.room, id, locators)?;
+        self.room = left;
+        self.named = count_after(self.named, known);
+        Ok(())
+    }
+
+    /// Gives an identifier these locators, whatever it had before.
+    ///
+    /// 32 `IndexFull` where it has no entry and as many have one as may, then 9 `OutOfMemory`, where there is no room.
+    pub fn set(&mut self, id: ShardId, locators: Vec<Locator>) -> Result<(), Refusal>
+        requires { (1 ≤ length locators.items) × (length locators.items ≤ 8) }
+        ensures entered { OnOk result (IsSet self.old (id_number id) (map place_of locators.items) self.new) }
+        ensures full { (result ≡ Err Refusal.IndexFull) ↔ ((lookup (id_number id) (index_of self.old) ≡ None) × (self.old.limit ≤ names (index_of self.old))) }
+        ensures refusals { IfErr result (λ r. (r ≡ Refusal.IndexFull) ⊎ (r ≡ Refusal.OutOfMemory)) }
+        ensures refused { OnErr result (self.new ≡ self.old) }
+        ensures memory { 0 < self.old.room → ¬ (result ≡ Err Refusal.OutOfMemory) }
+        ensures room { self.old.room ≤ self.new.room + 1 }
+    {
+        if self.is_full_for(id) {
+            return Err(Refusal::IndexFull);
+        }
+        match self.enter(id, locators) {
+            Ok(()) => Ok(()),
+            Err(_) => Err(Refusal::OutOfMemory),
+        }
+    }
+
+    /// Whether an identifier has locators.
+    fn is_live(&self, id: ShardId) -> bool
+        ensures { MatchBool result (live_at (index_of self.now) (id_number id) ≢ []) (live_at (index_of self.now) (id_number id) ≡ []) }
+    {
+        match self.lookup(id) {
+            Some(locators) => !locators.is_empty(),
+            None => false,
+        }
+    }
+
+    /// Deletes an identifier that has locators, and tells whether it had any. The deletion is an entry of its own, which
+    /// hides what the runs have. Where there were none, and where memory is refused, nothing changes.
+    pub fn erase(&mut self, id: ShardId) -> Result<bool, AllocError>
+        ensures answer { IfOk result (λ erased. IsTrue erased ↔ (live_at (index_of self.old) (id_number id) ≢ [])) }
+        ensures entered { result ≡ Ok true → IsSet self.old (id_number id) [] self.new }
+        ensures kept { result ≡ Ok false → self.new ≡ self.old }
+        ensures err { OnErr result (self.new ≡ self.old) }
+        ensures memory { 0 < self.old.room → IsOk result }
+        ensures room { self.old.room ≤ self.new.room + 1 }
+    {
+        if !self.is_live(id) {
+            return Ok(false);
+        }
+        let alloc = *self.table.entries.allocator();
+        self.enter(id, Vec::new(alloc))?;
+        Ok(true)
+    }
+
+    /// Whether an identifier has exactly these locators.
+    fn has(&self, id: ShardId, locators: &[Locator]) -> bool
+        ensures { MatchBool result (lookup (id_number id) (index_of self.now) ≡ Some (map place_of locators.now)) (lookup (id_number id) (index_of self.now) ≢ Some (map place_of locators.now)) }
+    {
+        match self.lookup(id) {
+            Some(found) => found == locators,
+            None => false,
+        }
+    }
+
+    /// Gives an identifier the new locators where it has the old ones, and tells whether it had. Where it has others, and
+    /// where memory is refused, nothing changes.
+    pub fn replace_if(
+        &mut self,
+        id: ShardId,
+        old: &[Locator],
+        new: Vec<Locator>,
+    ) -> Result<bool, AllocError>
+        requires { (1 ≤ length new.items) × (length new.items ≤ 8) }
+        ensures answer { IfOk result (λ replaced. IsTrue replaced ↔ (lookup (id_number id) (index_of self.old) ≡ Some (map place_of old.now))) }
+        ensures entered { result ≡ Ok true → IsSet self.old (id_number id) (map place_of new.items) self.new }
+        ensures kept { result ≡ Ok false → self.new ≡ self.old }
+        ensures err { OnErr result (self.new ≡ self.old) }
+        ensures memory { 0 < self.old.room → IsOk result }
+        ensures room { self.old.room ≤ self.new.room + 1 }
+    {
+        if !self.has(id, old) {
+            return Ok(false);
+        }
+        self.enter(id, new)?;
+        Ok(true)
+    }
+
+    /// Writes the table as a run, with `Purpose::Run`, and stages the root over all runs, after which the table is empty.
+    /// Where four runs stand, the whole index becomes one run, as by `stage_merged`. `commands` is how many puts and
+    /// deletes the root includes. Answers the version of the root, or None where the table is empty: then nothing changes.
+    ///
+    /// 30 `Full` where no extent takes the run, then 35 `WornOut` where a number would pass 2^63 - 1; 9 `OutOfMemory` may
+    /// come instead of either. After a refusal nothing has changed but the graph's room.
+    pub fn stage(
+        &mut self,
+        extents: &mut Extents,
+        graph: &mut Graph,
+        commands: u64,
+    ) -> Result<Option<u64>, Refusal>
+        requires limit { self.old.limit ≡ (shape extents.old).most_names }
+        requires families { root_family < length graph.old.staging.latest }
+        requires resets { AreResetsStaged (extents_of extents.old) graph.old.staging }
+        requires commands { commands < 2 ^ 63 }
+
+        // What is staged.
+        ensures none { IfOk result (λ staged. (staged ≡ None) ↔ (self.old.table ≡ [])) }
+        ensures unchanged { result ≡ Ok None → (self.new ≡ self.old) × (extents.new ≡ extents.old) × (graph.new ≡ graph.old) }
+        ensures staged { (v : ℕ) → result ≡ Ok (Some v) → length self.old.runs < 4 → IsTableStaged self.old extents.old graph.old v commands self.new extents.new graph.new }
+        ensures merged { (v : ℕ) → result ≡ Ok (Some v) → 4 ≤ length self.old.runs → IsMergeStaged self.old extents.old graph.old ForRun v commands self.new extents.new graph.new }
+
+        // The map stays: every entry where no merge takes deletions away, and all that is live in any case.
+        ensures lookups { length self.old.runs < 4 → (id : ℕ) → lookup id (index_of self.new) ≡ lookup id (index_of self.old) }
+        ensures map { (id : ℕ) → live_at (index_of self.new) id ≡ live_at (index_of self.old) id }
+
+        // Whatever the answer, the next append may be made.
+        ensures resets { AreResetsStaged (extents_of extents.new) graph.new.staging }
+        ensures families { length graph.new.staging.latest ≡ length graph.old.staging.latest }
+
+        ensures why { IsExact result (IsFull (WritesRun self.old) extents.old ForRun) ((self.old.table ≢ []) × IsStageWorn (WritesRun self.old) extents.old graph.old.staging) }
+        ensures refused { OnErr result (self.new ≡ self.old) }
+        ensures unwritten { OnErr result (extents.new ≡ extents.old) }
+        ensures unstaged { OnErr result (graph.new ≡ record graph.old { room = graph.new.room }) }
+    {
+        if self.is_table_empty() {
+            return Ok(None);
+        }
+        if self.run_count() < 4 {
+            match self.stage_table(extents, graph, commands) {
+                Ok(version) => Ok(Some(version)),
+                Err(refusal) => Err(refusal),
+            }
+        } else {
+            match self.stage_merged(extents, graph, commands, Purpose::Run) {
+                Ok(version) => Ok(Some(version)),
+                Err(refusal) => Err(refusal),
+            }
+        }
+    }
+
+    /// Writes the table as one run more.
+    fn stage_table(
+        &mut self,
+        extents: &mut Extents,
+        graph: &mut Graph,
+        commands: u64,
+    ) -> Result<u64, Refusal>
+        requires some { self.old.table ≢ [] }
+        requires few { length self.old.runs < 4 }
+        requires limit { self.old.limit ≡ (shape extents.old).most_names }
+        requires families { root_family < length graph.old.staging.latest }
+        requires resets { AreResetsStaged (extents_of extents.old) graph.old.staging }
+        requires commands { commands < 2 ^ 63 }
+        ensures staged { IfOk result (λ v. IsTableStaged self.old extents.old graph.old v commands self.new extents.new graph.new) }
+        ensures index { index_of self.new ≡ index_of self.old }
+        ensures resets { AreResetsStaged (extents_of extents.new) graph.new.staging }
+        ensures families { length graph.new.staging.latest ≡ length graph.old.staging.latest }
+        ensures why { IsExact result (NoPlace (shape extents.old) (extents_of extents.old) ForRun (length (run_frame extents.old self.old.table)))
+            (IsRootWorn graph.old.staging ⊎ IsWorn graph.old.staging (length (run_frame extents.old self.old.table))) }
+        ensures refused { OnErr result (self.new ≡ self.old) }
+        ensures unwritten { OnErr result (extents.new ≡ extents.old) }
+        ensures unstaged { OnErr result (graph.new ≡ record graph.old { room = graph.new.room }) }
+    {
+        let alloc = *self.table.entries.allocator();
+        let _extents = extents.extent_count();
+        self.runs.reserve(1)?;
+        match stage_run(
+            alloc,
+            extents,
+            graph,
+            &self.table,
+            &self.runs,
+            commands,
+            Purpose::Run,
+        ) {
+            Ok((place, version)) => {
+                let entries = replace(&mut self.table.entries, Vec::new(alloc));
+                self.runs.push_reserved(StoredRun { place, entries });
+                self.room = 0;
+                Ok(version)
+            }
+            Err(refusal) => Err(refusal),
+        }
+    }
+
+    /// Writes all that is live as one run, for this purpose, and stages the root over it, after which there is no other
+    /// entry. Where nothing is live no run is written, and the root has none. Answers the version of the root.
+    ///
+    /// 30 `Full` where no extent takes the run, then 35 `WornOut` where a number would pass 2^63 - 1; 9 `OutOfMemory` may
+    /// come instead of either. After a refusal nothing has changed but the graph's room. Takes memory for all that is
+    /// live, and costs some searches for each identifier that has an entry.
+    pub fn stage_merged(
+        &mut self,
+        extents: &mut Extents,
+        graph: &mut Graph,
+        commands: u64,
+        purpose: Purpose,
+    ) -> Result<u64, Refusal>
+        requires limit { self.old.limit ≡ (shape extents.old).most_names }
+        requires families { root_family < length graph.old.staging.latest }
+        requires resets { AreResetsStaged (extents_of extents.old) graph.old.staging }
+        requires commands { commands < 2 ^ 63 }
+        ensures staged { IfOk result (λ v. IsMergeStaged self.old extents.old graph.old (reason_of purpose) v commands self.new extents.new graph.new) }
+
+        // The map stays.
+        ensures map { (id : ℕ) → live_at (index_of self.new) id ≡ live_at (index_of self.old) id }
+
+        // Whatever the answer, the next append may be made.
+        ensures resets { AreResetsStaged (extents_of extents.new) graph.new.staging }
+        ensures families { length graph.new.staging.latest ≡ length graph.old.staging.latest }
+
+        ensures why { IsExact result (IsFull (WritesMerged self.old) extents.old (reason_of purpose)) (IsStageWorn (WritesMerged self.old) extents.old graph.old.staging) }
+        ensures refused { OnErr result (self.new ≡ self.old) }
+        ensures unwritten { OnErr result (extents.new ≡ extents.old) }
+        ensures unstaged { OnErr result (graph.new ≡ record graph.old { room = graph.new.room }) }
+    {
+        let alloc = *self.table.entries.allocator();
+        let run = merged(alloc, self)?;
+        if run.entries.is_empty() {
+            match stage_empty(alloc, graph, commands) {
+                Ok(version) => {
+                    self.become_runs(alloc, Vec::new(alloc), 0);
+                    Ok(version)
+                }
+                Err(refusal) => Err(refusal),
+            }
+        } else {
+            self.stage_one(alloc, extents, graph, run, commands, purpose)
+        }
+    }
+
+    /// Whether an extent would take the run that `stage_merged` writes for this purpose, true also where it writes none.
+    /// Takes memory for all that is live, and costs some searches for each identifier that has an entry.
+    pub fn merged_fits(&self, extents: &Extents, purpose: Purpose) -> Result<bool, AllocError>
+        requires limit { self.now.limit ≡ (shape extents.now).most_names }
+        ensures { IfOk result (λ fits. MatchBool fits (IsFull (WritesMerged self.now) extents.now (reason_of purpose) → ⊥) (IsFull (WritesMerged self.now) extents.now (reason_of purpose))) }
+    {
+        let alloc = *self.table.entries.allocator();
+        let run = merged(alloc, self)?;
+        if run.entries.is_empty() {
+            return Ok(true);
+        }
+        let _extents = extents.extent_count();
+        Ok(run_fits(extents, &run, purpose))
+    }
+
+    /// Writes a run in place of all entries.
+    fn stage_one(
+        &mut self,
+        alloc: Global,
+        extents: &mut Extents,
+        graph: &mut Graph,
+        run: Run,
+        commands: u64,
+        purpose: Purpose,
+    ) -> Result<u64, Refusal>
+        requires some { map named_entry run.entries.items ≢ [] }
+        requires short { AllByRecursion IsShort (map named_entry run.entries.items) }
+        requires ascending { Ascending (map named_entry run.entries.items) }
+        requires ids { AllByRecursion (λ entry. IsId entry.0) run.entries.items }
+        requires few { length run.entries.items ≤ self.old.limit }
+        requires limit { self.old.limit ≡ (shape extents.old).most_names }
+        requires families { root_family < length graph.old.staging.latest }
+        requires resets { AreResetsStaged (extents_of extents.old) graph.old.staging }
+        requires commands { commands < 2 ^ 63 }
+        ensures staged { IfOk result (λ v. (place : Place)
+            × IsRunStaged extents.old graph.old (reason_of purpose) (map named_entry run.entries.items) [] place v commands extents.new graph.new
+            × (self.new ≡ record { table = []; runs = record { place = place; entries = map named_entry run.entries.items } ∷ []; limit = self.old.limit; room = 0 })) }
+        ensures resets { AreResetsStaged (extents_of extents.new) graph.new.staging }
+        ensures families { length graph.new.staging.latest ≡ length graph.old.staging.latest }
+        ensures why { IsExact result (NoPlace (shape extents.old) (extents_of extents.old) (reason_of purpose) (length (run_frame extents.old (map named_entry run.entries.items))))
+            (IsRootWorn graph.old.staging ⊎ IsWorn graph.old.staging (length (run_frame extents.old (map named_entry run.entries.items)))) }
+        ensures refused { OnErr result (self.new ≡ self.old) }
+        ensures unwritten { OnErr result (extents.new ≡ extents.old) }
+        ensures unstaged { OnErr result (graph.new ≡ record graph.old { room = graph.new.room }) }
+    {
+        let _extents = extents.extent_count();
+        let mut runs = Vec::with_capacity(alloc, 1)?;
+        let (place, version) = stage_run(alloc, extents, graph, &run, &[], commands, purpose)?;
+        let named = run.entries.len();
+        runs.push_reserved(StoredRun {
+            place,
+            entries: run.entries,
+        });
+        self.become_runs(alloc, runs, named);
+        Ok(version)
+    }
+
+    /// Takes runs in place of all entries.
+    fn become_runs(&mut self, alloc: Global, runs: Vec<StoredRun>, named: usize)
+        requires stored { AllByRecursion IsStored (newest_first runs.items) }
+        requires few { length runs.items ≤ 4 }
+        requires named { named ≡ names (entries_of (newest_first runs.items)) }
+        requires limit { named ≤ self.old.limit }
+        ensures { self.new ≡ record { table = []; runs = newest_first runs.items; limit = self.old.limit; room = 0 } }
+    {
+        self.table = Run {
+            entries: Vec::new(alloc),
+        };
+        self.runs = runs;
+        self.named = named;
+        self.room = 0;
+    }
+}
+
+/// How many identifiers have an entry once another call entered one that was known or not.
+fn count_after(named: usize, known: bool) -> usize
+    requires { known ≡ false → named + 1 < 2 ^ 64 }
+    ensures { result ≡ (if known then named else named + 1) }
+{
+    if known { named } else { named + 1 }
+}

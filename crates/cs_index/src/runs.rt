@@ -1,0 +1,92 @@
+//! Runs of the index.
+ghost use Rattle.std.specs.Prelude.{◌≡◌, ◌+◌, ◌<◌, ◌≤◌, ◌^◌, ◌++◌, is_some, length, map, option_copied, option_map};
+ghost use Rattle.std.specs.List.{AllByRecursion};
+ghost use Rattle.cs_model.specs.Index.{Ascending, entries_of, lookup, names};
+ghost use Rattle.cs_frame.specs.Formats.{place_of};
+ghost use Rattle.cs_index.specs.State.{IsId, IsStored, id_number, named_entry, newest_first};
+
+use crate::tables::find;
+use cs_frame::{Locator, ShardId};
+
+/// A run of the index, with the place of its frame.
+#[derive(Debug, Drop)]
+pub struct StoredRun {
+    /// Where its frame begins.
+    pub place: Locator,
+    /// Its entries, by rising identifiers: 1 to 8 locators each, or none for a deletion.
+    pub entries: Vec<(ShardId, Vec<Locator>)>,
+}
+
+/// The locators that the newest of the runs, which are listed oldest first, has of an identifier.
+pub fn find_in_runs(runs: &[StoredRun], id: ShardId) -> Option<&[Locator]>
+    requires { AllByRecursion IsStored (newest_first runs.now) }
+    ensures { option_map (map place_of) (option_copied result) ≡ lookup (id_number id) (entries_of (newest_first runs.now)) }
+{
+    for k in 0..runs.len() {
+        let run = &runs[runs.len() - 1 - k];
+        if let Some(locators) = find(&run.entries, id) {
+            return Some(locators);
+        }
+    }
+    None
+}
+
+/// Whether a run has an entry of an identifier.
+fn is_named(runs: &[StoredRun], id: ShardId) -> bool
+    requires { AllByRecursion IsStored (newest_first runs.now) }
+    ensures { result ≡ is_some (lookup (id_number id) (entries_of (newest_first runs.now))) }
+{
+    match find_in_runs(runs, id) {
+        Some(_) => true,
+        None => false,
+    }
+}
+
+/// How many of these entries have an identifier that no older run has.
+fn count_new(entries: &[(ShardId, Vec<Locator>)], older: &[StoredRun]) -> usize
+    requires ascending { Ascending (map named_entry entries.now) }
+    requires older { AllByRecursion IsStored (newest_first older.now) }
+    ensures count { result + names (entries_of (newest_first older.now)) ≡ names (map named_entry entries.now ++ entries_of (newest_first older.now)) }
+    ensures few { result ≤ length entries.now }
+{
+    let mut count: usize = 0;
+    for entry in entries {
+        if !is_named(older, entry.0) {
+            count += 1;
+        }
+    }
+    count
+}
+
+/// How many identifiers the runs name.
+pub fn count_names(runs: &[StoredRun]) -> usize
+    requires stored { AllByRecursion IsStored (newest_first runs.now) }
+    requires few { length runs.now ≤ 4 }
+    requires short { AllByRecursion (λ run. length run.entries.items < 2 ^ 32) runs.now }
+    ensures { result ≡ names (entries_of (newest_first runs.now)) }
+{
+    let mut count: usize = 0;
+    for k in 0..runs.len() {
+        let run = &runs[k];
+        count += count_new(&run.entries, &runs[..k]);
+    }
+    count
+}
+
+/// Reads each identifier of these entries.
+fn check_entries(entries: &[(ShardId, Vec<Locator>)])
+    ensures { AllByRecursion (λ entry. IsId entry.0) entries.now }
+{
+    for entry in entries {
+        let _bytes = entry.0.bytes();
+    }
+}
+
+/// Reads each identifier of these runs.
+pub fn check_ids(runs: &[StoredRun])
+    ensures { AllByRecursion (λ run. AllByRecursion (λ entry. IsId entry.0) run.entries.items) runs.now }
+{
+    for run in runs {
+        check_entries(&run.entries);
+    }
+}

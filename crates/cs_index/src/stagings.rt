@@ -1,0 +1,248 @@
+//! Runs and roots that are staged.
+ghost use Rattle.std.specs.Prelude.{◌≡◌, ◌≢◌, ℕ, ◌+◌, ◌*◌, ◌^◌, ◌<◌, ◌≤◌, ◌↔◌, ◌++◌, ◌∷◌, ◌⊎◌, [], IfErr, IfOk, IsTrue, MatchBool, MatchResult, OnErr, OnOk, Some, length, map, slice_index, vec_capacity, vec_len};
+ghost use Rattle.std.specs.List.{AllByRecursion};
+ghost use Rattle.cs_deps.specs.declared.elements.Element.{Element as Item};
+ghost use Rattle.cs_deps.specs.Named.{Names};
+ghost use Rattle.cs_deps.specs.State.{State as GraphState};
+ghost use Rattle.cs_extent.specs.Appended.{IsAppended};
+ghost use Rattle.cs_extent.specs.Frames.{AreResetsStaged, IsVersionUpTo, IsWorn, root_family, superblock_family};
+ghost use Rattle.cs_extent.specs.Purposes.{reason_of};
+ghost use Rattle.cs_extent.specs.State.{extents_of, shape};
+ghost use Rattle.cs_frame.specs.Frames.{page_count};
+ghost use Rattle.cs_frame.specs.Runs.{IsRun};
+ghost use Rattle.cs_model.specs.Extents.{NoPlace, Placed};
+ghost use Rattle.cs_index.specs.Staged.{IsExact, IsRootOver, IsRootWorn, IsRunStaged, IsWhy, run_frame};
+ghost use Rattle.cs_frame.specs.Formats.{place_of};
+ghost use Rattle.cs_index.specs.State.{IsShort, named_entry, newest_first};
+
+use crate::runs::StoredRun;
+use cs_deps::{Dependency, Graph, Refusal};
+use cs_extent::{Extents, Purpose};
+use cs_frame::{
+    FrameKind, Locator, Root, Run, encode_frame, encode_root, encode_run, frame_pages,
+};
+use std::alloc::{AllocError, Global};
+
+/// The family of the superblock's versions.
+const SUPERBLOCK: usize = 0;
+
+/// The family of the root's versions.
+const ROOT: usize = 1;
+
+/// The greatest number of a version.
+const LAST_NUMBER: u64 = 0x7fff_ffff_ffff_ffff;
+
+/// Whether the last number of a root is given.
+fn is_last_root(graph: &Graph) -> bool
+    requires { root_family < length graph.now.staging.latest }
+    ensures { IsTrue result ↔ IsRootWorn graph.now.staging }
+{
+    LAST_NUMBER <= graph.last_version(ROOT)
+}
+
+/// Stages the next version of the root over runs whose frames begin at these places, oldest first.
+fn stage_root(graph: &mut Graph, places: Vec<Locator>, commands: u64, needs: Dependency) -> u64
+    requires families { root_family < length graph.old.staging.latest }
+    requires room { 0 < graph.old.room }
+    requires number { ¬ IsRootWorn graph.old.staging }
+    requires commands { commands < 2 ^ 63 }
+    requires places { length places.items ≤ 4 }
+    requires needs { (x : Item) → Names needs x ↔ IsVersionUpTo superblock_family (slice_index graph.old.staging.latest superblock_family) x }
+    ensures staged { IsRootOver graph.old graph.new result commands places.items }
+    ensures families { length graph.new.staging.latest ≡ length graph.old.staging.latest }
+    ensures rises { slice_index graph.old.staging.latest root_family ≤ slice_index graph.new.staging.latest root_family }
+{
+    let version = graph.last_version(ROOT) + 1;
+    let root = Root {
+        version,
+        commands,
+        runs: places,
+    };
+    let page = encode_root(&root);
+    match graph.stage_version(ROOT, 1, &page, needs) {
+        Ok(staged) => staged,
+        Err(_) => unreachable!(),
+    }
+}
+
+/// The pages that spell a run.
+fn frame_of(alloc: Global, run: &Run) -> Result<Vec<[u8; 4096]>, AllocError>
+    requires run { IsRun run.now }
+    requires most { length run.now.entries.items ≤ 12945 }
+    ensures frame { IfOk result (λ frame. (x : _) → frame.items ≡ run_frame x (map named_entry run.now.entries.items)) }
+    ensures count { IfOk result (λ frame. length frame.items ≡ page_count (4 + 81 * length run.now.entries.items)) }
+{
+    let payload = encode_run(alloc, run)?;
+    encode_frame(alloc, FrameKind::Run, &payload)
+}
+
+/// Where the frames of these runs begin, with room for one more.
+fn places_of(alloc: Global, runs: &[StoredRun]) -> Result<Vec<Locator>, AllocError>
+    requires { length runs.now < 4 }
+    ensures places { IfOk result (λ places. places.items ≡ map (λ run. run.place) runs.now) }
+    ensures room { IfOk result (λ places. vec_len places < vec_capacity places) }
+{
+    let mut places = Vec::with_capacity(alloc, runs.len() + 1)?;
+    for run in runs {
+        places.push_reserved(run.place);
+    }
+    Ok(places)
+}
+
+/// Whether an extent takes a frame of so many pages.
+fn has_place(extents: &Extents, pages: usize, purpose: Purpose) -> bool
+    requires { (1 ≤ pages) × (pages ≤ (shape extents.now).pages) }
+    ensures { MatchBool result ((e : ℕ) × Placed (shape extents.now) (extents_of extents.now) (reason_of purpose) pages e) (NoPlace (shape extents.now) (extents_of extents.now) (reason_of purpose) pages) }
+{
+    extents.fits(&[pages], purpose)
+}
+
+/// Whether an extent takes the frame of a run.
+pub fn run_fits(extents: &Extents, run: &Run, purpose: Purpose) -> bool
+    requires some { 1 ≤ length run.now.entries.items }
+    requires short { AllByRecursion IsShort (map named_entry run.now.entries.items) }
+    requires most { length run.now.entries.items ≤ (shape extents.now).most_names }
+    ensures { MatchBool result ((e : ℕ) × Placed (shape extents.now) (extents_of extents.now) (reason_of purpose) (length (run_frame extents.now (map named_entry run.now.entries.items))) e) (NoPlace (shape extents.now) (extents_of extents.now) (reason_of purpose) (length (run_frame extents.now (map named_entry run.now.entries.items)))) }
+{
+    let _extents = extents.extent_count();
+    let pages = frame_pages(4 + 81 * run.entries.len());
+    has_place(extents, pages, purpose)
+}
+
+/// Makes what is written with a run: the pages of its frame, the places of the older runs with room for one more, and
+/// room in the graph for all that is staged.
+///
+/// 30 `Full` where no extent takes the frame, then 35 `WornOut` where the last number of a root is given.
+fn prepare(
+    alloc: Global,
+    extents: &Extents,
+    graph: &mut Graph,
+    run: &Run,
+    older: &[StoredRun],
+    purpose: Purpose,
+) -> Result<(Vec<[u8; 4096]>, Vec<Locator>), Refusal>
+    requires run { IsRun run.now }
+    requires most { length run.now.entries.items ≤ (shape extents.now).most_names }
+    requires few { length older.now < 4 }
+    requires families { root_family < length graph.old.staging.latest }
+    ensures frame { IfOk result (λ made. made.0.items ≡ run_frame extents.now (map named_entry run.now.entries.items)) }
+    ensures pages { IfOk result (λ made. (1 ≤ length made.0.items) × (length made.0.items ≤ (shape extents.now).pages)) }
+    ensures places { IfOk result (λ made. made.1.items ≡ map (λ run. run.place) older.now) }
+    ensures spare { IfOk result (λ made. vec_len made.1 < vec_capacity made.1) }
+    ensures room { IfOk result (λ made. length made.0.items + 2 ≤ graph.new.room) }
+    ensures placed { OnOk result ((e : ℕ) × Placed (shape extents.now) (extents_of extents.now) (reason_of purpose) (length (run_frame extents.now (map named_entry run.now.entries.items))) e) }
+    ensures why { IsExact result (NoPlace (shape extents.now) (extents_of extents.now) (reason_of purpose) (length (run_frame extents.now (map named_entry run.now.entries.items))))
+        (IsRootWorn graph.old.staging) }
+    ensures rest { graph.new ≡ record graph.old { room = graph.new.room } }
+{
+    let _extents = extents.extent_count();
+    let frame = frame_of(alloc, run)?;
+    let places = places_of(alloc, older)?;
+    if !has_place(extents, frame.len(), purpose) {
+        return Err(Refusal::Full);
+    }
+    if is_last_root(graph) {
+        return Err(Refusal::WornOut);
+    }
+    graph.reserve(frame.len() + 2)?;
+    Ok((frame, places))
+}
+
+/// Appends the frame of a run, and stages the root over the runs whose places these are and over this one.
+fn write_run(
+    extents: &mut Extents,
+    graph: &mut Graph,
+    frame: &[[u8; 4096]],
+    mut places: Vec<Locator>,
+    commands: u64,
+    purpose: Purpose,
+) -> Result<(Locator, u64), Refusal>
+    requires pages { (1 ≤ length frame.now) × (length frame.now ≤ (shape extents.old).pages) }
+    requires families { root_family < length graph.old.staging.latest }
+    requires resets { AreResetsStaged (extents_of extents.old) graph.old.staging }
+    requires placed { (e : ℕ) × Placed (shape extents.old) (extents_of extents.old) (reason_of purpose) (length frame.now) e }
+    requires number { ¬ IsRootWorn graph.old.staging }
+    requires room { length frame.now + 2 ≤ graph.old.room }
+    requires commands { commands < 2 ^ 63 }
+    requires few { length places.items < 4 }
+    requires spare { vec_len places < vec_capacity places }
+    ensures staged { IfOk result (λ made. (between : GraphState)
+        × IsAppended extents.old graph.old (reason_of purpose) frame.now made.0 extents.new between
+        × IsRootOver between graph.new made.1 commands (places.items ++ made.0 ∷ [])) }
+    ensures resets { AreResetsStaged (extents_of extents.new) graph.new.staging }
+    ensures families { length graph.new.staging.latest ≡ length graph.old.staging.latest }
+    ensures worn { MatchResult result (λ _. ¬ IsWorn graph.old.staging (length frame.now)) (λ refusal. (refusal ≡ Refusal.WornOut) × IsWorn graph.old.staging (length frame.now)) }
+    ensures refused { OnErr result (extents.new ≡ extents.old) }
+    ensures unstaged { OnErr result (graph.new ≡ record graph.old { room = graph.new.room }) }
+{
+    match extents.append(graph, frame, purpose) {
+        Ok((place, needs)) => {
+            places.push_reserved(place);
+            let version = stage_root(graph, places, commands, needs);
+            Ok((place, version))
+        }
+        Err(refusal) => Err(refusal),
+    }
+}
+
+/// Writes a run behind the older ones, for this purpose, and stages the root over all of them. Answers where the run's
+/// frame begins, and the version of the root.
+///
+/// 30 `Full` where no extent takes the frame, then 35 `WornOut` where a number would pass 2^63 - 1; 9 `OutOfMemory` may
+/// come instead of either.
+pub fn stage_run(
+    alloc: Global,
+    extents: &mut Extents,
+    graph: &mut Graph,
+    run: &Run,
+    older: &[StoredRun],
+    commands: u64,
+    purpose: Purpose,
+) -> Result<(Locator, u64), Refusal>
+    requires run { IsRun run.now }
+    requires most { length run.now.entries.items ≤ (shape extents.old).most_names }
+    requires few { length older.now < 4 }
+    requires families { root_family < length graph.old.staging.latest }
+    requires resets { AreResetsStaged (extents_of extents.old) graph.old.staging }
+    requires commands { commands < 2 ^ 63 }
+    ensures staged { IfOk result (λ made. IsRunStaged extents.old graph.old (reason_of purpose) (map named_entry run.now.entries.items) (newest_first older.now) (place_of made.0) made.1 commands extents.new graph.new) }
+    ensures resets { AreResetsStaged (extents_of extents.new) graph.new.staging }
+    ensures families { length graph.new.staging.latest ≡ length graph.old.staging.latest }
+    ensures why { IsExact result (NoPlace (shape extents.old) (extents_of extents.old) (reason_of purpose) (length (run_frame extents.old (map named_entry run.now.entries.items))))
+        (IsRootWorn graph.old.staging ⊎ IsWorn graph.old.staging (length (run_frame extents.old (map named_entry run.now.entries.items)))) }
+    ensures refused { OnErr result (extents.new ≡ extents.old) }
+    ensures unstaged { OnErr result (graph.new ≡ record graph.old { room = graph.new.room }) }
+{
+    let (frame, places) = prepare(alloc, extents, graph, run, older, purpose)?;
+    write_run(extents, graph, &frame, places, commands, purpose)
+}
+
+/// Stages a root without runs.
+///
+/// 35 `WornOut` where the last number of a root is given, then 9 `OutOfMemory`, which asks only for room in the graph.
+pub fn stage_empty(alloc: Global, graph: &mut Graph, commands: u64) -> Result<u64, Refusal>
+    requires families { root_family < length graph.old.staging.latest }
+    requires commands { commands < 2 ^ 63 }
+    ensures staged { IfOk result (λ v. IsRootOver graph.old graph.new v commands []) }
+    ensures families { length graph.new.staging.latest ≡ length graph.old.staging.latest }
+    ensures rises { slice_index graph.old.staging.latest root_family ≤ slice_index graph.new.staging.latest root_family }
+    ensures worn { MatchResult result (λ _. ¬ IsRootWorn graph.old.staging) (λ refusal. IsWhy refusal ⊥ (IsRootWorn graph.old.staging)) }
+    ensures unstaged { OnErr result (graph.new ≡ record graph.old { room = graph.new.room }) }
+{
+    if is_last_root(graph) {
+        return Err(Refusal::WornOut);
+    }
+    graph.reserve(1)?;
+    let needs = on_superblocks(alloc, graph.last_version(SUPERBLOCK));
+    Ok(stage_root(graph, Vec::new(alloc), commands, needs))
+}
+
+/// Names versions 1 to `version` of the superblock.
+fn on_superblocks(alloc: Global, version: u64) -> Dependency
+    ensures { (x : Item) → Names result x ↔ IsVersionUpTo superblock_family version x }
+{
+    match Dependency::on_version(alloc, SUPERBLOCK, version) {
+        Ok(versions) => versions,
+        Err(_) => unreachable!(),
+    }
+}
