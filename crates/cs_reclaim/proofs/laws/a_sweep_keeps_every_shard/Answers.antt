@@ -1,0 +1,5 @@
+use Rattle.cs_reclaim.proofs.Keeping.{keeps_every_shard}
+use Rattle.cs_reclaim.proofs.laws.a_sweep_keeps_every_shard.Goals as goal
+
+pub returns : goal.returns
+returns c = record { moved = keeps_every_shard }

@@ -1,0 +1,23 @@
+use Rattle.std.proofs.Common.{◌≡◌, ◌∙◌, List, ap, map}
+use Rattle.cs_frame.specs.Formats.{place_of}
+use Rattle.cs_index.specs.State.{State, id_number, index_of}
+use Rattle.cs_model.specs.Element.{Locator as Place}
+use Rattle.cs_model.specs.Index.{live_at}
+use Rattle.cs_model.specs.Lists.{replaced}
+use Rattle.cs_reclaim.proofs.Living.{replaced_map, set_from}
+use Rattle.cs_reclaim.proofs.sweeps.move_to.Goals as goal
+
+pub returns-clause-moved : goal.returns-clause-moved
+returns-clause-moved c =
+    let id = id_number c.args.live.now.id in
+    let k = c.args.live.now.chunk in
+    let p = c.in_ok-place.place in
+    let before : map place_of c.in_ok-after.after.items ≡ live_at (index_of c.args.index.now) (id_number c.args.live.now.id) =
+    ap (map place_of) (c.in_ok-after.ensures.items ∙ c.deref.ensures.value) ∙ c.in_ok-before.ensures.places ∙ ap (λ (s : State). live_at (index_of s) (id_number c.args.live.now.id)) c.in_ok-reserve.ensures.rest in (
+      p,
+      c.in_ok-place.ensures.appended,
+      set_from c.args.index.now c.reserve.new.self c.point_at.new.index id (map place_of c.set_place.new.places.items) (replaced (live_at (index_of c.args.index.now) id) k (place_of p))
+          c.in_ok-reserve.ensures.rest
+          (ap (map place_of) c.set_place.ensures ∙ replaced_map c.in_ok-after.after.items k p ∙ ap (λ (ls : List Place). replaced ls k (place_of p)) before)
+          c.point_at.ensures,
+    )

@@ -1,0 +1,5 @@
+pub mod Keeps
+pub mod Live
+pub mod Moves
+pub mod Retired
+pub mod Sweeps

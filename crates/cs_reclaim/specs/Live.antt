@@ -1,0 +1,21 @@
+-- What lives on an extent, place by place.
+use Rattle.std.specs.Prelude.{◌≡◌, ◌≢◌, ◌≤◌, ◌<◌, ℕ, List, Option, Some}
+use Rattle.cs_index.specs.State.{IsAfter}
+use Rattle.cs_model.specs.Element.{Entry, Locator as Place}
+use Rattle.cs_model.specs.Index.{live_at}
+use Rattle.cs_model.specs.Lists.{nth}
+
+-- none of these places is on the extent
+abbrev pub NoneOn : List Place → ℕ → Type 0
+NoneOn ls e = (k : ℕ) (l : Place) → nth ls k ≡ Some l → l.extent ≢ e
+
+-- place k is the first of these that is on the extent
+pub record IsFirstOn (ls : List Place) (e k : ℕ) : Type 0 where
+  pub place : Place
+  pub there : nth ls k ≡ Some place
+  pub on_it : place.extent ≡ e
+  pub first : (j : ℕ) (l : Place) → nth ls j ≡ Some l → l.extent ≡ e → k ≤ j
+
+-- nothing of the identifiers up to this one is on the extent
+abbrev pub NoneUpTo : (index : List Entry) → Option ℕ → ℕ → Type 0
+NoneUpTo index after e = (d : ℕ) → (IsAfter after d → ⊥) → NoneOn (live_at index d) e

@@ -1,0 +1,15 @@
+-- Sweeps: which extents may be swept, and what a sweep does to them.
+use Rattle.std.specs.Prelude.{◌≡◌, ◌⊎◌, ◌≤◌, ◌<◌, ℕ, true, false, Some}
+use Rattle.cs_model.specs.Device.{Shape}
+use Rattle.cs_model.specs.Extents.{Extents}
+
+-- an extent that can't be swept: it is open, it isn't there, it is empty, or it is being swept
+abbrev pub IsNotSweepable : Shape → Extents → ℕ → Type 0
+IsNotSweepable S x e = (x.open_extent ≡ Some e) ⊎ (S.extents ≤ e) ⊎ (x.pointer e ≡ 0) ⊎ (x.swept e ≡ true)
+
+-- an extent that is being swept: it is there and marked, neither open nor empty
+pub record IsSwept (S : Shape) (x : Extents) (e : ℕ) : Type 0 where
+  pub inside : e < S.extents
+  pub marked : x.swept e ≡ true
+  pub closed : ¬ (x.open_extent ≡ Some e)
+  pub written : 0 < x.pointer e

@@ -1,0 +1,15 @@
+//! Sweeps: what lives on an extent is moved away, and then the extent is emptied, so that its pages are given again.
+//!
+//! The map from identifiers to bytes stays as it is through every call. The merged run and the root that no longer name
+//! the extent are staged before it is emptied, so that what is written there later waits for them.
+#![tactic(auto)]
+
+mod laws;
+mod live;
+mod sweeps;
+
+pub use laws::{a_sweep_keeps_every_shard, a_swept_extent_stays};
+pub use sweeps::Sweep;
+
+#[cfg(test)]
+mod tests;

@@ -1,0 +1,368 @@
+//! Sweeps of one extent each.
+ghost use Rattle.std.specs.Prelude.{◌≡◌, ◌↔◌, ◌⊎◌, ◌+◌, ◌*◌, ◌^◌, ◌<◌, ◌≤◌, ℕ, List, IfErr, IfOk, IsTrue, MatchResult, None, OnErr, OnOk, Some, false, length, map, slice_set, true};
+ghost use Rattle.cs_chunk.specs.Chunks.{IsFrameAt};
+ghost use Rattle.cs_chunk.specs.Newest.{AreNewest};
+ghost use Rattle.cs_chunk.specs.Reads.{IsCaused, IsReadRefusal, fault_at};
+ghost use Rattle.cs_disk.specs.Disk.{Elapses, seen};
+ghost use Rattle.cs_extent.specs.Appended.{IsAppended};
+ghost use Rattle.cs_extent.specs.Frames.{AreResetsStaged, IsWorn, root_family};
+ghost use Rattle.cs_extent.specs.State.{extents_of, shape};
+ghost use Rattle.cs_frame.specs.declared.frames.FrameKind.TheVariants.{Chunk};
+ghost use Rattle.cs_frame.specs.declared.locators.Locator.{Locator as Spot};
+ghost use Rattle.cs_frame.specs.Formats.{as_locator, place_of};
+ghost use Rattle.cs_index.specs.Staged.{IsExact, IsWhy};
+ghost use Rattle.cs_index.specs.State.{IsSet, id_number, index_of};
+ghost use Rattle.cs_model.specs.Element.{Locator as Place};
+ghost use Rattle.cs_model.specs.Extents.{ForMove, NoPlace, marked};
+ghost use Rattle.cs_model.specs.Formats.{ChunkFrame};
+ghost use Rattle.cs_model.specs.Index.{FirstLive, NothingLive, live_at, lookup};
+ghost use Rattle.cs_model.specs.Lists.{◌∈◌, nth, replaced};
+ghost use Rattle.cs_reclaim.specs.Moves.{AnswersMove, AnswersPlace, IsMoved, chunk_frame};
+ghost use Rattle.cs_reclaim.specs.Retired.{IsRetireFull, IsRetireWorn, IsRetired};
+ghost use Rattle.cs_reclaim.specs.Sweeps.{IsNotSweepable, IsSwept};
+
+use crate::live::{LiveChunk, first_live};
+use cs_chunk::read_frame;
+use cs_deps::{Graph, Refusal};
+use cs_disk::PageDisk;
+use cs_extent::{Extents, Purpose};
+use cs_frame::{FrameKind, Locator, ShardId, encode_frame};
+use cs_index::Index;
+use std::alloc::Global;
+use std::marker::Model;
+
+/// The greatest generation of an extent.
+const LAST_GENERATION: u32 = 0xffff_ffff;
+
+/// A sweep of one extent, which is marked as being swept until the sweep is abandoned or has retired it.
+#[derive(Debug, Drop)]
+pub struct Sweep {
+    extent: usize,
+}
+
+impl Model for Sweep {
+    ghost use Rattle.std.specs.Prelude.{ℕ};
+
+    ghost Value = { ℕ };
+
+    ghost view = { λ x. x.extent };
+}
+
+impl Sweep {
+    /// Begins to sweep an extent. 33 `NotSweepable` where it is open, empty or being swept, or there is no such extent.
+    pub fn begin(extents: &mut Extents, extent: usize) -> Result<Sweep, Refusal>
+        ensures sweep { IfOk result (λ s. s ≡ extent) }
+        ensures marked { OnOk result (extents_of extents.new ≡ marked (extents_of extents.old) extent true) }
+        ensures swept { OnOk result (IsSwept (shape extents.new) (extents_of extents.new) extent) }
+        ensures shape { shape extents.new ≡ shape extents.old }
+        ensures refused { (result ≡ Err Refusal.NotSweepable) ↔ IsNotSweepable (shape extents.old) (extents_of extents.old) extent }
+        ensures refusals { IfErr result (λ r. r ≡ Refusal.NotSweepable) }
+        ensures same { OnErr result (extents.new ≡ extents.old) }
+    {
+        if !is_sweepable(extents, extent) {
+            return Err(Refusal::NotSweepable);
+        }
+        extents.set_swept(extent, true);
+        Ok(Sweep { extent })
+    }
+
+    /// The extent that is swept.
+    pub fn extent(&self) -> usize
+        ensures { result ≡ self.now }
+    {
+        self.extent
+    }
+
+    /// Moves a live chunk off the extent, that of the least identifier and there the lowest: appends a frame of the same
+    /// bytes with `Purpose::Move`, and points the shard at it. Answers the identifier and the number of the chunk,
+    /// counted from 0, or None where nothing is live there. Frames of other extents aren't read; the index is gone
+    /// through.
+    ///
+    /// 1 `DeviceFault` and 20 to 24 as `read_frame`, then 30 `Full`, then 35 `WornOut`; 9 `OutOfMemory` may come instead of
+    /// any. After a refusal nothing has changed but room for more.
+    pub fn move_one<D: PageDisk>(
+        &self,
+        alloc: Global,
+        index: &mut Index,
+        extents: &mut Extents,
+        graph: &mut Graph,
+        disk: &mut D,
+    ) -> Result<Option<(ShardId, usize)>, Refusal>
+        requires swept { IsSwept (shape extents.old) (extents_of extents.old) self.now }
+        requires there { (id : ℕ) (l : Place) → l ∈ live_at (index_of index.old) id → (l.extent < (shape extents.old).extents) × (l.page < (shape extents.old).pages) }
+        requires device { 2 + (shape extents.old).extents * (shape extents.old).pages ≤ D.page_count disk.old }
+        requires families { root_family < length graph.old.staging.latest }
+        requires resets { AreResetsStaged (extents_of extents.old) graph.old.staging }
+
+        // Nothing is moved exactly where nothing is live there, and then nothing changes.
+        ensures none { (result ≡ Ok None) ↔ NothingLive (index_of index.old) self.now }
+        ensures unchanged { result ≡ Ok None → (index.new ≡ index.old) × (extents.new ≡ extents.old) × (graph.new ≡ graph.old) × (disk.new ≡ disk.old) }
+
+        // Else the first live chunk is moved, byte for byte.
+        ensures moved { (id : ShardId) (chunk : ℕ) → result ≡ Ok (Some (id, chunk))
+            → (payload : List ℕ) × (move : IsMoved index.old extents.old graph.old self.now (id_number id) chunk payload index.new extents.new graph.new)
+            × (D.honest disk.old → (view : ℕ → List ℕ) → AreNewest graph.old (seen (D.state disk.old)) view → IsFrameAt (shape extents.old) view ChunkFrame (as_locator move.from) payload) }
+
+        // The refusals of a frame are those of the first live chunk's, and the others come where it has no fault.
+        ensures damaged { D.honest disk.old → (view : ℕ → List ℕ) → AreNewest graph.old (seen (D.state disk.old)) view
+            → (id chunk : ℕ) (from : Place) → FirstLive (index_of index.old) self.now id chunk from → AnswersMove (fault_at (shape extents.old) view Chunk (as_locator from)) result }
+        ensures why { D.honest disk.old → (view : ℕ → List ℕ) → AreNewest graph.old (seen (D.state disk.old)) view
+            → (id chunk : ℕ) (from : Place) (payload : List ℕ) → FirstLive (index_of index.old) self.now id chunk from
+            → IsFrameAt (shape extents.old) view ChunkFrame (as_locator from) payload → AnswersPlace extents.old graph.old.staging payload result }
+        ensures refusals { IfErr result (λ r. IsReadRefusal r ⊎ (r ≡ Refusal.Full) ⊎ (r ≡ Refusal.WornOut)) }
+        ensures refused { OnErr result (index.new ≡ record index.old { room = index.new.room }) }
+        ensures unwritten { OnErr result (extents.new ≡ extents.old) }
+        ensures unstaged { OnErr result (graph.new ≡ record graph.old { room = graph.new.room }) }
+
+        // Whatever the answer, the sweep goes on, and the next append may be made.
+        ensures still { IsSwept (shape extents.new) (extents_of extents.new) self.now }
+        ensures resets { AreResetsStaged (extents_of extents.new) graph.new.staging }
+        ensures families { length graph.new.staging.latest ≡ length graph.old.staging.latest }
+        ensures shape { shape extents.new ≡ shape extents.old }
+        ensures limit { index.new.limit ≡ index.old.limit }
+
+        // The disk is only read.
+        ensures state { D.honest disk.old → D.state disk.new ≡ D.state disk.old }
+        ensures time { D.honest disk.old → Elapses (D.moment disk.old) (D.moment disk.new) (D.left_since disk.old) (D.left_since disk.new) (D.state disk.new) }
+        ensures honest { D.honest disk.old ↔ D.honest disk.new }
+        ensures pages { D.page_count disk.new ≡ D.page_count disk.old }
+        ensures cause { IsCaused (D.failure_count disk.old) (D.failure_count disk.new) result }
+    {
+        let Some(live) = first_live(index, self.extent) else {
+            return Ok(None);
+        };
+        match move_live(alloc, index, extents, graph, disk, &live) {
+            Ok(()) => Ok(Some((live.id, live.chunk))),
+            Err(refusal) => Err(refusal),
+        }
+    }
+
+    /// Retires the extent, on which nothing may be live: stages one run of all that is live, with `Purpose::Move`, and the
+    /// root over it, and empties the extent under that root. Answers the root's version. The extent isn't being swept any
+    /// more. `commands` is how many puts and deletes the root includes.
+    ///
+    /// 34 `StillLive` where something is live there, then 30 `Full` where no extent takes the run, then 35 `WornOut`, also
+    /// where the extent's generation is the greatest; 9 `OutOfMemory` may come instead of any. After a refusal nothing has
+    /// changed but room for more, and the sweep comes back.
+    pub fn retire(
+        self,
+        index: &mut Index,
+        extents: &mut Extents,
+        graph: &mut Graph,
+        commands: u64,
+    ) -> Result<u64, (Refusal, Sweep)>
+        requires swept { IsSwept (shape extents.old) (extents_of extents.old) self }
+        requires limit { index.old.limit ≡ (shape extents.old).most_names }
+        requires families { root_family < length graph.old.staging.latest }
+        requires resets { AreResetsStaged (extents_of extents.old) graph.old.staging }
+        requires commands { commands < 2 ^ 63 }
+        ensures retired { IfOk result (λ v. IsRetired index.old extents.old graph.old self v commands index.new extents.new graph.new) }
+
+        // The map stays.
+        ensures map { (id : ℕ) → live_at (index_of index.new) id ≡ live_at (index_of index.old) id }
+
+        // Which refusal comes, and 9 may come instead of the others.
+        ensures alive { (result ≡ Err (Refusal.StillLive, self)) ↔ ¬ NothingLive (index_of index.old) self }
+        ensures why { NothingLive (index_of index.old) self
+            → MatchResult result (λ _. (IsRetireFull index.old extents.old → ⊥) × (IsRetireWorn index.old extents.old graph.old.staging self → ⊥)) (λ r. IsWhy r.0 (IsRetireFull index.old extents.old) (IsRetireWorn index.old extents.old graph.old.staging self)) }
+        ensures refusals { IfErr result (λ r. (r.0 ≡ Refusal.StillLive) ⊎ (r.0 ≡ Refusal.Full) ⊎ (r.0 ≡ Refusal.WornOut) ⊎ (r.0 ≡ Refusal.OutOfMemory)) }
+        ensures back { IfErr result (λ r. r.1 ≡ self) }
+        ensures refused { OnErr result (index.new ≡ index.old) }
+        ensures unwritten { OnErr result (extents.new ≡ extents.old) }
+        ensures unstaged { OnErr result (graph.new ≡ record graph.old { room = graph.new.room }) }
+
+        // Whatever the answer, the next append may be made.
+        ensures resets { AreResetsStaged (extents_of extents.new) graph.new.staging }
+        ensures families { length graph.new.staging.latest ≡ length graph.old.staging.latest }
+        ensures shape { shape extents.new ≡ shape extents.old }
+        ensures limit { index.new.limit ≡ index.old.limit }
+    {
+        match retire_extent(self.extent, index, extents, graph, commands) {
+            Ok(root) => Ok(root),
+            Err(refusal) => Err((refusal, self)),
+        }
+    }
+
+    /// Ends the sweep; what was moved stays where it is now.
+    pub fn abandon(self, extents: &mut Extents)
+        requires inside { self < (shape extents.old).extents }
+        ensures marked { extents_of extents.new ≡ marked (extents_of extents.old) self false }
+        ensures shape { shape extents.new ≡ shape extents.old }
+    {
+        extents.set_swept(self.extent, false);
+    }
+}
+
+/// Whether an extent can be swept.
+fn is_sweepable(extents: &Extents, extent: usize) -> bool
+    ensures refused { IsTrue result → ¬ IsNotSweepable (shape extents.now) (extents_of extents.now) extent }
+    ensures not { ¬ (IsTrue result) → IsNotSweepable (shape extents.now) (extents_of extents.now) extent }
+{
+    extent < extents.extent_count()
+        && extents.pointer(extent) > 0
+        && !extents.is_open(extent)
+        && !extents.is_swept(extent)
+}
+
+/// Reads the frame of a live chunk, and appends it again.
+fn move_live<D: PageDisk>(
+    alloc: Global,
+    index: &mut Index,
+    extents: &mut Extents,
+    graph: &mut Graph,
+    disk: &mut D,
+    live: &LiveChunk,
+) -> Result<(), Refusal>
+    requires there { nth (live_at (index_of index.old) (id_number live.now.id)) live.now.chunk ≡ Some (place_of live.now.place) }
+    requires extent { live.now.place.extent < (shape extents.old).extents }
+    requires page { live.now.place.page < (shape extents.old).pages }
+    requires device { 2 + (shape extents.old).extents * (shape extents.old).pages ≤ D.page_count disk.old }
+    requires families { root_family < length graph.old.staging.latest }
+    requires resets { AreResetsStaged (extents_of extents.old) graph.old.staging }
+    ensures moved { OnOk result ((payload : List ℕ) × (to : Spot) × IsAppended extents.old graph.old ForMove (chunk_frame extents.old payload) to extents.new graph.new
+        × IsSet index.old (id_number live.now.id) (replaced (live_at (index_of index.old) (id_number live.now.id)) live.now.chunk (place_of to)) index.new
+        × (D.honest disk.old → (view : ℕ → List ℕ) → AreNewest graph.old (seen (D.state disk.old)) view → IsFrameAt (shape extents.old) view ChunkFrame live.now.place payload)) }
+    ensures damaged { D.honest disk.old → (view : ℕ → List ℕ) → AreNewest graph.old (seen (D.state disk.old)) view → AnswersMove (fault_at (shape extents.old) view Chunk live.now.place) result }
+    ensures why { D.honest disk.old → (view : ℕ → List ℕ) (payload : List ℕ) → AreNewest graph.old (seen (D.state disk.old)) view
+        → IsFrameAt (shape extents.old) view ChunkFrame live.now.place payload → AnswersPlace extents.old graph.old.staging payload result }
+    ensures refusals { IfErr result (λ r. IsReadRefusal r ⊎ (r ≡ Refusal.Full) ⊎ (r ≡ Refusal.WornOut)) }
+    ensures refused { OnErr result (index.new ≡ record index.old { room = index.new.room }) }
+    ensures unwritten { OnErr result (extents.new ≡ extents.old) }
+    ensures unstaged { OnErr result (graph.new ≡ record graph.old { room = graph.new.room }) }
+    ensures resets { AreResetsStaged (extents_of extents.new) graph.new.staging }
+    ensures families { length graph.new.staging.latest ≡ length graph.old.staging.latest }
+    ensures shape { shape extents.new ≡ shape extents.old }
+    ensures limit { index.new.limit ≡ index.old.limit }
+    ensures state { D.honest disk.old → D.state disk.new ≡ D.state disk.old }
+    ensures time { D.honest disk.old → Elapses (D.moment disk.old) (D.moment disk.new) (D.left_since disk.old) (D.left_since disk.new) (D.state disk.new) }
+    ensures honest { D.honest disk.old ↔ D.honest disk.new }
+    ensures pages { D.page_count disk.new ≡ D.page_count disk.old }
+    ensures cause { IsCaused (D.failure_count disk.old) (D.failure_count disk.new) result }
+{
+    let payload = match read_frame(alloc, extents, graph, disk, FrameKind::Chunk, live.place) {
+        Ok(payload) => payload,
+        Err(refusal) => return Err(refusal),
+    };
+    match encode_frame(alloc, FrameKind::Chunk, &payload) {
+        Ok(frame) => move_to(alloc, index, extents, graph, live, &frame),
+        Err(_) => Err(Refusal::OutOfMemory),
+    }
+}
+
+/// Appends the frame of a live chunk, and points its shard there.
+fn move_to(
+    alloc: Global,
+    index: &mut Index,
+    extents: &mut Extents,
+    graph: &mut Graph,
+    live: &LiveChunk,
+    frame: &[[u8; 4096]],
+) -> Result<(), Refusal>
+    requires there { nth (live_at (index_of index.old) (id_number live.now.id)) live.now.chunk ≡ Some (place_of live.now.place) }
+    requires pages { (1 ≤ length frame.now) × (length frame.now ≤ (shape extents.old).pages) }
+    requires families { root_family < length graph.old.staging.latest }
+    requires resets { AreResetsStaged (extents_of extents.old) graph.old.staging }
+    ensures moved { OnOk result ((to : Spot) × IsAppended extents.old graph.old ForMove frame.now to extents.new graph.new × IsSet index.old (id_number live.now.id) (replaced (live_at (index_of index.old) (id_number live.now.id)) live.now.chunk (place_of to)) index.new) }
+    ensures why { IsExact result (NoPlace (shape extents.old) (extents_of extents.old) ForMove (length frame.now)) (IsWorn graph.old.staging (length frame.now)) }
+    ensures refused { OnErr result (index.new ≡ record index.old { room = index.new.room }) }
+    ensures unwritten { OnErr result (extents.new ≡ extents.old) }
+    ensures unstaged { OnErr result (graph.new ≡ record graph.old { room = graph.new.room }) }
+    ensures resets { AreResetsStaged (extents_of extents.new) graph.new.staging }
+    ensures families { length graph.new.staging.latest ≡ length graph.old.staging.latest }
+    ensures shape { shape extents.new ≡ shape extents.old }
+    ensures limit { index.new.limit ≡ index.old.limit }
+{
+    index.reserve(1)?;
+    let before = places_of(alloc, index, live.id)?;
+    let mut after = Vec::from_slice(alloc, &before)?;
+    let (place, _) = extents.append(graph, frame, Purpose::Move)?;
+    set_place(&mut after, live.chunk, place);
+    point_at(index, live.id, &before, after);
+    Ok(())
+}
+
+/// Puts another place in place of one.
+fn set_place(places: &mut Vec<Locator>, chunk: usize, place: Locator)
+    requires { chunk < length places.old.items }
+    ensures { places.new.items ≡ slice_set places.old.items chunk place }
+{
+    places[chunk] = place;
+}
+
+/// Points a shard at other places, for which there is room.
+fn point_at(index: &mut Index, id: ShardId, before: &[Locator], after: Vec<Locator>)
+    requires before { lookup (id_number id) (index_of index.old) ≡ Some (map place_of before.now) }
+    requires after { (1 ≤ length after.items) × (length after.items ≤ 8) }
+    requires room { 0 < index.old.room }
+    ensures { IsSet index.old (id_number id) (map place_of after.items) index.new }
+{
+    match index.replace_if(id, before, after) {
+        Ok(_) => {}
+        Err(_) => unreachable!(),
+    }
+}
+
+/// Where the chunks of a shard are.
+fn places_of(alloc: Global, index: &Index, id: ShardId) -> Result<Vec<Locator>, Refusal>
+    ensures places { IfOk result (λ places. map place_of places.items ≡ live_at (index_of index.now) (id_number id)) }
+    ensures short { IfOk result (λ places. length places.items ≤ 8) }
+    ensures refusals { IfErr result (λ r. r ≡ Refusal.OutOfMemory) }
+{
+    match index.lookup(id) {
+        Some(places) => Ok(Vec::from_slice(alloc, places)?),
+        None => Ok(Vec::new(alloc)),
+    }
+}
+
+/// Stages the merged run and its root, and empties the extent under it.
+fn retire_extent(
+    extent: usize,
+    index: &mut Index,
+    extents: &mut Extents,
+    graph: &mut Graph,
+    commands: u64,
+) -> Result<u64, Refusal>
+    requires swept { IsSwept (shape extents.old) (extents_of extents.old) extent }
+    requires limit { index.old.limit ≡ (shape extents.old).most_names }
+    requires families { root_family < length graph.old.staging.latest }
+    requires resets { AreResetsStaged (extents_of extents.old) graph.old.staging }
+    requires commands { commands < 2 ^ 63 }
+    ensures retired { IfOk result (λ v. IsRetired index.old extents.old graph.old extent v commands index.new extents.new graph.new) }
+    ensures map { (id : ℕ) → live_at (index_of index.new) id ≡ live_at (index_of index.old) id }
+    ensures alive { (result ≡ Err Refusal.StillLive) ↔ ¬ NothingLive (index_of index.old) extent }
+    ensures why { NothingLive (index_of index.old) extent → IsExact result (IsRetireFull index.old extents.old) (IsRetireWorn index.old extents.old graph.old.staging extent) }
+    ensures refusals { IfErr result (λ r. (r ≡ Refusal.StillLive) ⊎ (r ≡ Refusal.Full) ⊎ (r ≡ Refusal.WornOut) ⊎ (r ≡ Refusal.OutOfMemory)) }
+    ensures refused { OnErr result (index.new ≡ index.old) }
+    ensures unwritten { OnErr result (extents.new ≡ extents.old) }
+    ensures unstaged { OnErr result (graph.new ≡ record graph.old { room = graph.new.room }) }
+    ensures resets { AreResetsStaged (extents_of extents.new) graph.new.staging }
+    ensures families { length graph.new.staging.latest ≡ length graph.old.staging.latest }
+    ensures shape { shape extents.new ≡ shape extents.old }
+    ensures limit { index.new.limit ≡ index.old.limit }
+{
+    if first_live(index, extent).is_some() {
+        return Err(Refusal::StillLive);
+    }
+    if extents.generation(extent) == LAST_GENERATION {
+        return Err(why_worn(index, extents)?);
+    }
+    let root = index.stage_merged(extents, graph, commands, Purpose::Move)?;
+    match extents.reset(extent, root) {
+        Ok(()) => {}
+        Err(_) => unreachable!(),
+    }
+    extents.set_swept(extent, false);
+    Ok(root)
+}
+
+/// Why an extent of the greatest generation isn't retired: 30 `Full` comes before 35 `WornOut`.
+fn why_worn(index: &Index, extents: &Extents) -> Result<Refusal, Refusal>
+    requires { index.now.limit ≡ (shape extents.now).most_names }
+    ensures { MatchResult result (λ r. ((r ≡ Refusal.WornOut) × (IsRetireFull index.now extents.now → ⊥)) ⊎ ((r ≡ Refusal.Full) × IsRetireFull index.now extents.now)) (λ r. r ≡ Refusal.OutOfMemory) }
+{
+    if index.merged_fits(extents, Purpose::Move)? {
+        Ok(Refusal::WornOut)
+    } else {
+        Ok(Refusal::Full)
+    }
+}
