@@ -2,7 +2,7 @@
 use Rattle.std.proofs.Common.{◌≡◌, ◌∙◌, ℕ, List, [], ◌++◌, Some, None, sym, ap, subst, append_assoc}
 use Rattle.std.specs.Prelude.{Option}
 use Rattle.std.proofs.lemmas.List.{append-nil}
-use Rattle.std.specs.Io.KnownBytes.{Appends}
+use Rattle.std.specs.Io.KnownBytes.{Appends, Keeps}
 
 pub appends_none : (a : Option (List ℕ)) → Appends a a []
 appends_none None = tt
@@ -17,3 +17,10 @@ appends_then (Some us) (Some vs) (Some ws) xs ys h k = k ∙ ap (λ l. l ++ ys) 
 -- with the same bytes, written otherwise
 pub appends_same : (a b : Option (List ℕ)) (xs ys : List ℕ) → xs ≡ ys → Appends a b xs → Appends a b ys
 appends_same a b xs ys e h = subst (Appends a b) e h
+
+-- and then nothing more
+pub appends_kept : (a b c : Option (List ℕ)) (xs : List ℕ) → Appends a b xs → Keeps b c → Appends a c xs
+appends_kept None b c xs h k = tt
+appends_kept (Some us) None c xs h k = absurd h
+appends_kept (Some us) (Some vs) None xs h k = absurd k
+appends_kept (Some us) (Some vs) (Some ws) xs h k = k ∙ h

@@ -1,10 +1,12 @@
 pub mod MemberSteps
-pub mod StagedSteps
 pub mod Pendings
-pub mod Sound
-pub mod SoundRounds
+pub mod Kept
+pub mod Moves
 pub mod Appended
 pub mod Words
 pub mod SyncSteps
 pub mod LineSteps
 pub mod RootSteps
+pub mod PlanSteps
+pub mod CheckSteps
+pub mod HexSteps

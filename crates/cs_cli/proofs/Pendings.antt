@@ -1,43 +1,15 @@
--- What waits once one more element was staged, or once a round is persistent.
+-- What waits once a round is persistent.
 use Rattle.std.proofs.Common.{◌≡◌, ◌∙◌, ◌⊎◌, ℕ, zero, suc, ◌<◌, ◌≤◌, List, [], ◌∷◌, Bool, true, false, cond, if◌then◌else◌, Some, length, slice_get, sym, ap, subst, inl, inr, ⊎_elim, arith, refl}
 use Rattle.std.specs.Prelude.{Contains, filter}
-use Rattle.std.proofs.lemmas.Option.{some_pair_parts}
 use Rattle.std.proofs.lemmas.Bool.Decides.{nat_tests}
 use Rattle.cs_deps.specs.declared.elements.Element.{Element}
 use Rattle.cs_deps.specs.declared.elements.Element.TheVariants.{Plain, Version}
-use Rattle.cs_deps.specs.Named.{Named, StandsFor}
-use Rattle.cs_deps.specs.Pending.{Pending, Waits, IsPersistent}
-use Rattle.cs_deps.specs.Staging.{staged_after, stands_for, still_waits, settled}
-use Rattle.cs_deps.proofs.Kept.{at_push, at_keep, at_end}
-
--- what waited before waits still
-pub waits_after : (g : Pending) (x : Element) (d : Named) (y : Element) → Waits g y → Waits (staged_after g x d) y
-waits_after g x d y w = (w.0, w.1, at_keep g.waiting (x, d) (y, w.1) w.0 w.2)
-
--- the new element waits
-pub new_waits : (g : Pending) (x : Element) (d : Named) → Waits (staged_after g x d) x
-new_waits g x d = (length g.waiting, d, at_end g.waiting (x, d))
-
-pub waits_was : (g : Pending) (x : Element) (d : Named) (y : Element) → Waits (staged_after g x d) y → Waits g y ⊎ (x ≡ y)
-waits_was g x d y w = ⊎_elim
-    (λ (h : slice_get g.waiting w.0 ≡ Some (y, w.1)). inl (w.0, w.1, h))
-    (λ (h : (w.0 ≡ length g.waiting) × ((x, d) ≡ (y, w.1))). inr (let same : Some (x, d) ≡ Some (y, w.1) = ap (λ (u : Element × Named). Some u) h.1 in (some_pair_parts x y d w.1 same).0))
-    (at_push g.waiting (x, d) (y, w.1) w.0 w.2)
-
--- a plain write that is persistent stays so, and one that is now was before
-pub persistent_after : (g : Pending) (x : Element) (d : Named) (m : ℕ) → (x ≡ Plain m → ⊥) → IsPersistent g (Plain m) → IsPersistent (staged_after g x d) (Plain m)
-persistent_after g x d m other p w = ⊎_elim (λ (h : Waits g (Plain m)). p h) other (waits_was g x d (Plain m) w)
-
-pub persistent_was : (g : Pending) (x : Element) (d : Named) (m : ℕ) → IsPersistent (staged_after g x d) (Plain m) → IsPersistent g (Plain m)
-persistent_was g x d m p w = p (waits_after g x d (Plain m) w)
-
--- only a plain write stands for itself
-pub stands_for_plain : (y : Element) (m : ℕ) → StandsFor y (Plain m) → y ≡ Plain m
-stands_for_plain (Plain n) m h = ap (λ k. Plain k) h
-stands_for_plain (Version f v) m h = absurd h
+use Rattle.cs_deps.specs.Named.{Named}
+use Rattle.cs_deps.specs.Pending.{Pending, Waits}
+use Rattle.cs_deps.specs.Staging.{stands_for, still_waits, settled}
 
 -- elements of a list with one more in front
-pub cons_cases : {X : Type 0} (y : X) (ys : List X) (x : X) → Contains (y ∷ ys) x → (y ≡ x) ⊎ Contains ys x
+cons_cases : {X : Type 0} (y : X) (ys : List X) (x : X) → Contains (y ∷ ys) x → (y ≡ x) ⊎ Contains ys x
 cons_cases y ys x (zero, lt, e) = inl e
 cons_cases y ys x (suc k, lt, e) = inr (k, omega (arith, lt), e)
 
@@ -80,9 +52,6 @@ filter_shorter p (y ∷ xs) (suc k) x at left = at_head (p y) y (filter p xs) xs
     at_head : {Y : Type 0} (b : Bool) (y : Y) (ys zs : List Y) → length ys < length zs → length (cond b (y ∷ ys) ys) < suc (length zs)
     at_head true y ys zs le = omega (arith, le)
     at_head false y ys zs le = omega (arith, le)
-
-pub settled_short : (g : Pending) (round : List Element) → length (settled g round).waiting ≤ length g.waiting
-settled_short g round = filter_short (still_waits round) g.waiting
 
 -- where it has a member, which waits
 pub settled_shorter : (g : Pending) (round : List Element) (x : Element) → Contains round x → Waits g x → length (settled g round).waiting < length g.waiting

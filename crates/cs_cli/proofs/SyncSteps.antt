@@ -16,7 +16,7 @@ use Rattle.cs_cli.specs.Stored.{Stored, EndsAt, reached_of}
 use Rattle.cs_cli.proofs.Appended.{appends_none, appends_then, appends_same}
 
 -- one line more
-round_lines_more : (i : ℕ) (rounds : List (List Element)) (round : List Element) → round_lines i (rounds ++ round ∷ []) ≡ round_lines i rounds ++ round_line (i + length rounds) round
+pub round_lines_more : (i : ℕ) (rounds : List (List Element)) (round : List Element) → round_lines i (rounds ++ round ∷ []) ≡ round_lines i rounds ++ round_line (i + length rounds) round
 round_lines_more i [] round = append-nil (round_line i round) ∙ ap (λ n. round_line n round) same
   where
     same : i ≡ i + 0
@@ -29,20 +29,20 @@ round_lines_more i (r ∷ rounds) round =
     same : i + 1 + length rounds ≡ i + length (r ∷ rounds)
     same = omega arith
 
--- after so many rounds
-pub record RoundsSoFar (first now : Stored) (before after : Option (List ℕ)) (ended : ℕ) : Type 0 where
+-- after so many rounds, of which there are no more than elements that waited
+pub record RoundsSoFar (first now : Stored) (before after : Option (List ℕ)) (ended most : ℕ) : Type 0 where
   pub out : now.out ≡ None
   pub same : reached_of now ≡ reached_of first
   pub lines : (rounds : List (List Element)) × (ended ≡ length rounds) × Appends before after (round_lines 1 rounds)
-  pub few : ended + length now.graph.staging.pending.waiting ≤ 32
+  pub few : ended + length now.graph.staging.pending.waiting ≤ most
 
-pub so_far_none : (s : Stored) (contents : Option (List ℕ)) → s.out ≡ None → length s.graph.staging.pending.waiting ≤ 32 → RoundsSoFar s s contents contents 0
-so_far_none s contents out few = record { out = out; same = refl; lines = ([], refl, appends_none contents); few = omega (arith, few) }
+pub so_far_none : (s : Stored) (contents : Option (List ℕ)) (most : ℕ) → s.out ≡ None → length s.graph.staging.pending.waiting ≤ most → RoundsSoFar s s contents contents 0 most
+so_far_none s contents most out few = record { out = out; same = refl; lines = ([], refl, appends_none contents); few = omega (arith, few) }
 
-pub so_far_more : (first old new : Stored) (before mid after : Option (List ℕ)) (ended : ℕ) (round : List Element) → RoundsSoFar first old before mid ended
+pub so_far_more : (first old new : Stored) (before mid after : Option (List ℕ)) (ended most : ℕ) (round : List Element) → RoundsSoFar first old before mid ended most
     → new.out ≡ None → reached_of new ≡ reached_of old → length new.graph.staging.pending.waiting < length old.graph.staging.pending.waiting
-    → Appends mid after (round_line (ended + 1) round) → RoundsSoFar first new before after (ended + 1)
-so_far_more first old new before mid after ended round so out same fewer printed = record {
+    → Appends mid after (round_line (ended + 1) round) → RoundsSoFar first new before after (ended + 1) most
+so_far_more first old new before mid after ended most round so out same fewer printed = record {
   out = out;
   same = same ∙ so.same;
   lines =
@@ -52,6 +52,14 @@ so_far_more first old new before mid after ended round so out same fewer printed
       (rounds ++ round ∷ [], count, appends_same before after (round_lines 1 rounds ++ round_line (ended + 1) round) (round_lines 1 (rounds ++ round ∷ [])) (ap (λ n. round_lines 1 rounds ++ round_line n round) number ∙ sym (round_lines_more 1 rounds round)) (appends_then before mid after (round_lines 1 rounds) (round_line (ended + 1) round) so.lines.2 printed));
   few = omega (arith, so.few, fewer);
 }
+
+-- after as many rounds nothing waits
+pub all_ended : (first now : Stored) (before after : Option (List ℕ)) (ended most : ℕ) → most ≤ ended → RoundsSoFar first now before after ended most → now.graph.staging.pending.waiting ≡ []
+all_ended first now before after ended most le so = none_left now.graph.staging.pending.waiting (omega (arith, le, so.few))
+  where
+    none_left : {X : Type 0} (xs : List X) → length xs ≤ 0 → xs ≡ []
+    none_left [] le = refl
+    none_left (x ∷ xs) le = absurd (omega (arith, le))
 
 -- an event was refused
 pub if_refused : {T : Type 0} (result : Result T Stop) (P : Stop → Type 0) (r : Refusal) → IsErrAnd result (λ stop. stop ≡ Refused r) → P (Refused r) → IfErr result P

@@ -1,10 +1,8 @@
-pub mod Allocation
-pub mod Pages
 pub mod Commands
 pub mod Stored
-pub mod Staged
 pub mod Members
 pub mod Outputs
 pub mod Lines
 pub mod Scripts
 pub mod Stops
+pub mod Checks

@@ -1,23 +1,31 @@
 -- What a line of a script says.
-use Rattle.std.specs.Prelude.{ℕ, Bool, true, List, [], ◌∷◌, length, codes, nat_lt, ◌==◌, if◌then◌else◌, filter, Option, Some, None, Result, Ok, Err}
+use Rattle.std.specs.Prelude.{ℕ, Bool, true, List, [], ◌∷◌, length, codes, nat_lt, ◌==◌, if◌then◌else◌, filter, Option, Some, None, option_map, unwrap_or, Result, Ok, Err}
 use Rattle.std.specs.List.{slice_split}
 use Rattle.std.specs.Str.{bytes_eq}
 use Rattle.uuid.specs.Text.{parsed}
 use Rattle.hex.specs.Hex.{decode_of}
 use Rattle.hex.specs.declared.error.FromHexError.{FromHexError}
 use Rattle.cs_cli.specs.declared.lines.Line.{Line}
-use Rattle.cs_cli.specs.declared.lines.Line.TheVariants.{Put, Sync, Nothing, Bad}
+use Rattle.cs_cli.specs.declared.lines.Line.TheVariants.{Put, Get, Delete, Sync, Plan, Document, Nothing, Bad}
 
--- to put these bytes under this identifier, to make all persistent, nothing, or it isn't readable
+-- to put these bytes under this identifier, to get or to delete what is under it, to make all persistent, to print the plan for that or its document, nothing, or it isn't readable
 pub data Said : Type 0 where
   says_put : List ℕ → List ℕ → Said
+  says_get : List ℕ → Said
+  says_delete : List ℕ → Said
   says_sync : Said
+  says_plan : Said
+  says_document : Said
   says_nothing : Said
   unreadable : Said
 
 abbrev pub said_by : Line → Said
 said_by (Put id bytes) = says_put id bytes.items
+said_by (Get id) = says_get id
+said_by (Delete id) = says_delete id
 said_by Sync = says_sync
+said_by Plan = says_plan
+said_by Document = says_document
 said_by Nothing = says_nothing
 said_by Bad = unreadable
 
@@ -51,14 +59,32 @@ said_put (id ∷ []) = unreadable
 said_put (id ∷ payload ∷ []) = put_of (parsed id) (payload_of payload)
 said_put (id ∷ payload ∷ word ∷ rest) = unreadable
 
--- with these words behind `sync`
-abbrev pub said_sync : List (List ℕ) → Said
-said_sync [] = says_sync
-said_sync (word ∷ rest) = unreadable
+-- the identifier that these words are, where there is one word alone
+abbrev pub one_id : List (List ℕ) → Option (List ℕ)
+one_id [] = None
+one_id (id ∷ []) = parsed id
+one_id (id ∷ word ∷ rest) = None
+
+-- with these words behind `get`
+abbrev pub said_get : List (List ℕ) → Said
+said_get rest = unwrap_or (option_map says_get (one_id rest)) unreadable
+
+-- with these words behind `del`
+abbrev pub said_delete : List (List ℕ) → Said
+said_delete rest = unwrap_or (option_map says_delete (one_id rest)) unreadable
+
+-- with these words behind a word that stands alone
+abbrev pub said_alone : Said → List (List ℕ) → Said
+said_alone said [] = said
+said_alone said (word ∷ rest) = unreadable
+
+-- what a first word says that stands alone
+abbrev pub said_by_word : List ℕ → Said
+said_by_word word = if bytes_eq word (codes "sync") then says_sync else if bytes_eq word (codes "plan") then says_plan else if bytes_eq word (codes "document") then says_document else unreadable
 
 abbrev pub said_words : List (List ℕ) → Said
 said_words [] = unreadable
-said_words (word ∷ rest) = if bytes_eq word (codes "put") then said_put rest else if bytes_eq word (codes "sync") then said_sync rest else unreadable
+said_words (word ∷ rest) = if bytes_eq word (codes "put") then said_put rest else if bytes_eq word (codes "get") then said_get rest else if bytes_eq word (codes "del") then said_delete rest else said_alone (said_by_word word) rest
 
 -- what a line says, without its line feed
 abbrev pub said_of : List ℕ → Said

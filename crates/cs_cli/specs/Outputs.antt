@@ -1,10 +1,11 @@
 -- The lines that a script prints.
-use Rattle.std.specs.Prelude.{ℕ, ◌+◌, List, [], ◌∷◌, ◌++◌, codes, decimal, if◌then◌else◌, ◌==◌}
+use Rattle.std.specs.Prelude.{◌≡◌, ℕ, ◌+◌, List, [], ◌∷◌, ◌++◌, codes, decimal, length, if◌then◌else◌, ◌==◌}
 use Rattle.std.specs.List.{flat_map}
 use Rattle.cs_deps.specs.declared.elements.Element.{Element}
 use Rattle.cs_deps.specs.declared.elements.Element.TheVariants.{Plain, Version}
 use Rattle.cs_deps.specs.declared.refusals.Refusal.{Refusal}
 use Rattle.cs_deps.specs.Refusals.{number_of, name_of}
+use Rattle.hex.specs.Hex.{encode_lower}
 
 -- a text and a line feed
 abbrev pub line_of : List ℕ → List ℕ
@@ -13,12 +14,27 @@ line_of text = text ++ 10 ∷ []
 abbrev pub put_line : ℕ → List ℕ
 put_line n = line_of (codes "put " ++ decimal n)
 
+-- the bytes of a shard in hex digits, or a dash for none
+abbrev pub value_line : List ℕ → List ℕ
+value_line [] = line_of (codes "value -")
+value_line (x ∷ xs) = line_of (codes "value " ++ encode_lower (x ∷ xs))
+
+abbrev pub absent_line : List ℕ
+absent_line = line_of (codes "absent")
+
+abbrev pub delete_line : ℕ → List ℕ
+delete_line n = line_of (codes "del " ++ decimal n)
+
 abbrev pub bad_line : List ℕ
 bad_line = line_of (codes "bad line")
 
 -- the number and the name of a refusal
 abbrev pub refusal_line : Refusal → List ℕ
 refusal_line r = line_of (codes "refused " ++ decimal (number_of r) ++ codes " " ++ name_of r)
+
+-- the line of some refusal
+abbrev pub IsRefusalLine : List ℕ → Type 0
+IsRefusalLine out = (r : Refusal) × (out ≡ refusal_line r)
 
 abbrev pub end_line : ℕ → List ℕ
 end_line n = line_of (codes "end acknowledged " ++ decimal n)
@@ -50,3 +66,11 @@ acknowledged_line n = line_of (codes "acknowledged " ++ decimal n)
 abbrev pub round_lines : ℕ → List (List Element) → List ℕ
 round_lines i [] = []
 round_lines i (round ∷ rounds) = round_line i round ++ round_lines (i + 1) rounds
+
+-- the lines of a plan: its rounds, its chain and how many flushes it takes
+abbrev pub plan_lines : List (List Element) → List Element → List ℕ
+plan_lines rounds chain = round_lines 1 rounds ++ chain_line chain ++ flushes_line (length rounds)
+
+-- the line of a plan that was checked
+abbrev pub optimal_line : ℕ → List ℕ
+optimal_line n = line_of (codes "optimal " ++ decimal n)

@@ -4,7 +4,7 @@ ghost use Rattle.std.specs.Prelude.{◌≡◌};
 use std::io;
 use std::io::{ErrorKind, Read};
 
-/// How often a script may be read.
+/// How often a script or a document may be read.
 pub const READS: u64 = 4_294_967_296;
 
 /// Fails once it was read so often.

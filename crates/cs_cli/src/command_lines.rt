@@ -1,16 +1,15 @@
 //! The command line.
+use crate::checks::run_check;
 use crate::scripts::{print_no_store, run_script};
 use crate::statuses;
-use clap::Command;
+use clap::{Arg, ArgAction, ArgMatches, Command};
 use cs_deps::Refusal;
 use cs_disk::MemoryDisk;
+use cs_frame::Geometry;
 use std::alloc::{AllocError, Global};
 use std::io::BufWriter;
 use std::rt::Env;
 use std::{env, io};
-
-/// How many pages the device of `run` has: one each for superblock and root, and 6 extents of 2.
-const DEVICE_PAGES: u64 = 14;
 
 /// Does what the command line asks for, and gives the exit status.
 pub fn run<R: Env + AllocGlobal + Input + Print + Eprint>(rt: &R) -> u8
@@ -29,8 +28,11 @@ where
         return statuses::COMMAND_LINE;
     };
     match command.try_get_matches_from(words.as_slice()) {
-        // The only subcommand is `run`, and one is required.
-        Ok(_) => run_standard_input(rt),
+        // A subcommand is required, and there are but two.
+        Ok(matches) => match matches.subcommand_matches("run") {
+            Some(options) => run_standard_input(rt, options),
+            None => check_standard_input(rt),
+        },
         Err(error) => match error.print(rt) {
             Ok(()) if error.use_stderr() => statuses::COMMAND_LINE,
             Ok(()) => statuses::DONE,
@@ -50,15 +52,45 @@ fn words_given<R: Env + AllocGlobal>(rt: &R) -> io::Result<Vec<String>> {
 
 /// The command line that is understood.
 fn command<'a>(alloc: Global) -> Result<Command<'a>, AllocError> {
-    let run = Command::new(alloc, "run").about("Runs a script from standard input");
+    let run = Command::new(alloc, "run")
+        .about("Runs a script from standard input")
+        .arg(number(alloc, "extents", "6", "How many extents, 4 to 512"))?
+        .arg(number(
+            alloc,
+            "pages",
+            "2",
+            "How many pages an extent has, 2 to 256",
+        ))?;
+    let check = Command::new(alloc, "check").about("Checks a plan document from standard input");
     Command::new(alloc, "cs_cli")
         .about("A chunk store that writes back with the fewest flushes")
         .subcommand_required(true)
-        .subcommand(run)
+        .subcommand(run)?
+        .subcommand(check)
+}
+
+/// An option that takes a number.
+fn number<'a>(alloc: Global, name: &'a str, default: &'a str, help: &'a str) -> Arg<'a> {
+    Arg::new(alloc, name)
+        .long(name)
+        .action(ArgAction::Set)
+        .value_parser(clap::value_parser!(u64))
+        .default_value(default)
+        .help(help)
+}
+
+/// The geometry that the options ask for. Refused 7 BadGeometry.
+fn geometry_of(options: &ArgMatches) -> Result<Geometry, Refusal> {
+    let extents = options.get_one::<u64>("extents").unwrap_or(6);
+    let pages = options.get_one::<u64>("pages").unwrap_or(2);
+    match Geometry::new(extents, pages) {
+        Ok(geometry) => Ok(geometry),
+        Err(_) => Err(Refusal::BadGeometry),
+    }
 }
 
 /// Runs the script on standard input over a new disk in memory.
-fn run_standard_input<R: AllocGlobal + Input + Print>(rt: &R) -> u8
+fn run_standard_input<R: AllocGlobal + Input + Print>(rt: &R, options: &ArgMatches) -> u8
 where
     R::Reader: Drop,
 {
@@ -66,8 +98,20 @@ where
     let Ok(mut writer) = BufWriter::new(alloc, io::writer(rt)) else {
         return print_no_store(&mut io::writer(rt), Refusal::OutOfMemory);
     };
-    match MemoryDisk::new(alloc, DEVICE_PAGES) {
-        Ok(disk) => run_script(alloc, disk, rt.reader(), &mut writer).status,
+    let geometry = match geometry_of(options) {
+        Ok(geometry) => geometry,
+        Err(refusal) => return print_no_store(&mut writer, refusal),
+    };
+    match MemoryDisk::new(alloc, geometry.device_pages()) {
+        Ok(disk) => run_script(alloc, disk, geometry, rt.reader(), &mut writer).status,
         Err(_) => print_no_store(&mut writer, Refusal::OutOfMemory),
     }
+}
+
+/// Checks the plan document on standard input.
+fn check_standard_input<R: AllocGlobal + Input + Print>(rt: &R) -> u8
+where
+    R::Reader: Drop,
+{
+    run_check(rt.alloc(), rt.reader(), &mut io::writer(rt))
 }

@@ -2,7 +2,7 @@
 ghost use Rattle.std.specs.Prelude.{◌≡◌, ◌==◌, ◌∷◌, [], IfOk, MatchOption, option_map, not};
 ghost use Rattle.std.specs.Prelude.{position};
 ghost use Rattle.uuid.specs.Text.{parsed};
-ghost use Rattle.cs_cli.specs.Lines.{said_by, is_silent, words, payload_of, said_put, said_sync, said_of};
+ghost use Rattle.cs_cli.specs.Lines.{said_by, is_silent, words, payload_of, one_id, said_put, said_get, said_delete, said_alone, said_by_word, said_of};
 
 use hex::FromHexError;
 use std::alloc::{AllocError, Global};
@@ -16,8 +16,16 @@ const SPACE: u8 = b' ';
 pub enum Line {
     /// Puts a shard.
     Put { id: [u8; 16], bytes: Vec<u8> },
-    /// Makes all that was put persistent.
+    /// Prints the bytes of a shard.
+    Get { id: [u8; 16] },
+    /// Deletes a shard.
+    Delete { id: [u8; 16] },
+    /// Makes all that was put and deleted persistent.
     Sync,
+    /// Prints how all that was put would be made persistent.
+    Plan,
+    /// Prints the plan document of all that waits.
+    Document,
     /// An empty line, or a remark.
     Nothing,
     /// Not readable.
@@ -39,10 +47,12 @@ impl Line {
         };
         if word == b"put".as_slice() {
             read_put(alloc, rest)
-        } else if word == b"sync".as_slice() {
-            Ok(read_sync(rest))
+        } else if word == b"get".as_slice() {
+            Ok(read_get(rest))
+        } else if word == b"del".as_slice() {
+            Ok(read_delete(rest))
         } else {
-            Ok(Line::Bad)
+            Ok(read_alone(read_word(word), rest))
         }
     }
 }
@@ -78,12 +88,27 @@ fn word_end(text: &[u8]) -> Option<usize>
     text.iter().position(|byte| *byte == SPACE)
 }
 
-/// The line with these words behind `sync`.
-fn read_sync(rest: &[u8]) -> Line
-    ensures { said_by result ≡ said_sync (words rest.now) }
+/// The line of a word that stands alone.
+fn read_word(word: &[u8]) -> Line
+    ensures { said_by result ≡ said_by_word word.now }
+{
+    if word == b"sync".as_slice() {
+        Line::Sync
+    } else if word == b"plan".as_slice() {
+        Line::Plan
+    } else if word == b"document".as_slice() {
+        Line::Document
+    } else {
+        Line::Bad
+    }
+}
+
+/// The line of a word that stands alone, with these words behind it.
+fn read_alone(line: Line, rest: &[u8]) -> Line
+    ensures { said_by result ≡ said_alone (said_by line) (words rest.now) }
 {
     match take_word(rest) {
-        None => Line::Sync,
+        None => line,
         Some(_) => Line::Bad,
     }
 }
@@ -107,6 +132,37 @@ fn read_put(alloc: Global, rest: &[u8]) -> Result<Line, AllocError>
     match read_payload(alloc, payload)? {
         Some(bytes) => Ok(Line::Put { id, bytes }),
         None => Ok(Line::Bad),
+    }
+}
+
+/// The line with these words behind `get`.
+fn read_get(rest: &[u8]) -> Line
+    ensures { said_by result ≡ said_get (words rest.now) }
+{
+    match read_one_id(rest) {
+        Some(id) => Line::Get { id },
+        None => Line::Bad,
+    }
+}
+
+/// The line with these words behind `del`.
+fn read_delete(rest: &[u8]) -> Line
+    ensures { said_by result ≡ said_delete (words rest.now) }
+{
+    match read_one_id(rest) {
+        Some(id) => Line::Delete { id },
+        None => Line::Bad,
+    }
+}
+
+/// The identifier that these words are, where there is one word alone and it is one.
+fn read_one_id(rest: &[u8]) -> Option<[u8; 16]>
+    ensures { result ≡ one_id (words rest.now) }
+{
+    let (id, rest) = take_word(rest)?;
+    match take_word(rest) {
+        None => read_id(id),
+        Some(_) => None,
     }
 }
 

@@ -1,16 +1,17 @@
-//! The program: runs scripts.
+//! The program: runs scripts, whose lines are `put`, `get`, `del`, `sync`, `plan` and `document`, and checks plan documents.
 #![tactic(auto)]
 
 mod accepts;
-mod allocations;
 mod bounded_readers;
+mod checks;
 mod command_lines;
-mod frames;
+mod documents;
+mod formats;
 mod frontiers;
 mod lines;
 mod members;
 mod outputs;
-mod pages;
+mod plans;
 mod roots;
 mod scripts;
 mod statuses;

@@ -1,7 +1,8 @@
 //! The lines that a script prints. Any write may fail, and nothing says when, so each of these may answer an error.
-ghost use Rattle.std.specs.Prelude.{OnOk};
+ghost use Rattle.std.specs.Prelude.{OnOk, ◌∷◌, []};
 ghost use Rattle.std.specs.Io.KnownBytes.{Appends};
-ghost use Rattle.cs_cli.specs.Outputs.{put_line, bad_line, refusal_line, end_line, element_name, element_names, round_line, chain_line, flushes_line, acknowledged_line};
+ghost use Rattle.hex.specs.Hex.{encode_lower};
+ghost use Rattle.cs_cli.specs.Outputs.{put_line, value_line, absent_line, delete_line, bad_line, refusal_line, end_line, element_name, element_names, round_line, chain_line, flushes_line, acknowledged_line, optimal_line};
 
 use cs_deps::{Element, Refusal};
 use std::io;
@@ -12,6 +13,32 @@ pub fn print_put<W: Write>(writer: &mut W, number: usize) -> io::Result<()>
     ensures { OnOk result (Appends (W.contents writer.old) (W.contents writer.new) (put_line number)) }
 {
     writeln!(writer, "put {number}")
+}
+
+/// `value` and the bytes in hex digits, lower case, or a dash for no byte.
+pub fn print_value<W: Write>(writer: &mut W, bytes: &[u8]) -> io::Result<()>
+    ensures { OnOk result (Appends (W.contents writer.old) (W.contents writer.new) (value_line bytes.now)) }
+{
+    if bytes.is_empty() {
+        return writeln!(writer, "value -");
+    }
+    write!(writer, "value ")?;
+    print_bytes(writer, bytes)?;
+    writeln!(writer)
+}
+
+/// `absent`.
+pub fn print_absent<W: Write>(writer: &mut W) -> io::Result<()>
+    ensures { OnOk result (Appends (W.contents writer.old) (W.contents writer.new) absent_line) }
+{
+    writeln!(writer, "absent")
+}
+
+/// `del n`.
+pub fn print_delete<W: Write>(writer: &mut W, number: usize) -> io::Result<()>
+    ensures { OnOk result (Appends (W.contents writer.old) (W.contents writer.new) (delete_line number)) }
+{
+    writeln!(writer, "del {number}")
 }
 
 /// `bad line`.
@@ -70,6 +97,30 @@ pub fn print_acknowledged<W: Write>(writer: &mut W, number: usize) -> io::Result
     ensures { OnOk result (Appends (W.contents writer.old) (W.contents writer.new) (acknowledged_line number)) }
 {
     writeln!(writer, "acknowledged {number}")
+}
+
+/// `optimal n`.
+pub fn print_optimal<W: Write>(writer: &mut W, flushes: usize) -> io::Result<()>
+    ensures { OnOk result (Appends (W.contents writer.old) (W.contents writer.new) (optimal_line flushes)) }
+{
+    writeln!(writer, "optimal {flushes}")
+}
+
+/// Two hex digits for each byte.
+fn print_bytes<W: Write>(writer: &mut W, bytes: &[u8]) -> io::Result<()>
+    ensures { OnOk result (Appends (W.contents writer.old) (W.contents writer.new) (encode_lower bytes.now)) }
+{
+    for byte in bytes {
+        print_byte(writer, *byte)?;
+    }
+    Ok(())
+}
+
+/// Two hex digits.
+fn print_byte<W: Write>(writer: &mut W, byte: u8) -> io::Result<()>
+    ensures { OnOk result (Appends (W.contents writer.old) (W.contents writer.new) (encode_lower (byte ∷ []))) }
+{
+    write!(writer, "{byte:02x}")
 }
 
 /// A space and a name for each element.

@@ -1,11 +1,13 @@
 //! Roots that were staged.
-use cs_deps::Dependency;
+
+/// The family of the index's root. It goes to page 1.
+pub const ROOT: usize = 1;
 
 /// A root that was staged.
-#[derive(Drop)]
+#[derive(Clone, Copy, Debug)]
 pub struct Root {
-    /// What names it.
-    pub version: Dependency,
+    /// Its version.
+    pub version: u64,
     /// How many of the accepted commands it has.
     pub commands: usize,
 }

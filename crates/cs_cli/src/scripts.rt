@@ -1,23 +1,28 @@
 //! Scripts, line by line. Any write may fail, and nothing says when, so what prints may answer an error.
-ghost use Rattle.std.specs.Prelude.{◌≡◌, ℕ, ◌≤◌, ◌<◌, [], List, IfOk, OnOk, Some, length};
+ghost use Rattle.std.specs.Prelude.{◌≡◌, ℕ, ◌+◌, ◌*◌, ◌≤◌, ◌<◌, [], List, IfOk, OnOk, Some, length};
 ghost use Rattle.std.specs.Io.BufRead.{strip_last};
 ghost use Rattle.std.specs.Io.KnownBytes.{Appends};
 ghost use Rattle.cs_disk.specs.Memory.{memory_state};
 ghost use Rattle.cs_cli.specs.Commands.{commands_of};
-ghost use Rattle.cs_cli.specs.Lines.{said_by, said_of, says_put};
+ghost use Rattle.cs_cli.specs.Lines.{said_by, said_of, says_put, says_get, says_delete};
 ghost use Rattle.cs_cli.specs.Scripts.{Answers, status_after, Runs};
-ghost use Rattle.cs_cli.specs.Stored.{AreDurable, reached_of};
+ghost use Rattle.cs_cli.specs.Stored.{reached_of};
 
 use crate::accepts::Accepted;
 use crate::bounded_readers::{BoundedReader, READS};
+use crate::documents::document;
+use crate::formats::format;
 use crate::lines::Line;
-use crate::members::refusal_of;
-use crate::outputs::{print_bad_line, print_put, print_refusal};
+use crate::outputs::{
+    print_absent, print_bad_line, print_delete, print_put, print_refusal, print_value,
+};
+use crate::plans::plan;
 use crate::statuses;
 use crate::stores::ScriptStore;
 use crate::syncs::sync;
-use cs_deps::{Graph, Refusal};
-use cs_disk::{MemoryDisk, PageDisk};
+use cs_deps::Refusal;
+use cs_disk::MemoryDisk;
+use cs_frame::Geometry;
 use std::alloc::Global;
 use std::io;
 use std::io::{BufRead, BufReader, Read, Write};
@@ -32,24 +37,22 @@ pub struct Ran {
     pub disk: MemoryDisk,
     /// The accepted commands.
     pub accepted: Vec<Accepted>,
-    /// The page of each accepted command.
+    /// The page on which the first chunk of each accepted put begins.
     pub at: Vec<u64>,
     /// How many commands were accepted at the last `sync` that wasn't refused.
     pub synced: usize,
 }
 
-/// Runs a script, line by line, over a new store on a disk of 14 pages: one each for superblock and root, and
-/// 6 extents of 2 pages. The reader is read at most 4,294,967,296 times.
+/// Runs a script, line by line, over a new store of this geometry on a disk of as many pages. The reader is read at most
+/// 4,294,967,296 times.
 pub fn run_script<R: Read + Drop, W: Write>(
     alloc: Global,
     disk: MemoryDisk,
+    geometry: Geometry,
     reader: R,
     writer: &mut W,
 ) -> Ran
-    requires { length (memory_state disk).durable ≡ 14 }
-
-    // Each acknowledged command is durable on its page.
-    ensures durable { AreDurable (memory_state result.disk).durable result.at.items (commands_of result.accepted.items) result.synced }
+    requires { length (memory_state disk).durable ≡ 2 + geometry.extents * geometry.pages }
 
     // Each line is answered and printed as it says.
     ensures script { (text : List ℕ) → R.remaining reader ≡ Some text → result.status < 3 → (out : List ℕ)
@@ -58,7 +61,7 @@ pub fn run_script<R: Read + Drop, W: Write>(
 
     ensures status { result.status ≤ 4 }
 {
-    let mut store = match open_store(alloc, disk) {
+    let mut store = match open_store(alloc, disk, geometry) {
         Ok(store) => store,
         Err(unopened) => return no_store(alloc, unopened, writer),
     };
@@ -80,28 +83,22 @@ struct Unopened {
 }
 
 /// Makes a store on a disk.
-fn open_store(alloc: Global, mut disk: MemoryDisk) -> Result<ScriptStore, Unopened>
-    requires { length (memory_state disk).durable ≡ 14 }
+fn open_store(
+    alloc: Global,
+    mut disk: MemoryDisk,
+    geometry: Geometry,
+) -> Result<ScriptStore, Unopened>
+    requires { length (memory_state disk).durable ≡ 2 + geometry.extents * geometry.pages }
     ensures { IfOk result (λ store. reached_of store ≡ record { accepted = []; synced = 0 }) }
 {
-    let Ok(graph) = Graph::new(alloc, &[1, 1]) else {
-        return Err(Unopened {
-            disk,
-            refusal: Refusal::OutOfMemory,
-        });
-    };
-    match disk.flush() {
-        Ok(()) => Ok(ScriptStore::new(alloc, graph, disk)),
-        Err(fault) => Err(Unopened {
-            disk,
-            refusal: refusal_of(fault),
-        }),
+    match format(alloc, &mut disk, geometry) {
+        Ok(parts) => Ok(ScriptStore::new(alloc, parts, disk)),
+        Err(refusal) => Err(Unopened { disk, refusal }),
     }
 }
 
 /// What a script leaves behind where there is no store.
 fn no_store<W: Write>(alloc: Global, unopened: Unopened, writer: &mut W) -> Ran
-    ensures durable { AreDurable (memory_state result.disk).durable result.at.items (commands_of result.accepted.items) result.synced }
     ensures status { (3 ≤ result.status) × (result.status ≤ 4) }
 {
     let Unopened { disk, refusal } = unopened;
@@ -209,7 +206,11 @@ fn answer<W: Write>(
 {
     match line {
         Line::Put { id, bytes } => put(store, id, bytes, writer)?,
+        Line::Get { id } => get(store, id, writer)?,
+        Line::Delete { id } => delete(store, id, writer)?,
         Line::Sync => sync(store, writer)?,
+        Line::Plan => plan(store, writer)?,
+        Line::Document => document(store, writer)?,
         Line::Nothing => {}
         Line::Bad => {
             print_bad_line(writer)?;
@@ -230,6 +231,28 @@ fn put<W: Write>(
 {
     match store.put(id, bytes) {
         Ok(number) => print_put(writer, number),
+        Err(refusal) => print_refusal(writer, refusal),
+    }
+}
+
+/// Gets a shard.
+fn get<W: Write>(store: &mut ScriptStore, id: [u8; 16], writer: &mut W) -> io::Result<()>
+    ensures { OnOk result ((out : List ℕ) × Answers (says_get id) (reached_of store.old) (reached_of store.new) out × Appends (W.contents writer.old) (W.contents writer.new) out) }
+{
+    match store.get(id) {
+        Ok(Some(bytes)) => print_value(writer, &bytes),
+        Ok(None) => print_absent(writer),
+        Err(refusal) => print_refusal(writer, refusal),
+    }
+}
+
+/// Deletes a shard.
+fn delete<W: Write>(store: &mut ScriptStore, id: [u8; 16], writer: &mut W) -> io::Result<()>
+    ensures { OnOk result ((out : List ℕ) × Answers (says_delete id) (reached_of store.old) (reached_of store.new) out × Appends (W.contents writer.old) (W.contents writer.new) out) }
+{
+    match store.delete(id) {
+        Ok(Some(number)) => print_delete(writer, number),
+        Ok(None) => print_absent(writer),
         Err(refusal) => print_refusal(writer, refusal),
     }
 }

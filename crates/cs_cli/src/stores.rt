@@ -1,44 +1,47 @@
-//! The store behind a script, before there are formats.
-ghost use Rattle.std.specs.Prelude.{◌≡◌, ◌≢◌, ◌+◌, ◌≤◌, ◌<◌, ◌⊎◌, ◌↔◌, [], ◌∷◌, ◌++◌, IfOk, IfErr, OnOk, OnErr, IsTrue, IsSome, List, true, false, length, vec_len};
+//! The store behind a script: shards as chunks on the extents of a disk in memory, and an index over them.
+ghost use Rattle.std.specs.Prelude.{◌≡◌, ◌≢◌, ◌+◌, ◌*◌, ◌≤◌, ◌<◌, ◌⊎◌, ◌↔◌, [], ◌∷◌, ◌++◌, IfOk, IfErr, IfSome, OnOk, OnErr, IsTrue, IsSome, MatchOption, List, true, false, length, map, string_bytes, vec_len};
 ghost use Rattle.cs_deps.specs.declared.elements.Element.{Element as Item};
 ghost use Rattle.cs_deps.specs.State.{everything};
-ghost use Rattle.cs_deps.specs.Chain.{IsChainOf};
 ghost use Rattle.cs_deps.specs.View.{rounds_of};
 ghost use Rattle.cs_disk.specs.Memory.{memory_state};
-ghost use Rattle.cs_cli.specs.Allocation.{HasRoom};
-ghost use Rattle.cs_cli.specs.declared.allocations.Purpose.TheVariants.{Put as ForPut, Run as ForRun};
-ghost use Rattle.cs_cli.specs.declared.roots.Root.{Root as StagedRoot};
-ghost use Rattle.cs_cli.specs.Pages.{page_with};
+ghost use Rattle.cs_extent.specs.State.{shape};
+ghost use Rattle.cs_frame.specs.Formats.{place_of};
+ghost use Rattle.cs_index.specs.State.{IsSet, id_number, index_of};
+ghost use Rattle.cs_model.specs.Index.{live_at, lookup, names};
 ghost use Rattle.cs_cli.specs.Commands.{commands_of};
-ghost use Rattle.cs_cli.specs.Stored.{Stored, frames_of, AreDurable, IsFrontier, NamesRoot, SameButGraphRoom, new_graph};
-ghost use Rattle.cs_cli.specs.Staged.{AddsFrame, AddsRoot};
+ghost use Rattle.cs_cli.specs.Stored.{Stored, AreEmpty, IsDocumented, IsFrontier, ReadsAs, page_total, reached_of};
+ghost use Rattle.cs_cli.specs.Scripts.{IsBest};
 
 use crate::accepts::Accepted;
-use crate::allocations::{Purpose, has_room};
-use crate::frames::{stage_frame, stage_root};
+use crate::formats::Parts;
 use crate::frontiers::frontier_of;
 use crate::members::{refusal_of, write_round};
-use crate::pages::page_of;
 use crate::roots::Root;
+use cs_check::to_document;
+use cs_chunk::{put_chunks, read_chunks};
 use cs_deps::{Element, Graph, Plan, Refusal};
 use cs_disk::MemoryDisk;
+use cs_extent::Extents;
+use cs_frame::{Locator, ShardId};
+use cs_index::Index;
 use cs_plan::{next_round, plan_all};
 use std::alloc::Global;
 use std::marker::Model;
 
-/// The greatest number of bytes of a shard.
-const PAYLOAD_BYTES: usize = 4055;
+/// The letters of the families of superblock and root in a plan document.
+const LETTERS: [char; 2] = ['s', 'r'];
 
-/// A store of shards of one page over a disk in memory.
+/// A store of shards over a disk in memory.
 #[derive(Drop)]
 pub struct ScriptStore {
     alloc: Global,
     graph: Graph,
+    extents: Extents,
+    index: Index,
     disk: MemoryDisk,
     accepted: Vec<Accepted>,
     at: Vec<u64>,
     roots: Vec<Root>,
-    rooted: usize,
     out: Option<Vec<Element>>,
     synced: usize,
 }
@@ -51,101 +54,151 @@ impl Model for ScriptStore {
 
     ghost Value = { Stored };
 
-    ghost view = { λ s. record { graph = s.graph; disk = memory_state s.disk; accepted = commands_of s.accepted.items; at = s.at.items; rooted = s.rooted; roots = s.roots.items; out = option_map (λ r. r.items) s.out; synced = s.synced } };
+    ghost view = { λ s. record { graph = s.graph; extents = s.extents; index = s.index; disk = memory_state s.disk; accepted = commands_of s.accepted.items; at = s.at.items; roots = s.roots.items; out = option_map (λ r. r.items) s.out; synced = s.synced } };
 
-    ghost invariant = { λ s. IsSound (record { graph = s.graph; disk = memory_state s.disk; accepted = commands_of s.accepted.items; at = s.at.items; rooted = s.rooted; roots = s.roots.items; out = option_map (λ r. r.items) s.out; synced = s.synced }) };
+    ghost invariant = { λ s. IsSound (record { graph = s.graph; extents = s.extents; index = s.index; disk = memory_state s.disk; accepted = commands_of s.accepted.items; at = s.at.items; roots = s.roots.items; out = option_map (λ r. r.items) s.out; synced = s.synced }) };
 }
 
 impl ScriptStore {
-    /// An empty store, whose superblock and root are at version 1.
-    pub fn new(alloc: Global, graph: Graph, disk: MemoryDisk) -> Self
-        requires graph { graph ≡ new_graph }
-        requires pages { length (memory_state disk).durable ≡ 14 }
-        requires settled { (memory_state disk).volatile ≡ [] }
-        ensures { result ≡ record { graph = graph; disk = memory_state disk; accepted = []; at = []; rooted = 0; roots = []; out = None; synced = 0 } }
+    /// An empty store of these parts.
+    pub fn new(alloc: Global, parts: Parts, disk: MemoryDisk) -> Self
+        requires empty { AreEmpty parts.graph parts.extents parts.index }
+        requires pages { length (memory_state disk).durable ≡ page_total (shape parts.extents) }
+        ensures { result ≡ record { graph = parts.graph; extents = parts.extents; index = parts.index; disk = memory_state disk; accepted = []; at = []; roots = []; out = None; synced = 0 } }
     {
         ScriptStore {
             alloc,
-            graph,
+            graph: parts.graph,
+            extents: parts.extents,
+            index: parts.index,
             disk,
             accepted: Vec::new(alloc),
             at: Vec::new(alloc),
             roots: Vec::new(alloc),
-            rooted: 0,
             out: None,
             synced: 0,
         }
     }
 
-    /// Stages a shard on a page of its own, and gives its number among the accepted commands.
+    /// Stages a shard, chunk by chunk, and gives its number among the accepted commands.
     ///
-    /// Refused 31 TooLarge for more than 4,055 bytes, else 30 Full where no extent has room, and 9 OutOfMemory.
+    /// Refused 31 TooLarge for more than 8 chunks, then 32 IndexFull for an identifier without an entry where as many
+    /// have one as may, then 30 Full where the extents don't take all its chunks, then 35 WornOut, and 9 OutOfMemory.
     pub fn put(&mut self, id: [u8; 16], bytes: Vec<u8>) -> Result<usize, Refusal>
         ensures accepted { OnOk result (self.new.accepted ≡ self.old.accepted ++ (id, bytes.items) ∷ []) }
         ensures number { IfOk result (λ n. n ≡ length self.new.accepted) }
-        ensures page { OnOk result (self.new.at ≡ self.old.at ++ (frames_of self.old + 2) ∷ []) }
-        ensures frame { OnOk result (AddsFrame self.old.graph self.new.graph (page_with bytes.items)) }
-        ensures too_large { (result ≡ Err Refusal.TooLarge) ↔ (4055 < vec_len bytes) }
-        ensures full { (result ≡ Err Refusal.Full) ↔ ((vec_len bytes ≤ 4055) × (¬ HasRoom (frames_of self.old) ForPut)) }
-        ensures refusals { IfErr result (λ r. (r ≡ Refusal.TooLarge) ⊎ (r ≡ Refusal.Full) ⊎ (r ≡ Refusal.OutOfMemory)) }
-        ensures refused { OnErr result (SameButGraphRoom self.old self.new) }
+        ensures stored { OnOk result (ReadsAs self.new (id_number (record { 0 = id })) bytes.items) }
+        ensures entered { OnOk result (live_at (index_of self.new.index) (id_number (record { 0 = id })) ≢ []) }
+        ensures too_large { (result ≡ Err Refusal.TooLarge) ↔ ((shape self.old.extents).most_chunks * (shape self.old.extents).chunk_bytes < vec_len bytes) }
+        ensures index_full { (result ≡ Err Refusal.IndexFull) ↔ (¬ ((shape self.old.extents).most_chunks * (shape self.old.extents).chunk_bytes < vec_len bytes) × (lookup (id_number (record { 0 = id })) (index_of self.old.index) ≡ None) × (self.old.index.limit ≤ names (index_of self.old.index))) }
         ensures refused_accepted { OnErr result ((self.new.accepted ≡ self.old.accepted) × (self.new.at ≡ self.old.at)) }
-        ensures others { (self.new.rooted ≡ self.old.rooted) × (self.new.synced ≡ self.old.synced) × (self.new.roots ≡ self.old.roots) × (self.new.disk ≡ self.old.disk) × (self.new.out ≡ self.old.out) }
+        ensures others { (self.new.synced ≡ self.old.synced) × (self.new.roots ≡ self.old.roots) × (self.new.disk ≡ self.old.disk) × (self.new.out ≡ self.old.out) }
     {
-        if bytes.len() > PAYLOAD_BYTES {
-            return Err(Refusal::TooLarge);
-        }
-        if !has_room(self.graph.last_plain(), Purpose::Put) {
-            return Err(Refusal::Full);
-        }
+        test_put(&self.extents, &self.index, ShardId(id), bytes.len())?;
         self.accepted.reserve(1)?;
         self.at.reserve(1)?;
-        let page = stage_frame(self.alloc, &mut self.graph, &page_of(&bytes))?;
+        self.index.reserve(1)?;
+        let places = put_chunks(self.alloc, &mut self.extents, &mut self.graph, &bytes)?;
+        self.at.push_reserved(page_of(&self.extents, places[0]));
+        enter(&mut self.index, ShardId(id), places);
         self.accepted.push_reserved(Accepted { id, bytes });
-        self.at.push_reserved(page);
         Ok(self.accepted.len())
     }
 
-    /// Stages a run for the commands since the last root, and a root over it. Nothing is staged where there are none.
+    /// The bytes of a shard, None where there is none.
     ///
-    /// Refused 30 Full where no extent has room, and 9 OutOfMemory.
+    /// Refused 1 DeviceFault, 9 OutOfMemory, and 20 to 24 where a frame is damaged.
+    pub fn get(&mut self, id: [u8; 16]) -> Result<Option<Vec<u8>>, Refusal>
+        ensures read { IfOk result (λ found. IfSome found (λ bytes. ReadsAs self.old (id_number (record { 0 = id })) bytes.items)) }
+        ensures absent { IfOk result (λ found. IsSome found ↔ (live_at (index_of self.old.index) (id_number (record { 0 = id })) ≢ [])) }
+        ensures same { self.new ≡ self.old }
+    {
+        let Some(places) = self.index.lookup(ShardId(id)) else {
+            return Ok(None);
+        };
+        if places.is_empty() {
+            return Ok(None);
+        }
+        let bytes = read_chunks(
+            self.alloc,
+            &self.extents,
+            &self.graph,
+            &mut self.disk,
+            places,
+        )?;
+        Ok(Some(bytes))
+    }
+
+    /// Deletes a shard, and gives the number of that among the accepted commands, None where there is no such shard.
+    ///
+    /// Refused 9 OutOfMemory alone.
+    pub fn delete(&mut self, id: [u8; 16]) -> Result<Option<usize>, Refusal>
+        ensures deleted { IfOk result (λ found. MatchOption found (reached_of self.new ≡ reached_of self.old) (λ n. (self.new.accepted ≡ self.old.accepted ++ (id, []) ∷ []) × (n ≡ length self.new.accepted))) }
+        ensures absent { IfOk result (λ found. IsSome found ↔ (live_at (index_of self.old.index) (id_number (record { 0 = id })) ≢ [])) }
+        ensures refused { OnErr result (reached_of self.new ≡ reached_of self.old) }
+        ensures others { (self.new.synced ≡ self.old.synced) × (self.new.at ≡ self.old.at) × (self.new.roots ≡ self.old.roots) × (self.new.disk ≡ self.old.disk) × (self.new.out ≡ self.old.out) × (self.new.graph ≡ self.old.graph) × (self.new.extents ≡ self.old.extents) }
+    {
+        self.accepted.reserve(1)?;
+        if !self.index.erase(ShardId(id))? {
+            return Ok(None);
+        }
+        let none = Vec::new(self.alloc);
+        self.accepted.push_reserved(Accepted { id, bytes: none });
+        Ok(Some(self.accepted.len()))
+    }
+
+    /// Stages a run for the index changes since the last root, and a root over it. Nothing is staged where there are none.
+    ///
+    /// Refused 30 Full where no extent has room, 35 WornOut, and 9 OutOfMemory.
     pub fn stage(&mut self) -> Result<(), Refusal>
-        ensures nothing { self.old.rooted ≡ length self.old.accepted → (result ≡ Ok tt) × (self.new ≡ self.old) }
-        ensures frame { self.old.rooted ≢ length self.old.accepted → OnOk result (AddsRoot self.old.graph self.new.graph) }
-        ensures rooted { OnOk result (self.new.rooted ≡ length self.new.accepted) }
-        ensures root { self.old.rooted ≢ length self.old.accepted → OnOk result ((r : StagedRoot) × NamesRoot self.new r.version × (r.commands ≡ length self.new.accepted) × (self.new.roots ≡ self.old.roots ++ r ∷ [])) }
-        ensures roots { OnErr result (self.new.roots ≡ self.old.roots) }
-        ensures full { (result ≡ Err Refusal.Full) ↔ ((self.old.rooted ≢ length self.old.accepted) × (¬ HasRoom (frames_of self.old) ForRun)) }
-        ensures refusals { IfErr result (λ r. (r ≡ Refusal.Full) ⊎ (r ≡ Refusal.OutOfMemory)) }
-        ensures refused { OnErr result (SameButGraphRoom self.old self.new) }
+        ensures staged { OnOk result (self.new.index.table ≡ []) }
+        ensures refusals { IfErr result (λ r. (r ≡ Refusal.Full) ⊎ (r ≡ Refusal.WornOut) ⊎ (r ≡ Refusal.OutOfMemory)) }
         ensures accepted { (self.new.accepted ≡ self.old.accepted) × (self.new.at ≡ self.old.at) × (self.new.synced ≡ self.old.synced) }
         ensures others { (self.new.disk ≡ self.old.disk) × (self.new.out ≡ self.old.out) }
     {
-        if self.rooted == self.accepted.len() {
-            return Ok(());
-        }
-        if !has_room(self.graph.last_plain(), Purpose::Run) {
-            return Err(Refusal::Full);
-        }
         self.roots.reserve(1)?;
-        let version = stage_root(self.alloc, &mut self.graph)?;
-        self.rooted = self.accepted.len();
-        self.roots.push_reserved(Root {
-            version,
-            commands: self.rooted,
-        });
+        let commands = self.accepted.len();
+        let staged = self
+            .index
+            .stage(&mut self.extents, &mut self.graph, commands as u64)?;
+        if let Some(version) = staged {
+            self.roots.push_reserved(Root { version, commands });
+        }
         Ok(())
     }
 
     /// The plan of all that waits. Refused 9 OutOfMemory alone.
     pub fn plan(&self) -> Result<Plan, Refusal>
         requires { self.now.out ≡ None }
-        ensures chain { IfOk result (λ plan. IsChainOf self.now.graph.staging.pending (everything self.now.graph.staging) plan.chain.items) }
-        ensures chain_count { IfOk result (λ plan. length plan.chain.items ≡ length (rounds_of plan)) }
-        ensures few { length self.now.graph.staging.pending.waiting ≤ 32 }
+        ensures best { IfOk result (λ plan. IsBest self.now.graph.staging.pending (everything self.now.graph.staging) (rounds_of plan) plan.chain.items) }
         ensures refusals { IfErr result (λ r. r ≡ Refusal.OutOfMemory) }
     {
         plan_all(self.alloc, &self.graph)
+    }
+
+    /// How many elements wait. Refused 9 OutOfMemory alone.
+    pub fn waiting_count(&self) -> Result<usize, Refusal>
+        ensures count { IfOk result (λ n. n ≡ length self.now.graph.staging.pending.waiting) }
+        ensures refusals { IfErr result (λ r. r ≡ Refusal.OutOfMemory) }
+    {
+        Ok(self.graph.waiting()?.len())
+    }
+
+    /// The plan document of all that waits, as text without a line feed, with the letters `s` and `r`.
+    ///
+    /// Refused 5 InFlight where a round is out, 9 OutOfMemory, and what `to_document` refuses.
+    pub fn document(&self) -> Result<String, Refusal>
+        ensures text { IfOk result (λ text. IsDocumented self.now (string_bytes text)) }
+        ensures in_flight { IsSome self.now.out → result ≡ Err Refusal.InFlight }
+        ensures refusals { IfErr result (λ r. (r ≡ Refusal.InFlight) ⊎ (r ≡ Refusal.OutOfMemory) ⊎ (r ≡ Refusal.BadDocument)) }
+    {
+        if self.is_out() {
+            return Err(Refusal::InFlight);
+        }
+        let plan = self.plan()?;
+        let view = self.graph.view()?;
+        let target = self.graph.everything()?;
+        Ok(to_document(self.alloc, &view, &target, &plan, &LETTERS)?)
     }
 
     /// Whether a round is out.
@@ -164,7 +217,7 @@ impl ScriptStore {
         ensures refusals { IfErr result (λ r. r ≡ Refusal.OutOfMemory) }
         ensures refused { OnErr result (self.new ≡ self.old) }
         ensures accepted { (self.new.accepted ≡ self.old.accepted) × (self.new.at ≡ self.old.at) × (self.new.synced ≡ self.old.synced) }
-        ensures others { (self.new.disk ≡ self.old.disk) × (self.new.rooted ≡ self.old.rooted) × (self.new.roots ≡ self.old.roots) }
+        ensures others { (self.new.disk ≡ self.old.disk) × (self.new.roots ≡ self.old.roots) × (self.new.extents ≡ self.old.extents) × (self.new.index ≡ self.old.index) }
     {
         let round = next_round(self.alloc, &self.graph)?;
         if round.is_empty() {
@@ -186,9 +239,10 @@ impl ScriptStore {
         ensures fewer { (round : List Item) → self.old.out ≡ Some round → 0 < length round → OnOk result (length self.new.graph.staging.pending.waiting < length self.old.graph.staging.pending.waiting) }
         ensures refusals { IfErr result (λ r. r ≡ Refusal.OutOfMemory) }
         ensures refused { OnErr result ((self.new.graph ≡ self.old.graph) × (self.new.out ≡ self.old.out)) }
-        ensures accepted { (self.new.accepted ≡ self.old.accepted) × (self.new.at ≡ self.old.at) × (self.new.synced ≡ self.old.synced) × (self.new.rooted ≡ self.old.rooted) }
-        ensures roots { self.new.roots ≡ self.old.roots }
+        ensures accepted { (self.new.accepted ≡ self.old.accepted) × (self.new.at ≡ self.old.at) × (self.new.synced ≡ self.old.synced) }
+        ensures others { (self.new.roots ≡ self.old.roots) × (self.new.extents ≡ self.old.extents) × (self.new.index ≡ self.old.index) }
     {
+        self.graph.what_it_keeps();
         let Some(members) = self.out.take() else {
             unreachable!()
         };
@@ -204,7 +258,7 @@ impl ScriptStore {
     pub fn frontier(&self) -> usize
         ensures { IsFrontier self.now.graph.staging self.now.roots result }
     {
-        frontier_of(&self.graph, &self.roots)
+        frontier_of(self.alloc, &self.graph, &self.roots)
     }
 
     /// Notes that all commands accepted so far are persistent, and gives how many they are.
@@ -217,14 +271,52 @@ impl ScriptStore {
         self.synced
     }
 
-    /// The disk, the accepted commands, the page of each, and how many of them were acknowledged.
+    /// The disk, the accepted commands, the page of each put among them, and how many commands were acknowledged.
     pub fn into_parts(self) -> (MemoryDisk, Vec<Accepted>, Vec<u64>, usize)
         ensures disk { memory_state result.0 ≡ self.disk }
         ensures accepted { commands_of result.1.items ≡ self.accepted }
         ensures at { result.2.items ≡ self.at }
         ensures synced { result.3 ≡ self.synced }
-        ensures durable { AreDurable (memory_state result.0).durable result.2.items (commands_of result.1.items) result.3 }
     {
         (self.disk, self.accepted, self.at, self.synced)
+    }
+}
+
+/// The page of the device where a frame begins.
+fn page_of(extents: &Extents, place: Locator) -> u64 {
+    // Its contract tells how many pages an extent may have.
+    extents.extent_count();
+    let before = usize::from(place.extent) * extents.extent_pages();
+    (2 + before + usize::from(place.page)) as u64
+}
+
+/// Whether a put of so many bytes is refused before anything is appended: 31 TooLarge, then 32 IndexFull.
+fn test_put(extents: &Extents, index: &Index, id: ShardId, size: usize) -> Result<(), Refusal>
+    ensures too_large { (result ≡ Err Refusal.TooLarge) ↔ ((shape extents.now).most_chunks * (shape extents.now).chunk_bytes < size) }
+    ensures index_full { (result ≡ Err Refusal.IndexFull) ↔ (¬ ((shape extents.now).most_chunks * (shape extents.now).chunk_bytes < size) × (lookup (id_number id) (index_of index.now) ≡ None) × (index.now.limit ≤ names (index_of index.now))) }
+    ensures room { OnOk result (lookup (id_number id) (index_of index.now) ≡ None → names (index_of index.now) < index.now.limit) }
+    ensures refusals { IfErr result (λ r. (r ≡ Refusal.TooLarge) ⊎ (r ≡ Refusal.IndexFull)) }
+{
+    // Its contract tells what all extents keep.
+    extents.extent_count();
+    if 8 * (4096 * extents.extent_pages() - 41) < size {
+        return Err(Refusal::TooLarge);
+    }
+    if index.lookup(id).is_none() && index.limit() <= index.named_count() {
+        return Err(Refusal::IndexFull);
+    }
+    Ok(())
+}
+
+/// Points an identifier at the chunks that were put under it.
+fn enter(index: &mut Index, id: ShardId, places: Vec<Locator>)
+    requires count { (1 ≤ length places.items) × (length places.items ≤ 8) }
+    requires limit { lookup (id_number id) (index_of index.old) ≡ None → names (index_of index.old) < index.old.limit }
+    requires room { 0 < index.old.room }
+    ensures { IsSet index.old (id_number id) (map place_of places.items) index.new }
+{
+    match index.set(id, places) {
+        Ok(()) => {}
+        Err(_) => unreachable!(),
     }
 }

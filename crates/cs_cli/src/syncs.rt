@@ -61,7 +61,8 @@ fn write_back<W: Write>(store: &mut ScriptStore, writer: &mut W) -> Result<(), S
     end_round(store, writer)?;
     store.stage()?;
     let plan = store.plan()?;
-    let flushes = run_rounds(store, writer)?;
+    let most = store.waiting_count()?;
+    let flushes = run_rounds(store, writer, most)?;
     print_chain(writer, &plan.chain)?;
     print_flushes(writer, flushes)?;
     print_acknowledged(writer, store.acknowledge())?;
@@ -82,21 +83,23 @@ fn end_round<W: Write>(store: &mut ScriptStore, writer: &mut W) -> Result<(), St
     Ok(())
 }
 
-/// Begins and ends round after round, until nothing waits. It gives how many they were. Why it stops, if it does, is said
-/// by `ScriptStore::begin` and `end`: for want of memory, or because the writer failed.
-fn run_rounds<W: Write>(store: &mut ScriptStore, writer: &mut W) -> Result<usize, Stop>
+/// Begins and ends round after round, until nothing waits, and gives how many they were. Each of them leaves fewer waiting,
+/// so there are no more than `most`, the number of elements that wait. Why it stops, if it does, is said by
+/// `ScriptStore::begin` and `end`: for want of memory, or because the writer failed.
+fn run_rounds<W: Write>(store: &mut ScriptStore, writer: &mut W, most: usize) -> Result<usize, Stop>
     requires none { store.old.out ≡ None }
-    requires few { length store.old.graph.staging.pending.waiting ≤ 32 }
+    requires few { length store.old.graph.staging.pending.waiting ≤ most }
     ensures ok { IfOk result (λ n. (rounds : List (List Item)) × (n ≡ length rounds) × Appends (W.contents writer.old) (W.contents writer.new) (round_lines 1 rounds)) }
     ensures settled { OnOk result (store.new.graph.staging.pending.waiting ≡ []) }
     ensures err { IfErr result (AfterRounds (W.contents writer.old) (W.contents writer.new)) }
     ensures same { reached_of store.new ≡ reached_of store.old }
 {
-    let mut ended = 0;
-    while store.begin()? {
+    for ended in 0..most {
+        if !store.begin()? {
+            return Ok(ended);
+        }
         let round = store.end()?;
-        ended += 1;
-        print_round(writer, ended, &round)?;
+        print_round(writer, ended + 1, &round)?;
     }
-    Ok(ended)
+    Ok(most)
 }

@@ -1,8 +1,12 @@
+use crate::checks::run_check;
+use crate::documents::document;
+use crate::formats::format;
+use crate::plans::plan;
 use crate::scripts::{Ran, run_script};
 use crate::stores::ScriptStore;
 use crate::syncs::sync;
-use cs_deps::Graph;
 use cs_disk::MemoryDisk;
+use cs_frame::Geometry;
 use std::io;
 use std::io::{ErrorKind, Read, Write};
 use std::process::Abort;
@@ -10,13 +14,23 @@ use std::test::Fail;
 
 const A: &str = "put 00000000-0000-0000-0000-00000000000a";
 
-/// What a script left behind and printed.
-fn run(rt: &(impl Abort + AllocGlobal), script: &str) -> Result<(Ran, Vec<u8>), Fail> {
+/// What a script left behind and printed, with so many extents of 2 pages.
+fn run_on(
+    rt: &(impl Abort + AllocGlobal),
+    extents: u64,
+    script: &str,
+) -> Result<(Ran, Vec<u8>), Fail> {
     let alloc = rt.alloc();
-    let disk = MemoryDisk::new(alloc, 14)?;
+    let geometry = Geometry::new(extents, 2)?;
+    let disk = MemoryDisk::new(alloc, geometry.device_pages())?;
     let mut output = Vec::new(alloc);
-    let ran = run_script(alloc, disk, script.as_bytes(), &mut output);
+    let ran = run_script(alloc, disk, geometry, script.as_bytes(), &mut output);
     Ok((ran, output))
+}
+
+/// What a script left behind and printed, with 6 extents of 2 pages.
+fn run(rt: &(impl Abort + AllocGlobal), script: &str) -> Result<(Ran, Vec<u8>), Fail> {
+    run_on(rt, 6, script)
 }
 
 /// Asserts a script's output, its exit status and how many commands are acknowledged.
@@ -60,6 +74,51 @@ fn rows(rt: HostRuntime) -> Result<(), Fail> {
     )
 }
 
+/// The document of one put and the index changes over it.
+const DOCUMENT: &str =
+    r#"{"chain":["w1","s3","r2"],"elements":[{"e":"w1","needs":[]},{"e":"s2","needs":["w1"]},{"e":"w2","needs":[]},{"e":"s3","needs":["w1","w2"]},{"e":"r2","needs":["s3"]}],"families":["s","r"],"format":1,"persistent":[1,1],"rounds":[["w1","w2"],["s3"],["r2"]],"target":["w1","w2","s3","r2"]}"#;
+
+#[test]
+fn plans(rt: HostRuntime) -> Result<(), Fail> {
+    prints(
+        &rt,
+        "put 00000000-0000-0000-0000-00000000000a 61\nplan\nplan x\n",
+        "put 1\nround 1: w1 w2\nround 2: s3\nround 3: r2\nchain: w1 s3 r2\nflushes 3\nbad line\n",
+        1,
+        0,
+    )?;
+    let (_, output) = run(
+        &rt,
+        "put 00000000-0000-0000-0000-00000000000a 61\nplan\ndocument\n",
+    )?;
+    let wanted = format!(in rt.alloc();
+        "put 1\nround 1: w1 w2\nround 2: s3\nround 3: r2\nchain: w1 s3 r2\nflushes 3\n{DOCUMENT}\n"
+    )?;
+    assert_eq!(rt; output.as_slice(), wanted.as_bytes());
+    Ok(())
+}
+
+/// Asserts what a check of a document prints, and its exit status.
+fn checks(
+    rt: &(impl Abort + AllocGlobal),
+    text: &[u8],
+    wanted: &str,
+    status: u8,
+) -> Result<(), Fail> {
+    let mut output = Vec::new(rt.alloc());
+    let ended = run_check(rt.alloc(), text, &mut output);
+    assert_eq!(rt; output.as_slice(), wanted.as_bytes());
+    assert_eq!(rt; ended, status);
+    Ok(())
+}
+
+#[test]
+fn documents(rt: HostRuntime) -> Result<(), Fail> {
+    checks(&rt, DOCUMENT.as_bytes(), "optimal 3\n", 0)?;
+    checks(&rt, b"{", "refused 10 BadDocument\n", 1)?;
+    checks(&rt, b"\xff", "refused 10 BadDocument\n", 1)
+}
+
 #[test]
 fn lines(rt: HostRuntime) -> Result<(), Fail> {
     prints(
@@ -93,11 +152,28 @@ fn long_put(rt: &impl AllocGlobal, bytes: usize) -> Result<String, Fail> {
 }
 
 #[test]
-fn greatest_payload(rt: HostRuntime) -> Result<(), Fail> {
-    prints(&rt, long_put(&rt, 4055)?.as_str(), "put 1\n", 0, 0)?;
+fn chunks(rt: HostRuntime) -> Result<(), Fail> {
+    let mut script = long_put(&rt, 8151)?;
+    script.push_str("\nplan\n")?;
     prints(
         &rt,
-        long_put(&rt, 4056)?.as_str(),
+        script.as_str(),
+        "put 1\nround 1: w1 w2 w3\nround 2: s3\nround 3: r2\nchain: w1 s3 r2\nflushes 3\n",
+        0,
+        0,
+    )?;
+    let mut script = long_put(&rt, 8152)?;
+    script.push_str("\nplan\n")?;
+    prints(
+        &rt,
+        script.as_str(),
+        "put 1\nround 1: w1 w2 w3 w4\nround 2: s4\nround 3: r2\nchain: w1 s4 r2\nflushes 3\n",
+        0,
+        0,
+    )?;
+    prints(
+        &rt,
+        long_put(&rt, 65209)?.as_str(),
         "refused 31 TooLarge\n",
         0,
         0,
@@ -105,30 +181,35 @@ fn greatest_payload(rt: HostRuntime) -> Result<(), Fail> {
 }
 
 #[test]
-fn pages(rt: HostRuntime) -> Result<(), Fail> {
-    let (ran, _) = run(
+fn gets_and_deletes(rt: HostRuntime) -> Result<(), Fail> {
+    prints(
         &rt,
-        "put 0000000000000000000000000000000a 6162\nsync\nput 0000000000000000000000000000000b 63\nsync\nput 0000000000000000000000000000000b -\n",
+        "put 0000000000000000000000000000000a -\nget 0000000000000000000000000000000a\nget 0000000000000000000000000000000b\nget a\ndel\n",
+        "put 1\nvalue -\nabsent\nbad line\nbad line\n",
+        1,
+        0,
     )?;
-    assert_eq!(rt; ran.at.as_slice(), [2, 4, 6].as_slice());
-    assert_eq!(rt; ran.accepted.len(), 3);
-    assert_eq!(rt; ran.accepted[0].id[15], 10);
-    assert_eq!(rt; ran.accepted[0].bytes.as_slice(), b"ab".as_slice());
-    let image = ran.disk.image();
-    assert_eq!(rt; image.len(), 57344);
-    assert_eq!(rt;
-        [
-            image[7],
-            image[4103],
-            image[8192],
-            image[8193],
-            image[8194],
-            image[16384],
-            image[24576]
-        ],
-        [5, 3, b'a', b'b', 0, b'c', 0]
-    );
-    Ok(())
+    prints(
+        &rt,
+        "get 0000000000000000000000000000000a\ndel 0000000000000000000000000000000a\n",
+        "absent\nabsent\n",
+        0,
+        0,
+    )?;
+    prints(
+        &rt,
+        "put 0000000000000000000000000000000a aBcD\nsync\nget 0000000000000000000000000000000a\ndel 0000000000000000000000000000000a\nget 0000000000000000000000000000000a\n",
+        "put 1\nround 1: w1 w2\nround 2: s3\nround 3: r2\nchain: w1 s3 r2\nflushes 3\nacknowledged 1\nvalue abcd\ndel 2\nabsent\n",
+        0,
+        1,
+    )?;
+    prints(
+        &rt,
+        "put 0000000000000000000000000000000a 61\ndel 0000000000000000000000000000000a\nsync\n",
+        "put 1\ndel 2\nround 1: w1 w2\nround 2: s3\nround 3: r2\nchain: w1 s3 r2\nflushes 3\nacknowledged 2\n",
+        0,
+        2,
+    )
 }
 
 /// Gives some bytes, and then fails.
@@ -172,8 +253,15 @@ impl Write for FailingWriter {
 fn failing_streams(rt: HostRuntime) -> Result<(), Fail> {
     let alloc = rt.alloc();
     let mut output = Vec::new(alloc);
+    let geometry = Geometry::new(6, 2)?;
     let disk = MemoryDisk::new(alloc, 14)?;
-    let ran = run_script(alloc, disk, FailingReader { left: 3 }, &mut output);
+    let ran = run_script(
+        alloc,
+        disk,
+        geometry,
+        FailingReader { left: 3 },
+        &mut output,
+    );
     assert_eq!(rt; (ran.status, output.len()), (4, 0));
     let disk = MemoryDisk::new(alloc, 14)?;
     let script =
@@ -181,21 +269,28 @@ fn failing_streams(rt: HostRuntime) -> Result<(), Fail> {
     let ran = run_script(
         alloc,
         disk,
+        geometry,
         script.as_bytes(),
         &mut FailingWriter { left: 16 },
     );
     assert_eq!(rt; ran.status, 4);
     assert_eq!(rt; ran.accepted.len(), 2);
+    output.clear();
+    let ended = run_check(alloc, FailingReader { left: 3 }, &mut output);
+    assert_eq!(rt; (ended, output.len()), (4, 0));
+    let ended = run_check(alloc, DOCUMENT.as_bytes(), &mut FailingWriter { left: 5 });
+    assert_eq!(rt; ended, 4);
     Ok(())
 }
 
-/// A round that is out is ended before the rest of a `sync`, and the line for it counts the commands of the last root
+/// Where a round is out there is no plan and no document. It is ended before the rest of a `sync`, and the line for it counts the commands of the last root
 /// that is persistent.
 #[test]
 fn a_round_that_is_out(rt: HostRuntime) -> Result<(), Fail> {
     let alloc = rt.alloc();
-    let graph = Graph::new(alloc, &[1, 1])?;
-    let mut store = ScriptStore::new(alloc, graph, MemoryDisk::new(alloc, 14)?);
+    let mut disk = MemoryDisk::new(alloc, 14)?;
+    let parts = format(alloc, &mut disk, Geometry::new(6, 2)?)?;
+    let mut store = ScriptStore::new(alloc, parts, disk);
     let mut output = Vec::new(alloc);
     assert_eq!(rt; store.put([1; 16], Vec::new(alloc))?, 1);
     sync(&mut store, &mut output)?;
@@ -204,9 +299,11 @@ fn a_round_that_is_out(rt: HostRuntime) -> Result<(), Fail> {
     assert!(rt; !store.is_out());
     assert!(rt; store.begin()?);
     output.clear();
+    plan(&mut store, &mut output)?;
+    document(&store, &mut output)?;
     sync(&mut store, &mut output)?;
     let wanted =
-        "end acknowledged 1\nround 1: s5\nround 2: r3\nchain: s5 r3\nflushes 2\nacknowledged 2\n";
+        "refused 5 InFlight\nrefused 5 InFlight\nend acknowledged 1\nround 1: s5\nround 2: r3\nchain: s5 r3\nflushes 2\nacknowledged 2\n";
     assert_eq!(rt; output.as_slice(), wanted.as_bytes());
     Ok(())
 }

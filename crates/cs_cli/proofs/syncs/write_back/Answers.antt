@@ -21,6 +21,14 @@ returns-in_err-plan-clause-err g c =
     if_refused c.from_residual-in_err-plan.result (AfterSync (reached_of c.args.store.now) (reached_of c.stage.new.self) before after) c.in_err-plan.field-0.0 c.from_residual-in_err-plan.ensures.1
     (stops_early (reached_of c.args.store.now) (reached_of c.stage.new.self) before after c.in_err-plan.field-0.0 same (is_ended c.end_round.new.store (g.W.Write.contents c.args.writer.now) (g.W.Write.contents c.end_round.new.writer) c.in_ok-end_round.ensures.ok))
 
+pub returns-in_err-most-clause-err : goal.returns-in_err-most-clause-err
+returns-in_err-most-clause-err g c =
+    let same = reached_same c.stage.new.self c.end_round.new.store c.stage.ensures.accepted.0 c.stage.ensures.accepted.2 ∙ c.end_round.ensures.same in
+    let before = g.W.Write.contents c.args.writer.now in
+    let after = g.W.Write.contents c.end_round.new.writer in
+    if_refused c.from_residual-in_err-most.result (AfterSync (reached_of c.args.store.now) (reached_of c.stage.new.self) before after) c.in_err-most.field-0.0 c.from_residual-in_err-most.ensures.1
+    (stops_early (reached_of c.args.store.now) (reached_of c.stage.new.self) before after c.in_err-most.field-0.0 same (is_ended c.end_round.new.store (g.W.Write.contents c.args.writer.now) (g.W.Write.contents c.end_round.new.writer) c.in_ok-end_round.ensures.ok))
+
 pub returns-in_err-flushes-clause-err : goal.returns-in_err-flushes-clause-err
 returns-in_err-flushes-clause-err g c =
     let same = c.run_rounds.ensures.same ∙ reached_same c.stage.new.self c.end_round.new.store c.stage.ensures.accepted.0 c.stage.ensures.accepted.2 ∙ c.end_round.ensures.same in

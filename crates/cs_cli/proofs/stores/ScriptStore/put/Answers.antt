@@ -1,28 +1,64 @@
-use Rattle.std.proofs.Common.{◌≡◌, ◌∙◌, ◌++◌, ◌∷◌, [], ap, subst}
+use Rattle.std.proofs.Common.{◌∙◌, ◌≤◌, ap, arith, length, refl, subst, sym}
+use Rattle.cs_extent.specs.State.{shape}
+use Rattle.cs_frame.specs.Formats.{place_of}
+use Rattle.cs_index.specs.State.{id_number}
+use Rattle.std.specs.Prelude.{map}
+use Rattle.cs_chunk.specs.Chunks.{AreChunksAt}
+use Rattle.cs_disk.specs.Disk.{seen}
+use Rattle.cs_disk.specs.Memory.{memory_state}
+use Rattle.cs_model.specs.Device.{Shape}
+use Rattle.cs_model.specs.Extents.{ForPut}
 use Rattle.cs_cli.specs.contracts.stores.ScriptStore.{the_view}
-use Rattle.cs_cli.specs.declared.accepts.Accepted.{Accepted}
-use Rattle.cs_cli.specs.declared.allocations.Purpose.TheVariants.{Put}
-use Rattle.cs_cli.specs.Allocation.{HasRoom}
-use Rattle.cs_cli.specs.Commands.{commands_of, command_of}
-use Rattle.cs_cli.specs.Pages.{page_with}
-use Rattle.cs_cli.specs.Staged.{AddsFrame}
-use Rattle.cs_cli.specs.Stored.{Stored, frames_of}
-use Rattle.cs_cli.proofs.Sound.{sound_put, sound_refused, commands_push}
+use Rattle.cs_cli.specs.Commands.{commands_of}
+use Rattle.cs_cli.specs.Stored.{Stored, AreInside}
+use Rattle.cs_cli.proofs.Kept.{inside_live, inside_set, one_accepted, places_there, same_limit, same_live, set_found, set_live, sound_moved}
+use Rattle.cs_cli.proofs.Moves.{moves_all, moves_none, moves_refused}
 use Rattle.cs_cli.proofs.stores.ScriptStore.put.Goals as goal
 
-pub invariant_of-self-in_err-page : goal.invariant_of-self-in_err-page
-invariant_of-self-in_err-page c =
+pub invariant_of-self-in_err-reserve-3 : goal.invariant_of-self-in_err-reserve-3
+invariant_of-self-in_err-reserve-3 c =
     let s : Stored = the_view c.self.inside in
-    sound_refused s c.self.invariant c.stage_frame.new.graph c.in_err-page.ensures.refused (commands_of c.reserve.new.self.items) (ap commands_of c.reserve.ensures.items) c.reserve-2.new.self.items c.reserve-2.ensures.items
+    let i = c.reserve-3.new.self in
+    let room = c.reserve-3.ensures.rest in
+    let same : length s.accepted ≤ length (commands_of c.reserve.new.self.items) = omega (arith, ap (λ l. length (commands_of l)) c.reserve.ensures.items) in
+    sound_moved s c.self.invariant s.extents s.graph i (moves_none s.extents s.graph) c.self.invariant.resets refl (same_limit s.index i room)
+    (inside_live (shape s.extents) s.index i c.self.invariant.places (same_live s.index i room)) (commands_of c.reserve.new.self.items) same c.reserve-2.new.self.items s.roots
+
+pub invariant_of-self-in_err-places : goal.invariant_of-self-in_err-places
+invariant_of-self-in_err-places c =
+    let s : Stored = the_view c.self.inside in
+    let i = c.reserve-3.new.self in
+    let room = c.reserve-3.ensures.rest in
+    let e = c.in_err-places.ensures in
+    let same : length s.accepted ≤ length (commands_of c.reserve.new.self.items) = omega (arith, ap (λ l. length (commands_of l)) c.reserve.ensures.items) in
+    sound_moved s c.self.invariant c.put_chunks.new.extents c.put_chunks.new.graph i (moves_refused s.extents s.graph c.put_chunks.new.extents c.put_chunks.new.graph e.refused e.unstaged) c.put_chunks.ensures.resets c.put_chunks.ensures.families
+    (same_limit s.index i room) (inside_live (shape s.extents) s.index i c.self.invariant.places (same_live s.index i room)) (commands_of c.reserve.new.self.items) same c.reserve-2.new.self.items s.roots
 
 pub invariant_of-self-2 : goal.invariant_of-self-2
 invariant_of-self-2 c =
     let s : Stored = the_view c.self.inside in
-    let room : HasRoom (frames_of s) Put = subst (λ n. HasRoom n Put) c.last_plain.ensures (c.has_room.ensures.0 c.if-not-has_room.false) in
-    let accepted : Accepted = record { id = c.args.id; bytes = c.args.bytes } in
-    let content = c.page_of.ensures ∙ ap page_with c.deref.ensures.value in
-    let pushed : c.push_reserved.new.self.items ≡ c.reserve.new.self.items ++ accepted ∷ [] = c.push_reserved.ensures.items in
-    let page : c.push_reserved-2.new.self.items ≡ c.reserve-2.new.self.items ++ c.in_ok-page.page ∷ [] = c.push_reserved-2.ensures.items in
-    sound_put s c.self.invariant c.stage_frame.new.graph (command_of accepted) room (subst (AddsFrame s.graph c.stage_frame.new.graph) content c.in_ok-page.ensures.staged)
-    (commands_of c.push_reserved.new.self.items) (ap commands_of (pushed ∙ ap (λ l. l ++ accepted ∷ []) c.reserve.ensures.items) ∙ commands_push c.self.inside.accepted.items accepted)
-    c.push_reserved-2.new.self.items (page ∙ ap (λ l. l ++ c.in_ok-page.page ∷ []) c.reserve-2.ensures.items ∙ ap (λ n. s.at ++ n ∷ []) c.in_ok-page.ensures.page)
+    let i = c.reserve-3.new.self in
+    let room = c.reserve-3.ensures.rest in
+    let chunks = c.in_ok-places.ensures.chunks in
+    let x = c.put_chunks.new.extents in
+    let g = c.put_chunks.new.graph in
+    let old : AreInside (shape s.extents) i = inside_live (shape s.extents) s.index i c.self.invariant.places (same_live s.index i room) in
+    sound_moved s c.self.invariant x g c.enter.new.index (moves_all s.extents s.graph ForPut _ c.in_ok-places.places.items x g chunks.2) c.put_chunks.ensures.resets c.put_chunks.ensures.families
+    (c.enter.ensures.limit ∙ same_limit s.index i room)
+    (inside_set (shape s.extents) i (id_number (record { 0 = c.args.id })) (map place_of c.in_ok-places.places.items) c.enter.new.index old c.enter.ensures
+    (λ p among. places_there s.extents s.graph ForPut (shape s.extents) chunks.0 c.in_ok-places.places.items x g refl chunks.2 p among))
+    (commands_of c.push_reserved-2.new.self.items) (one_accepted c.self.inside.accepted.items c.reserve.new.self.items c.push_reserved-2.new.self.items _ c.reserve.ensures.items c.push_reserved-2.ensures.items)
+    c.push_reserved.new.self.items s.roots
+
+pub returns-clause-entered : goal.returns-clause-entered
+returns-clause-entered c = set_live c.reserve-3.new.self (id_number (record { 0 = c.args.id })) c.in_ok-places.places.items c.enter.new.index c.enter.ensures c.in_ok-places.ensures.few.0
+
+pub returns-clause-stored : goal.returns-clause-stored
+returns-clause-stored c view newest =
+    let chunks = c.in_ok-places.ensures.chunks in (
+      c.in_ok-places.places.items,
+      chunks.0,
+      set_found c.reserve-3.new.self (id_number (record { 0 = c.args.id })) (map place_of c.in_ok-places.places.items) c.enter.new.index c.enter.ensures,
+      subst (λ (S : Shape). AreChunksAt S view c.in_ok-places.places.items chunks.0) (sym c.put_chunks.ensures.shape) (chunks.3 (seen (memory_state c.self.inside.disk)) view newest),
+      chunks.1.0 ∙ c.deref.ensures.value,
+    )

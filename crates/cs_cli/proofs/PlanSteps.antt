@@ -1,0 +1,39 @@
+-- The lines of a plan, one after another, and what they say.
+use Rattle.std.proofs.Common.{◌≡◌, ◌∙◌, ℕ, ◌+◌, ◌<◌, List, [], ◌∷◌, ◌++◌, length, take, map, get_or, Vec, sym, ap, arith}
+use Rattle.std.specs.Prelude.{Option, Result, Ok, Err, IfOk}
+use Rattle.std.specs.Global.{Global}
+use Rattle.std.proofs.lemmas.List.{take_more, map-append, length-map, length-take-le}
+use Rattle.std.specs.Io.KnownBytes.{Appends}
+use Rattle.cs_deps.specs.declared.elements.Element.{Element}
+use Rattle.cs_deps.specs.declared.refusals.Refusal.{Refusal}
+use Rattle.cs_deps.specs.declared.views.Plan.{Plan}
+use Rattle.cs_deps.specs.Named.{Named}
+use Rattle.cs_deps.specs.Pending.{Pending}
+use Rattle.cs_deps.specs.Schedule.{Covers, Respects, IsFewest}
+use Rattle.cs_deps.specs.Chain.{IsChainOf}
+use Rattle.cs_deps.specs.View.{rounds_of}
+use Rattle.cs_cli.specs.Outputs.{round_line, round_lines}
+use Rattle.cs_cli.specs.Scripts.{IsBest}
+use Rattle.cs_cli.proofs.Appended.{appends_same, appends_then}
+use Rattle.cs_cli.proofs.SyncSteps.{round_lines_more}
+
+-- what a plan of all that waits says, in one
+pub best_plan : (g : Pending) (target : Named) (r : Result Plan Refusal) → IfOk r (λ plan. Covers g (rounds_of plan) target) → IfOk r (λ plan. Respects g (rounds_of plan)) → IfOk r (λ plan. IsFewest g target (rounds_of plan))
+    → IfOk r (λ plan. IsChainOf g target plan.chain.items) → IfOk r (λ plan. length plan.chain.items ≡ length (rounds_of plan)) → IfOk r (λ plan. IsBest g target (rounds_of plan) plan.chain.items)
+best_plan g target (Ok plan) covers respects fewest chain count = record { covers = covers; respects = respects; fewest = fewest; links = chain; count = count }
+best_plan g target (Err r) covers respects fewest chain count = tt
+
+abbrev pub elements_of : List (Vec Element Global) → List (List Element)
+elements_of rounds = map (λ (round : Vec Element Global). round.items) rounds
+
+-- one round more is printed
+pub one_round_more : (rounds : List (Vec Element Global)) (i : ℕ) (v : Vec Element Global) (members : List Element) (before mid after : Option (List ℕ)) → i < length rounds → v ≡ get_or rounds i v → members ≡ v.items
+    → Appends before mid (round_lines 1 (elements_of (take i rounds))) → Appends mid after (round_line (i + 1) members) → Appends before after (round_lines 1 (elements_of (take (i + 1) rounds)))
+one_round_more rounds i v members before mid after lt is same so_far printed =
+    let first = elements_of (take i rounds) in
+    let taken : take (i + 1) rounds ≡ take i rounds ++ v ∷ [] = take_more rounds i v lt ∙ ap (λ (r : Vec Element Global). take i rounds ++ r ∷ []) (sym is) in
+    let more : elements_of (take (i + 1) rounds) ≡ first ++ members ∷ [] = ap elements_of taken ∙ map-append (λ (round : Vec Element Global). round.items) (take i rounds) (v ∷ []) ∙ ap (λ (l : List Element). first ++ l ∷ []) (sym same) in
+    let number : i + 1 ≡ 1 + length first = omega (arith, length-map (take i rounds) (λ (round : Vec Element Global). round.items), length-take-le i rounds (omega (arith, lt))) in
+    appends_same before after (round_lines 1 first ++ round_line (i + 1) members) (round_lines 1 (elements_of (take (i + 1) rounds)))
+    (ap (λ n. round_lines 1 first ++ round_line n members) number ∙ sym (round_lines_more 1 first members) ∙ ap (round_lines 1) (sym more))
+    (appends_then before mid after (round_lines 1 first) (round_line (i + 1) members) so_far printed)
