@@ -54,13 +54,7 @@ fn number_at(writes: &[(Element, (u64, [u8; 4096]))], k: usize, page: u64) -> u6
 {
     let entry = &writes[k];
     match entry.0 {
-        Element::Plain(number) => {
-            if entry.1.0 == page {
-                number
-            } else {
-                0
-            }
-        }
+        Element::Plain(number) => { if entry.1.0 == page { number } else { 0 } }
         Element::Version(_, _) => 0,
     }
 }

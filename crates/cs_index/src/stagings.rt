@@ -18,9 +18,7 @@ ghost use Rattle.cs_index.specs.State.{IsShort, named_entry, newest_first};
 use crate::runs::StoredRun;
 use cs_deps::{Dependency, Graph, Refusal};
 use cs_extent::{Extents, Purpose};
-use cs_frame::{
-    FrameKind, Locator, Root, Run, encode_frame, encode_root, encode_run, frame_pages,
-};
+use cs_frame::{FrameKind, Locator, Root, Run, encode_frame, encode_root, encode_run, frame_pages};
 use std::alloc::{AllocError, Global};
 
 /// The family of the superblock's versions.
