@@ -24,9 +24,9 @@ use Rattle.cs_model.specs.Lists.{◌∈◌}
 use Rattle.cs_cli.specs.declared.accepts.Accepted.{Accepted}
 use Rattle.cs_cli.specs.declared.roots.Root.{Root}
 use Rattle.cs_cli.specs.Commands.{Command, command_of, commands_of}
-use Rattle.cs_cli.specs.Stored.{Stored, AreInside, AreWithin, IsSound, page_total}
+use Rattle.cs_cli.specs.Stored.{Stored, AreInside, AreWithin, IsSound, KeepsDevice, page_total}
 use Rattle.cs_cli.proofs.MemberSteps.{is_member}
-use Rattle.cs_cli.proofs.Moves.{Moves, extent_there, frame_fits}
+use Rattle.cs_cli.proofs.Moves.{extent_there, frame_fits}
 use Rattle.cs_cli.proofs.Pendings.{settled_shorter}
 
 -- PLACES
@@ -93,7 +93,7 @@ inside_live S i j old same d l among = old d l (subst (λ (ls : List Place). l �
 
 -- SOUNDNESS
 -- something was staged, and commands were accepted
-pub sound_moved : (s : Stored) → IsSound s → (x : ExtentsState) (g : GraphState) (i : IndexState) → Moves s.extents s.graph x g → AreResetsStaged (extents_of x) g.staging → length g.staging.latest ≡ length s.graph.staging.latest
+pub sound_moved : (s : Stored) → IsSound s → (x : ExtentsState) (g : GraphState) (i : IndexState) → KeepsDevice s.extents s.graph x g → AreResetsStaged (extents_of x) g.staging → length g.staging.latest ≡ length s.graph.staging.latest
     → i.limit ≡ s.index.limit → AreInside (shape s.extents) i → (accepted : List Command) → length s.accepted ≤ length accepted → (at : List ℕ) (roots : List Root)
     → IsSound (record { graph = g; extents = x; index = i; disk = s.disk; accepted = accepted; at = at; roots = roots; out = s.out; synced = s.synced })
 sound_moved s sound x g i moves resets families limit inside accepted more at roots = record {

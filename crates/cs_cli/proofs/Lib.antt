@@ -2,6 +2,8 @@ pub mod MemberSteps
 pub mod Pendings
 pub mod Kept
 pub mod Moves
+pub mod Sweeping
+pub mod NumberSteps
 pub mod Appended
 pub mod Words
 pub mod SyncSteps

@@ -4,7 +4,7 @@ use Rattle.std.specs.Prelude.{Option, IfSome}
 use Rattle.std.proofs.lemmas.List.{append-nil}
 use Rattle.std.specs.Io.BufRead.{strip_last, take_through, drop_through, first_piece, DropsThrough}
 use Rattle.std.specs.Io.KnownBytes.{Appends, IsAtEnd}
-use Rattle.cs_cli.specs.Lines.{Said, says_put, says_get, says_delete, says_sync, says_plan, says_document, says_nothing, unreadable, said_of}
+use Rattle.cs_cli.specs.Lines.{Said, says_put, says_get, says_delete, says_sweep, says_sync, says_plan, says_document, says_nothing, unreadable, said_of}
 use Rattle.cs_cli.specs.Scripts.{Reached, Answers, status_after, Runs, ended, then_runs}
 use Rattle.cs_cli.proofs.Appended.{appends_none, appends_then}
 
@@ -24,6 +24,7 @@ small_after : (said : Said) (status : ℕ) → status ≤ 1 → status_after sai
 small_after (says_put id bytes) status h = h
 small_after (says_get id) status h = h
 small_after (says_delete id) status h = h
+small_after (says_sweep extent) status h = h
 small_after says_sync status h = h
 small_after says_plan status h = h
 small_after says_document status h = h

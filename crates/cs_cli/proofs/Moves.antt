@@ -17,38 +17,36 @@ use Rattle.cs_model.specs.Device.{Shape}
 use Rattle.cs_model.specs.Element.{Entry, Locator as Place, Run}
 use Rattle.cs_model.specs.Extents.{ForRun, HasRoom, IsFirstEmpty, Purpose as Reason, empties, spare}
 use Rattle.cs_model.specs.Index.{IsMergedRun, live_at}
-use Rattle.cs_cli.specs.Stored.{AreWithin, page_total}
+use Rattle.cs_cli.specs.Stored.{AreWithin, KeepsDevice, page_total}
 
--- the device is as large as before, and what goes to it goes to its pages still
-pub record Moves (x : ExtentsState) (g : GraphState) (y : ExtentsState) (h : GraphState) : Type 0 where
-  pub same_shape : shape y ≡ shape x
-  pub within : AreWithin (page_total (shape x)) g → AreWithin (page_total (shape x)) h
-  pub round : h.round ≡ g.round
-
-pub moves_none : (x : ExtentsState) (g : GraphState) → Moves x g x g
+pub moves_none : (x : ExtentsState) (g : GraphState) → KeepsDevice x g x g
 moves_none x g = record { same_shape = refl; within = λ w. w; round = refl }
 
-pub moves_room : (x : ExtentsState) (g h : GraphState) → h ≡ record g { room = h.room } → Moves x g x h
+pub moves_room : (x : ExtentsState) (g h : GraphState) → h ≡ record g { room = h.room } → KeepsDevice x g x h
 moves_room x g h e = record {
   same_shape = refl;
   within = λ old y w kept. old y w (sym (ap (λ (s : GraphState). write_of s y) e) ∙ kept);
   round = ap (λ (s : GraphState). s.round) e;
 }
 
-pub moves_then : (x : ExtentsState) (g : GraphState) (y : ExtentsState) (h : GraphState) (z : ExtentsState) (i : GraphState) → Moves x g y h → Moves y h z i → Moves x g z i
+pub moves_then : (x : ExtentsState) (g : GraphState) (y : ExtentsState) (h : GraphState) (z : ExtentsState) (i : GraphState) → KeepsDevice x g y h → KeepsDevice y h z i → KeepsDevice x g z i
 moves_then x g y h z i a b = record {
   same_shape = b.same_shape ∙ a.same_shape;
   within = λ old. subst (λ (S : Shape). AreWithin (page_total S) i) a.same_shape (b.within (subst (λ (S : Shape). AreWithin (page_total S) h) (sym a.same_shape) (a.within old)));
   round = b.round ∙ a.round;
 }
 
+-- other extents of the same shape
+pub moves_extents : (x : ExtentsState) (g : GraphState) (y : ExtentsState) → shape y ≡ shape x → KeepsDevice x g y g
+moves_extents x g y same = record { same_shape = same; within = λ w. w; round = refl }
+
 -- with the same extents and the same graph, named otherwise
-pub moves_same : (x : ExtentsState) (g : GraphState) (y z : ExtentsState) (h i : GraphState) → z ≡ y → i ≡ h → Moves x g y h → Moves x g z i
-moves_same x g y z h i same_x same_g m = subst (λ (u : ExtentsState). Moves x g u i) (sym same_x) (subst (λ (u : GraphState). Moves x g y u) (sym same_g) m)
+pub moves_same : (x : ExtentsState) (g : GraphState) (y z : ExtentsState) (h i : GraphState) → z ≡ y → i ≡ h → KeepsDevice x g y h → KeepsDevice x g z i
+moves_same x g y z h i same_x same_g m = subst (λ (u : ExtentsState). KeepsDevice x g u i) (sym same_x) (subst (λ (u : GraphState). KeepsDevice x g y u) (sym same_g) m)
 
 -- where it was refused
-pub moves_refused : (x : ExtentsState) (g : GraphState) (y : ExtentsState) (h : GraphState) → y ≡ x → h ≡ record g { room = h.room } → Moves x g y h
-moves_refused x g y h same e = subst (λ (u : ExtentsState). Moves x g u h) (sym same) (moves_room x g h e)
+pub moves_refused : (x : ExtentsState) (g : GraphState) (y : ExtentsState) (h : GraphState) → y ≡ x → h ≡ record g { room = h.room } → KeepsDevice x g y h
+moves_refused x g y h same e = subst (λ (u : ExtentsState). KeepsDevice x g u h) (sym same) (moves_room x g h e)
 
 -- where a write that is kept goes
 first_of : (p : ℕ) (b : List ℕ) (w : Write) → Some (p, b) ≡ Some w → w.0 ≡ p
@@ -94,18 +92,18 @@ module _ (x : ExtentsState) (g : GraphState) (r : Reason) (frame : List (List �
       omega (arith, page))
       (a.others (Version f v) w kept)
 
-  pub moves_appended : Moves x g y h
+  pub moves_appended : KeepsDevice x g y h
   moves_appended = record { same_shape = a.same_shape; within = within; round = a.round }
 
 -- frames, one after another
-pub moves_all : (x : ExtentsState) (g : GraphState) (r : Reason) (frames : List (List (List ℕ))) (ls : List Locator) (y : ExtentsState) (h : GraphState) → AreAppended x g r frames ls y h → Moves x g y h
+pub moves_all : (x : ExtentsState) (g : GraphState) (r : Reason) (frames : List (List (List ℕ))) (ls : List Locator) (y : ExtentsState) (h : GraphState) → AreAppended x g r frames ls y h → KeepsDevice x g y h
 moves_all x g r [] [] y h a = moves_refused x g y h a.0 a.1
 moves_all x g r (f ∷ fs) (l ∷ ls) y h a = moves_then x g a.0 a.1 y h (moves_appended x g r f l a.0 a.1 a.2) (moves_all a.0 a.1 r fs ls y h a.3)
 moves_all x g r [] (l ∷ ls) y h a = absurd a
 moves_all x g r (f ∷ fs) [] y h a = absurd a
 
 -- A ROOT IS STAGED
-pub moves_root : (x : ExtentsState) (g h : GraphState) (v commands : ℕ) (ls : List Locator) → IsRootOver g h v commands ls → Moves x g x h
+pub moves_root : (x : ExtentsState) (g h : GraphState) (v commands : ℕ) (ls : List Locator) → IsRootOver g h v commands ls → KeepsDevice x g x h
 moves_root x g h v commands ls root = record {
   same_shape = refl;
   within = λ old y w kept. ⊎_elim
@@ -117,18 +115,18 @@ moves_root x g h v commands ls root = record {
   round = root.round;
 }
 
-moves_table : (i : IndexState) (x : ExtentsState) (g : GraphState) (v commands : ℕ) (j : IndexState) (y : ExtentsState) (h : GraphState) → IsTableStaged i x g v commands j y h → Moves x g y h
+moves_table : (i : IndexState) (x : ExtentsState) (g : GraphState) (v commands : ℕ) (j : IndexState) (y : ExtentsState) (h : GraphState) → IsTableStaged i x g v commands j y h → KeepsDevice x g y h
 moves_table i x g v commands j y h s =
     moves_then x g y s.staged.0 y h (moves_appended x g ForRun (run_frame x s.entries) (as_locator s.place) y s.staged.0 s.staged.1) (moves_root y s.staged.0 h v commands _ s.staged.2)
 
-moves_merge : (index : List Entry) (x : ExtentsState) (g : GraphState) (r : Reason) (runs : List Run) (y : ExtentsState) (h : GraphState) → IsMergeAppended index x g r runs y h → Moves x g y h
+moves_merge : (index : List Entry) (x : ExtentsState) (g : GraphState) (r : Reason) (runs : List Run) (y : ExtentsState) (h : GraphState) → IsMergeAppended index x g r runs y h → KeepsDevice x g y h
 moves_merge index x g r runs y h a = ⊎_elim
     (λ (m : (entries : List Entry) × (place : Place) × (entries ≡ [] → ⊥) × IsMergedRun index entries × IsRunAppended x g r entries place y h × (runs ≡ record { place = place; entries = entries } ∷ [])).
     moves_appended x g r (run_frame x m.0) (as_locator m.1) y h m.4)
     (λ (m : ((id : ℕ) → live_at index id ≡ []) × (y ≡ x) × (h ≡ g) × (runs ≡ [])). moves_same x g x y g h m.1 m.2 (moves_none x g))
     a
 
-moves_merged : (i : IndexState) (x : ExtentsState) (g : GraphState) (r : Reason) (v commands : ℕ) (j : IndexState) (y : ExtentsState) (h : GraphState) → IsMergeStaged i x g r v commands j y h → Moves x g y h
+pub moves_merged : (i : IndexState) (x : ExtentsState) (g : GraphState) (r : Reason) (v commands : ℕ) (j : IndexState) (y : ExtentsState) (h : GraphState) → IsMergeStaged i x g r v commands j y h → KeepsDevice x g y h
 moves_merged i x g r v commands j y h s = moves_then x g y s.between y h (moves_merge (index_of i) x g r j.runs y s.between s.appended) (moves_root y s.between h v commands _ s.root)
 
 -- THE INDEX IS STAGED, or not
@@ -137,7 +135,7 @@ pub stage_moves : (result : Result (Option ℕ) Refusal) (commands : ℕ) (i : I
     → ((v : ℕ) → result ≡ Ok (Some v) → length i.runs < 4 → IsTableStaged i x g v commands j y h)
     → ((v : ℕ) → result ≡ Ok (Some v) → 4 ≤ length i.runs → IsMergeStaged i x g ForRun v commands j y h)
     → OnErr result (j ≡ i) → OnErr result (y ≡ x) → OnErr result (h ≡ record g { room = h.room })
-    → Moves x g y h × (j.limit ≡ i.limit)
+    → KeepsDevice x g y h × (j.limit ≡ i.limit)
 stage_moves (Ok None) commands i x g j y h none table merged refused unwritten unstaged =
     let e = none refl in
     (moves_same x g x y g h e.1 e.2 (moves_none x g), ap (λ (s : IndexState). s.limit) e.0)

@@ -1,18 +1,21 @@
 -- What a line of a script says.
-use Rattle.std.specs.Prelude.{ℕ, Bool, true, List, [], ◌∷◌, length, codes, nat_lt, ◌==◌, if◌then◌else◌, filter, Option, Some, None, option_map, unwrap_or, Result, Ok, Err}
-use Rattle.std.specs.List.{slice_split}
+use Rattle.std.specs.Prelude.{ℕ, Bool, true, List, [], ◌∷◌, length, codes, nat_lt, ◌==◌, ◌&&◌, ◌^◌, if◌then◌else◌, filter, Option, Some, None, option_map, unwrap_or, Result, Ok, Err}
+use Rattle.std.specs.List.{list_all, slice_split}
+use Rattle.std.specs.Char.{is_ascii_digit}
 use Rattle.std.specs.Str.{bytes_eq}
+use Rattle.std.specs.Str.Parse.{digits_value}
 use Rattle.uuid.specs.Text.{parsed}
 use Rattle.hex.specs.Hex.{decode_of}
 use Rattle.hex.specs.declared.error.FromHexError.{FromHexError}
 use Rattle.cs_cli.specs.declared.lines.Line.{Line}
-use Rattle.cs_cli.specs.declared.lines.Line.TheVariants.{Put, Get, Delete, Sync, Plan, Document, Nothing, Bad}
+use Rattle.cs_cli.specs.declared.lines.Line.TheVariants.{Put, Get, Delete, Sweep, Sync, Plan, Document, Nothing, Bad}
 
--- to put these bytes under this identifier, to get or to delete what is under it, to make all persistent, to print the plan for that or its document, nothing, or it isn't readable
+-- to put these bytes under this identifier, to get or to delete what is under it, to sweep this extent, to make all persistent, to print the plan for that or its document, nothing, or it isn't readable
 pub data Said : Type 0 where
   says_put : List ℕ → List ℕ → Said
   says_get : List ℕ → Said
   says_delete : List ℕ → Said
+  says_sweep : ℕ → Said
   says_sync : Said
   says_plan : Said
   says_document : Said
@@ -23,6 +26,7 @@ abbrev pub said_by : Line → Said
 said_by (Put id bytes) = says_put id bytes.items
 said_by (Get id) = says_get id
 said_by (Delete id) = says_delete id
+said_by (Sweep extent) = says_sweep extent
 said_by Sync = says_sync
 said_by Plan = says_plan
 said_by Document = says_document
@@ -73,6 +77,20 @@ said_get rest = unwrap_or (option_map says_get (one_id rest)) unreadable
 abbrev pub said_delete : List (List ℕ) → Said
 said_delete rest = unwrap_or (option_map says_delete (one_id rest)) unreadable
 
+-- the number that a word of decimal digits stands for, where it is below 2^64
+abbrev pub decimal_of : List ℕ → Option ℕ
+decimal_of word = if list_all is_ascii_digit word && (nat_lt 0 (length word) && nat_lt (digits_value 10 word) (2 ^ 64)) then Some (digits_value 10 word) else None
+
+-- the number that these words are, where there is one word alone
+abbrev pub one_number : List (List ℕ) → Option ℕ
+one_number [] = None
+one_number (number ∷ []) = decimal_of number
+one_number (number ∷ word ∷ rest) = None
+
+-- with these words behind `sweep`
+abbrev pub said_sweep : List (List ℕ) → Said
+said_sweep rest = unwrap_or (option_map says_sweep (one_number rest)) unreadable
+
 -- with these words behind a word that stands alone
 abbrev pub said_alone : Said → List (List ℕ) → Said
 said_alone said [] = said
@@ -84,7 +102,7 @@ said_by_word word = if bytes_eq word (codes "sync") then says_sync else if bytes
 
 abbrev pub said_words : List (List ℕ) → Said
 said_words [] = unreadable
-said_words (word ∷ rest) = if bytes_eq word (codes "put") then said_put rest else if bytes_eq word (codes "get") then said_get rest else if bytes_eq word (codes "del") then said_delete rest else said_alone (said_by_word word) rest
+said_words (word ∷ rest) = if bytes_eq word (codes "put") then said_put rest else if bytes_eq word (codes "get") then said_get rest else if bytes_eq word (codes "del") then said_delete rest else if bytes_eq word (codes "sweep") then said_sweep rest else said_alone (said_by_word word) rest
 
 -- what a line says, without its line feed
 abbrev pub said_of : List ℕ → Said

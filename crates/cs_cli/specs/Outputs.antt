@@ -25,6 +25,10 @@ absent_line = line_of (codes "absent")
 abbrev pub delete_line : ℕ → List ℕ
 delete_line n = line_of (codes "del " ++ decimal n)
 
+-- the extent, how many chunks were moved, and the version of the root
+abbrev pub swept_line : ℕ → ℕ → ℕ → List ℕ
+swept_line extent moved root = line_of (codes "sweep " ++ decimal extent ++ codes " moved " ++ decimal moved ++ codes " root r" ++ decimal root)
+
 abbrev pub bad_line : List ℕ
 bad_line = line_of (codes "bad line")
 

@@ -9,8 +9,8 @@ use Rattle.cs_deps.specs.Schedule.{Respects, Covers, IsFewest}
 use Rattle.cs_deps.specs.Chain.{IsChainOf}
 use Rattle.cs_check.specs.Written.{IsTextOf}
 use Rattle.cs_cli.specs.Commands.{Command}
-use Rattle.cs_cli.specs.Lines.{Said, says_put, says_get, says_delete, says_sync, says_plan, says_document, says_nothing, unreadable, said_of}
-use Rattle.cs_cli.specs.Outputs.{line_of, put_line, value_line, absent_line, delete_line, bad_line, refusal_line, IsRefusalLine, end_line, round_lines, chain_line, flushes_line, acknowledged_line, plan_lines}
+use Rattle.cs_cli.specs.Lines.{Said, says_put, says_get, says_delete, says_sweep, says_sync, says_plan, says_document, says_nothing, unreadable, said_of}
+use Rattle.cs_cli.specs.Outputs.{line_of, put_line, value_line, absent_line, delete_line, swept_line, bad_line, refusal_line, IsRefusalLine, end_line, round_lines, chain_line, flushes_line, acknowledged_line, plan_lines}
 
 -- the accepted commands, and how many they were at the last sync that wasn't refused
 pub record Reached : Type 0 where
@@ -47,6 +47,11 @@ pub record Deletes (id : List ℕ) (old new : Reached) (out : List ℕ) : Type 0
 pub record Keeps (old new : Reached) (out : List ℕ) : Type 0 where
   pub same : new ≡ old
   pub printed : (out ≡ absent_line) ⊎ IsRefusalLine out
+
+-- The extent is swept: nothing of the commands changes, and it is printed how many chunks were moved, and under which root.
+pub record Sweeps (extent : ℕ) (old new : Reached) (out : List ℕ) : Type 0 where
+  pub same : new ≡ old
+  pub printed : (moved root : ℕ) × (out ≡ swept_line extent moved root)
 
 -- a round that was out may be ended first
 abbrev pub IsEnded : List ℕ → Type 0
@@ -98,6 +103,7 @@ abbrev pub Answers : Said → Reached → Reached → List ℕ → Type 0
 Answers (says_put id bytes) old new out = Accepts id bytes old new out ⊎ Refuses old new out
 Answers (says_get id) old new out = Gets old new out
 Answers (says_delete id) old new out = Deletes id old new out ⊎ Keeps old new out
+Answers (says_sweep extent) old new out = Sweeps extent old new out ⊎ Refuses old new out
 Answers says_sync old new out = Acknowledges old new out ⊎ Stops old new out
 Answers says_plan old new out = Plans old new out ⊎ Refuses old new out
 Answers says_document old new out = Documents old new out ⊎ Refuses old new out
@@ -109,6 +115,7 @@ abbrev pub status_after : Said → ℕ → ℕ
 status_after (says_put id bytes) status = status
 status_after (says_get id) status = status
 status_after (says_delete id) status = status
+status_after (says_sweep extent) status = status
 status_after says_sync status = status
 status_after says_plan status = status
 status_after says_document status = status

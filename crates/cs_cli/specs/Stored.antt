@@ -53,6 +53,12 @@ page_total S = 2 + S.extents * S.pages
 abbrev pub AreWithin : ℕ → GraphState → Type 0
 AreWithin pages graph = (x : Element) (w : Write) → write_of graph x ≡ Some w → w.0 < pages
 
+-- the device is as large as before, what goes to it goes to its pages still, and the round that is out is the same
+pub record KeepsDevice (x : ExtentsState) (g : GraphState) (y : ExtentsState) (h : GraphState) : Type 0 where
+  pub same_shape : shape y ≡ shape x
+  pub within : AreWithin (page_total (shape x)) g → AreWithin (page_total (shape x)) h
+  pub round : h.round ≡ g.round
+
 -- each shard's chunks begin on pages of extents that are there
 abbrev pub AreInside : Shape → IndexState → Type 0
 AreInside S index = (id : ℕ) (l : Place) → l ∈ live_at (index_of index) id → Inside S l.extent l.page

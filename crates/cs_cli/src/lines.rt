@@ -1,11 +1,14 @@
 //! The lines of a script.
 ghost use Rattle.std.specs.Prelude.{◌≡◌, ◌==◌, ◌∷◌, [], IfOk, MatchOption, option_map, not};
 ghost use Rattle.std.specs.Prelude.{position};
+ghost use Rattle.std.specs.Char.{is_ascii_digit};
+ghost use Rattle.std.specs.List.{list_all};
 ghost use Rattle.uuid.specs.Text.{parsed};
-ghost use Rattle.cs_cli.specs.Lines.{said_by, is_silent, words, payload_of, one_id, said_put, said_get, said_delete, said_alone, said_by_word, said_of};
+ghost use Rattle.cs_cli.specs.Lines.{said_by, is_silent, words, payload_of, one_id, one_number, decimal_of, said_put, said_get, said_delete, said_sweep, said_alone, said_by_word, said_of};
 
 use hex::FromHexError;
 use std::alloc::{AllocError, Global};
+use std::str;
 use uuid::Uuid;
 
 /// The byte that parts words.
@@ -20,6 +23,8 @@ pub enum Line {
     Get { id: [u8; 16] },
     /// Deletes a shard.
     Delete { id: [u8; 16] },
+    /// Moves what is live on an extent, and empties it.
+    Sweep { extent: usize },
     /// Makes all that was put and deleted persistent.
     Sync,
     /// Prints how all that was put would be made persistent.
@@ -34,8 +39,8 @@ pub enum Line {
 
 impl Line {
     /// Reads a line without its line feed. Words are parted by spaces alone: a tab belongs to its word. An identifier
-    /// is any text that `uuid` reads, a payload is hex digits in either case, or `-` for no byte. The only memory that
-    /// it takes is for that payload.
+    /// is any text that `uuid` reads, a payload is hex digits in either case, or `-` for no byte, and an extent is decimal
+    /// digits of a number below 2^64. The only memory that it takes is for a payload.
     pub fn read(alloc: Global, text: &[u8]) -> Result<Line, AllocError>
         ensures { IfOk result (λ line. said_by line ≡ said_of text.now) }
     {
@@ -51,6 +56,8 @@ impl Line {
             Ok(read_get(rest))
         } else if word == b"del".as_slice() {
             Ok(read_delete(rest))
+        } else if word == b"sweep".as_slice() {
+            Ok(read_sweep(rest))
         } else {
             Ok(read_alone(read_word(word), rest))
         }
@@ -153,6 +160,47 @@ fn read_delete(rest: &[u8]) -> Line
         Some(id) => Line::Delete { id },
         None => Line::Bad,
     }
+}
+
+/// The line with these words behind `sweep`.
+fn read_sweep(rest: &[u8]) -> Line
+    ensures { said_by result ≡ said_sweep (words rest.now) }
+{
+    match read_one_number(rest) {
+        Some(extent) => Line::Sweep { extent },
+        None => Line::Bad,
+    }
+}
+
+/// The number that these words are, where there is one word alone and it is one.
+fn read_one_number(rest: &[u8]) -> Option<usize>
+    ensures { result ≡ one_number (words rest.now) }
+{
+    let (number, rest) = take_word(rest)?;
+    match take_word(rest) {
+        None => read_number(number),
+        Some(_) => None,
+    }
+}
+
+/// The number that a word of decimal digits stands for, where it is below 2^64.
+fn read_number(word: &[u8]) -> Option<usize>
+    ensures { result ≡ decimal_of word.now }
+{
+    if !are_digits(word) {
+        return None;
+    }
+    match str::from_utf8(word) {
+        Ok(digits) => digits.parse().ok(),
+        Err(_) => None,
+    }
+}
+
+/// Whether all bytes are decimal digits.
+fn are_digits(word: &[u8]) -> bool
+    ensures { result ≡ list_all is_ascii_digit word.now }
+{
+    word.iter().all(|byte| byte.is_ascii_digit())
 }
 
 /// The identifier that these words are, where there is one word alone and it is one.

@@ -1,4 +1,4 @@
-//! The program: runs scripts, whose lines are `put`, `get`, `del`, `sync`, `plan` and `document`, and checks plan documents.
+//! The program: runs scripts, whose lines are `put`, `get`, `del`, `sweep`, `sync`, `plan` and `document`, and checks plan documents.
 #![tactic(auto)]
 
 mod accepts;
@@ -16,6 +16,7 @@ mod roots;
 mod scripts;
 mod statuses;
 mod stores;
+mod sweeps;
 mod syncs;
 #[cfg(test)]
 mod tests;

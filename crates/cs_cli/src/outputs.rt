@@ -2,8 +2,9 @@
 ghost use Rattle.std.specs.Prelude.{OnOk, ◌∷◌, []};
 ghost use Rattle.std.specs.Io.KnownBytes.{Appends};
 ghost use Rattle.hex.specs.Hex.{encode_lower};
-ghost use Rattle.cs_cli.specs.Outputs.{put_line, value_line, absent_line, delete_line, bad_line, refusal_line, end_line, element_name, element_names, round_line, chain_line, flushes_line, acknowledged_line, optimal_line};
+ghost use Rattle.cs_cli.specs.Outputs.{put_line, value_line, absent_line, delete_line, swept_line, bad_line, refusal_line, end_line, element_name, element_names, round_line, chain_line, flushes_line, acknowledged_line, optimal_line};
 
+use crate::sweeps::Swept;
 use cs_deps::{Element, Refusal};
 use std::io;
 use std::io::Write;
@@ -39,6 +40,14 @@ pub fn print_delete<W: Write>(writer: &mut W, number: usize) -> io::Result<()>
     ensures { OnOk result (Appends (W.contents writer.old) (W.contents writer.new) (delete_line number)) }
 {
     writeln!(writer, "del {number}")
+}
+
+/// `sweep E moved k root rN`.
+pub fn print_swept<W: Write>(writer: &mut W, extent: usize, swept: Swept) -> io::Result<()>
+    ensures { OnOk result (Appends (W.contents writer.old) (W.contents writer.new) (swept_line extent swept.moved swept.root)) }
+{
+    let Swept { moved, root } = swept;
+    writeln!(writer, "sweep {extent} moved {moved} root r{root}")
 }
 
 /// `bad line`.

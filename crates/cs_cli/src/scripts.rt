@@ -4,7 +4,7 @@ ghost use Rattle.std.specs.Io.BufRead.{strip_last};
 ghost use Rattle.std.specs.Io.KnownBytes.{Appends};
 ghost use Rattle.cs_disk.specs.Memory.{memory_state};
 ghost use Rattle.cs_cli.specs.Commands.{commands_of};
-ghost use Rattle.cs_cli.specs.Lines.{said_by, said_of, says_put, says_get, says_delete};
+ghost use Rattle.cs_cli.specs.Lines.{said_by, said_of, says_put, says_get, says_delete, says_sweep};
 ghost use Rattle.cs_cli.specs.Scripts.{Answers, status_after, Runs};
 ghost use Rattle.cs_cli.specs.Stored.{reached_of};
 
@@ -14,7 +14,7 @@ use crate::documents::document;
 use crate::formats::format;
 use crate::lines::Line;
 use crate::outputs::{
-    print_absent, print_bad_line, print_delete, print_put, print_refusal, print_value,
+    print_absent, print_bad_line, print_delete, print_put, print_refusal, print_swept, print_value,
 };
 use crate::plans::plan;
 use crate::statuses;
@@ -208,6 +208,7 @@ fn answer<W: Write>(
         Line::Put { id, bytes } => put(store, id, bytes, writer)?,
         Line::Get { id } => get(store, id, writer)?,
         Line::Delete { id } => delete(store, id, writer)?,
+        Line::Sweep { extent } => sweep(store, extent, writer)?,
         Line::Sync => sync(store, writer)?,
         Line::Plan => plan(store, writer)?,
         Line::Document => document(store, writer)?,
@@ -253,6 +254,16 @@ fn delete<W: Write>(store: &mut ScriptStore, id: [u8; 16], writer: &mut W) -> io
     match store.delete(id) {
         Ok(Some(number)) => print_delete(writer, number),
         Ok(None) => print_absent(writer),
+        Err(refusal) => print_refusal(writer, refusal),
+    }
+}
+
+/// Sweeps an extent.
+fn sweep<W: Write>(store: &mut ScriptStore, extent: usize, writer: &mut W) -> io::Result<()>
+    ensures { OnOk result ((out : List ℕ) × Answers (says_sweep extent) (reached_of store.old) (reached_of store.new) out × Appends (W.contents writer.old) (W.contents writer.new) out) }
+{
+    match store.sweep(extent) {
+        Ok(swept) => print_swept(writer, extent, swept),
         Err(refusal) => print_refusal(writer, refusal),
     }
 }

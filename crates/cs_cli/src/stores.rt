@@ -4,10 +4,11 @@ ghost use Rattle.cs_deps.specs.declared.elements.Element.{Element as Item};
 ghost use Rattle.cs_deps.specs.State.{everything};
 ghost use Rattle.cs_deps.specs.View.{rounds_of};
 ghost use Rattle.cs_disk.specs.Memory.{memory_state};
-ghost use Rattle.cs_extent.specs.State.{shape};
+ghost use Rattle.cs_extent.specs.State.{extents_of, shape};
 ghost use Rattle.cs_frame.specs.Formats.{place_of};
 ghost use Rattle.cs_index.specs.State.{IsSet, id_number, index_of};
-ghost use Rattle.cs_model.specs.Index.{live_at, lookup, names};
+ghost use Rattle.cs_model.specs.Index.{NothingLive, live_at, lookup, names};
+ghost use Rattle.cs_reclaim.specs.Sweeps.{IsNotSweepable};
 ghost use Rattle.cs_cli.specs.Commands.{commands_of};
 ghost use Rattle.cs_cli.specs.Stored.{Stored, AreEmpty, IsDocumented, IsFrontier, ReadsAs, page_total, reached_of};
 ghost use Rattle.cs_cli.specs.Scripts.{IsBest};
@@ -17,6 +18,7 @@ use crate::formats::Parts;
 use crate::frontiers::frontier_of;
 use crate::members::{refusal_of, write_round};
 use crate::roots::Root;
+use crate::sweeps::{Swept, empty_extent};
 use cs_check::to_document;
 use cs_chunk::{put_chunks, read_chunks};
 use cs_deps::{Element, Graph, Plan, Refusal};
@@ -25,6 +27,7 @@ use cs_extent::Extents;
 use cs_frame::{Locator, ShardId};
 use cs_index::Index;
 use cs_plan::{next_round, plan_all};
+use cs_reclaim::Sweep;
 use std::alloc::Global;
 use std::marker::Model;
 
@@ -165,6 +168,42 @@ impl ScriptStore {
             self.roots.push_reserved(Root { version, commands });
         }
         Ok(())
+    }
+
+    /// Sweeps an extent: moves all that is live on it elsewhere, stages one run of all that is live and the root over it, and
+    /// empties the extent.
+    ///
+    /// Refused 33 NotSweepable where it is open, empty or being swept, or there is no such extent, then as `empty_extent`, and
+    /// 9 OutOfMemory. What was moved by then stays where it is now, and the extent isn't being swept any more.
+    pub fn sweep(&mut self, extent: usize) -> Result<Swept, Refusal>
+        ensures emptied { OnOk result (((extents_of self.new.extents).pointer extent ≡ 0) × NothingLive (index_of self.new.index) extent) }
+        ensures not_sweepable { result ≡ Err Refusal.NotSweepable → IsNotSweepable (shape self.old.extents) (extents_of self.old.extents) extent }
+        ensures sweepable { IsNotSweepable (shape self.old.extents) (extents_of self.old.extents) extent → (result ≡ Err Refusal.NotSweepable) ⊎ (result ≡ Err Refusal.OutOfMemory) }
+        ensures accepted { (self.new.accepted ≡ self.old.accepted) × (self.new.at ≡ self.old.at) × (self.new.synced ≡ self.old.synced) }
+        ensures others { (self.new.disk ≡ self.old.disk) × (self.new.out ≡ self.old.out) }
+    {
+        self.roots.reserve(1)?;
+        let sweep = Sweep::begin(&mut self.extents, extent)?;
+        let commands = self.accepted.len();
+        match empty_extent(
+            self.alloc,
+            sweep,
+            &mut self.index,
+            &mut self.extents,
+            &mut self.graph,
+            &mut self.disk,
+            commands as u64,
+        ) {
+            Ok(swept) => {
+                let version = swept.root;
+                self.roots.push_reserved(Root { version, commands });
+                Ok(swept)
+            }
+            Err((refusal, sweep)) => {
+                sweep.abandon(&mut self.extents);
+                Err(refusal)
+            }
+        }
     }
 
     /// The plan of all that waits. Refused 9 OutOfMemory alone.

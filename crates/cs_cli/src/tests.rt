@@ -212,6 +212,173 @@ fn gets_and_deletes(rt: HostRuntime) -> Result<(), Fail> {
     )
 }
 
+/// Asserts that an image has these bytes from a place on.
+fn stands(rt: &impl Abort, image: &[u8], from: usize, bytes: &[u8]) {
+    assert!(rt; from <= image.len(), "{from}");
+    assert!(rt; image[from..].starts_with(bytes), "{from}");
+}
+
+/// The digests are those that sha256sum makes.
+#[test]
+fn pages(rt: HostRuntime) -> Result<(), Fail> {
+    let (ran, _) = run(&rt, "put 00000000-0000-0000-0000-00000000000a 61\nsync\n")?;
+    let image = ran.disk.image();
+    assert_eq!(rt; image.len(), 14 * 4096);
+    stands(
+        &rt,
+        image,
+        0,
+        b"CSS1\0\0\0\0\0\0\0\x03\0\x06\0\x02\0\x02\0\0\0\0",
+    );
+    stands(&rt, image, 22, &[0; 30]);
+    stands(
+        &rt,
+        image,
+        52,
+        b"\x1f\xe2\xc4\xcb\x0b\x99\x98\x63\xd2\xe2\x83\xe9\x16\xcc\x8d\x8e",
+    );
+    stands(&rt, image, 84, &[0; 4012]);
+    stands(
+        &rt,
+        image,
+        4096,
+        b"CSR1\0\0\0\0\0\0\0\x02\0\0\0\0\0\0\0\x01\x01\0\0\0\x01\0\0\0\0",
+    );
+    stands(
+        &rt,
+        image,
+        4125,
+        b"\xad\xc0\x11\xf4\xa1\x2b\x76\x64\xbe\x5d\xf6\x5e\xbc\xc3\xec\x5f",
+    );
+    stands(
+        &rt,
+        image,
+        8192,
+        b"CSF1\0\0\0\0\x01\xca\x97\x81\x12\xca\x1b\xbd\xca",
+    );
+    stands(&rt, image, 8233, b"\x61\0");
+    stands(
+        &rt,
+        image,
+        12288,
+        b"CSF1\x01\0\0\0\x55\x08\xe3\x07\xea\x1b\xcb\x07\x73",
+    );
+    stands(
+        &rt,
+        image,
+        12329,
+        b"\0\0\0\x01\0\0\0\0\0\0\0\0\0\0\0\0\0\0\0\x0a\x01",
+    );
+    stands(&rt, image, 12350, &[0; 64]);
+    stands(&rt, image, 16384, &[0; 4096]);
+    Ok(())
+}
+
+/// Asserts a script's output, with so many extents of 2 pages, and what stands on the root's page behind its commands.
+fn leaves(
+    rt: &(impl Abort + AllocGlobal),
+    extents: u64,
+    script: &str,
+    wanted: &str,
+    runs: &[u8],
+) -> Result<(), Fail> {
+    let (ran, output) = run_on(rt, extents, script)?;
+    assert!(rt; output.as_slice().ends_with(wanted.as_bytes()));
+    stands(rt, ran.disk.image(), 4116, runs);
+    Ok(())
+}
+
+/// The fifth run is of all that is live, and of nothing where nothing is.
+#[test]
+fn merges(rt: HostRuntime) -> Result<(), Fail> {
+    leaves(
+        &rt,
+        12,
+        "put 0000000000000000000000000000000a 01\nsync\nput 0000000000000000000000000000000a 02\nsync\nput 0000000000000000000000000000000a 03\nsync\nput 0000000000000000000000000000000a 04\nsync\nput 0000000000000000000000000000000a 05\nsync\n",
+        "put 5\nround 1: w9 w10\nround 2: s11\nround 3: r6\nchain: w9 s11 r6\nflushes 3\nacknowledged 5\n",
+        b"\x01\0\x04\0\x01\0\0\0\0",
+    )?;
+    leaves(
+        &rt,
+        6,
+        "put 0000000000000000000000000000000a 01\nsync\ndel 0000000000000000000000000000000a\nsync\nput 0000000000000000000000000000000a 02\nsync\ndel 0000000000000000000000000000000a\nsync\nput 0000000000000000000000000000000a 03\ndel 0000000000000000000000000000000a\nsync\n",
+        "put 5\ndel 6\nround 1: w7\nround 2: s8\nround 3: r6\nchain: w7 s8 r6\nflushes 3\nacknowledged 6\n",
+        b"\0",
+    )
+}
+
+#[test]
+fn eight_chunks(rt: HostRuntime) -> Result<(), Fail> {
+    let mut script = long_put(&rt, 65208)?;
+    script.push_str("\nplan\n")?;
+    let (_, output) = run_on(&rt, 12, script.as_str())?;
+    let wanted =
+        "put 1\nround 1: w1 w2 w3 w4 w5 w6 w7 w8 w9 w10 w11 w12 w13 w14 w15 w16 w17\nround 2: s10\nround 3: r2\nchain: w1 s10 r2\nflushes 3\n";
+    assert_eq!(rt; output.as_slice(), wanted.as_bytes());
+    Ok(())
+}
+
+/// With 64 extents of 2 pages 100 identifiers may be named. A deletion names its identifier up to the next merge.
+#[test]
+fn names(rt: HostRuntime) -> Result<(), Fail> {
+    let mut script = String::new(rt.alloc());
+    for tens in "0123456789".chars() {
+        for ones in "0123456789".chars() {
+            script.push_str("put 000000000000000000000000000000")?;
+            script.push(tens)?;
+            script.push(ones)?;
+            script.push_str(" 61\n")?;
+        }
+    }
+    script.push_str(
+        "put 000000000000000000000000000000aa 61\ndel 00000000000000000000000000000000\nput 000000000000000000000000000000aa 61\nsweep 0\nput 000000000000000000000000000000aa 61\n",
+    )?;
+    let (_, output) = run_on(&rt, 64, script.as_str())?;
+    let wanted =
+        "put 99\nput 100\nrefused 32 IndexFull\ndel 101\nrefused 32 IndexFull\nsweep 0 moved 1 root r2\nput 102\n";
+    assert!(rt; output.as_slice().ends_with(wanted.as_bytes()));
+    Ok(())
+}
+
+#[test]
+fn sweeps(rt: HostRuntime) -> Result<(), Fail> {
+    prints(
+        &rt,
+        "put 0000000000000000000000000000000a 61\nput 0000000000000000000000000000000b 62\nsweep 0\nput 0000000000000000000000000000000c 63\nput 0000000000000000000000000000000d 64\nsync\n",
+        "put 1\nput 2\nsweep 0 moved 2 root r2\nput 3\nput 4\nround 1: w1 w2 w3 w4 w5 w6\nround 2: s6\nround 3: r2\nround 4: w7 w8 s7\nround 5: s9\nround 6: r3\nchain: w1 s6 r2 w7 s9 r3\nflushes 6\nacknowledged 4\n",
+        0,
+        4,
+    )?;
+    prints(
+        &rt,
+        "put 0000000000000000000000000000000a 01\nput 0000000000000000000000000000000a 02\nput 0000000000000000000000000000000a 03\nput 0000000000000000000000000000000a 04\nput 0000000000000000000000000000000a 05\nput 0000000000000000000000000000000a 06\nput 0000000000000000000000000000000a 07\nput 0000000000000000000000000000000a 08\nput 0000000000000000000000000000000a 09\nsweep 0\nput 0000000000000000000000000000000a 09\nsync\n",
+        "put 1\nput 2\nput 3\nput 4\nput 5\nput 6\nput 7\nput 8\nrefused 30 Full\nsweep 0 moved 0 root r2\nput 9\nround 1: w1 w2 w3 w4 w5 w6 w7 w8 w9 w10\nround 2: s10\nround 3: r2\nround 4: w11 s11\nround 5: s12\nround 6: r3\nchain: w1 s10 r2 w11 s12 r3\nflushes 6\nacknowledged 9\n",
+        0,
+        9,
+    )?;
+    prints(
+        &rt,
+        "put 0000000000000000000000000000000a 61\nput 0000000000000000000000000000000a 62\nsweep 0\nsync\n",
+        "put 1\nput 2\nsweep 0 moved 1 root r2\nround 1: w1 w2 w3 w4\nround 2: s5\nround 3: r2\nchain: w1 s5 r2\nflushes 3\nacknowledged 2\n",
+        0,
+        2,
+    )?;
+    prints(
+        &rt,
+        "sweep 0\nput 0000000000000000000000000000000a 61\nsweep 0\nsweep 6\n",
+        "refused 33 NotSweepable\nput 1\nrefused 33 NotSweepable\nrefused 33 NotSweepable\n",
+        0,
+        0,
+    )?;
+    prints(
+        &rt,
+        "sweep\nsweep x\nsweep +0\nsweep 0 0\nsweep 00\nsweep 18446744073709551616\nsweep 18446744073709551615\n",
+        "bad line\nbad line\nbad line\nbad line\nrefused 33 NotSweepable\nbad line\nrefused 33 NotSweepable\n",
+        1,
+        0,
+    )
+}
+
 /// Gives some bytes, and then fails.
 #[derive(Drop)]
 struct FailingReader {

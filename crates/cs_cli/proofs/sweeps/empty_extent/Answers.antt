@@ -1,0 +1,20 @@
+use Rattle.cs_cli.proofs.Moves.{moves_then}
+use Rattle.cs_cli.proofs.Sweeping.{inside_kept, nothing_kept, retired_keeps, retired_pointer}
+use Rattle.cs_cli.proofs.sweeps.empty_extent.Goals as goal
+
+pub returns-in_err-root-clause-places : goal.returns-in_err-root-clause-places
+returns-in_err-root-clause-places c = inside_kept c.move_all.new.extents c.retire.new.extents c.move_all.new.index c.retire.new.index c.retire.ensures.shape c.move_all.ensures.places c.retire.ensures.map
+
+pub returns-clause-emptied : goal.returns-clause-emptied
+returns-clause-emptied c = (
+  retired_pointer c.move_all.new.index c.move_all.new.extents c.move_all.new.graph c.args.sweep c.in_ok-root.root c.args.commands c.retire.new.index c.retire.new.extents c.retire.new.graph c.in_ok-root.ensures.retired,
+  nothing_kept c.move_all.new.index c.retire.new.index c.args.sweep c.retire.ensures.map c.in-Ok.ensures.none,
+)
+
+pub returns-clause-keeps : goal.returns-clause-keeps
+returns-clause-keeps c =
+    moves_then c.args.extents.now c.args.graph.now c.move_all.new.extents c.move_all.new.graph c.retire.new.extents c.retire.new.graph c.move_all.ensures.keeps
+    (retired_keeps c.move_all.new.index c.move_all.new.extents c.move_all.new.graph c.args.sweep c.in_ok-root.root c.args.commands c.retire.new.index c.retire.new.extents c.retire.new.graph c.in_ok-root.ensures.retired c.retire.ensures.shape)
+
+pub returns-clause-places : goal.returns-clause-places
+returns-clause-places c = inside_kept c.move_all.new.extents c.retire.new.extents c.move_all.new.index c.retire.new.index c.retire.ensures.shape c.move_all.ensures.places c.retire.ensures.map
