@@ -1,7 +1,7 @@
 -- What sweeping an extent keeps, and why it ends.
 use Rattle.std.proofs.Common.{◌≡◌, ◌∙◌, ◌⊎◌, ◌==◌, ℕ, zero, suc, ◌+◌, ◌-◌, ◌*◌, ◌<◌, ◌≤◌, Bool, true, false, cond, List, [], ◌∷◌, Some, None, length, sym, ap, subst, inl, inr, ⊎_elim, arith, refl, mul-le-mul_right}
 use Rattle.std.specs.Prelude.{Option}
-use Rattle.std.proofs.lemmas.Bool.{cond-true, eq-eqb, eqb-false, eqb-true}
+use Rattle.std.proofs.lemmas.Bool.{cases_eq, cond-false, cond-true, eq-eqb, eqb-false, eqb-true, false_from_ne_true, ne_eqb}
 use Rattle.cs_chunk.proofs.Chunkings.{length-spelled}
 use Rattle.cs_deps.specs.Staging.{Staging}
 use Rattle.cs_deps.specs.State.{State as GraphState}
@@ -12,15 +12,16 @@ use Rattle.cs_extent.specs.State.{IsWhole, State as ExtentsState, extents_of, sh
 use Rattle.cs_frame.specs.declared.locators.Locator.{Locator}
 use Rattle.cs_frame.specs.Formats.{place_of}
 use Rattle.cs_frame.specs.Frames.{spelled_frame}
+use Rattle.cs_index.specs.Staged.{IsRunAppended}
 use Rattle.cs_index.specs.State.{State as IndexState, index_of}
 use Rattle.cs_model.specs.Device.{Inside, Shape}
-use Rattle.cs_model.specs.Element.{Locator as Place}
+use Rattle.cs_model.specs.Element.{Entry, Locator as Place}
 use Rattle.cs_model.specs.Extents.{Extents, ForMove, marked}
-use Rattle.cs_model.specs.Index.{NothingLive, live_at}
+use Rattle.cs_model.specs.Index.{IsMergedRun, NothingLive, live_at}
 use Rattle.cs_model.specs.Lists.{◌∈◌, replaced, with}
 use Rattle.cs_reclaim.specs.Moves.{IsMoved, chunk_frame}
 use Rattle.cs_reclaim.specs.Retired.{IsRetired}
-use Rattle.cs_reclaim.specs.Sweeps.{IsSwept}
+use Rattle.cs_reclaim.specs.Sweeps.{IsNotSweepable, IsSwept}
 use Rattle.cs_cli.specs.declared.roots.Root.{Root}
 use Rattle.cs_cli.specs.Stored.{Stored, AreInside, IsSound, KeepsDevice}
 use Rattle.cs_cli.proofs.Kept.{inside_live, inside_set, same_limit, same_live, sound_moved}
@@ -125,6 +126,7 @@ module _ (s : IndexState) (x : ExtentsState) (g : GraphState) (e id chunk : ℕ)
 -- after some chunks were moved off e
 pub record MovedSoFar (i : IndexState) (x : ExtentsState) (g : GraphState) (e : ℕ) (j : IndexState) (y : ExtentsState) (h : GraphState) (moved : ℕ) : Type 0 where
   pub swept : IsSwept (shape y) (extents_of y) e
+  pub marks : (d : ℕ) → (extents_of y).swept d ≡ (extents_of x).swept d
   pub keeps : KeepsDevice x g y h
   pub places : AreInside (shape y) j
   pub families : length h.staging.latest ≡ length g.staging.latest
@@ -139,6 +141,7 @@ pub moved_one : (i : IndexState) (x : ExtentsState) (g : GraphState) (e : ℕ) (
     → MovedSoFar i x g e k z f (moved + 1)
 moved_one i x g e j y h moved so id chunk payload k z f m swept resets families limit = record {
   swept = swept;
+  marks = λ d. ap (λ (u : Extents). u.swept d) m.appended.extents ∙ so.marks d;
   keeps = moves_then x g y h z f so.keeps (moved_keeps j y h e id chunk payload k z f m);
   places = moved_places j y h e id chunk payload k z f m so.places;
   families = families ∙ so.families;
@@ -154,6 +157,7 @@ pub moved_none : (i : IndexState) (x : ExtentsState) (g : GraphState) (e : ℕ) 
     → MovedSoFar i x g e k z f moved
 moved_none i x g e j y h moved so k z f index extents graph = record {
   swept = subst (λ (u : ExtentsState). IsSwept (shape u) (extents_of u) e) (sym extents) so.swept;
+  marks = λ d. ap (λ (u : ExtentsState). (extents_of u).swept d) extents ∙ so.marks d;
   keeps = moves_then x g y h z f so.keeps (moves_refused y h z f extents graph);
   places = subst (λ (u : ExtentsState). AreInside (shape u) k) (sym extents) (inside_live (shape y) j k so.places (same_live j k index));
   families = ap (λ (u : GraphState). length u.staging.latest) graph ∙ so.families;
@@ -197,7 +201,38 @@ module _ (i : IndexState) (x : ExtentsState) (g : GraphState) (e v commands : �
   pub retired_pointer : (extents_of y).pointer e ≡ 0
   retired_pointer = ap (λ (u : Extents). u.pointer e) r.2 ∙ cond-true (e == e) 0 ((extents_of r.0).pointer e) (eq-eqb e e refl)
 
+  -- it isn't being swept any more, and the others are as they were
+  pub retired_ended : (extents_of y).swept e ≡ false
+  retired_ended = ap (λ (u : Extents). u.swept e) r.2 ∙ cond-true (e == e) false ((extents_of r.0).swept e) (eq-eqb e e refl)
+
+  pub retired_marks : (d : ℕ) → (d ≡ e → ⊥) → (extents_of y).swept d ≡ (extents_of x).swept d
+  retired_marks d other = ap (λ (u : Extents). u.swept d) r.2 ∙ cond-false (d == e) false ((extents_of r.0).swept d) (ne_eqb d e other) ∙ merged_marks d
+    where
+      merged_marks : (d : ℕ) → (extents_of r.0).swept d ≡ (extents_of x).swept d
+      merged_marks d = ⊎_elim
+          (λ (m : (entries : List Entry) × (place : Place) × (entries ≡ [] → ⊥) × IsMergedRun (index_of i) entries × IsRunAppended x g ForMove entries place r.0 r.1.between × (j.runs ≡ record { place = place; entries = entries } ∷ [])).
+          ap (λ (u : Extents). u.swept d) m.4.extents)
+          (λ (m : ((id : ℕ) → live_at (index_of i) id ≡ []) × (r.0 ≡ x) × (r.1.between ≡ g) × (j.runs ≡ [])). ap (λ (u : ExtentsState). (extents_of u).swept d) m.1)
+          r.1.appended
+
 -- A SWEEP OF THE STORE
+-- each extent is marked as before: e was marked and no longer is
+pub marks_again : (S : Shape) (x y z w : Extents) (e : ℕ) → (IsNotSweepable S x e → ⊥) → y ≡ marked x e true → ((d : ℕ) → (d ≡ e → ⊥) → z.swept d ≡ y.swept d) → w.swept e ≡ false
+    → ((d : ℕ) → (d ≡ e → ⊥) → w.swept d ≡ z.swept d) → (d : ℕ) → w.swept d ≡ x.swept d
+marks_again S x y z w e sweepable begun meanwhile ended others d = ⊎_elim
+    (λ (here : d ≡ e).
+    let before : x.swept e ≡ false = false_from_ne_true (x.swept e) (λ yes. sweepable (inr (inr (inr yes)))) in
+    ap w.swept here ∙ ended ∙ sym before ∙ ap x.swept (sym here))
+    (λ (other : d ≡ e → ⊥). others d other ∙ meanwhile d other ∙ ap (λ (u : Extents). u.swept d) begun ∙ cond-false (d == e) true (x.swept d) (ne_eqb d e other))
+    (cases_eq d e)
+
+-- a mark is taken off
+pub unmarked_ended : (x y : Extents) (e : ℕ) → y ≡ marked x e false → y.swept e ≡ false
+unmarked_ended x y e is = ap (λ (u : Extents). u.swept e) is ∙ cond-true (e == e) false (x.swept e) (eq-eqb e e refl)
+
+pub unmarked_others : (x y : Extents) (e : ℕ) → y ≡ marked x e false → (d : ℕ) → (d ≡ e → ⊥) → y.swept d ≡ x.swept d
+unmarked_others x y e is d other = ap (λ (u : Extents). u.swept d) is ∙ cond-false (d == e) false (x.swept d) (ne_eqb d e other)
+
 -- what is live stays, on extents of the same shape
 pub inside_kept : (x y : ExtentsState) (i j : IndexState) → shape y ≡ shape x → AreInside (shape x) i → ((id : ℕ) → live_at (index_of j) id ≡ live_at (index_of i) id) → AreInside (shape y) j
 inside_kept x y i j same old live = subst (λ (S : Shape). AreInside S j) (sym same) (inside_live (shape x) i j old live)

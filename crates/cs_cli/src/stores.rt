@@ -1,5 +1,5 @@
 //! The store behind a script: shards as chunks on the extents of a disk in memory, and an index over them.
-ghost use Rattle.std.specs.Prelude.{◌≡◌, ◌≢◌, ◌+◌, ◌*◌, ◌≤◌, ◌<◌, ◌⊎◌, ◌↔◌, [], ◌∷◌, ◌++◌, IfOk, IfErr, IfSome, OnOk, OnErr, IsTrue, IsSome, MatchOption, List, true, false, length, map, string_bytes, vec_len};
+ghost use Rattle.std.specs.Prelude.{◌≡◌, ◌≢◌, ℕ, ◌+◌, ◌*◌, ◌≤◌, ◌<◌, ◌⊎◌, ◌↔◌, [], ◌∷◌, ◌++◌, IfOk, IfErr, IfSome, OnOk, OnErr, IsTrue, IsSome, MatchOption, List, true, false, length, map, string_bytes, vec_len};
 ghost use Rattle.cs_deps.specs.declared.elements.Element.{Element as Item};
 ghost use Rattle.cs_deps.specs.State.{everything};
 ghost use Rattle.cs_deps.specs.View.{rounds_of};
@@ -177,6 +177,7 @@ impl ScriptStore {
     /// 9 OutOfMemory. What was moved by then stays where it is now, and the extent isn't being swept any more.
     pub fn sweep(&mut self, extent: usize) -> Result<Swept, Refusal>
         ensures emptied { OnOk result (((extents_of self.new.extents).pointer extent ≡ 0) × NothingLive (index_of self.new.index) extent) }
+        ensures marks { (d : ℕ) → (extents_of self.new.extents).swept d ≡ (extents_of self.old.extents).swept d }
         ensures not_sweepable { result ≡ Err Refusal.NotSweepable → IsNotSweepable (shape self.old.extents) (extents_of self.old.extents) extent }
         ensures sweepable { IsNotSweepable (shape self.old.extents) (extents_of self.old.extents) extent → (result ≡ Err Refusal.NotSweepable) ⊎ (result ≡ Err Refusal.OutOfMemory) }
         ensures accepted { (self.new.accepted ≡ self.old.accepted) × (self.new.at ≡ self.old.at) × (self.new.synced ≡ self.old.synced) }

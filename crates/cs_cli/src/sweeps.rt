@@ -1,5 +1,5 @@
 //! Sweeps: all that is live on an extent is moved off it, and then it is retired.
-ghost use Rattle.std.specs.Prelude.{◌≡◌, ◌≤◌, ◌<◌, ◌⊎◌, ◌^◌, ℕ, List, IfErr, OnOk, length};
+ghost use Rattle.std.specs.Prelude.{◌≡◌, ◌≢◌, ◌<◌, ◌⊎◌, ◌^◌, ℕ, IfErr, OnOk, false, length};
 ghost use Rattle.cs_chunk.specs.Reads.{IsReadRefusal};
 ghost use Rattle.cs_disk.specs.Memory.{memory_state};
 ghost use Rattle.cs_extent.specs.Frames.{AreResetsStaged, root_family};
@@ -49,6 +49,8 @@ pub fn empty_extent(
     ensures emptied { OnOk result (((extents_of extents.new).pointer sweep ≡ 0) × NothingLive (index_of index.new) sweep) }
     ensures refusals { IfErr result (λ r. IsReadRefusal r.0 ⊎ (r.0 ≡ Refusal.Full) ⊎ (r.0 ≡ Refusal.WornOut)) }
     ensures back { IfErr result (λ r. r.1 ≡ sweep) }
+    ensures ended { OnOk result ((extents_of extents.new).swept sweep ≡ false) }
+    ensures marks { (d : ℕ) → d ≢ sweep → (extents_of extents.new).swept d ≡ (extents_of extents.old).swept d }
     ensures keeps { KeepsDevice extents.old graph.old extents.new graph.new }
     ensures places { AreInside (shape extents.new) index.new }
     ensures families { length graph.new.staging.latest ≡ length graph.old.staging.latest }
@@ -81,6 +83,7 @@ fn move_all(
     ensures none { OnOk result (NothingLive (index_of index.new) sweep.now) }
     ensures refusals { IfErr result (λ r. IsReadRefusal r ⊎ (r ≡ Refusal.Full) ⊎ (r ≡ Refusal.WornOut)) }
     ensures swept { IsSwept (shape extents.new) (extents_of extents.new) sweep.now }
+    ensures marks { (d : ℕ) → (extents_of extents.new).swept d ≡ (extents_of extents.old).swept d }
     ensures keeps { KeepsDevice extents.old graph.old extents.new graph.new }
     ensures places { AreInside (shape extents.new) index.new }
     ensures families { length graph.new.staging.latest ≡ length graph.old.staging.latest }

@@ -218,6 +218,15 @@ fn stands(rt: &impl Abort, image: &[u8], from: usize, bytes: &[u8]) {
     assert!(rt; image[from..].starts_with(bytes), "{from}");
 }
 
+/// Asserts that an image has so many zeros from a place on.
+fn has_zeros(rt: &impl Abort, image: &[u8], from: usize, count: usize) {
+    assert!(rt; from <= image.len(), "{from}");
+    assert!(rt;
+        image[from..].iter().take_while(|byte| **byte == 0).count() >= count,
+        "{from}"
+    );
+}
+
 /// The digests are those that sha256sum makes.
 #[test]
 fn pages(rt: HostRuntime) -> Result<(), Fail> {
@@ -230,14 +239,14 @@ fn pages(rt: HostRuntime) -> Result<(), Fail> {
         0,
         b"CSS1\0\0\0\0\0\0\0\x03\0\x06\0\x02\0\x02\0\0\0\0",
     );
-    stands(&rt, image, 22, &[0; 30]);
+    has_zeros(&rt, image, 22, 30);
     stands(
         &rt,
         image,
         52,
         b"\x1f\xe2\xc4\xcb\x0b\x99\x98\x63\xd2\xe2\x83\xe9\x16\xcc\x8d\x8e",
     );
-    stands(&rt, image, 84, &[0; 4012]);
+    has_zeros(&rt, image, 84, 4012);
     stands(
         &rt,
         image,
@@ -269,8 +278,8 @@ fn pages(rt: HostRuntime) -> Result<(), Fail> {
         12329,
         b"\0\0\0\x01\0\0\0\0\0\0\0\0\0\0\0\0\0\0\0\x0a\x01",
     );
-    stands(&rt, image, 12350, &[0; 64]);
-    stands(&rt, image, 16384, &[0; 4096]);
+    has_zeros(&rt, image, 12350, 64);
+    has_zeros(&rt, image, 16384, 4096);
     Ok(())
 }
 

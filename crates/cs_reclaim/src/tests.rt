@@ -220,6 +220,11 @@ fn what_lives_is_moved_before_an_extent_is_retired(rt: HostRuntime) -> Result<()
         ]
         .as_slice()
     );
+    let pages: [u64; 11] = [2, 0, 3, 0, 4, 0, 5, 0, 6, 0, 1];
+    assert_eq!(rt; waiting.len(), pages.len());
+    for k in 0..pages.len() {
+        assert_eq!(rt; store.graph.page_of(waiting[k]), Some(pages[k]));
+    }
     a_swept_extent_stays();
     a_sweep_keeps_every_shard();
     Ok(())

@@ -1,5 +1,6 @@
+use Rattle.std.proofs.Common.{◌∙◌}
 use Rattle.cs_cli.proofs.Moves.{moves_then}
-use Rattle.cs_cli.proofs.Sweeping.{inside_kept, nothing_kept, retired_keeps, retired_pointer}
+use Rattle.cs_cli.proofs.Sweeping.{inside_kept, nothing_kept, retired_ended, retired_keeps, retired_marks, retired_pointer}
 use Rattle.cs_cli.proofs.sweeps.empty_extent.Goals as goal
 
 pub returns-in_err-root-clause-places : goal.returns-in_err-root-clause-places
@@ -18,3 +19,11 @@ returns-clause-keeps c =
 
 pub returns-clause-places : goal.returns-clause-places
 returns-clause-places c = inside_kept c.move_all.new.extents c.retire.new.extents c.move_all.new.index c.retire.new.index c.retire.ensures.shape c.move_all.ensures.places c.retire.ensures.map
+
+pub returns-clause-ended : goal.returns-clause-ended
+returns-clause-ended c = retired_ended c.move_all.new.index c.move_all.new.extents c.move_all.new.graph c.args.sweep c.in_ok-root.root c.args.commands c.retire.new.index c.retire.new.extents c.retire.new.graph c.in_ok-root.ensures.retired
+
+pub returns-clause-marks : goal.returns-clause-marks
+returns-clause-marks c d other =
+    retired_marks c.move_all.new.index c.move_all.new.extents c.move_all.new.graph c.args.sweep c.in_ok-root.root c.args.commands c.retire.new.index c.retire.new.extents c.retire.new.graph c.in_ok-root.ensures.retired d other
+    ∙ c.move_all.ensures.marks d
