@@ -1,17 +1,14 @@
 -- What sweeping an extent keeps, and why it ends.
-use Rattle.std.proofs.Common.{◌≡◌, ◌∙◌, ◌⊎◌, ◌==◌, ℕ, zero, suc, ◌+◌, ◌-◌, ◌*◌, ◌<◌, ◌≤◌, Bool, true, false, cond, List, [], ◌∷◌, Some, None, length, sym, ap, subst, inl, inr, ⊎_elim, arith, refl, mul-le-mul_right}
-use Rattle.std.specs.Prelude.{Option}
+use Rattle.std.proofs.Common.{◌≡◌, ◌∙◌, ◌⊎◌, ◌==◌, ℕ, zero, suc, ◌+◌, ◌-◌, ◌*◌, ◌<◌, ◌≤◌, Bool, true, false, cond, List, [], ◌∷◌, length, sym, ap, subst, inl, inr, ⊎_elim, arith, refl, mul-le-mul_right}
 use Rattle.std.proofs.lemmas.Bool.{cases_eq, cond-false, cond-true, eq-eqb, eqb-false, eqb-true, false_from_ne_true, ne_eqb}
 use Rattle.cs_chunk.proofs.Chunkings.{length-spelled}
 use Rattle.cs_deps.specs.Staging.{Staging}
 use Rattle.cs_deps.specs.State.{State as GraphState}
 use Rattle.cs_disk.specs.Disk.{State as DiskState}
-use Rattle.cs_extent.specs.Appended.{IsAppended}
 use Rattle.cs_extent.specs.Frames.{AreResetsStaged}
 use Rattle.cs_extent.specs.State.{IsWhole, State as ExtentsState, extents_of, shape}
 use Rattle.cs_frame.specs.declared.locators.Locator.{Locator}
 use Rattle.cs_frame.specs.Formats.{place_of}
-use Rattle.cs_frame.specs.Frames.{spelled_frame}
 use Rattle.cs_index.specs.Staged.{IsRunAppended}
 use Rattle.cs_index.specs.State.{State as IndexState, index_of}
 use Rattle.cs_model.specs.Device.{Inside, Shape}

@@ -1,6 +1,6 @@
-use Rattle.std.proofs.Common.{◌≡◌, ◌∙◌, List, ℕ, subst, sym}
+use Rattle.std.proofs.Common.{◌∙◌, List, ℕ, subst, sym}
 use Rattle.std.specs.Str.Parse.{ParsesUnsigned}
-use Rattle.cs_cli.proofs.NumberSteps.{digits_are_text, digits_parse, no_digits}
+use Rattle.cs_cli.proofs.NumberSteps.{digits_are_text, digits_parse}
 use Rattle.cs_cli.proofs.lines.read_number.Goals as goal
 
 pub returns-in-Ok : goal.returns-in-Ok
