@@ -186,6 +186,33 @@ fn fail_to_retire(rt: &impl Abort, store: &mut Store, sweep: Sweep) -> Result<()
     }
 }
 
+/// What two puts, two moves and a retired extent stage, and the pages of it.
+const STAGED: [(Element, u64); 11] = [
+    (Element::Plain(1), 2),
+    (Element::Version(0, 2), 0),
+    (Element::Plain(2), 3),
+    (Element::Version(0, 3), 0),
+    (Element::Plain(3), 4),
+    (Element::Version(0, 4), 0),
+    (Element::Plain(4), 5),
+    (Element::Version(0, 5), 0),
+    (Element::Plain(5), 6),
+    (Element::Version(0, 6), 0),
+    (Element::Version(1, 2), 1),
+];
+
+/// Asserts that this waits and nothing else.
+fn assert_staged(rt: &impl Abort, graph: &Graph) -> Result<(), Fail> {
+    let waiting = graph.waiting()?;
+    assert_eq!(rt; waiting.len(), STAGED.len());
+    for k in 0..STAGED.len() {
+        let (element, page) = STAGED[k];
+        assert_eq!(rt; waiting[k], element);
+        assert_eq!(rt; graph.page_of(element), Some(page));
+    }
+    Ok(())
+}
+
 #[test]
 fn what_lives_is_moved_before_an_extent_is_retired(rt: HostRuntime) -> Result<(), Fail> {
     let mut store = new_store(&rt, rt.alloc())?;
@@ -202,29 +229,7 @@ fn what_lives_is_moved_before_an_extent_is_retired(rt: HostRuntime) -> Result<()
     let moved = move_one(&rt, rt.alloc(), &mut store, &mut disk, &sweep)?;
     assert_eq!(rt; moved, None);
     assert_eq!(rt; retire(&rt, &mut store, sweep).ok(), Some(2));
-    let waiting = store.graph.waiting()?;
-    assert_eq!(rt;
-        waiting.as_slice(),
-        [
-            Element::Plain(1),
-            Element::Version(0, 2),
-            Element::Plain(2),
-            Element::Version(0, 3),
-            Element::Plain(3),
-            Element::Version(0, 4),
-            Element::Plain(4),
-            Element::Version(0, 5),
-            Element::Plain(5),
-            Element::Version(0, 6),
-            Element::Version(1, 2),
-        ]
-        .as_slice()
-    );
-    let pages: [u64; 11] = [2, 0, 3, 0, 4, 0, 5, 0, 6, 0, 1];
-    assert_eq!(rt; waiting.len(), pages.len());
-    for k in 0..pages.len() {
-        assert_eq!(rt; store.graph.page_of(waiting[k]), Some(pages[k]));
-    }
+    assert_staged(&rt, &store.graph)?;
     a_swept_extent_stays();
     a_sweep_keeps_every_shard();
     Ok(())
