@@ -69,27 +69,27 @@ alike g d e xs ys listing listed list these same y w = (
 
 module _ (letters persistent : List ℕ) (entries : List Data) (named : List Element) (rounds : List (List Element)) (chain : List Element) where
   has_chain : HasMember (document_data letters persistent entries named rounds chain) (codes "chain") (names_data letters chain)
-  unfolding serde_json_on_literals
+  unfolding serde_json_on_literals document_data
   has_chain = refl
 
   has_elements : HasMember (document_data letters persistent entries named rounds chain) (codes "elements") (array (items_of entries))
-  unfolding serde_json_on_literals
+  unfolding serde_json_on_literals document_data
   has_elements = refl
 
   has_families : HasMember (document_data letters persistent entries named rounds chain) (codes "families") (letters_data letters)
-  unfolding serde_json_on_literals
+  unfolding serde_json_on_literals document_data
   has_families = refl
 
   has_persistent : HasMember (document_data letters persistent entries named rounds chain) (codes "persistent") (numbers_data persistent)
-  unfolding serde_json_on_literals
+  unfolding serde_json_on_literals document_data
   has_persistent = refl
 
   has_rounds : HasMember (document_data letters persistent entries named rounds chain) (codes "rounds") (rounds_data letters rounds)
-  unfolding serde_json_on_literals
+  unfolding serde_json_on_literals document_data
   has_rounds = refl
 
   has_target : HasMember (document_data letters persistent entries named rounds chain) (codes "target") (names_data letters named)
-  unfolding serde_json_on_literals
+  unfolding serde_json_on_literals document_data
   has_target = refl
 
 entry_element : (letters : List ℕ) (x : Element) (xs : List Element) → HasMember (entry_data letters x xs) (codes "e") (string (name_of letters x))

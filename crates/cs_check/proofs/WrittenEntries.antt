@@ -69,6 +69,7 @@ entries_no_float letters (e ∷ es) each =
     (entries_no_float letters es (λ k d at. each (suc k) d at))
 
 pub no_float : (letters : List ℕ) (g : Pending) (entries : List Data) (named : List Element) (rounds : List (List Element)) (chain : List Element) → AreWritten letters g entries → has_float (document_data letters g.persistent entries named rounds chain) ≡ false
+unfolding document_data
 no_float letters g entries named rounds chain are =
     or_from _ _ (names_no_float letters chain) (or_from _ _ elements (or_from _ _ (no_floats (λ c. string (c ∷ [])) (λ c. refl) letters) (or_from _ _ refl (or_from _ _ (no_floats (λ v. number (unsigned v)) (λ v. refl) g.persistent) (or_from _ _ (no_floats (names_data letters) (names_no_float letters) rounds) (or_from _ _ (names_no_float letters named) refl))))))
   where
@@ -99,6 +100,7 @@ entries_flat letters (e ∷ es) each =
     omega (arith, a, b)
 
 pub is_flat : (letters : List ℕ) (g : Pending) (entries : List Data) (named : List Element) (rounds : List (List Element)) (chain : List Element) → AreWritten letters g entries → depth (document_data letters g.persistent entries named rounds chain) ≤ max_depth
+unfolding document_data
 is_flat letters g entries named rounds chain are =
     let a = names_flat letters chain in
     let b = entries_flat letters entries (λ k e at.

@@ -48,7 +48,7 @@ object_data chain elements families persistent rounds target = object (
     member (codes "target") target no_members)))))))
 
 -- the document with these entries, whose target names these
-abbrev pub document_data : List ℕ → List ℕ → List Data → List Element → List (List Element) → List Element → Data
+unfoldable pub document_data : List ℕ → List ℕ → List Data → List Element → List (List Element) → List Element → Data
 document_data letters persistent entries named rounds chain = object_data (names_data letters chain) (array (items_of entries)) (letters_data letters) (numbers_data persistent) (rounds_data letters rounds) (names_data letters named)
 
 -- one entry for each waiting element, in order

@@ -7,7 +7,7 @@ use Rattle.cs_deps.specs.Pending.{Waits}
 use Rattle.cs_deps.specs.View.{pending_of}
 use Rattle.cs_check.specs.Documents.{numbers_data, names_data}
 use Rattle.cs_check.specs.Progress.{elements_of}
-use Rattle.cs_check.specs.Written.{HasLetter}
+use Rattle.cs_check.specs.Written.{HasLetter, document_data}
 use Rattle.cs_check.proofs.Listed.{list_lettered, waiting_lettered}
 use Rattle.cs_check.proofs.WrittenEntries.{text_of_document, same_parts}
 use Rattle.cs_check.proofs.texts.text.Goals as goal
@@ -24,6 +24,7 @@ pub elements_value-requires-2-clause-letter : goal.elements_value-requires-2-cla
 elements_value-requires-2-clause-letter c = rw (c.deref-2.ensures.value) (list_lettered (pending_of c.args.view.now) c.args.target.now c.args.letters.now c.in_ok-named.named.items c.requires.well_formed.elements c.requires.count c.in_ok-named.ensures)
 
 pub returns : goal.returns
+unfolding document_data
 returns c =
     let entries = c.in_ok-elements.ensures in
     text_of_document c.args.letters.now (pending_of c.args.view.now) c.args.target.now (elements_of c.args.rounds.now) c.args.chain.now entries.0 c.in_ok-named.named.items (view c.in_ok-value.value) c.to_string.result entries.1 c.in_ok-named.ensures
