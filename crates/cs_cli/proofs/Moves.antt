@@ -1,10 +1,12 @@
 -- What appends and stagings keep of the extents and of the graph.
-use Rattle.std.proofs.Common.{◌≡◌, ◌∙◌, ◌⊎◌, ℕ, suc, ◌+◌, ◌-◌, ◌*◌, ◌<◌, ◌≤◌, List, [], ◌∷◌, Some, None, length, sym, ap, subst, inl, inr, ⊎_elim, arith, refl, mul-le-mul_right}
+use Rattle.std.proofs.Common.{◌≡◌, ◌∙◌, ◌⊎◌, ℕ, suc, ◌+◌, ◌-◌, ◌*◌, ◌<◌, ◌≤◌, List, [], ◌∷◌, ◌++◌, Some, None, length, sym, ap, subst, inl, inr, ⊎_elim, arith, refl, length-set, mul-le-mul_right}
 use Rattle.std.specs.Prelude.{Option, OnErr, Result, Ok, Err, slice_index}
 use Rattle.std.proofs.lemmas.Bool.{cases_lt}
+use Rattle.std.proofs.lemmas.List.{get_or-set_same}
 use Rattle.cs_deps.specs.declared.elements.Element.TheVariants.{Plain, Version}
 use Rattle.cs_deps.specs.declared.refusals.Refusal.{Refusal}
 use Rattle.cs_deps.specs.declared.refusals.Refusal.TheVariants.{Full, OutOfMemory, WornOut}
+use Rattle.cs_deps.specs.Staging.{Staging}
 use Rattle.cs_deps.specs.State.{State as GraphState, Write, write_of}
 use Rattle.cs_extent.specs.Appended.{AreAppended, IsAppended}
 use Rattle.cs_extent.specs.Frames.{next_superblock, root_family, superblock_family}
@@ -17,6 +19,7 @@ use Rattle.cs_model.specs.Device.{Shape}
 use Rattle.cs_model.specs.Element.{Entry, Locator as Place, Run}
 use Rattle.cs_model.specs.Extents.{ForRun, HasRoom, IsFirstEmpty, Purpose as Reason, empties, spare}
 use Rattle.cs_model.specs.Index.{IsMergedRun, live_at}
+use Rattle.cs_cli.specs.declared.roots.Root.{Root}
 use Rattle.cs_cli.specs.Stored.{AreWithin, KeepsDevice, page_total}
 
 pub moves_none : (x : ExtentsState) (g : GraphState) → KeepsDevice x g x g
@@ -115,6 +118,13 @@ moves_root x g h v commands ls root = record {
   round = root.round;
 }
 
+-- its version is then the newest
+pub root_newest : (g h : GraphState) (v commands : ℕ) (ls : List Locator) → IsRootOver g h v commands ls → root_family < length h.staging.latest → slice_index h.staging.latest root_family ≡ v
+root_newest g h v commands ls root lt =
+    let is = ap (λ (s : Staging). s.latest) root.version.5 in
+    let before : root_family < length g.staging.latest = omega (arith, lt, ap length is, length-set g.staging.latest root_family v) in
+    ap (λ (l : List ℕ). slice_index l root_family) is ∙ get_or-set_same g.staging.latest root_family v 0 before
+
 moves_table : (i : IndexState) (x : ExtentsState) (g : GraphState) (v commands : ℕ) (j : IndexState) (y : ExtentsState) (h : GraphState) → IsTableStaged i x g v commands j y h → KeepsDevice x g y h
 moves_table i x g v commands j y h s =
     moves_then x g y s.staged.0 y h (moves_appended x g ForRun (run_frame x s.entries) (as_locator s.place) y s.staged.0 s.staged.1) (moves_root y s.staged.0 h v commands _ s.staged.2)
@@ -145,6 +155,22 @@ stage_moves (Ok (Some v)) commands i x g j y h none table merged refused unwritt
     (cases_lt (length i.runs) 4)
 stage_moves (Err r) commands i x g j y h none table merged refused unwritten unstaged =
     (moves_refused x g y h unwritten unstaged, ap (λ (s : IndexState). s.limit) refused)
+
+-- the root's version is then the newest
+pub stage_newest : (result : Result (Option ℕ) Refusal) (commands : ℕ) (i : IndexState) (x : ExtentsState) (g : GraphState) (j : IndexState) (y : ExtentsState) (h : GraphState)
+    → ((v : ℕ) → result ≡ Ok (Some v) → length i.runs < 4 → IsTableStaged i x g v commands j y h)
+    → ((v : ℕ) → result ≡ Ok (Some v) → 4 ≤ length i.runs → IsMergeStaged i x g ForRun v commands j y h)
+    → root_family < length h.staging.latest → (v : ℕ) → result ≡ Ok (Some v) → slice_index h.staging.latest root_family ≡ v
+stage_newest result commands i x g j y h table merged lt v is = ⊎_elim
+    (λ (few : length i.runs < 4). let s = table v is few in root_newest s.staged.0 h v commands _ s.staged.2 lt)
+    (λ (many : 4 ≤ length i.runs). let s = merged v is many in root_newest s.between h v commands _ s.root lt)
+    (cases_lt (length i.runs) 4)
+
+-- a root with the newest version was noted
+pub notes_newest : (new held old : List Root) (v w n m : ℕ) → new ≡ held ++ record { version = v; commands = n } ∷ [] → held ≡ old → w ≡ v → m ≡ n → new ≡ old ++ record { version = w; commands = m } ∷ []
+notes_newest new held old v w n m items same version count =
+    items ∙ ap (λ (l : List Root). l ++ record { version = v; commands = n } ∷ []) same
+    ∙ ap (λ (k : ℕ). old ++ record { version = k; commands = n } ∷ []) (sym version) ∙ ap (λ (k : ℕ). old ++ record { version = w; commands = k } ∷ []) (sym count)
 
 -- the table is empty then
 pub stage_empties : (result : Result (Option ℕ) Refusal) (commands : ℕ) (i : IndexState) (x : ExtentsState) (g : GraphState) (j : IndexState) (y : ExtentsState) (h : GraphState)

@@ -1,11 +1,12 @@
 -- What sweeping an extent keeps, and why it ends.
 use Rattle.std.proofs.Common.{◌≡◌, ◌∙◌, ◌⊎◌, ◌==◌, ℕ, zero, suc, ◌+◌, ◌-◌, ◌*◌, ◌<◌, ◌≤◌, Bool, true, false, cond, List, [], ◌∷◌, length, sym, ap, subst, inl, inr, ⊎_elim, arith, refl, mul-le-mul_right}
+use Rattle.std.specs.Prelude.{slice_index}
 use Rattle.std.proofs.lemmas.Bool.{cases_eq, cond-false, cond-true, eq-eqb, eqb-false, eqb-true, false_from_ne_true, ne_eqb}
 use Rattle.cs_chunk.proofs.Chunkings.{length-spelled}
 use Rattle.cs_deps.specs.Staging.{Staging}
 use Rattle.cs_deps.specs.State.{State as GraphState}
 use Rattle.cs_disk.specs.Disk.{State as DiskState}
-use Rattle.cs_extent.specs.Frames.{AreResetsStaged}
+use Rattle.cs_extent.specs.Frames.{AreResetsStaged, root_family}
 use Rattle.cs_extent.specs.State.{IsWhole, State as ExtentsState, extents_of, shape}
 use Rattle.cs_frame.specs.declared.locators.Locator.{Locator}
 use Rattle.cs_frame.specs.Formats.{place_of}
@@ -22,7 +23,7 @@ use Rattle.cs_reclaim.specs.Sweeps.{IsNotSweepable, IsSwept}
 use Rattle.cs_cli.specs.declared.roots.Root.{Root}
 use Rattle.cs_cli.specs.Stored.{Stored, AreInside, IsSound, KeepsDevice}
 use Rattle.cs_cli.proofs.Kept.{inside_live, inside_set, same_limit, same_live, sound_moved}
-use Rattle.cs_cli.proofs.Moves.{extent_there, frame_fits, moves_appended, moves_extents, moves_merged, moves_refused, moves_then}
+use Rattle.cs_cli.proofs.Moves.{extent_there, frame_fits, moves_appended, moves_extents, moves_merged, moves_refused, moves_then, root_newest}
 
 -- PAGES THAT ARE GIVEN
 -- how many pages of the extents below n are given
@@ -193,6 +194,10 @@ module _ (i : IndexState) (x : ExtentsState) (g : GraphState) (e v commands : �
   retired_keeps same =
       let merged : KeepsDevice x g r.0 h = moves_merged i x g ForMove v commands j r.0 h r.1 in
       moves_then x g r.0 h y h merged (moves_extents r.0 h y (same ∙ sym merged.same_shape))
+
+  -- its root is the newest
+  pub retired_root : root_family < length h.staging.latest → v ≡ slice_index h.staging.latest root_family
+  retired_root lt = sym (root_newest r.1.between h v commands _ r.1.root lt)
 
   -- none of its pages is given then
   pub retired_pointer : (extents_of y).pointer e ≡ 0

@@ -1,5 +1,5 @@
 -- What the store behind a script holds, and what it keeps.
-use Rattle.std.specs.Prelude.{◌≡◌, ◌⊎◌, ℕ, ◌+◌, ◌*◌, ◌≤◌, ◌<◌, List, [], ◌∷◌, Contains, Option, Some, None, length, map}
+use Rattle.std.specs.Prelude.{◌≡◌, ◌⊎◌, ℕ, ◌+◌, ◌*◌, ◌≤◌, ◌<◌, List, [], ◌∷◌, Contains, Option, Some, None, length, map, slice_index}
 use Rattle.cs_chunk.specs.Chunks.{AreChunksAt}
 use Rattle.cs_chunk.specs.Newest.{AreNewest}
 use Rattle.cs_deps.specs.declared.elements.Element.{Element}
@@ -78,6 +78,10 @@ pub record IsSound (s : Stored) : Type 0 where
 abbrev pub ReadsAs : Stored → (id : ℕ) → (bytes : List ℕ) → Type 0
 ReadsAs s id bytes = (view : ℕ → List ℕ) → AreNewest s.graph (seen s.disk) view → (ls : List Locator) × (chunks : List (List ℕ))
     × (lookup id (index_of s.index) ≡ Some (map place_of ls)) × AreChunksAt (shape s.extents) view ls chunks × (joined chunks ≡ bytes)
+
+-- the newest root, which includes all commands accepted so far
+abbrev pub newest_root : Stored → Root
+newest_root s = record { version = slice_index s.graph.staging.latest root_family; commands = length s.accepted }
 
 -- all versions of the root up to this one are persistent
 abbrev pub IsRootPersistent : Staging → ℕ → Type 0

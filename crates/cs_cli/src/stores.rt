@@ -10,7 +10,7 @@ ghost use Rattle.cs_index.specs.State.{IsSet, id_number, index_of};
 ghost use Rattle.cs_model.specs.Index.{NothingLive, live_at, lookup, names};
 ghost use Rattle.cs_reclaim.specs.Sweeps.{IsNotSweepable};
 ghost use Rattle.cs_cli.specs.Commands.{commands_of};
-ghost use Rattle.cs_cli.specs.Stored.{Stored, AreEmpty, IsDocumented, IsFrontier, ReadsAs, page_total, reached_of};
+ghost use Rattle.cs_cli.specs.Stored.{Stored, AreEmpty, IsDocumented, IsFrontier, ReadsAs, newest_root, page_total, reached_of};
 ghost use Rattle.cs_cli.specs.Scripts.{IsBest};
 
 use crate::accepts::Accepted;
@@ -155,6 +155,9 @@ impl ScriptStore {
     /// Refused 30 Full where no extent has room, 35 WornOut, and 9 OutOfMemory.
     pub fn stage(&mut self) -> Result<(), Refusal>
         ensures staged { OnOk result (self.new.index.table ≡ []) }
+        ensures unchanged { self.old.index.table ≡ [] → self.new.roots ≡ self.old.roots }
+        ensures noted { self.old.index.table ≢ [] → OnOk result (self.new.roots ≡ self.old.roots ++ newest_root self.new ∷ []) }
+        ensures refused { OnErr result (self.new.roots ≡ self.old.roots) }
         ensures refusals { IfErr result (λ r. (r ≡ Refusal.Full) ⊎ (r ≡ Refusal.WornOut) ⊎ (r ≡ Refusal.OutOfMemory)) }
         ensures accepted { (self.new.accepted ≡ self.old.accepted) × (self.new.at ≡ self.old.at) × (self.new.synced ≡ self.old.synced) }
         ensures others { (self.new.disk ≡ self.old.disk) × (self.new.out ≡ self.old.out) }
@@ -177,6 +180,9 @@ impl ScriptStore {
     /// 9 OutOfMemory. What was moved by then stays where it is now, and the extent isn't being swept any more.
     pub fn sweep(&mut self, extent: usize) -> Result<Swept, Refusal>
         ensures emptied { OnOk result (((extents_of self.new.extents).pointer extent ≡ 0) × NothingLive (index_of self.new.index) extent) }
+        ensures root { IfOk result (λ swept. swept.root ≡ (newest_root self.new).version) }
+        ensures noted { OnOk result (self.new.roots ≡ self.old.roots ++ newest_root self.new ∷ []) }
+        ensures refused { OnErr result (self.new.roots ≡ self.old.roots) }
         ensures marks { (d : ℕ) → (extents_of self.new.extents).swept d ≡ (extents_of self.old.extents).swept d }
         ensures not_sweepable { result ≡ Err Refusal.NotSweepable → IsNotSweepable (shape self.old.extents) (extents_of self.old.extents) extent }
         ensures sweepable { IsNotSweepable (shape self.old.extents) (extents_of self.old.extents) extent → (result ≡ Err Refusal.NotSweepable) ⊎ (result ≡ Err Refusal.OutOfMemory) }

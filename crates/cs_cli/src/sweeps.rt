@@ -1,5 +1,5 @@
 //! Sweeps: all that is live on an extent is moved off it, and then it is retired.
-ghost use Rattle.std.specs.Prelude.{◌≡◌, ◌≢◌, ◌<◌, ◌⊎◌, ◌^◌, ℕ, IfErr, OnOk, false, length};
+ghost use Rattle.std.specs.Prelude.{◌≡◌, ◌≢◌, ◌<◌, ◌⊎◌, ◌^◌, ℕ, IfErr, IfOk, OnOk, false, length, slice_index};
 ghost use Rattle.cs_chunk.specs.Reads.{IsReadRefusal};
 ghost use Rattle.cs_disk.specs.Memory.{memory_state};
 ghost use Rattle.cs_extent.specs.Frames.{AreResetsStaged, root_family};
@@ -47,6 +47,7 @@ pub fn empty_extent(
     requires resets { AreResetsStaged (extents_of extents.old) graph.old.staging }
     requires commands { commands < 2 ^ 63 }
     ensures emptied { OnOk result (((extents_of extents.new).pointer sweep ≡ 0) × NothingLive (index_of index.new) sweep) }
+    ensures root { IfOk result (λ swept. swept.root ≡ slice_index graph.new.staging.latest root_family) }
     ensures refusals { IfErr result (λ r. IsReadRefusal r.0 ⊎ (r.0 ≡ Refusal.Full) ⊎ (r.0 ≡ Refusal.WornOut)) }
     ensures back { IfErr result (λ r. r.1 ≡ sweep) }
     ensures ended { OnOk result ((extents_of extents.new).swept sweep ≡ false) }

@@ -1,6 +1,7 @@
-use Rattle.std.proofs.Common.{◌∙◌}
+use Rattle.std.proofs.Common.{◌∙◌, ◌<◌, arith, length}
+use Rattle.cs_extent.specs.Frames.{root_family}
 use Rattle.cs_cli.proofs.Moves.{moves_then}
-use Rattle.cs_cli.proofs.Sweeping.{inside_kept, nothing_kept, retired_ended, retired_keeps, retired_marks, retired_pointer}
+use Rattle.cs_cli.proofs.Sweeping.{inside_kept, nothing_kept, retired_ended, retired_keeps, retired_marks, retired_pointer, retired_root}
 use Rattle.cs_cli.proofs.sweeps.empty_extent.Goals as goal
 
 pub returns-in_err-root-clause-places : goal.returns-in_err-root-clause-places
@@ -11,6 +12,11 @@ returns-clause-emptied c = (
   retired_pointer c.move_all.new.index c.move_all.new.extents c.move_all.new.graph c.args.sweep c.in_ok-root.root c.args.commands c.retire.new.index c.retire.new.extents c.retire.new.graph c.in_ok-root.ensures.retired,
   nothing_kept c.move_all.new.index c.retire.new.index c.args.sweep c.retire.ensures.map c.in-Ok.ensures.none,
 )
+
+pub returns-clause-root : goal.returns-clause-root
+returns-clause-root c =
+    let lt : root_family < length c.retire.new.graph.staging.latest = omega (arith, c.retire.ensures.families, c.move_all.ensures.families, c.requires.families) in
+    retired_root c.move_all.new.index c.move_all.new.extents c.move_all.new.graph c.args.sweep c.in_ok-root.root c.args.commands c.retire.new.index c.retire.new.extents c.retire.new.graph c.in_ok-root.ensures.retired lt
 
 pub returns-clause-keeps : goal.returns-clause-keeps
 returns-clause-keeps c =
