@@ -67,7 +67,8 @@ fn append_one(extents: &mut Extents, graph: &mut Graph, frame: &[[u8; 4096]]) ->
 {
     match extents.append(graph, frame, Purpose::Put) {
         Ok((place, _)) => {
-            graph.what_it_keeps();
+            // Its contract tells what every graph keeps.
+            graph.families();
             place
         }
         Err(_) => unreachable!(),

@@ -22,6 +22,7 @@ use Rattle.cs_reclaim.specs.Retired.{IsRetired}
 use Rattle.cs_reclaim.specs.Sweeps.{IsNotSweepable, IsSwept}
 use Rattle.cs_cli.specs.declared.roots.Root.{Root}
 use Rattle.cs_cli.specs.Stored.{Stored, AreInside, IsSound, KeepsDevice}
+use Rattle.cs_cli.specs.Sweeps.{AreMoved}
 use Rattle.cs_cli.proofs.Kept.{inside_live, inside_set, same_limit, same_live, sound_moved}
 use Rattle.cs_cli.proofs.Moves.{extent_there, frame_fits, moves_appended, moves_extents, moves_merged, moves_refused, moves_then, root_newest}
 
@@ -187,6 +188,12 @@ moved_few i x g e j y h moved whole so =
     let most : given (extents_of y).pointer (length y.written) ≤ length y.written * y.pages = given_most (extents_of y).pointer (length y.written) y.pages so.pointers in
     let wide : length y.written * y.pages ≤ 512 * y.pages = mul-le-mul_right y.pages (omega (arith, count, whole.most_extents)) in
     omega (arith, so.counted, most, wide, pages, whole.most_pages)
+
+-- the same moves, where what they lead to is named otherwise
+pub are_moved_here : (e moved : ℕ) (i : IndexState) (x : ExtentsState) (f : GraphState) (j : IndexState) (y : ExtentsState) (g : GraphState) (k : IndexState) (z : ExtentsState) (h : GraphState)
+    → k ≡ j → z ≡ y → h ≡ g → AreMoved e moved i x f j y g → AreMoved e moved i x f k z h
+are_moved_here e moved i x f j y g k z h index extents graph m =
+    subst (λ (u : IndexState). AreMoved e moved i x f u z h) (sym index) (subst (λ (u : ExtentsState). AreMoved e moved i x f j u h) (sym extents) (subst (λ (u : GraphState). AreMoved e moved i x f j y u) (sym graph) m))
 
 -- THE EXTENT IS RETIRED
 module _ (i : IndexState) (x : ExtentsState) (g : GraphState) (e v commands : ℕ) (j : IndexState) (y : ExtentsState) (h : GraphState) (r : IsRetired i x g e v commands j y h) where

@@ -6,3 +6,4 @@ pub mod Lines
 pub mod Scripts
 pub mod Stops
 pub mod Checks
+pub mod Sweeps

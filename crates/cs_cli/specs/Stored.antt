@@ -1,22 +1,31 @@
 -- What the store behind a script holds, and what it keeps.
-use Rattle.std.specs.Prelude.{◌≡◌, ◌⊎◌, ℕ, ◌+◌, ◌*◌, ◌≤◌, ◌<◌, List, [], ◌∷◌, Contains, Option, Some, None, length, map, slice_index}
+use Rattle.std.specs.Prelude.{◌≡◌, ◌⊎◌, ℕ, ◌+◌, ◌*◌, ◌≤◌, ◌<◌, List, [], ◌∷◌, ◌++◌, Contains, Option, Some, None, length, map, slice_get, slice_index}
 use Rattle.cs_chunk.specs.Chunks.{AreChunksAt}
 use Rattle.cs_chunk.specs.Newest.{AreNewest}
 use Rattle.cs_deps.specs.declared.elements.Element.{Element}
+use Rattle.cs_deps.specs.declared.refusals.Refusal.{Refusal}
+use Rattle.cs_deps.specs.declared.refusals.Refusal.TheVariants.{OutOfMemory}
+use Rattle.cs_deps.specs.Refusals.{number_of}
 use Rattle.cs_deps.specs.Staging.{Staging, IsSatisfied}
-use Rattle.cs_deps.specs.State.{State as GraphState, Write, write_of, everything}
-use Rattle.cs_disk.specs.Disk.{State as DiskState, seen}
+use Rattle.cs_deps.specs.State.{State as GraphState, Write, after, write_of, everything}
+use Rattle.cs_disk.specs.Disk.{State as DiskState, flushed, seen}
+use Rattle.cs_extent.specs.Appended.{AreAppended}
 use Rattle.cs_extent.specs.Frames.{AreResetsStaged, IsVersionUpTo, root_family}
 use Rattle.cs_extent.specs.State.{State as ExtentsState, extents_of, shape}
 use Rattle.cs_frame.specs.declared.locators.Locator.{Locator}
-use Rattle.cs_frame.specs.Formats.{place_of}
-use Rattle.cs_index.specs.State.{State as IndexState, index_of}
+use Rattle.cs_frame.specs.Formats.{formats_of, place_of}
+use Rattle.cs_index.specs.Staged.{IsMergeStaged, IsTableStaged}
+use Rattle.cs_index.specs.State.{IsSet, State as IndexState, index_of}
 use Rattle.cs_model.specs.Device.{Inside, Shape}
 use Rattle.cs_model.specs.Element.{Locator as Place}
+use Rattle.cs_model.specs.Append.{chunk_frames}
+use Rattle.cs_model.specs.Events.{Chunked}
+use Rattle.cs_model.specs.Extents.{ForPut, ForRun}
 use Rattle.cs_model.specs.Index.{joined, live_at, lookup}
 use Rattle.cs_model.specs.Lists.{◌∈◌}
 use Rattle.cs_cli.specs.declared.roots.Root.{Root}
 use Rattle.cs_cli.specs.Commands.{Command}
+use Rattle.cs_cli.specs.Members.{HasWrites, IsWritten}
 use Rattle.cs_cli.specs.Outputs.{end_line}
 use Rattle.cs_cli.specs.Scripts.{Reached, ArePlanLines, IsPlanText}
 
@@ -79,9 +88,48 @@ abbrev pub ReadsAs : Stored → (id : ℕ) → (bytes : List ℕ) → Type 0
 ReadsAs s id bytes = (view : ℕ → List ℕ) → AreNewest s.graph (seen s.disk) view → (ls : List Locator) × (chunks : List (List ℕ))
     × (lookup id (index_of s.index) ≡ Some (map place_of ls)) × AreChunksAt (shape s.extents) view ls chunks × (joined chunks ≡ bytes)
 
+-- A shard was put: the frames of its chunks were appended one after another, the identifier points at them, each other
+-- identifier has what it had, and the page is noted where the first frame begins.
+pub record IsPut (s : Stored) (id : ℕ) (bytes : List ℕ) (t : Stored) : Type 0 where
+  pub chunks : List (List ℕ)
+  pub places : List Locator
+  pub chunked : Chunked (shape s.extents).chunk_bytes bytes chunks
+  pub appended : AreAppended s.extents s.graph ForPut (chunk_frames (shape s.extents) (formats_of (shape s.extents)) chunks) places t.extents t.graph
+  pub entry : IsSet s.index id (map place_of places) t.index
+  pub first : Locator
+  pub is_first : slice_get places 0 ≡ Some first
+  pub noted : t.at ≡ s.at ++ (shape s.extents).address first.extent first.page ∷ []
+
+-- nothing but room for more has changed of extents, graph and index
+pub record HasOnlyRoom (s t : Stored) : Type 0 where
+  pub extents : t.extents ≡ s.extents
+  pub graph : t.graph ≡ record s.graph { room = t.graph.room }
+  pub index : t.index ≡ record s.index { room = t.index.room }
+
+-- memory was refused, or a frame is damaged: 9 and 20 to 24
+abbrev pub IsDamage : Refusal → Type 0
+IsDamage r = (r ≡ OutOfMemory) ⊎ ((20 ≤ number_of r) × (number_of r ≤ 24))
+
 -- the newest root, which includes all commands accepted so far
 abbrev pub newest_root : Stored → Root
 newest_root s = record { version = slice_index s.graph.staging.latest root_family; commands = length s.accepted }
+
+-- what is due was staged: the table as a run, or where four stand one run of all that is live, and the root over the runs,
+-- which includes all commands accepted so far
+abbrev pub IsStaged : Stored → Stored → Type 0
+IsStaged s t = (v : ℕ) × (length s.index.runs < 4 → IsTableStaged s.index s.extents s.graph v (length s.accepted) t.index t.extents t.graph)
+    × (4 ≤ length s.index.runs → IsMergeStaged s.index s.extents s.graph ForRun v (length s.accepted) t.index t.extents t.graph)
+
+-- The members of the round that was out were written to their pages and flushed, and are persistent; no longer is it out.
+pub record IsRoundEnded (s t : Stored) : Type 0 where
+  pub round : List Element
+  pub was_out : s.out ≡ Some round
+  pub between : DiskState
+  pub written : IsWritten s.graph round s.disk between
+  pub all : HasWrites s.graph round between.volatile
+  pub flush : t.disk ≡ flushed between
+  pub settled : t.graph.staging ≡ record { pending = after s.graph; staged = s.graph.staging.staged; latest = s.graph.staging.latest }
+  pub out : t.out ≡ None
 
 -- all versions of the root up to this one are persistent
 abbrev pub IsRootPersistent : Staging → ℕ → Type 0

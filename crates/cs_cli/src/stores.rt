@@ -1,7 +1,7 @@
 //! The store behind a script: shards as chunks on the extents of a disk in memory, and an index over them.
 ghost use Rattle.std.specs.Prelude.{◌≡◌, ◌≢◌, ℕ, ◌+◌, ◌*◌, ◌≤◌, ◌<◌, ◌⊎◌, ◌↔◌, [], ◌∷◌, ◌++◌, IfOk, IfErr, IfSome, OnOk, OnErr, IsTrue, IsSome, MatchOption, List, true, false, length, map, string_bytes, vec_len};
 ghost use Rattle.cs_deps.specs.declared.elements.Element.{Element as Item};
-ghost use Rattle.cs_deps.specs.State.{everything};
+ghost use Rattle.cs_deps.specs.State.{IsQueue, everything};
 ghost use Rattle.cs_deps.specs.View.{rounds_of};
 ghost use Rattle.cs_disk.specs.Memory.{memory_state};
 ghost use Rattle.cs_extent.specs.State.{extents_of, shape};
@@ -10,8 +10,9 @@ ghost use Rattle.cs_index.specs.State.{IsSet, id_number, index_of};
 ghost use Rattle.cs_model.specs.Index.{NothingLive, live_at, lookup, names};
 ghost use Rattle.cs_reclaim.specs.Sweeps.{IsNotSweepable};
 ghost use Rattle.cs_cli.specs.Commands.{commands_of};
-ghost use Rattle.cs_cli.specs.Stored.{Stored, AreEmpty, IsDocumented, IsFrontier, ReadsAs, newest_root, page_total, reached_of};
+ghost use Rattle.cs_cli.specs.Stored.{Stored, AreEmpty, HasOnlyRoom, IsDamage, IsDocumented, IsFrontier, IsPut, IsRoundEnded, IsStaged, ReadsAs, newest_root, page_total, reached_of};
 ghost use Rattle.cs_cli.specs.Scripts.{IsBest};
+ghost use Rattle.cs_cli.specs.Sweeps.{IsSweptAway};
 
 use crate::accepts::Accepted;
 use crate::formats::Parts;
@@ -90,10 +91,12 @@ impl ScriptStore {
     pub fn put(&mut self, id: [u8; 16], bytes: Vec<u8>) -> Result<usize, Refusal>
         ensures accepted { OnOk result (self.new.accepted ≡ self.old.accepted ++ (id, bytes.items) ∷ []) }
         ensures number { IfOk result (λ n. n ≡ length self.new.accepted) }
+        ensures put { OnOk result (IsPut self.old (id_number (record { 0 = id })) bytes.items self.new) }
         ensures stored { OnOk result (ReadsAs self.new (id_number (record { 0 = id })) bytes.items) }
         ensures entered { OnOk result (live_at (index_of self.new.index) (id_number (record { 0 = id })) ≢ []) }
         ensures too_large { (result ≡ Err Refusal.TooLarge) ↔ ((shape self.old.extents).most_chunks * (shape self.old.extents).chunk_bytes < vec_len bytes) }
         ensures index_full { (result ≡ Err Refusal.IndexFull) ↔ (¬ ((shape self.old.extents).most_chunks * (shape self.old.extents).chunk_bytes < vec_len bytes) × (lookup (id_number (record { 0 = id })) (index_of self.old.index) ≡ None) × (self.old.index.limit ≤ names (index_of self.old.index))) }
+        ensures refused { OnErr result (HasOnlyRoom self.old self.new) }
         ensures refused_accepted { OnErr result ((self.new.accepted ≡ self.old.accepted) × (self.new.at ≡ self.old.at)) }
         ensures others { (self.new.synced ≡ self.old.synced) × (self.new.roots ≡ self.old.roots) × (self.new.disk ≡ self.old.disk) × (self.new.out ≡ self.old.out) }
     {
@@ -110,10 +113,11 @@ impl ScriptStore {
 
     /// The bytes of a shard, None where there is none.
     ///
-    /// Refused 1 DeviceFault, 9 OutOfMemory, and 20 to 24 where a frame is damaged.
+    /// Refused 9 OutOfMemory, and 20 to 24 where a frame is damaged.
     pub fn get(&mut self, id: [u8; 16]) -> Result<Option<Vec<u8>>, Refusal>
         ensures read { IfOk result (λ found. IfSome found (λ bytes. ReadsAs self.old (id_number (record { 0 = id })) bytes.items)) }
         ensures absent { IfOk result (λ found. IsSome found ↔ (live_at (index_of self.old.index) (id_number (record { 0 = id })) ≢ [])) }
+        ensures refusals { IfErr result IsDamage }
         ensures same { self.new ≡ self.old }
     {
         let Some(places) = self.index.lookup(ShardId(id)) else {
@@ -138,7 +142,11 @@ impl ScriptStore {
     pub fn delete(&mut self, id: [u8; 16]) -> Result<Option<usize>, Refusal>
         ensures deleted { IfOk result (λ found. MatchOption found (reached_of self.new ≡ reached_of self.old) (λ n. (self.new.accepted ≡ self.old.accepted ++ (id, []) ∷ []) × (n ≡ length self.new.accepted))) }
         ensures absent { IfOk result (λ found. IsSome found ↔ (live_at (index_of self.old.index) (id_number (record { 0 = id })) ≢ [])) }
+        ensures erased { IfOk result (λ found. IsSome found → IsSet self.old.index (id_number (record { 0 = id })) [] self.new.index) }
+        ensures kept { result ≡ Ok None → self.new.index ≡ self.old.index }
+        ensures refusals { IfErr result (λ r. r ≡ Refusal.OutOfMemory) }
         ensures refused { OnErr result (reached_of self.new ≡ reached_of self.old) }
+        ensures unchanged { OnErr result (self.new.index ≡ self.old.index) }
         ensures others { (self.new.synced ≡ self.old.synced) × (self.new.at ≡ self.old.at) × (self.new.roots ≡ self.old.roots) × (self.new.disk ≡ self.old.disk) × (self.new.out ≡ self.old.out) × (self.new.graph ≡ self.old.graph) × (self.new.extents ≡ self.old.extents) }
     {
         self.accepted.reserve(1)?;
@@ -154,10 +162,11 @@ impl ScriptStore {
     ///
     /// Refused 30 Full where no extent has room, 35 WornOut, and 9 OutOfMemory.
     pub fn stage(&mut self) -> Result<(), Refusal>
-        ensures staged { OnOk result (self.new.index.table ≡ []) }
+        ensures staged { self.old.index.table ≢ [] → OnOk result (IsStaged self.old self.new) }
+        ensures empty { OnOk result (self.new.index.table ≡ []) }
         ensures unchanged { self.old.index.table ≡ [] → self.new.roots ≡ self.old.roots }
         ensures noted { self.old.index.table ≢ [] → OnOk result (self.new.roots ≡ self.old.roots ++ newest_root self.new ∷ []) }
-        ensures refused { OnErr result (self.new.roots ≡ self.old.roots) }
+        ensures refused { OnErr result (HasOnlyRoom self.old self.new × (self.new.roots ≡ self.old.roots)) }
         ensures refusals { IfErr result (λ r. (r ≡ Refusal.Full) ⊎ (r ≡ Refusal.WornOut) ⊎ (r ≡ Refusal.OutOfMemory)) }
         ensures accepted { (self.new.accepted ≡ self.old.accepted) × (self.new.at ≡ self.old.at) × (self.new.synced ≡ self.old.synced) }
         ensures others { (self.new.disk ≡ self.old.disk) × (self.new.out ≡ self.old.out) }
@@ -179,6 +188,7 @@ impl ScriptStore {
     /// Refused 33 NotSweepable where it is open, empty or being swept, or there is no such extent, then as `empty_extent`, and
     /// 9 OutOfMemory. What was moved by then stays where it is now, and the extent isn't being swept any more.
     pub fn sweep(&mut self, extent: usize) -> Result<Swept, Refusal>
+        ensures swept { IfOk result (λ swept. IsSweptAway extent swept.moved swept.root (length self.old.accepted) self.old.index self.old.extents self.old.graph self.new.index self.new.extents self.new.graph) }
         ensures emptied { OnOk result (((extents_of self.new.extents).pointer extent ≡ 0) × NothingLive (index_of self.new.index) extent) }
         ensures root { IfOk result (λ swept. swept.root ≡ (newest_root self.new).version) }
         ensures noted { OnOk result (self.new.roots ≡ self.old.roots ++ newest_root self.new ∷ []) }
@@ -186,6 +196,7 @@ impl ScriptStore {
         ensures marks { (d : ℕ) → (extents_of self.new.extents).swept d ≡ (extents_of self.old.extents).swept d }
         ensures not_sweepable { result ≡ Err Refusal.NotSweepable → IsNotSweepable (shape self.old.extents) (extents_of self.old.extents) extent }
         ensures sweepable { IsNotSweepable (shape self.old.extents) (extents_of self.old.extents) extent → (result ≡ Err Refusal.NotSweepable) ⊎ (result ≡ Err Refusal.OutOfMemory) }
+        ensures refusals { IfErr result (λ r. (r ≡ Refusal.NotSweepable) ⊎ IsDamage r ⊎ (r ≡ Refusal.Full) ⊎ (r ≡ Refusal.WornOut)) }
         ensures accepted { (self.new.accepted ≡ self.old.accepted) × (self.new.at ≡ self.old.at) × (self.new.synced ≡ self.old.synced) }
         ensures others { (self.new.disk ≡ self.old.disk) × (self.new.out ≡ self.old.out) }
     {
@@ -235,7 +246,7 @@ impl ScriptStore {
     /// Refused 5 InFlight where a round is out, 9 OutOfMemory, and what `to_document` refuses.
     pub fn document(&self) -> Result<String, Refusal>
         ensures text { IfOk result (λ text. IsDocumented self.now (string_bytes text)) }
-        ensures in_flight { IsSome self.now.out → result ≡ Err Refusal.InFlight }
+        ensures in_flight { (result ≡ Err Refusal.InFlight) ↔ IsSome self.now.out }
         ensures refusals { IfErr result (λ r. (r ≡ Refusal.InFlight) ⊎ (r ≡ Refusal.OutOfMemory) ⊎ (r ≡ Refusal.BadDocument)) }
     {
         if self.is_out() {
@@ -259,6 +270,7 @@ impl ScriptStore {
         requires { self.old.out ≡ None }
         ensures nothing { result ≡ Ok false → (self.new ≡ self.old) × (self.new.graph.staging.pending.waiting ≡ []) }
         ensures taken { result ≡ Ok true → (round : List Item) × (self.new.out ≡ Some round) × (0 < length round) }
+        ensures first { result ≡ Ok true → IfSome self.new.out (λ round. IsQueue self.old.graph.staging.pending 1 round) }
         ensures staging { self.new.graph.staging ≡ self.old.graph.staging }
         ensures refusals { IfErr result (λ r. r ≡ Refusal.OutOfMemory) }
         ensures refused { OnErr result (self.new ≡ self.old) }
@@ -281,14 +293,15 @@ impl ScriptStore {
     pub fn end(&mut self) -> Result<Vec<Element>, Refusal>
         requires { IsSome self.old.out }
         ensures members { IfOk result (λ members. self.old.out ≡ Some members.items) }
-        ensures ended { OnOk result (self.new.out ≡ None) }
+        ensures ended { OnOk result (IsRoundEnded self.old self.new) }
         ensures fewer { (round : List Item) → self.old.out ≡ Some round → 0 < length round → OnOk result (length self.new.graph.staging.pending.waiting < length self.old.graph.staging.pending.waiting) }
         ensures refusals { IfErr result (λ r. r ≡ Refusal.OutOfMemory) }
         ensures refused { OnErr result ((self.new.graph ≡ self.old.graph) × (self.new.out ≡ self.old.out)) }
         ensures accepted { (self.new.accepted ≡ self.old.accepted) × (self.new.at ≡ self.old.at) × (self.new.synced ≡ self.old.synced) }
         ensures others { (self.new.roots ≡ self.old.roots) × (self.new.extents ≡ self.old.extents) × (self.new.index ≡ self.old.index) }
     {
-        self.graph.what_it_keeps();
+        // Its contract tells what every graph keeps.
+        self.graph.families();
         let Some(members) = self.out.take() else {
             unreachable!()
         };
@@ -329,7 +342,9 @@ impl ScriptStore {
 }
 
 /// The page of the device where a frame begins.
-fn page_of(extents: &Extents, place: Locator) -> u64 {
+fn page_of(extents: &Extents, place: Locator) -> u64
+    ensures { result ≡ (shape extents.now).address place.extent place.page }
+{
     // Its contract tells how many pages an extent may have.
     extents.extent_count();
     let before = usize::from(place.extent) * extents.extent_pages();

@@ -1,13 +1,13 @@
 //! Sweeps: all that is live on an extent is moved off it, and then it is retired.
 ghost use Rattle.std.specs.Prelude.{◌≡◌, ◌≢◌, ◌<◌, ◌⊎◌, ◌^◌, ℕ, IfErr, IfOk, OnOk, false, length, slice_index};
-ghost use Rattle.cs_chunk.specs.Reads.{IsReadRefusal};
 ghost use Rattle.cs_disk.specs.Memory.{memory_state};
 ghost use Rattle.cs_extent.specs.Frames.{AreResetsStaged, root_family};
 ghost use Rattle.cs_extent.specs.State.{extents_of, shape};
 ghost use Rattle.cs_index.specs.State.{index_of};
 ghost use Rattle.cs_model.specs.Index.{NothingLive};
 ghost use Rattle.cs_reclaim.specs.Sweeps.{IsSwept};
-ghost use Rattle.cs_cli.specs.Stored.{AreInside, KeepsDevice, page_total};
+ghost use Rattle.cs_cli.specs.Stored.{AreInside, IsDamage, KeepsDevice, page_total};
+ghost use Rattle.cs_cli.specs.Sweeps.{AreMoved, IsEmptied};
 
 use cs_deps::{Graph, Refusal};
 use cs_disk::MemoryDisk;
@@ -28,8 +28,8 @@ pub struct Swept {
 /// Moves all that is live off the extent of a sweep, and retires it. `commands` is how many puts and deletes the root
 /// includes.
 ///
-/// Refused 1 DeviceFault and 20 to 24 where a frame can't be read, 30 Full where no extent has room, 35 WornOut, and
-/// 9 OutOfMemory. What was moved stays where it is now, and the sweep comes back.
+/// Refused 20 to 24 where a frame is damaged, 30 Full where no extent has room, 35 WornOut, and 9 OutOfMemory. What was
+/// moved stays where it is now, and the sweep comes back.
 pub fn empty_extent(
     alloc: Global,
     sweep: Sweep,
@@ -47,8 +47,9 @@ pub fn empty_extent(
     requires resets { AreResetsStaged (extents_of extents.old) graph.old.staging }
     requires commands { commands < 2 ^ 63 }
     ensures emptied { OnOk result (((extents_of extents.new).pointer sweep ≡ 0) × NothingLive (index_of index.new) sweep) }
+    ensures swept { IfOk result (λ swept. IsEmptied sweep swept.moved swept.root commands index.old extents.old graph.old index.new extents.new graph.new) }
     ensures root { IfOk result (λ swept. swept.root ≡ slice_index graph.new.staging.latest root_family) }
-    ensures refusals { IfErr result (λ r. IsReadRefusal r.0 ⊎ (r.0 ≡ Refusal.Full) ⊎ (r.0 ≡ Refusal.WornOut)) }
+    ensures refusals { IfErr result (λ r. IsDamage r.0 ⊎ (r.0 ≡ Refusal.Full) ⊎ (r.0 ≡ Refusal.WornOut)) }
     ensures back { IfErr result (λ r. r.1 ≡ sweep) }
     ensures ended { OnOk result ((extents_of extents.new).swept sweep ≡ false) }
     ensures marks { (d : ℕ) → d ≢ sweep → (extents_of extents.new).swept d ≡ (extents_of extents.old).swept d }
@@ -81,8 +82,9 @@ fn move_all(
     requires device { length (memory_state disk.old).durable ≡ page_total (shape extents.old) }
     requires families { root_family < length graph.old.staging.latest }
     requires resets { AreResetsStaged (extents_of extents.old) graph.old.staging }
+    ensures moved { IfOk result (λ moved. AreMoved sweep.now moved index.old extents.old graph.old index.new extents.new graph.new) }
     ensures none { OnOk result (NothingLive (index_of index.new) sweep.now) }
-    ensures refusals { IfErr result (λ r. IsReadRefusal r ⊎ (r ≡ Refusal.Full) ⊎ (r ≡ Refusal.WornOut)) }
+    ensures refusals { IfErr result (λ r. IsDamage r ⊎ (r ≡ Refusal.Full) ⊎ (r ≡ Refusal.WornOut)) }
     ensures swept { IsSwept (shape extents.new) (extents_of extents.new) sweep.now }
     ensures marks { (d : ℕ) → (extents_of extents.new).swept d ≡ (extents_of extents.old).swept d }
     ensures keeps { KeepsDevice extents.old graph.old extents.new graph.new }

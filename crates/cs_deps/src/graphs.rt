@@ -253,13 +253,6 @@ impl Graph {
         }
     }
 
-    /// What every graph keeps, for contracts of the layers above. It does nothing.
-    pub fn what_it_keeps(&self)
-        ensures { IsWhole self.now }
-    {
-        let _ = &self.writes;
-    }
-
     /// Takes a round: its members may be written, and it is out until it is settled. It takes no memory.
     pub fn take_round(&mut self, round: Vec<Element>)
         requires none { self.old.round ≡ None }
@@ -291,7 +284,8 @@ impl Graph {
 
     /// How many families there are, 1 to 16.
     pub fn families(&self) -> usize
-        ensures { result ≡ length self.now.staging.latest }
+        ensures count { result ≡ length self.now.staging.latest }
+        ensures whole { IsWhole self.now }
     {
         self.latest.len()
     }

@@ -13,6 +13,15 @@ returns-clause-emptied c = (
   nothing_kept c.move_all.new.index c.retire.new.index c.args.sweep c.retire.ensures.map c.in-Ok.ensures.none,
 )
 
+pub returns-clause-swept : goal.returns-clause-swept
+returns-clause-swept c = record {
+  index = c.move_all.new.index;
+  extents = c.move_all.new.extents;
+  graph = c.move_all.new.graph;
+  moves = c.in-Ok.ensures.moved;
+  retired = c.in_ok-root.ensures.retired;
+}
+
 pub returns-clause-root : goal.returns-clause-root
 returns-clause-root c =
     let lt : root_family < length c.retire.new.graph.staging.latest = omega (arith, c.retire.ensures.families, c.move_all.ensures.families, c.requires.families) in

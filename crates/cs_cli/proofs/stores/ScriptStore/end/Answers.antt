@@ -1,4 +1,4 @@
-use Rattle.std.proofs.Common.{◌≡◌, ◌∙◌, ap, length, sym}
+use Rattle.std.proofs.Common.{◌≡◌, ◌∙◌, ap, length, rules, sym}
 use Rattle.std.specs.Prelude.{option_map}
 use Rattle.cs_deps.specs.declared.elements.Element.TheVariants.{Plain}
 use Rattle.cs_deps.specs.Staging.{Staging}
@@ -21,4 +21,17 @@ invariant_of-self-2 c =
 pub returns-clause-fewer : goal.returns-clause-fewer
 returns-clause-fewer c =
     let s : Stored = the_view c.self.inside in
-    rw (← c.self.view_is) (λ round out some. ended_shorter s c.self.invariant c.what_it_keeps.ensures.out round out (Plain 0) some c.settle_round.new.self c.settle_round.ensures.settled)
+    rw (← c.self.view_is) (λ round out some. ended_shorter s c.self.invariant c.families.ensures.whole.out round out (Plain 0) some c.settle_round.new.self c.settle_round.ensures.settled)
+
+pub returns-clause-ended : goal.returns-clause-ended
+returns-clause-ended c = rw (← c.self.view_is) (
+    let r = c.in_default-write_round.ensures.ok in record {
+      round = c.deref.result.now;
+      was_out = search rules;
+      between = r.0;
+      written = r.1;
+      all = r.2;
+      flush = r.3;
+      settled = c.settle_round.ensures.settled;
+      out = ap (option_map (λ r. r.items)) c.take.ensures.after;
+    })

@@ -1,4 +1,5 @@
-use Rattle.std.proofs.Common.{◌∙◌, ◌≤◌, ap, arith, length, refl, subst, sym}
+use Rattle.std.proofs.Common.{◌∙◌, ◌≤◌, ◌++◌, ◌∷◌, ℕ, List, [], ap, arith, length, refl, rules, subst, sym}
+use Rattle.std.proofs.lemmas.Option.{slice_get_read}
 use Rattle.cs_extent.specs.State.{shape}
 use Rattle.cs_frame.specs.Formats.{place_of}
 use Rattle.cs_index.specs.State.{id_number}
@@ -62,3 +63,17 @@ returns-clause-stored c view newest =
       subst (λ (S : Shape). AreChunksAt S view c.in_ok-places.places.items chunks.0) (sym c.put_chunks.ensures.shape) (chunks.3 (seen (memory_state c.self.inside.disk)) view newest),
       chunks.1.0 ∙ c.deref.ensures.value,
     )
+
+pub returns-clause-put : goal.returns-clause-put
+returns-clause-put c = rw (← c.self.view_is) (
+    let chunks = c.in_ok-places.ensures.chunks in record {
+      chunks = chunks.0;
+      places = c.in_ok-places.places.items;
+      chunked = search rules;
+      appended = chunks.2;
+      entry = search rules;
+      first = c.index.result.now;
+      is_first = slice_get_read c.in_ok-places.places.items (length c.in_ok-places.places.items) 0 c.index.result.now refl (omega (arith, c.in_ok-places.ensures.few.0)) c.index.ensures;
+      noted = c.push_reserved.ensures.items ∙ ap (λ (l : List ℕ). l ++ c.page_of.result ∷ []) c.reserve-2.ensures.items
+          ∙ ap (λ (p : ℕ). c.self.inside.at.items ++ p ∷ []) (c.page_of.ensures ∙ ap (λ (S : Shape). S.address c.index.result.now.extent c.index.result.now.page) c.put_chunks.ensures.shape);
+    })

@@ -24,8 +24,8 @@ invariant_of-self-in-Some c =
     let m = stage_moves c.stage.result c.len-commands.result s.index s.extents s.graph c.stage.new.self c.stage.new.extents c.stage.new.graph e.unchanged e.staged e.merged e.refused e.unwritten e.unstaged in
     sound_moved s c.self.invariant c.stage.new.extents c.stage.new.graph c.stage.new.self m.0 e.resets e.families m.1 (inside_live (shape s.extents) s.index c.stage.new.self c.self.invariant.places e.map) s.accepted (omega arith) s.at c.push_reserved.new.self.items
 
-pub returns-in-Some-clause-staged : goal.returns-in-Some-clause-staged
-returns-in-Some-clause-staged c =
+pub returns-in-Some-clause-empty : goal.returns-in-Some-clause-empty
+returns-in-Some-clause-empty c =
     let e = c.stage.ensures in
     stage_empties c.stage.result c.len-commands.result c.self.inside.index c.self.inside.extents c.self.inside.graph c.stage.new.self c.stage.new.extents c.stage.new.graph e.staged e.merged c.in-Some.version (c.in_ok-staged.was ∙ ap (λ o. Ok o) c.in-Some.is)
 

@@ -22,6 +22,13 @@ invariant_of-self-in-Err c =
     sound_swept s c.self.invariant c.begin.new.extents c.empty_extent.new.extents c.abandon.new.extents c.empty_extent.new.graph c.empty_extent.new.index c.begin.ensures.shape e.keeps c.abandon.ensures.shape e.places e.families
     (marked_resets c.empty_extent.new.extents c.abandon.new.extents c.empty_extent.new.graph.staging c.in-Err.sweep false e.resets c.abandon.ensures.marked) e.limit c.reserve.new.self.items (memory_state c.empty_extent.new.disk) e.device
 
+pub invariant_of-self-in-Ok : goal.invariant_of-self-in-Ok
+invariant_of-self-in-Ok c =
+    let s : Stored = the_view c.self.inside in
+    let e = c.empty_extent.ensures in
+    sound_swept s c.self.invariant c.begin.new.extents c.empty_extent.new.extents c.empty_extent.new.extents c.empty_extent.new.graph c.empty_extent.new.index c.begin.ensures.shape e.keeps refl e.places e.families e.resets e.limit
+    c.push_reserved.new.self.items (memory_state c.empty_extent.new.disk) e.device
+
 pub returns-in-Ok-clause-emptied : goal.returns-in-Ok-clause-emptied
 returns-in-Ok-clause-emptied c =
     subst (λ (e : ℕ). ((extents_of c.empty_extent.new.extents).pointer e ≡ 0) × NothingLive (index_of c.empty_extent.new.index) e) c.in_ok-sweep.ensures.sweep c.in-Ok.ensures.emptied
