@@ -5,7 +5,7 @@ use Rattle.std.proofs.lemmas.Bool.Decides.{nat_tests}
 use Rattle.cs_deps.specs.declared.elements.Element.{Element}
 use Rattle.cs_deps.specs.State.{State as GraphState, AddsNone, after, after_round}
 use Rattle.cs_deps.specs.Pending.{Waits}
-use Rattle.cs_deps.specs.Staging.{Staging}
+use Rattle.cs_deps.specs.Staging.{Staging, settled}
 use Rattle.cs_disk.specs.Disk.{State as DiskState}
 use Rattle.cs_extent.specs.Appended.{AreAppended}
 use Rattle.cs_extent.specs.Frames.{AreResetsStaged}
@@ -139,6 +139,12 @@ one_accepted old mid new a same pushed = omega (arith, commands_count old, comma
 
 -- ROUNDS
 -- a round with a member leaves fewer waiting
+-- the round that was out is settled
+pub settled_out : (s : Stored) → IsSound s → (members : List Element) → s.out ≡ Some members → (g : GraphState) → g.staging ≡ record { pending = after s.graph; staged = s.graph.staging.staged; latest = s.graph.staging.latest }
+    → g.staging ≡ record { pending = settled s.graph.staging.pending members; staged = s.graph.staging.staged; latest = s.graph.staging.latest }
+settled_out s sound members out g staging =
+    staging ∙ ap (λ (o : Option (List Element)). record { pending = after_round s.graph.staging.pending o; staged = s.graph.staging.staged; latest = s.graph.staging.latest }) (sym sound.round ∙ out)
+
 pub ended_shorter : (s : Stored) → IsSound s → ((x : Element) → (round : List Element) × (s.graph.round ≡ Some round) × Contains round x → Waits s.graph.staging.pending x) → (members : List Element) → s.out ≡ Some members → (first : Element) → 0 < length members
     → (g : GraphState) → g.staging ≡ record { pending = after s.graph; staged = s.graph.staging.staged; latest = s.graph.staging.latest } → length g.staging.pending.waiting < length s.graph.staging.pending.waiting
 ended_shorter s sound waits members out first some g staging =

@@ -9,19 +9,23 @@ use Rattle.cs_deps.specs.declared.refusals.Refusal.{Refusal}
 use Rattle.cs_deps.specs.declared.views.Plan.{Plan}
 use Rattle.cs_deps.specs.Named.{Named}
 use Rattle.cs_deps.specs.Pending.{Pending}
-use Rattle.cs_deps.specs.Schedule.{Covers, Respects, IsFewest}
+use Rattle.cs_deps.specs.Schedule.{Covers, Respects, IsFewest, IsSchedule}
 use Rattle.cs_deps.specs.Chain.{IsChainOf}
+use Rattle.cs_deps.specs.Staging.{IsKept, Staging}
+use Rattle.cs_deps.specs.State.{everything}
+use Rattle.cs_deps.specs.Turns.{LeadTo}
 use Rattle.cs_deps.specs.View.{rounds_of}
+use Rattle.cs_deps.proofs.InTurn.{everything_is_all, in_turn_is_a_plan}
 use Rattle.cs_cli.specs.Outputs.{round_line, round_lines}
 use Rattle.cs_cli.specs.Scripts.{IsBest}
 use Rattle.cs_cli.proofs.Appended.{appends_same, appends_then}
 use Rattle.cs_cli.proofs.SyncSteps.{round_lines_more}
 
 -- what a plan of all that waits says, in one
-pub best_plan : (g : Pending) (target : Named) (r : Result Plan Refusal) → IfOk r (λ plan. Covers g (rounds_of plan) target) → IfOk r (λ plan. Respects g (rounds_of plan)) → IfOk r (λ plan. IsFewest g target (rounds_of plan))
+pub best_plan : (g : Pending) (target : Named) (r : Result Plan Refusal) → IfOk r (λ plan. IsSchedule g (rounds_of plan)) → IfOk r (λ plan. Covers g (rounds_of plan) target) → IfOk r (λ plan. Respects g (rounds_of plan)) → IfOk r (λ plan. IsFewest g target (rounds_of plan))
     → IfOk r (λ plan. IsChainOf g target plan.chain.items) → IfOk r (λ plan. length plan.chain.items ≡ length (rounds_of plan)) → IfOk r (λ plan. IsBest g target (rounds_of plan) plan.chain.items)
-best_plan g target (Ok plan) covers respects fewest chain count = record { covers = covers; respects = respects; fewest = fewest; links = chain; count = count }
-best_plan g target (Err r) covers respects fewest chain count = tt
+best_plan g target (Ok plan) schedule covers respects fewest chain count = record { schedule = schedule; covers = covers; respects = respects; fewest = fewest; links = chain; count = count }
+best_plan g target (Err r) schedule covers respects fewest chain count = tt
 
 abbrev pub elements_of : List (Vec Element Global) → List (List Element)
 elements_of rounds = map (λ (round : Vec Element Global). round.items) rounds
@@ -37,3 +41,16 @@ one_round_more rounds i v members before mid after lt is same so_far printed =
     appends_same before after (round_lines 1 first ++ round_line (i + 1) members) (round_lines 1 (elements_of (take (i + 1) rounds)))
     (ap (λ n. round_lines 1 first ++ round_line n members) number ∙ sym (round_lines_more 1 first members) ∙ ap (round_lines 1) (sym more))
     (appends_then before mid after (round_lines 1 first) (round_line (i + 1) members) so_far printed)
+
+-- the rounds that went out one after another are a best plan, too, with the chain of the one that was made before
+pub best_in_turn : (s : Staging) → IsKept s → (h : Pending) (planned rounds : List (List Element)) (chain : List Element) → IsBest s.pending (everything s) planned chain
+    → LeadTo s.pending rounds h → h.waiting ≡ [] → IsBest s.pending (everything s) rounds chain
+best_in_turn s kept h planned rounds chain best lead none =
+    let p = in_turn_is_a_plan s.pending h (everything s) rounds kept.staged (everything_is_all s kept) lead none in record {
+      schedule = p.schedule;
+      covers = p.covers;
+      respects = p.respects;
+      fewest = p.fewest;
+      links = best.links;
+      count = omega (arith, best.count, best.fewest rounds p.schedule p.respects p.covers, p.fewest planned best.schedule best.respects best.covers);
+    }

@@ -5,7 +5,7 @@ use Rattle.cs_deps.specs.declared.elements.Element.{Element}
 use Rattle.cs_deps.specs.declared.refusals.Refusal.{Refusal}
 use Rattle.cs_deps.specs.Named.{Named}
 use Rattle.cs_deps.specs.Pending.{Pending}
-use Rattle.cs_deps.specs.Schedule.{Respects, Covers, IsFewest}
+use Rattle.cs_deps.specs.Schedule.{Respects, Covers, IsFewest, IsSchedule}
 use Rattle.cs_deps.specs.Chain.{IsChainOf}
 use Rattle.cs_check.specs.Written.{IsTextOf}
 use Rattle.cs_cli.specs.Commands.{Command}
@@ -61,24 +61,27 @@ IsEnded out = (out ≡ []) ⊎ ((n : ℕ) × (out ≡ end_line n))
 abbrev pub AreRoundLines : List (List Element) → List ℕ → Type 0
 AreRoundLines rounds out = (first : List ℕ) × IsEnded first × (out ≡ first ++ round_lines 1 rounds)
 
--- The sync ends well: all accepted commands are acknowledged, and how many they are is printed last.
-pub record Acknowledges (old new : Reached) (out : List ℕ) : Type 0 where
-  pub accepted : new.accepted ≡ old.accepted
-  pub synced : new.synced ≡ length old.accepted
-  pub printed : (rounds : List (List Element)) × (chain : List Element) × (before : List ℕ) × AreRoundLines rounds before × (out ≡ before ++ chain_line chain ++ flushes_line (length rounds) ++ acknowledged_line new.synced)
-
--- The sync is refused after some rounds: no more is acknowledged than before.
-pub record Stops (old new : Reached) (out : List ℕ) : Type 0 where
-  pub same : new ≡ old
-  pub printed : (rounds : List (List Element)) × (before : List ℕ) × (r : Refusal) × AreRoundLines rounds before × (out ≡ before ++ refusal_line r)
-
 -- The rounds make the target persistent, a crash leaves a closed set, and no fewer will do, which the chain shows.
 pub record IsBest (g : Pending) (target : Named) (rounds : List (List Element)) (chain : List Element) : Type 0 where
+  pub schedule : IsSchedule g rounds
   pub covers : Covers g rounds target
   pub respects : Respects g rounds
   pub fewest : IsFewest g target rounds
   pub links : IsChainOf g target chain
   pub count : length chain ≡ length rounds
+
+-- The sync ends well: its rounds are a best plan of what waited, all accepted commands are acknowledged, and how many they are is
+-- printed last.
+pub record Acknowledges (old new : Reached) (out : List ℕ) : Type 0 where
+  pub accepted : new.accepted ≡ old.accepted
+  pub synced : new.synced ≡ length old.accepted
+  pub printed : (g : Pending) × (target : Named) × (rounds : List (List Element)) × (chain : List Element) × (before : List ℕ) × IsBest g target rounds chain × AreRoundLines rounds before
+      × (out ≡ before ++ chain_line chain ++ flushes_line (length rounds) ++ acknowledged_line new.synced)
+
+-- The sync is refused after some rounds: no more is acknowledged than before.
+pub record Stops (old new : Reached) (out : List ℕ) : Type 0 where
+  pub same : new ≡ old
+  pub printed : (rounds : List (List Element)) × (before : List ℕ) × (r : Refusal) × AreRoundLines rounds before × (out ≡ before ++ refusal_line r)
 
 -- the lines of a best plan of what waits
 abbrev pub ArePlanLines : Pending → Named → List ℕ → Type 0

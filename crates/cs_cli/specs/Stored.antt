@@ -6,8 +6,8 @@ use Rattle.cs_deps.specs.declared.elements.Element.{Element}
 use Rattle.cs_deps.specs.declared.refusals.Refusal.{Refusal}
 use Rattle.cs_deps.specs.declared.refusals.Refusal.TheVariants.{OutOfMemory}
 use Rattle.cs_deps.specs.Refusals.{number_of}
-use Rattle.cs_deps.specs.Staging.{Staging, IsSatisfied}
-use Rattle.cs_deps.specs.State.{State as GraphState, Write, after, write_of, everything}
+use Rattle.cs_deps.specs.Staging.{Staging, IsSatisfied, settled}
+use Rattle.cs_deps.specs.State.{State as GraphState, Write, write_of, everything}
 use Rattle.cs_disk.specs.Disk.{State as DiskState, flushed, seen}
 use Rattle.cs_extent.specs.Appended.{AreAppended}
 use Rattle.cs_extent.specs.Frames.{AreResetsStaged, IsVersionUpTo, root_family}
@@ -128,7 +128,7 @@ pub record IsRoundEnded (s t : Stored) : Type 0 where
   pub written : IsWritten s.graph round s.disk between
   pub all : HasWrites s.graph round between.volatile
   pub flush : t.disk ≡ flushed between
-  pub settled : t.graph.staging ≡ record { pending = after s.graph; staged = s.graph.staging.staged; latest = s.graph.staging.latest }
+  pub persistent : t.graph.staging ≡ record { pending = settled s.graph.staging.pending round; staged = s.graph.staging.staged; latest = s.graph.staging.latest }
   pub out : t.out ≡ None
 
 -- all versions of the root up to this one are persistent

@@ -1,6 +1,7 @@
 //! The store behind a script: shards as chunks on the extents of a disk in memory, and an index over them.
 ghost use Rattle.std.specs.Prelude.{◌≡◌, ◌≢◌, ℕ, ◌+◌, ◌*◌, ◌≤◌, ◌<◌, ◌⊎◌, ◌↔◌, [], ◌∷◌, ◌++◌, IfOk, IfErr, IfSome, OnOk, OnErr, IsTrue, IsSome, MatchOption, List, true, false, length, map, string_bytes, vec_len};
 ghost use Rattle.cs_deps.specs.declared.elements.Element.{Element as Item};
+ghost use Rattle.cs_deps.specs.Staging.{IsKept};
 ghost use Rattle.cs_deps.specs.State.{IsQueue, everything};
 ghost use Rattle.cs_deps.specs.View.{rounds_of};
 ghost use Rattle.cs_disk.specs.Memory.{memory_state};
@@ -227,9 +228,12 @@ impl ScriptStore {
     /// The plan of all that waits. Refused 9 OutOfMemory alone.
     pub fn plan(&self) -> Result<Plan, Refusal>
         requires { self.now.out ≡ None }
+        ensures kept { IsKept self.now.graph.staging }
         ensures best { IfOk result (λ plan. IsBest self.now.graph.staging.pending (everything self.now.graph.staging) (rounds_of plan) plan.chain.items) }
         ensures refusals { IfErr result (λ r. r ≡ Refusal.OutOfMemory) }
     {
+        // Its contract tells what every graph keeps.
+        self.graph.families();
         plan_all(self.alloc, &self.graph)
     }
 

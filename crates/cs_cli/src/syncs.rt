@@ -2,6 +2,7 @@
 ghost use Rattle.std.specs.Prelude.{◌≡◌, ℕ, ◌≤◌, [], OnOk, IfOk, IfErr, None, length, List};
 ghost use Rattle.std.specs.Io.KnownBytes.{Appends};
 ghost use Rattle.cs_deps.specs.declared.elements.Element.{Element as Item};
+ghost use Rattle.cs_deps.specs.Turns.{LeadTo};
 ghost use Rattle.cs_cli.specs.Outputs.{round_lines};
 ghost use Rattle.cs_cli.specs.Scripts.{Answers, Acknowledges};
 ghost use Rattle.cs_cli.specs.Lines.{says_sync};
@@ -89,7 +90,8 @@ fn end_round<W: Write>(store: &mut ScriptStore, writer: &mut W) -> Result<(), St
 fn run_rounds<W: Write>(store: &mut ScriptStore, writer: &mut W, most: usize) -> Result<usize, Stop>
     requires none { store.old.out ≡ None }
     requires few { length store.old.graph.staging.pending.waiting ≤ most }
-    ensures ok { IfOk result (λ n. (rounds : List (List Item)) × (n ≡ length rounds) × Appends (W.contents writer.old) (W.contents writer.new) (round_lines 1 rounds)) }
+    ensures ok { IfOk result (λ n. (rounds : List (List Item)) × (n ≡ length rounds) × LeadTo store.old.graph.staging.pending rounds store.new.graph.staging.pending
+        × Appends (W.contents writer.old) (W.contents writer.new) (round_lines 1 rounds)) }
     ensures settled { OnOk result (store.new.graph.staging.pending.waiting ≡ []) }
     ensures err { IfErr result (AfterRounds (W.contents writer.old) (W.contents writer.new)) }
     ensures same { reached_of store.new ≡ reached_of store.old }

@@ -14,3 +14,4 @@ pub mod Ready
 pub mod Entries
 pub mod AllHeights
 pub mod Newest
+pub mod InTurn

@@ -8,3 +8,4 @@ pub mod Staging
 pub mod State
 pub mod Refusals
 pub mod Entries
+pub mod Turns

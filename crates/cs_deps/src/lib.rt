@@ -18,7 +18,7 @@ pub use elements::Element;
 pub use graphs::Graph;
 pub use laws::{
     a_chain_bounds_every_schedule, a_first_round_waits_no_more, a_round_lowers_heights,
-    each_waiting_element_has_a_height,
+    each_waiting_element_has_a_height, rounds_in_turn_are_a_plan,
 };
 pub use refusals::Refusal;
 pub use views::{GraphView, Plan};

@@ -1,4 +1,4 @@
-use Rattle.std.proofs.Common.{◌≡◌, ◌∙◌, ap, length, rules, sym}
+use Rattle.std.proofs.Common.{◌≡◌, ◌∙◌, Some, ap, length, rules, sym}
 use Rattle.std.specs.Prelude.{option_map}
 use Rattle.cs_deps.specs.declared.elements.Element.TheVariants.{Plain}
 use Rattle.cs_deps.specs.Staging.{Staging}
@@ -7,7 +7,7 @@ use Rattle.cs_disk.specs.Memory.{memory_state}
 use Rattle.cs_disk.proofs.Images.{length-applied}
 use Rattle.cs_cli.specs.contracts.stores.ScriptStore.{the_view}
 use Rattle.cs_cli.specs.Stored.{Stored}
-use Rattle.cs_cli.proofs.Kept.{ended_shorter, sound_round}
+use Rattle.cs_cli.proofs.Kept.{ended_shorter, settled_out, sound_round}
 use Rattle.cs_cli.proofs.stores.ScriptStore.end.Goals as goal
 
 pub invariant_of-self-2 : goal.invariant_of-self-2
@@ -25,13 +25,15 @@ returns-clause-fewer c =
 
 pub returns-clause-ended : goal.returns-clause-ended
 returns-clause-ended c = rw (← c.self.view_is) (
-    let r = c.in_default-write_round.ensures.ok in record {
+    let s : Stored = the_view c.self.inside in
+    let r = c.in_default-write_round.ensures.ok in
+    let out : s.out ≡ Some c.deref.result.now = search rules in record {
       round = c.deref.result.now;
-      was_out = search rules;
+      was_out = out;
       between = r.0;
       written = r.1;
       all = r.2;
       flush = r.3;
-      settled = c.settle_round.ensures.settled;
+      persistent = settled_out s c.self.invariant c.deref.result.now out c.settle_round.new.self c.settle_round.ensures.settled;
       out = ap (option_map (λ r. r.items)) c.take.ensures.after;
     })
