@@ -106,9 +106,9 @@ pub record HasOnlyRoom (s t : Stored) : Type 0 where
   pub graph : t.graph ≡ record s.graph { room = t.graph.room }
   pub index : t.index ≡ record s.index { room = t.index.room }
 
--- memory was refused, or a frame is damaged: 9 and 20 to 24
-abbrev pub IsDamage : Refusal → Type 0
-IsDamage r = (r ≡ OutOfMemory) ⊎ ((20 ≤ number_of r) × (number_of r ≤ 24))
+-- a frame is damaged, or memory was refused: 20 to 24, and 9
+abbrev pub IsDamageOrMemory : Refusal → Type 0
+IsDamageOrMemory r = ((20 ≤ number_of r) × (number_of r ≤ 24)) ⊎ (r ≡ OutOfMemory)
 
 -- the newest root, which includes all commands accepted so far
 abbrev pub newest_root : Stored → Root

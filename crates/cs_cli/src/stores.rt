@@ -11,7 +11,7 @@ ghost use Rattle.cs_index.specs.State.{IsSet, id_number, index_of};
 ghost use Rattle.cs_model.specs.Index.{NothingLive, live_at, lookup, names};
 ghost use Rattle.cs_reclaim.specs.Sweeps.{IsNotSweepable};
 ghost use Rattle.cs_cli.specs.Commands.{commands_of};
-ghost use Rattle.cs_cli.specs.Stored.{Stored, AreEmpty, HasOnlyRoom, IsDamage, IsDocumented, IsFrontier, IsPut, IsRoundEnded, IsStaged, ReadsAs, newest_root, page_total, reached_of};
+ghost use Rattle.cs_cli.specs.Stored.{Stored, AreEmpty, HasOnlyRoom, IsDamageOrMemory, IsDocumented, IsFrontier, IsPut, IsRoundEnded, IsStaged, ReadsAs, newest_root, page_total, reached_of};
 ghost use Rattle.cs_cli.specs.Scripts.{IsBest};
 ghost use Rattle.cs_cli.specs.Sweeps.{IsSweptAway};
 
@@ -118,7 +118,7 @@ impl ScriptStore {
     pub fn get(&mut self, id: [u8; 16]) -> Result<Option<Vec<u8>>, Refusal>
         ensures read { IfOk result (λ found. IfSome found (λ bytes. ReadsAs self.old (id_number (record { 0 = id })) bytes.items)) }
         ensures absent { IfOk result (λ found. IsSome found ↔ (live_at (index_of self.old.index) (id_number (record { 0 = id })) ≢ [])) }
-        ensures refusals { IfErr result IsDamage }
+        ensures refusals { IfErr result IsDamageOrMemory }
         ensures same { self.new ≡ self.old }
     {
         let Some(places) = self.index.lookup(ShardId(id)) else {
@@ -197,7 +197,7 @@ impl ScriptStore {
         ensures marks { (d : ℕ) → (extents_of self.new.extents).swept d ≡ (extents_of self.old.extents).swept d }
         ensures not_sweepable { result ≡ Err Refusal.NotSweepable → IsNotSweepable (shape self.old.extents) (extents_of self.old.extents) extent }
         ensures sweepable { IsNotSweepable (shape self.old.extents) (extents_of self.old.extents) extent → (result ≡ Err Refusal.NotSweepable) ⊎ (result ≡ Err Refusal.OutOfMemory) }
-        ensures refusals { IfErr result (λ r. (r ≡ Refusal.NotSweepable) ⊎ IsDamage r ⊎ (r ≡ Refusal.Full) ⊎ (r ≡ Refusal.WornOut)) }
+        ensures refusals { IfErr result (λ r. (r ≡ Refusal.NotSweepable) ⊎ IsDamageOrMemory r ⊎ (r ≡ Refusal.Full) ⊎ (r ≡ Refusal.WornOut)) }
         ensures accepted { (self.new.accepted ≡ self.old.accepted) × (self.new.at ≡ self.old.at) × (self.new.synced ≡ self.old.synced) }
         ensures others { (self.new.disk ≡ self.old.disk) × (self.new.out ≡ self.old.out) }
     {

@@ -6,7 +6,7 @@ ghost use Rattle.cs_extent.specs.State.{extents_of, shape};
 ghost use Rattle.cs_index.specs.State.{index_of};
 ghost use Rattle.cs_model.specs.Index.{NothingLive};
 ghost use Rattle.cs_reclaim.specs.Sweeps.{IsSwept};
-ghost use Rattle.cs_cli.specs.Stored.{AreInside, IsDamage, KeepsDevice, page_total};
+ghost use Rattle.cs_cli.specs.Stored.{AreInside, IsDamageOrMemory, KeepsDevice, page_total};
 ghost use Rattle.cs_cli.specs.Sweeps.{AreMoved, IsEmptied};
 
 use cs_deps::{Graph, Refusal};
@@ -49,7 +49,7 @@ pub fn empty_extent(
     ensures emptied { OnOk result (((extents_of extents.new).pointer sweep ≡ 0) × NothingLive (index_of index.new) sweep) }
     ensures swept { IfOk result (λ swept. IsEmptied sweep swept.moved swept.root commands index.old extents.old graph.old index.new extents.new graph.new) }
     ensures root { IfOk result (λ swept. swept.root ≡ slice_index graph.new.staging.latest root_family) }
-    ensures refusals { IfErr result (λ r. IsDamage r.0 ⊎ (r.0 ≡ Refusal.Full) ⊎ (r.0 ≡ Refusal.WornOut)) }
+    ensures refusals { IfErr result (λ r. IsDamageOrMemory r.0 ⊎ (r.0 ≡ Refusal.Full) ⊎ (r.0 ≡ Refusal.WornOut)) }
     ensures back { IfErr result (λ r. r.1 ≡ sweep) }
     ensures ended { OnOk result ((extents_of extents.new).swept sweep ≡ false) }
     ensures marks { (d : ℕ) → d ≢ sweep → (extents_of extents.new).swept d ≡ (extents_of extents.old).swept d }
@@ -84,7 +84,7 @@ fn move_all(
     requires resets { AreResetsStaged (extents_of extents.old) graph.old.staging }
     ensures moved { IfOk result (λ moved. AreMoved sweep.now moved index.old extents.old graph.old index.new extents.new graph.new) }
     ensures none { OnOk result (NothingLive (index_of index.new) sweep.now) }
-    ensures refusals { IfErr result (λ r. IsDamage r ⊎ (r ≡ Refusal.Full) ⊎ (r ≡ Refusal.WornOut)) }
+    ensures refusals { IfErr result (λ r. IsDamageOrMemory r ⊎ (r ≡ Refusal.Full) ⊎ (r ≡ Refusal.WornOut)) }
     ensures swept { IsSwept (shape extents.new) (extents_of extents.new) sweep.now }
     ensures marks { (d : ℕ) → (extents_of extents.new).swept d ≡ (extents_of extents.old).swept d }
     ensures keeps { KeepsDevice extents.old graph.old extents.new graph.new }

@@ -1,9 +1,9 @@
 -- All that was staged as a target.
-use Rattle.std.proofs.Common.{◌≡◌, ℕ, ◌<◌, ◌≤◌, List, [], ◌∷◌, length, slice_get, refl, sym, subst, ap, ◌∙◌, inl, ⊎_elim, arith, rules}
+use Rattle.std.proofs.Common.{◌≡◌, ℕ, ◌<◌, ◌≤◌, List, [], ◌∷◌, length, slice_get, refl, sym, subst, ap, ◌∙◌, ⊎_elim, arith, rules}
 use Rattle.std.specs.Prelude.{Contains, ◌↔◌, All, slice_index}
 use Rattle.cs_deps.specs.declared.elements.Element.{Element}
 use Rattle.cs_deps.specs.declared.elements.Element.TheVariants.{Plain, Version}
-use Rattle.cs_deps.specs.Named.{Named, Names, IsWithin}
+use Rattle.cs_deps.specs.Named.{Named, IsWithin}
 use Rattle.cs_deps.specs.Pending.{Waits, IsPersistent, Satisfied, SatisfiedBy}
 use Rattle.cs_deps.specs.Schedule.{Covers}
 use Rattle.cs_deps.specs.Chain.{IsHeight}
@@ -13,6 +13,7 @@ use Rattle.cs_deps.specs.State.{everything, IsOfLevel, IsQueue}
 use Rattle.cs_plan.specs.Levels.{IsFirstOf}
 use Rattle.cs_deps.proofs.Sets.{no_element}
 use Rattle.cs_deps.proofs.Chains.{named_is_needed}
+use Rattle.cs_deps.proofs.InTurn.{everything_is_all}
 use Rattle.cs_deps.proofs.HeightSteps.{chain_ends_waiting, of_level_height}
 
 -- all that was staged is within what was staged
@@ -20,14 +21,10 @@ pub everything_within : (s : Staging) → IsWithin (everything s) s.staged s.lat
 everything_within s (Plain n) h = ⊎_elim (λ (p : (1 ≤ n) × (n ≤ s.staged)). p) (λ (c : Contains [] n). absurd (no_element n c)) h
 everything_within s (Version f v) h = h.1
 
-waiting_named : (s : Staging) → IsKept s → (x : Element) → Waits s.pending x → Names (everything s) x
-waiting_named s kept (Plain n) w = inl (kept.numbered (Plain n) w)
-waiting_named s kept (Version f v) w = (omega (arith, kept.staged.not_yet f v w), kept.numbered (Version f v) w)
-
 pub due_by_height : (s : Staging) → IsKept s → (n : ℕ) (x : Element) → IsHeight s.pending x n → IsDue s.pending (everything s) n x
 due_by_height s kept n x h =
     let w = chain_ends_waiting s.pending x n h.reached in
-    (named_is_needed s.pending (everything s) x (waiting_named s kept x w) w, h)
+    (named_is_needed s.pending (everything s) x ((everything_is_all s kept).all x w) w, h)
 
 taken_of_level : (s : Staging) → IsKept s → (n : ℕ) (x : Element) → IsTaken s.pending (everything s) n x ↔ IsOfLevel s.pending n x
 taken_of_level s kept n (Plain m) = ((λ t. t.1), (λ h. due_by_height s kept n (Plain m) h))
@@ -75,4 +72,4 @@ none_is_nothing_waits s kept [] covers full first is none = cases s.pending.wait
     cases [] e = e
     cases (w ∷ ws) e =
         let waits : Waits s.pending w.0 = (0, w.1, ap (λ l. slice_get l 0) e) in
-        absurd (not_satisfied s kept w.0 waits (covers w.0 (waiting_named s kept w.0 waits)))
+        absurd (not_satisfied s kept w.0 waits (covers w.0 ((everything_is_all s kept).all w.0 waits)))
