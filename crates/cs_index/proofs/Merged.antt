@@ -9,6 +9,7 @@ use Rattle.cs_model.specs.Element.{Entry, Locator as Place}
 use Rattle.cs_model.specs.Index.{Ascending, IsMergedRun, if_live, live, live_at, lookup, names}
 use Rattle.cs_index.specs.Sorted.{IsMergedTo, live_entry}
 use Rattle.cs_index.specs.State.{IsAfter, IsNext, IsShort}
+use Rattle.cs_index.proofs.Merging.{before_next}
 use Rattle.cs_index.proofs.Newest.{lookup_second}
 use Rattle.cs_index.proofs.Sorted.{all_append, all_map}
 
@@ -29,13 +30,6 @@ fewer_left (Some a) id later small = let lt : a < id = later in omega arith
 after_or_not : (after : Option ℕ) (d : ℕ) → (IsAfter after d) ⊎ (IsAfter after d → ⊥)
 after_or_not None d = inl tt
 after_or_not (Some a) d = elim (cases_lt a d) [ inl lt ↦ inl lt | inr ge ↦ inr (λ lt. omega arith) ]
-
-later_still : (after : Option ℕ) (n d : ℕ) → IsAfter after n → n ≤ d → IsAfter after d
-later_still None n d a le = tt
-later_still (Some m) n d a le = let lt : m < n = a in omega arith
-
-before_next : (after : Option ℕ) (n d : ℕ) → IsAfter after n → (IsAfter after d → ⊥) → d < n
-before_next after n d later not = elim (cases_lt d n) [ inl lt ↦ lt | inr ge ↦ absurd (not (later_still after n d later ge)) ]
 
 pub merged_start : (index : List Entry) → IsMergedTo index None []
 merged_start index = record { ascending = tt; none_after = tt; lookups = λ d not. absurd (not tt) }
@@ -81,16 +75,16 @@ pub short_step : (xs : List Entry) (id : ℕ) (ls : List Place) → AllByRecursi
 short_step xs id ls all few = all_live IsShort xs id ls all few
 
 -- one identifier more
-pub merged_step : (index xs : List Entry) (after : Option ℕ) (id : ℕ) (ls : List Place) → IsMergedTo index after xs → IsNext index after (Some id) → lookup id index ≡ Some ls
+pub merged_step : (index xs : List Entry) (after : Option ℕ) (id : ℕ) (ls : List Place) → IsMergedTo index after xs → IsNext index after (Some (record { id = id; locators = ls }))
     → IsMergedTo index (Some id) (xs ++ live_entry id ls)
-merged_step index xs after id ls was next last =
+merged_step index xs after id ls was next =
     let below : AllByRecursion (λ x. x.id < id) xs = all_map (λ x. IsAfter after x.id → ⊥) (λ x. x.id < id) xs (λ x not. before_next after id x.id next.0 not) was.none_after in
     record {
       ascending = ascending_live xs id ls was.ascending below;
       none_after = all_live (λ x. id < x.id → ⊥) xs id ls (all_map (λ x. x.id < id) (λ x. id < x.id → ⊥) xs (λ x lt gt. omega arith) below) (λ lt. omega arith);
       lookups = λ d not. elim (cases_eq id d) [
         | inl is ↦ subst (λ (n : ℕ). lookup n (xs ++ live_entry id ls) ≡ if_live (lookup n index)) is
-            (lookup_second id xs (live_entry id ls) (none_there index xs after id was next.0) ∙ live_here id ls ∙ ap if_live (sym last))
+            (lookup_second id xs (live_entry id ls) (none_there index xs after id was next.0) ∙ live_here id ls ∙ ap if_live (sym next.1))
         | inr other ↦ append_none d xs (live_entry id ls) (live_there id d ls other) ∙ ⊎_elim
             (λ (later : IsAfter after d). none_there index xs after d was later ∙ ap if_live (sym (next.2 d later (less d other not))))
             (λ (earlier : IsAfter after d → ⊥). was.lookups d earlier)

@@ -41,10 +41,14 @@ short_in (x ∷ xs) id ls all is = elim (cases_eq x.id id) [
   | inr there ↦ short_in xs id ls all.1 (sym (lookup_there x xs id there) ∙ is)
 ]
 
-pub short_lookup : (s : State) (id : ℕ) (ls : List Locator) → IsWhole s → Some (map place_of ls) ≡ lookup id (index_of s) → length ls ≤ 8
-short_lookup s id ls whole is =
-    let few : length (map place_of ls) ≤ 8 = short_in (index_of s) id (map place_of ls) (all_append IsShort s.table (entries_of s.runs) whole.short (short_runs s.runs whole.runs)) (sym is) in
+pub short_found_in : (table : List Entry) (runs : List Run) (id : ℕ) (ls : List Locator) → AllByRecursion IsShort table → AllByRecursion IsStored runs
+    → lookup id (table ++ entries_of runs) ≡ Some (map place_of ls) → length ls ≤ 8
+short_found_in table runs id ls short stored is =
+    let few : length (map place_of ls) ≤ 8 = short_in (table ++ entries_of runs) id (map place_of ls) (all_append IsShort table (entries_of runs) short (short_runs runs stored)) is in
     omega (arith, length-map ls place_of)
+
+pub short_lookup : (s : State) (id : ℕ) (ls : List Locator) → IsWhole s → Some (map place_of ls) ≡ lookup id (index_of s) → length ls ≤ 8
+short_lookup s id ls whole is = short_found_in s.table s.runs id ls whole.short whole.runs (sym is)
 
 -- ---- places
 

@@ -1,3 +1,4 @@
+pub mod Read
 pub mod Sorted
 pub mod Staged
 pub mod State

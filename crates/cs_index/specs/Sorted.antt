@@ -23,11 +23,11 @@ pub record IsStart (after : Option ℕ) (k : ℕ) (entries : List Entry) : Type 
   pub before : AllByRecursion (λ x. ¬ IsAfter after x.id) (take k entries)
   pub behind : AllByRecursion (λ x. IsAfter after x.id) (drop k entries)
 
--- the lesser of two numbers, if there are any
-abbrev pub least_of : Option ℕ → Option ℕ → Option ℕ
-least_of None b = b
-least_of (Some a) None = Some a
-least_of (Some a) (Some b) = if nat_lt b a then Some b else Some a
+-- of two entries the one with the lesser identifier, and of two with the same the first
+abbrev pub first_of : Option Entry → Option Entry → Option Entry
+first_of None b = b
+first_of (Some a) None = Some a
+first_of (Some a) (Some b) = if nat_lt b.id a.id then Some b else Some a
 
 -- the entry of an identifier, unless it has no locators
 abbrev pub live_entry : ℕ → List Place → List Entry

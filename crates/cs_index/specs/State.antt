@@ -74,11 +74,11 @@ abbrev pub IsAfter : Option ℕ → ℕ → Type 0
 IsAfter None d = Unit {0}
 IsAfter (Some id) d = id < d
 
--- the least identifier that has an entry and comes after this one, if there is one
-abbrev pub IsNext : List Entry → (after : Option ℕ) → Option ℕ → Type 0
+-- the last entry of the least identifier that has one and comes after this one, if there is one
+abbrev pub IsNext : List Entry → (after : Option ℕ) → Option Entry → Type 0
 IsNext index after None = (d : ℕ) → IsAfter after d → lookup d index ≡ None
-IsNext index after (Some id) =
-    IsAfter after id × (lookup id index ≢ None) × ((d : ℕ) → IsAfter after d → d < id → lookup d index ≡ None)
+IsNext index after (Some x) =
+    IsAfter after x.id × (lookup x.id index ≡ Some x.locators) × ((d : ℕ) → IsAfter after d → d < x.id → lookup d index ≡ None)
 
 -- the value of an index with these fields
 abbrev pub state_of : List (ShardId × Vec Locator Global) → List StoredRun → (limit room : ℕ) → State

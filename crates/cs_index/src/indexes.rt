@@ -10,10 +10,10 @@ ghost use Rattle.cs_model.specs.Extents.{ForRun, NoPlace};
 ghost use Rattle.cs_model.specs.Index.{Ascending, entries_of, live_at, lookup, names};
 ghost use Rattle.cs_index.specs.Staged.{IsExact, IsFull, IsMergeStaged, IsRootWorn, IsRunStaged, IsStageWorn, IsTableStaged, WritesMerged, WritesRun, run_frame};
 ghost use Rattle.cs_frame.specs.Formats.{place_of};
-ghost use Rattle.cs_index.specs.State.{IsId, IsNext, IsSet, IsShort, IsStored, IsWhole, id_number, index_of, named_entry, newest_first};
+ghost use Rattle.cs_index.specs.State.{IsId, IsSet, IsShort, IsStored, IsWhole, id_number, index_of, named_entry, newest_first};
 
+use crate::entries::{Entries, entries_from};
 use crate::mergers::merged;
-use crate::merges::{least, next_in, next_in_runs};
 use crate::runs::{StoredRun, check_ids, count_names, find_in_runs};
 use crate::stagings::{run_fits, stage_empty, stage_run};
 use crate::tables::{find, put};
@@ -90,30 +90,12 @@ impl Index {
         }
     }
 
-    /// The least identifier after this one, or of all, that has an entry, with the locators of its last entry. Searches
-    /// the table and each run twice.
-    pub fn next_after(&self, after: Option<ShardId>) -> Option<(ShardId, &[Locator])>
-        ensures next { IsNext (index_of self.now) (option_map id_number after) (option_map (λ found. id_number found.0) result) }
-        ensures last { IfSome result (λ found. lookup (id_number found.0) (index_of self.now) ≡ Some (map place_of found.1.now)) }
-        ensures short { IfSome result (λ found. length found.1.now ≤ 8) }
+    /// The last entry of each identifier that has one, deletions included, by rising identifiers. All of them together
+    /// cost as much as there are entries in the table and in the runs.
+    pub fn entries(&self) -> Entries<'_>
+        ensures { result ≡ record { index = index_of self.now; after = None } }
     {
-        match self.next_id(after) {
-            Some(id) => match self.lookup(id) {
-                Some(locators) => Some((id, locators)),
-                None => unreachable!(),
-            },
-            None => None,
-        }
-    }
-
-    /// The least identifier after this one that has an entry.
-    fn next_id(&self, after: Option<ShardId>) -> Option<ShardId>
-        ensures { IsNext (index_of self.now) (option_map id_number after) (option_map id_number result) }
-    {
-        least(
-            next_in(&self.table.entries, after),
-            next_in_runs(&self.runs, after),
-        )
+        entries_from(&self.table.entries, &self.runs)
     }
 
     /// How many identifiers have an entry, deletions included. It costs no search.
@@ -377,7 +359,7 @@ impl Index {
     ///
     /// 30 `Full` where no extent takes the run, then 35 `WornOut` where a number would pass 2^63 - 1; 9 `OutOfMemory` may
     /// come instead of either. After a refusal nothing has changed but the graph's room. Takes memory for all that is
-    /// live, and costs some searches for each identifier that has an entry.
+    /// live, and time for all entries.
     pub fn stage_merged(
         &mut self,
         extents: &mut Extents,
@@ -419,7 +401,7 @@ impl Index {
     }
 
     /// Whether an extent would take the run that `stage_merged` writes for this purpose, true also where it writes none.
-    /// Takes memory for all that is live, and costs some searches for each identifier that has an entry.
+    /// Takes memory for all that is live, and time for all entries.
     pub fn merged_fits(&self, extents: &Extents, purpose: Purpose) -> Result<bool, AllocError>
         requires limit { self.now.limit ≡ (shape extents.now).most_names }
         ensures { IfOk result (λ fits. MatchBool fits (IsFull (WritesMerged self.now) extents.now (reason_of purpose) → ⊥) (IsFull (WritesMerged self.now) extents.now (reason_of purpose))) }

@@ -1,16 +1,18 @@
 //! The index of a store: which locators each shard has, as a table in memory over at most four runs on the device.
 //!
 //! A later entry of an identifier wins over an earlier one: a newer run over an older one, the table over all runs.
-//! An entry without locators is a deletion, which hides what earlier runs have. Identifiers are found by binary search.
+//! An entry without locators is a deletion, which hides what earlier runs have. An identifier is found by binary search;
+//! all are read in order, table and runs side by side.
 #![tactic(auto)]
 
+mod entries;
 mod indexes;
 mod mergers;
-mod merges;
 mod runs;
 mod stagings;
 mod tables;
 
+pub use entries::Entries;
 pub use indexes::Index;
 pub use runs::StoredRun;
 

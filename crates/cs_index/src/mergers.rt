@@ -31,8 +31,7 @@ fn add_live(
     Ok(())
 }
 
-/// All that is live in an index, by rising identifiers. Takes memory for it, and costs some searches for each identifier
-/// that has an entry.
+/// All that is live in an index, by rising identifiers. Takes memory for it, and time for all entries.
 pub fn merged(alloc: Global, index: &Index) -> Result<Run, AllocError>
     ensures merged { IfOk result (λ run. IsMergedRun (index_of index.now) (map named_entry run.entries.items)) }
     ensures ids { IfOk result (λ run. AllByRecursion (λ entry. IsId entry.0) run.entries.items) }
@@ -41,10 +40,9 @@ pub fn merged(alloc: Global, index: &Index) -> Result<Run, AllocError>
 {
     let _named = index.named_count();
     let mut entries = Vec::new(alloc);
-    let mut after: Option<ShardId> = None;
-    while let Some((id, locators)) = index.next_after(after) {
+    let mut read = index.entries();
+    while let Some((id, locators)) = read.next_entry() {
         add_live(alloc, &mut entries, id, locators)?;
-        after = Some(id);
     }
     Ok(Run { entries })
 }

@@ -112,8 +112,8 @@ fn count(index: &Index, last: u8) -> Option<usize> {
 }
 
 /// The last byte of the next identifier.
-fn next(index: &Index, after: Option<ShardId>) -> Option<u8> {
-    match index.next_after(after) {
+fn next(entries: &mut Entries) -> Option<u8> {
+    match entries.next_entry() {
         Some((found, _)) => Some(found.0[15]),
         None => None,
     }
@@ -127,9 +127,10 @@ fn a_deletion_is_an_entry(rt: HostRuntime) -> Result<(), Fail> {
     set(rt.alloc(), &mut index, 2, 5)?;
     set(rt.alloc(), &mut index, 1, 6)?;
     assert_eq!(rt; index.lookup(id(2)), Some([place(5)].as_slice()));
-    assert_eq!(rt; next(&index, None), Some(1));
-    assert_eq!(rt; next(&index, Some(id(1))), Some(2));
-    assert_eq!(rt; next(&index, Some(id(2))), None);
+    let mut entries = index.entries();
+    assert_eq!(rt; next(&mut entries), Some(1));
+    assert_eq!(rt; next(&mut entries), Some(2));
+    assert_eq!(rt; next(&mut entries), None);
     assert!(rt; index.erase(id(2))?);
     assert!(rt; !index.erase(id(2))?);
     assert!(rt; !index.erase(id(3))?);

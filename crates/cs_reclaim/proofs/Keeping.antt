@@ -1,5 +1,5 @@
 -- A move keeps the chunks of every shard.
-use Rattle.std.proofs.Common.{◌≡◌, ◌≢◌, ◌⊎◌, ◌∙◌, ◌==◌, inl, inr, ℕ, zero, suc, ◌+◌, ◌<◌, ◌≤◌, Bool, List, [], ◌∷◌, None, Some, false, true, if◌then◌else◌, get_or, length, map, refl, sym, ap, subst, arith, eq-eqb, ne_eqb}
+use Rattle.std.proofs.Common.{◌≡◌, ◌∙◌, ◌==◌, inl, inr, ℕ, zero, suc, ◌+◌, ◌<◌, ◌≤◌, Bool, List, [], ◌∷◌, Some, false, true, if◌then◌else◌, get_or, length, map, refl, sym, ap, subst, arith, eq-eqb, ne_eqb}
 use Rattle.std.proofs.lemmas.Bool.{cases_eq}
 use Rattle.std.proofs.lemmas.Option.{same_Some}
 use Rattle.cs_chunk.proofs.Appends.{frame_begins, newest_begins, placed_inside}
@@ -17,7 +17,6 @@ use Rattle.cs_extent.specs.State.{IsWhole as IsWholeExtents, State as ExtentsSta
 use Rattle.cs_frame.specs.declared.frames.FrameKind.TheVariants.{Chunk}
 use Rattle.cs_frame.specs.declared.locators.Locator.{Locator}
 use Rattle.cs_frame.specs.Formats.{as_locator, formats_of, place_of}
-use Rattle.cs_frame.specs.Frames.{spelled_frame}
 use Rattle.cs_index.specs.State.{State, index_of}
 use Rattle.cs_model.specs.Element.{Locator as Place}
 use Rattle.cs_model.specs.Extents.{Extents, ForMove}

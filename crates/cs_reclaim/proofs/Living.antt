@@ -91,7 +91,10 @@ module _ (index : List Entry) (after : Option ℕ) (e : ℕ) (none : NoneUpTo in
       (λ (not : IsAfter after id → ⊥). none id not at.0 l at.1)
       (after_or_not after id)
 
-  module _ (id : ℕ) (ls : List Place) (next : IsNext index after (Some id)) (last : lookup id index ≡ Some ls) where
+  module _ (id : ℕ) (ls : List Place) (next : IsNext index after (Some (record { id = id; locators = ls }))) where
+    last : lookup id index ≡ Some ls
+    last = next.1
+
     -- nothing of a lesser identifier is there
     none_less : (d : ℕ) → d < id → NoneOn (live_at index d) e
     none_less d lt k x at = ⊎_elim

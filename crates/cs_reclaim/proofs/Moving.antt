@@ -1,23 +1,20 @@
 -- A chunk that is moved, and why it isn't.
-use Rattle.std.proofs.Common.{◌≡◌, ◌≢◌, ◌⊎◌, ◌∙◌, inl, inr, ⊎_elim, ℕ, ◌+◌, ◌^◌, ◌<◌, ◌≤◌, List, Option, None, Some, Result, Ok, Err, OnOk, length, refl, sym, ap, subst, arith}
+use Rattle.std.proofs.Common.{◌≡◌, inr, ℕ, ◌+◌, ◌^◌, ◌<◌, ◌≤◌, List, Option, None, Some, Result, Ok, Err, OnOk, length, ap, subst, arith}
 use Rattle.std.proofs.lemmas.Option.{same_Some}
 use Rattle.cs_chunk.proofs.Chunkings.{length-spelled}
-use Rattle.cs_chunk.specs.Reads.{IsNoAnswer, IsOfFault}
 use Rattle.cs_deps.specs.declared.refusals.Refusal.{Refusal}
-use Rattle.cs_deps.specs.declared.refusals.Refusal.TheVariants.{Full, WornOut}
 use Rattle.cs_deps.specs.Staging.{Staging}
 use Rattle.cs_deps.specs.State.{State as GraphState}
 use Rattle.cs_extent.specs.Appended.{IsAppended}
 use Rattle.cs_extent.specs.Frames.{IsWorn}
 use Rattle.cs_extent.specs.State.{State as ExtentsState, extents_of, shape}
-use Rattle.cs_frame.specs.declared.faults.FormatFault.{FormatFault}
 use Rattle.cs_frame.specs.declared.identifiers.ShardId.{ShardId}
 use Rattle.cs_frame.specs.declared.locators.Locator.{Locator}
 use Rattle.cs_frame.specs.Formats.{as_locator, place_of}
 use Rattle.cs_frame.specs.Frames.{spelled_frame}
-use Rattle.cs_index.specs.Staged.{IsExact, IsWhy}
+use Rattle.cs_index.specs.Staged.{IsExact}
 use Rattle.cs_index.specs.State.{IsSet, State, id_number, index_of}
-use Rattle.cs_model.specs.Element.{Entry, Locator as Place}
+use Rattle.cs_model.specs.Element.{Entry}
 use Rattle.cs_model.specs.Extents.{ForMove, NoPlace}
 use Rattle.cs_model.specs.Index.{FirstLive, live_at}
 use Rattle.cs_model.specs.Lists.{replaced}

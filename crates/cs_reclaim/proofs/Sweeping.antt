@@ -1,5 +1,5 @@
 -- What is marked, emptied and given while an extent is swept.
-use Rattle.std.proofs.Common.{◌≡◌, ◌≢◌, ◌⊎◌, ◌∙◌, ◌==◌, inl, inr, ⊎_elim, ℕ, zero, suc, ◌+◌, ◌<◌, ◌≤◌, Bool, List, [], ◌∷◌, None, Some, false, true, if◌then◌else◌, get_or, length, length-set, refl, sym, ap, subst, arith, eq-eqb}
+use Rattle.std.proofs.Common.{◌≡◌, ◌≢◌, ◌∙◌, ◌==◌, inl, inr, ⊎_elim, ℕ, ◌+◌, ◌<◌, ◌≤◌, Bool, List, [], ◌∷◌, None, Some, false, true, if◌then◌else◌, length, length-set, refl, sym, ap, subst, arith, eq-eqb}
 use Rattle.std.specs.Prelude.{slice_index}
 use Rattle.std.proofs.lemmas.Bool.{cases_lt}
 use Rattle.std.proofs.lemmas.List.{get_or-set_same}
@@ -12,10 +12,10 @@ use Rattle.cs_extent.specs.Appended.{IsAppended}
 use Rattle.cs_extent.specs.Frames.{AreResetsStaged, root_family}
 use Rattle.cs_extent.specs.State.{State as ExtentsState, extents_of, shape}
 use Rattle.cs_frame.specs.declared.locators.Locator.{Locator}
-use Rattle.cs_index.specs.Staged.{IsMergeAppended, IsMergeStaged, IsRunAppended}
+use Rattle.cs_index.specs.Staged.{IsMergeStaged, IsRunAppended}
 use Rattle.cs_index.specs.State.{State, index_of}
 use Rattle.cs_model.specs.Device.{Shape}
-use Rattle.cs_model.specs.Element.{Entry, Locator as Place, Run}
+use Rattle.cs_model.specs.Element.{Entry, Locator as Place}
 use Rattle.cs_model.specs.Extents.{Extents, HasRoom, IsFirstEmpty, Placed, Purpose, emptied, empties, marked, spare, taken}
 use Rattle.cs_model.specs.Index.{IsMergedRun, live_at}
 use Rattle.cs_model.specs.Lists.{with}

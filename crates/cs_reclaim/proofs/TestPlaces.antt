@@ -1,5 +1,5 @@
 -- Whether all places of an index have a property, identifier by identifier.
-use Rattle.std.proofs.Common.{◌≡◌, ◌≢◌, ◌⊎◌, ◌∙◌, inl, inr, ⊎_elim, ℕ, ◌+◌, ◌<◌, ◌≤◌, List, Option, Some, None, get_or, length, map, sym, ap, subst, arith}
+use Rattle.std.proofs.Common.{◌≡◌, ◌≢◌, ◌∙◌, inl, inr, ⊎_elim, ℕ, ◌+◌, ◌<◌, ◌≤◌, List, Option, Some, None, get_or, length, map, sym, ap, subst, arith}
 use Rattle.std.proofs.lemmas.Bool.{cases_eq, cases_lt}
 use Rattle.std.proofs.lemmas.Option.{same_Some}
 use Rattle.std.specs.Prelude.{Bool, Err, Ok, OnErr, OnOk, Result}
@@ -52,7 +52,10 @@ module _ (P : Place → Type 0) where
         (λ (not : IsAfter after id → ⊥). have id not at.0 l at.1)
         (after_or_not after id)
 
-    module _ (id : ℕ) (ls : List Place) (next : IsNext index after (Some id)) (last : lookup id index ≡ Some ls) where
+    module _ (id : ℕ) (ls : List Place) (next : IsNext index after (Some (record { id = id; locators = ls }))) where
+      last : lookup id index ≡ Some ls
+      last = next.1
+
       have_less : (d : ℕ) → d < id → AllHave (live_at index d)
       have_less d lt k x at = ⊎_elim
           (λ (later : IsAfter after d). absurd (no_places (lookup d index) k x (next.2 d later lt) at))

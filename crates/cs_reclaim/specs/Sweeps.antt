@@ -1,5 +1,5 @@
 -- Sweeps: which extents may be swept, and what a sweep does to them.
-use Rattle.std.specs.Prelude.{◌≡◌, ◌⊎◌, ◌≤◌, ◌<◌, ℕ, true, false, Some}
+use Rattle.std.specs.Prelude.{◌≡◌, ◌⊎◌, ◌≤◌, ◌<◌, ℕ, true, Some}
 use Rattle.cs_model.specs.Device.{Shape}
 use Rattle.cs_model.specs.Extents.{Extents}
 

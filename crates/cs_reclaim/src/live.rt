@@ -32,8 +32,8 @@ fn first_on(places: &[Locator], extent: usize) -> Option<usize>
 pub fn first_live(index: &Index, extent: usize) -> Option<LiveChunk>
     ensures { MatchOption result (NothingLive (index_of index.now) extent) (λ found. FirstLive (index_of index.now) extent (id_number found.id) found.chunk (place_of found.place)) }
 {
-    let mut after: Option<ShardId> = None;
-    while let Some((id, places)) = index.next_after(after) {
+    let mut entries = index.entries();
+    while let Some((id, places)) = entries.next_entry() {
         let _bytes = id.bytes();
         if let Some(chunk) = first_on(places, extent) {
             return Some(LiveChunk {
@@ -42,7 +42,6 @@ pub fn first_live(index: &Index, extent: usize) -> Option<LiveChunk>
                 place: places[chunk],
             });
         }
-        after = Some(id);
     }
     None
 }

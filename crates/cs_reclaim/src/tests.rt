@@ -91,13 +91,12 @@ fn are_inside(places: &[Locator], extents: usize, pages: usize) -> bool
 fn all_inside(index: &Index, extents: usize, pages: usize) -> bool
     ensures { IsTrue result → (id : ℕ) (l : Place) → l ∈ live_at (index_of index.now) id → (l.extent < extents) × (l.page < pages) }
 {
-    let mut after: Option<ShardId> = None;
-    while let Some((id, places)) = index.next_after(after) {
+    let mut entries = index.entries();
+    while let Some((id, places)) = entries.next_entry() {
         let _bytes = id.bytes();
         if !are_inside(places, extents, pages) {
             return false;
         }
-        after = Some(id);
     }
     true
 }

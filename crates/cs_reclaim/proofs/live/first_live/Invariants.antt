@@ -1,14 +1,15 @@
-use Rattle.std.specs.Prelude.{option_map}
-use Rattle.cs_index.specs.State.{id_number, index_of}
+use Rattle.std.proofs.Common.{◌≡◌}
+use Rattle.cs_index.specs.State.{index_of}
 use Rattle.cs_index.proofs.Merged.{IsSmall, ids_left}
 use Rattle.cs_reclaim.specs.Live.{NoneUpTo}
 use Rattle.cs_reclaim.proofs.live.first_live.Given as goal
 
 abbrev pub invariant-loop-id : goal.invariant-loop-id
 invariant-loop-id l = record {
-  none : NoneUpTo (index_of l.index) (option_map id_number l.after) l.extent;
-  small : IsSmall (option_map id_number l.after);
+  index : l.entries.index ≡ index_of l.index;
+  none : NoneUpTo l.entries.index l.entries.after l.extent;
+  small : IsSmall l.entries.after;
 }
 
 abbrev pub decreases-loop-id : goal.decreases-loop-id
-decreases-loop-id l = ids_left (option_map id_number l.after)
+decreases-loop-id l = ids_left l.entries.after

@@ -1,4 +1,4 @@
-use Rattle.std.proofs.Common.{◌≡◌, ◌∙◌, ◌⊎◌, ◌<◌, ◌^◌, inl, inr, ⊎_elim, List, ℕ, ap, arith, length, subst}
+use Rattle.std.proofs.Common.{◌≡◌, ◌∙◌, ◌<◌, ◌^◌, inl, inr, ⊎_elim, List, ℕ, ap, arith, length, subst}
 use Rattle.cs_chunk.specs.Reads.{IsNoAnswer, IsOfFault, fault_at}
 use Rattle.cs_extent.specs.Appended.{IsAppended}
 use Rattle.cs_extent.specs.State.{shape}

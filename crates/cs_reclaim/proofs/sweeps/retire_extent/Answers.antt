@@ -1,6 +1,5 @@
-use Rattle.std.proofs.Common.{◌≡◌, ◌∙◌, ◌<◌, ap, arith, false, refl, sym, Err, ℕ}
-use Rattle.cs_deps.specs.declared.refusals.Refusal.{Refusal}
-use Rattle.cs_extent.specs.State.{extents_of, shape}
+use Rattle.std.proofs.Common.{◌∙◌, ap, arith, false, refl, sym, Err}
+use Rattle.cs_extent.specs.State.{extents_of}
 use Rattle.cs_frame.specs.Formats.{place_of}
 use Rattle.cs_index.specs.State.{id_number, index_of}
 use Rattle.cs_model.specs.Extents.{ForMove}

@@ -1,7 +1,6 @@
-use Rattle.std.proofs.Common.{◌≡◌, ◌≢◌, ◌∙◌, [], arith, length, map, sym, List}
+use Rattle.std.proofs.Common.{◌≡◌, ◌≢◌, ◌∙◌, [], arith, map, sym}
 use Rattle.std.proofs.lemmas.Bool.{eqb-true, eqb-false}
 use Rattle.cs_extent.specs.Purposes.{reason_of}
-use Rattle.cs_model.specs.Element.{Entry}
 use Rattle.cs_index.specs.Staged.{WritesMerged}
 use Rattle.cs_index.specs.State.{named_entry}
 use Rattle.cs_index.proofs.Exact.{fits_one, merged_none, merged_writes, none_of, some_of}

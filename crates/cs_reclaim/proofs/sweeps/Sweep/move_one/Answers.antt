@@ -12,7 +12,7 @@ use Rattle.cs_index.specs.State.{id_number, index_of}
 use Rattle.cs_model.specs.Element.{Locator as Place}
 use Rattle.cs_model.specs.Extents.{ForMove}
 use Rattle.cs_model.specs.Formats.{ChunkFrame}
-use Rattle.cs_model.specs.Index.{FirstLive, NothingLive, live_at}
+use Rattle.cs_model.specs.Index.{NothingLive, live_at}
 use Rattle.cs_reclaim.specs.Moves.{chunk_frame}
 use Rattle.cs_reclaim.proofs.Living.{live_there, nth_in, one_place}
 use Rattle.cs_reclaim.proofs.Moving.{first_here, move_made, not_none, same_answer}

@@ -1,4 +1,4 @@
-use Rattle.std.proofs.Common.{◌≡◌, ℕ, subst}
+use Rattle.std.proofs.Common.{ℕ, subst}
 use Rattle.cs_index.specs.Staged.{IsWhy}
 use Rattle.cs_index.specs.State.{index_of}
 use Rattle.cs_model.specs.Index.{NothingLive}
