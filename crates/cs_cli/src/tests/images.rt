@@ -1,0 +1,91 @@
+//! What stands on the device's pages.
+use super::{plan_lines, run, run_on};
+use std::process::Abort;
+use std::test::Fail;
+
+/// Asserts that an image has these bytes from a place on.
+fn stands(rt: &impl Abort, image: &[u8], from: usize, bytes: &[u8]) {
+    assert!(rt; from <= image.len(), "{from}");
+    assert!(rt; image[from..].starts_with(bytes), "{from}");
+}
+
+/// Asserts that an image has so many zeros from a place on.
+fn has_zeros(rt: &impl Abort, image: &[u8], from: usize, count: usize) {
+    assert!(rt; from <= image.len(), "{from}");
+    assert!(rt;
+        image[from..].iter().take_while(|byte| **byte == 0).count() >= count,
+        "{from}"
+    );
+}
+
+/// How the pages begin after one put and a sync. The digests are those that sha256sum makes.
+const SUPERBLOCK: &[u8] = b"CSS1\0\0\0\0\0\0\0\x03\0\x06\0\x02\0\x02\0\0\0\0";
+
+const SUPERBLOCK_DIGEST: &[u8] =
+    b"\x1f\xe2\xc4\xcb\x0b\x99\x98\x63\xd2\xe2\x83\xe9\x16\xcc\x8d\x8e";
+
+const ROOT: &[u8] = b"CSR1\0\0\0\0\0\0\0\x02\0\0\0\0\0\0\0\x01\x01\0\0\0\x01\0\0\0\0";
+
+const ROOT_DIGEST: &[u8] = b"\xad\xc0\x11\xf4\xa1\x2b\x76\x64\xbe\x5d\xf6\x5e\xbc\xc3\xec\x5f";
+
+const CHUNK: &[u8] = b"CSF1\0\0\0\0\x01\xca\x97\x81\x12\xca\x1b\xbd\xca";
+
+const RUN: &[u8] = b"CSF1\x01\0\0\0\x55\x08\xe3\x07\xea\x1b\xcb\x07\x73";
+
+const ENTRY: &[u8] = b"\0\0\0\x01\0\0\0\0\0\0\0\0\0\0\0\0\0\0\0\x0a\x01";
+
+#[test]
+fn pages(rt: HostRuntime) -> Result<(), Fail> {
+    let (ran, _) = run(&rt, "put 00000000-0000-0000-0000-00000000000a 61\nsync\n")?;
+    let image = ran.disk.image();
+    assert_eq!(rt; image.len(), 14 * 4096);
+    stands(&rt, image, 0, SUPERBLOCK);
+    has_zeros(&rt, image, 22, 30);
+    stands(&rt, image, 52, SUPERBLOCK_DIGEST);
+    has_zeros(&rt, image, 84, 4012);
+    stands(&rt, image, 4096, ROOT);
+    stands(&rt, image, 4125, ROOT_DIGEST);
+    stands(&rt, image, 8192, CHUNK);
+    stands(&rt, image, 8233, b"\x61\0");
+    stands(&rt, image, 12288, RUN);
+    stands(&rt, image, 12329, ENTRY);
+    has_zeros(&rt, image, 12350, 64);
+    has_zeros(&rt, image, 16384, 4096);
+    Ok(())
+}
+
+/// Asserts a script's output, with so many extents of 2 pages, and what stands on the root's page behind its commands.
+fn leaves(
+    rt: &(impl Abort + AllocGlobal),
+    extents: u64,
+    script: &str,
+    wanted: &str,
+    runs: &[u8],
+) -> Result<(), Fail> {
+    let (ran, output) = run_on(rt, extents, script)?;
+    assert!(rt; output.as_slice().ends_with(wanted.as_bytes()));
+    stands(rt, ran.disk.image(), 4116, runs);
+    Ok(())
+}
+
+/// The fifth run is of all that is live, and of nothing where nothing is.
+#[test]
+fn merges(rt: HostRuntime) -> Result<(), Fail> {
+    let alloc = rt.alloc();
+    let plan = plan_lines(alloc, &["[w9, w10]", "[s11]", "[r6]"], "[w9, s11, r6]")?;
+    leaves(
+        &rt,
+        12,
+        "put 0000000000000000000000000000000a 01\nsync\nput 0000000000000000000000000000000a 02\nsync\nput 0000000000000000000000000000000a 03\nsync\nput 0000000000000000000000000000000a 04\nsync\nput 0000000000000000000000000000000a 05\nsync\n",
+        &format!(in alloc; "put 5\n{plan}acknowledged 5\n")?,
+        b"\x01\0\x04\0\x01\0\0\0\0",
+    )?;
+    let plan = plan_lines(alloc, &["[w7]", "[s8]", "[r6]"], "[w7, s8, r6]")?;
+    leaves(
+        &rt,
+        6,
+        "put 0000000000000000000000000000000a 01\nsync\ndel 0000000000000000000000000000000a\nsync\nput 0000000000000000000000000000000a 02\nsync\ndel 0000000000000000000000000000000a\nsync\nput 0000000000000000000000000000000a 03\ndel 0000000000000000000000000000000a\nsync\n",
+        &format!(in alloc; "put 5\ndel 6\n{plan}acknowledged 6\n")?,
+        b"\0",
+    )
+}

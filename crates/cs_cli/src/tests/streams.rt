@@ -1,0 +1,81 @@
+//! Readers and writers that fail.
+use super::documents::document_text;
+use crate::checks::run_check;
+use crate::scripts::run_script;
+use cs_disk::MemoryDisk;
+use cs_frame::Geometry;
+use std::io;
+use std::io::{ErrorKind, Read, Write};
+use std::test::Fail;
+
+/// Gives some bytes, and then fails.
+#[derive(Drop)]
+struct FailingReader {
+    left: u8,
+}
+
+impl Read for FailingReader {
+    fn read(&mut self, buffer: &mut [u8]) -> io::Result<usize> {
+        if self.left == 0 || buffer.is_empty() {
+            return Err(io::Error::from(ErrorKind::TimedOut));
+        }
+        self.left -= 1;
+        buffer[0] = b'\n';
+        Ok(1)
+    }
+}
+
+/// Takes some bytes, and then fails.
+#[derive(Drop)]
+struct FailingWriter {
+    left: usize,
+}
+
+impl Write for FailingWriter {
+    fn write(&mut self, bytes: &[u8]) -> io::Result<usize> {
+        if self.left < bytes.len() {
+            return Err(io::Error::from(ErrorKind::TimedOut));
+        }
+        self.left -= bytes.len();
+        Ok(bytes.len())
+    }
+
+    fn flush(&mut self) -> io::Result<()> {
+        Ok(())
+    }
+}
+
+#[test]
+fn failing_streams(rt: HostRuntime) -> Result<(), Fail> {
+    let alloc = rt.alloc();
+    let mut output = Vec::new(alloc);
+    let geometry = Geometry::new(6, 2)?;
+    let disk = MemoryDisk::new(alloc, 14)?;
+    let ran = run_script(
+        alloc,
+        disk,
+        geometry,
+        FailingReader { left: 3 },
+        &mut output,
+    );
+    assert_eq!(rt; (ran.status, output.len()), (4, 0));
+    let disk = MemoryDisk::new(alloc, 14)?;
+    let script =
+        "frob\nput 0000000000000000000000000000000a 61\nput 0000000000000000000000000000000a 62\n";
+    let ran = run_script(
+        alloc,
+        disk,
+        geometry,
+        script.as_bytes(),
+        &mut FailingWriter { left: 16 },
+    );
+    assert_eq!(rt; ran.status, 4);
+    assert_eq!(rt; ran.accepted.len(), 2);
+    output.clear();
+    let ended = run_check(alloc, FailingReader { left: 3 }, &mut output);
+    assert_eq!(rt; (ended, output.len()), (4, 0));
+    let document = document_text(alloc)?;
+    let ended = run_check(alloc, document.as_bytes(), &mut FailingWriter { left: 5 });
+    assert_eq!(rt; ended, 4);
+    Ok(())
+}
