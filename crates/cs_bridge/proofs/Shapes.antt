@@ -1,7 +1,10 @@
 -- The shape of a store, and what its superblock needs.
 use Rattle.std.proofs.Common.{◌≡◌, ℕ, ◌*◌, ◌<◌, ◌≤◌, length, ap, ◌∙◌, arith}
 use Rattle.cs_model.specs.Device.{IsShape, Shape}
+use Rattle.cs_model.specs.Frames.{IsFormat}
 use Rattle.cs_model.proofs.Shapes.{is_shape}
+use Rattle.cs_frame.proofs.FormatLaws.{is_format}
+use Rattle.cs_frame.specs.Formats.{formats_of}
 use Rattle.cs_extent.specs.Frames.{greatest}
 use Rattle.cs_extent.specs.State.{IsWhole, State, extents_of, need_of, shape}
 
@@ -12,6 +15,10 @@ store_shape x whole = is_shape (length x.written) x.pages 1 (length x.written) 1
   some_extent = (let few : 4 ≤ length x.written = whole.fewest_extents in omega arith);
   all = (let same : length x.written ≤ 1 * length x.written = omega arith in same);
 })
+
+pub store_format : (x : State) → IsWhole x → IsFormat (shape x) (formats_of (shape x))
+store_format x whole = is_format (length x.written) x.pages (length x.written) 1
+    (record { fewest_extents = whole.fewest_extents; most_extents = whole.most_extents; fewest_pages = whole.fewest_pages; most_pages = whole.most_pages })
 
 pub one_section : (x : State) → IsShape (shape x) → (e : ℕ) → (shape x).section e ≡ 0
 one_section x is e = let lt : (shape x).section e < 1 = is.section e in omega arith

@@ -1,4 +1,6 @@
 //! The command line.
+ghost use Rattle.std.specs.Prelude.{◌≤◌};
+
 use crate::checks::run_check;
 use crate::scripts::{print_no_store, run_script};
 use crate::statuses;
@@ -15,6 +17,7 @@ use std::{env, io};
 pub fn run<R: Env + AllocGlobal + Input + Print + Eprint>(rt: &R) -> u8
 where
     R::Reader: Drop,
+    ensures { result ≤ 4 }
 {
     let words = match words_given(rt) {
         Ok(words) => words,
@@ -93,6 +96,7 @@ fn geometry_of(options: &ArgMatches) -> Result<Geometry, Refusal> {
 fn run_standard_input<R: AllocGlobal + Input + Print>(rt: &R, options: &ArgMatches) -> u8
 where
     R::Reader: Drop,
+    ensures { result ≤ 4 }
 {
     let alloc = rt.alloc();
     let Ok(mut writer) = BufWriter::new(alloc, io::writer(rt)) else {
@@ -112,6 +116,7 @@ where
 fn check_standard_input<R: AllocGlobal + Input + Print>(rt: &R) -> u8
 where
     R::Reader: Drop,
+    ensures { result ≤ 4 }
 {
     run_check(rt.alloc(), rt.reader(), &mut io::writer(rt))
 }

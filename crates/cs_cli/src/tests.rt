@@ -14,7 +14,7 @@ use std::process::Abort;
 use std::test::Fail;
 
 /// What a script left behind and printed, with so many extents of 2 pages.
-pub(crate) fn run_on(
+fn run_on(
     rt: &(impl Abort + AllocGlobal),
     extents: u64,
     script: &str,
@@ -28,12 +28,12 @@ pub(crate) fn run_on(
 }
 
 /// What a script left behind and printed, with 6 extents of 2 pages.
-pub(crate) fn run(rt: &(impl Abort + AllocGlobal), script: &str) -> Result<(Ran, Vec<u8>), Fail> {
+fn run(rt: &(impl Abort + AllocGlobal), script: &str) -> Result<(Ran, Vec<u8>), Fail> {
     run_on(rt, 6, script)
 }
 
 /// Asserts a script's output, its exit status and how many commands are acknowledged.
-pub(crate) fn prints(
+fn prints(
     rt: &(impl Abort + AllocGlobal),
     script: &str,
     wanted: &str,
@@ -57,7 +57,7 @@ fn printed(alloc: Global, list: &str) -> Result<String, Fail> {
 }
 
 /// The lines of a plan with these rounds and this chain.
-pub(crate) fn plan_lines(alloc: Global, rounds: &[&str], chain: &str) -> Result<String, Fail> {
+fn plan_lines(alloc: Global, rounds: &[&str], chain: &str) -> Result<String, Fail> {
     let mut lines = String::new(alloc);
     for (number, round) in (1..=rounds.len()).zip(rounds.iter()) {
         lines.push_str(&format!(in alloc; "round {number}: {}\n", printed(alloc, round)?)?)?;
@@ -68,13 +68,27 @@ pub(crate) fn plan_lines(alloc: Global, rounds: &[&str], chain: &str) -> Result<
 }
 
 /// The line of a sweep that moved so many chunks and staged this root.
-pub(crate) fn sweep_line(
-    alloc: Global,
-    extent: u64,
-    moved: usize,
-    root: u64,
-) -> Result<String, Fail> {
+fn sweep_line(alloc: Global, extent: u64, moved: usize, root: u64) -> Result<String, Fail> {
     Ok(format!(in alloc; "sweep {extent} moved {moved} root r{root}\n")?)
+}
+
+/// The document of one put and the index changes over it, with its words without their quotes.
+const DOCUMENT: &str =
+    "{chain:[w1,s3,r2],elements:[{e:w1,needs:[]},{e:s2,needs:[w1]},{e:w2,needs:[]},{e:s3,needs:[w1,w2]},{e:r2,needs:[s3]}],families:[s,r],format:1,persistent:[1,1],rounds:[[w1,w2],[s3],[r2]],target:[w1,w2,s3,r2]}";
+
+/// The document, with quotes around each word of letters and digits that a letter begins.
+fn document_text(alloc: Global) -> Result<String, Fail> {
+    let mut text = String::new(alloc);
+    let mut in_word = false;
+    for c in DOCUMENT.chars() {
+        let word = c.is_ascii_alphabetic() || in_word && c.is_ascii_digit();
+        if word != in_word {
+            text.push('"')?;
+        }
+        text.push(c)?;
+        in_word = word;
+    }
+    Ok(text)
 }
 
 #[test]

@@ -22,7 +22,7 @@ write_more img (w ∷ ws) v (true ∷ mask) k = (let rest = write_more (written 
     (true ∷ rest.0, rest.1))
 write_more img (w ∷ ws) v (false ∷ mask) k = (let rest = write_more img ws v mask k in (false ∷ rest.0, rest.1))
 
-writes_more : (S : Shape) (F : Formats) (ms : List Element) (m : Element)
+pub writes_more : (S : Shape) (F : Formats) (ms : List Element) (m : Element)
     → page_writes S F (ms ++ m ∷ []) ≡ page_writes S F ms ++ page_write S F m ∷ []
 writes_more S F [] m = refl
 writes_more S F (x ∷ ms) m = ap (λ (l : List (ℕ × Page)). page_write S F x ∷ l) (writes_more S F ms m)

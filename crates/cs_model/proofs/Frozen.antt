@@ -15,7 +15,7 @@ use Rattle.cs_model.specs.Sound.{Sound}
 use Rattle.cs_model.specs.State.{State}
 
 -- a page that nothing was written to
-page_unwritten : (X : Cut) (opened : ℕ → Page) (ws : List Write) (p : ℕ) → ((x : Write) → x ∈ ws → x.page ≢ p)
+pub page_unwritten : (X : Cut) (opened : ℕ → Page) (ws : List Write) (p : ℕ) → ((x : Write) → x ∈ ws → x.page ≢ p)
     → page_in X opened ws p ≡ opened p
 page_unwritten X opened [] p none = refl
 page_unwritten X opened (w ∷ ws) p none =

@@ -71,7 +71,7 @@ module _ (S : Shape) (F : Formats) (shape : IsShape S) (format : IsFormat S F) w
       → xs ≡ ys
   merged_run_one s xs ys a b = one_sorted xs ys a.0 b.0 (λ id. a.1 id ∙ sym (b.1 id))
 
-  none_live : (o : Option (List Locator)) → None ≡ if_live o → live o ≡ []
+  pub none_live : (o : Option (List Locator)) → None ≡ if_live o → live o ≡ []
   none_live None is = refl
   none_live (Some []) is = refl
   none_live (Some (l ∷ ls)) is = absurd (let e : None ≡ Some (l ∷ ls) = is in cc)
@@ -82,7 +82,7 @@ module _ (S : Shape) (F : Formats) (shape : IsShape S) (format : IsFormat S F) w
   live_some (Some (l ∷ ks)) ls is none = (let e : l ∷ ks ≡ [] = none in cc)
 
   -- a run of something and no run don't go together
-  not_both : (s : State) (entries : List Entry) → entries ≢ [] → IsMergedRun (index_now s) entries
+  pub not_both : (s : State) (entries : List Entry) → entries ≢ [] → IsMergedRun (index_now s) entries
       → ((id : ℕ) → live_at (index_now s) id ≡ []) → ⊥
   not_both s [] some run none = some refl
   not_both s (x ∷ xs) some run none = live_some (lookup x.id (index_now s)) x.locators

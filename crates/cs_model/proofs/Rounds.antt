@@ -33,7 +33,7 @@ or_other false b p q = p
 module _ (S : Shape) (F : Formats) {opening : Opening} (shape : IsShape S) (opened : ℕ → Page) (w : World)
     (safe : Safe S (RootGives S F opening) opening.frozen opened w) where
   -- a page that is written again: what was there before is persistent
-  before_it : (X : Cut) → Within X w.round → (x y : Write) → x ∈ writes_of w.elements → y ∈ writes_of w.elements
+  pub before_it : (X : Cut) → Within X w.round → (x y : Write) → x ∈ writes_of w.elements → y ∈ writes_of w.elements
       → x.page ≡ y.page → x.number < y.number → X.writes y.number ≡ true → w.persistent.writes x.number ≡ true
   before_it X high x y is_x is_y at after has =
       let again = safe.rewritten x y is_x is_y at after in

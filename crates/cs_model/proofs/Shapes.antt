@@ -22,7 +22,7 @@ module _ (E P N Q f : ℕ) (g : IsGeometry E P N Q) where
       let not_second : (p == 1) ≡ false = ne_eqb p 1 (λ z. omega arith) in
       let in_frames : nat_lt p (2 + E * P) ≡ true = grind (arith, nat_tests) in rw (not_first, not_second, in_frames)
 
-  at_behind : (p : ℕ) → 2 + E * P ≤ p → (shape_of E P N Q f).kind p ≡ SectionPage (p - (1 + E * P))
+  pub at_behind : (p : ℕ) → 2 + E * P ≤ p → (shape_of E P N Q f).kind p ≡ SectionPage (p - (1 + E * P))
   at_behind p low = let not_first : (p == 0) ≡ false = ne_eqb p 0 (λ z. omega arith) in
       let not_second : (p == 1) ≡ false = ne_eqb p 1 (λ z. omega arith) in
       let in_frames : nat_lt p (2 + E * P) ≡ false = grind (arith, nat_tests) in rw (not_first, not_second, in_frames)

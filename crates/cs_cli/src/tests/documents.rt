@@ -1,28 +1,8 @@
 //! Plans and documents, as they are printed and judged.
-use super::{plan_lines, prints};
+use super::{document_text, plan_lines, prints};
 use crate::checks::run_check;
-use std::alloc::Global;
 use std::process::Abort;
 use std::test::Fail;
-
-/// The document of one put and the index changes over it, with its words without their quotes.
-const DOCUMENT: &str =
-    "{chain:[w1,s3,r2],elements:[{e:w1,needs:[]},{e:s2,needs:[w1]},{e:w2,needs:[]},{e:s3,needs:[w1,w2]},{e:r2,needs:[s3]}],families:[s,r],format:1,persistent:[1,1],rounds:[[w1,w2],[s3],[r2]],target:[w1,w2,s3,r2]}";
-
-/// The document, with quotes around each word of letters and digits that a letter begins.
-pub(crate) fn document_text(alloc: Global) -> Result<String, Fail> {
-    let mut text = String::new(alloc);
-    let mut in_word = false;
-    for c in DOCUMENT.chars() {
-        let word = c.is_ascii_alphabetic() || in_word && c.is_ascii_digit();
-        if word != in_word {
-            text.push('"')?;
-        }
-        text.push(c)?;
-        in_word = word;
-    }
-    Ok(text)
-}
 
 #[test]
 fn plans(rt: HostRuntime) -> Result<(), Fail> {

@@ -1,5 +1,5 @@
 //! Readers and writers that fail.
-use super::documents::document_text;
+use super::document_text;
 use crate::checks::run_check;
 use crate::scripts::run_script;
 use cs_disk::MemoryDisk;

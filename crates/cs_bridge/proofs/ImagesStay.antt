@@ -1,0 +1,121 @@
+-- What is staged changes nothing of the image of what is persistent.
+use Rattle.std.proofs.Common.{◌≡◌, inl, inr, ℕ, suc, ◌<◌, ◌≤◌, Bool, true, false, ◌&&◌, ◌==◌, nat_le, List, [], ◌∷◌, refl, sym, ◌∙◌, subst, arith}
+use Rattle.std.proofs.lemmas.Bool.{cases_eq, false_from_ne_true}
+use Rattle.std.proofs.lemmas.Bool.Decides.{nat_tests}
+use Rattle.cs_model.proofs.ClosedSets.{gt-leb}
+use Rattle.cs_model.proofs.Parts.{with_other, with_same}
+use Rattle.cs_model.specs.Append.{Append, AppendAll, MergesTo, stage_pages}
+use Rattle.cs_model.specs.Cut.{Cut}
+use Rattle.cs_model.specs.Device.{FramePage, Page, PageKind, RootPage, SectionPage, Shape}
+use Rattle.cs_model.specs.Element.{A_root, A_superblock, A_write, Element, Entry, Locator, Map, Root, Run, Superblock, Write, log_of}
+use Rattle.cs_model.specs.Extents.{Purpose}
+use Rattle.cs_model.specs.Formats.{Formats, image, image_at}
+use Rattle.cs_model.specs.Lists.{with}
+use Rattle.cs_model.specs.Machine.{StagePage, StageRoot, StageSuperblock, World, happens, root_now, superblock_now, write_now}
+use Rattle.cs_model.specs.Safe.{IsStaged}
+
+-- a test fails where its second part does
+and_false : (a b : Bool) → b ≡ false → (a && b) ≡ false
+and_false true b is = is
+and_false false b is = refl
+
+module _ (S : Shape) (F : Formats) (P : Cut) (opened : ℕ → Page) where
+  abbrev pub image_now : List Element → ℕ → Page
+  image_now elements = image S F P opened (log_of elements)
+
+  write_outside : (x : Write) (older : List Element) (p : ℕ) → P.writes x.number ≡ false → image_now (A_write x ∷ older) p ≡ image_now older p
+  write_outside x older p not = go (S.kind p)
+    where
+      go : (k : PageKind) → image_at S F k P opened (log_of (A_write x ∷ older)) p ≡ image_at S F k P opened (log_of older) p
+      go RootPage = refl
+      go (SectionPage j) = refl
+      go FramePage = let test : ((x.page == p) && P.writes x.number) ≡ false = and_false (x.page == p) (P.writes x.number) not in rw test refl
+
+  superblock_outside : (u : Superblock) (older : List Element) (p : ℕ) → P.superblocks u.section < u.version → image_now (A_superblock u ∷ older) p ≡ image_now older p
+  superblock_outside u older p above = go (S.kind p)
+    where
+      go : (k : PageKind) → image_at S F k P opened (log_of (A_superblock u ∷ older)) p ≡ image_at S F k P opened (log_of older) p
+      go RootPage = refl
+      go FramePage = refl
+      go (SectionPage j) = elim (cases_eq u.section j) [
+        | inl is ↦ (let test : ((u.section == j) && nat_le u.version (P.superblocks j)) ≡ false =
+            and_false (u.section == j) (nat_le u.version (P.superblocks j)) (gt-leb u.version (P.superblocks j) (subst (λ (i : ℕ). P.superblocks i < u.version) is above)) in rw test refl)
+        | inr not ↦ (let first : (u.section == j) ≡ false = grind (arith, nat_tests) in rw first refl)
+      ]
+
+  root_outside : (r : Root) (older : List Element) (p : ℕ) → P.root < r.version → image_now (A_root r ∷ older) p ≡ image_now older p
+  root_outside r older p above = go (S.kind p)
+    where
+      go : (k : PageKind) → image_at S F k P opened (log_of (A_root r ∷ older)) p ≡ image_at S F k P opened (log_of older) p
+      go FramePage = refl
+      go (SectionPage j) = refl
+      go RootPage = let test : nat_le r.version P.root ≡ false = gt-leb r.version P.root above in rw test refl
+
+  -- the world of what was staged since: the image stays, and the set is still of what was staged
+  pub record Stays (w v : World) : Type 0 where
+    pub same : (p : ℕ) → image_now v.elements p ≡ image_now w.elements p
+    pub staged : IsStaged S v P
+    pub persistent : v.persistent ≡ w.persistent
+
+  pub stays_still : (w : World) → IsStaged S w P → Stays w w
+  stays_still w staged = record { same = λ p. refl; staged = staged; persistent = refl }
+
+  pub stays_more : (w mid v : World) → Stays w mid → Stays mid v → Stays w v
+  stays_more w mid v a b = record { same = λ p. b.same p ∙ a.same p; staged = b.staged; persistent = b.persistent ∙ a.persistent }
+
+  page_stays : (w : World) (p : ℕ) (b : Page) → IsStaged S w P → Stays w (happens S w (StagePage p b))
+  page_stays w p b staged = record {
+    same = λ q. write_outside (write_now S w p b) w.elements q
+        (false_from_ne_true (P.writes (suc w.written)) (λ is. let le : suc w.written ≤ w.written = staged.writes (suc w.written) is in omega arith));
+    staged = record { writes = λ n is. (let le : n ≤ w.written = staged.writes n is in omega arith); superblocks = staged.superblocks; root = staged.root };
+    persistent = refl;
+  }
+
+  superblock_stays : (w : World) (j need : ℕ) → IsStaged S w P → Stays w (happens S w (StageSuperblock j need))
+  superblock_stays w j need staged = record {
+    same = λ q. superblock_outside (superblock_now S w j need) w.elements q (let le : P.superblocks j ≤ w.superblocks j = staged.superblocks j in omega arith);
+    staged = record {
+      writes = staged.writes;
+      superblocks = λ i. (let le : P.superblocks i ≤ w.superblocks i = staged.superblocks i in elim (cases_eq i j) [
+        | inl is ↦ (let up : with w.superblocks j (suc (w.superblocks j)) i ≡ suc (w.superblocks j) = with_same w.superblocks j (suc (w.superblocks j)) i is in
+            let low : P.superblocks i ≤ w.superblocks j = subst (λ (k : ℕ). P.superblocks i ≤ w.superblocks k) is le in omega arith)
+        | inr not ↦ (let up : with w.superblocks j (suc (w.superblocks j)) i ≡ w.superblocks i = with_other w.superblocks j (suc (w.superblocks j)) i not in omega arith)
+      ]);
+      root = staged.root;
+    };
+    persistent = refl;
+  }
+
+  pub root_stays : (w : World) (n : ℕ) (runs : List Run) (m : Map) (pointers : ℕ → ℕ) → IsStaged S w P → Stays w (happens S w (StageRoot n runs m pointers))
+  root_stays w n runs m pointers staged = record {
+    same = λ q. root_outside (root_now w n runs m pointers) w.elements q (let le : P.root ≤ w.root = staged.root in omega arith);
+    staged = record { writes = staged.writes; superblocks = staged.superblocks; root = (let le : P.root ≤ w.root = staged.root in omega arith) };
+    persistent = refl;
+  }
+
+  pages_stay : (bs : List Page) (w : World) (e i : ℕ) → IsStaged S w P → Stays w (stage_pages S w e i bs)
+  pages_stay [] w e i staged = stays_still w staged
+  pages_stay (b ∷ bs) w e i staged =
+      let one = page_stays w (S.address e i) b staged in
+      stays_more w (happens S w (StagePage (S.address e i) b)) (stage_pages S (happens S w (StagePage (S.address e i) b)) e (suc i) bs) one
+      (pages_stay bs (happens S w (StagePage (S.address e i) b)) e (suc i) one.staged)
+
+  pub append_stays : (w v : World) (purpose : Purpose) (bs : List Page) (l : Locator) → IsStaged S w P → Append S w purpose bs l v → Stays w v
+  append_stays w v purpose bs l staged a = subst (λ (u : World). Stays w u) (sym a.after)
+      (let mid : World = stage_pages S w a.extent (w.extents.pointer a.extent) bs in
+      let pages = pages_stay bs w a.extent (w.extents.pointer a.extent) staged in
+      let last = superblock_stays mid (S.section a.extent) a.need pages.staged in
+      let all = stays_more w mid (happens S mid (StageSuperblock (S.section a.extent) a.need)) pages last in
+      record { same = all.same; staged = record { writes = all.staged.writes; superblocks = all.staged.superblocks; root = all.staged.root }; persistent = all.persistent })
+
+  pub appends_stay : (w v : World) (purpose : Purpose) (frames : List (List Page)) (ls : List Locator) → IsStaged S w P → AppendAll S w purpose frames ls v → Stays w v
+  appends_stay w v purpose [] [] staged is = subst (λ (u : World). Stays w u) (sym is) (stays_still w staged)
+  appends_stay w v purpose [] (l ∷ ls) staged is = absurd is
+  appends_stay w v purpose (bs ∷ frames) [] staged is = absurd is
+  appends_stay w v purpose (bs ∷ frames) (l ∷ ls) staged (mid, a, rest) =
+      let one = append_stays w mid purpose bs l staged a in
+      stays_more w mid v one (appends_stay mid v purpose frames ls one.staged rest)
+
+  pub merge_stays : (w v : World) (index : List Entry) (purpose : Purpose) (runs : List Run) → IsStaged S w P → MergesTo S F w index purpose v runs → Stays w v
+  merge_stays w v index purpose runs staged (inl (entries, l, some, run, a, one)) = append_stays w v purpose (F.frame _ (F.run entries)) l staged a
+  merge_stays w v index purpose runs staged (inr (nothing, same, none)) = subst (λ (u : World). Stays w u) (sym same) (stays_still w staged)

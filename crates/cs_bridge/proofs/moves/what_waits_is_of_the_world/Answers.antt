@@ -1,0 +1,10 @@
+use Rattle.cs_bridge.proofs.moves.what_waits_is_of_the_world.Goals as goal
+use Rattle.cs_bridge.proofs.Keeping.{kept_writes}
+use Rattle.cs_bridge.proofs.Worlds.{needs_within}
+use Rattle.cs_extent.specs.State.{need_of, shape}
+
+pub returns : goal.returns
+returns c = record {
+  writes = λ x g w m is whole waits. kept_writes x g w m is whole waits;
+  needs = λ x g w is. needs_within (shape x) (need_of x) w g.staging is.staging;
+}
