@@ -1,5 +1,5 @@
 //! The lines that a script prints. Any write may fail, and nothing says when, so each of these may answer an error.
-ghost use Rattle.std.specs.Prelude.{OnOk, ◌∷◌, []};
+ghost use Rattle.std.specs.Prelude.{OnOk, ◌≤◌, length};
 ghost use Rattle.std.specs.Io.KnownBytes.{Appends};
 ghost use Rattle.hex.specs.Hex.{encode_lower};
 ghost use Rattle.cs_cli.specs.Outputs.{put_line, value_line, absent_line, delete_line, swept_line, bad_line, refusal_line, end_line, element_name, element_names, round_line, chain_line, flushes_line, acknowledged_line, optimal_line};
@@ -119,17 +119,23 @@ pub fn print_optimal<W: Write>(writer: &mut W, flushes: usize) -> io::Result<()>
 fn print_bytes<W: Write>(writer: &mut W, bytes: &[u8]) -> io::Result<()>
     ensures { OnOk result (Appends (W.contents writer.old) (W.contents writer.new) (encode_lower bytes.now)) }
 {
-    for byte in bytes {
-        print_byte(writer, *byte)?;
+    for piece in bytes.chunks(64) {
+        print_piece(writer, piece)?;
     }
     Ok(())
 }
 
-/// Two hex digits.
-fn print_byte<W: Write>(writer: &mut W, byte: u8) -> io::Result<()>
-    ensures { OnOk result (Appends (W.contents writer.old) (W.contents writer.new) (encode_lower (byte ∷ []))) }
+/// Two hex digits for each of at most 64 bytes.
+fn print_piece<W: Write>(writer: &mut W, bytes: &[u8]) -> io::Result<()>
+    requires { length bytes.now ≤ 64 }
+    ensures { OnOk result (Appends (W.contents writer.old) (W.contents writer.new) (encode_lower bytes.now)) }
 {
-    write!(writer, "{byte:02x}")
+    let mut digits = [0; 128];
+    let digits = &mut digits[..2 * bytes.len()];
+    match hex::encode_to_slice(bytes, digits) {
+        Ok(()) => writer.write_all(digits),
+        Err(_) => unreachable!(),
+    }
 }
 
 /// A space and a name for each element.
