@@ -2,8 +2,9 @@
 use super::{plan_lines, prints, sweep_line};
 use std::test::Fail;
 
+/// The extent that was swept is given again, behind the root that retired it.
 #[test]
-fn sweeps(rt: HostRuntime) -> Result<(), Fail> {
+fn a_swept_extent_is_used_again(rt: HostRuntime) -> Result<(), Fail> {
     let alloc = rt.alloc();
     let swept = sweep_line(alloc, 0, 2, 2)?;
     let plan = plan_lines(
@@ -24,7 +25,13 @@ fn sweeps(rt: HostRuntime) -> Result<(), Fail> {
         &format!(in alloc; "put 1\nput 2\n{swept}put 3\nput 4\n{plan}acknowledged 4\n")?,
         0,
         4,
-    )?;
+    )
+}
+
+/// Where all is full, an extent that nothing lives on makes room.
+#[test]
+fn a_sweep_makes_room(rt: HostRuntime) -> Result<(), Fail> {
+    let alloc = rt.alloc();
     let swept = sweep_line(alloc, 0, 0, 2)?;
     let plan = plan_lines(
         alloc,
@@ -46,7 +53,12 @@ fn sweeps(rt: HostRuntime) -> Result<(), Fail> {
         )?,
         0,
         9,
-    )?;
+    )
+}
+
+#[test]
+fn what_was_put_last_is_moved(rt: HostRuntime) -> Result<(), Fail> {
+    let alloc = rt.alloc();
     let swept = sweep_line(alloc, 0, 1, 2)?;
     let plan = plan_lines(alloc, &["[w1, w2, w3, w4]", "[s5]", "[r2]"], "[w1, s5, r2]")?;
     prints(
@@ -55,7 +67,11 @@ fn sweeps(rt: HostRuntime) -> Result<(), Fail> {
         &format!(in alloc; "put 1\nput 2\n{swept}{plan}acknowledged 2\n")?,
         0,
         2,
-    )?;
+    )
+}
+
+#[test]
+fn extents_that_are_not_sweepable(rt: HostRuntime) -> Result<(), Fail> {
     prints(
         &rt,
         "sweep 0\nput 0000000000000000000000000000000a 61\nsweep 0\nsweep 6\n",
