@@ -12,9 +12,8 @@ use Rattle.cs_frame.specs.Formats.{as_locator, formats_of, place_of}
 use Rattle.cs_frame.specs.Roots.{spelled_root}
 use Rattle.cs_index.specs.Staged.{IsMergeAppended, IsMergeStaged, IsRootStaged, IsRunAppended, IsTableStaged, run_frame}
 use Rattle.cs_index.specs.State.{IsSet, State as IndexState, index_of}
-use Rattle.cs_model.proofs.Needs.{appended_numbers}
 use Rattle.cs_model.specs.Append.{Append, MergesTo, chunk_frames}
-use Rattle.cs_model.specs.Device.{IsShape, Shape}
+use Rattle.cs_model.specs.Device.{Shape}
 use Rattle.cs_model.specs.Disk.{page_write}
 use Rattle.cs_model.specs.Element.{A_root, Entry, Locator as Place, Map, Run}
 use Rattle.cs_model.specs.Events.{Chunked, Does, ReadsNow, mark, retired, rooted}
@@ -32,9 +31,10 @@ use Rattle.cs_bridge.specs.Stores.{IsWorldOf}
 use Rattle.cs_bridge.proofs.Appending.{after_append}
 use Rattle.cs_bridge.proofs.Indexes.{after_set, as_many_runs, first_live, live_same, looked_up, merged_run, nothing_live, some_table, table_run}
 use Rattle.cs_bridge.proofs.Keeping.{after_appends, after_mark}
+use Rattle.cs_bridge.proofs.Numbers.{append_numbers}
 use Rattle.cs_bridge.proofs.Resetting.{after_reset}
 use Rattle.cs_bridge.proofs.Rooting.{after_root, next_version}
-use Rattle.cs_bridge.proofs.Shapes.{store_shape}
+use Rattle.cs_bridge.proofs.Shapes.{one_section, store_shape}
 
 -- ---- puts and deletes
 
@@ -71,10 +71,6 @@ unfolding run_frame
 run_append x y g h w reason entries place whole is a =
     after_append x g w (store_shape x whole) is reason (run_frame x entries) (as_locator place) y h a
 
--- an append stages no root
-append_root : (S : Shape) (w v : World) (reason : Reason) (bs : List (List ℕ)) (l : Place) → IsShape S → Append S w reason bs l v → v.root ≡ w.root
-append_root S w v reason bs l store a = ap (λ (u : World). u.root) a.after ∙ (appended_numbers S store w a.extent a.need bs).2
-
 -- the root over these runs is the machine's next, whatever it remembers
 module _ (x : ExtentsState) (g h : GraphState) (w : World) (v commands : ℕ) (runs : List Run) (is : IsWorldOf x g w) (root : IsRootStaged g h v commands runs) where
   pub root_version : v ≡ suc w.root
@@ -107,7 +103,7 @@ module _ (x : ExtentsState) (g : GraphState) (i : IndexState) (s : State) (whole
         (
           some_table i s.table s.runs are.index some,
           root_version y done.staged.0 h appended.0 v commands runs appended.2 root
-              ∙ ap suc (append_root (shape x) s.world appended.0 ForRun ((formats_of (shape x)).frame RunFrame ((formats_of (shape x)).run done.entries)) done.place (store_shape x whole) appended.1),
+              ∙ ap suc (append_numbers (shape x) (store_shape x whole) (one_section x (store_shape x whole)) s.world appended.0 ForRun ((formats_of (shape x)).frame RunFrame ((formats_of (shape x)).run done.entries)) done.place appended.1).2,
           inl (
             subst (λ (n : ℕ). n < 4) (as_many_runs i s.table s.runs are.index) few,
             done.entries,
@@ -135,7 +131,7 @@ module _ (x : ExtentsState) (g : GraphState) (i : IndexState) (s : State) (whole
           a.0,
           inl (entries, place, some, merged_run (index_of i) (index_now s) (looked_up i s.table s.runs are.index) entries merged, a.1, one),
           a.2,
-          append_root (shape x) s.world a.0 reason ((formats_of (shape x)).frame RunFrame ((formats_of (shape x)).run entries)) place (store_shape x whole) a.1,
+          (append_numbers (shape x) (store_shape x whole) (one_section x (store_shape x whole)) s.world a.0 reason ((formats_of (shape x)).frame RunFrame ((formats_of (shape x)).run entries)) place a.1).2,
           appended.same_shape,
         )
     merges (inr (nothing, same, unstaged, none)) = (

@@ -94,9 +94,6 @@ module _ (S : Shape) (F : Formats) (s : State) (disk : DiskState) (is : IsDiskOf
     volatile = is.volatile ∙ ap (page_writes S F) (sym issued);
   }
 
-  same_state : (t : State) → t ≡ s → IsDiskOf S F t disk
-  same_state t same = subst (λ (u : State). IsDiskOf S F u disk) (sym same) is
-
   -- another table and other commands, and the same world
   retabled : (u : State) (table : List Entry) (commands : List Command) → IsDiskOf S F u disk → IsDiskOf S F (record u { table = table; commands = commands }) disk
   retabled u table commands was = record { durable = was.durable; volatile = was.volatile }
