@@ -33,11 +33,13 @@ struct FailingWriter {
 
 impl Write for FailingWriter {
     fn write(&mut self, bytes: &[u8]) -> io::Result<usize> {
-        if self.left < bytes.len() {
-            return Err(io::Error::from(ErrorKind::TimedOut));
+        match self.left.checked_sub(bytes.len()) {
+            Some(left) => {
+                self.left = left;
+                Ok(bytes.len())
+            }
+            None => Err(io::Error::from(ErrorKind::TimedOut)),
         }
-        self.left -= bytes.len();
-        Ok(bytes.len())
     }
 
     fn flush(&mut self) -> io::Result<()> {
