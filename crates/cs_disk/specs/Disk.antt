@@ -1,5 +1,5 @@
 -- What a page disk holds, what its calls do to it, and what a crash may leave.
-use Rattle.std.specs.Prelude.{All, ◌≡◌, ◌⊎◌, ℕ, ◌≤◌, ◌+◌, ◌-◌, ◌^◌, min, Bool, true, false, List, [], ◌∷◌, ◌++◌, length, slice_index_or, slice_set, if◌then◌else◌, ◌==◌, Result, IsErrOf}
+use Rattle.std.specs.Prelude.{All, ◌≡◌, ◌⊎◌, ℕ, ◌<◌, ◌≤◌, ◌+◌, ◌-◌, ◌^◌, min, Bool, true, false, List, [], ◌∷◌, ◌++◌, length, slice_index, slice_index_or, slice_set, if◌then◌else◌, ◌==◌, Result, IsErrOf}
 use Rattle.cs_disk.specs.declared.fault.DiskFault.{DiskFault}
 use Rattle.cs_disk.specs.declared.fault.DiskFault.TheVariants.{DeviceFault}
 
@@ -36,10 +36,16 @@ pub record State : Type 0 where
   pub durable : Image
   pub volatile : List Write
 
+-- each is a byte
+abbrev pub IsBytes : List ℕ → Type 0
+IsBytes bytes = (i : ℕ) → slice_index bytes i < 256
+
 -- each page and each volatile write has 4,096 bytes
 pub record IsWhole (s : State) : Type 0 where
   pub durable : All (λ (bytes : List ℕ). length bytes ≡ 4096) s.durable
   pub volatile : All (λ (w : Write). length w.1 ≡ 4096) s.volatile
+  pub durable_bytes : All (λ (bytes : List ℕ). IsBytes bytes) s.durable
+  pub volatile_bytes : All (λ (w : Write). IsBytes w.1) s.volatile
 
 -- what the disk reads as
 abbrev pub seen : State → Image

@@ -1,6 +1,6 @@
 // A disk in memory.
 ghost use Rattle.std.specs.Prelude.{All, ◌≡◌, ◌<◌, length, IsOk, OnOk, OnErr, IfOk, IsOkUnless};
-ghost use Rattle.cs_disk.specs.Disk.{page, seen, flushed, Elapses};
+ghost use Rattle.cs_disk.specs.Disk.{page, seen, flushed, Elapses, IsBytes};
 ghost use Rattle.std.proofs.Common.{inl, refl};
 ghost use Rattle.cs_disk.specs.Past.{state_of, past_states, LeftSince, only_now as only_held};
 
@@ -25,6 +25,8 @@ pub struct MemoryDisk {
     // Pages and writes of 4,096 bytes: the types say so of values, and these fields say it to the trait's law `whole`.
     ghost durable: { All (λ bytes. length bytes ≡ 4096) contents.durable.items },
     ghost volatile: { All (λ w. length w.1 ≡ 4096) contents.volatile.items },
+    ghost durable_bytes: { All (λ bytes. IsBytes bytes) contents.durable.items },
+    ghost volatile_bytes: { All (λ w. IsBytes w.1) contents.volatile.items },
 }
 
 impl MemoryDisk {
@@ -65,6 +67,7 @@ impl MemoryDisk {
         if !rest.is_empty() {
             return Err(ImageFault::OddLength);
         }
+        are_bytes(&bytes);
         let durable = Vec::from_slice(alloc, pages)?;
         Ok(MemoryDisk {
             alloc,
@@ -82,6 +85,13 @@ impl MemoryDisk {
     {
         self.contents.durable.as_flattened()
     }
+}
+
+/// Tells clauses that the elements of a slice of bytes are bytes. It has no effect.
+fn are_bytes(bytes: &[u8])
+    ensures { IsBytes bytes.now }
+{
+    let _count = bytes.len();
 }
 
 impl PageDisk for MemoryDisk {
@@ -138,7 +148,7 @@ impl PageDisk for MemoryDisk {
 
     ghost sized = { λ d h. refl };
 
-    ghost whole = { λ d h. record { durable = d.durable; volatile = d.volatile } };
+    ghost whole = { λ d h. record { durable = d.durable; volatile = d.volatile; durable_bytes = d.durable_bytes; volatile_bytes = d.volatile_bytes } };
 
     ghost counts_now = { λ d t c h le now. inl now };
 

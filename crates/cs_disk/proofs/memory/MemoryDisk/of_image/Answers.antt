@@ -1,8 +1,8 @@
 use Rattle.std.proofs.Common.{◌≡◌, ◌∙◌, ◌/◌, ◌*◌, ◌≤◌, ap, sym, subst, arith, length, List, ℕ, rules}
 use Rattle.std.specs.List.{flat_map}
-use Rattle.cs_disk.specs.Disk.{Image}
+use Rattle.cs_disk.specs.Disk.{Image, IsBytes}
 use Rattle.cs_disk.proofs.Images.{flat_map-first_chunks_all}
-use Rattle.cs_disk.proofs.Whole.{Pages, first_chunks_whole}
+use Rattle.cs_disk.proofs.Whole.{BytePages, Pages, first_chunks_bytes, first_chunks_whole}
 use Rattle.cs_disk.proofs.memory.MemoryDisk.of_image.Goals as goal
 
 pub returns-clause-durable : goal.returns-clause-durable
@@ -17,3 +17,7 @@ invariant_of-result-clause-durable c =
     let n = length c.deref.result.now in
     let fits : n / 4096 * 4096 ≤ n = omega arith in
     subst (λ (image : Image). Pages 4096 image) (sym (c.in_ok-durable.ensures.items ∙ c.as_chunks.ensures.front)) (first_chunks_whole 4096 (n / 4096) c.deref.result.now fits)
+
+pub invariant_of-result-clause-durable_bytes : goal.invariant_of-result-clause-durable_bytes
+invariant_of-result-clause-durable_bytes c =
+    subst (λ (image : Image). BytePages image) (sym (c.in_ok-durable.ensures.items ∙ c.as_chunks.ensures.front)) (first_chunks_bytes 4096 (length c.deref.result.now / 4096) c.deref.result.now (subst IsBytes (c.deref-2.ensures.value ∙ sym c.deref.ensures.value) c.are_bytes.ensures))
