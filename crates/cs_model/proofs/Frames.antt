@@ -15,6 +15,7 @@ use Rattle.cs_model.specs.Sound.{Sound}
 use Rattle.cs_model.specs.State.{State, map_now}
 use Rattle.cs_model.proofs.Parts.{with_same}
 use Rattle.cs_model.proofs.Carries.{carry, carry_reads}
+use Rattle.cs_model.proofs.Needs.{appended_numbers}
 use Rattle.cs_model.proofs.Appends.{Framed, framed, appended_superblocks, all_up}
 
 module _ (S : Shape) (F : Formats) (shape : IsShape S) (format : IsFormat S F) where
@@ -88,6 +89,9 @@ module _ (S : Shape) (F : Formats) (shape : IsShape S) (format : IsFormat S F) w
         caught_up = λ none r is ver. sound.caught_up none r (subst (λ (rs : List Root). r ∈ rs) fr.roots is)
             (ver ∙ fr.root);
         complete = λ busy m is. sound.complete busy m (fr.back m is);
+        once = sound.once;
+        idle = λ off. (let numbers = appended_numbers S shape s.world e need (F.frame kind payload) in
+            let old = sound.idle off in (old.0, old.1, numbers.4 ∙ old.2 ∙ sym numbers.3));
         left = λ m has. fr.member m (sound.left m has);
         issued = λ m has. fr.member m (sound.issued m has);
         swept = λ d is. (let was : s.world.extents.swept d ≡ true = ap (λ (f : ℕ → Bool). f d) (sym fr.swept)

@@ -5,6 +5,7 @@ use Rattle.cs_model.specs.Cut.{section_of}
 use Rattle.cs_model.specs.Device.{Page, Shape}
 use Rattle.cs_model.specs.Element.{Opening, Root, Superblock, Write, roots_of, writes_of}
 use Rattle.cs_model.specs.Formats.{Formats}
+use Rattle.cs_model.specs.Distinct.{AreDistinct}
 use Rattle.cs_model.specs.Lists.{◌∈◌}
 use Rattle.cs_model.specs.Machine.{World}
 use Rattle.cs_model.specs.Recovery.{RootGives}
@@ -25,25 +26,27 @@ all_or_some P test (y ∷ ys) = ⊎_elim
 
 -- those of a list that pass
 pub passing : {A : Type 0} (P : A → Type 0) → ((x : A) → P x ⊎ (P x → ⊥)) → (xs : List A) → (ys : List A)
-    × ((x : A) → (x ∈ ys) ↔ ((x ∈ xs) × P x))
-passing P test [] = ([], λ x. ((λ none. absurd none), (λ both. both.0)))
+    × ((x : A) → (x ∈ ys) ↔ ((x ∈ xs) × P x)) × (AreDistinct xs → AreDistinct ys)
+passing P test [] = ([], (λ x. ((λ none. absurd none), (λ both. both.0))), (λ once. once))
 passing P test (y ∷ ys) =
     let rest = passing P test ys in
     ⊎_elim
     (λ holds. (
       y ∷ rest.0,
-      λ x. (
+      (λ x. (
         (λ has. ⊎_elim (λ is. (inl is, subst P (sym is) holds))
             (λ more. (inr ((rest.1 x).0 more).0, ((rest.1 x).0 more).1)) has),
         (λ both. ⊎_elim (λ is. inl is) (λ more. inr ((rest.1 x).1 (more, both.1))) both.0),
-      ),
+      )),
+      (λ once. ((λ again. once.0 ((rest.1 y).0 again).0), rest.2 once.1)),
     ))
     (λ fails. (
       rest.0,
-      λ x. (
+      (λ x. (
         (λ has. (inr ((rest.1 x).0 has).0, ((rest.1 x).0 has).1)),
         (λ both. ⊎_elim (λ is. absurd (fails (subst P is both.1))) (λ more. (rest.1 x).1 (more, both.1)) both.0),
-      ),
+      )),
+      (λ once. rest.2 once.1),
     ))
     (test y)
 

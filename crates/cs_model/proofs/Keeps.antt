@@ -50,6 +50,8 @@ module _ (S : Shape) (F : Formats) (shape : IsShape S) (format : IsFormat S F) w
     left = λ m has. marks_member s.world s.world.extents.open_extent swept m (sound.left m has);
     issued = λ m has. marks_member s.world s.world.extents.open_extent swept m (sound.issued m has);
     complete = λ busy m is. sound.complete busy m (marks_back s.world s.world.extents.open_extent swept m is);
+    once = sound.once;
+    idle = sound.idle;
     swept = new;
   }
     where
@@ -85,7 +87,7 @@ module _ (S : Shape) (F : Formats) (shape : IsShape S) (format : IsFormat S F) w
   keeps s t Stage Unchanged sound b none d = both S F shape format s t d.1 sound b
   keeps s t Stage (Staged v) sound b none d = keeps_stage S F shape format s t v sound b none d
   keeps s t Begin Nothing sound b none d = both S F shape format s t d.2 sound b
-  keeps s t Begin (Begun members) sound b none d = rest s t _ d.5 (keeps_take S F shape format s t members sound d)
+  keeps s t Begin (Begun members) sound b none d = rest s t _ d.6 (keeps_take S F shape format s t members sound d)
       (record { bounds = b.bounds; runs_fit = b.runs_fit; written_fits = b.written_fits })
   keeps s t Issue (Issued m) sound b none d = rest s t _ d.3 (keeps_issue S F shape format s t m sound d)
       (record { bounds = b.bounds; runs_fit = b.runs_fit; written_fits = b.written_fits })
@@ -114,6 +116,8 @@ module _ (S : Shape) (F : Formats) (shape : IsShape S) (format : IsFormat S F) w
     left = sound.left;
     issued = sound.issued;
     complete = sound.complete;
+    once = sound.once;
+    idle = sound.idle;
     swept = sound.swept;
   }
 

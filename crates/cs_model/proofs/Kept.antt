@@ -64,7 +64,7 @@ module _ (S : Shape) (F : Formats) where
       (by all.1 t _ _ all.4
       (record { opened = refl; start = refl; opening = refl; count = refl; commands = refl }))) d.2
   does_on s t Begin Nothing d = by s t _ _ d.2 (same s)
-  does_on s t Begin (Begun members) d = by s t _ _ d.5
+  does_on s t Begin (Begun members) d = by s t _ _ d.6
       (record { opened = refl; start = refl; opening = refl; count = refl; commands = refl })
   does_on s t Issue (Issued m) d = by s t _ _ d.3
       (record { opened = refl; start = refl; opening = refl; count = refl; commands = refl })

@@ -1,11 +1,12 @@
 -- Begin, Issue and End keep a state sound.
-use Rattle.std.proofs.Common.{◌≡◌, ◌⊎◌, inl, inr, ⊎_elim, ℕ, ◌<◌, ◌≤◌, true, List, [], ◌∷◌, ◌++◌, le_of_eq, le_trans, true≢false, refl, sym, ◌∙◌, subst}
+use Rattle.std.proofs.Common.{◌≡◌, ◌⊎◌, inl, inr, ⊎_elim, ℕ, ◌<◌, ◌≤◌, true, List, [], ◌∷◌, ◌++◌, le_of_eq, le_trans, append-nil, true≢false, refl, sym, ◌∙◌, subst}
 use Rattle.cs_model.specs.Cut.{Cut, Exact, section_of}
 use Rattle.cs_model.specs.Device.{IsShape, Shape}
 use Rattle.cs_model.specs.Element.{Element, Superblock, Write, log_of, superblocks_of, writes_of}
 use Rattle.cs_model.specs.Events.{Does}
 use Rattle.cs_model.specs.Formats.{Formats}
 use Rattle.cs_model.specs.Frames.{IsFormat}
+use Rattle.cs_model.specs.Distinct.{AreDistinct}
 use Rattle.cs_model.specs.Lists.{◌∈◌}
 use Rattle.cs_model.specs.Machine.{BeginRound, World}
 use Rattle.cs_model.specs.Recovery.{RootGives}
@@ -16,6 +17,7 @@ use Rattle.cs_model.specs.State.{Begin, Begun, End, Ended, Issue, Issued, State}
 use Rattle.cs_model.proofs.RoundMoves.{keeps_begin, keeps_end}
 use Rattle.cs_model.proofs.Carries.{root_local}
 use Rattle.cs_model.proofs.Rounds.{one_of_a_number}
+use Rattle.cs_model.proofs.Distinct.{apart, in_first, in_second, moved, not_empty}
 
 module _ (S : Shape) (F : Formats) (shape : IsShape S) (format : IsFormat S F) where
   round_allowed : (s : State) (R : Cut) → Sound S F s → IsRound S s.world R
@@ -82,7 +84,7 @@ module _ (S : Shape) (F : Formats) (shape : IsShape S) (format : IsFormat S F) w
 
   pub keeps_take : (s t : State) (members : List Element) → Sound S F s → Does S F s Begin (Begun members) t
       → Sound S F t
-  keeps_take s t members sound d = subst (λ (x : State). Sound S F x) (sym d.5) (record {
+  keeps_take s t members sound d = subst (λ (x : State). Sound S F x) (sym d.6) (record {
     safe = keeps_begin S (RootGives S F s.opening) s.opening.frozen s.opened (root_local S F shape) s.world d.1
         (round_allowed s d.1 sound d.2) sound.safe;
     settled = λ e. (let o = sound.settled e in record { last = o.last; pages = o.pages; current = o.current });
@@ -94,6 +96,8 @@ module _ (S : Shape) (F : Formats) (shape : IsShape S) (format : IsFormat S F) w
     left = λ m has. (d.3 m).0 has;
     issued = λ m has. absurd has;
     complete = λ busy m is. inl ((d.3 m).1 is);
+    once = subst (λ (l : List Element). AreDistinct l) (sym (append-nil members)) d.4;
+    idle = λ wrong. absurd (true≢false wrong);
     swept = sound.swept;
   })
 
@@ -109,6 +113,8 @@ module _ (S : Shape) (F : Formats) (shape : IsShape S) (format : IsFormat S F) w
     left = λ m has. absurd has;
     issued = λ m has. absurd has;
     complete = λ wrong. absurd (true≢false (sym wrong));
+    once = tt;
+    idle = λ off. (refl, refl, refl);
     swept = sound.swept;
   })
 
@@ -149,6 +155,8 @@ module _ (S : Shape) (F : Formats) (shape : IsShape S) (format : IsFormat S F) w
     frozen = sound.frozen;
     damaged = sound.damaged;
     swept = sound.swept;
+    once = moved d.0 d.1 s.issued m (subst (λ (l : List Element). AreDistinct (l ++ s.issued)) d.2 sound.once);
+    idle = λ off. absurd (not_empty d.0 d.1 m (sym d.2 ∙ (sound.idle off).0));
     complete = λ busy x is. ⊎_elim
         (λ (waits : x ∈ s.left). ⊎_elim (λ still. inl still)
         (λ (now : x ≡ m). inr
@@ -159,3 +167,13 @@ module _ (S : Shape) (F : Formats) (shape : IsShape S) (format : IsFormat S F) w
     issued = at_end (λ x. IsMember S s.world x) s.issued m sound.issued
         (sound.left m (subst (λ (l : List Element). m ∈ l) (sym d.2) (the_middle d.0 d.1 m)));
   })
+
+pub issued_once : (S : Shape) (F : Formats) (s t : State) (m : Element) → Sound S F s → Does S F s Issue (Issued m) t
+    → (m ∈ s.issued → ⊥) × (m ∈ t.left → ⊥)
+issued_once S F s t m sound d =
+    let once : AreDistinct ((d.0 ++ m ∷ d.1) ++ s.issued) = subst (λ (l : List Element). AreDistinct (l ++ s.issued))
+    d.2 sound.once in (
+      (λ has. apart d.0 d.1 s.issued m once (in_second (d.0 ++ d.1) s.issued m has)),
+      (λ has. apart d.0 d.1 s.issued m once
+          (in_first (d.0 ++ d.1) s.issued m (subst (λ (z : State). m ∈ z.left) d.3 has))),
+    )

@@ -11,6 +11,7 @@ pub mod Commands
 pub mod Counting
 pub mod Crash
 pub mod Device
+pub mod Distinct
 pub mod Examples
 pub mod FirstChunks
 pub mod Frames
@@ -23,10 +24,12 @@ pub mod Kept
 pub mod KeptRounds
 pub mod Limits
 pub mod Lists
+pub mod LocalRecovery
 pub mod Merging
 pub mod Moves
 pub mod Movings
 pub mod Needs
+pub mod OneRound
 pub mod Opens
 pub mod Outcomes
 pub mod Pages
@@ -43,6 +46,7 @@ pub mod Rounds
 pub mod Shapes
 pub mod Sorted
 pub mod Stagings
+pub mod Staying
 pub mod SuperblockMoves
 pub mod Taking
 pub mod Tests

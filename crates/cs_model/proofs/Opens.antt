@@ -204,6 +204,8 @@ module _ (S : Shape) (F : Formats) (shape : IsShape S) (img : ℕ → Page) (n :
     left = λ x none. absurd none;
     issued = λ x none. absurd none;
     complete = λ wrong. absurd (true≢false (sym wrong));
+    once = tt;
+    idle = λ off. (refl, refl, refl);
     swept = λ e wrong. absurd (true≢false (sym wrong));
     frozen = λ e fz. (
       (λ same. let wrong : None ≡ Some e = same in cc),

@@ -61,7 +61,7 @@ module _ (S : Shape) (F : Formats) (shape : IsShape S) (format : IsFormat S F) w
               left = members.0;
               issued = [];
             },
-            (clears Halted on (clears InFlight free ends), (none_out, round.0, round.1, members.1, some, refl)),
+            (clears Halted on (clears InFlight free ends), (none_out, round.0, round.1, members.1, members.2, some, refl)),
           ))
           (waits_or_not S F s.opened s.world sound.safe))
     ])

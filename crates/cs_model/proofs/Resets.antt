@@ -87,6 +87,8 @@ module _ (S : Shape) (F : Formats) (shape : IsShape S) (format : IsFormat S F) w
         [] runs (map_now s) gives;
     maps = root_maps S F shape format s runs pointers sound;
     caught_up = λ none. root_last S F shape format s runs pointers sound;
+    once = sound.once;
+    idle = sound.idle;
     complete = λ busy m is. sound.complete busy m
         (root_back S F shape format s runs pointers sound m (reset_back m is));
     left = λ m has. reset_member m

@@ -51,6 +51,8 @@ module _ (S : Shape) (F : Formats) (shape : IsShape S) (format : IsFormat S F) w
     left = sound.left;
     issued = sound.issued;
     complete = sound.complete;
+    once = sound.once;
+    idle = sound.idle;
     swept = sound.swept;
     caught_up = λ none. absurd (let e : record { id = id; locators = ls } ∷ s.table ≡ [] = none in cc);
     maps = λ r is. (let old = sound.maps r is in (
@@ -80,6 +82,8 @@ module _ (S : Shape) (F : Formats) (shape : IsShape S) (format : IsFormat S F) w
     left = sound.left;
     issued = sound.issued;
     complete = sound.complete;
+    once = sound.once;
+    idle = sound.idle;
     swept = sound.swept;
     maps = sound.maps;
     caught_up = λ none. absurd (let e : record { id = id; locators = ls } ∷ s.table ≡ [] = none in cc);
@@ -158,6 +162,8 @@ module _ (S : Shape) (F : Formats) (shape : IsShape S) (format : IsFormat S F) w
     maps = root_maps s runs s.world.extents.pointer sound;
     caught_up = λ none. root_last s runs s.world.extents.pointer sound;
     complete = λ busy m is. sound.complete busy m (root_back s runs s.world.extents.pointer sound m is);
+    once = sound.once;
+    idle = sound.idle;
     left = λ m has. root_member s.world (s.count + length s.commands) runs (map_now s) s.world.extents.pointer m
         (sound.left m has);
     issued = λ m has. root_member s.world (s.count + length s.commands) runs (map_now s) s.world.extents.pointer m

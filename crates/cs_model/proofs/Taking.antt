@@ -1,11 +1,13 @@
 -- A round can be taken.
 use Rattle.std.proofs.Common.{◌≡◌, ◌⊎◌, ◌↔◌, inl, inr, ⊎_elim, ℕ, suc, ◌<◌, Bool, true, false, List, refl, sym, true≢false}
 use Rattle.std.proofs.lemmas.Bool.{cases_eq}
+use Rattle.cs_model.proofs.Distinct.{in_order}
 use Rattle.cs_model.proofs.Waiting.{write_in, superblock_in, root_in, listed}
 use Rattle.cs_model.specs.Cut.{Cut, satisfied}
 use Rattle.cs_model.specs.Device.{Page, Shape}
 use Rattle.cs_model.specs.Element.{A_root, A_superblock, A_write, Element, Opening, Write, roots_of, superblocks_of, writes_of}
 use Rattle.cs_model.specs.Formats.{Formats}
+use Rattle.cs_model.specs.Distinct.{AreDistinct}
 use Rattle.cs_model.specs.Lists.{◌∈◌}
 use Rattle.cs_model.specs.Machine.{World}
 use Rattle.cs_model.specs.Recovery.{RootGives}
@@ -97,13 +99,14 @@ module _ (S : Shape) (F : Formats) {opening : Opening} (opened : ℕ → Page) (
   taken_of_member R (A_root r) is = (root_in w.elements r is.0, (is.1, is.2))
 
   pub some_members : (R : Cut) → (members : List Element)
-      × ((m : Element) → (m ∈ members) ↔ IsMember S (record w { round = R }) m)
+      × ((m : Element) → (m ∈ members) ↔ IsMember S (record w { round = R }) m) × AreDistinct members
   some_members R = let all = passing (Taken R) (taken_or_not R) w.elements in (
     all.0,
-    λ m. (
+    (λ m. (
       (λ has. let both = (all.1 m).0 has in member_of R m both.0 both.1),
       (λ is. (all.1 m).1 (taken_of_member R m is)),
-    ),
+    )),
+    all.2 (in_order w.elements safe.writes_order safe.superblocks_order safe.roots_order),
   )
 
   pub waits_or_not : NothingWaits w ⊎ (NothingWaits w → ⊥)

@@ -7,6 +7,7 @@ use Rattle.cs_model.specs.Element.{Bytes, Element, Entry, Locator, Root, Run, ro
 use Rattle.cs_model.specs.Extents.{ForMove, ForRun, Purpose, marked}
 use Rattle.cs_model.specs.Formats.{ChunkFrame, Formats, FrameKind, RunFrame}
 use Rattle.cs_model.specs.Index.{FirstLive, IsTableRun, NothingLive, Reads, joined, live_at}
+use Rattle.cs_model.specs.Distinct.{AreDistinct}
 use Rattle.cs_model.specs.Lists.{replaced, with, ◌∈◌}
 use Rattle.cs_model.specs.Machine.{BeginRound, EndRound, ResetExtent, StageRoot, World, happens, newest_in}
 use Rattle.cs_model.specs.Round.{IsMember, IsRound, NothingWaits}
@@ -89,7 +90,7 @@ module _ (S : Shape) (F : Formats) where
       × (t ≡ rooted mid runs mid.world.extents.pointer)))
   Does s Begin Nothing t = (s.round_out ≡ false) × NothingWaits s.world × (t ≡ s)
   Does s Begin (Begun members) t = (s.round_out ≡ false) × (R : Cut) × IsRound S s.world R
-      × ((m : Element) → m ∈ members ↔ IsMember S (record s.world { round = R }) m)
+      × ((m : Element) → m ∈ members ↔ IsMember S (record s.world { round = R }) m) × AreDistinct members
       × (NothingWaits s.world → ⊥)
       × (t ≡ record s { world = happens S s.world (BeginRound R); round_out = true; left = members; issued = [] })
   Does s Issue (Issued m) t = (xs : List Element) × (ys : List Element) × (s.left ≡ xs ++ m ∷ ys)

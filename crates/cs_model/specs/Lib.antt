@@ -3,6 +3,7 @@ pub mod Checkpoint
 pub mod Cut
 pub mod Device
 pub mod Disk
+pub mod Distinct
 pub mod Element
 pub mod Events
 pub mod Example
@@ -14,7 +15,9 @@ pub mod Grounds
 pub mod Guard
 pub mod Index
 pub mod Lists
+pub mod Local
 pub mod Machine
+pub mod Numbers
 pub mod Open
 pub mod Recovery
 pub mod Refusal
@@ -22,4 +25,5 @@ pub mod Round
 pub mod Safe
 pub mod Sound
 pub mod State
+pub mod Stays
 pub mod Step

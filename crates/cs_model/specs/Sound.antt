@@ -1,11 +1,12 @@
 -- What every event keeps, and what a crash may leave.
-use Rattle.std.specs.Prelude.{◌≡◌, ◌≢◌, ◌⊎◌, ◌+◌, ◌-◌, ◌<◌, ◌≤◌, ℕ, Bool, true, List, length, Some, []}
+use Rattle.std.specs.Prelude.{◌≡◌, ◌≢◌, ◌⊎◌, ◌+◌, ◌-◌, ◌<◌, ◌≤◌, ◌++◌, ℕ, Bool, true, false, List, length, Some, []}
 use Rattle.cs_model.specs.Device.{Page, Shape}
 use Rattle.cs_model.specs.Disk.{applied, kept_of, page_writes}
 use Rattle.cs_model.specs.Element.{Element, Locator, Root, Run, log_of, roots_of}
 use Rattle.cs_model.specs.Events.{IsFrontier, newest_page}
 use Rattle.cs_model.specs.Formats.{ChunkFrame, Formats, image, pages_from}
 use Rattle.cs_model.specs.Index.{Gives, InBounds, IsWhole}
+use Rattle.cs_model.specs.Distinct.{AreDistinct}
 use Rattle.cs_model.specs.Lists.{◌∈◌}
 use Rattle.cs_model.specs.Recovery.{Recovers, RecoversBut, RootGives}
 use Rattle.cs_model.specs.Refusal.{Refusal}
@@ -31,6 +32,10 @@ module _ (S : Shape) (F : Formats) where
     pub left : (m : Element) → m ∈ s.left → IsMember S s.world m
     pub issued : (m : Element) → m ∈ s.issued → IsMember S s.world m
     pub complete : s.round_out ≡ true → (m : Element) → IsMember S s.world m → (m ∈ s.left) ⊎ (m ∈ s.issued)
+    -- each of them is left or issued, and once
+    pub once : AreDistinct (s.left ++ s.issued)
+    -- where no round is out none is left or issued, and what is persistent is all that the round has
+    pub idle : s.round_out ≡ false → (s.left ≡ []) × (s.issued ≡ []) × (s.world.round ≡ s.world.persistent)
     -- an extent that is being swept is there, and neither open nor empty
     pub swept : (e : ℕ) → s.world.extents.swept e ≡ true
         → (s.world.extents.open_extent ≢ Some e) × (0 < s.world.extents.pointer e) × (e < S.extents)

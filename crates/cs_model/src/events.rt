@@ -6,12 +6,14 @@ ghost use Rattle.cs_model.specs.Events.{Does, IsFrontier};
 ghost use Rattle.cs_model.specs.Formats.{Formats};
 ghost use Rattle.cs_model.specs.Frames.{IsFormat};
 ghost use Rattle.cs_model.specs.Index.{after};
+ghost use Rattle.cs_model.specs.Distinct.{AreDistinct};
 ghost use Rattle.cs_model.specs.Lists.{◌∈◌};
 ghost use Rattle.cs_model.specs.Round.{IsMember, IsRound, NothingWaits};
 ghost use Rattle.cs_model.specs.Sound.{Bounded, Sound};
-ghost use Rattle.cs_model.specs.State.{Command, Delete, Event, MoveOne, Put, Reply, Retire, Stage, State, after_all, commands_of, map_now};
+ghost use Rattle.cs_model.specs.State.{Begin, Begun, Command, Delete, End, Ended, Event, Issue, Issued, MoveOne, Put, Reply, Retire, Stage, State, after_all, commands_of, map_now};
+ghost use Rattle.cs_model.specs.Stays.{KeepsRound, RootsAfter};
 ghost use Rattle.cs_model.specs.Step.{DependsOn, History, Step};
-ghost use Rattle.std.specs.Prelude.{◌≡◌, ◌↔◌, ◌≤◌, ◌++◌, [], ℕ, List, length};
+ghost use Rattle.std.specs.Prelude.{◌≡◌, ◌≢◌, ◌↔◌, ◌≤◌, ◌++◌, [], ℕ, List, length};
 
 /// In every sound state every event has an answer: it is refused, or does what it does. So the refusals are exact.
 pub fn every_event_has_an_answer()
@@ -50,14 +52,14 @@ pub fn all_is_persistent_at_rest()
         → IsFrontier S F s f → f ≡ length s.commands }
 {}
 
-/// In every sound state there is a round of what is ready, and a list of its members.
+/// In every sound state there is a round of what is ready, and a list of its members, each once.
 pub fn there_is_a_round()
     ensures { (S : Shape) (F : Formats) (s : State) → Sound S F s
         → (R : Cut) × IsRound S s.world R × (members : List Element)
-        × ((m : Element) → m ∈ members ↔ IsMember S (record s.world { round = R }) m) }
+        × ((m : Element) → m ∈ members ↔ IsMember S (record s.world { round = R }) m) × AreDistinct members }
 {}
 
-/// What a put, a delete, a Stage, a move or a Retire does leads to one state.
+/// What a put, a delete, a Stage, a move or a Retire does leads to one state, and every Begin takes the same members.
 pub fn what_an_event_does_is_one_thing()
     ensures put { (S : Shape) (F : Formats) (s t u : State) (id : ℕ) (bytes : List ℕ) (r q : Reply)
         → IsShape S → IsFormat S F
@@ -70,4 +72,32 @@ pub fn what_an_event_does_is_one_thing()
         → Does S F s (MoveOne e) r t → Does S F s (MoveOne e) q u → u ≡ t }
     ensures retire { (S : Shape) (F : Formats) (s t u : State) (e : ℕ) (r q : Reply) → IsShape S → IsFormat S F
         → Does S F s (Retire e) r t → Does S F s (Retire e) q u → u ≡ t }
+    ensures begin { (S : Shape) (F : Formats) (s t u : State) (members others : List Element)
+        → Does S F s Begin (Begun members) t → Does S F s Begin (Begun others) u
+        → (m : Element) → m ∈ members ↔ m ∈ others }
+{}
+
+/// What an event leaves as it was: the round that is out, unless it is one of writeback; the roots, unless it staged one;
+/// and the frontier, unless it ended a round.
+pub fn what_an_event_leaves()
+    ensures round { (S : Shape) (F : Formats) (s t : State) (event : Event) (reply : Reply)
+        → Step S F s event reply t → event ≢ Begin → event ≢ Issue → event ≢ End → KeepsRound s t }
+    ensures roots { (S : Shape) (F : Formats) (s t : State) (event : Event) (reply : Reply)
+        → Step S F s event reply t → RootsAfter reply s t }
+    ensures frontier { (S : Shape) (F : Formats) (s t : State) (event : Event) (reply : Reply) (n : ℕ)
+        → Step S F s event reply t → ((k : ℕ) → reply ≢ Ended k) → IsFrontier S F s n → IsFrontier S F t n }
+{}
+
+/// There is one frontier, and no event makes it less.
+pub fn the_frontier_rises()
+    ensures one { (S : Shape) (F : Formats) (s : State) (n k : ℕ) → Sound S F s → IsFrontier S F s n
+        → IsFrontier S F s k → n ≡ k }
+    ensures rises { (S : Shape) (F : Formats) (s t : State) (event : Event) (reply : Reply) (n k : ℕ) → Sound S F s
+        → Sound S F t → Step S F s event reply t → IsFrontier S F s n → IsFrontier S F t k → n ≤ k }
+{}
+
+/// A member that is issued wasn't issued before, and isn't left.
+pub fn each_member_is_issued_once()
+    ensures { (S : Shape) (F : Formats) (s t : State) (m : Element) → Sound S F s → Does S F s Issue (Issued m) t
+        → (m ∈ s.issued → ⊥) × (m ∈ t.left → ⊥) }
 {}

@@ -20,13 +20,14 @@ pub use crashes::{
     every_history_is_safe,
 };
 pub use events::{
-    all_is_persistent_at_rest, commands_go_on, every_event_has_an_answer, the_frontier_is_exact,
-    there_is_a_frontier, there_is_a_round, what_an_event_does_is_one_thing,
+    all_is_persistent_at_rest, commands_go_on, each_member_is_issued_once,
+    every_event_has_an_answer, the_frontier_is_exact, the_frontier_rises, there_is_a_frontier,
+    there_is_a_round, what_an_event_does_is_one_thing, what_an_event_leaves,
 };
 pub use premises::{a_format_can_be, geometries_are_shapes};
 pub use recovery::{
     a_new_store_is_empty, an_image_gives_one_map, frames_tell_their_payload,
-    what_was_there_at_open_stays,
+    recovery_looks_at_the_pages_of_the_store, what_was_there_at_open_stays,
 };
 pub use sets::{
     closed_sets_are_intact, crashes_leave_sets, every_move_keeps, needs_are_met_in_closed_sets,

@@ -1,18 +1,20 @@
 //! What a store finds on an image, and what stays of it.
 ghost use Rattle.cs_model.specs.Append.{AppendsFrame, appended};
 ghost use Rattle.cs_model.specs.Device.{Inside, IsShape, Page, Shape};
-ghost use Rattle.cs_model.specs.Element.{Locator, Map};
+ghost use Rattle.cs_model.specs.Element.{Locator, Map, Opening};
 ghost use Rattle.cs_model.specs.Events.{newest_page};
 ghost use Rattle.cs_model.specs.Extents.{Purpose};
 ghost use Rattle.cs_model.specs.Formats.{ChunkFrame, Formats, FrameKind, Stand, image, pages_from};
 ghost use Rattle.cs_model.specs.Frames.{IsFormat, IsFrameFormat};
 ghost use Rattle.cs_model.specs.Index.{Passes};
+ghost use Rattle.cs_model.specs.Geometry.{IsGeometry, shape_of};
 ghost use Rattle.cs_model.specs.Lists.{with};
-ghost use Rattle.cs_model.specs.Recovery.{IsNew, Recovers};
+ghost use Rattle.cs_model.specs.Local.{AgreeBelow, LiesBelow};
+ghost use Rattle.cs_model.specs.Recovery.{IsNew, Recovers, RecoversBut};
 ghost use Rattle.cs_model.specs.Refusal.{Refusal};
 ghost use Rattle.cs_model.specs.Sound.{Sound};
 ghost use Rattle.cs_model.specs.State.{State};
-ghost use Rattle.std.specs.Prelude.{◌≡◌, ◌≢◌, ◌-◌, Some, ◌≤◌, ℕ, true, List, None, length};
+ghost use Rattle.std.specs.Prelude.{◌≡◌, ◌≢◌, ◌-◌, Some, ◌+◌, ◌*◌, ◌≤◌, ℕ, true, List, None, length};
 
 /// An image gives one number of commands and one map.
 pub fn an_image_gives_one_map()
@@ -47,4 +49,16 @@ pub fn what_was_there_at_open_stays()
         (payload : List ℕ) (l : Locator)
         (f : Refusal) → IsShape S → Sound S F s
         → AppendsFrame S F s purpose kind payload l t → s.opening.damage l ≢ Some f }
+{}
+
+/// What an image recovers lies on the pages of the store: two images that have those alike recover alike. Of a geometry
+/// these are the first pages, the two before the extents, those of the extents, and one for each further section.
+pub fn recovery_looks_at_the_pages_of_the_store()
+    ensures alike { (S : Shape) (F : Formats) (count : ℕ) (a b : ℕ → Page) (n : ℕ) (m : Map)
+        → LiesBelow S count → AgreeBelow count a b → Recovers S F a n m → Recovers S F b n m }
+    ensures alike_but { (S : Shape) (F : Formats) (opening : (pointers generations : ℕ → ℕ) → Opening) (count : ℕ)
+        (a b : ℕ → Page) (n : ℕ) (m : Map)
+        → LiesBelow S count → AgreeBelow count a b → RecoversBut S F opening a n m → RecoversBut S F opening b n m }
+    ensures geometries { (extents pages sections per_section format : ℕ) → IsGeometry extents pages sections per_section
+        → LiesBelow (shape_of extents pages sections per_section format) (1 + extents * pages + sections) }
 {}

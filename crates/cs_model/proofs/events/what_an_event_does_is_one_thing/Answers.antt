@@ -2,6 +2,7 @@ use Rattle.cs_model.proofs.events.what_an_event_does_is_one_thing.Goals as goal
 use Rattle.cs_model.proofs.Answered.{put_one, delete_one}
 use Rattle.cs_model.proofs.AnsweredStages.{stage_one}
 use Rattle.cs_model.proofs.AnsweredSweeps.{move_one, retire_one}
+use Rattle.cs_model.proofs.OneRound.{begin_one}
 
 pub returns : goal.returns
 returns c = record {
@@ -10,4 +11,5 @@ returns c = record {
   stage = λ S F s t u r q shape format a b. stage_one S F shape format s r q t u a b;
   move_one = λ S F s t u e r q shape format a b. move_one S F shape format s e r q t u a b;
   retire = λ S F s t u e r q shape format a b. retire_one S F shape format s e r q t u a b;
+  begin = λ S F s t u members others a b. begin_one S F s t u members others a b;
 }

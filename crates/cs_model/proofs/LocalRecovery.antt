@@ -1,0 +1,153 @@
+-- Recovery looks at the pages of the store alone.
+use Rattle.std.proofs.Common.{◌≡◌, inl, inr, ⊎_elim, ℕ, zero, suc, ◌+◌, ◌-◌, ◌*◌, ◌<◌, ◌≤◌, Bool, true, false, nat_lt, ◌==◌, ◌&&◌, List, [], ◌∷◌, ◌++◌, Option, Some, None, if◌then◌else◌, mul-le-mul_right, ne_eqb, refl, sym, ap, ap₂, ◌∙◌, subst, arith}
+use Rattle.std.proofs.lemmas.Bool.{cases_eq}
+use Rattle.cs_model.specs.Device.{Inside, Page, Shape}
+use Rattle.cs_model.specs.Element.{Content, Entry, Locator, Map, Opening, Run}
+use Rattle.cs_model.specs.Formats.{ChunkFrame, Formats, damage_in, opening_in, pages_from}
+use Rattle.cs_model.specs.Geometry.{IsGeometry, shape_of}
+use Rattle.cs_model.specs.Index.{AllPass, Gives, Holds, Passes, Reads, ReadsAs, Value, entries_of, live, lookup}
+use Rattle.cs_model.specs.Lists.{◌∈◌}
+use Rattle.cs_model.specs.Local.{AgreeBelow, LiesBelow}
+use Rattle.cs_model.specs.Recovery.{Recovers, RecoversBut}
+use Rattle.cs_model.proofs.Carries.{carry}
+
+-- what each locator has that an identifier has in one list or in the other
+live_if : (P : Locator → Type 0) (b : Bool) (ls : List Locator) (o r : Option (List Locator))
+    → (((l : Locator) → l ∈ live o → P l) → (l : Locator) → l ∈ live r → P l)
+    → ((l : Locator) → l ∈ live (if b then Some ls else o) → P l) → (l : Locator) → l ∈ live (if b then Some ls else r)
+    → P l
+live_if P true ls o r on all = all
+live_if P false ls o r on all = on all
+
+live_append : (P : Locator → Type 0) (id : ℕ) (xs ys : List Entry) → ((l : Locator) → l ∈ live (lookup id xs) → P l)
+    → ((l : Locator) → l ∈ live (lookup id ys) → P l) → (l : Locator) → l ∈ live (lookup id (xs ++ ys)) → P l
+live_append P id [] ys a b = b
+live_append P id (x ∷ xs) ys a b = live_if P (x.id == id) x.locators (lookup id xs) (lookup id (xs ++ ys))
+    (λ old. live_append P id xs ys old b) a
+
+live_runs : (P : Locator → Type 0) (id : ℕ) (runs : List Run)
+    → ((run : Run) → run ∈ runs → (l : Locator) → l ∈ live (lookup id run.entries) → P l)
+    → (l : Locator) → l ∈ live (lookup id (entries_of runs)) → P l
+live_runs P id [] all = λ l none. absurd none
+live_runs P id (run ∷ runs) all = live_append P id run.entries (entries_of runs) (all run (inl refl))
+    (live_runs P id runs (λ r has. all r (inr has)))
+
+-- each of them passes
+pub live_passes : (S : Shape) (F : Formats) (opening : Opening) (img : ℕ → Page) (p g : ℕ → ℕ) (table : List Entry)
+    (runs : List Run) (m : Map) → Gives S F opening img p g table runs m → (id : ℕ) (l : Locator)
+    → l ∈ live (lookup id (table ++ entries_of runs)) → Passes S F img p g l
+live_passes S F opening img p g table runs m gives id = live_append (Passes S F img p g) id table (entries_of runs)
+    (passes (lookup id table) (gives.table_passes id))
+    (live_runs (Passes S F img p g) id runs (λ run has. passes (lookup id run.entries) (gives.runs_pass run has id)))
+  where
+    passes : (o : Option (List Locator)) → AllPass S F img p g o → (l : Locator) → l ∈ live o → Passes S F img p g l
+    passes None pass l none = absurd none
+    passes (Some ls) pass l has = pass l has
+
+-- an index gives the same map by two openings that say the same of every locator that passes
+module _ (S : Shape) (F : Formats) (d h : Opening) (img : ℕ → Page) (p g : ℕ → ℕ)
+    (damage : (l : Locator) → Passes S F img p g l → h.damage l ≡ d.damage l)
+    (frozen : (e n : ℕ) → d.frozen e n ≡ true → h.frozen e n ≡ true) where
+  reads_by : (l : Locator) (bs : List Page) → Reads S F d img p g l bs → Reads S F h img p g l bs
+  reads_by l bs r = record {
+    passes = r.passes;
+    below = ⊎_elim (λ below. inl below) (λ fz. inr (frozen l.extent l.generation fz)) r.below;
+    inside = r.inside;
+    stand = r.stand;
+  }
+
+  reading_by : (ls : List Locator) (content : Content) → ((l : Locator) → l ∈ ls → Passes S F img p g l)
+      → ReadsAs S F d img p g ls content → ReadsAs S F h img p g ls content
+  reading_by [] content pass is = is
+  reading_by (l ∷ ls) content pass (inl r) = inl (
+    r.0,
+    r.1,
+    reads_by l (F.frame ChunkFrame r.0) r.2,
+    reading_by ls r.1 (λ k has. pass k (inr has)) r.3,
+    r.4,
+  )
+  reading_by (l ∷ ls) content pass (inr bad) = inr (bad.0, damage l (pass l (inl refl)) ∙ bad.1, bad.2)
+
+  holds_by : (l : Locator) → Passes S F img p g l → Holds S F d img p g l → Holds S F h img p g l
+  holds_by l pass (inl bad) = inl (bad.0, damage l pass ∙ bad.1)
+  holds_by l pass (inr has) = inr (has.0, reads_by l (F.frame ChunkFrame has.0) has.1)
+
+  value_by : (o : Option (List Locator)) (v : Option Content)
+      → ((l : Locator) → l ∈ live o → Passes S F img p g l) → Value S F d img p g o v → Value S F h img p g o v
+  value_by None v pass value = value
+  value_by (Some []) v pass value = value
+  value_by (Some (l ∷ ls)) v pass value = (value.0, reading_by (l ∷ ls) value.0 pass value.1, value.2)
+
+  gives_by : (table : List Entry) (runs : List Run) (m : Map) → Gives S F d img p g table runs m
+      → Gives S F h img p g table runs m
+  gives_by table runs m gives = record {
+    runs_read = λ run has. reads_by run.place _ (gives.runs_read run has);
+    table_passes = gives.table_passes;
+    runs_pass = gives.runs_pass;
+    holds = λ id l has. holds_by l (live_passes S F d img p g table runs m gives id l has) (gives.holds id l has);
+    values = λ id. value_by (lookup id (table ++ entries_of runs)) (m id)
+        (live_passes S F d img p g table runs m gives id) (gives.values id);
+  }
+
+module _ (S : Shape) (F : Formats) (count : ℕ) (a b : ℕ → Page) (lies : LiesBelow S count) (agree : AgreeBelow count a b) where
+  at : (e i : ℕ) → Inside S e i → b (S.address e i) ≡ a (S.address e i)
+  at e i inside = sym (agree (S.address e i) (lies.frames e i inside))
+
+  same_pages : (e i n : ℕ) → e < S.extents → i + n ≤ S.pages → pages_from S F b e i n ≡ pages_from S F a e i n
+  same_pages e i zero there fits = refl
+  same_pages e i (suc n) there fits = ap₂ (λ (x : Page) (xs : List Page). x ∷ xs)
+      (at e i (there, omega arith)) (same_pages e (suc i) n there (omega arith))
+
+  same_damage : (p g : ℕ → ℕ) (l : Locator) → Passes S F b p g l → damage_in S F b p g l ≡ damage_in S F a p g l
+  same_damage p g l pass = ap
+      (λ (bs : List Page). if (g l.extent == l.generation) && nat_lt l.page (p l.extent) then F.fault ChunkFrame bs else None)
+      (same_pages l.extent l.page (S.pages - l.page) pass.inside.0 (let lt : l.page < S.pages = pass.inside.1 in omega arith))
+
+  gives_alike : (opening : Opening) (p g : ℕ → ℕ) (table : List Entry) (runs : List Run) (m : Map)
+      → Gives S F opening a p g table runs m → Gives S F opening b p g table runs m
+  gives_alike opening p g table runs m gives = carry S F opening b a p g p g (λ e i below inside. (at e i inside, refl, below))
+      (λ e i fz some inside. at e i inside) table runs m gives
+
+  pub recovers_alike_but : (opening next : (pointers generations : ℕ → ℕ) → Opening) (n : ℕ) (m : Map)
+      → ((p g : ℕ → ℕ) (l : Locator) → Passes S F b p g l → (next p g).damage l ≡ (opening p g).damage l)
+      → ((p g : ℕ → ℕ) (e k : ℕ) → (opening p g).frozen e k ≡ true → (next p g).frozen e k ≡ true)
+      → RecoversBut S F opening a n m → RecoversBut S F next b n m
+  recovers_alike_but opening next n m damage frozen r = record {
+    formats = r.formats;
+    versions = r.versions;
+    pointers = r.pointers;
+    generations = r.generations;
+    superblock = λ j lt. sym (agree (S.section_page j) (lies.sections j lt)) ∙ r.superblock j lt;
+    versions_fit = r.versions_fit;
+    extents_fit = r.extents_fit;
+    version = r.version;
+    runs = r.runs;
+    root = sym (agree S.root_page lies.root) ∙ r.root;
+    root_fits = r.root_fits;
+    runs_fit = r.runs_fit;
+    bounds = r.bounds;
+    gives = gives_by S F (opening r.pointers r.generations) (next r.pointers r.generations) b r.pointers r.generations
+        (damage r.pointers r.generations) (frozen r.pointers r.generations) [] r.runs m
+        (gives_alike (opening r.pointers r.generations) r.pointers r.generations [] r.runs m r.gives);
+  }
+
+  pub recovers_alike : (n : ℕ) (m : Map) → Recovers S F a n m → Recovers S F b n m
+  recovers_alike n m r = recovers_alike_but (opening_in S F a) (opening_in S F b) n m same_damage (λ p g e k fz. fz) r
+
+-- where the pages of a geometry lie
+module _ (E P N Q f : ℕ) (g : IsGeometry E P N Q) where
+  frame_below : (e i : ℕ) → e < E → i < P → 2 + (e * P + i) < 1 + E * P + N
+  frame_below e i le li = let more : suc e * P ≤ E * P = mul-le-mul_right P le in let some : 0 < N = g.some_section in omega arith
+
+  section_below : (j : ℕ) → j < N → (shape_of E P N Q f).section_page j < 1 + E * P + N
+  section_below j lt = elim (cases_eq j 0) [
+    | inl is ↦ subst (λ (k : ℕ). (shape_of E P N Q f).section_page k < 1 + E * P + N) (sym is) (let zero_there : 0 < 1 + E * P + N = omega arith in zero_there)
+    | inr some ↦ (let t : (j == 0) ≡ false = ne_eqb j 0 some in rw t (omega arith))
+  ]
+
+  pub lies_below : LiesBelow (shape_of E P N Q f) (1 + E * P + N)
+  lies_below = record {
+    root = (let some : 0 < N = g.some_section in omega arith);
+    sections = section_below;
+    frames = λ e i inside. frame_below e i inside.0 inside.1;
+  }
