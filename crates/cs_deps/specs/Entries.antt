@@ -2,10 +2,15 @@
 use Rattle.std.specs.Prelude.{◌≡◌, ◌==◌, ℕ, ◌+◌, ◌≤◌, ◌<◌, List, [], ◌∷◌, ◌++◌, Bool, true, Option, Some, max, map, filter, nat_lt, slice_get, slice_index, if◌then◌else◌}
 use Rattle.cs_deps.specs.declared.elements.Element.{Element}
 use Rattle.cs_deps.specs.declared.elements.Element.TheVariants.{Plain, Version}
+use Rattle.cs_deps.specs.declared.levels.Levels.{Levels}
+use Rattle.cs_deps.specs.Levels.{IsIndexed}
 use Rattle.cs_deps.specs.Named.{Named}
 use Rattle.cs_deps.specs.Pending.{Waits}
-use Rattle.cs_deps.specs.Staging.{stands_for}
-use Rattle.cs_deps.specs.State.{State, Write, IsWhole, waits_still, write_of}
+use Rattle.cs_deps.specs.Staging.{IsKept, stands_for}
+use Rattle.cs_deps.specs.declared.records.Record.{Record}
+use Rattle.cs_deps.specs.Records.{AreFiled}
+use Rattle.slab.specs.Slab.{Slab, HasRoomFor}
+use Rattle.cs_deps.specs.State.{State, Write, IsOut, waits_still}
 
 -- what names nothing
 abbrev pub nothing : Named
@@ -58,19 +63,17 @@ state_of persistent entries staged latest round writes room = record {
 abbrev pub AreCurrent : List ℕ → List ℕ → List (Element × Named) → Type 0
 AreCurrent persistent latest entries = (k f v : ℕ) (d : Named) → slice_get entries k ≡ Some (Version f v, d) → (v ≤ slice_index latest f) × (slice_index persistent f < slice_index latest f)
 
--- each plain write that is listed waits, and is the one that is kept
-abbrev pub ArePlainsWaiting : State → Type 0
-ArePlainsWaiting s = (k n : ℕ) (w : Write) → slice_get s.pages k ≡ Some (Plain n, w) → Waits s.staging.pending (Plain n) × (write_of s (Plain n) ≡ Some w)
-
--- the number of a listed plain write to page p, 0 for what is none
-abbrev pub number_on : ℕ → Element × Write → ℕ
-number_on p (Plain n, w) = if w.0 == p then n else 0
-number_on p (Version f v, w) = 0
+-- what every graph keeps, but for its page writes
+pub record IsSound (s : State) : Type 0 where
+  pub kept : IsKept s.staging
+  -- a round's members wait
+  pub out : (x : Element) → IsOut s x → Waits s.staging.pending x
 
 -- What a graph keeps of its fields: its value's laws, and room for as many stagings as it says.
-pub record IsHeld (s : State) (entries : List (Element × Named)) (entry_count entry_capacity write_count write_capacity : ℕ) : Type 0 where
-  pub whole : IsWhole s
+pub record IsHeld (s : State) (entries : List (Element × Named)) (entry_count entry_capacity : ℕ) (records : Slab Record) (l : Levels) : Type 0 where
+  pub whole : IsSound s
   pub current : AreCurrent s.staging.pending.persistent s.staging.latest entries
-  pub plains : ArePlainsWaiting s
+  pub filed : AreFiled l records
   pub entries_fit : entry_count + s.room ≤ entry_capacity
-  pub writes_fit : write_count + s.room ≤ write_capacity
+  pub records_fit : HasRoomFor records s.room
+  pub indexed : IsIndexed s l

@@ -9,3 +9,5 @@ pub mod State
 pub mod Refusals
 pub mod Entries
 pub mod Turns
+pub mod Levels
+pub mod Records

@@ -1,19 +1,23 @@
 //! The graph of what was staged.
-ghost use Rattle.std.specs.Prelude.{◌≡◌, ℕ, ◌+◌, ◌^◌, ◌≤◌, ◌<◌, ◌⊎◌, ◌↔◌, [], IfOk, IfErr, OnOk, OnErr, IsOk, IsSome, IsTrue, MatchOption, All, map, length, slice_index, option_map, option_copied, Some, None};
+ghost use Rattle.std.specs.Prelude.{◌≡◌, ◌≢◌, ℕ, ◌+◌, ◌^◌, ◌≤◌, ◌<◌, ◌⊎◌, ◌↔◌, [], IfOk, IfErr, OnOk, OnErr, IsOk, IsSome, IfSome, IsNone, IsTrue, ◌-◌, MatchOption, All, map, length, slice_index, option_map, option_copied, Some, None};
 ghost use Rattle.cs_deps.specs.declared.elements.Element.{Element as Item};
 ghost use Rattle.cs_deps.specs.Named.{Names, NamesFamily, IsNumbered, IsWithin, StandsFor};
 ghost use Rattle.cs_deps.specs.Staging.{IsSatisfied, staged_after, IsVersionStaged, IsKept, settled};
 ghost use Rattle.cs_deps.specs.View.{pending_of};
-ghost use Rattle.cs_deps.specs.Pending.{Waits, WaitsAt, IsPersistent};
-ghost use Rattle.cs_deps.specs.State.{State, write_of, after, everything, IsNewestOn, IsOut, IsReady, IsWhole, KeepsBytes, KeepsOthers, AddsNone, NoneOn};
+ghost use Rattle.cs_deps.specs.Chain.{IsHeight};
+ghost use Rattle.cs_deps.specs.Pending.{Waits, WaitsAt, Needs, IsPersistent};
+ghost use Rattle.cs_deps.specs.Records.{IsOnPage};
+ghost use Rattle.cs_deps.specs.State.{State, write_of, after, everything, IsNewestOn, IsOut, IsQueue, IsWhole, KeepsBytes, KeepsOthers, AddsNone, AreCounted, NoneOn};
 
 use crate::dependencies::Dependency;
 use crate::elements::Element;
+use crate::levels::{Levels, add_plains, add_versions};
+use crate::records::{Record, clear, give_up, make_room, need_room, record_of};
 use crate::refusals::Refusal;
 use crate::rounds::raise_all;
 use crate::views::GraphView;
 use crate::waiting::{copy_all, elements_of, keep_entries, names_one, needs_of};
-use crate::writes::{keep_writes, make_room, newest_place, place_of, push_both};
+use slab::Slab;
 use std::alloc::{AllocError, Global};
 use std::marker::Model;
 
@@ -32,24 +36,27 @@ pub struct Graph {
     /// What waits in the order of staging, each element with the needs that it was staged with. A version that has become
     /// persistent stays while a later one of its family waits, which needs what it needed.
     entries: Vec<(Element, Dependency)>,
-    /// What waits in the order of staging, each element with its page number and bytes.
-    writes: Vec<(Element, (u64, [u8; 4096]))>,
+    /// The page writes of what stands in the ready queues, under the keys that are kept with the levels.
+    records: Slab<Record>,
     /// The members of the round that is out.
     round: Option<Vec<Element>>,
-    /// So many more entries and writes have their place already.
+    /// So many more entries and records have their place already.
     room: usize,
+    /// The level of each element that waits, and the queue of each level.
+    levels: Levels,
 }
 
 impl Model for Graph {
     ghost use Rattle.std.specs.Prelude.{option_map, vec_len, vec_capacity};
     ghost use Rattle.cs_deps.specs.State.{State};
     ghost use Rattle.cs_deps.specs.Entries.{state_of, IsHeld};
+    ghost use Rattle.cs_deps.specs.Records.{writes_of};
 
     ghost Value = { State };
 
-    ghost view = { λ g. state_of g.persistent.items g.entries.items g.staged g.latest.items (option_map (λ r. r.items) g.round) g.writes.items g.room };
+    ghost view = { λ g. state_of g.persistent.items g.entries.items g.staged g.latest.items (option_map (λ r. r.items) g.round) (writes_of g.records.slots) g.room };
 
-    ghost invariant = { λ g. IsHeld (state_of g.persistent.items g.entries.items g.staged g.latest.items (option_map (λ r. r.items) g.round) g.writes.items g.room) g.entries.items (vec_len g.entries) (vec_capacity g.entries) (vec_len g.writes) (vec_capacity g.writes) };
+    ghost invariant = { λ g. IsHeld (state_of g.persistent.items g.entries.items g.staged g.latest.items (option_map (λ r. r.items) g.round) (writes_of g.records.slots) g.room) g.entries.items (vec_len g.entries) (vec_capacity g.entries) g.records g.levels };
 }
 
 /// The greatest number that is given.
@@ -64,15 +71,17 @@ impl Graph {
         ensures { IfOk result (λ g. g ≡ record { staging = record { pending = record { persistent = persistent.now; waiting = [] }; staged = 0; latest = persistent.now }; round = None; pages = []; room = 0 }) }
     {
         let latest = persistent.to_vec(alloc)?;
+        let levels = Levels::new(alloc, persistent)?;
         let persistent = persistent.to_vec(alloc)?;
         Ok(Graph {
             persistent,
             latest,
             staged: 0,
             entries: Vec::new(alloc),
-            writes: Vec::new(alloc),
+            records: Slab::new(alloc),
             round: None,
             room: 0,
+            levels,
         })
     }
 
@@ -84,7 +93,13 @@ impl Graph {
         ensures rest { self.new ≡ record self.old { room = self.new.room } }
         ensures memory { stagings ≤ self.old.room → IsOk result }
     {
-        let room = make_room(&mut self.entries, &mut self.writes, self.room, stagings)?;
+        let room = make_room(
+            &mut self.entries,
+            &mut self.records,
+            &mut self.levels,
+            self.room,
+            stagings,
+        )?;
         self.room = room;
         Ok(())
     }
@@ -117,17 +132,23 @@ impl Graph {
         if self.staged >= LAST {
             return Err(Refusal::WornOut);
         }
-        let number = self.staged + 1;
-        match push_both(
+        match need_room(
             &mut self.entries,
-            &mut self.writes,
+            &mut self.records,
+            &mut self.levels,
             self.room,
-            (Element::Plain(number), needs),
-            page,
-            bytes,
         ) {
-            Ok(left) => {
-                self.room = left;
+            Ok(made) => {
+                let number = self.staged + 1;
+                let best = self.levels.top(&needs);
+                let key = self.records.insert_reserved(Record {
+                    element: Element::Plain(number),
+                    page,
+                    bytes: *bytes,
+                });
+                self.entries.push_reserved((Element::Plain(number), needs));
+                self.levels.push_plain(self.staged, best, key);
+                self.room = made - 1;
                 self.staged = number;
                 Ok(number)
             }
@@ -171,17 +192,26 @@ impl Graph {
         if before >= LAST {
             return Err(Refusal::WornOut);
         }
-        let version = before + 1;
-        match push_both(
+        match need_room(
             &mut self.entries,
-            &mut self.writes,
+            &mut self.records,
+            &mut self.levels,
             self.room,
-            (Element::Version(family, version), needs),
-            page,
-            bytes,
         ) {
-            Ok(left) => {
-                self.room = left;
+            Ok(made) => {
+                let version = before + 1;
+                let best = self.levels.top(&needs);
+                let kept = self.levels.next_of(family, before, best);
+                clear(&mut self.records, self.levels.replaced(family, kept.level));
+                let key = self.records.insert_reserved(Record {
+                    element: Element::Version(family, version),
+                    page,
+                    bytes: *bytes,
+                });
+                self.entries
+                    .push_reserved((Element::Version(family, version), needs));
+                self.levels.push_version(family, before, kept, key);
+                self.room = made - 1;
                 self.latest[family] = version;
                 Ok(version)
             }
@@ -220,53 +250,73 @@ impl Graph {
         needs_of(alloc, &self.entries, &self.persistent, element)
     }
 
-    /// The bytes of an element's page write, as they were staged. It goes through all that waits, and takes no memory.
+    /// The bytes of an element's page write, as they were staged. It takes no memory and seeks nothing.
     pub fn bytes_of(&self, element: Element) -> Option<&[u8; 4096]>
         ensures bytes { option_copied result ≡ option_map (λ w. w.1) (write_of self.now element) }
         ensures kept { KeepsBytes self.now element → IsSome result }
     {
-        match place_of(&self.writes, element) {
-            Some(k) => Some(&self.writes[k].1.1),
+        match record_of(&self.records, self.levels.kept(element), element) {
+            Some(record) => Some(&record.bytes),
             None => None,
         }
     }
 
-    /// The page that an element's write goes to, as it was staged. It goes through all that waits, and takes no memory.
+    /// The page that an element's write goes to, as it was staged. It takes no memory and seeks nothing.
     pub fn page_of(&self, element: Element) -> Option<u64>
         ensures page { result ≡ option_map (λ w. w.0) (write_of self.now element) }
         ensures kept { KeepsBytes self.now element → IsSome result }
     {
-        match place_of(&self.writes, element) {
-            Some(k) => Some(self.writes[k].1.0),
+        match record_of(&self.records, self.levels.kept(element), element) {
+            Some(record) => Some(record.page),
             None => None,
         }
     }
 
-    /// The bytes of the newest waiting plain write to a page. It goes through all that waits, and takes no memory.
+    /// The bytes of the newest waiting plain write to a page. It goes down the plain writes from the last one to the one that is
+    /// found, or the first that waits, and takes no memory.
     pub fn newest_on(&self, page: u64) -> Option<&[u8; 4096]>
         ensures newest { MatchOption result (NoneOn self.now page) (λ bytes. IsNewestOn self.now page bytes.now) }
         ensures whole { IsWhole self.now }
     {
-        match newest_place(&self.writes, page) {
-            Some(place) => Some(&self.writes[place].1.1),
+        match newest_number(self, page, self.levels.below_plains(), self.staged) {
+            Some(number) => self.bytes_of(Element::Plain(number)),
             None => None,
         }
+    }
+
+    /// Whether a plain write has bytes that go to this page.
+    fn is_on(&self, page: u64, number: u64) -> bool
+        ensures { IsTrue result ↔ IsOnPage self.now page number }
+    {
+        match self.page_of(Element::Plain(number)) {
+            Some(other) => other == page,
+            None => false,
+        }
+    }
+
+    /// How many page writes are kept; where no round is out, one for each plain write that waits, and at each height one for
+    /// each family of which a version waits there. No memory is taken, and nothing is sought.
+    pub fn kept_pages(&self) -> usize
+        ensures { self.now.round ≡ None → AreCounted self.now result }
+    {
+        self.records.len()
     }
 
     /// Takes a round: its members may be written, and it is out until it is settled. It takes no memory.
     pub fn take_round(&mut self, round: Vec<Element>)
         requires none { self.old.round ≡ None }
-        requires ready { IsReady self.old.staging.pending round.items }
+        requires first { IsQueue self.old.staging.pending 1 round.items }
         ensures staging { self.new.staging ≡ self.old.staging }
         ensures round { self.new.round ≡ Some round.items }
         ensures writes { AddsNone self.old self.new }
         ensures room { self.new.room ≡ self.old.room }
     {
+        self.levels.take();
         self.round = Some(round);
     }
 
     /// Puts the round that is out into the persistent set, once its writes have been flushed. Its members and what they
-    /// stand for wait no more, and their bytes go. It compares all that waits with each member, and takes no memory.
+    /// stand for wait no more, and their bytes go. The work is linear in what waits, and it takes no memory.
     pub fn settle_round(&mut self)
         requires out { IsSome self.old.round }
         ensures settled { self.new.staging ≡ record { pending = after self.old; staged = self.old.staging.staged; latest = self.old.staging.latest } }
@@ -276,10 +326,73 @@ impl Graph {
         ensures room { self.new.room ≡ self.old.room }
     {
         if let Some(round) = self.round.take() {
-            keep_writes(&mut self.writes, &round);
+            give_up(&mut self.records, &self.levels, &round);
+            self.levels.settle();
             raise_all(&mut self.persistent, &round);
-            keep_entries(&mut self.entries, &round, &self.persistent, &self.latest);
+            keep_entries(
+                &mut self.entries,
+                &self.levels,
+                &self.persistent,
+                &self.latest,
+            );
         }
+    }
+
+    /// The waiting plain writes of a height, by number, then of each family the greatest version of that height. The work is that of
+    /// listing them.
+    pub fn queue(&self, height: u64) -> Result<Vec<Element>, AllocError>
+        requires none { self.now.round ≡ None }
+        requires height { 1 ≤ height }
+        ensures { IfOk result (λ xs. IsQueue self.now.staging.pending height xs.items) }
+    {
+        let alloc = *self.persistent.allocator();
+        let mut queue = Vec::new(alloc);
+        if (self.levels.rows.len() as u64) < height {
+            return Ok(queue);
+        }
+        let row = self.levels.rows[(height - 1) as usize];
+        let level = self.levels.ended + height;
+        add_plains(&mut queue, &self.levels, level, row.first, self.staged)?;
+        add_versions(&mut queue, &row.versions)?;
+        Ok(queue)
+    }
+
+    /// The height of a waiting element, and a need of it that is one lower, None where the height is 1. It takes no memory and
+    /// seeks nothing.
+    pub fn kept(&self, element: Element) -> (u64, Option<Element>)
+        requires none { self.now.round ≡ None }
+        requires waits { Waits self.now.staging.pending element }
+        ensures height { IsHeight self.now.staging.pending element result.0 }
+        ensures before { IfSome result.1 (λ p. Needs self.now.staging.pending element p × IsHeight self.now.staging.pending p (result.0 - 1)) }
+        ensures first { IsNone result.1 ↔ (result.0 ≡ 1) }
+    {
+        match self.levels.kept(element) {
+            Some(kept) => {
+                let height = kept.level - self.levels.ended;
+                (height, if height == 1 { None } else { kept.before })
+            }
+            None => (1, None),
+        }
+    }
+
+    /// Whether an element waits. It takes no memory and seeks nothing.
+    pub fn waits(&self, element: Element) -> bool
+        requires none { self.now.round ≡ None }
+        ensures { IsTrue result ↔ Waits self.now.staging.pending element }
+    {
+        match self.levels.kept(element) {
+            Some(kept) => self.levels.ended < kept.level,
+            None => false,
+        }
+    }
+
+    /// The greatest height of what waits, 0 where nothing does.
+    pub fn depth(&self) -> usize
+        requires none { self.now.round ≡ None }
+        ensures all { (x : Item) (n : ℕ) → IsHeight self.now.staging.pending x n → n ≤ result }
+        ensures reached { 0 < result → (x : Item) × IsHeight self.now.staging.pending x result }
+    {
+        self.levels.rows.len()
     }
 
     /// How many families there are, 1 to 16.
@@ -313,6 +426,23 @@ impl Graph {
         self.round.is_some()
     }
 
+    /// Whether something waits. It takes no memory.
+    pub fn has_waiting(&self) -> bool
+        ensures { IsTrue result ↔ (self.now.staging.pending.waiting ≢ []) }
+    {
+        !self.entries.is_empty()
+    }
+
+    /// The members of the round that is out, in its order, None where none is. It takes no memory.
+    pub fn round(&self) -> Option<&[Element]>
+        ensures { MatchOption result (self.now.round ≡ None) (λ xs. self.now.round ≡ Some xs.now) }
+    {
+        match &self.round {
+            Some(round) => Some(round.as_slice()),
+            None => None,
+        }
+    }
+
     /// Names all that was staged. It takes memory for one number a family.
     pub fn everything(&self) -> Result<Dependency, AllocError>
         ensures { IfOk result (λ d. d ≡ everything self.now.staging) }
@@ -335,4 +465,18 @@ impl Graph {
     {
         self.is_staged(needs) && !names_one(needs, &self.entries, &self.persistent)
     }
+}
+
+/// The greatest number over `first` and up to `last` of a plain write that goes to this page.
+fn newest_number(graph: &Graph, page: u64, first: u64, last: u64) -> Option<u64>
+    ensures { MatchOption result ((n : ℕ) → first < n → n ≤ last → ¬ IsOnPage graph.now page n) (λ n. IsOnPage graph.now page n × ((m : ℕ) → n < m → m ≤ last → ¬ IsOnPage graph.now page m)) }
+{
+    let mut number = last;
+    while number > first {
+        if graph.is_on(page, number) {
+            return Some(number);
+        }
+        number -= 1;
+    }
+    None
 }

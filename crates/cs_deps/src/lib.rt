@@ -5,13 +5,14 @@ mod dependencies;
 mod elements;
 mod graphs;
 mod laws;
+mod levels;
+mod records;
 mod refusals;
 mod rounds;
 #[cfg(test)]
 mod tests;
 mod views;
 mod waiting;
-mod writes;
 
 pub use dependencies::Dependency;
 pub use elements::Element;

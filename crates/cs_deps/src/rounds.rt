@@ -1,5 +1,5 @@
 //! What a round satisfies.
-ghost use Rattle.std.specs.Prelude.{◌≡◌, ◌<◌, [], ◌∷◌};
+ghost use Rattle.std.specs.Prelude.{◌≡◌, [], ◌∷◌};
 ghost use Rattle.cs_deps.specs.Staging.{stands_for, raised};
 ghost use Rattle.cs_deps.specs.State.{waits_still};
 

@@ -1,11 +1,6 @@
 //! Every public call once: a put of one byte and the root over it, a round of it, and the refusals.
-ghost use Rattle.std.specs.Prelude.{ℕ, IfOk, IsTrue};
-ghost use Rattle.cs_deps.specs.Named.{Named, Names};
-ghost use Rattle.cs_deps.specs.Pending.{IsPersistent, Waits, WaitsAt};
-ghost use Rattle.cs_deps.specs.declared.elements.Element.{Element as Item};
-
 use crate::{Dependency, Element, Graph, Refusal, find};
-use std::alloc::{AllocError, Global};
+use std::alloc::AllocError;
 use std::process::Abort;
 use std::test::Fail;
 
@@ -38,37 +33,15 @@ fn one_put(rt: &(impl Abort + AllocGlobal)) -> Result<Graph, Fail> {
     Ok(graph)
 }
 
-/// Whether an element waits and all that it needs is persistent.
-fn may_be_taken(graph: &Graph, element: Element) -> Result<bool, AllocError>
-    ensures waits { IfOk result (λ ready. IsTrue ready → Waits graph.now.staging.pending element) }
-    ensures satisfied { IfOk result (λ ready. IsTrue ready → (k : ℕ) (y : Item) (d : Named) → WaitsAt graph.now.staging.pending k element d → Names d y → IsPersistent graph.now.staging.pending y) }
-{
-    let _view = graph.view()?;
-    match graph.needs_of(element)? {
-        Some(needs) => Ok(graph.is_persistent(&needs)),
-        None => Ok(false),
+/// Takes what waits at height 1 as a round, and tells how many these are.
+fn take_first(graph: &mut Graph) -> Result<usize, AllocError> {
+    if graph.is_out() {
+        return Ok(0);
     }
-}
-
-/// Takes two elements as a round, where they may be taken.
-fn take_two(
-    graph: &mut Graph,
-    alloc: Global,
-    first: Element,
-    second: Element,
-) -> Result<bool, AllocError> {
-    if graph.is_out() || first.is_same(second) {
-        return Ok(false);
-    }
-    if !may_be_taken(graph, first)? {
-        return Ok(false);
-    }
-    if !may_be_taken(graph, second)? {
-        return Ok(false);
-    }
-    let round = vec![in alloc; first, second]?;
+    let round = graph.queue(1)?;
+    let count = round.len();
     graph.take_round(round);
-    Ok(true)
+    Ok(count)
 }
 
 #[test]
@@ -93,6 +66,8 @@ fn what_waits(rt: HostRuntime) -> Result<(), Fail> {
     if graph.families() == 2 {
         assert_eq!(rt; graph.last_version(0), 3);
     }
+    assert_eq!(rt; graph.kept_pages(), 4);
+    assert!(rt; graph.bytes_of(Element::Version(0, 2)).is_none());
     Ok(())
 }
 
@@ -104,8 +79,8 @@ fn a_round(rt: HostRuntime) -> Result<(), Fail> {
     let writes = Dependency::through(alloc, 2);
     assert!(rt; graph.is_staged(&all));
     assert!(rt; !graph.is_persistent(&writes));
-    assert!(rt; !take_two(&mut graph, alloc, Element::Plain(1), Element::Version(0, 2))?);
-    assert!(rt; take_two(&mut graph, alloc, Element::Plain(1), Element::Plain(2))?);
+    assert_eq!(rt; take_first(&mut graph)?, 2);
+    assert_eq!(rt; take_first(&mut graph)?, 0);
     assert!(rt; !graph.is_persistent(&writes));
     if graph.is_out() {
         graph.settle_round();
@@ -113,6 +88,40 @@ fn a_round(rt: HostRuntime) -> Result<(), Fail> {
     assert!(rt; graph.is_persistent(&writes));
     assert!(rt; !graph.is_persistent(&all));
     assert!(rt; graph.bytes_of(Element::Plain(1)).is_none());
+    assert_eq!(rt; graph.kept_pages(), 2);
+    assert!(rt; graph.has_waiting());
+    Ok(())
+}
+
+/// A version that is staged while one of its family is in the round that is out leaves that one's bytes.
+#[test]
+fn a_version_beside_the_round(rt: HostRuntime) -> Result<(), Fail> {
+    let alloc = rt.alloc();
+    let mut graph = Graph::new(alloc, &[1])?;
+    assert_eq!(rt; graph.families(), 1);
+    assert_eq!(rt;
+        graph.stage_version(0, 0, &[2; 4096], Dependency::none(alloc)),
+        Ok(2)
+    );
+    assert_eq!(rt; take_first(&mut graph)?, 1);
+    assert!(rt; matches!(graph.round(), Some(round) if round.len() == 1));
+    assert_eq!(rt; graph.families(), 1);
+    assert_eq!(rt;
+        graph.stage_version(0, 0, &[3; 4096], Dependency::none(alloc)),
+        Ok(3)
+    );
+    assert_eq!(rt; graph.families(), 1);
+    assert_eq!(rt;
+        graph.stage_version(0, 0, &[4; 4096], Dependency::none(alloc)),
+        Ok(4)
+    );
+    assert!(rt; matches!(graph.bytes_of(Element::Version(0, 2)), Some(bytes) if bytes[0] == 2));
+    assert!(rt; matches!(graph.bytes_of(Element::Version(0, 4)), Some(bytes) if bytes[0] == 4));
+    assert_eq!(rt; graph.kept_pages(), 2);
+    if graph.is_out() {
+        graph.settle_round();
+    }
+    assert_eq!(rt; graph.kept_pages(), 1);
     Ok(())
 }
 

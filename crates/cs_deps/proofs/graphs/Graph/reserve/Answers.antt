@@ -1,10 +1,34 @@
+use Rattle.std.proofs.Common.{◌≡◌, ap, arith, subst, sym}
+use Rattle.slab.specs.Slab.{Slab, get}
+use Rattle.cs_deps.specs.contracts.graphs.Graph.{the_view}
+use Rattle.cs_deps.specs.declared.records.Record.{Record}
+use Rattle.cs_deps.specs.Records.{writes_of}
+use Rattle.cs_deps.proofs.FiledSteps.{filed_same, room_same}
+use Rattle.cs_deps.proofs.Queues.{indexed_same}
 use Rattle.cs_deps.proofs.graphs.Graph.reserve.Goals as goal
 
 pub invariant_of-self-2 : goal.invariant_of-self-2
-invariant_of-self-2 c = rw (c.in_ok-room.ensures.entries, c.in_ok-room.ensures.writes) (record {
-  whole = record { kept = c.self.invariant.whole.kept; out = c.self.invariant.whole.out; writes = c.self.invariant.whole.writes };
-  current = c.self.invariant.current;
-  plains = c.self.invariant.plains;
-  entries_fit = c.in_ok-room.ensures.entries_fit;
-  writes_fit = c.in_ok-room.ensures.writes_fit;
-})
+invariant_of-self-2 c =
+    let g = c.self.inside in
+    let e = c.make_room.ensures in
+    rw (c.in_ok-room.ensures.entries) (record {
+      whole = record { kept = c.self.invariant.whole.kept; out = c.self.invariant.whole.out };
+      current = c.self.invariant.current;
+      filed = filed_same g.levels c.make_room.new.levels g.records c.make_room.new.records c.self.invariant.filed e.levels (λ key. ap (λ (r : Slab Record). get r key) e.records);
+      entries_fit = c.in_ok-room.ensures.entries_fit;
+      records_fit = c.in_ok-room.ensures.records_fit;
+      indexed = indexed_same (the_view g) g.levels c.self.invariant.indexed c.make_room.new.levels e.levels (writes_of c.make_room.new.records.slots) c.in_ok-room.room c.in_ok-room.ensures.levels_fit;
+    })
+
+pub invariant_of-self : goal.invariant_of-self
+invariant_of-self c =
+    let g = c.self.inside in
+    let e = c.make_room.ensures in
+    rw (e.entries) (record {
+      whole = record { kept = c.self.invariant.whole.kept; out = c.self.invariant.whole.out };
+      current = c.self.invariant.current;
+      filed = filed_same g.levels c.make_room.new.levels g.records c.make_room.new.records c.self.invariant.filed e.levels (λ key. ap (λ (r : Slab Record). get r key) e.records);
+      entries_fit = omega (arith, c.self.invariant.entries_fit, e.entry_count, e.more_entries);
+      records_fit = room_same g.records c.make_room.new.records e.records e.more_records g.room c.self.invariant.records_fit;
+      indexed = indexed_same (the_view g) g.levels c.self.invariant.indexed c.make_room.new.levels e.levels (writes_of c.make_room.new.records.slots) g.room (e.levels.room g.room c.self.invariant.indexed.room);
+    })

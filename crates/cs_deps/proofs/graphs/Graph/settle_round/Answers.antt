@@ -1,15 +1,19 @@
-use Rattle.std.proofs.Common.{◌≡◌, ◌∙◌, List, Some, sym, ap, arith}
+use Rattle.std.proofs.Common.{◌≡◌, ◌∙◌, ℕ, List, Some, inl, sym, ap, arith}
 use Rattle.std.specs.Prelude.{filter, option_map}
 use Rattle.cs_deps.specs.declared.elements.Element.{Element}
 use Rattle.cs_deps.specs.Named.{Named}
 use Rattle.cs_deps.specs.Pending.{Pending}
 use Rattle.cs_deps.specs.contracts.graphs.Graph.{the_view}
+use Rattle.cs_deps.specs.Records.{writes_of}
 use Rattle.cs_deps.specs.State.{State, after_round}
 use Rattle.cs_deps.specs.Staging.{Staging, raised}
 use Rattle.cs_deps.specs.Entries.{entry_stays}
-use Rattle.cs_deps.proofs.StateSteps.{settled_round_adds, last_left_was}
+use Rattle.cs_deps.proofs.StateSteps.{settled_round_adds}
 use Rattle.cs_deps.proofs.Entries.{whole_left, current_settled, waiting_settled}
-use Rattle.cs_deps.proofs.Newest.{plains_left}
+use Rattle.cs_deps.proofs.Filed.{less_kept}
+use Rattle.cs_deps.proofs.FiledSteps.{filed_settled}
+use Rattle.cs_deps.proofs.Held.{indexed_left}
+use Rattle.cs_deps.proofs.LeftOver.{entries_left}
 use Rattle.cs_deps.proofs.graphs.Graph.settle_round.Goals as goal
 
 pub invariant_of-self : goal.invariant_of-self
@@ -18,14 +22,19 @@ invariant_of-self c =
     let s : State = the_view g in
     let round : List Element = c.in-Some.round.items in
     let out : s.round ≡ Some round = ap (option_map (λ r. r.items)) (sym c.take.ensures.value ∙ c.in-Some.is) in
+    let ix = c.self.invariant.indexed in
     let persistent : c.raise_all.new.versions.items ≡ raised g.persistent.items round = rw c.deref-in-Some.ensures.value at c.raise_all.ensures in
-    let entries : c.keep_entries.new.entries.items ≡ filter (λ w. entry_stays round (raised g.persistent.items round) g.latest.items w.0) g.entries.items = rw (c.deref-in-Some-2.ensures.value, c.deref-in-Some-3.ensures.value, persistent, c.deref-in-Some-4.ensures.value) at c.keep_entries.ensures.items in
-    rw (persistent, entries, c.keep_writes.ensures.items, c.deref.ensures.value, c.take.ensures.after) (record {
-      whole = whole_left g.persistent.items g.entries.items g.staged g.latest.items s.round g.writes.items g.room round c.self.invariant.whole c.self.invariant.current out;
+    let entries : c.keep_entries.new.entries.items ≡ filter (λ w. entry_stays round (raised g.persistent.items round) g.latest.items w.0) g.entries.items = (rw (c.deref-in-Some-2.ensures.value, persistent, c.deref-in-Some-3.ensures.value) at c.keep_entries.ensures.items) ∙ entries_left g.persistent.items g.entries.items g.staged g.latest.items s.round (writes_of g.records.slots) g.room c.self.invariant.whole g.levels ix c.settle.new.self c.settle.ensures.none c.settle.ensures.one round out (raised g.persistent.items round) in
+    let given = rw c.deref.ensures.value at c.give_up.ensures in
+    let filed = filed_settled s g.levels c.settle.new.self ix g.records c.give_up.new.records c.self.invariant.filed c.settle.ensures.none c.settle.ensures.one round out given.less given.gone given.rest in
+    let now = writes_of c.give_up.new.records.slots in
+    rw (persistent, entries, c.take.ensures.after) (record {
+      whole = whole_left g.persistent.items g.entries.items g.staged g.latest.items s.round (writes_of g.records.slots) g.room round c.self.invariant.whole c.self.invariant.current out now;
       current = current_settled g.persistent.items g.latest.items g.entries.items c.self.invariant.current c.self.invariant.whole.kept.families round;
-      plains = plains_left g.persistent.items g.entries.items g.staged g.latest.items s.round g.writes.items g.room c.self.invariant.whole c.self.invariant.current c.self.invariant.plains round;
+      filed = filed;
       entries_fit = omega (arith, c.self.invariant.entries_fit, c.keep_entries.ensures.count, c.keep_entries.ensures.capacity);
-      writes_fit = omega (arith, c.self.invariant.writes_fit, c.keep_writes.ensures.count, c.keep_writes.ensures.capacity);
+      records_fit = omega (arith, c.self.invariant.records_fit, c.give_up.ensures.count, c.give_up.ensures.capacity);
+      indexed = indexed_left g.persistent.items g.entries.items g.staged g.latest.items s.round (writes_of g.records.slots) g.room c.self.invariant.whole c.self.invariant.current g.levels ix c.settle.new.self c.settle.ensures.none c.settle.ensures.one round out now;
     })
 
 pub returns-in-Some-clause-settled : goal.returns-in-Some-clause-settled
@@ -34,8 +43,9 @@ returns-in-Some-clause-settled c =
     let s : State = the_view g in
     let round : List Element = c.in-Some.round.items in
     let out : s.round ≡ Some round = ap (option_map (λ r. r.items)) (sym c.take.ensures.value ∙ c.in-Some.is) in
+    let ix = c.self.invariant.indexed in
     let persistent : c.raise_all.new.versions.items ≡ raised g.persistent.items round = rw c.deref-in-Some.ensures.value at c.raise_all.ensures in
-    let entries : c.keep_entries.new.entries.items ≡ filter (λ w. entry_stays round (raised g.persistent.items round) g.latest.items w.0) g.entries.items = rw (c.deref-in-Some-2.ensures.value, c.deref-in-Some-3.ensures.value, persistent, c.deref-in-Some-4.ensures.value) at c.keep_entries.ensures.items in
+    let entries : c.keep_entries.new.entries.items ≡ filter (λ w. entry_stays round (raised g.persistent.items round) g.latest.items w.0) g.entries.items = (rw (c.deref-in-Some-2.ensures.value, persistent, c.deref-in-Some-3.ensures.value) at c.keep_entries.ensures.items) ∙ entries_left g.persistent.items g.entries.items g.staged g.latest.items s.round (writes_of g.records.slots) g.room c.self.invariant.whole g.levels ix c.settle.new.self c.settle.ensures.none c.settle.ensures.one round out (raised g.persistent.items round) in
     let left = waiting_settled g.persistent.items g.latest.items g.entries.items c.self.invariant.current c.self.invariant.whole.kept.families round in
     let joined : List (Element × Named) → Staging = λ ws. record { pending = record { persistent = raised g.persistent.items round; waiting = ws }; staged = g.staged; latest = g.latest.items } in
     let then : Pending → Staging = λ p. record { pending = p; staged = g.staged; latest = g.latest.items } in
@@ -47,11 +57,19 @@ returns-in-Some-clause-adds c =
     let s : State = the_view g in
     let round : List Element = c.in-Some.round.items in
     let out : s.round ≡ Some round = ap (option_map (λ r. r.items)) (sym c.take.ensures.value ∙ c.in-Some.is) in
+    let ix = c.self.invariant.indexed in
     let persistent : c.raise_all.new.versions.items ≡ raised g.persistent.items round = rw c.deref-in-Some.ensures.value at c.raise_all.ensures in
-    let entries : c.keep_entries.new.entries.items ≡ filter (λ w. entry_stays round (raised g.persistent.items round) g.latest.items w.0) g.entries.items = rw (c.deref-in-Some-2.ensures.value, c.deref-in-Some-3.ensures.value, persistent, c.deref-in-Some-4.ensures.value) at c.keep_entries.ensures.items in
+    let entries : c.keep_entries.new.entries.items ≡ filter (λ w. entry_stays round (raised g.persistent.items round) g.latest.items w.0) g.entries.items = (rw (c.deref-in-Some-2.ensures.value, persistent, c.deref-in-Some-3.ensures.value) at c.keep_entries.ensures.items) ∙ entries_left g.persistent.items g.entries.items g.staged g.latest.items s.round (writes_of g.records.slots) g.room c.self.invariant.whole g.levels ix c.settle.new.self c.settle.ensures.none c.settle.ensures.one round out (raised g.persistent.items round) in
     let left = waiting_settled g.persistent.items g.latest.items g.entries.items c.self.invariant.current c.self.invariant.whole.kept.families round in
     rw (← c.self.view_is, persistent, entries, left) (settled_round_adds s c.self.invariant.whole round out)
 
 pub returns-in-Some-clause-writes : goal.returns-in-Some-clause-writes
 returns-in-Some-clause-writes c =
-    rw (← c.self.view_is, c.keep_writes.ensures.items, c.deref.ensures.value) (λ y w h. last_left_was c.in-Some.round.items y w c.self.inside.writes.items h)
+    let g = c.self.inside in
+    let s : State = the_view g in
+    let round : List Element = c.in-Some.round.items in
+    let out : s.round ≡ Some round = ap (option_map (λ r. r.items)) (sym c.take.ensures.value ∙ c.in-Some.is) in
+    let ix = c.self.invariant.indexed in
+    let given = rw c.deref.ensures.value at c.give_up.ensures in
+    let filed = filed_settled s g.levels c.settle.new.self ix g.records c.give_up.new.records c.self.invariant.filed c.settle.ensures.none c.settle.ensures.one round out given.less given.gone given.rest in
+    rw (← c.self.view_is) (less_kept g.levels c.settle.new.self g.records c.give_up.new.records c.self.invariant.filed filed given.less)

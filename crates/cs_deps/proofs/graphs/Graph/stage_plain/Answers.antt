@@ -1,38 +1,109 @@
-use Rattle.std.proofs.Common.{◌∙◌, ◌+◌, List, None, sym, ap}
-use Rattle.std.specs.Prelude.{option_map}
+use Rattle.std.proofs.Common.{◌∙◌, ◌+◌, ◌++◌, ◌∷◌, ◌≡◌, ◌≢◌, [], List, Some, None, ℕ, refl, sym, ap, arith, subst, inl, inr, ⊎_elim}
+use Rattle.std.specs.Prelude.{option_map, ◌-◌}
+use Rattle.slab.specs.Slab.{Slab, get}
 use Rattle.cs_deps.specs.declared.elements.Element.{Element}
 use Rattle.cs_deps.specs.declared.elements.Element.TheVariants.{Plain}
+use Rattle.cs_deps.specs.declared.records.Record.{Record}
 use Rattle.cs_deps.specs.Named.{Named}
 use Rattle.cs_deps.specs.Staging.{Staging}
-use Rattle.cs_deps.specs.State.{last_write}
+use Rattle.cs_deps.specs.Records.{writes_of, AreFiled}
 use Rattle.cs_deps.specs.Entries.{waiting_of}
+use Rattle.cs_deps.specs.Levels.{HasRoom, IsPlainPushed}
+use Rattle.cs_deps.specs.contracts.graphs.Graph.{the_view}
+use Rattle.cs_deps.proofs.Filed.{record_write, others_kept}
+use Rattle.cs_deps.proofs.FiledSteps.{filed_same}
+use Rattle.cs_deps.proofs.Queues.{indexed_same}
+use Rattle.std.proofs.lemmas.Option.{same_Some}
+use Rattle.cs_deps.proofs.Settled.{same_family}
 use Rattle.cs_deps.proofs.Kept.{not_false}
-use Rattle.cs_deps.proofs.StateSteps.{last_of_new, last_of_others}
 use Rattle.cs_deps.proofs.Entries.{whole_plain, current_plain, waiting_plain}
-use Rattle.cs_deps.proofs.Newest.{plains_plain}
+use Rattle.cs_deps.proofs.Held.{indexed_with_plain, filed_with_plain, high_enough}
 use Rattle.cs_deps.proofs.graphs.Graph.stage_plain.Goals as goal
 
 pub invariant_of-self : goal.invariant_of-self
 invariant_of-self c =
     let g = c.self.inside in
     let says = rw (← c.self.view_is) at c.is_staged.ensures in
-    rw (c.in-Ok.ensures.ok, c.in-Ok.ensures.written) (record {
-      whole = whole_plain g.persistent.items g.entries.items g.staged g.latest.items (option_map (λ r. r.items) g.round) g.writes.items g.room c.in-Ok.left c.args.needs (c.args.page, c.args.bytes.now) c.self.invariant.whole (says.0 (not_false c.is_staged.result c.if-not-is_staged.false));
+    let within = says.0 (not_false c.is_staged.result c.if-not-is_staged.false) in
+    let e = c.in-Ok.ensures in
+    let r : Record = record { element = Plain (g.staged + 1); page = c.args.page; bytes = c.args.bytes.now } in
+    let mid = filed_same g.levels c.need_room.new.levels g.records c.need_room.new.records c.self.invariant.filed e.levels (λ key. ap (λ (r : Slab Record). get r key) e.records) in
+    let key = c.insert_reserved-key.ensures in
+    let filed = filed_with_plain g.persistent.items g.entries.items g.staged g.latest.items (option_map (λ r. r.items) g.round) (writes_of g.records.slots) g.room c.self.invariant.whole g.levels c.self.invariant.indexed c.need_room.new.levels e.levels c.in-Ok.made e.levels_fit c.args.needs within c.top-best.result.level c.top-best.result.before c.top-best.ensures c.insert_reserved-key.result c.push_plain.new.self c.push_plain.ensures.pushed c.need_room.new.records c.insert_reserved-key.new.self mid key.was_vacant r key.updates refl in
+    let made = c.in-Ok.made in
+    let now = writes_of c.insert_reserved-key.new.self.slots in
+    let fits : HasRoom c.push_plain.new.self (made - 1) = (let n : made - 1 + 1 ≡ made = omega (arith, c.in-Ok.ensures.some) in c.push_plain.ensures.room (made - 1) (subst (HasRoom c.need_room.new.levels) (sym n) c.in-Ok.ensures.levels_fit)) in
+    rw (c.push_reserved.ensures.items, c.in-Ok.ensures.entries) (record {
+      whole = whole_plain g.persistent.items g.entries.items g.staged g.latest.items (option_map (λ r. r.items) g.round) (writes_of g.records.slots) g.room (made - 1) c.args.needs now c.self.invariant.whole within;
       current = current_plain g.persistent.items g.latest.items g.entries.items (g.staged + 1) c.args.needs c.self.invariant.current;
-      plains = plains_plain g.persistent.items g.entries.items g.staged g.latest.items (option_map (λ r. r.items) g.round) g.writes.items g.room c.self.invariant.whole c.self.invariant.current c.self.invariant.plains c.in-Ok.left c.args.needs (c.args.page, c.args.bytes.now);
-      entries_fit = c.in-Ok.ensures.entries_fit;
-      writes_fit = c.in-Ok.ensures.writes_fit;
+      filed = filed;
+      entries_fit = omega (arith, c.in-Ok.ensures.entries_fit, c.in-Ok.ensures.some, c.push_reserved.ensures.len, c.push_reserved.ensures.capacity);
+      records_fit = omega (arith, c.in-Ok.ensures.records_fit, c.in-Ok.ensures.some, c.insert_reserved-key.ensures.len, c.insert_reserved-key.ensures.capacity);
+      indexed = indexed_with_plain g.persistent.items g.entries.items g.staged g.latest.items (option_map (λ r. r.items) g.round) (writes_of g.records.slots) g.room c.self.invariant.whole g.levels c.self.invariant.indexed c.need_room.new.levels c.in-Ok.ensures.levels made c.in-Ok.ensures.levels_fit c.args.needs within c.top-best.result.level c.top-best.result.before c.top-best.ensures c.insert_reserved-key.result c.push_plain.new.self c.push_plain.ensures.pushed now (made - 1) fits;
     })
 
 pub returns-in-Ok-clause-staged : goal.returns-in-Ok-clause-staged
 returns-in-Ok-clause-staged c =
     let g = c.self.inside in
     let now : List (Element × Named) → Staging = λ ws. record { pending = record { persistent = g.persistent.items; waiting = ws }; staged = g.staged + 1; latest = g.latest.items } in
-    rw (← c.self.view_is) (ap now (ap (waiting_of g.persistent.items) c.in-Ok.ensures.ok ∙ waiting_plain g.persistent.items g.entries.items (g.staged + 1) c.args.needs))
+    rw (← c.self.view_is) (ap now (ap (waiting_of g.persistent.items) (c.push_reserved.ensures.items ∙ ap (λ es. es ++ (Plain (g.staged + 1), c.args.needs) ∷ []) c.in-Ok.ensures.entries) ∙ waiting_plain g.persistent.items g.entries.items (g.staged + 1) c.args.needs))
 
 pub returns-in-Ok-clause-write : goal.returns-in-Ok-clause-write
-returns-in-Ok-clause-write c = ap (λ ws. last_write (Plain (c.self.inside.staged + 1)) None ws) c.in-Ok.ensures.written ∙ last_of_new (Plain (c.self.inside.staged + 1)) (c.args.page, c.args.bytes.now) c.self.inside.writes.items
+returns-in-Ok-clause-write c =
+    let g = c.self.inside in
+    let says = rw (← c.self.view_is) at c.is_staged.ensures in
+    let within = says.0 (not_false c.is_staged.result c.if-not-is_staged.false) in
+    let e = c.in-Ok.ensures in
+    let r : Record = record { element = Plain (g.staged + 1); page = c.args.page; bytes = c.args.bytes.now } in
+    let mid = filed_same g.levels c.need_room.new.levels g.records c.need_room.new.records c.self.invariant.filed e.levels (λ key. ap (λ (r : Slab Record). get r key) e.records) in
+    let key = c.insert_reserved-key.ensures in
+    let filed = filed_with_plain g.persistent.items g.entries.items g.staged g.latest.items (option_map (λ r. r.items) g.round) (writes_of g.records.slots) g.room c.self.invariant.whole g.levels c.self.invariant.indexed c.need_room.new.levels e.levels c.in-Ok.made e.levels_fit c.args.needs within c.top-best.result.level c.top-best.result.before c.top-best.ensures c.insert_reserved-key.result c.push_plain.new.self c.push_plain.ensures.pushed c.need_room.new.records c.insert_reserved-key.new.self mid key.was_vacant r key.updates refl in
+    record_write c.push_plain.new.self c.insert_reserved-key.new.self filed c.insert_reserved-key.result r key.updates.changed
 
 pub returns-in-Ok-clause-others : goal.returns-in-Ok-clause-others
 returns-in-Ok-clause-others c =
-    rw (← c.self.view_is) (λ y w h. last_of_others (Plain (c.self.inside.staged + 1)) y (c.args.page, c.args.bytes.now) w c.self.inside.writes.items (ap (λ ws. last_write y None ws) (sym c.in-Ok.ensures.written) ∙ h))
+    let g = c.self.inside in
+    let says = rw (← c.self.view_is) at c.is_staged.ensures in
+    let within = says.0 (not_false c.is_staged.result c.if-not-is_staged.false) in
+    let e = c.in-Ok.ensures in
+    let r : Record = record { element = Plain (g.staged + 1); page = c.args.page; bytes = c.args.bytes.now } in
+    let mid = filed_same g.levels c.need_room.new.levels g.records c.need_room.new.records c.self.invariant.filed e.levels (λ key. ap (λ (r : Slab Record). get r key) e.records) in
+    let key = c.insert_reserved-key.ensures in
+    let filed = filed_with_plain g.persistent.items g.entries.items g.staged g.latest.items (option_map (λ r. r.items) g.round) (writes_of g.records.slots) g.room c.self.invariant.whole g.levels c.self.invariant.indexed c.need_room.new.levels e.levels c.in-Ok.made e.levels_fit c.args.needs within c.top-best.result.level c.top-best.result.before c.top-best.ensures c.insert_reserved-key.result c.push_plain.new.self c.push_plain.ensures.pushed c.need_room.new.records c.insert_reserved-key.new.self mid key.was_vacant r key.updates refl in
+    rw (← c.self.view_is) (others_kept g.levels c.push_plain.new.self g.records c.insert_reserved-key.new.self c.self.invariant.filed filed (Plain (g.staged + 1)) (λ other u at. ⊎_elim
+    (λ (o : other ≡ c.insert_reserved-key.result). inr (ap (λ (w : Record). w.element) (same_Some u r (sym at ∙ ap (get c.insert_reserved-key.new.self) o ∙ key.updates.changed))))
+    (λ (ne : other ≢ c.insert_reserved-key.result). inl (ap (λ (r : Slab Record). get r other) (sym e.records) ∙ sym (key.updates.others other ne) ∙ at))
+    (same_family c.insert_reserved-key.result other)))
+
+pub push_plain-requires-clause-high : goal.push_plain-requires-clause-high
+push_plain-requires-clause-high c =
+    let g = c.self.inside in
+    let says = rw (← c.self.view_is) at c.is_staged.ensures in
+    let within = says.0 (not_false c.is_staged.result c.if-not-is_staged.false) in
+    high_enough g.persistent.items g.entries.items g.staged g.latest.items (option_map (λ r. r.items) g.round) (writes_of g.records.slots) g.room c.self.invariant.whole g.levels c.self.invariant.indexed c.need_room.new.levels c.in-Ok.ensures.levels c.in-Ok.made c.in-Ok.ensures.levels_fit c.args.needs within c.top-best.result.level c.top-best.result.before c.top-best.ensures
+
+pub invariant_of-self-in-Err : goal.invariant_of-self-in-Err
+invariant_of-self-in-Err c =
+    let g = c.self.inside in
+    let e = c.need_room.ensures in
+    rw (e.entries) (record {
+      whole = record { kept = c.self.invariant.whole.kept; out = c.self.invariant.whole.out };
+      current = c.self.invariant.current;
+      filed = filed_same g.levels c.need_room.new.levels g.records c.need_room.new.records c.self.invariant.filed e.levels (λ key. ap (λ (r : Slab Record). get r key) e.records);
+      entries_fit = e.entry_room;
+      records_fit = e.record_room;
+      indexed = indexed_same (the_view g) g.levels c.self.invariant.indexed c.need_room.new.levels e.levels (writes_of c.need_room.new.records.slots) g.room e.level_room;
+    })
+
+pub invariant_of-self-in-Err-2 : goal.invariant_of-self-in-Err-2
+invariant_of-self-in-Err-2 c =
+    let g = c.self.inside in
+    let e = c.need_room.ensures in
+    rw (e.entries) (record {
+      whole = record { kept = c.self.invariant.whole.kept; out = c.self.invariant.whole.out };
+      current = c.self.invariant.current;
+      filed = filed_same g.levels c.need_room.new.levels g.records c.need_room.new.records c.self.invariant.filed e.levels (λ key. ap (λ (r : Slab Record). get r key) e.records);
+      entries_fit = e.entry_room;
+      records_fit = e.record_room;
+      indexed = indexed_same (the_view g) g.levels c.self.invariant.indexed c.need_room.new.levels e.levels (writes_of c.need_room.new.records.slots) g.room e.level_room;
+    })

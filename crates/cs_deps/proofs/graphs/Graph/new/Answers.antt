@@ -1,0 +1,23 @@
+use Rattle.std.proofs.Common.{◌≡◌, ◌∙◌, ◌+◌, ℕ, List, [], Option, Some, None, refl, arith, subst, sym, ap, get_or}
+use Rattle.cs_deps.specs.declared.records.Record.{Record}
+use Rattle.cs_deps.specs.Entries.{state_of}
+use Rattle.cs_deps.specs.Records.{writes_of}
+use Rattle.cs_deps.proofs.FiledSteps.{filed_new, room_new}
+use Rattle.cs_deps.proofs.StateSteps.{whole_new}
+use Rattle.cs_deps.proofs.Queues.{indexed_new}
+use Rattle.cs_deps.proofs.graphs.Graph.new.Goals as goal
+
+pub invariant_of-result : goal.invariant_of-result
+invariant_of-result c =
+    let ps = c.args.persistent.now in
+    let p = c.in_ok-persistent.ensures.items_if_clones_equal (λ x y e. e) in
+    let l = c.in_ok-latest.ensures.items_if_clones_equal (λ x y e. e) in
+    let none = c.new-3.ensures.empty in
+    rw (p, l, c.new-2.ensures.items) (record {
+      whole = whole_new ps (writes_of c.new-3.result.slots);
+      current = λ k f v d at. absurd (cc at);
+      filed = filed_new ps c.in_ok-levels.levels c.in_ok-levels.ensures c.new-3.result none;
+      entries_fit = omega (arith, c.new-2.ensures.len);
+      records_fit = room_new c.new-3.result none;
+      indexed = indexed_new ps c.in_ok-levels.levels c.in_ok-levels.ensures (omega (arith, c.requires.families.1)) (writes_of c.new-3.result.slots);
+    })

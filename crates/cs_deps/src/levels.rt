@@ -1,0 +1,618 @@
+//! Levels that are kept as elements are staged, and the ready queue of each level.
+
+ghost use Rattle.std.specs.Prelude.{nat_lt, IsTrue, IsOk, IfOk, IfSome, OnOk, None, ◌≡◌, ◌==◌, [], ◌∷◌, ◌++◌, ◌^◌, if◌then◌else◌, ℕ, ◌+◌, ◌≤◌, ◌<◌, ◌⊎◌, All, Some, Contains, length, max, option_map, slice_index, vec_len, vec_capacity};
+ghost use Rattle.cs_deps.specs.declared.elements.Element.{Element as Item};
+ghost use Rattle.cs_deps.specs.declared.levels.Kept.{Kept as KeptOf};
+ghost use Rattle.cs_deps.specs.Levels.{kept_in, kept_by, family_at, level_by, level_of, no_row, row_at, IsBest, HasRoom, with_next, keyed, next_plain, next_version, with_plain, with_version, IsPlainPushed, IsVersionPushed, IsNew, IsSameBut, IsLevelsSettled, AreLinked, ArePlainsListed, AreVersionsListed};
+
+use crate::dependencies::{Dependency, version_at};
+use crate::elements::Element;
+use std::alloc::{AllocError, Global};
+
+/// The last level that may be given.
+const LIMIT: u64 = 0x8000_0000_0000_0000;
+
+/// What is kept of one element.
+#[derive(Clone, Copy)]
+pub struct Kept {
+    /// Its height over the rounds that were taken before.
+    pub level: u64,
+    /// A need that is one level lower, None where nothing that it needed waited.
+    pub before: Option<Element>,
+    /// Of a plain write the next one of its level, 0 where there is none.
+    pub next: u64,
+    /// The greatest level of the plain writes up to this one, and the least that has it.
+    pub top: u64,
+    pub least: u64,
+    /// Under which its page write was put; of the versions of one level only the greatest has its own still.
+    pub key: usize,
+}
+
+/// The ready queue of a level: its first and last plain write, 0 where there is none, and of each family its greatest version, 0
+/// where there is none.
+#[derive(Clone, Copy)]
+pub struct Row {
+    pub first: u64,
+    pub last: u64,
+    pub versions: [u64; 16],
+}
+
+/// A level, and an element that has it.
+#[derive(Clone, Copy)]
+pub struct Best {
+    pub level: u64,
+    pub before: Option<Element>,
+}
+
+/// The levels of what waits.
+#[derive(Drop)]
+pub struct Levels {
+    /// Rounds ended that had a member.
+    pub ended: u64,
+    /// The same, and one while such a round is out.
+    pub base: u64,
+    /// What is kept of the plain writes, by number, from the one after `dropped` on.
+    pub plains: Vec<Kept>,
+    pub dropped: u64,
+    /// What is kept of the versions of each family, by number, from the one after its `starts` on.
+    pub versions: Vec<Vec<Kept>>,
+    pub starts: Vec<u64>,
+    /// Ready queues, from the level after `ended` on.
+    pub rows: Vec<Row>,
+}
+
+/// What is kept at a number.
+pub fn kept_at(list: &[Kept], start: u64, number: u64) -> Option<Kept>
+    ensures { result ≡ kept_in list.now start number }
+{
+    if number <= start {
+        return None;
+    }
+    let place = number - start - 1;
+    if place < list.len() as u64 {
+        Some(list[place as usize])
+    } else {
+        None
+    }
+}
+
+/// The level that is kept, 0 where nothing is.
+fn level_at(kept: Option<Kept>) -> u64
+    ensures { result ≡ level_of kept }
+{
+    match kept {
+        Some(kept) => kept.level,
+        None => 0,
+    }
+}
+
+/// An empty queue.
+fn no_row() -> Row
+    ensures { result ≡ no_row }
+{
+    Row {
+        first: 0,
+        last: 0,
+        versions: [0; 16],
+    }
+}
+
+/// The higher of two.
+fn better(best: Best, level: u64, element: Element) -> Best
+    ensures low { best.level ≤ result.level }
+    ensures above { level ≤ result.level }
+    ensures reached { (result ≡ best) ⊎ ((result.level ≡ level) × (result.before ≡ Some element) × (0 < level)) }
+{
+    if best.level < level {
+        Best {
+            level,
+            before: Some(element),
+        }
+    } else {
+        best
+    }
+}
+
+/// Whether a plain write goes before what was found.
+fn goes_before(best: Best, level: u64, number: u64) -> bool
+    ensures yes { IsTrue result → best.level ≤ level }
+    ensures no { best.level < level → IsTrue result }
+{
+    best.level < level
+        || (best.level == level
+            && matches!(best.before, Some(Element::Plain(least)) if number < least))
+}
+
+/// The lesser of a number and the first plain write of a queue, where it has one.
+fn lesser(least: u64, row: &Row) -> u64
+    requires { 0 < least }
+    ensures some { 0 < result }
+    ensures least { result ≤ least }
+    ensures first { 0 < row.now.first → result ≤ row.now.first }
+{
+    if row.first == 0 {
+        least
+    } else {
+        least.min(row.first)
+    }
+}
+
+/// A number that is no greater than the first plain write of any queue.
+fn least_first(rows: &[Row]) -> u64
+    ensures some { 0 < result }
+    ensures least { (i : ℕ) → 0 < (row_at rows.now i).first → result ≤ (row_at rows.now i).first }
+{
+    let mut least: u64 = u64::MAX;
+    for k in 0..rows.len() {
+        least = lesser(least, &rows[k]);
+    }
+    least
+}
+
+/// Adds a queue where one is missing for this place.
+fn widen(rows: &mut Vec<Row>, place: usize)
+    requires place { place ≤ length rows.old.items }
+    requires room { vec_len rows.old < vec_capacity rows.old }
+    ensures rows { (i : ℕ) → row_at rows.new.items i ≡ row_at rows.old.items i }
+    ensures count { length rows.new.items ≡ max (length rows.old.items) (place + 1) }
+    ensures capacity { vec_capacity rows.new ≡ vec_capacity rows.old }
+{
+    if place == rows.len() {
+        rows.push_reserved(no_row());
+    }
+}
+
+/// Tells a plain write, if it is kept, which is the next of its level.
+fn link(plains: &mut Vec<Kept>, start: u64, number: u64, next: u64)
+    ensures kept { (n : ℕ) → kept_in plains.new.items start n ≡ (if n == number then option_map (with_next next) (kept_in plains.old.items start n) else kept_in plains.old.items start n) }
+    ensures count { length plains.new.items ≡ length plains.old.items }
+    ensures capacity { vec_capacity plains.new ≡ vec_capacity plains.old }
+{
+    if number <= start {
+        return;
+    }
+    let place = number - start - 1;
+    if place < plains.len() as u64 {
+        let mut kept = plains[place as usize];
+        kept.next = next;
+        plains[place as usize] = kept;
+    }
+}
+
+/// What is kept of a plain write behind the last one.
+fn next_plain(
+    last: Option<Kept>,
+    number: u64,
+    level: u64,
+    before: Option<Element>,
+    key: usize,
+) -> Kept
+    ensures { result ≡ next_plain last number level before key }
+{
+    let (top, least) = match last {
+        Some(kept) => (kept.top, kept.least),
+        None => (0, 0),
+    };
+    if top < level {
+        Kept {
+            level,
+            before,
+            next: 0,
+            top: level,
+            least: number,
+            key,
+        }
+    } else {
+        Kept {
+            level,
+            before,
+            next: 0,
+            top,
+            least,
+            key,
+        }
+    }
+}
+
+/// What is kept of a version behind the last one of its family: the same where that waits and is no lower.
+fn next_version(last: Option<Kept>, base: u64, level: u64, before: Option<Element>) -> Kept
+    ensures { result ≡ next_version last base level before }
+{
+    let own = Kept {
+        level,
+        before,
+        next: 0,
+        top: 0,
+        least: 0,
+        key: 0,
+    };
+    match last {
+        Some(kept) => if level <= kept.level && base < kept.level {
+            kept
+        } else {
+            own
+        },
+        None => own,
+    }
+}
+
+/// The same, under another key.
+fn keyed(kept: Kept, key: usize) -> Kept
+    ensures { result ≡ keyed key kept }
+{
+    Kept {
+        level: kept.level,
+        before: kept.before,
+        next: kept.next,
+        top: kept.top,
+        least: kept.least,
+        key,
+    }
+}
+
+/// A queue with one plain write more, the last.
+fn with_plain(row: Row, number: u64) -> Row
+    ensures { result ≡ with_plain number row }
+{
+    Row {
+        first: if row.first == 0 { number } else { row.first },
+        last: number,
+        versions: row.versions,
+    }
+}
+
+/// A queue with a greater version of a family.
+fn with_version(row: Row, family: usize, version: u64) -> Row
+    requires { family < 16 }
+    ensures { result ≡ with_version family version row }
+{
+    let mut versions = row.versions;
+    versions[family] = version;
+    Row {
+        first: row.first,
+        last: row.last,
+        versions,
+    }
+}
+
+/// Nothing is kept of so many families.
+fn no_versions(alloc: Global, families: usize) -> Result<Vec<Vec<Kept>>, AllocError>
+    ensures count { IfOk result (λ qs. length qs.items ≡ families) }
+    ensures empty { IfOk result (λ qs. (f : ℕ) → family_at qs.items f ≡ []) }
+{
+    let mut versions = Vec::new(alloc);
+    for family in 0..families {
+        let _family = family;
+        versions.push(Vec::new(alloc))?;
+    }
+    Ok(versions)
+}
+
+/// Makes room for so many more in each family.
+fn reserve_each(versions: &mut Vec<Vec<Kept>>, stagings: usize) -> Result<(), AllocError>
+    ensures lists { (f : ℕ) → family_at versions.new.items f ≡ family_at versions.old.items f }
+    ensures count { length versions.new.items ≡ length versions.old.items }
+    ensures room { OnOk result (All (λ q. vec_len q + stagings ≤ vec_capacity q) versions.new.items) }
+    ensures kept { (n : ℕ) → All (λ q. vec_len q + n ≤ vec_capacity q) versions.old.items → All (λ q. vec_len q + n ≤ vec_capacity q) versions.new.items }
+    ensures memory { All (λ q. vec_len q + stagings ≤ vec_capacity q) versions.old.items → IsOk result }
+{
+    for family in 0..versions.len() {
+        reserve_one(&mut versions[family], stagings)?;
+    }
+    Ok(())
+}
+
+/// Makes room for so many more.
+fn reserve_one(list: &mut Vec<Kept>, stagings: usize) -> Result<(), AllocError>
+    ensures items { list.new.items ≡ list.old.items }
+    ensures len { vec_len list.new ≡ vec_len list.old }
+    ensures room { OnOk result (vec_len list.new + stagings ≤ vec_capacity list.new) }
+    ensures capacity { vec_capacity list.old ≤ vec_capacity list.new }
+    ensures memory { vec_len list.old + stagings ≤ vec_capacity list.old → IsOk result }
+{
+    list.reserve(stagings)
+}
+
+impl Levels {
+    /// No level is kept, and each family begins after its number.
+    pub fn new(alloc: Global, starts: &[u64]) -> Result<Self, AllocError>
+        ensures { IfOk result (λ l. IsNew starts.now l) }
+    {
+        let versions = no_versions(alloc, starts.len())?;
+        let starts = starts.to_vec(alloc)?;
+        Ok(Levels {
+            ended: 0,
+            base: 0,
+            plains: Vec::new(alloc),
+            dropped: 0,
+            versions,
+            starts,
+            rows: Vec::new(alloc),
+        })
+    }
+
+    /// What is kept of an element.
+    pub fn kept(&self, element: Element) -> Option<Kept>
+        ensures { result ≡ kept_by self.now element }
+    {
+        match element {
+            Element::Plain(number) => kept_at(&self.plains, self.dropped, number),
+            Element::Version(family, version) => self.kept_version(family, version),
+        }
+    }
+
+    /// What is kept of a version.
+    fn kept_version(&self, family: usize, version: u64) -> Option<Kept>
+        ensures { result ≡ kept_by self.now (Element.Version family version) }
+    {
+        if family < self.versions.len() {
+            let start = version_at(&self.starts, family);
+            kept_at(&self.versions[family], start, version)
+        } else {
+            None
+        }
+    }
+
+    /// Whether a plain write has a level above the base.
+    pub fn is_above(&self, number: u64) -> bool
+        ensures { result ≡ nat_lt self.now.base (level_by self.now (Element.Plain number)) }
+    {
+        let level = level_at(self.kept(Element::Plain(number)));
+        self.base < level
+    }
+
+    /// A number below those of the plain writes that stand in a queue. It looks at the first of each queue.
+    pub fn below_plains(&self) -> u64
+        ensures { (i : ℕ) → 0 < (row_at self.now.rows.items i).first → result < (row_at self.now.rows.items i).first }
+    {
+        least_first(&self.rows) - 1
+    }
+
+    /// With the greatest level of the plain writes up to a number.
+    fn top_through(&self, best: Best, through: u64) -> Best
+        ensures low { best.level ≤ result.level }
+        ensures above { (k : KeptOf) → kept_by self.now (Element.Plain through) ≡ Some k → k.top ≤ result.level }
+        ensures reached { (result ≡ best) ⊎ ((k : KeptOf) × (kept_by self.now (Element.Plain through) ≡ Some k) × (result.before ≡ Some (Element.Plain k.least)) × (result.level ≡ k.top)) }
+    {
+        match self.kept(Element::Plain(through)) {
+            Some(kept) => better(best, kept.top, Element::Plain(kept.least)),
+            None => best,
+        }
+    }
+
+    /// With one plain write.
+    fn top_plain(&self, best: Best, number: u64) -> Best
+        ensures low { best.level ≤ result.level }
+        ensures above { level_by self.now (Element.Plain number) ≤ result.level }
+        ensures reached { (result ≡ best) ⊎ ((result.before ≡ Some (Element.Plain number)) × (level_by self.now (Element.Plain number) ≡ result.level)) }
+    {
+        let level = level_at(self.kept(Element::Plain(number)));
+        if goes_before(best, level, number) {
+            Best {
+                level,
+                before: Some(Element::Plain(number)),
+            }
+        } else {
+            best
+        }
+    }
+
+    /// With the listed plain writes.
+    fn top_listed(&self, best: Best, listed: &[u64]) -> Best
+        ensures low { best.level ≤ result.level }
+        ensures above { (n : ℕ) → Contains listed.now n → level_by self.now (Element.Plain n) ≤ result.level }
+        ensures reached { (result ≡ best) ⊎ ((n : ℕ) × Contains listed.now n × (result.before ≡ Some (Element.Plain n)) × (level_by self.now (Element.Plain n) ≡ result.level)) }
+    {
+        let mut top = best;
+        for number in listed {
+            top = self.top_plain(top, *number);
+        }
+        top
+    }
+
+    /// With one version.
+    fn top_version(&self, best: Best, family: usize, version: u64) -> Best
+        ensures low { best.level ≤ result.level }
+        ensures above { level_by self.now (Element.Version family version) ≤ result.level }
+        ensures reached { (result ≡ best) ⊎ ((result.before ≡ Some (Element.Version family version)) × (level_by self.now (Element.Version family version) ≡ result.level) × (1 ≤ version)) }
+    {
+        let element = Element::Version(family, version);
+        better(best, level_at(self.kept(element)), element)
+    }
+
+    /// With the versions that are named.
+    fn top_versions(&self, best: Best, needs: &Dependency) -> Best
+        ensures low { best.level ≤ result.level }
+        ensures above { (f : ℕ) → level_by self.now (Element.Version f (slice_index needs.now.least f)) ≤ result.level }
+        ensures reached { (result ≡ best) ⊎ ((f : ℕ) × (result.before ≡ Some (Element.Version f (slice_index needs.now.least f))) × (level_by self.now (Element.Version f (slice_index needs.now.least f)) ≡ result.level) × (1 ≤ slice_index needs.now.least f)) }
+    {
+        let mut top = best;
+        for family in 0..self.versions.len() {
+            top = self.top_version(top, family, needs.least_of(family));
+        }
+        top
+    }
+
+    /// The greatest level of what is named, and an element that has it: the plain write of the smallest number, and where
+    /// there is none the greatest version that is named of the first family that has one. The base, and none, where nothing that is named waits.
+    pub fn top(&self, needs: &Dependency) -> Best
+        ensures { IsBest (kept_by self.now) self.now.base needs.now result.level result.before }
+    {
+        let none = Best {
+            level: self.base,
+            before: None,
+        };
+        let some = self.top_through(none, needs.through_number());
+        let more = self.top_listed(some, needs.listed());
+        self.top_versions(more, needs)
+    }
+
+    /// Keeps the plain write behind n others, one level over what it needs.
+    pub fn push_plain(&mut self, last: u64, best: Best, key: usize)
+        requires low { self.old.ended ≤ best.level }
+        requires high { best.level ≤ self.old.ended + length self.old.rows.items }
+        requires last { last ≡ self.old.dropped + length self.old.plains.items }
+        requires plains { vec_len self.old.plains < vec_capacity self.old.plains }
+        requires rows { vec_len self.old.rows < vec_capacity self.old.rows }
+        requires limit { (self.old.ended + length self.old.rows.items < 2 ^ 63) × (last < 2 ^ 63) }
+        ensures pushed { (i : ℕ) → self.old.ended + i ≡ best.level → IsPlainPushed self.old self.new last i best.before key }
+        ensures room { (n : ℕ) → HasRoom self.old (n + 1) → HasRoom self.new n }
+    {
+        let before = kept_at(&self.plains, self.dropped, last);
+        let number = last + 1;
+        let place = (best.level - self.ended) as usize;
+        widen(&mut self.rows, place);
+        let row = self.rows[place];
+        link(&mut self.plains, self.dropped, row.last, number);
+        self.rows[place] = with_plain(row, number);
+        self.plains.push_reserved(next_plain(before, number, best.level + 1, best.before, key));
+    }
+
+    /// What is to be kept of the version behind the last one: one level over what it needs, and no lower than that one.
+    pub fn next_of(&self, family: usize, last: u64, best: Best) -> Kept
+        requires limit { best.level < 2 ^ 63 }
+        ensures { result ≡ next_version (kept_by self.now (Element.Version family last)) self.now.base (best.level + 1) best.before }
+    {
+        let before = self.kept_version(family, last);
+        next_version(before, self.base, best.level + 1, best.before)
+    }
+
+    /// The version of a family in the queue of a level, 0 where there is none.
+    fn queued(&self, family: usize, level: u64) -> u64
+        requires low { self.now.ended < level }
+        requires family { family < 16 }
+        ensures { (i : ℕ) → self.now.ended + i + 1 ≡ level → result ≡ slice_index (row_at self.now.rows.items i).versions family }
+    {
+        let place = level - self.ended - 1;
+        if place < self.rows.len() as u64 {
+            self.rows[place as usize].versions[family]
+        } else {
+            0
+        }
+    }
+
+    /// The key of the version of a family in the queue of a level, which a greater one takes the place of.
+    pub fn replaced(&self, family: usize, level: u64) -> Option<usize>
+        requires low { self.now.ended < level }
+        requires family { family < 16 }
+        ensures some { (i : ℕ) → self.now.ended + i + 1 ≡ level → IfSome result (λ key. (k : KeptOf) × (0 < slice_index (row_at self.now.rows.items i).versions family) × (kept_by self.now (Element.Version family (slice_index (row_at self.now.rows.items i).versions family)) ≡ Some k) × (k.key ≡ key)) }
+        ensures none { (i : ℕ) → self.now.ended + i + 1 ≡ level → result ≡ None → (slice_index (row_at self.now.rows.items i).versions family ≡ 0) ⊎ (kept_by self.now (Element.Version family (slice_index (row_at self.now.rows.items i).versions family)) ≡ None) }
+    {
+        let version = self.queued(family, level);
+        if version == 0 {
+            return None;
+        }
+        match self.kept_version(family, version) {
+            Some(kept) => Some(kept.key),
+            None => None,
+        }
+    }
+
+    /// Keeps the version behind the last one, as it is to be kept, under its key.
+    pub fn push_version(&mut self, family: usize, last: u64, kept: Kept, key: usize)
+        requires inside { family < length self.old.versions.items }
+        requires family { family < 16 }
+        requires low { self.old.ended < kept.level }
+        requires high { kept.level ≤ self.old.ended + length self.old.rows.items + 1 }
+        requires last { last ≡ slice_index self.old.starts.items family + length (family_at self.old.versions.items family) }
+        requires versions { All (λ q. vec_len q < vec_capacity q) self.old.versions.items }
+        requires rows { vec_len self.old.rows < vec_capacity self.old.rows }
+        requires limit { last < 2 ^ 63 }
+        ensures pushed { (i : ℕ) → self.old.ended + i + 1 ≡ kept.level → IsVersionPushed self.old self.new family last i (keyed key kept) }
+        ensures room { (n : ℕ) → HasRoom self.old (n + 1) → HasRoom self.new n }
+    {
+        let place = (kept.level - self.ended - 1) as usize;
+        widen(&mut self.rows, place);
+        let row = self.rows[place];
+        self.rows[place] = with_version(row, family, last + 1);
+        self.versions[family].push_reserved(keyed(kept, key));
+    }
+
+    /// Makes room for so many more elements.
+    pub fn reserve(&mut self, stagings: usize) -> Result<(), AllocError>
+        requires limit { self.old.ended + length self.old.rows.items ≤ 2 ^ 63 }
+        ensures same { IsSameBut self.old self.new }
+        ensures room { OnOk result (HasRoom self.new stagings) }
+        ensures memory { HasRoom self.old stagings → IsOk result }
+    {
+        let left = LIMIT - (self.ended + self.rows.len() as u64);
+        if left < stagings as u64 {
+            return Err(AllocError);
+        }
+        self.plains.reserve(stagings)?;
+        self.rows.reserve(stagings)?;
+        reserve_each(&mut self.versions, stagings)
+    }
+
+    /// A round is taken: where something waits, its members leave the first level.
+    pub fn take(&mut self)
+        requires limit { self.old.ended + length self.old.rows.items ≤ 2 ^ 63 }
+        ensures empty { length self.old.rows.items ≡ 0 → self.new ≡ self.old }
+        ensures one { 0 < length self.old.rows.items → self.new ≡ record self.old { base = self.old.ended + 1 } }
+    {
+        if self.rows.len() > 0 {
+            self.base = self.ended + 1;
+        }
+    }
+
+    /// It is settled.
+    pub fn settle(&mut self)
+        requires some { self.old.ended < self.old.base → 0 < length self.old.rows.items }
+        requires near { self.old.base ≤ self.old.ended + 1 }
+        ensures none { self.old.base ≤ self.old.ended → self.new ≡ self.old }
+        ensures one { self.old.ended < self.old.base → IsLevelsSettled self.old self.new }
+    {
+        if self.ended < self.base {
+            self.ended = self.base;
+            self.rows.remove(0);
+        }
+    }
+}
+
+/// Adds the plain writes of a level that come from this one on.
+pub fn add_plains(
+    xs: &mut Vec<Element>,
+    levels: &Levels,
+    level: u64,
+    first: u64,
+    bound: u64,
+) -> Result<(), AllocError>
+    requires above { levels.now.ended < level }
+    requires rows { AreLinked (kept_by levels.now) levels.now.ended }
+    requires first { 0 < first → level_by levels.now (Element.Plain first) ≡ level }
+    requires none { xs.old.items ≡ [] }
+    requires earliest { (n : ℕ) → level_by levels.now (Element.Plain n) ≡ level → (0 < first) × (first ≤ n) }
+    requires bound { (n : ℕ) → 0 < level_by levels.now (Element.Plain n) → n ≤ bound }
+    ensures listed { OnOk result (ArePlainsListed (kept_by levels.now) level xs.new.items) }
+{
+    let mut number = first;
+    while number != 0 {
+        xs.push(Element::Plain(number))?;
+        number = match levels.kept(Element::Plain(number)) {
+            Some(kept) => kept.next,
+            None => 0,
+        };
+    }
+    Ok(())
+}
+
+/// Adds the versions of a level.
+pub fn add_versions(xs: &mut Vec<Element>, versions: &[u64; 16]) -> Result<(), AllocError>
+    ensures listed { OnOk result (AreVersionsListed xs.old.items versions.now 16 xs.new.items) }
+{
+    for family in 0..16 {
+        add_version(xs, family, versions[family])?;
+    }
+    Ok(())
+}
+
+/// Adds a version, where it is one.
+fn add_version(xs: &mut Vec<Element>, family: usize, version: u64) -> Result<(), AllocError>
+    ensures none { version ≡ 0 → OnOk result (xs.new.items ≡ xs.old.items) }
+    ensures one { 0 < version → OnOk result (xs.new.items ≡ xs.old.items ++ (Element.Version family version) ∷ []) }
+{
+    if version > 0 {
+        xs.push(Element::Version(family, version))?;
+    }
+    Ok(())
+}

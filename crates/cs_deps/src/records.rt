@@ -1,0 +1,145 @@
+//! The page writes that are kept, and room for more.
+ghost use Rattle.std.specs.Prelude.{◌≡◌, ◌≢◌, ℕ, ◌+◌, ◌≤◌, ◌<◌, ◌∷◌, [], ◌++◌, Contains, IfOk, IfSome, IsOk, length, max, Some, None, vec_len, vec_capacity};
+ghost use Rattle.slab.specs.Slab.{get, slab_len, HasRoomFor};
+ghost use Rattle.cs_deps.specs.declared.elements.Element.{Element as Item};
+ghost use Rattle.cs_deps.specs.declared.levels.Kept.{Kept as KeptOf};
+ghost use Rattle.cs_deps.specs.declared.records.Record.{Record as RecordOf};
+ghost use Rattle.cs_deps.specs.Levels.{kept_by, HasRoom, IsSameBut};
+
+use crate::dependencies::Dependency;
+use crate::elements::Element;
+use crate::levels::{Kept, Levels};
+use slab::Slab;
+use std::alloc::AllocError;
+
+/// An element's page write.
+#[derive(Drop)]
+pub struct Record {
+    pub element: Element,
+    pub page: u64,
+    pub bytes: [u8; 4096],
+}
+
+/// The record of an element of which this is kept, where it still has one.
+pub fn record_of(records: &Slab<Record>, kept: Option<Kept>, element: Element) -> Option<&Record>
+    ensures some { IfSome result (λ r. (k : KeptOf) × (kept ≡ Some k) × (get records.now k.key ≡ Some r.now) × (r.now.element ≡ element)) }
+    ensures none { result ≡ None → (k : KeptOf) (r : RecordOf) → kept ≡ Some k → get records.now k.key ≡ Some r → r.element ≢ element }
+{
+    match kept {
+        Some(kept) => record_at(records, kept.key, element),
+        None => None,
+    }
+}
+
+/// The record under a key, where it is this element's.
+fn record_at(records: &Slab<Record>, key: usize, element: Element) -> Option<&Record>
+    ensures some { IfSome result (λ r. (get records.now key ≡ Some r.now) × (r.now.element ≡ element)) }
+    ensures none { result ≡ None → (r : RecordOf) → get records.now key ≡ Some r → r.element ≢ element }
+{
+    match records.get(key) {
+        Some(record) => if record.element.is_same(element) {
+            Some(record)
+        } else {
+            None
+        },
+        None => None,
+    }
+}
+
+/// Gives up the record of one element.
+fn give_up_one(records: &mut Slab<Record>, levels: &Levels, element: Element)
+    ensures less { (key : ℕ) (r : RecordOf) → get records.new key ≡ Some r → get records.old key ≡ Some r }
+    ensures gone { (k : KeptOf) → kept_by levels.now element ≡ Some k → get records.new k.key ≡ None }
+    ensures rest { (key : ℕ) (r : RecordOf) → get records.old key ≡ Some r → ((k : KeptOf) → kept_by levels.now element ≡ Some k → k.key ≢ key) → get records.new key ≡ Some r }
+    ensures count { slab_len records.new ≤ slab_len records.old }
+    ensures capacity { records.new.capacity ≡ records.old.capacity }
+{
+    if let Some(kept) = levels.kept(element) {
+        records.try_remove(kept.key);
+    }
+}
+
+/// Gives up the records of a round.
+pub fn give_up(records: &mut Slab<Record>, levels: &Levels, round: &[Element])
+    ensures less { (key : ℕ) (r : RecordOf) → get records.new key ≡ Some r → get records.old key ≡ Some r }
+    ensures gone { (x : Item) (k : KeptOf) → Contains round.now x → kept_by levels.now x ≡ Some k → get records.new k.key ≡ None }
+    ensures rest { (key : ℕ) (r : RecordOf) → get records.old key ≡ Some r → ((x : Item) (k : KeptOf) → Contains round.now x → kept_by levels.now x ≡ Some k → k.key ≢ key) → get records.new key ≡ Some r }
+    ensures count { slab_len records.new ≤ slab_len records.old }
+    ensures capacity { records.new.capacity ≡ records.old.capacity }
+{
+    for k in 0..round.len() {
+        give_up_one(records, levels, round[k]);
+    }
+}
+
+/// Gives up what stands under a key, where one is given.
+pub fn clear(records: &mut Slab<Record>, key: Option<usize>)
+    ensures none { key ≡ None → records.new ≡ records.old }
+    ensures gone { IfSome key (λ k. get records.new k ≡ None) }
+    ensures others { (other : ℕ) → key ≢ Some other → get records.new other ≡ get records.old other }
+    ensures count { slab_len records.new ≤ slab_len records.old }
+    ensures capacity { records.new.capacity ≡ records.old.capacity }
+{
+    if let Some(key) = key {
+        records.try_remove(key);
+    }
+}
+
+/// Makes room for more stagings, where there is less, and tells for how many there is.
+pub fn make_room(
+    entries: &mut Vec<(Element, Dependency)>,
+    records: &mut Slab<Record>,
+    levels: &mut Levels,
+    room: usize,
+    stagings: usize,
+) -> Result<usize, AllocError>
+    requires entries_fit { vec_len entries.old + room ≤ vec_capacity entries.old }
+    requires records_fit { HasRoomFor records.old room }
+    requires levels_fit { HasRoom levels.old room }
+    ensures entries { entries.new.items ≡ entries.old.items }
+    ensures records { records.new ≡ record records.old { capacity = records.new.capacity } }
+    ensures levels { IsSameBut levels.old levels.new }
+    ensures entry_count { vec_len entries.new ≡ vec_len entries.old }
+    ensures more_entries { vec_capacity entries.old ≤ vec_capacity entries.new }
+    ensures more_records { records.old.capacity ≤ records.new.capacity }
+    ensures room { IfOk result (λ made. made ≡ max room stagings) }
+    ensures memory { stagings ≤ room → IsOk result }
+    ensures entries_fit { IfOk result (λ made. vec_len entries.new + made ≤ vec_capacity entries.new) }
+    ensures records_fit { IfOk result (λ made. HasRoomFor records.new made) }
+    ensures levels_fit { IfOk result (λ made. HasRoom levels.new made) }
+{
+    levels.reserve(stagings)?;
+    entries.reserve(stagings)?;
+    records.reserve(stagings)?;
+    Ok(room.max(stagings))
+}
+
+/// Makes room for one staging, where there is none, and tells for how many there is.
+pub fn need_room(
+    entries: &mut Vec<(Element, Dependency)>,
+    records: &mut Slab<Record>,
+    levels: &mut Levels,
+    room: usize,
+) -> Result<usize, AllocError>
+    requires entries_fit { vec_len entries.old + room ≤ vec_capacity entries.old }
+    requires records_fit { HasRoomFor records.old room }
+    requires levels_fit { HasRoom levels.old room }
+    ensures entries { entries.new.items ≡ entries.old.items }
+    ensures records { records.new ≡ record records.old { capacity = records.new.capacity } }
+    ensures levels { IsSameBut levels.old levels.new }
+    ensures entry_room { vec_len entries.new + room ≤ vec_capacity entries.new }
+    ensures record_room { HasRoomFor records.new room }
+    ensures level_room { HasRoom levels.new room }
+    ensures some { IfOk result (λ made. 0 < made) }
+    ensures room { IfOk result (λ made. room ≤ made) }
+    ensures memory { 0 < room → IsOk result }
+    ensures entries_fit { IfOk result (λ made. vec_len entries.new + made ≤ vec_capacity entries.new) }
+    ensures records_fit { IfOk result (λ made. HasRoomFor records.new made) }
+    ensures levels_fit { IfOk result (λ made. HasRoom levels.new made) }
+{
+    if room == 0 {
+        make_room(entries, records, levels, room, 1)
+    } else {
+        Ok(room)
+    }
+}
