@@ -1,18 +1,19 @@
 //! Plans, counted from scratch at each call.
-ghost use Rattle.std.specs.Prelude.{◌≡◌, ℕ, ◌+◌, ◌≤◌, ◌<◌, ◌⊎◌, ◌↔◌, List, [], All, IfOk, IfErr, IsOk, IsSome, MatchOption, length, map, vec_len};
+ghost use Rattle.std.specs.Prelude.{◌≡◌, ℕ, ◌+◌, ◌≤◌, ◌<◌, ◌⊎◌, ◌↔◌, List, [], All, IfOk, IfErr, IfSome, IsOk, IsSome, None, Vec, Contains, ◌-◌, slice_index_or, slice_get, Some, MatchOption, length, map, vec_len};
 ghost use Rattle.cs_deps.specs.declared.elements.Element.{Element as Item};
 ghost use Rattle.cs_deps.specs.Named.{Names, IsWithin};
-ghost use Rattle.cs_deps.specs.Pending.{IsStaged, IsPersistent, Waits};
+ghost use Rattle.cs_deps.specs.Pending.{IsStaged, IsPersistent, Needs, Waits};
 ghost use Rattle.cs_deps.specs.Schedule.{IsSchedule, Respects, Covers, IsFewest};
-ghost use Rattle.cs_deps.specs.Chain.{IsChainOf, IsHeight};
+ghost use Rattle.cs_deps.specs.Chain.{IsChain, IsChainOf, IsHeight, LastIs};
 ghost use Rattle.cs_deps.specs.Staging.{IsKept};
 ghost use Rattle.cs_deps.specs.State.{everything, IsQueue, IsReady};
-ghost use Rattle.cs_plan.specs.Levels.{IsFirstOf};
+ghost use Rattle.cs_plan.specs.Queues.{AreListed};
+ghost use Rattle.std.specs.Global.{Global as Heap};
 ghost use Rattle.cs_deps.specs.Rounds.{AreRounds};
 ghost use Rattle.cs_deps.specs.View.{pending_of, rounds_of};
 
 use crate::{chain, levels, ranks, rounds};
-use cs_deps::{Dependency, Element, Graph, GraphView, Plan, Refusal, find};
+use cs_deps::{Dependency, Element, Graph, GraphView, Plan, Refusal};
 use std::alloc::{AllocError, Global};
 
 /// The plan of a target over a graph as seen from outside. Round i is made of what the target needs at height i: its
@@ -110,8 +111,105 @@ pub fn plan_all(alloc: Global, graph: &Graph) -> Result<Plan, Refusal>
     if graph.is_out() {
         return Err(Refusal::InFlight);
     }
-    let target = graph.everything()?;
-    Ok(plan_staged(alloc, graph, &target)?)
+    Ok(plan_queues(alloc, graph)?)
+}
+
+/// The plan of all that waits: the queues of what waits one after another.
+fn plan_queues(alloc: Global, graph: &Graph) -> Result<Plan, AllocError>
+    requires none { graph.now.round ≡ None }
+    ensures schedule { IfOk result (λ plan. IsSchedule graph.now.staging.pending (rounds_of plan)) }
+    ensures covers { IfOk result (λ plan. Covers graph.now.staging.pending (rounds_of plan) (everything graph.now.staging)) }
+    ensures respects { IfOk result (λ plan. Respects graph.now.staging.pending (rounds_of plan)) }
+    ensures fewest { IfOk result (λ plan. IsFewest graph.now.staging.pending (everything graph.now.staging) (rounds_of plan)) }
+    ensures chain { IfOk result (λ plan. IsChainOf graph.now.staging.pending (everything graph.now.staging) plan.chain.items) }
+    ensures chain_count { IfOk result (λ plan. length plan.chain.items ≡ length (rounds_of plan)) }
+    ensures no_empty { IfOk result (λ plan. All (λ round. 0 < length round) (rounds_of plan)) }
+    ensures rounds { IfOk result (λ plan. AreRounds graph.now.staging.pending (everything graph.now.staging) (rounds_of plan)) }
+{
+    let _families = graph.families();
+    let depth = graph.depth();
+    let rounds = queues(alloc, graph, depth)?;
+    let chain = shown(alloc, graph, &rounds)?;
+    Ok(Plan { rounds, chain })
+}
+
+/// A chain with an element of each round.
+fn shown(alloc: Global, graph: &Graph, rounds: &[Vec<Element>]) -> Result<Vec<Element>, AllocError>
+    requires none { graph.now.round ≡ None }
+    requires kept { IsKept graph.now.staging }
+    requires each { AreListed graph.now.staging.pending rounds.now }
+    requires full { (i : ℕ) (round : Vec Item Heap) → slice_get rounds.now i ≡ Some round → 0 < length round.items }
+    ensures chain { IfOk result (λ chain. IsChainOf graph.now.staging.pending (everything graph.now.staging) chain.items) }
+    ensures count { IfOk result (λ chain. length chain.items ≡ length rounds.now) }
+{
+    match first_of_last(rounds) {
+        Some(end) => {
+            let chain = follow(alloc, graph, end, rounds.len())?;
+            Ok(chain)
+        }
+        None => Ok(Vec::new(alloc)),
+    }
+}
+
+/// The queues of heights 1 to `depth`.
+fn queues(alloc: Global, graph: &Graph, depth: usize) -> Result<Vec<Vec<Element>>, AllocError>
+    requires none { graph.now.round ≡ None }
+    ensures count { IfOk result (λ rounds. length rounds.items ≡ depth) }
+    ensures each { IfOk result (λ rounds. AreListed graph.now.staging.pending rounds.items) }
+{
+    let mut rounds = Vec::new(alloc);
+    for i in 0..depth {
+        let queue = graph.queue(i as u64 + 1)?;
+        rounds.push(queue)?;
+    }
+    Ok(rounds)
+}
+
+/// The first element of the last round, where there is one.
+fn first_of_last(rounds: &[Vec<Element>]) -> Option<Element>
+    ensures some { IfSome result (λ x. (0 < length rounds.now) × ((d : Vec Item Heap) → Contains (slice_index_or rounds.now (length rounds.now - 1) d).items x)) }
+    ensures none { result ≡ None → 0 < length rounds.now → (d : Vec Item Heap) → (slice_index_or rounds.now (length rounds.now - 1) d).items ≡ [] }
+{
+    if rounds.is_empty() {
+        return None;
+    }
+    let last = &rounds[rounds.len() - 1];
+    if last.is_empty() { None } else { Some(last[0]) }
+}
+
+/// The chain that ends in an element of this height.
+fn follow(
+    alloc: Global,
+    graph: &Graph,
+    end: Element,
+    height: usize,
+) -> Result<Vec<Element>, AllocError>
+    requires none { graph.now.round ≡ None }
+    requires height { IsHeight graph.now.staging.pending end height }
+    ensures chain { IfOk result (λ chain. IsChain graph.now.staging.pending chain.items) }
+    ensures last { IfOk result (λ chain. LastIs (λ y. y ≡ end) chain.items) }
+    ensures count { IfOk result (λ chain. length chain.items ≡ height) }
+{
+    let mut chain = Vec::new(alloc);
+    let mut element = end;
+    for i in 0..height {
+        let _turn = i;
+        chain.insert(0, element)?;
+        element = earlier(graph, element);
+    }
+    Ok(chain)
+}
+
+/// A need of an element that is one lower, where there is one.
+fn earlier(graph: &Graph, element: Element) -> Element
+    requires none { graph.now.round ≡ None }
+    requires waits { Waits graph.now.staging.pending element }
+    ensures { (n : ℕ) → IsHeight graph.now.staging.pending element (n + 2) → Needs graph.now.staging.pending element result × IsHeight graph.now.staging.pending result (n + 1) }
+{
+    match graph.kept(element) {
+        (_, Some(before)) => before,
+        (_, None) => element,
+    }
 }
 
 /// The first round of the plan of all that waits, empty where nothing waits. The graph takes it as it is.
@@ -127,26 +225,16 @@ pub fn next_round(alloc: Global, graph: &Graph) -> Result<Vec<Element>, Refusal>
     if graph.is_out() {
         return Err(Refusal::InFlight);
     }
-    let target = graph.everything()?;
-    let plan = plan_staged(alloc, graph, &target)?;
-    Ok(first_of(alloc, plan.rounds))
-}
-
-/// The first round, empty where there is none.
-fn first_of(alloc: Global, mut rounds: Vec<Vec<Element>>) -> Vec<Element>
-    ensures { IsFirstOf (map (λ r. r.items) rounds.items) result.items }
-{
-    if rounds.is_empty() {
-        return Vec::new(alloc);
-    }
-    rounds.remove(0)
+    let _families = graph.families();
+    let queue = graph.queue(1)?;
+    Ok(queue)
 }
 
 /// The level of an element: 1 where nothing that it needs waits, else one more than the greatest of what it needs.
 /// `None` where it doesn't wait.
 ///
-/// Refused 5 InFlight, 9 OutOfMemory. Cost: as `plan`.
-pub fn level_of(alloc: Global, graph: &Graph, element: Element) -> Result<Option<u64>, Refusal>
+/// Refused 5 InFlight. It takes no memory and seeks nothing.
+pub fn level_of(_alloc: Global, graph: &Graph, element: Element) -> Result<Option<u64>, Refusal>
     ensures level { IfOk result (λ found. MatchOption found (¬ Waits graph.now.staging.pending element) (λ n. IsHeight graph.now.staging.pending element n)) }
     ensures in_flight { (result ≡ Err Refusal.InFlight) ↔ IsSome graph.now.round }
     ensures refusals { IfErr result (λ r. (r ≡ Refusal.InFlight) ⊎ (r ≡ Refusal.OutOfMemory)) }
@@ -154,18 +242,9 @@ pub fn level_of(alloc: Global, graph: &Graph, element: Element) -> Result<Option
     if graph.is_out() {
         return Err(Refusal::InFlight);
     }
-    let view = graph.view()?;
-    Ok(level_in(alloc, &view, element)?)
-}
-
-/// The level of an element, none where it doesn't wait.
-fn level_in(alloc: Global, view: &GraphView, element: Element) -> Result<Option<u64>, AllocError>
-    requires { IsStaged (pending_of view.now) }
-    ensures { IfOk result (λ found. MatchOption found (¬ Waits (pending_of view.now) element) (λ n. IsHeight (pending_of view.now) element n)) }
-{
-    let levels = levels::levels(alloc, &view.waiting)?;
-    match find(&view.waiting, element) {
-        Some(k) => Ok(Some(levels[k] as u64)),
-        None => Ok(None),
+    if !graph.waits(element) {
+        return Ok(None);
     }
+    let kept = graph.kept(element);
+    Ok(Some(kept.0))
 }

@@ -1,0 +1,149 @@
+-- A plan by queues.
+use Rattle.std.proofs.Common.{◌≡◌, ◌∙◌, ℕ, zero, suc, ◌+◌, ◌<◌, ◌≤◌, ◌⊎◌, List, [], ◌∷◌, ◌++◌, length, map, get_or, Option, Some, None, slice_get, refl, sym, ap, subst, inl, inr, ⊎_elim, arith}
+use Rattle.std.specs.Prelude.{◌-◌, Contains, All, Vec, option_map}
+use Rattle.std.specs.Global.{Global}
+use Rattle.std.proofs.lemmas.Bool.{cases_lt}
+use Rattle.std.proofs.lemmas.List.{length-map}
+use Rattle.std.proofs.lemmas.Option.{same_Some, slice_get_within, slice_get_read, slice_get-get_or, slice_get-map}
+use Rattle.cs_deps.specs.declared.elements.Element.{Element}
+use Rattle.cs_deps.specs.declared.elements.Element.TheVariants.{Plain, Version}
+use Rattle.cs_deps.specs.Named.{Named, Names}
+use Rattle.cs_deps.specs.Pending.{Pending, WaitsAt, Waits, Needs, IsPersistent, IsStaged, SatisfiedBy}
+use Rattle.cs_deps.specs.Chain.{IsChain, IsChainOf, IsHeight, LastIs}
+use Rattle.cs_deps.specs.Rounds.{IsDue}
+use Rattle.cs_deps.specs.Staging.{Staging, IsKept}
+use Rattle.cs_deps.specs.State.{IsQueue, everything}
+use Rattle.cs_deps.specs.Turns.{IsPlanOf}
+use Rattle.cs_deps.proofs.AllHeights.{all_have_heights}
+use Rattle.cs_deps.proofs.HeightSteps.{chain_ends_waiting, height_positive, queue_serves, of_level_height, same_height}
+use Rattle.cs_deps.proofs.InTurn.{AreQueues, due_of, everything_is_all, queues_are_a_plan}
+use Rattle.cs_deps.proofs.Kept.{at_push}
+use Rattle.cs_deps.proofs.LowerBound.{waiting_not_persistent}
+use Rattle.cs_deps.proofs.Ready.{satisfied_is_first}
+use Rattle.cs_deps.proofs.Sets.{no_element}
+use Rattle.cs_plan.specs.Queues.{AreListed, IsFollowed}
+use Rattle.cs_plan.proofs.Whole.{due_somewhere}
+
+-- THE CHAIN
+pub followed_none : (g : Pending) (end : Element) (height : ℕ) → IsHeight g end height → IsFollowed g end height 0 end []
+followed_none g end height is = record {
+  count = refl;
+  chain = tt;
+  last = tt;
+  next_height = λ lt. (let same : height ≡ height - 0 = omega arith in subst (IsHeight g end) same is);
+  next_chain = λ lt. chain_ends_waiting g end height is.reached;
+  next_last = λ lt. refl;
+}
+
+pub followed_more : (g : Pending) (end : Element) (height i : ℕ) (element next : Element) (made : List Element) → i < height → ((n : ℕ) → IsHeight g element (n + 2) → Needs g element next × IsHeight g next (n + 1)) → IsFollowed g end height i element made → IsFollowed g end height (i + 1) next (element ∷ made)
+followed_more g end height i element next made lt step so = record {
+  count = (let e = so.count in let one : length (element ∷ made) ≡ length made + 1 = omega arith in omega (arith, e, one));
+  chain = so.next_chain lt;
+  last = so.next_last lt;
+  next_height = λ more. (let same : height - i - 2 + 1 ≡ height - (i + 1) = omega (arith, more) in subst (IsHeight g next) same (needs more).1);
+  next_chain = λ more. (chain_ends_waiting g next (height - i - 2 + 1) (needs more).1.reached, (needs more).0, so.next_chain lt);
+  next_last = λ more. so.next_last lt;
+}
+  where
+    needs : i + 1 < height → Needs g element next × IsHeight g next (height - i - 2 + 1)
+    needs more = let same : height - i ≡ height - i - 2 + 2 = omega (arith, more) in step (height - i - 2) (subst (IsHeight g element) same (so.next_height lt))
+
+-- a chain that ends in a named element
+pub last_named : (target : Named) (end : Element) (xs : List Element) → Names target end → LastIs (λ y. y ≡ end) xs → LastIs (Names target) xs
+last_named target end [] named is = tt
+last_named target end (x ∷ []) named is = subst (Names target) (sym is) named
+last_named target end (x ∷ y ∷ ys) named is = last_named target end (y ∷ ys) named is
+
+-- THE PLAN
+abbrev lists_of : List (Vec Element Global) → List (List Element)
+lists_of rounds = map (λ (r : Vec Element Global). r.items) rounds
+
+item_of : (rounds : List (Vec Element Global)) (i : ℕ) (round : List Element) → slice_get (lists_of rounds) i ≡ Some round → (r : Vec Element Global) × (slice_get rounds i ≡ Some r) × (r.items ≡ round)
+item_of [] i round e = absurd (cc e)
+item_of (r ∷ rs) zero round e = (r, refl, same_Some r.items round e)
+item_of (r ∷ rs) (suc i) round e = item_of rs i round e
+
+module _ (s : Staging) (kept : IsKept s) (rounds : List (Vec Element Global)) (listed : AreListed s.pending rounds) (depth : ℕ) (count : length rounds ≡ depth) (all : (x : Element) (n : ℕ) → IsHeight s.pending x n → n ≤ depth) where
+  abbrev g : Pending
+  g = s.pending
+
+  abbrev target : Named
+  target = everything s
+
+  is_queue : (i : ℕ) (round : List Element) → slice_get (lists_of rounds) i ≡ Some round → IsQueue g (i + 1) round
+  is_queue i round at = let r = item_of rounds i round at in subst (IsQueue g (i + 1)) r.2 (listed i r.0 r.1)
+
+  -- where the last height is reached, no queue is empty
+  has_height : (0 < depth → (x : Element) × IsHeight g x depth) → (i : ℕ) → i < depth → (y : Element) × IsHeight g y (i + 1)
+  has_height reached i lt =
+      let r = reached (omega (arith, lt)) in
+      let c = r.1.reached in
+      let named = (everything_is_all s kept).all r.0 (chain_ends_waiting g r.0 depth c) in
+      let d = due_somewhere g (all_have_heights g kept.staged) target depth (λ n x due. all x n due.1) c.0 (c.1, last_named target r.0 c.0 named c.2) c.3 i lt in
+      (d.0, d.1.1)
+
+  full : (0 < depth → (x : Element) × IsHeight g x depth) → (i : ℕ) (round : List Element) → slice_get (lists_of rounds) i ≡ Some round → 0 < length round
+  full reached i round at =
+      let lt : i < depth = omega (arith, slice_get_within (lists_of rounds) i round at, length-map rounds (λ (r : Vec Element Global). r.items), count) in
+      let h = has_height reached i lt in
+      some round h.0 (queue_serves g (all_have_heights g kept.staged) (i + 1) round (is_queue i round at) h.0 h.1)
+    where
+      some : (xs : List Element) (y : Element) → SatisfiedBy xs y → 0 < length xs
+      some [] y b = absurd (no_element b.0 b.1)
+      some (x ∷ xs) y b = omega arith
+
+  pub all_full : (0 < depth → (x : Element) × IsHeight g x depth) → (i : ℕ) (r : Vec Element Global) → slice_get rounds i ≡ Some r → 0 < length r.items
+  all_full reached i r at = full reached i r.items (slice_get-map (λ (r : Vec Element Global). r.items) rounds i ∙ ap (option_map (λ (r : Vec Element Global). r.items)) at)
+
+  pub are_queues : (0 < depth → (x : Element) × IsHeight g x depth) → AreQueues g (lists_of rounds)
+  are_queues reached = record {
+    each = λ i round at. (is_queue i round at, full reached i round at);
+    all = λ n x h. (let e = length-map rounds (λ (r : Vec Element Global). r.items) in omega (arith, all x n h, e, count));
+  }
+
+  pub is_plan : (0 < depth → (x : Element) × IsHeight g x depth) → IsPlanOf g target (lists_of rounds)
+  is_plan reached = queues_are_a_plan g kept.staged target (everything_is_all s kept) (lists_of rounds) (are_queues reached)
+
+  pub none_empty : (0 < depth → (x : Element) × IsHeight g x depth) → All (λ (round : List Element). 0 < length round) (lists_of rounds)
+  none_empty reached i d lt = full reached i (get_or (lists_of rounds) i d) (slice_get-get_or (lists_of rounds) i d lt)
+
+-- an empty first queue means that nothing waits
+pub nothing_waits : (s : Staging) → IsKept s → (xs : List Element) → IsQueue s.pending 1 xs → xs ≡ [] → s.pending.waiting ≡ []
+nothing_waits s kept xs queue none = cases s.pending.waiting refl
+  where
+    cases : (ws : List (Element × Named)) → s.pending.waiting ≡ ws → s.pending.waiting ≡ []
+    cases [] e = e
+    cases (w ∷ ws) e =
+        let at : WaitsAt s.pending 0 w.0 w.1 = ap (λ l. slice_get l 0) e in
+        let first = satisfied_is_first s.pending kept.staged 0 w.0 w.1 at (λ y named waits. ⊎_elim
+        (λ (p : IsPersistent s.pending y). absurd (waiting_not_persistent s.pending kept.staged y waits p))
+        (λ (b : (j : ℕ) × (d : Named) × (j < 0) × WaitsAt s.pending j y d). absurd (omega (arith, b.2)))
+        (kept.staged.earlier 0 w.0 y w.1 at named)) in
+        let b = queue_serves s.pending (all_have_heights s.pending kept.staged) 1 xs queue w.0 first in
+        absurd (no_element b.0 (subst (λ ys. Contains ys b.0) none b.1))
+
+-- one queue more
+pub listed_more : (g : Pending) (rounds : List (Vec Element Global)) (i : ℕ) (queue : Vec Element Global) → length rounds ≡ i → IsQueue g (i + 1) queue.items → AreListed g rounds → AreListed g (rounds ++ queue ∷ [])
+listed_more g rounds i queue count is listed j round at = ⊎_elim
+    (λ (o : slice_get rounds j ≡ Some round). listed j round o)
+    (λ (o : (j ≡ length rounds) × (queue ≡ round)). let e : i ≡ j = sym count ∙ sym o.0 in subst (λ (r : Vec Element Global). IsQueue g (j + 1) r.items) o.1 (subst (λ n. IsQueue g (n + 1) queue.items) e is))
+    (at_push rounds queue round j at)
+
+-- a member of the last queue has the greatest height
+pub last_height : (g : Pending) (rounds : List (Vec Element Global)) → AreListed g rounds → (x : Element) → 0 < length rounds → ((d : Vec Element Global) → Contains (get_or rounds (length rounds - 1) d).items x) → IsHeight g x (length rounds)
+last_height g [] listed x lt has = absurd (omega (arith, lt))
+last_height g (r ∷ rs) listed x lt has =
+    let q = listed (length (r ∷ rs) - 1) (get_or (r ∷ rs) (length (r ∷ rs) - 1) r) (slice_get-get_or (r ∷ rs) (length (r ∷ rs) - 1) r (omega (arith, lt))) in
+    let same : length (r ∷ rs) - 1 + 1 ≡ length (r ∷ rs) = omega (arith, lt) in
+    subst (IsHeight g x) same (of_level_height g (length (r ∷ rs) - 1 + 1) x ((q.members x).0 (has r)))
+
+pub none_left : (rounds : List (Vec Element Global)) → ((i : ℕ) (round : Vec Element Global) → slice_get rounds i ≡ Some round → 0 < length round.items) → (0 < length rounds → (d : Vec Element Global) → (get_or rounds (length rounds - 1) d).items ≡ []) → length rounds ≡ 0
+none_left [] full none = refl
+none_left (r ∷ rs) full none =
+    let lt : 0 < length (r ∷ rs) = omega arith in
+    let at = slice_get-get_or (r ∷ rs) (length (r ∷ rs) - 1) r (omega (arith, lt)) in
+    let some = full (length (r ∷ rs) - 1) (get_or (r ∷ rs) (length (r ∷ rs) - 1) r) at in
+    absurd (omega (arith, some, ap length (none lt r)))
+
+pub end_named : (s : Staging) → IsKept s → (end : Element) (n : ℕ) (xs : List Element) → IsHeight s.pending end n → IsChain s.pending xs → LastIs (λ y. y ≡ end) xs → IsChainOf s.pending (everything s) xs
+end_named s kept end n xs h chain last = (chain, last_named (everything s) end xs ((everything_is_all s kept).all end (chain_ends_waiting s.pending end n h.reached)) last)
