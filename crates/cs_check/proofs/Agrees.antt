@@ -22,7 +22,7 @@ use Rattle.cs_check.proofs.Listed.{needs_listed}
 use Rattle.cs_check.proofs.ListingSteps.{listed_not_persistent}
 
 -- what waits has a name
-waiting_name : (g : Pending) (letters : List ℕ) → IsListing g → length letters ≡ length g.persistent → (x : Element) → Waits g x → IsName letters x
+pub waiting_name : (g : Pending) (letters : List ℕ) → IsListing g → length letters ≡ length g.persistent → (x : Element) → Waits g x → IsName letters x
 waiting_name g letters listing count (Plain n) w = let number = (listing w.0 (Plain n) w.1 w.2).number in (number.0, number.1)
 waiting_name g letters listing count (Version f v) w = let number = (listing w.0 (Version f v) w.1 w.2).number in (omega (arith, number.0, count), (omega (arith, number.2), number.1))
 
@@ -30,8 +30,15 @@ greatest_name : (g : Pending) (letters : List ℕ) (d : Named) → IsListing g �
 greatest_name g letters d listing count (Plain n) is = waiting_name g letters listing count (Plain n) is.0
 greatest_name g letters d listing count (Version f v) is = waiting_name g letters listing count (Version f v) is.0
 
-list_names : (g : Pending) (letters : List ℕ) (d : Named) (xs : List Element) → IsListing g → length letters ≡ length g.persistent → IsListOf g d xs → All (IsName letters) xs
+pub list_names : (g : Pending) (letters : List ℕ) (d : Named) (xs : List Element) → IsListing g → length letters ≡ length g.persistent → IsListOf g d xs → All (IsName letters) xs
 list_names g letters d xs listing count list k e lt = greatest_name g letters d listing count (get_or xs k e) ((list.members (get_or xs k e)).0 (Contains-get_or xs k e lt))
+
+-- what is listed of what d names names no more
+pub named_by : (g : Pending) (d : Named) (x y : Element) → IsGreatest g d x → NamesToo x y → Names d y
+named_by g d (Plain m) (Plain n) is e = subst (λ i. Names d (Plain i)) e is.1
+named_by g d (Version f v) (Version c u) is e = subst (λ i. Names d (Version i u)) (sym e.0) (e.1, omega (arith, e.2, is.1.1))
+named_by g d (Plain m) (Version c u) is e = absurd e
+named_by g d (Version f v) (Plain n) is e = absurd e
 
 -- the list names what d names among what waits
 list_is : (g : Pending) (d : Named) (xs : List Element) → IsListing g → NamesListed g d → IsListOf g d xs → (y : Element) → Waits g y → Names d y ↔ ((x : Element) × Contains xs x × NamesToo x y)
@@ -49,14 +56,8 @@ list_is g d xs listing listed list y w = (to y w, from)
         (λ (u : Waits g (Version f (slice_index d.least f))). (Version f (slice_index d.least f), (list.members (Version f (slice_index d.least f))).1 (u, (one, same), λ i other less. less.1), (refl, named.0, named.1)))
         (listed f (slice_index d.least f) (one, same))
 
-    named_by : (x y : Element) → IsGreatest g d x → NamesToo x y → Names d y
-    named_by (Plain m) (Plain n) is e = subst (λ i. Names d (Plain i)) e is.1
-    named_by (Version f v) (Version c u) is e = subst (λ i. Names d (Version i u)) (sym e.0) (e.1, omega (arith, e.2, is.1.1))
-    named_by (Plain m) (Version c u) is e = absurd e
-    named_by (Version f v) (Plain n) is e = absurd e
-
     from : (x : Element) × Contains xs x × NamesToo x y → Names d y
-    from c = named_by c.0 y ((list.members c.0).0 c.1) c.2
+    from c = named_by g d c.0 y ((list.members c.0).0 c.1) c.2
 
 -- the same list, the same names
 alike : (g : Pending) (d e : Named) (xs ys : List Element) → IsListing g → NamesListed g d → IsListOf g d xs → NamesThese e ys → ys ≡ xs → (y : Element) → Waits g y → Names d y ↔ Names e y
@@ -68,35 +69,35 @@ alike g d e xs ys listing listed list these same y w = (
 -- ---- the members of a document that was written
 
 module _ (letters persistent : List ℕ) (entries : List Data) (named : List Element) (rounds : List (List Element)) (chain : List Element) where
-  has_chain : HasMember (document_data letters persistent entries named rounds chain) (codes "chain") (names_data letters chain)
+  pub has_chain : HasMember (document_data letters persistent entries named rounds chain) (codes "chain") (names_data letters chain)
   unfolding serde_json_on_literals document_data
   has_chain = refl
 
-  has_elements : HasMember (document_data letters persistent entries named rounds chain) (codes "elements") (array (items_of entries))
+  pub has_elements : HasMember (document_data letters persistent entries named rounds chain) (codes "elements") (array (items_of entries))
   unfolding serde_json_on_literals document_data
   has_elements = refl
 
-  has_families : HasMember (document_data letters persistent entries named rounds chain) (codes "families") (letters_data letters)
+  pub has_families : HasMember (document_data letters persistent entries named rounds chain) (codes "families") (letters_data letters)
   unfolding serde_json_on_literals document_data
   has_families = refl
 
-  has_persistent : HasMember (document_data letters persistent entries named rounds chain) (codes "persistent") (numbers_data persistent)
+  pub has_persistent : HasMember (document_data letters persistent entries named rounds chain) (codes "persistent") (numbers_data persistent)
   unfolding serde_json_on_literals document_data
   has_persistent = refl
 
-  has_rounds : HasMember (document_data letters persistent entries named rounds chain) (codes "rounds") (rounds_data letters rounds)
+  pub has_rounds : HasMember (document_data letters persistent entries named rounds chain) (codes "rounds") (rounds_data letters rounds)
   unfolding serde_json_on_literals document_data
   has_rounds = refl
 
-  has_target : HasMember (document_data letters persistent entries named rounds chain) (codes "target") (names_data letters named)
+  pub has_target : HasMember (document_data letters persistent entries named rounds chain) (codes "target") (names_data letters named)
   unfolding serde_json_on_literals document_data
   has_target = refl
 
-entry_element : (letters : List ℕ) (x : Element) (xs : List Element) → HasMember (entry_data letters x xs) (codes "e") (string (name_of letters x))
+pub entry_element : (letters : List ℕ) (x : Element) (xs : List Element) → HasMember (entry_data letters x xs) (codes "e") (string (name_of letters x))
 unfolding serde_json_on_literals
 entry_element letters x xs = refl
 
-entry_needs : (letters : List ℕ) (x : Element) (xs : List Element) → HasMember (entry_data letters x xs) (codes "needs") (names_data letters xs)
+pub entry_needs : (letters : List ℕ) (x : Element) (xs : List Element) → HasMember (entry_data letters x xs) (codes "needs") (names_data letters xs)
 unfolding serde_json_on_literals
 entry_needs letters x xs = refl
 

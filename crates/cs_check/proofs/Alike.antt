@@ -18,7 +18,8 @@ pub record AreAlike (g h : Pending) : Type 0 where
   pub persistent : g.persistent ≡ h.persistent
   pub elements : elements_in g.waiting ≡ elements_in h.waiting
   pub there : NamesWithin h g
-  pub back : NamesWithin g h
+  -- what waits in g waits there in h, whatever it names
+  pub back : (k : ℕ) (x : Element) (n : Named) → WaitsAt g k x n → (m : Named) × WaitsAt h k x m
 
 counted_alike : (f k : ℕ) (ws vs : List (Element × Named)) → elements_in ws ≡ elements_in vs → counted f k ws ≡ counted f k vs
 counted_alike f zero ws vs e = refl
@@ -57,7 +58,6 @@ well_formed_alike g h alike t u less rounds chain is = record {
   families = subst (λ (vs : List ℕ). (1 ≤ length vs) × (length vs ≤ 16)) alike.persistent is.families;
   persistent = subst (λ (vs : List ℕ). All (λ v. v < 9223372036854775808) vs) alike.persistent is.persistent;
   elements = listed;
-  no_zero = λ zero. is.no_zero (less (Plain 0) zero);
   schedule = All-weaker (λ (xs : List Element). All (Waits g) xs) (λ (xs : List Element). All (Waits h) xs) (λ xs all. All-weaker (Waits g) (Waits h) (λ x w. waits_alike g h alike x w) xs all) rounds is.schedule;
   once = is.once;
   links = All-weaker (Waits g) (Waits h) (λ x w. waits_alike g h alike x w) chain is.links;
@@ -74,5 +74,4 @@ well_formed_alike g h alike t u less rounds chain is = record {
               (λ (b : WaitsBefore g k y). let w = alike.back b.0 y b.1 b.3 in inr (b.0, w.0, b.2, w.1))
               (old.needs y (r.2 y named));
           others = others_alike g h alike x r.0 n r.2 old.others;
-          no_zero = λ zero. old.no_zero (r.2 (Plain 0) zero);
         }

@@ -9,7 +9,7 @@ use Rattle.cs_deps.specs.Named.{Named, StandsFor}
 use Rattle.cs_deps.specs.Pending.{Pending, Waits, IsPersistent, SatisfiedBy}
 use Rattle.cs_deps.specs.Schedule.{IsSchedule, Covers, all_of}
 use Rattle.cs_deps.proofs.Sets.{place_of}
-use Rattle.cs_check.specs.Listing.{IsListing, NamesZero, WaitsBefore}
+use Rattle.cs_check.specs.Listing.{IsListing, WaitsBefore}
 use Rattle.cs_check.specs.Tests.{InTime}
 use Rattle.cs_check.specs.Written.{NamesListed}
 use Rattle.cs_check.specs.Progress.{IsKnown, AreFirsts, AllBefore, NeedsBefore, AreLatest}
@@ -59,15 +59,12 @@ latest_past g listing latest are f v (Version c u) w s =
     let past = counted_past c g.waiting w.0 (length g.waiting) (Version c u) w.1 (slice_get_within g.waiting w.0 (Version c u, w.1) w.2) w.2 (own c u) in
     subst (λ i. v ≤ slice_index latest i) s.0 (omega (arith, s.1, (listing w.0 (Version c u) w.1 w.2).number.2, are c, past))
 
-pub covers_to : (g : Pending) → IsListing g → (latest : List ℕ) → AreLatest g latest → (rounds : List (List Element)) → IsSchedule g rounds → (firsts : List ℕ) → AreFirsts g rounds firsts → (target : Named) → (NamesZero target → ⊥) → Covers g rounds target → IsKnown target latest × AllBefore g firsts target (length rounds)
-covers_to g listing latest are_latest rounds schedule firsts are target no_zero covers = (
-  (
-    no_zero,
-    λ f v named. ⊎_elim
-        (λ (p : IsPersistent g (Version f v)). omega (arith, p, are_latest f))
-        (λ (s : SatisfiedBy (all_of rounds) (Version f v)). latest_past g listing latest are_latest f v s.0 (member_waits g rounds schedule s.0 s.1) s.2)
-        (covers (Version f v) named),
-  ),
+pub covers_to : (g : Pending) → IsListing g → (latest : List ℕ) → AreLatest g latest → (rounds : List (List Element)) → IsSchedule g rounds → (firsts : List ℕ) → AreFirsts g rounds firsts → (target : Named) → Covers g rounds target → IsKnown target latest × AllBefore g firsts target (length rounds)
+covers_to g listing latest are_latest rounds schedule firsts are target covers = (
+  (λ f v named. ⊎_elim
+      (λ (p : IsPersistent g (Version f v)). omega (arith, p, are_latest f))
+      (λ (s : SatisfiedBy (all_of rounds) (Version f v)). latest_past g listing latest are_latest f v s.0 (member_waits g rounds schedule s.0 s.1) s.2)
+      (covers (Version f v) named)),
   (λ k x d at named.
       let le : length rounds ≤ length rounds = omega arith in
       ⊎_elim
@@ -84,11 +81,8 @@ known_listed g listing latest are d known f v named =
     (needs_from g (length g.waiting) latest d are (λ j y e lt at. listing j y e at) known
     (λ n. absurd (omega (arith, n.3, slice_get_within g.waiting n.0 (n.1, n.2) n.4))) (Version f v) named)
 
-pub listed_known : (g : Pending) → IsListing g → (latest : List ℕ) → AreLatest g latest → (d : Named) → (NamesZero d → ⊥) → NamesListed g d → IsKnown d latest
-listed_known g listing latest are d no_zero listed = (
-  no_zero,
-  (λ f v named. ⊎_elim
-      (λ (p : IsPersistent g (Version f v)). omega (arith, p, are f))
-      (λ (w : Waits g (Version f v)). let same : v ≤ v = omega arith in latest_past g listing latest are f v (Version f v) w (refl, same))
-      (listed f v named)),
-)
+pub listed_known : (g : Pending) → IsListing g → (latest : List ℕ) → AreLatest g latest → (d : Named) → NamesListed g d → IsKnown d latest
+listed_known g listing latest are d listed f v named = ⊎_elim
+    (λ (p : IsPersistent g (Version f v)). omega (arith, p, are f))
+    (λ (w : Waits g (Version f v)). let same : v ≤ v = omega arith in latest_past g listing latest are f v (Version f v) w (refl, same))
+    (listed f v named)

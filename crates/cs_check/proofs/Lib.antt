@@ -15,3 +15,4 @@ pub mod Writing
 pub mod WrittenEntries
 pub mod Agrees
 pub mod Bound
+pub mod Documented

@@ -1,11 +1,11 @@
 -- A view that is read element by element.
-use Rattle.std.proofs.Common.{take, take_all, get_or-set_same, get_or-set_other, length-set, ◌≡◌, ◌∙◌, ℕ, zero, suc, ◌+◌, ◌-◌, ◌<◌, ◌≤◌, ◌⊎◌, List, length, slice_index, slice_set, cond, Some, slice_get, refl, sym, ap, subst, inl, inr, ⊎_elim, arith, true}
+use Rattle.std.proofs.Common.{take, take_all, get_or-set_same, get_or-set_other, length-set, ◌≡◌, ◌∙◌, ℕ, ◌+◌, ◌-◌, ◌<◌, ◌≤◌, ◌⊎◌, List, length, slice_index, slice_set, cond, Some, slice_get, refl, sym, ap, subst, inl, inr, ⊎_elim, arith, true}
 use Rattle.std.proofs.lemmas.Bool.{cases_lt, cases_order, cases_eq, eq-eqb, ne_eqb}
 use Rattle.std.specs.Prelude.{count_by}
 use Rattle.std.proofs.lemmas.Option.{slice_get_within}
 use Rattle.cs_deps.specs.declared.elements.Element.{Element}
 use Rattle.cs_deps.specs.declared.elements.Element.TheVariants.{Plain, Version}
-use Rattle.cs_deps.specs.Named.{Named, Names, IsWithin}
+use Rattle.cs_deps.specs.Named.{Named, Names}
 use Rattle.cs_deps.specs.Pending.{Pending, WaitsAt, IsPersistent}
 use Rattle.cs_deps.proofs.Within.{below_next, same_at}
 use Rattle.cs_check.specs.Listing.{IsListing, IsListedAt, IsNumberedAt, WaitsBefore, versions_before, is_of}
@@ -21,17 +21,6 @@ none_more xs d k j x e at not none i y h le lt here named =
     (λ (l : i < j). none i y h le l here named)
     (λ (s : i ≡ j). not (subst (Names d) (same_at xs j y x h e (subst (λ n. slice_get xs n ≡ Some (y, h)) s here) at).0 named))
     (below_next i j lt)
-
-pub known_from : (d : Named) (staged : ℕ) (latest : List ℕ) → IsWithin d staged latest → IsKnown d latest
-known_from d staged latest within = (
-  (λ zero. absurd (omega (arith, (within (Plain 0) zero).0))),
-  (λ f v named. within (Version f v) named),
-)
-
-pub within_from : (d : Named) (staged : ℕ) (latest : List ℕ) → ((n : ℕ) → Names d (Plain n) → n ≤ staged) → IsKnown d latest → IsWithin d staged latest
-within_from d staged latest below known (Plain zero) named = absurd (known.0 named)
-within_from d staged latest below known (Plain (suc n)) named = (omega arith, below (suc n) named)
-within_from d staged latest below known (Version f v) named = known.1 f v named
 
 pub own : (f v : ℕ) → is_of f (Version f v) ≡ true
 own f v = eq-eqb f f refl
@@ -80,7 +69,7 @@ needs_from g k latest d versions listed known none (Plain n) named =
 needs_from g k latest d versions listed known none (Version f w) named =
     ⊎_elim
     (λ (l : slice_index g.persistent f < w).
-    let lt : w - (slice_index g.persistent f + 1) < counted f k g.waiting = omega (arith, l, known.1 f w named, versions f) in
+    let lt : w - (slice_index g.persistent f + 1) < counted f k g.waiting = omega (arith, l, known f w named, versions f) in
     let one = one_counted f g.waiting k (w - (slice_index g.persistent f + 1)) lt in
     let family = family_of f one.1 one.5 in
     let at : WaitsAt g one.0 (Version f family.0) one.2 = subst (λ x. WaitsAt g one.0 x one.2) family.1 one.4 in
@@ -91,13 +80,10 @@ needs_from g k latest d versions listed known none (Version f w) named =
     (cases_lt (slice_index g.persistent f) w)
 
 known_of : (g : Pending) (k plain : ℕ) (latest : List ℕ) (x : Element) (d : Named) → IsListing g → IsUpTo g k plain latest → WaitsAt g k x d → IsKnown d latest
-known_of g k plain latest x d listing up at = (
-  (listing k x d at).no_zero,
-  (λ f v named. ⊎_elim
-      (λ (p : IsPersistent g (Version f v)). omega (arith, p, up.versions f))
-      (λ (b : WaitsBefore g k (Version f v)). omega (arith, (listing b.0 (Version f v) b.1 b.3).number.2, counted_past f g.waiting b.0 k (Version f v) b.1 b.2 b.3 (own f v), up.versions f))
-      ((listing k x d at).needs (Version f v) named)),
-)
+known_of g k plain latest x d listing up at f v named = ⊎_elim
+    (λ (p : IsPersistent g (Version f v)). omega (arith, p, up.versions f))
+    (λ (b : WaitsBefore g k (Version f v)). omega (arith, (listing b.0 (Version f v) b.1 b.3).number.2, counted_past f g.waiting b.0 k (Version f v) b.1 b.2 b.3 (own f v), up.versions f))
+    ((listing k x d at).needs (Version f v) named)
 
 names_none_from : (g : Pending) (k : ℕ) (x : Element) (d : Named) → IsListing g → WaitsAt g k x d → NamesFrom g d k → ⊥
 names_none_from g k x d listing at n =
@@ -112,7 +98,6 @@ listed_from g k plain latest x d up listed may = record {
   number = number_from g k plain latest x up may.0;
   needs = needs_from g k latest d up.versions listed may.1 may.2;
   others = may.3;
-  no_zero = may.1.0;
 }
 
 -- in a list that keeps the rules each element may stand

@@ -88,7 +88,7 @@ said_well_formed d letters vs es ws target xs rounds chain persistent elements a
       persistent = said_persistent d letters vs persistent s;
       elements = same;
       there = entries_within letters distinct es vs g.persistent ws g.waiting (sym same) are theirs;
-      back = entries_within letters distinct es g.persistent vs g.waiting ws same theirs are;
+      back = λ k x n at. let r = entries_within letters distinct es g.persistent vs g.waiting ws same theirs are k x n at in (r.0, r.1);
     } in
     let one_target : xs ≡ s.4.named.0 = same_names letters distinct xs s.4.named.0 names s.4.named.1 (same_Some (names_data letters xs) (names_data letters s.4.named.0) (sym named ∙ s.4.named.3)) in
     let one_rounds : s.2 ≡ rounds = same_rounds letters distinct s.2 rounds s.4.taken.0 taken (same_Some (rounds_data letters s.2) (rounds_data letters rounds) (sym s.4.taken.1 ∙ took)) in

@@ -29,17 +29,12 @@ abbrev pub NamesOthers : Pending → Element → Named → Type 0
 NamesOthers g (Plain n) d = Unit {0}
 NamesOthers g (Version f v) d = (w : ℕ) → Names d (Version f w) → IsPersistent g (Version f w)
 
--- There is no plain write 0.
-abbrev pub NamesZero : Named → Type 0
-NamesZero d = Names d (Plain 0)
-
 -- x, with needs d, may stand at place k of the list.
 pub record IsListedAt (g : Pending) (k : ℕ) (x : Element) (d : Named) : Type 0 where
   pub number : IsNumberedAt g k x
   -- what it names is persistent or listed before it
   pub needs : (y : Element) → Names d y → IsPersistent g y ⊎ WaitsBefore g k y
   pub others : NamesOthers g x d
-  pub no_zero : ¬ NamesZero d
 
 abbrev pub IsListing : Pending → Type 0
 IsListing g = (k : ℕ) (x : Element) (d : Named) → WaitsAt g k x d → IsListedAt g k x d
@@ -53,7 +48,6 @@ pub record IsWellFormed (g : Pending) (target : Named) (rounds : List (List Elem
   pub families : (1 ≤ length g.persistent) × (length g.persistent ≤ 16)
   pub persistent : All (λ v. v < 2 ^ 63) g.persistent
   pub elements : IsListing g
-  pub no_zero : ¬ NamesZero target
   -- the rounds and the chain are of waiting elements
   pub schedule : IsSchedule g rounds
   pub once : All IsOnce rounds

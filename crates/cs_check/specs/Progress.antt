@@ -6,7 +6,7 @@ use Rattle.cs_deps.specs.declared.elements.Element.TheVariants.{Plain, Version}
 use Rattle.cs_deps.specs.Named.{Named, Names}
 use Rattle.cs_deps.specs.Pending.{Pending, WaitsAt, Waits, Needs, SatisfiedBy}
 use Rattle.cs_deps.specs.Schedule.{all_of}
-use Rattle.cs_check.specs.Listing.{IsListedAt, NamesOthers, NamesZero, WaitsBefore, versions_before}
+use Rattle.cs_check.specs.Listing.{IsListedAt, NamesOthers, WaitsBefore, versions_before}
 
 -- 1 to 16 families, with versions below 2^63
 abbrev pub HaveFamilies : Pending → Type 0
@@ -18,7 +18,7 @@ NamesFrom g d k = (j : ℕ) × (x : Element) × (e : Named) × (k ≤ j) × Wait
 
 -- d names no version past the last listed
 abbrev pub IsKnown : Named → List ℕ → Type 0
-IsKnown d latest = (¬ NamesZero d) × ((f v : ℕ) → Names d (Version f v) → v ≤ slice_index latest f)
+IsKnown d latest = (f v : ℕ) → Names d (Version f v) → v ≤ slice_index latest f
 
 -- the next number, after the last plain write and the last versions
 abbrev pub IsNext : ℕ → List ℕ → Element → Type 0

@@ -4,7 +4,7 @@ use Rattle.cs_deps.specs.declared.elements.Element.{Element}
 use Rattle.cs_deps.specs.declared.elements.Element.TheVariants.{Version}
 use Rattle.cs_deps.specs.Named.{Named}
 use Rattle.cs_deps.specs.Pending.{Pending, Waits, Needs, Satisfied}
-use Rattle.cs_deps.specs.Schedule.{IsSchedule, all_of, Respects, Covers}
+use Rattle.cs_deps.specs.Schedule.{all_of, Covers}
 use Rattle.cs_deps.specs.Chain.{IsChainOf}
 use Rattle.cs_check.specs.Listing.{IsWellFormed}
 

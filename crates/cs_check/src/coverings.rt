@@ -4,7 +4,7 @@ ghost use Rattle.cs_deps.specs.Named.{Names, StandsFor};
 ghost use Rattle.cs_deps.specs.Pending.{SatisfiedBy};
 ghost use Rattle.cs_deps.specs.Schedule.{IsSchedule, Covers};
 ghost use Rattle.cs_deps.specs.View.{pending_of};
-ghost use Rattle.cs_check.specs.Listing.{IsListing, NamesZero};
+ghost use Rattle.cs_check.specs.Listing.{IsListing};
 ghost use Rattle.cs_check.specs.Tests.{InTime};
 ghost use Rattle.cs_check.specs.Progress.{elements_of, IsFirst, AreFirsts, AllBefore, NeedsBefore, AreLatest};
 
@@ -139,7 +139,6 @@ pub fn is_covered(
     requires latest { AreLatest (pending_of view.now) latest.now }
     requires firsts { AreFirsts (pending_of view.now) (elements_of rounds.now) firsts.now }
     requires schedule { IsSchedule (pending_of view.now) (elements_of rounds.now) }
-    requires no_zero { ¬ NamesZero target.now }
     ensures { IsTrue result ↔ Covers (pending_of view.now) (elements_of rounds.now) target.now }
 {
     is_known(target, latest) && all_before(view, firsts, target, rounds.len())

@@ -81,6 +81,7 @@ pub fn to_document(
 ) -> Result<String, CheckFault>
     ensures text { IfOk result (λ text. IsTextOf (string_bytes text) letters.now (pending_of view.now) target.now (rounds_of plan.now) plan.now.chain.items) }
     ensures ok { OnOk result (HasDocument letters.now (pending_of view.now) target.now (rounds_of plan.now) plan.now.chain.items) }
+    ensures document { IfOk result (λ text. (d : Data) × (read (string_bytes text) ≡ Some d) × IsDocument d) }
     ensures bad { IfErr result (λ fault. Blames fault (HasDocument letters.now (pending_of view.now) target.now (rounds_of plan.now) plan.now.chain.items)) }
 {
     written(alloc, view, target, &plan.rounds, &plan.chain, letters)

@@ -26,22 +26,11 @@ fn names_from(view: &GraphView, needs: &Dependency, k: usize) -> bool
     false
 }
 
-/// A number that no plain write that it names is past.
-fn greatest_plain(needs: &Dependency) -> u64
-    ensures { (n : ℕ) → Names needs.now (Item.Plain n) → n ≤ result }
-{
-    let mut greatest: u64 = needs.through_number();
-    for number in needs.listed() {
-        greatest = greatest.max(*number);
-    }
-    greatest
-}
-
-/// Whether it names no version past the last of its family, and no plain write 0.
+/// Whether it names no version past the last of its family.
 pub fn is_known(needs: &Dependency, latest: &[u64]) -> bool
     ensures { IsTrue result ↔ IsKnown needs.now latest.now }
 {
-    needs.is_within(greatest_plain(needs), latest)
+    needs.versions_within(latest)
 }
 
 /// Whether the element has the number that follows on the last plain write and the last versions.

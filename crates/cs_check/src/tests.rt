@@ -1,5 +1,5 @@
 use crate::{CheckFault, Document, Verdict, check, from_document, reads_as_written, to_document};
-use cs_deps::{Dependency, Refusal};
+use cs_deps::{Dependency, Plan, Refusal};
 use std::alloc::Global;
 use std::test::Fail;
 
@@ -291,13 +291,14 @@ fn refused_writes(rt: HostRuntime) -> Result<(), Fail> {
     let bad = Some(CheckFault::BadDocument);
     assert_eq!(rt; unwritten(alloc, &document, &none, &['s', 'r']), None);
     assert_eq!(rt; unwritten(alloc, &document, &past, &['s', 'r']), bad);
-    assert_eq!(rt; unwritten(alloc, &document, &zero, &['s', 'r']), bad);
+    assert_eq!(rt; unwritten(alloc, &document, &zero, &['s', 'r']), None);
     assert_eq!(rt; unwritten(alloc, &document, &none, &['s', 'w']), bad);
     assert_eq!(rt; unwritten(alloc, &document, &none, &['s']), bad);
-    assert_eq!(rt;
-        check(alloc, &document.view, &zero, &document.plan),
-        Err(CheckFault::BadDocument)
-    );
+    let empty = Plan {
+        rounds: Vec::new(alloc),
+        chain: Vec::new(alloc),
+    };
+    assert_eq!(rt; check(alloc, &document.view, &zero, &empty), optimal(0));
     assert_eq!(rt;
         check(alloc, &document.view, &past, &document.plan),
         Err(CheckFault::Uncovered)

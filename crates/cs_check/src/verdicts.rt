@@ -2,7 +2,7 @@
 ghost use Rattle.std.specs.Prelude.{◌≡◌, ◌≤◌, ◌⊎◌, ◌↔◌, IfOk, IfErr, OnOk, IsTrue, length};
 ghost use Rattle.cs_deps.specs.Schedule.{IsSchedule, Respects, Covers, IsFewest};
 ghost use Rattle.cs_deps.specs.View.{pending_of, rounds_of};
-ghost use Rattle.cs_check.specs.Listing.{IsWellFormed, NamesZero};
+ghost use Rattle.cs_check.specs.Listing.{IsWellFormed};
 ghost use Rattle.cs_check.specs.Tests.{Passes};
 ghost use Rattle.cs_check.specs.Faults.{FirstFailed};
 ghost use Rattle.cs_check.specs.Progress.{AreLatest, HaveFamilies, elements_of};
@@ -34,13 +34,6 @@ fn has_families(view: &GraphView) -> bool
     1 <= families && families <= MAX_FAMILIES && view.persistent.iter().all(|v| *v < LIMIT)
 }
 
-/// Whether the dependency names plain write 0, which is none.
-fn names_zero(target: &Dependency) -> bool
-    ensures { IsTrue result ↔ NamesZero target.now }
-{
-    target.names(Element::Plain(0))
-}
-
 /// The last version that is listed of each family, where all keeps the rules of a document.
 pub fn well_formed(
     alloc: Global,
@@ -54,9 +47,6 @@ pub fn well_formed(
 {
     let latest = latest_versions(alloc, view)?;
     if !has_families(view) {
-        return Err(CheckFault::BadDocument);
-    }
-    if names_zero(target) {
         return Err(CheckFault::BadDocument);
     }
     if !are_rounds(view, rounds) {
@@ -108,9 +98,8 @@ fn test(
 /// no schedule takes fewer flushes.
 ///
 /// The first test that fails is answered: 10, 11, 12, 13, 14, 15. What the target or a need names and is persistent in
-/// the view is passed over, and so is a plain write that the view doesn't list. There is no plain write 0, so a
-/// dependency that names it is 10. A version past the last one listed is 10 as a need and 12 in the target. 9 where a
-/// growth was refused.
+/// the view is passed over, and so is a plain write that the view doesn't list, number 0 too. A version past the last
+/// one listed is 10 as a need and 12 in the target. 9 where a growth was refused.
 ///
 /// With n waiting elements, m members in all rounds and names of size d, it takes time in the order of n * (n + m) * d.
 pub fn check(

@@ -14,11 +14,11 @@ returns-then-is_known c =
           (subst (λ (n : ℕ). AllBefore g c.args.firsts.now c.args.target.now n) (sym count) (c.all_before.ensures.0 yes))),
       (λ covers. c.all_before.ensures.1
           (subst (λ (n : ℕ). AllBefore g c.args.firsts.now c.args.target.now n) count
-          (covers_to g c.requires.listing c.args.latest.now c.requires.latest rounds c.requires.schedule c.args.firsts.now c.requires.firsts c.args.target.now c.requires.no_zero covers).1)),
+          (covers_to g c.requires.listing c.args.latest.now c.requires.latest rounds c.requires.schedule c.args.firsts.now c.requires.firsts c.args.target.now covers).1)),
     )
 
 pub returns-else-is_known : goal.returns-else-is_known
 returns-else-is_known c = (
   (λ yes. absurd (cc (yes, c.if-is_known.false))),
-  (λ covers. absurd (cc (c.is_known.ensures.1 (covers_to (pending_of c.args.view.now) c.requires.listing c.args.latest.now c.requires.latest (elements_of c.args.rounds.now) c.requires.schedule c.args.firsts.now c.requires.firsts c.args.target.now c.requires.no_zero covers).0, c.if-is_known.false))),
+  (λ covers. absurd (cc (c.is_known.ensures.1 (covers_to (pending_of c.args.view.now) c.requires.listing c.args.latest.now c.requires.latest (elements_of c.args.rounds.now) c.requires.schedule c.args.firsts.now c.requires.firsts c.args.target.now covers).0, c.if-is_known.false))),
 )

@@ -9,7 +9,7 @@ returns-then-not-is_known-clause-bad c = inr (
   refl,
   λ p.
       let ours = c.in_ok-latest.ensures.ok in
-      let known = listed_known (pending_of c.args.view.now) ours.0.elements c.in_ok-latest.latest.items ours.1 c.args.target.now ours.0.no_zero p.listed in
+      let known = listed_known (pending_of c.args.view.now) ours.0.elements c.in_ok-latest.latest.items ours.1 c.args.target.now p.listed in
       absurd (cc (c.is_known.ensures.1 (subst (λ (xs : List ℕ). IsKnown c.args.target.now xs) (sym c.as_slice-latest.ensures.value) known), c.if-not-is_known.true)),
 )
 
