@@ -8,7 +8,7 @@ use Rattle.cs_chunk.proofs.Newest.{one_place}
 use Rattle.cs_deps.specs.declared.elements.Element.{Element}
 use Rattle.cs_deps.specs.declared.elements.Element.TheVariants.{Plain, Version}
 use Rattle.cs_deps.specs.Named.{Named}
-use Rattle.cs_deps.specs.Pending.{Waits}
+use Rattle.cs_deps.specs.Pending.{Waits, WaitsAt}
 use Rattle.cs_deps.specs.Staging.{Staging}
 use Rattle.cs_deps.specs.State.{IsNewestOn, IsWhole, NoneOn, State as Graph, Write, write_of}
 use Rattle.cs_extent.specs.Appended.{IsAppended}
@@ -47,7 +47,18 @@ pointer_within f e k most le all d = split (d == e) refl
     split true is = le
     split false is = all d
 
-module _ (x : State) (g : Graph) (r : Reason) (frame : List (List ℕ)) (l : Locator) (y : State) (h : Graph) (a : IsAppended x g r frame l y h) (whole : IsWhole h) where
+-- The waiting plain writes have their writes, and wait in the order of their numbers.
+pub record HasWrites (h : Graph) : Type 0 where
+  pub in_order : (j k m n : ℕ) (d e : Named) → WaitsAt h.staging.pending j (Plain m) d → WaitsAt h.staging.pending k (Plain n) e → j < k → m < n
+  pub writes : (n : ℕ) → Waits h.staging.pending (Plain n) → (w : Write) × (write_of h (Plain n) ≡ Some w)
+
+pub has_writes : (h : Graph) → IsWhole h → HasWrites h
+has_writes h whole = record {
+  in_order = whole.kept.staged.plains_in_order;
+  writes = λ n waits. whole.writes (Plain n) waits;
+}
+
+module _ (x : State) (g : Graph) (r : Reason) (frame : List (List ℕ)) (l : Locator) (y : State) (h : Graph) (a : IsAppended x g r frame l y h) (has : HasWrites h) where
   abbrev waited : List (Element × Named)
   waited = g.staging.pending.waiting
 
@@ -85,7 +96,7 @@ module _ (x : State) (g : Graph) (r : Reason) (frame : List (List ℕ)) (l : Loc
   pub older : (n i : ℕ) → Waits g.staging.pending (Plain n) → i < length frame → n < g.staging.staged + 1 + i
   older n i w lt =
       let e = new_at i lt in
-      whole.kept.staged.plains_in_order w.0 (length waited + i) n (g.staging.staged + 1 + i) w.1 e.0 (kept_at w.0 (Plain n, w.1) w.2) e.1 (omega (arith, slice_get_within waited w.0 (Plain n, w.1) w.2))
+      has.in_order w.0 (length waited + i) n (g.staging.staged + 1 + i) w.1 e.0 (kept_at w.0 (Plain n, w.1) w.2) e.1 (omega (arith, slice_get_within waited w.0 (Plain n, w.1) w.2))
 
   -- what waits waited before, or is a page of the frame
   pub came_waits : (m : ℕ) → Waits h.staging.pending (Plain m) → Waits g.staging.pending (Plain m) ⊎ ((i : ℕ) × (i < length frame) × (m ≡ g.staging.staged + 1 + i))
@@ -117,7 +128,7 @@ module _ (x : State) (g : Graph) (r : Reason) (frame : List (List ℕ)) (l : Loc
   pub newest_stays : (p : ℕ) (b : List ℕ) → ((j : ℕ) → j < length frame → at_page j ≢ p) → IsNewestOn g p b → IsNewestOn h p b
   newest_stays p b apart n =
       let waits = kept_waits n.number n.waits in
-      let w = whole.writes (Plain n.number) waits in
+      let w = has.writes n.number waits in
       record {
         number = n.number;
         waits = waits;
@@ -140,7 +151,7 @@ module _ (x : State) (g : Graph) (r : Reason) (frame : List (List ℕ)) (l : Loc
   -- a page of the frame is the newest
   pub newest_begins : (i : ℕ) → i < length frame → IsNewestOn h (at_page i) (slice_index_or frame i [])
   newest_begins i lt =
-      let w = whole.writes (Plain (g.staging.staged + 1 + i)) (new_waits i lt) in
+      let w = has.writes (g.staging.staged + 1 + i) (new_waits i lt) in
       record {
         number = g.staging.staged + 1 + i;
         waits = new_waits i lt;

@@ -7,7 +7,7 @@ use Rattle.std.proofs.lemmas.List.Sums.{sum_by-cons}
 use Rattle.cs_chunk.specs.Chunks.{AreChunksAt}
 use Rattle.cs_chunk.specs.Newest.{AreNewest}
 use Rattle.cs_chunk.specs.Puts.{AreNewestFrames, IsNewestFrame, IsPutSoFar, MayPut}
-use Rattle.cs_chunk.proofs.Appends.{frame_begins, frames_stay, staged_more, within_more}
+use Rattle.cs_chunk.proofs.Appends.{frame_begins, frames_stay, has_writes, staged_more, within_more}
 use Rattle.cs_chunk.proofs.Newest.{reads_newest, stand_of}
 use Rattle.cs_deps.specs.State.{IsWhole, State as Graph}
 use Rattle.cs_disk.specs.Disk.{Image}
@@ -76,11 +76,11 @@ module _ (x : State) (g : Graph) (f : List (List ℕ)) (left : List (List (List 
     may_more = record {
       families = omega (arith, families, may.families);
       resets = resets;
-      pointers = λ e. omega (arith, within_more x g ForPut f l y h a whole may.pointers e, same_pages);
+      pointers = λ e. omega (arith, within_more x g ForPut f l y h a (has_writes h whole) may.pointers e, same_pages);
       pages = subst (λ n. AllByRecursion (λ k. (1 ≤ k) × (k ≤ n)) (page_counts left)) (sym same_pages) may.pages.1;
       fits = rw (a.same_shape, a.extents) (subst (λ e. Fits (shape x) (taken (shape x) (extents_of x) e (length f)) ForPut (page_counts left)) (placed_one (shape x) (extents_of x) ForPut (length f) may.fits.0 l.extent may.fits.1 a.placed) may.fits.2);
       numbers = λ worn. ⊎_elim
-          (λ (n : 2 ^ 63 ≤ h.staging.staged + sum (page_counts left)). may.numbers (inl (omega (arith, n, staged_more x g ForPut f l y h a whole, sum_of (length f) (page_counts left)))))
+          (λ (n : 2 ^ 63 ≤ h.staging.staged + sum (page_counts left)). may.numbers (inl (omega (arith, n, staged_more x g ForPut f l y h a (has_writes h whole), sum_of (length f) (page_counts left)))))
           (λ (n : 2 ^ 63 ≤ get_or h.staging.latest superblock_family 0 + length (page_counts left)). may.numbers (inr (omega (arith, n, latest_more))))
           worn;
       room = omega (arith, may.room, room, sum_of (length f) (page_counts left));
@@ -93,8 +93,8 @@ so_far_more x g done f left ls y h l z i was a whole resets families room = reco
   appended = appended_more x g ForPut done ls y h f l z i was.appended a;
   newest = subst (λ S. AreNewestFrames S (extents_of z) i (ls ++ l ∷ []) (done ++ f ∷ [])) was.same_shape
       (frames_more (shape y) (extents_of z) i ls done l f
-      (frames_stay y h ForPut f l z i a whole was.may.pointers ls done (subst (λ S. AreNewestFrames S (extents_of y) h ls done) (sym was.same_shape) was.newest))
-      (frame_begins y h ForPut f l z i a whole));
+      (frames_stay y h ForPut f l z i a (has_writes i whole) was.may.pointers ls done (subst (λ S. AreNewestFrames S (extents_of y) h ls done) (sym was.same_shape) was.newest))
+      (frame_begins y h ForPut f l z i a (has_writes i whole)));
   may = may_more y h f left was.may l z i a whole resets families room;
   same_shape = a.same_shape ∙ was.same_shape;
   families = families ∙ was.families;

@@ -1,7 +1,7 @@
 //! Laws of what is read.
 ghost use Rattle.std.specs.Prelude.{◌≡◌, ◌≢◌, ◌+◌, ◌<◌, ◌≤◌, ℕ, List, length};
 ghost use Rattle.cs_chunk.specs.Newest.{AreNewest};
-ghost use Rattle.cs_chunk.specs.Stays.{AreSettled, IsBelow};
+ghost use Rattle.cs_chunk.specs.Stays.{IsBelow};
 ghost use Rattle.cs_deps.specs.State.{IsWhole as IsWholeGraph, State as GraphState};
 ghost use Rattle.cs_disk.specs.Disk.{Image};
 ghost use Rattle.cs_extent.specs.Appended.{IsAppended};
@@ -17,15 +17,13 @@ pub fn pages_have_one_newest()
     ensures { (g : GraphState) (image : Image) (v w : ℕ → List ℕ) → AreNewest g image v → AreNewest g image w → (p : ℕ) → v p ≡ w p }
 {}
 
-/// A frame below the pointer of its extent, of the generation that the extent has, stands as it stood: whatever is
-/// appended, whatever is settled, and whatever other extent is reset.
+/// A frame below the pointer of its extent, of the generation that the extent has, stands as it stood, whatever is appended,
+/// and stays below the pointer, whatever other extent is reset. That a round that goes out leaves what pages read as rests on
+/// the order in which a page's writes may go, which `cs_bridge::pages_are_read` knows.
 pub fn what_was_put_stays()
     ensures append { (x y : State) (g h : GraphState) (reason : Purpose) (frame old : List (List ℕ)) (l k : Place) (image : Image) (view now : ℕ → List ℕ)
         → IsWhole x → IsAppended x g reason frame l y h → IsWholeGraph h → AreNewest g image view → AreNewest h image now
         → IsBelow (extents_of x) k old → Stand (shape x) (formats_of (shape x)) view k.extent k.page old
         → Stand (shape x) (formats_of (shape x)) now k.extent k.page old × IsBelow (extents_of y) k old }
-    ensures settled { (S : Shape) (g h : GraphState) (old : List (List ℕ)) (k : Place) (image new : Image) (view now : ℕ → List ℕ)
-        → AreSettled S g h new view → IsWholeGraph h → AreNewest g image view → AreNewest h new now
-        → k.extent < S.extents → k.page + length old ≤ S.pages → Stand S (formats_of S) view k.extent k.page old → Stand S (formats_of S) now k.extent k.page old }
     ensures reset { (x : Given) (e root : ℕ) (k : Place) (old : List (List ℕ)) → k.extent ≢ e → IsBelow x k old → IsBelow (emptied x e root) k old }
 {}

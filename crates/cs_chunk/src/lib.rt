@@ -11,7 +11,7 @@ mod refusals;
 mod shards;
 
 pub use laws::{pages_have_one_newest, what_was_put_stays};
-pub use puts::put_chunks;
+pub use puts::{put_chunks, put_fits};
 pub use reads::read_frame;
 pub use refusals::{refusal_of_disk, refusal_of_fault};
 pub use shards::read_chunks;

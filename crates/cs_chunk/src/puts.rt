@@ -1,5 +1,5 @@
 //! Puts.
-ghost use Rattle.std.specs.Prelude.{◌≡◌, ◌↔◌, ◌⊎◌, ◌+◌, ◌*◌, ◌^◌, ◌<◌, ◌≤◌, ℕ, List, [], IfErr, IfOk, OnErr, OnOk, Err, length, map, sum, vec_capacity, vec_len};
+ghost use Rattle.std.specs.Prelude.{◌≡◌, ◌↔◌, ◌⊎◌, ◌+◌, ◌*◌, ◌^◌, ◌<◌, ◌≤◌, ℕ, List, [], IfErr, IfOk, MatchBool, OnErr, OnOk, Err, length, map, sum, vec_capacity, vec_len};
 ghost use Rattle.cs_chunk.specs.Chunks.{AreChunksAt, IsPutWorn};
 ghost use Rattle.cs_chunk.specs.Cuts.{IsCut, pages_of, pieces};
 ghost use Rattle.cs_chunk.specs.Newest.{AreNewest};
@@ -169,4 +169,22 @@ pub fn put_chunks(
         }
         Err(_) => Err(Refusal::OutOfMemory),
     }
+}
+
+/// Whether the frames of the chunks of these bytes, which are not too many, find places for a put: false where `put_chunks`
+/// would answer 30 `Full`. Takes no memory.
+pub fn put_fits(extents: &Extents, bytes: &[u8]) -> bool
+    requires { ¬ ((shape extents.now).most_chunks * (shape extents.now).chunk_bytes < length bytes.now) }
+    ensures { MatchBool result
+        ((cs : List (List ℕ)) × Chunked (shape extents.now).chunk_bytes bytes.now cs
+        × Fits (shape extents.now) (extents_of extents.now) ForPut (page_counts (chunk_frames (shape extents.now) (formats_of (shape extents.now)) cs)))
+        ((cs : List (List ℕ)) → Chunked (shape extents.now).chunk_bytes bytes.now cs
+        → ¬ Fits (shape extents.now) (extents_of extents.now) ForPut (page_counts (chunk_frames (shape extents.now) (formats_of (shape extents.now)) cs))) }
+{
+    // Its contract tells what all extents keep.
+    extents.extent_count();
+    let Some(cut) = Cut::of(extents, bytes.len()) else {
+        unreachable!()
+    };
+    cut.fits(extents)
 }

@@ -1,9 +1,10 @@
 //! Reads of frames.
-ghost use Rattle.std.specs.Prelude.{◌≡◌, ◌↔◌, ◌⊎◌, ◌+◌, ◌*◌, ◌-◌, ◌^◌, ◌<◌, ◌≤◌, ℕ, List, IfErr, IfOk, MatchResult, OnOk, length, take};
+ghost use Rattle.std.specs.Prelude.{◌≡◌, ◌↔◌, ◌⊎◌, ◌+◌, ◌*◌, ◌-◌, ◌^◌, ◌<◌, ◌≤◌, ℕ, List, IfErr, IfOk, IsOk, MatchResult, OnOk, length, take};
 ghost use Rattle.cs_chunk.specs.Chunks.{IsFrameAt, kind_of};
 ghost use Rattle.cs_chunk.specs.Newest.{AreNewest, IsReadAs};
 ghost use Rattle.cs_chunk.specs.Reads.{AnswersFault, AreReadAs, IsCaused, IsFrameFront, IsNoAnswer, IsOfFault, IsReadRefusal, OnlyReads, fault_at, pages_at};
 ghost use Rattle.cs_deps.specs.Refusals.{number_of};
+ghost use Rattle.cs_deps.specs.State.{NoneOn};
 ghost use Rattle.cs_disk.specs.Disk.{Elapses, seen};
 ghost use Rattle.cs_extent.specs.State.{IsWhole, shape};
 ghost use Rattle.cs_frame.specs.Formats.{formats_of};
@@ -24,6 +25,8 @@ fn read_page<D: PageDisk>(
     buffer: &mut [u8; 4096],
 ) -> Result<(), Refusal>
     requires { number < D.page_count disk.old }
+    // Where a write to the page waits the device isn't asked.
+    ensures waiting { ¬ NoneOn graph.now number → IsOk result × (disk.new ≡ disk.old) }
     ensures page { D.honest disk.old → OnOk result (IsReadAs graph.now (seen (D.state disk.old)) number buffer.new) }
     ensures refusals { IfErr result IsNoAnswer }
     ensures disk { OnlyReads D.honest D.state D.page_count D.failure_count D.moment D.left_since disk.old disk.new }

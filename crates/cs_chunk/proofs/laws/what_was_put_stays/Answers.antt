@@ -1,11 +1,8 @@
-use Rattle.cs_chunk.proofs.Staying.{below_reset, stays_appended, stays_settled}
+use Rattle.cs_chunk.proofs.Staying.{below_reset, stays_appended}
 use Rattle.cs_chunk.proofs.laws.what_was_put_stays.Goals as goal
 
 pub returns-clause-append : goal.returns-clause-append
 returns-clause-append c = stays_appended
-
-pub returns-clause-settled : goal.returns-clause-settled
-returns-clause-settled c = stays_settled
 
 pub returns-clause-reset : goal.returns-clause-reset
 returns-clause-reset c = below_reset

@@ -1,4 +1,4 @@
-use Rattle.std.proofs.Common.{List, ℕ, ◌+◌, ◌≤◌, ap, arith, length, subst, sym, Err}
+use Rattle.std.proofs.Common.{List, ℕ, ap, arith, length, subst, sym, Err}
 use Rattle.cs_chunk.specs.Reads.{IsFrameFront, pages_at}
 use Rattle.cs_extent.specs.State.{shape}
 use Rattle.cs_chunk.proofs.Framed.{all_fit, answers, frames_there, reads_it}
