@@ -2,7 +2,7 @@
 use Rattle.std.proofs.Common.{◌≡◌, ◌∙◌, ◌==◌, inl, inr, ℕ, zero, suc, ◌+◌, ◌<◌, ◌≤◌, Bool, List, [], ◌∷◌, Some, false, true, if◌then◌else◌, get_or, length, map, refl, sym, ap, subst, arith, eq-eqb, ne_eqb}
 use Rattle.std.proofs.lemmas.Bool.{cases_eq}
 use Rattle.std.proofs.lemmas.Option.{same_Some}
-use Rattle.cs_chunk.proofs.Appends.{frame_begins, newest_begins, placed_inside}
+use Rattle.cs_chunk.proofs.Appends.{frame_begins, has_writes, newest_begins, placed_inside}
 use Rattle.cs_chunk.proofs.Chunkings.{length-spelled}
 use Rattle.cs_chunk.proofs.Framed.{one_frame}
 use Rattle.cs_chunk.proofs.Newest.{reads_newest, stand_of}
@@ -48,11 +48,11 @@ module _ (x y : ExtentsState) (g h : Graph) (frame : List (List ℕ)) (to : Loca
   begins : (c : List ℕ) → frame ≡ chunk_frame x c → Is to c
   begins c is = subst (λ (f : List (List ℕ)). ((to.page + length f ≤ x.pages) × Stands f) × IsBelow (extents_of y) to f) is (
     (omega (arith, (placed_inside (shape x) (extents_of x) ForMove (length frame) to.extent a.placed).1, ap (λ (l : Locator). l.page) a.place), stand),
-    (ap (λ (l : Locator). l.generation) a.place ∙ sym (ap (λ (z : Extents). z.generation to.extent) a.extents), (frame_begins x g ForMove frame to y h a kept).given),
+    (ap (λ (l : Locator). l.generation) a.place ∙ sym (ap (λ (z : Extents). z.generation to.extent) a.extents), (frame_begins x g ForMove frame to y h a (has_writes h kept)).given),
   )
     where
       stand : Stands frame
-      stand = stand_of (shape x) (formats_of (shape x)) now to.extent to.page frame (λ i lt. reads_newest h image now ((shape x).address to.extent (to.page + i)) (get_or frame i []) after (newest_begins x g ForMove frame to y h a kept i lt))
+      stand = stand_of (shape x) (formats_of (shape x)) now to.extent to.page frame (λ i lt. reads_newest h image now ((shape x).address to.extent (to.page + i)) (get_or frame i []) after (newest_begins x g ForMove frame to y h a (has_writes h kept) i lt))
 
   all_stay : (ls : List Place) (cs : List (List ℕ)) → AreChunksAt (shape x) view (map as_locator ls) cs → AreBelow (shape x) (extents_of x) (map as_locator ls) cs
       → AreChunksAt (shape x) now (map as_locator ls) cs × AreBelow (shape x) (extents_of y) (map as_locator ls) cs

@@ -4,3 +4,4 @@ pub mod Moving
 pub mod Retiring
 pub mod Sweeping
 pub mod TestPlaces
+pub mod RetireKeeps

@@ -180,6 +180,11 @@ module _ (index : List Entry) (e id k : ℕ) (l : Place) (a : FirstLive index e 
   pub one_place : l ≡ m
   one_place = same_Some l m (sym a.there ∙ ap (λ n. nth (live_at index n) k) one_id ∙ ap (nth (live_at index jd)) one_chunk ∙ b.there)
 
+-- where no live chunk was found nothing is live
+pub dead : {F : Type 0} (o : Option F) (none : Type 0) (some : F → Type 0) → MatchOption o none some → is_some o ≡ false → none
+dead None none some found is = found
+dead (Some f) none some found is = absurd (cc is)
+
 -- what was found is live
 pub alive : {X : Type 0} (o : Option X) (index : List Entry) (e : ℕ) (id k : X → ℕ) (l : X → Place)
     → MatchOption o (NothingLive index e) (λ found. FirstLive index e (id found) (k found) (l found)) → is_some o ≡ true → NothingLive index e → ⊥

@@ -1,8 +1,10 @@
 -- A chunk that is moved, and why it isn't.
-use Rattle.std.proofs.Common.{◌≡◌, inr, ℕ, ◌+◌, ◌^◌, ◌<◌, ◌≤◌, List, Option, None, Some, Result, Ok, Err, OnOk, length, ap, subst, arith}
+use Rattle.std.proofs.Common.{◌≡◌, inl, inr, ⊎_elim, ℕ, ◌+◌, ◌^◌, ◌<◌, ◌≤◌, List, Option, None, Some, Result, Ok, Err, IfErr, OnOk, length, ap, subst, arith}
 use Rattle.std.proofs.lemmas.Option.{same_Some}
 use Rattle.cs_chunk.proofs.Chunkings.{length-spelled}
+use Rattle.cs_chunk.specs.Reads.{IsReadRefusal}
 use Rattle.cs_deps.specs.declared.refusals.Refusal.{Refusal}
+use Rattle.cs_deps.specs.declared.refusals.Refusal.TheVariants.{DeviceFault, Full, OutOfMemory, WornOut}
 use Rattle.cs_deps.specs.Staging.{Staging}
 use Rattle.cs_deps.specs.State.{State as GraphState}
 use Rattle.cs_extent.specs.Appended.{IsAppended}
@@ -12,14 +14,14 @@ use Rattle.cs_frame.specs.declared.identifiers.ShardId.{ShardId}
 use Rattle.cs_frame.specs.declared.locators.Locator.{Locator}
 use Rattle.cs_frame.specs.Formats.{as_locator, place_of}
 use Rattle.cs_frame.specs.Frames.{spelled_frame}
-use Rattle.cs_index.specs.Staged.{IsExact}
+use Rattle.cs_index.specs.Staged.{IsExact, IsWhy}
 use Rattle.cs_index.specs.State.{IsSet, State, id_number, index_of}
 use Rattle.cs_model.specs.Element.{Entry}
 use Rattle.cs_model.specs.Extents.{ForMove, NoPlace}
 use Rattle.cs_model.specs.Index.{FirstLive, live_at}
 use Rattle.cs_model.specs.Lists.{replaced}
 use Rattle.cs_reclaim.specs.declared.live.LiveChunk.{LiveChunk}
-use Rattle.cs_reclaim.specs.Moves.{AnswersPlace, IsMoved, chunk_frame}
+use Rattle.cs_reclaim.specs.Moves.{AnswersPlace, IsMoveFull, IsMoveWorn, IsMoved, chunk_frame}
 
 -- what lies in an extent is short
 pub small_payload : (page pages : ℕ) (payload : List ℕ) → pages ≤ 256 → page + length (spelled_frame 0 payload) ≤ pages → length payload < 2 ^ 32
@@ -44,6 +46,32 @@ module _ (x : ExtentsState) (s : Staging) where
 
   pub exact_place : {T : Type 0} (r : Result T Refusal) (frame : List (List ℕ)) (payload : List ℕ) → frame ≡ chunk_frame x payload → IsExact r (No frame) (Worn frame) → AnswersPlace x s payload r
   exact_place r frame payload is exact = place_of_exact r payload (subst (λ (f : List (List ℕ)). IsExact r (No f) (Worn f)) is exact)
+
+  -- what there is no place or no number for is the frame of a payload, whatever was read
+  pub full_move : {T : Type 0} (r : Result T Refusal) (frame : List (List ℕ)) (payload : List ℕ) → frame ≡ chunk_frame x payload → length (chunk_frame x payload) ≤ x.pages
+      → IsExact r (No frame) (Worn frame) → IfErr r (λ e. e ≡ Full → IsMoveFull x)
+  full_move (Ok t) frame payload is fits exact = tt
+  full_move (Err e) frame payload is fits exact = λ same. (payload, fits, subst No is (subst (λ f. IsWhy f (No frame) (Worn frame)) same exact))
+
+  pub worn_move : {T : Type 0} (r : Result T Refusal) (frame : List (List ℕ)) (payload : List ℕ) → frame ≡ chunk_frame x payload → length (chunk_frame x payload) ≤ x.pages
+      → IsExact r (No frame) (Worn frame) → IfErr r (λ e. e ≡ WornOut → IsMoveWorn x s)
+  worn_move (Ok t) frame payload is fits exact = tt
+  worn_move (Err e) frame payload is fits exact = λ same.
+      let why = subst (λ f. IsWhy f (No frame) (Worn frame)) same exact in
+      (payload, fits, subst (λ (f : List (List ℕ)). No f → ⊥) is why.0, subst Worn is why.1)
+
+-- a refused read is neither 30 nor 35
+pub not_full : (r : Refusal) → IsReadRefusal r → r ≡ Full → ⊥
+not_full r read is = elim (subst IsReadRefusal is read) [
+  | inl none ↦ ⊎_elim (λ (e : Full ≡ DeviceFault). absurd (cc e)) (λ (e : Full ≡ OutOfMemory). absurd (cc e)) none
+  | inr some ↦ absurd (omega (arith, some.1))
+]
+
+pub not_worn : (r : Refusal) → IsReadRefusal r → r ≡ WornOut → ⊥
+not_worn r read is = elim (subst IsReadRefusal is read) [
+  | inl none ↦ ⊎_elim (λ (e : WornOut ≡ DeviceFault). absurd (cc e)) (λ (e : WornOut ≡ OutOfMemory). absurd (cc e)) none
+  | inr some ↦ absurd (omega (arith, some.1))
+]
 
 -- ---- what was moved
 

@@ -1,5 +1,5 @@
 -- What moving a chunk does, and why it is refused.
-use Rattle.std.specs.Prelude.{◌≡◌, ◌⊎◌, ℕ, List, Option, None, Result, MatchResult, length}
+use Rattle.std.specs.Prelude.{◌≡◌, ◌⊎◌, ◌≤◌, ℕ, List, Option, None, Result, MatchResult, length}
 use Rattle.cs_chunk.specs.Reads.{IsNoAnswer, IsOfFault}
 use Rattle.cs_deps.specs.declared.refusals.Refusal.{Refusal}
 use Rattle.cs_deps.specs.declared.refusals.Refusal.TheVariants.{Full, WornOut}
@@ -37,6 +37,15 @@ pub record IsMoved (s : State) (x : ExtentsState) (g : GraphState) (e id chunk :
 abbrev pub AnswersMove : {T : Type 0} → Option FormatFault → Result T Refusal → Type 0
 AnswersMove found result = MatchResult result (λ _. found ≡ None)
     (λ r. IsNoAnswer r ⊎ IsOfFault found r ⊎ ((found ≡ None) × ((r ≡ Full) ⊎ (r ≡ WornOut))))
+
+-- no extent takes the frame of some payload, for whose pages an extent has enough
+abbrev pub IsMoveFull : ExtentsState → Type 0
+IsMoveFull x = (payload : List ℕ) × (length (chunk_frame x payload) ≤ x.pages) × NoPlace (shape x) (extents_of x) ForMove (length (chunk_frame x payload))
+
+-- an extent takes the frame of some payload, and a number would pass its greatest
+abbrev pub IsMoveWorn : ExtentsState → Staging → Type 0
+IsMoveWorn x s = (payload : List ℕ) × (length (chunk_frame x payload) ≤ x.pages)
+    × (NoPlace (shape x) (extents_of x) ForMove (length (chunk_frame x payload)) → ⊥) × IsWorn s (length (chunk_frame x payload))
 
 -- a chunk of this payload is moved exactly where there is a place and there are numbers for its frame, unless the device
 -- or memory refuses

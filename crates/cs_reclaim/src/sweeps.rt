@@ -1,5 +1,5 @@
 //! Sweeps of one extent each.
-ghost use Rattle.std.specs.Prelude.{◌≡◌, ◌↔◌, ◌⊎◌, ◌+◌, ◌*◌, ◌^◌, ◌<◌, ◌≤◌, ℕ, List, IfErr, IfOk, IsTrue, MatchResult, None, OnErr, OnOk, Some, false, length, map, slice_set, true};
+ghost use Rattle.std.specs.Prelude.{◌≡◌, ◌↔◌, ◌⊎◌, ◌+◌, ◌*◌, ◌^◌, ◌<◌, ◌≤◌, ℕ, List, IfErr, IfOk, IsTrue, MatchOption, MatchResult, None, OnErr, OnOk, Some, false, length, map, slice_set, true};
 ghost use Rattle.cs_chunk.specs.Chunks.{IsFrameAt};
 ghost use Rattle.cs_chunk.specs.Newest.{AreNewest};
 ghost use Rattle.cs_chunk.specs.Reads.{IsCaused, IsReadRefusal, fault_at};
@@ -17,7 +17,7 @@ ghost use Rattle.cs_model.specs.Extents.{ForMove, NoPlace, marked};
 ghost use Rattle.cs_model.specs.Formats.{ChunkFrame};
 ghost use Rattle.cs_model.specs.Index.{FirstLive, NothingLive, live_at, lookup};
 ghost use Rattle.cs_model.specs.Lists.{◌∈◌, nth, replaced};
-ghost use Rattle.cs_reclaim.specs.Moves.{AnswersMove, AnswersPlace, IsMoved, chunk_frame};
+ghost use Rattle.cs_reclaim.specs.Moves.{AnswersMove, AnswersPlace, IsMoveFull, IsMoveWorn, IsMoved, chunk_frame};
 ghost use Rattle.cs_reclaim.specs.Retired.{IsRetireFull, IsRetireWorn, IsRetired};
 ghost use Rattle.cs_reclaim.specs.Sweeps.{IsNotSweepable, IsSwept};
 
@@ -66,6 +66,18 @@ impl Sweep {
         Ok(Sweep { extent })
     }
 
+    /// The sweep of an extent that is marked as being swept, None where it isn't or isn't there. There is one sweep of it
+    /// where whoever marks extents keeps none beside the mark.
+    pub fn resume(extents: &Extents, extent: usize) -> Option<Sweep>
+        ensures { MatchOption result (((shape extents.now).extents ≤ extent) ⊎ ((extents_of extents.now).swept extent ≡ false)) (λ s. (s ≡ extent) × (extent < (shape extents.now).extents) × ((extents_of extents.now).swept extent ≡ true)) }
+    {
+        if extent < extents.extent_count() && extents.is_swept(extent) {
+            Some(Sweep { extent })
+        } else {
+            None
+        }
+    }
+
     /// The extent that is swept.
     pub fn extent(&self) -> usize
         ensures { result ≡ self.now }
@@ -109,6 +121,9 @@ impl Sweep {
         ensures why { D.honest disk.old → (view : ℕ → List ℕ) → AreNewest graph.old (seen (D.state disk.old)) view
             → (id chunk : ℕ) (from : Place) (payload : List ℕ) → FirstLive (index_of index.old) self.now id chunk from
             → IsFrameAt (shape extents.old) view ChunkFrame (as_locator from) payload → AnswersPlace extents.old graph.old.staging payload result }
+        // Whatever the disk answers, 30 and 35 come only where the frame of some payload finds no place, or no numbers.
+        ensures full { IfErr result (λ r. r ≡ Refusal.Full → IsMoveFull extents.old) }
+        ensures worn { IfErr result (λ r. r ≡ Refusal.WornOut → IsMoveWorn extents.old graph.old.staging) }
         ensures refusals { IfErr result (λ r. IsReadRefusal r ⊎ (r ≡ Refusal.Full) ⊎ (r ≡ Refusal.WornOut)) }
         ensures refused { OnErr result (index.new ≡ record index.old { room = index.new.room }) }
         ensures unwritten { OnErr result (extents.new ≡ extents.old) }
@@ -162,6 +177,7 @@ impl Sweep {
         ensures map { (id : ℕ) → live_at (index_of index.new) id ≡ live_at (index_of index.old) id }
 
         // Which refusal comes, and 9 may come instead of the others.
+        ensures nothing { OnOk result (NothingLive (index_of index.old) self) }
         ensures alive { (result ≡ Err (Refusal.StillLive, self)) ↔ ¬ NothingLive (index_of index.old) self }
         ensures why { NothingLive (index_of index.old) self
             → MatchResult result (λ _. (IsRetireFull index.old extents.old → ⊥) × (IsRetireWorn index.old extents.old graph.old.staging self → ⊥)) (λ r. IsWhy r.0 (IsRetireFull index.old extents.old) (IsRetireWorn index.old extents.old graph.old.staging self)) }
@@ -225,6 +241,8 @@ fn move_live<D: PageDisk>(
     ensures damaged { D.honest disk.old → (view : ℕ → List ℕ) → AreNewest graph.old (seen (D.state disk.old)) view → AnswersMove (fault_at (shape extents.old) view Chunk live.now.place) result }
     ensures why { D.honest disk.old → (view : ℕ → List ℕ) (payload : List ℕ) → AreNewest graph.old (seen (D.state disk.old)) view
         → IsFrameAt (shape extents.old) view ChunkFrame live.now.place payload → AnswersPlace extents.old graph.old.staging payload result }
+    ensures full { IfErr result (λ r. r ≡ Refusal.Full → IsMoveFull extents.old) }
+    ensures worn { IfErr result (λ r. r ≡ Refusal.WornOut → IsMoveWorn extents.old graph.old.staging) }
     ensures refusals { IfErr result (λ r. IsReadRefusal r ⊎ (r ≡ Refusal.Full) ⊎ (r ≡ Refusal.WornOut)) }
     ensures refused { OnErr result (index.new ≡ record index.old { room = index.new.room }) }
     ensures unwritten { OnErr result (extents.new ≡ extents.old) }
@@ -329,6 +347,7 @@ fn retire_extent(
     requires commands { commands < 2 ^ 63 }
     ensures retired { IfOk result (λ v. IsRetired index.old extents.old graph.old extent v commands index.new extents.new graph.new) }
     ensures map { (id : ℕ) → live_at (index_of index.new) id ≡ live_at (index_of index.old) id }
+    ensures nothing { OnOk result (NothingLive (index_of index.old) extent) }
     ensures alive { (result ≡ Err Refusal.StillLive) ↔ ¬ NothingLive (index_of index.old) extent }
     ensures why { NothingLive (index_of index.old) extent → IsExact result (IsRetireFull index.old extents.old) (IsRetireWorn index.old extents.old graph.old.staging extent) }
     ensures refusals { IfErr result (λ r. (r ≡ Refusal.StillLive) ⊎ (r ≡ Refusal.Full) ⊎ (r ≡ Refusal.WornOut) ⊎ (r ≡ Refusal.OutOfMemory)) }

@@ -6,7 +6,7 @@ use Rattle.cs_frame.specs.declared.frames.FrameKind.TheVariants.{Chunk}
 use Rattle.cs_frame.specs.Frames.{spelled_frame}
 use Rattle.cs_model.specs.Extents.{ForMove}
 use Rattle.cs_reclaim.specs.Moves.{chunk_frame}
-use Rattle.cs_reclaim.proofs.Moving.{exact_place, on_ok, small_payload}
+use Rattle.cs_reclaim.proofs.Moving.{exact_place, full_move, not_full, not_worn, on_ok, small_payload, worn_move}
 use Rattle.cs_reclaim.proofs.sweeps.move_live.Given.{Over}
 use Rattle.cs_reclaim.proofs.sweeps.move_live.Goals as goal
 use Rattle.cs_reclaim.proofs.sweeps.move_live.Goals.{After-drop-payload}
@@ -19,6 +19,12 @@ returns-in-Err-clause-damaged g c = λ h view are. ⊎_elim
 
 pub returns-in-Err-clause-why : goal.returns-in-Err-clause-why
 returns-in-Err-clause-why g c = λ h view payload are there. inl (c.in-Err.ensures.read h view payload are there)
+
+pub returns-in-Err-clause-full : goal.returns-in-Err-clause-full
+returns-in-Err-clause-full g c = λ is. absurd (not_full c.in-Err.refusal c.in-Err.ensures.refusals is)
+
+pub returns-in-Err-clause-worn : goal.returns-in-Err-clause-worn
+returns-in-Err-clause-worn g c = λ is. absurd (not_worn c.in-Err.refusal c.in-Err.ensures.refusals is)
 
 pub encode_frame-requires : goal.encode_frame-requires
 encode_frame-requires g c =
@@ -40,6 +46,16 @@ returns-in-Ok-encode_frame-clause-moved g c =
       (λ h view are. c.in-Ok.ensures.payload h view are),
     ))
     c.move_to.ensures.moved
+
+pub returns-in-Ok-encode_frame-clause-full : goal.returns-in-Ok-encode_frame-clause-full
+returns-in-Ok-encode_frame-clause-full g c =
+    full_move c.args.extents.now c.args.graph.now.staging c.move_to.result c.deref-in-Ok-encode_frame.result.now c.in-Ok.payload.items
+    (frame_is g (goal.at.returns-in-Ok-encode_frame-clause-full g c).After-drop-payload) (omega (arith, c.in-Ok.ensures.size)) c.move_to.ensures.why
+
+pub returns-in-Ok-encode_frame-clause-worn : goal.returns-in-Ok-encode_frame-clause-worn
+returns-in-Ok-encode_frame-clause-worn g c =
+    worn_move c.args.extents.now c.args.graph.now.staging c.move_to.result c.deref-in-Ok-encode_frame.result.now c.in-Ok.payload.items
+    (frame_is g (goal.at.returns-in-Ok-encode_frame-clause-worn g c).After-drop-payload) (omega (arith, c.in-Ok.ensures.size)) c.move_to.ensures.why
 
 pub returns-in-Ok-encode_frame-clause-why : goal.returns-in-Ok-encode_frame-clause-why
 returns-in-Ok-encode_frame-clause-why g c = λ h view payload are there.

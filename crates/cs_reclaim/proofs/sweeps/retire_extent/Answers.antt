@@ -5,7 +5,7 @@ use Rattle.cs_index.specs.State.{id_number, index_of}
 use Rattle.cs_model.specs.Extents.{ForMove}
 use Rattle.cs_model.specs.Index.{NothingLive}
 use Rattle.cs_reclaim.specs.declared.live.LiveChunk.{LiveChunk}
-use Rattle.cs_reclaim.proofs.Living.{alive}
+use Rattle.cs_reclaim.proofs.Living.{alive, dead}
 use Rattle.cs_reclaim.proofs.Sweeping.{merge_generation, merge_root, merge_stays, resets_emptied}
 use Rattle.cs_reclaim.proofs.sweeps.retire_extent.Goals as goal
 use Rattle.cs_reclaim.proofs.sweeps.retire_extent.Goals.{Then-is_some}
@@ -20,6 +20,9 @@ returns-then-is_some-clause-alive c = ((λ is none. still_live c none), (λ some
 
 pub returns-then-is_some-clause-why : goal.returns-then-is_some-clause-why
 returns-then-is_some-clause-why c = still_live c
+
+pub returns-clause-nothing : goal.returns-clause-nothing
+returns-clause-nothing c = dead c.first_live.result _ _ c.first_live.ensures (sym c.is_some.ensures ∙ c.if-is_some.false)
 
 pub reset-requires-clause-written : goal.reset-requires-clause-written
 reset-requires-clause-written c =

@@ -6,6 +6,9 @@ use Rattle.cs_reclaim.specs.Retired.{IsRetireFull, IsRetireWorn}
 use Rattle.cs_reclaim.proofs.Retiring.{alive_err, alive_ok}
 use Rattle.cs_reclaim.proofs.sweeps.Sweep.retire.Goals as goal
 
+pub returns-in-Ok-clause-nothing : goal.returns-in-Ok-clause-nothing
+returns-in-Ok-clause-nothing c = subst (λ (e : ℕ). NothingLive (index_of c.args.index.now) e) c.self.view_is c.in-Ok.ensures.nothing
+
 pub returns-in-Ok-clause-alive : goal.returns-in-Ok-clause-alive
 returns-in-Ok-clause-alive c = alive_ok c.args.self (index_of c.args.index.now) c.self.inside.extent c.args.self c.self.view_is c.in-Ok.root c.in-Ok.ensures.alive
 
