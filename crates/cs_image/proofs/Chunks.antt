@@ -1,0 +1,75 @@
+-- What lies at a place that is located: a chunk, or a damaged one.
+use Rattle.std.proofs.Common.{◌≡◌, ◌⊎◌, inl, inr, ℕ, zero, suc, ◌+◌, ◌-◌, ◌<◌, ◌≤◌, List, [], ◌∷◌, length, take, Option, Some, None, length-take, refl, ap, ◌∙◌, arith}
+use Rattle.std.specs.Prelude.{option_map}
+use Rattle.std.specs.List.{AllByRecursion}
+use Rattle.cs_frame.proofs.FrameLaws.{spells}
+use Rattle.cs_frame.proofs.Pieces.{length-first_chunks}
+use Rattle.cs_frame.specs.declared.faults.FormatFault.{FormatFault}
+use Rattle.cs_frame.specs.Bytes.{IsPage}
+use Rattle.cs_frame.specs.Formats.{formats_of, refusal_of}
+use Rattle.cs_frame.specs.Frames.{SpellsFrame, frame_bytes, frame_count, frame_fault, page_count, payload_in, spelled_frame}
+use Rattle.cs_index.proofs.Sorted.{all_take}
+use Rattle.cs_model.specs.Device.{Inside, Page, Shape}
+use Rattle.cs_model.specs.Formats.{ChunkFrame, Formats, Stand, pages_from}
+use Rattle.cs_model.specs.Local.{LiesBelow}
+use Rattle.cs_model.specs.Refusal.{Refusal}
+use Rattle.cs_image.specs.Reads.{ArePages}
+use Rattle.cs_image.proofs.Listed.{bytes_joined, each_has}
+
+length-from : (S : Shape) (F : Formats) (view : ℕ → Page) (e i n : ℕ) → length (pages_from S F view e i n) ≡ n
+length-from S F view e i zero = refl
+length-from S F view e i (suc n) = ap suc (length-from S F view e (suc i) n)
+
+-- a list that the front of the pages is stands there
+stand_front : (S : Shape) (F : Formats) (view : ℕ → Page) (e i n : ℕ) (bs : List Page) → length bs ≤ n
+    → take (length bs) (pages_from S F view e i n) ≡ bs → Stand S F view e i bs
+stand_front S F view e i n [] le is = tt
+stand_front S F view e i zero (b ∷ bs) le is = absurd (omega (arith, le))
+stand_front S F view e i (suc n) (b ∷ bs) le is =
+    let both : view (S.address e i) ∷ take (length bs) (pages_from S F view e (suc i) n) ≡ b ∷ bs = is in
+    let head : view (S.address e i) ≡ b = cc in
+    let tail : take (length bs) (pages_from S F view e (suc i) n) ≡ bs = cc in
+    (head, stand_front S F view e (suc i) n bs (omega (arith, le)) tail)
+
+module _ (S : Shape) (view : ℕ → Page) (count : ℕ) (below : LiesBelow S count) (are : ArePages count view) where
+  -- each page from a place on is a page
+  pub pages_there : (e i n : ℕ) → e < S.extents → i + n ≤ S.pages → AllByRecursion IsPage (pages_from S (formats_of S) view e i n)
+  pages_there e i zero there fits = tt
+  pages_there e i (suc n) there fits = (
+    are (S.address e i) (below.frames e i (there, omega (arith, fits))),
+    pages_there e (suc i) n there (omega (arith, fits)),
+  )
+
+  -- a frame that these pages spell stands there
+  frame_stands : (e i kind : ℕ) (payload : List ℕ) → i < S.pages
+      → SpellsFrame kind (pages_from S (formats_of S) view e i (S.pages - i)) payload
+      → (i + length (spelled_frame kind payload) ≤ S.pages) × Stand S (formats_of S) view e i (spelled_frame kind payload)
+  frame_stands e i kind payload lt it =
+      let size : length (spelled_frame kind payload) ≡ page_count (length payload) = length-first_chunks 4096 (page_count (length payload)) (frame_bytes kind payload) in
+      let all : length (pages_from S (formats_of S) view e i (S.pages - i)) ≡ S.pages - i = length-from S (formats_of S) view e i (S.pages - i) in
+      let fits : page_count (length payload) ≤ S.pages - i = omega (arith, size, all, ap length it.spelled, length-take (page_count (length payload)) (pages_from S (formats_of S) view e i (S.pages - i))) in (
+        omega (arith, size, fits, lt),
+        stand_front S (formats_of S) view e i (S.pages - i) (spelled_frame kind payload) (omega (arith, size, fits))
+            (ap (λ (k : ℕ). take k (pages_from S (formats_of S) view e i (S.pages - i))) size ∙ it.spelled),
+      )
+
+  pub chunk_or_fault : (e i : ℕ) → Inside S e i
+      → ((payload : List ℕ) × (i + length ((formats_of S).frame ChunkFrame payload) ≤ S.pages) × Stand S (formats_of S) view e i ((formats_of S).frame ChunkFrame payload))
+      ⊎ ((f : Refusal) × ((formats_of S).fault ChunkFrame (pages_from S (formats_of S) view e i (S.pages - i)) ≡ Some f))
+  chunk_or_fault e i inside = go (frame_fault 0 (pages_from S (formats_of S) view e i (S.pages - i))) refl
+    where
+      there : List Page
+      there = pages_from S (formats_of S) view e i (S.pages - i)
+
+      all : AllByRecursion IsPage (pages_from S (formats_of S) view e i (S.pages - i))
+      all = pages_there e i (S.pages - i) inside.0 (let lt : i < S.pages = inside.1 in omega arith)
+
+      go : (found : Option FormatFault) → frame_fault 0 (pages_from S (formats_of S) view e i (S.pages - i)) ≡ found
+          → ((payload : List ℕ) × (i + length ((formats_of S).frame ChunkFrame payload) ≤ S.pages) × Stand S (formats_of S) view e i ((formats_of S).frame ChunkFrame payload))
+          ⊎ ((f : Refusal) × ((formats_of S).fault ChunkFrame (pages_from S (formats_of S) view e i (S.pages - i)) ≡ Some f))
+      go None none =
+          let pages : List Page = pages_from S (formats_of S) view e i (S.pages - i) in
+          let stands = frame_stands e i 0 (payload_in pages) inside.1
+          (spells 0 pages (payload_in pages) (each_has pages all) (bytes_joined (take (frame_count pages) pages) (all_take IsPage (frame_count pages) pages all)) none refl) in
+          inl (payload_in pages, stands.0, stands.1)
+      go (Some f) is = inr (refusal_of f, ap (option_map refusal_of) is)

@@ -1,0 +1,221 @@
+-- What is read of an image is what it recovers.
+use Rattle.std.proofs.Common.{◌≡◌, ◌⊎◌, inl, inr, ⊎_elim, ℕ, suc, ◌+◌, ◌-◌, ◌*◌, ◌<◌, ◌≤◌, Bool, true, nat_lt, ◌&&◌, ◌==◌, List, [], ◌∷◌, length, map, Option, Some, None, if◌then◌else◌, eq-eqb, refl, sym, ap, ◌∙◌, subst, arith}
+use Rattle.std.specs.List.{AllByRecursion}
+use Rattle.std.proofs.lemmas.Bool.{lt-ltb}
+use Rattle.std.proofs.lemmas.List.{length-map}
+use Rattle.cs_extent.specs.State.{State as ExtentsState, extents_of, shape}
+use Rattle.cs_frame.specs.declared.locators.Locator.{Locator}
+use Rattle.cs_frame.specs.Formats.{formats_of, place_of}
+use Rattle.cs_frame.specs.Roots.{spelled_root}
+use Rattle.cs_index.proofs.Newest.{all_newest, all_oldest}
+use Rattle.cs_index.proofs.Whole.{length-newest}
+use Rattle.cs_index.specs.declared.runs.StoredRun.{StoredRun}
+use Rattle.cs_index.specs.State.{IsShort, IsStored, named_entry, newest_first, run_of}
+use Rattle.cs_model.proofs.Carries.{and_true}
+use Rattle.cs_model.specs.Element.{Bytes, Content, Damaged, Entry, Locator as Place, Map, Opening, Run}
+use Rattle.cs_model.specs.Formats.{ChunkFrame, RunFrame, Stand, opening_in, pages_from, places}
+use Rattle.cs_model.specs.Index.{AllPass, Gives, Holds, InBounds, InRange, Passes, Reads, ReadsAs, Value, after, entries_of, live, lookup}
+use Rattle.cs_model.specs.Lists.{◌∈◌}
+use Rattle.cs_model.specs.Recovery.{Recovers}
+use Rattle.cs_model.specs.Refusal.{Refusal}
+use Rattle.cs_image.specs.Openings.{IsFoundAs}
+use Rattle.cs_image.specs.Reads.{AreLocated, ArePages, IsLocated, IsRunRead, IsStoreRead, extents_at}
+use Rattle.cs_image.proofs.Chunks.{chunk_or_fault}
+use Rattle.cs_image.proofs.Listed.{found_in, in_all, in_entries, oldest_places}
+use Rattle.cs_image.proofs.Runs.{Stored, stands_read, stored_read}
+use Rattle.cs_image.proofs.Superblocks.{extents_are, extents_fit, geometry, pages_below, read_format, superblock_is}
+
+module _ (view : ℕ → List ℕ) (version pages : ℕ) (written : List (ℕ × ℕ)) (root commands : ℕ) (runs : List StoredRun)
+    (read : IsStoreRead view version pages written root commands runs) where
+  abbrev x : ExtentsState
+  x = extents_at pages written
+
+  abbrev p : ℕ → ℕ
+  p = (extents_of (extents_at pages written)).pointer
+
+  abbrev g : ℕ → ℕ
+  g = (extents_of (extents_at pages written)).generation
+
+  abbrev opening : Opening
+  opening = opening_in (shape x) (formats_of (shape x)) view p g
+
+  abbrev Located : Place → Type 0
+  Located = Passes (shape x) (formats_of (shape x)) view p g
+
+  fit : (e : ℕ) → (p e ≤ pages) × (g e ≤ 4294967295)
+  fit = extents_fit version pages written (view 0) read.superblock
+
+  passes : (l : Locator) → IsLocated x l → Located (place_of l)
+  passes l is = record {
+    generation = is.generation;
+    below = is.page;
+    inside = (is.extent, (let low : p l.extent ≤ pages = (fit l.extent).0 in let lt : l.page < p l.extent = is.page in omega arith));
+  }
+
+  in_range : (l : Place) → Located l → InRange (shape x) l
+  in_range l is = (is.inside, subst (λ (n : ℕ). n ≤ 4294967295) is.generation (fit l.extent).1)
+
+  not_empty : (l : Place) → Located l → opening.frozen l.extent l.generation ≡ true
+  not_empty l is = and_true (g l.extent == l.generation) (nat_lt 0 (p l.extent)) (eq-eqb _ _ is.generation)
+      (lt-ltb 0 (p l.extent) (let lt : l.page < p l.extent = is.below in omega arith))
+
+  -- ---- runs
+
+  abbrev EntryIn : Entry → Type 0
+  EntryIn e = (length e.locators ≤ 8) × ((l : Place) → l ∈ e.locators → Located l)
+
+  record RunIn (run : Run) : Type 0 where
+    reads : Reads (shape x) (formats_of (shape x)) opening view p g run.place ((formats_of (shape x)).frame RunFrame ((formats_of (shape x)).run run.entries))
+    fits : (formats_of (shape x)).fits_run run.entries ≡ true
+    entries : AllByRecursion EntryIn run.entries
+
+  located_in : (ls : List Locator) → AllByRecursion (IsLocated x) ls → (l : Place) → l ∈ map place_of ls → Located l
+  located_in [] all l none = absurd none
+  located_in (k ∷ ls) all l (inl is) = subst Located (sym is) (passes k all.0)
+  located_in (k ∷ ls) all l (inr has) = located_in ls all.1 l has
+
+  entries_in : (xs : Stored) → AllByRecursion (λ entry. AllByRecursion (IsLocated x) entry.1.items) xs → AllByRecursion IsShort (map named_entry xs)
+      → AllByRecursion EntryIn (map named_entry xs)
+  entries_in [] all short = tt
+  entries_in (e ∷ xs) all short = ((short.0, located_in e.1.items all.0), entries_in xs all.1 short.1)
+
+  run_in : (run : StoredRun) → IsRunRead x view run → AllByRecursion (λ entry. AllByRecursion (IsLocated x) entry.1.items) run.entries.items
+      → IsStored (run_of run) → RunIn (run_of run)
+  run_in run is located stored =
+      let stands = stands_read x view run is stored in
+      record {
+        reads = record {
+          passes = passes run.place is.located;
+          below = inr (not_empty (place_of run.place) (passes run.place is.located));
+          inside = stands.inside;
+          stand = stands.stand;
+        };
+        fits = stands.fits;
+        entries = entries_in run.entries.items located stored.2;
+      }
+
+  runs_in : AllByRecursion RunIn (newest_first runs)
+  runs_in = all_newest RunIn runs (go runs read.runs_read read.located (all_oldest IsStored runs (stored_read x view runs read.runs_read)))
+    where
+      go : (xs : List StoredRun) → AllByRecursion (IsRunRead x view) xs → AreLocated x xs → AllByRecursion (λ run. IsStored (run_of run)) xs → AllByRecursion (λ run. RunIn (run_of run)) xs
+      go [] a b c = tt
+      go (run ∷ xs) a b c = (run_in run a.0 b.0 c.0, go xs a.1 b.1 c.1)
+
+  all_entries : AllByRecursion EntryIn (entries_of (newest_first runs))
+  all_entries = in_entries EntryIn (newest_first runs) (go (newest_first runs) runs_in)
+    where
+      go : (rs : List Run) → AllByRecursion RunIn rs → AllByRecursion (λ run. AllByRecursion EntryIn run.entries) rs
+      go [] all = tt
+      go (run ∷ rs) all = (all.0.entries, go rs all.1)
+
+  all_pass : (xs : List Entry) → AllByRecursion EntryIn xs → (id : ℕ) → AllPass (shape x) (formats_of (shape x)) view p g (lookup id xs)
+  all_pass = found_in EntryIn (AllPass (shape x) (formats_of (shape x)) view p g) tt (λ e is. is.1)
+
+  live_pass : (id : ℕ) (l : Place) → l ∈ live (lookup id (entries_of (newest_first runs))) → Located l
+  live_pass id = found_in EntryIn (λ (o : Option (List Place)). (l : Place) → l ∈ live o → Located l) (λ l none. absurd none) (λ e is. is.1)
+      (entries_of (newest_first runs)) all_entries id
+
+  few_chunks : (id : ℕ) → length (live (lookup id (entries_of (newest_first runs)))) ≤ 8
+  few_chunks = found_in EntryIn (λ (o : Option (List Place)). length (live o) ≤ 8) (omega arith) (λ e is. is.0) (entries_of (newest_first runs)) all_entries
+
+  places_in : (rs : List Run) → AllByRecursion RunIn rs → (l : Place) → l ∈ places rs → InRange (shape x) l
+  places_in [] all l none = absurd none
+  places_in (run ∷ rs) all l (inl is) = subst (InRange (shape x)) (sym is) (in_range run.place all.0.reads.passes)
+  places_in (run ∷ rs) all l (inr has) = places_in rs all.1 l has
+
+  length-places : (rs : List Run) → length (places rs) ≡ length rs
+  length-places [] = refl
+  length-places (run ∷ rs) = ap suc (length-places rs)
+
+  -- ---- what is found
+
+  few_runs : length (newest_first runs) ≤ 4
+  few_runs = let few : length (map (λ run. run.place) runs) ≤ 4 = read.root_page.fits.count in
+      omega (arith, few, length-newest runs, length-map runs (λ run. run.place))
+
+  bounds : InBounds (shape x) root commands (length (newest_first runs)) (entries_of (newest_first runs))
+  bounds = record {
+    some_version = read.root_page.fits.first_version;
+    version_fits = (let lt = read.root_page.fits.last_version in omega (arith, lt));
+    commands_fit = (let lt = read.root_page.fits.last_command in omega (arith, lt));
+    few_runs = few_runs;
+    named = read.named;
+    chunks_fit = few_chunks;
+  }
+
+  module _ (m : Map) (gives : Gives (shape x) (formats_of (shape x)) opening view p g [] (newest_first runs) m) where
+    abbrev found : Recovers (shape x) (formats_of (shape x)) view commands m
+    found = record {
+      formats = λ j. 1;
+      versions = λ j. version;
+      pointers = p;
+      generations = g;
+      superblock = λ j lt. (let first : 0 ≡ j = omega (arith, lt) in
+          subst (λ (k : ℕ). view ((shape x).section_page k) ≡ (formats_of (shape x)).superblock 1 k version p g) first
+          (superblock_is version pages written (view 0) read.superblock 1));
+      versions_fit = λ j lt. (read.superblock.fits.first_version, (let last = read.superblock.fits.last_version in omega (arith, last)));
+      extents_fit = fit;
+      version = root;
+      runs = newest_first runs;
+      root = read.root_page.spelled ∙ ap (spelled_root root commands) (sym (oldest_places runs));
+      root_fits = (read_format version pages written (view 0) read.superblock).root_fits root commands (places (newest_first runs))
+          bounds.some_version bounds.version_fits bounds.commands_fit
+          (omega (arith, few_runs, length-places (newest_first runs))) (places_in (newest_first runs) runs_in);
+      runs_fit = λ run has. (in_all RunIn (newest_first runs) runs_in run has).fits;
+      bounds = bounds;
+      gives = gives;
+    }
+
+    pub found_as : (found : Recovers (shape x) (formats_of (shape x)) view commands m)
+        × IsFoundAs (shape x) (formats_of (shape x)) view commands m found x version root (newest_first runs)
+    found_as = (found, record { extents = extents_are pages written; superblock_version = refl; root_version = refl; same_runs = refl })
+
+  -- ---- what the entries give
+
+  module _ (are : ArePages (2 + length written * pages) view) where
+    chunk : (l : Place) → Located l
+        → ((payload : List ℕ) × Reads (shape x) (formats_of (shape x)) opening view p g l ((formats_of (shape x)).frame ChunkFrame payload))
+        ⊎ ((f : Refusal) × (opening.damage l ≡ Some f))
+    chunk l is = ⊎_elim
+        (λ (c : (payload : List ℕ) × (l.page + length ((formats_of (shape x)).frame ChunkFrame payload) ≤ pages)
+        × Stand (shape x) (formats_of (shape x)) view l.extent l.page ((formats_of (shape x)).frame ChunkFrame payload)).
+        inl (c.0, record { passes = is; below = inr (not_empty l is); inside = c.1; stand = c.2 }))
+        (λ (b : (f : Refusal) × ((formats_of (shape x)).fault ChunkFrame (pages_from (shape x) (formats_of (shape x)) view l.extent l.page (pages - l.page)) ≡ Some f)).
+        inr (b.0, shown l is b.0 b.1))
+        (chunk_or_fault (shape x) view (2 + length written * pages) (pages_below (length written) pages (geometry version pages written (view 0) read.superblock)) are l.extent l.page is.inside)
+      where
+        shown : (l : Place) → Located l → (f : Refusal) → (formats_of (shape x)).fault ChunkFrame (pages_from (shape x) (formats_of (shape x)) view l.extent l.page (pages - l.page)) ≡ Some f
+            → opening.damage l ≡ Some f
+        shown l is f fault = let test : ((g l.extent == l.generation) && nat_lt l.page (p l.extent)) ≡ true =
+            and_true (g l.extent == l.generation) (nat_lt l.page (p l.extent)) (eq-eqb _ _ is.generation) (lt-ltb l.page (p l.extent) is.below) in
+            ap (λ (b : Bool). if b then (formats_of (shape x)).fault ChunkFrame (pages_from (shape x) (formats_of (shape x)) view l.extent l.page (pages - l.page)) else None) test ∙ fault
+
+    content : (ls : List Place) → ((l : Place) → l ∈ ls → Located l)
+        → (c : Content) × ReadsAs (shape x) (formats_of (shape x)) opening view p g ls c
+    content [] pass = (Bytes [], refl)
+    content (l ∷ ls) pass = ⊎_elim
+        (λ (c : (payload : List ℕ) × Reads (shape x) (formats_of (shape x)) opening view p g l ((formats_of (shape x)).frame ChunkFrame payload)).
+        let rest = content ls (λ k has. pass k (inr has)) in (after c.0 rest.0, inl (c.0, rest.0, c.1, rest.1, refl)))
+        (λ (b : (f : Refusal) × (opening.damage l ≡ Some f)). (Damaged b.0, inr (b.0, b.1, refl)))
+        (chunk l (pass l (inl refl)))
+
+    value : (o : Option (List Place)) → ((l : Place) → l ∈ live o → Located l)
+        → (v : Option Content) × Value (shape x) (formats_of (shape x)) opening view p g o v
+    value None pass = (None, refl)
+    value (Some []) pass = (None, refl)
+    value (Some (l ∷ ls)) pass = let c = content (l ∷ ls) pass in (Some c.0, (c.0, c.1, refl))
+
+    holds : (l : Place) → Located l → Holds (shape x) (formats_of (shape x)) opening view p g l
+    holds l is = ⊎_elim (λ c. inr c) (λ b. inl b) (chunk l is)
+
+    pub read_recovers : (m : Map) × (found : Recovers (shape x) (formats_of (shape x)) view commands m)
+        × IsFoundAs (shape x) (formats_of (shape x)) view commands m found x version root (newest_first runs)
+    read_recovers =
+        let m : Map = λ id. (value (lookup id (entries_of (newest_first runs))) (live_pass id)).0 in
+        let f = found_as m (record {
+          runs_read = λ run has. (in_all RunIn (newest_first runs) runs_in run has).reads;
+          table_passes = λ id. tt;
+          runs_pass = λ run has id. all_pass run.entries (in_all RunIn (newest_first runs) runs_in run has).entries id;
+          holds = λ id l has. holds l (live_pass id l has);
+          values = λ id. (value (lookup id (entries_of (newest_first runs))) (live_pass id)).1;
+        }) in (m, f.0, f.1)

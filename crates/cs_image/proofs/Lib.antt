@@ -1,0 +1,9 @@
+pub mod Chunks
+pub mod Entries
+pub mod Found
+pub mod Listed
+pub mod New
+pub mod Readable
+pub mod Runs
+pub mod OneByOne
+pub mod Superblocks

@@ -1,0 +1,8 @@
+use Rattle.cs_image.proofs.openings.new_stores_are_new.Goals as goal
+use Rattle.cs_image.proofs.New.{is_new, new_found}
+
+pub returns : goal.returns
+returns c = record {
+  new = λ view extents pages superblock root. is_new view extents pages superblock root;
+  found = λ view extents pages superblock root. new_found view extents pages superblock root;
+}

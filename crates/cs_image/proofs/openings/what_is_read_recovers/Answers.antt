@@ -1,0 +1,5 @@
+use Rattle.cs_image.proofs.openings.what_is_read_recovers.Goals as goal
+use Rattle.cs_image.proofs.Found.{read_recovers}
+
+pub returns : goal.returns
+returns c = λ view version pages written root commands runs are read. read_recovers view version pages written root commands runs read are

@@ -1,0 +1,68 @@
+-- What is read of an image as a store is opened: the superblock, the root, and its runs one after another.
+use Rattle.std.specs.Prelude.{◌≡◌, ◌<◌, ◌≤◌, ℕ, false, List, None, length, map, replicate, take}
+use Rattle.std.specs.List.{AllByRecursion}
+use Rattle.cs_chunk.specs.Chunks.{IsFrameAt}
+use Rattle.cs_extent.specs.State.{State as ExtentsState, extents_of, shape}
+use Rattle.cs_frame.specs.declared.locators.Locator.{Locator}
+use Rattle.cs_frame.specs.Bytes.{IsPage}
+use Rattle.cs_frame.specs.Roots.{SpellsRoot}
+use Rattle.cs_frame.specs.Runs.{Entry, SpellsRun, entries_of as spelled_entries}
+use Rattle.cs_frame.specs.Superblocks.{SpellsSuperblock}
+use Rattle.cs_index.specs.declared.runs.StoredRun.{StoredRun}
+use Rattle.cs_index.specs.State.{newest_first}
+use Rattle.cs_model.specs.Formats.{RunFrame}
+use Rattle.cs_model.specs.Index.{entries_of, names}
+
+-- the extents that a superblock records: none is open, none was reset, none is being swept
+abbrev pub extents_at : (pages : ℕ) → (written : List (ℕ × ℕ)) → ExtentsState
+extents_at pages written = record {
+  pages = pages;
+  written = written;
+  resets = replicate (length written) 0;
+  swept = replicate (length written) false;
+  open_extent = None;
+}
+
+-- the first `count` pages have 4,096 bytes each
+abbrev pub ArePages : (count : ℕ) → (view : ℕ → List ℕ) → Type 0
+ArePages count view = (p : ℕ) → p < count → IsPage (view p)
+
+-- The extent of a locator exists, is in the locator's generation, and has its page below the pointer.
+pub record IsLocated (x : ExtentsState) (l : Locator) : Type 0 where
+  pub extent : l.extent < (shape x).extents
+  pub generation : (extents_of x).generation l.extent ≡ l.generation
+  pub page : l.page < (extents_of x).pointer l.extent
+
+-- A frame at this place has a run with these entries.
+pub record HasRunAt (x : ExtentsState) (view : ℕ → List ℕ) (place : Locator) (entries : List Entry) : Type 0 where
+  pub located : IsLocated x place
+  pub payload : List ℕ
+  pub frame : IsFrameAt (shape x) view RunFrame place payload
+  pub spelled : SpellsRun payload entries
+
+-- a frame at this place has a run
+abbrev pub IsReadable : ExtentsState → (view : ℕ → List ℕ) → Locator → Type 0
+IsReadable x view place = (entries : List Entry) × HasRunAt x view place entries
+
+-- the run was read where its place says
+abbrev pub IsRunRead : ExtentsState → (view : ℕ → List ℕ) → StoredRun → Type 0
+IsRunRead x view run = HasRunAt x view run.place (spelled_entries run.entries.items)
+
+-- The runs at the first of these places were read, oldest first.
+pub record AreRunsRead (x : ExtentsState) (view : ℕ → List ℕ) (places : List Locator) (runs : List StoredRun) : Type 0 where
+  pub listed : map (λ run. run.place) runs ≡ take (length runs) places
+  pub each : AllByRecursion (IsRunRead x view) runs
+
+-- each locator of each entry of these runs is located, also of an entry that a later run hides
+abbrev pub AreLocated : ExtentsState → List StoredRun → Type 0
+AreLocated x runs = AllByRecursion (λ run. AllByRecursion (λ entry. AllByRecursion (IsLocated x) entry.1.items) run.entries.items) runs
+
+-- A whole store was read: a superblock with these extents, a root over these runs, which are all read, whose entries are
+-- all located, and which name no more identifiers than one run may.
+pub record IsStoreRead (view : ℕ → List ℕ) (version pages : ℕ) (written : List (ℕ × ℕ)) (root commands : ℕ)
+    (runs : List StoredRun) : Type 0 where
+  pub superblock : SpellsSuperblock (view 0) version pages written
+  pub root_page : SpellsRoot (view 1) root commands (map (λ run. run.place) runs)
+  pub runs_read : AllByRecursion (IsRunRead (extents_at pages written) view) runs
+  pub located : AreLocated (extents_at pages written) runs
+  pub named : names (entries_of (newest_first runs)) ≤ (shape (extents_at pages written)).most_names

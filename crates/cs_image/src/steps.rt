@@ -1,0 +1,39 @@
+//! Steps of code that reads a store page by page.
+ghost use Rattle.std.specs.Prelude.{◌≡◌, ◌≢◌, ◌↔◌, ◌∷◌, ◌++◌, ◌<◌, ℕ, List, [], None, Some, length, map, slice_get};
+ghost use Rattle.std.specs.List.{AllByRecursion};
+ghost use Rattle.cs_extent.specs.State.{IsWhole, State as ExtentsState, shape};
+ghost use Rattle.cs_frame.specs.declared.locators.Locator.{Locator};
+ghost use Rattle.cs_frame.specs.Runs.{IsRun};
+ghost use Rattle.cs_image.specs.Counts.{HasCount};
+ghost use Rattle.cs_image.specs.Reads.{AreRunsRead, IsLocated, IsRunRead};
+ghost use Rattle.cs_index.specs.declared.runs.StoredRun.{StoredRun};
+ghost use Rattle.cs_model.specs.Device.{Page, Shape};
+ghost use Rattle.cs_model.specs.Element.{Map};
+ghost use Rattle.cs_model.specs.Formats.{Formats};
+ghost use Rattle.cs_model.specs.Index.{entries_of, live_at};
+ghost use Rattle.cs_model.specs.Recovery.{Recovers};
+
+/// The runs of a root are read one after another, the oldest first. When there are as many as the root lists they are all
+/// of its runs, and an index can be made of them.
+pub fn runs_are_read_one_by_one()
+    ensures none { (x : ExtentsState) (view : ℕ → List ℕ) (places : List Locator) → AreRunsRead x view places [] }
+    ensures next { (x : ExtentsState) (view : ℕ → List ℕ) (places : List Locator) (runs : List StoredRun) (run : StoredRun)
+        → AreRunsRead x view places runs → slice_get places (length runs) ≡ Some run.place → IsRunRead x view run
+        → AreRunsRead x view places (runs ++ run ∷ []) }
+    ensures all { (x : ExtentsState) (view : ℕ → List ℕ) (places : List Locator) (runs : List StoredRun)
+        → AreRunsRead x view places runs → length runs ≡ length places
+        → (map (λ run. run.place) runs ≡ places) × AllByRecursion (IsRunRead x view) runs }
+    ensures loads { (x : ExtentsState) (view : ℕ → List ℕ) (runs : List StoredRun) → AllByRecursion (IsRunRead x view) runs
+        → AllByRecursion (λ run. IsRun (record { entries = run.entries })) runs }
+    // A place that is located can be read.
+    ensures inside { (x : ExtentsState) (place : Locator) → IsWhole x → IsLocated x place
+        → (place.extent < (shape x).extents) × (place.page < (shape x).pages) }
+{}
+
+/// As many identifiers have locators as the map has.
+pub fn live_identifiers_are_those_of_the_map()
+    ensures each { (S : Shape) (F : Formats) (img : ℕ → Page) (n : ℕ) (m : Map) (found : Recovers S F img n m) (id : ℕ)
+        → (live_at (entries_of found.runs) id ≡ []) ↔ (m id ≡ None) }
+    ensures count { (S : Shape) (F : Formats) (img : ℕ → Page) (n : ℕ) (m : Map) (found : Recovers S F img n m)
+        (count : ℕ) → HasCount (λ id. live_at (entries_of found.runs) id ≢ []) count ↔ HasCount (λ id. m id ≢ None) count }
+{}
