@@ -16,7 +16,8 @@ use Rattle.cs_model.specs.Safe.{IsStaged}
 use Rattle.cs_model.specs.Formats.{ChunkFrame, Formats, RunFrame, image}
 use Rattle.cs_model.specs.Machine.{BeginRound, EndRound, World, happens}
 use Rattle.cs_model.specs.Sound.{Sound, crashed}
-use Rattle.cs_model.specs.State.{Abandon, Abandoned, Absent, Accepted, Begin, BeginSweep, Begun, Command, Delete, End, Event, Found, Get, Issue, Issued, MoveOne, Moved, NoneLive, NotYet, Nothing, Persistent, Put, Reply, Retire, Retired, Settle, Stage, Staged, State, Sweeping, Unchanged, index_now, map_now}
+use Rattle.cs_model.specs.State.{Abandon, Abandoned, Absent, Accepted, Begin, BeginSweep, Begun, Command, Delete, End, Event, Found, Get, Issue, Issued, MoveOne, Moved, NoneLive, NotYet, Nothing, Persistent, Put, Refused, Reply, Retire, Retired, Settle, Stage, Staged, State, Sweeping, Unchanged, index_now, map_now}
+use Rattle.cs_model.specs.Step.{Step}
 use Rattle.cs_bridge.specs.Devices.{IsDeviceOf, IsDiskOf, persistent_image}
 use Rattle.cs_bridge.proofs.ImagesStay.{Stays, append_stays, appends_stay, merge_stays, root_stays, stays_more}
 
@@ -115,7 +116,7 @@ module _ (S : Shape) (F : Formats) (s : State) (disk : DiskState) (is : IsDiskOf
   here : (t u : State) → t ≡ u → IsDiskOf S F u disk → IsDiskOf S F t disk
   here t u same was = subst (λ (z : State). IsDiskOf S F z disk) (sym same) was
 
-  pub other : (t : State) (event : Event) (reply : Reply) → IsStaged S s.world s.world.persistent → Does S F s event reply t → event ≢ Issue → event ≢ End → (event ≡ Begin → s.issued ≡ []) → IsDiskOf S F t disk
+  pub other : (t : State) (event : Event) (reply : Reply) → IsStaged S s.world s.world.persistent → Does S F s event reply t → event ≢ Issue → event ≢ End → (s.round_out ≡ false → s.issued ≡ []) → IsDiskOf S F t disk
   other t (Put id bytes) (Accepted n) low (cs, ls, mid, cut, (v, all, same), number, done) a b c =
       let next : State = record s { world = v; table = record { id = id; locators = ls } ∷ s.table; commands = (id, Some bytes) ∷ s.commands } in
       here t next (done ∙ ap (λ (u : State). record u { table = record { id = id; locators = ls } ∷ u.table; commands = (id, Some bytes) ∷ u.commands }) same)
@@ -140,9 +141,9 @@ module _ (S : Shape) (F : Formats) (s : State) (disk : DiskState) (is : IsDiskOf
       (after next refl refl (rooted_still v runs v.extents.pointer (merge_stays S F s.world.persistent s.opened s.world v (index_now s) ForRun runs low merges)))
   other t Stage reply low does a b c = absurd does
   other t Begin Nothing low does a b c = here t s does.2 is
-  other t Begin (Begun members) low (out, R, round, are, some, done) a b c =
+  other t Begin (Begun members) low (out, R, round, are, once, some, done) a b c =
       let next : State = record s { world = happens S s.world (BeginRound R); round_out = true; left = members; issued = [] } in
-      here t next done (alike next refl (sym (c refl)) refl refl)
+      here t next done (alike next refl (sym (c out)) refl refl)
   other t Begin reply low does a b c = absurd does
   other t Issue reply low does a b c = absurd (a refl)
   other t End reply low does a b c = absurd (b refl)
@@ -166,3 +167,10 @@ module _ (S : Shape) (F : Formats) (s : State) (disk : DiskState) (is : IsDiskOf
   other t (Settle n) Persistent low does a b c = here t s does.4 is
   other t (Settle n) (NotYet f) low does a b c = here t s does.2 is
   other t (Settle n) reply low does a b c = absurd does
+
+  -- no step but Issue and End, whether it is refused or not
+  pub step_stays : (t : State) (event : Event) (reply : Reply) → Sound S F s → Step S F s event reply t → event ≢ Issue → event ≢ End → IsDiskOf S F t disk
+  step_stays t Issue reply sound step a b = absurd (a refl)
+  step_stays t End reply sound step a b = absurd (b refl)
+  step_stays t event (Refused f) sound step a b = here t s step.1 is
+  step_stays t event reply sound step a b = other t event reply sound.safe.staged step.1 a b (λ out. (sound.idle out).1)

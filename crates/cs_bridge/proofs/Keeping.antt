@@ -2,8 +2,9 @@
 use Rattle.std.proofs.Common.{◌≡◌, inl, inr, ⊎_elim, ◌⊎◌, ℕ, Bool, true, false, List, [], ◌∷◌, ◌++◌, Some, map, true≢false, refl, sym, ap, ◌∙◌, subst}
 use Rattle.std.proofs.lemmas.Bool.{cases_Bool}
 use Rattle.cs_deps.specs.declared.elements.Element.{Element as Name}
+use Rattle.cs_deps.specs.Pending.{Waits}
 use Rattle.cs_deps.specs.Staging.{Staging, settled}
-use Rattle.cs_deps.specs.State.{AddsNone, State as GraphState, Write as PageWrite, IsWhole as IsWholeGraph, write_of}
+use Rattle.cs_deps.specs.State.{AddsNone, KeepsBytes, State as GraphState, Write as PageWrite, IsWhole as IsWholeGraph, write_of}
 use Rattle.cs_model.specs.Append.{AppendAll}
 use Rattle.cs_model.specs.Cut.{Cut, Within, satisfied}
 use Rattle.cs_model.specs.Device.{IsShape, Shape}
@@ -126,10 +127,15 @@ after_appends x y g h w reason (frame ∷ frames) (l ∷ ls) store is all =
     let rest = after_appends all.0 y all.1 h one.0 reason frames ls (subst (λ (S : Shape). IsShape S) (sym same) store) one.2 all.3 in
     (rest.0, (one.0, one.1, subst (λ (S : Shape). AppendAll S one.0 reason frames (map place_of ls) rest.0) same rest.1), rest.2)
 
--- what waits is kept as it is written
-pub kept_writes : (x : ExtentsState) (g : GraphState) (w : World) (m : Element) → IsWorldOf x g w → IsWholeGraph g → IsWaiting w m
-    → write_of g (name m) ≡ Some (page_write (shape x) (formats_of (shape x)) m)
-kept_writes x g w m is whole waits =
+-- what waits in the world waits in its graph
+pub waits_in : (x : ExtentsState) (g : GraphState) (w : World) (m : Element) → IsWorldOf x g w → IsWaiting w m → Waits g.staging.pending (name m)
+waits_in x g w m is waits =
     let at = match_in (shape x) w.elements (waiting_in w.persistent w.elements) g.staging.pending.waiting m is.staging.pending.waiting (to_waiting w.persistent w.elements m waits.0 waits.1) in
-    let kept = whole.writes (name m) (at.0, at.1, at.2) in
+    (at.0, at.1, at.2)
+
+-- what waits and keeps its bytes is kept as it is written
+pub kept_writes : (x : ExtentsState) (g : GraphState) (w : World) (m : Element) → IsWorldOf x g w → IsWholeGraph g → IsWaiting w m → KeepsBytes g (name m)
+    → write_of g (name m) ≡ Some (page_write (shape x) (formats_of (shape x)) m)
+kept_writes x g w m is whole waits keeps =
+    let kept = whole.writes (name m) keeps in
     kept.1 ∙ ap (λ (p : PageWrite). Some p) (is.writes m kept.0 waits kept.1)

@@ -28,7 +28,7 @@ use Rattle.cs_model.specs.State.{State}
 use Rattle.cs_bridge.specs.Bridge.{IsWaiting, family_of, name}
 use Rattle.cs_bridge.specs.Devices.{IsDeviceOf, pages_now, read_by}
 use Rattle.cs_bridge.specs.Stores.{IsWorldOf}
-use Rattle.cs_bridge.proofs.Keeping.{kept_writes}
+use Rattle.cs_bridge.proofs.Keeping.{kept_writes, waits_in}
 use Rattle.cs_bridge.proofs.Places.{waits_from, waits_name}
 use Rattle.cs_bridge.proofs.Shapes.{store_shape}
 
@@ -88,7 +88,7 @@ module _ (x : ExtentsState) (g : GraphState) (s : State) (held : Image) (whole :
         listed s.world.elements (A_write a) still.0,
         still.1,
         (let e : Plain n ≡ Plain a.number = same in cc),
-        same_Some w (a.page, a.bytes) (sym kept ∙ ap (write_of g) same ∙ kept_writes x g s.world (A_write a) is graph still),
+        same_Some w (a.page, a.bytes) (sym kept ∙ ap (write_of g) same ∙ kept_writes x g s.world (A_write a) is graph still (waits_in x g s.world (A_write a) is still)),
       )
       go (A_superblock u) still same = absurd (let e : Plain n ≡ Version (family_of u.section) u.version = same in cc)
       go (A_root r) still same = absurd (let e : Plain n ≡ Version 1 r.version = same in cc)
@@ -107,7 +107,7 @@ module _ (x : ExtentsState) (g : GraphState) (s : State) (held : Image) (whole :
     newest_waits a has at newest not = record {
       number = a.number;
       waits = waits_name (shape x) (formats_of (shape x)) s.opened s.world g.staging.pending sound.safe is.staging.pending (A_write a) (write_in s.world.elements a has, not);
-      write = kept_writes x g s.world (A_write a) is graph (write_in s.world.elements a has, not) ∙ ap (λ (q : ℕ). Some (q, a.bytes)) at;
+      write = kept_writes x g s.world (A_write a) is graph (write_in s.world.elements a has, not) (waits_in x g s.world (A_write a) is (write_in s.world.elements a has, not)) ∙ ap (λ (q : ℕ). Some (q, a.bytes)) at;
       last = λ m w later waits kept there.
           let b = waiting_write m w waits kept in
           let low : b.0.number ≤ a.number = newest b.0 b.1 (ap (λ (v : PageWrite). v.0) (sym b.4) ∙ there) in

@@ -13,7 +13,7 @@ ghost use Rattle.cs_model.specs.State.{State};
 ghost use Rattle.cs_model.specs.Sound.{Sound};
 ghost use Rattle.cs_model.specs.Append.{Append, AppendAll};
 ghost use Rattle.cs_model.specs.Extents.{Purpose as Reason, emptied, marked};
-ghost use Rattle.cs_deps.specs.State.{AddsNone, IsWhole as IsWholeGraph, KeepsOthers, State as GraphState, write_of};
+ghost use Rattle.cs_deps.specs.State.{AddsNone, IsWhole as IsWholeGraph, KeepsBytes, KeepsOthers, State as GraphState, write_of};
 ghost use Rattle.cs_frame.specs.declared.locators.Locator.{Locator};
 ghost use Rattle.cs_extent.specs.Appended.{AreAppended, IsAppended};
 ghost use Rattle.cs_extent.specs.Frames.{AreNeedsWithin, IsVersionUpTo, root_family, superblock_family};
@@ -64,10 +64,10 @@ pub fn stores_keep_their_worlds()
         → IsWorldOf y g (record w { extents = marked w.extents e b }) }
 {}
 
-/// What is kept for an element that waits is what the machine writes for it, and each version of the superblock that waits
-/// needs staged plain writes, and no later version of the root than the next one.
+/// What is kept for an element that waits and keeps its bytes is what the machine writes for it, and each version of the
+/// superblock that waits needs staged plain writes, and no later version of the root than the next one.
 pub fn what_waits_is_of_the_world()
-    ensures writes { (x : ExtentsState) (g : GraphState) (w : World) (m : Element) → IsWorldOf x g w → IsWholeGraph g → IsWaiting w m
+    ensures writes { (x : ExtentsState) (g : GraphState) (w : World) (m : Element) → IsWorldOf x g w → IsWholeGraph g → IsWaiting w m → KeepsBytes g (name m)
         → write_of g (name m) ≡ Some (page_write (shape x) (formats_of (shape x)) m) }
     ensures needs { (x : ExtentsState) (g : GraphState) (w : World) → IsWorldOf x g w → AreNeedsWithin g.staging (need_of x) }
 {}

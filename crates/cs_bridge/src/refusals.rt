@@ -1,24 +1,34 @@
 //! Why the calls of a store's parts are refused, as why the machine's events are.
-ghost use Rattle.std.specs.Prelude.{◌≡◌, ◌≢◌, ◌⊎◌, ◌↔◌, ◌+◌, ◌^◌, ◌<◌, ◌≤◌, ℕ, suc, true, List, [], None, length};
+ghost use Rattle.std.specs.Prelude.{◌≡◌, ◌≢◌, ◌⊎◌, ◌↔◌, ◌+◌, ◌^◌, ◌<◌, ◌≤◌, ℕ, suc, true, false, List, [], Some, None, length};
 ghost use Rattle.cs_chunk.specs.Chunks.{IsPutWorn};
+ghost use Rattle.cs_chunk.specs.Reads.{fault_at, refusal_for as refusal_of_fault};
+ghost use Rattle.cs_deps.specs.Refusals.{number_of};
 ghost use Rattle.cs_deps.specs.State.{State as GraphState};
 ghost use Rattle.cs_extent.specs.Frames.{IsWorn};
 ghost use Rattle.cs_extent.specs.State.{IsWhole, State as ExtentsState, extents_of, shape};
-ghost use Rattle.cs_frame.specs.Formats.{formats_of};
+ghost use Rattle.cs_frame.specs.declared.faults.FormatFault.{FormatFault};
+ghost use Rattle.cs_frame.specs.declared.frames.FrameKind.{FrameKind};
+ghost use Rattle.cs_frame.specs.declared.locators.Locator.{Locator};
+ghost use Rattle.cs_frame.specs.Formats.{formats_of, refusal_of};
 ghost use Rattle.cs_index.specs.Staged.{IsFull, IsStageWorn, WritesRun};
 ghost use Rattle.cs_index.specs.State.{State as IndexState, index_of};
 ghost use Rattle.cs_model.specs.Append.{chunk_frames, page_counts};
 ghost use Rattle.cs_model.specs.Element.{Locator as Place};
+ghost use Rattle.cs_model.specs.Device.{Shape};
 ghost use Rattle.cs_model.specs.Events.{Chunked, ReadsNow};
 ghost use Rattle.cs_model.specs.Extents.{Fits, ForMove, ForPut, ForRun, NoPlace};
-ghost use Rattle.cs_model.specs.Formats.{ChunkFrame};
-ghost use Rattle.cs_model.specs.Grounds.{NoRoomForRun, NoRoomForTable, NoRoomToMove, NoRoomToPut, WouldPass};
+ghost use Rattle.cs_model.specs.Formats.{ChunkFrame, Formats};
+ghost use Rattle.cs_model.specs.Grounds.{NoRoomForRun, NoRoomForTable, NoRoomToMove, NoRoomToPut, Refuses, WouldPass};
 ghost use Rattle.cs_model.specs.Index.{FirstLive, NothingLive};
+ghost use Rattle.cs_model.specs.Numbers.{number_of as number_in_machine};
+ghost use Rattle.cs_model.specs.Refusal.{NotSweepable, Refusal as Ground};
 ghost use Rattle.cs_model.specs.Sound.{Bounded, Sound};
-ghost use Rattle.cs_model.specs.State.{Delete, MoveOne, Put, Retire, Stage, State, map_now};
+ghost use Rattle.cs_model.specs.State.{Abandon, BeginSweep, Delete, MoveOne, Put, Retire, Stage, State, map_now};
 ghost use Rattle.cs_reclaim.specs.Moves.{chunk_frame};
 ghost use Rattle.cs_reclaim.specs.Retired.{IsRetireFull, IsRetireWorn};
+ghost use Rattle.cs_reclaim.specs.Sweeps.{IsNotSweepable};
 ghost use Rattle.cs_bridge.specs.Parts.{ArePartsOf};
+ghost use Rattle.cs_bridge.specs.Refusals.{refusal_for};
 
 /// There is no room for a put where its chunks don't fit, and it would take a number past its greatest where its writes, its
 /// versions of the superblock or the commands would.
@@ -83,4 +93,28 @@ pub fn moves_are_refused_alike()
         → s.world.extents.swept e ≡ true → s.opening.damage l ≡ None
         → ¬ NoPlace (shape x) (extents_of x) ForMove (length (chunk_frame x payload))
         → WouldPass (shape x) (formats_of (shape x)) s (MoveOne e) ↔ IsWorn g.staging (length (chunk_frame x payload)) }
+{}
+
+/// BeginSweep is refused exactly where the extent can't be swept; MoveOne, Retire and Abandon are where it isn't being swept,
+/// and Abandon for nothing else.
+pub fn sweeps_are_refused_alike()
+    ensures begin_sweep { (F : Formats) (x : ExtentsState) (g : GraphState) (i : IndexState) (s : State) (e : ℕ) (f : Ground)
+        → ArePartsOf x g i s → s.halted ≡ false
+        → Refuses (shape x) F s (BeginSweep e) f ↔ (IsNotSweepable (shape x) (extents_of x) e × (f ≡ NotSweepable)) }
+    ensures move_one { (F : Formats) (x : ExtentsState) (g : GraphState) (i : IndexState) (s : State) (e : ℕ) (f : Ground)
+        → ArePartsOf x g i s → s.halted ≡ false → (extents_of x).swept e ≡ false
+        → Refuses (shape x) F s (MoveOne e) f ↔ (f ≡ NotSweepable) }
+    ensures retire { (F : Formats) (x : ExtentsState) (g : GraphState) (i : IndexState) (s : State) (e : ℕ) (f : Ground)
+        → ArePartsOf x g i s → s.halted ≡ false → (extents_of x).swept e ≡ false
+        → Refuses (shape x) F s (Retire e) f ↔ (f ≡ NotSweepable) }
+    ensures abandon { (F : Formats) (x : ExtentsState) (g : GraphState) (i : IndexState) (s : State) (e : ℕ) (f : Ground)
+        → ArePartsOf x g i s → s.halted ≡ false
+        → Refuses (shape x) F s (Abandon e) f ↔ (((extents_of x).swept e ≡ false) × (f ≡ NotSweepable)) }
+{}
+
+/// The refusals of the store's calls have the numbers of the machine's, and a frame's fault is one refusal by both.
+pub fn refusals_keep_their_numbers()
+    ensures number { (f : Ground) → number_of (refusal_for f) ≡ number_in_machine f }
+    ensures frames { (S : Shape) (view : ℕ → List ℕ) (kind : FrameKind) (l : Locator) (f : FormatFault)
+        → fault_at S view kind l ≡ Some f → refusal_of_fault f ≡ refusal_for (refusal_of f) }
 {}
