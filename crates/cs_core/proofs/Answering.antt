@@ -1,0 +1,172 @@
+-- What each event answers, whatever the disk does.
+use Rattle.std.proofs.Common.{◌≡◌, ◌≢◌, ℕ, ◌≤◌, List, [], None, Ok, Err, refl, sym, subst, arith}
+use Rattle.std.specs.Prelude.{IfOk, MatchResult, Result}
+use Rattle.cs_deps.specs.declared.elements.Element.{Element as Name}
+use Rattle.cs_deps.specs.declared.refusals.Refusal.{Refusal as Code}
+use Rattle.cs_deps.specs.declared.refusals.Refusal.TheVariants as code
+use Rattle.cs_frame.specs.declared.identifiers.ShardId.{ShardId}
+use Rattle.cs_core.specs.declared.events.Event.{Event}
+use Rattle.cs_core.specs.declared.events.Event.TheVariants.{Abandon, Begin, BeginSweep, Delete, End, Get, Issue, MoveOne, Put, Retire, Settle, Stage}
+use Rattle.cs_core.specs.declared.events.OutOfMemory.{OutOfMemory}
+use Rattle.cs_core.specs.declared.events.Reply.{Reply}
+use Rattle.cs_core.specs.declared.events.Reply.TheVariants.{Abandoned, Absent, Accepted, Begun, Ended, Found, Issued, Moved, NoneLive, NotYet, Nothing, Persistent, Refused, Retired, Staged, Sweeping, Unchanged}
+use Rattle.cs_core.specs.Answered.{IsAlone, IsAnswered, IsForDevice}
+use Rattle.cs_core.specs.Shapes.{MayAnswer}
+use Rattle.cs_core.specs.Stored.{Stored}
+use Rattle.cs_core.specs.Writebacks.{AddsCommand, IsMemberIssued, IsRoundBegun, IsRoundEnded, KeepsRound, StaysRefused, WritesBack}
+
+-- events that no refusal halts, and that may be refused
+abbrev pub IsPlain : Event → Type 0
+IsPlain Issue = ⊥
+IsPlain End = ⊥
+IsPlain (Settle n) = ⊥
+IsPlain event = Unit {0}
+
+module _ (v w : Stored) where
+  pub refused_alone : (event : Event) → IsPlain event → (r : Code) → r ≢ code.OutOfMemory → w ≡ v → IsAnswered v event (Refused r) w
+  unfolding IsAnswered
+  refused_alone Issue plain r known same = absurd plain
+  refused_alone End plain r known same = absurd plain
+  refused_alone (Settle n) plain r known same = absurd plain
+  refused_alone event plain r known same = (known, same)
+
+  pub issue_refused_so : (r : Code) → r ≢ code.OutOfMemory → StaysRefused Issue r v w → IsAnswered v Issue (Refused r) w
+  unfolding IsAnswered
+  issue_refused_so r known stays = (known, stays)
+
+  pub end_refused_so : (r : Code) → r ≢ code.OutOfMemory → StaysRefused End r v w → IsAnswered v End (Refused r) w
+  unfolding IsAnswered
+  end_refused_so r known stays = (known, stays)
+
+  pub put_so : (id : ShardId) (bytes : List ℕ) (n : ℕ) → AddsCommand n v w → KeepsRound v w → IsAnswered v (Put id bytes) (Accepted n) w
+  unfolding IsAnswered
+  put_so id bytes n adds round = (omega (arith, adds.0), (adds, round))
+
+  pub delete_so : (id : ShardId) (n : ℕ) → AddsCommand n v w → KeepsRound v w → IsAnswered v (Delete id) (Accepted n) w
+  unfolding IsAnswered
+  delete_so id n adds round = (omega (arith, adds.0), (adds, round))
+
+  pub delete_absent_so : (id : ShardId) → w ≡ v → IsAnswered v (Delete id) Absent w
+  unfolding IsAnswered
+  delete_absent_so id same = (tt, same)
+
+  pub get_found_so : (id : ShardId) (bytes : List ℕ) → w ≡ v → IsAnswered v (Get id) (Found bytes) w
+  unfolding IsAnswered
+  get_found_so id bytes same = (tt, same)
+
+  pub get_absent_so : (id : ShardId) → w ≡ v → IsAnswered v (Get id) Absent w
+  unfolding IsAnswered
+  get_absent_so id same = (tt, same)
+
+  pub stage_so : (n : ℕ) → w.index.table ≡ [] → KeepsRound v w → IsAnswered v Stage (Staged n) w
+  unfolding IsAnswered
+  stage_so n table round = (tt, (table, round))
+
+  pub stage_none_so : (v.index.table ≡ []) × (w ≡ v) → IsAnswered v Stage Unchanged w
+  unfolding IsAnswered
+  stage_none_so same = (tt, same)
+
+  pub begin_so : (round : List Name) → IsRoundBegun round v w → IsAnswered v Begin (Begun round) w
+  unfolding IsAnswered
+  begin_so round begun = (tt, begun)
+
+  pub begin_none_so : (v.graph.staging.pending.waiting ≡ []) × (v.out ≡ None) × (w ≡ v) → IsAnswered v Begin Nothing w
+  unfolding IsAnswered
+  begin_none_so same = (tt, same)
+
+  pub issue_so : (x : Name) (page : ℕ) → IsMemberIssued x v w → IsAnswered v Issue (Issued x page) w
+  unfolding IsAnswered
+  issue_so x page issued = (tt, issued)
+
+  pub end_so : (n : ℕ) → IsRoundEnded n v w → IsAnswered v End (Ended n) w
+  unfolding IsAnswered
+  end_so n ended = (tt, ended)
+
+  pub begin_sweep_so : (e : ℕ) → KeepsRound v w → IsAnswered v (BeginSweep e) Sweeping w
+  unfolding IsAnswered
+  begin_sweep_so e round = (tt, round)
+
+  pub move_so : (e : ℕ) (id : ShardId) (chunk : ℕ) → KeepsRound v w → IsAnswered v (MoveOne e) (Moved id chunk) w
+  unfolding IsAnswered
+  move_so e id chunk round = (tt, round)
+
+  pub move_none_so : (e : ℕ) → w ≡ v → IsAnswered v (MoveOne e) NoneLive w
+  unfolding IsAnswered
+  move_none_so e same = (tt, same)
+
+  pub retire_so : (e n : ℕ) → w.index.table ≡ [] → KeepsRound v w → IsAnswered v (Retire e) (Retired n) w
+  unfolding IsAnswered
+  retire_so e n table round = (tt, (table, round))
+
+  pub abandon_so : (e : ℕ) → KeepsRound v w → IsAnswered v (Abandon e) Abandoned w
+  unfolding IsAnswered
+  abandon_so e round = (tt, round)
+
+  pub persistent_so : (n : ℕ) → 1 ≤ n → w ≡ v → IsAnswered v (Settle n) Persistent w
+  unfolding IsAnswered
+  persistent_so n some same = (some, same)
+
+  pub not_yet_so : (n f : ℕ) → w ≡ v → IsAnswered v (Settle n) (NotYet f) w
+  unfolding IsAnswered
+  not_yet_so n f same = (tt, same)
+
+  -- the reply is that of a refusal
+  pub if_refused_so : (event : Event) (r : Code) (result : Result (Reply × Reply) OutOfMemory)
+      → MatchResult result (λ x. (x.0 ≡ Refused r) × (x.1 ≡ Refused r) × (r ≢ code.OutOfMemory)) (λ e. r ≡ code.OutOfMemory) → (r ≢ code.OutOfMemory → IsAnswered v event (Refused r) w)
+      → IfOk result (λ x. IsAnswered v event x.0 w)
+  if_refused_so event r (Ok x) is f = subst (λ (k : Reply). IsAnswered v event k w) (sym is.0) (f is.2)
+  if_refused_so event r (Err e) is f = tt
+
+  pub if_found_so : (event : Event) (bytes : List ℕ) (result : Result (Reply × Reply) OutOfMemory)
+      → IfOk result (λ x. (x.0 ≡ Found bytes) × (x.1 ≡ Found bytes)) → IsAnswered v event (Found bytes) w
+      → IfOk result (λ x. IsAnswered v event x.0 w)
+  if_found_so event bytes (Ok x) is f = subst (λ (k : Reply). IsAnswered v event k w) (sym is.0) f
+  if_found_so event bytes (Err e) is f = tt
+
+  pub answered_shape : (event : Event) (reply : Reply) → IsAnswered v event reply w → MayAnswer event reply
+  unfolding IsAnswered
+  answered_shape event reply is = is.0
+
+  pub answered_writes : (event : Event) (reply : Reply) → IsAnswered v event reply w → WritesBack v event reply w
+  unfolding IsAnswered
+  answered_writes event reply is = is.1
+
+-- a full history
+pub full_shape : (event : Event) → MayAnswer event (Refused code.HistoryFull)
+full_shape (Settle n) = refl
+full_shape event = λ e. cc e
+
+pub full_writes : (v : Stored) (event : Event) → WritesBack v event (Refused code.HistoryFull) v
+full_writes v Issue = refl
+full_writes v End = refl
+full_writes v event = refl
+
+-- which events a store does by itself
+pub alone_of : (e : Event) → (IsForDevice e → ⊥) → ((id : ShardId) → e ≡ Get id → ⊥) → ((n : ℕ) → e ≡ Settle n → ⊥) → IsAlone e
+alone_of (Get id) device get settle = get id refl
+alone_of (Settle n) device get settle = settle n refl
+alone_of Issue device get settle = device tt
+alone_of End device get settle = device tt
+alone_of (MoveOne e) device get settle = device tt
+alone_of e device get settle = tt
+
+-- a halted store refuses all but Get and Settle
+pub halted_so : (v : Stored) (e : Event) → ((id : ShardId) → e ≡ Get id → ⊥) → ((n : ℕ) → e ≡ Settle n → ⊥) → IsAnswered v e (Refused code.Halted) v
+unfolding IsAnswered
+halted_so v (Get id) get settle = absurd (get id refl)
+halted_so v (Settle n) get settle = absurd (settle n refl)
+halted_so v Issue get settle = ((λ e. cc e), refl)
+halted_so v End get settle = ((λ e. cc e), refl)
+halted_so v e get settle = ((λ k. cc k), refl)
+
+-- there is no other
+pub no_other : (e : Event) → IsAlone e → ((id : ShardId) (bytes : List ℕ) → e ≡ Put id bytes → ⊥) → ((id : ShardId) → e ≡ Delete id → ⊥) → (e ≡ Stage → ⊥) → (e ≡ Begin → ⊥) → ((n : ℕ) → e ≡ BeginSweep n → ⊥)
+    → ((n : ℕ) → e ≡ Retire n → ⊥) → ((n : ℕ) → e ≡ Abandon n → ⊥) → ⊥
+no_other (Put id bytes) alone put delete stage begin sweep retire abandon = put id bytes refl
+no_other (Delete id) alone put delete stage begin sweep retire abandon = delete id refl
+no_other Stage alone put delete stage begin sweep retire abandon = stage refl
+no_other Begin alone put delete stage begin sweep retire abandon = begin refl
+no_other (BeginSweep n) alone put delete stage begin sweep retire abandon = sweep n refl
+no_other (Retire n) alone put delete stage begin sweep retire abandon = retire n refl
+no_other (Abandon n) alone put delete stage begin sweep retire abandon = abandon n refl
+no_other e alone put delete stage begin sweep retire abandon = alone

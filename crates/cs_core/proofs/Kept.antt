@@ -1,0 +1,212 @@
+-- What each step of a store keeps.
+use Rattle.std.proofs.Common.{◌≡◌, ◌∙◌, ℕ, zero, suc, ◌+◌, ◌^◌, ◌<◌, ◌≤◌, Bool, true, false, List, [], ◌∷◌, Some, length, sym, ap, subst, inl, inr, ⊎_elim, arith, refl}
+use Rattle.std.proofs.Common.{get_or}
+use Rattle.std.proofs.lemmas.List.{get_or_default}
+use Rattle.std.specs.Prelude.{Contains, OnErr, Option, Result, None, Ok, Err, map, slice_index, slice_index_or, if◌then◌else◌, ◌==◌}
+use Rattle.std.proofs.lemmas.Bool.Decides.{nat_tests}
+use Rattle.cs_deps.specs.declared.elements.Element.{Element}
+use Rattle.cs_deps.specs.State.{State as GraphState, AddsNone}
+use Rattle.cs_extent.specs.Appended.{AreAppended, IsAppended}
+use Rattle.cs_extent.specs.Frames.{AreResetsStaged}
+use Rattle.cs_extent.specs.State.{State as ExtentsState, extents_of, shape}
+use Rattle.cs_chunk.proofs.Chunkings.{length-spelled}
+use Rattle.cs_frame.specs.declared.locators.Locator.{Locator}
+use Rattle.cs_frame.specs.Formats.{formats_of, place_of}
+use Rattle.cs_frame.specs.Frames.{spelled_frame}
+use Rattle.cs_index.specs.Staged.{IsMergeStaged, IsRunAppended, IsTableStaged, run_frame}
+use Rattle.cs_model.specs.Index.{IsMergedRun}
+use Rattle.cs_model.specs.Element.{Entry}
+use Rattle.cs_frame.specs.Formats.{as_locator}
+use Rattle.cs_deps.specs.declared.refusals.Refusal.{Refusal}
+use Rattle.std.proofs.lemmas.Bool.{cases_lt}
+use Rattle.cs_index.specs.State.{IsSet, State as IndexState, index_of}
+use Rattle.cs_model.specs.Append.{chunk_frames}
+use Rattle.cs_model.specs.Device.{Inside, Shape}
+use Rattle.cs_model.specs.Element.{Locator as Place}
+use Rattle.cs_model.specs.Extents.{Extents, ForRun, Purpose as Reason, marked}
+use Rattle.std.proofs.lemmas.Bool.{cases_eq, cond-false, cond-true, eq-eqb, ne_eqb}
+use Rattle.cs_deps.specs.Staging.{Staging}
+use Rattle.cs_model.specs.Index.{live, live_at, lookup}
+use Rattle.cs_model.specs.Lists.{◌∈◌}
+use Rattle.cs_reclaim.specs.Retired.{IsRetired}
+use Rattle.cs_model.specs.Extents.{ForMove}
+use Rattle.cs_reclaim.specs.Sweeps.{IsSwept}
+use Rattle.cs_reclaim.proofs.Sweeping.{append_swept}
+use Rattle.cs_core.specs.Stored.{AreInside, AreSwept, AreWithin, IsKept, KeepsDevice, Stored, members_of, page_total}
+use Rattle.cs_core.proofs.Moves.{extent_there, frame_fits, moves_extents, moves_merged, moves_then}
+
+-- PLACES
+-- the places of some chunks are there
+pub places_there : (x : ExtentsState) (g : GraphState) (r : Reason) (S : Shape) (chunks : List (List ℕ)) (ls : List Locator) (y : ExtentsState) (h : GraphState) → S ≡ shape x → AreAppended x g r (chunk_frames S (formats_of S) chunks) ls y h
+    → (p : Place) → p ∈ map place_of ls → Inside S p.extent p.page
+places_there x g r S [] [] y h same a p among = absurd among
+places_there x g r S (c ∷ cs) (l ∷ ls) y h same a p among = ⊎_elim
+    (λ (here : p ≡ place_of l).
+    let some : 1 ≤ length (spelled_frame 0 c) = omega (arith, length-spelled 0 c) in
+    let there : l.extent < S.extents = subst (λ (T : Shape). l.extent < T.extents) (sym same) (extent_there x g r (spelled_frame 0 c) l a.0 a.1 a.2) in
+    let fits : l.page + length (spelled_frame 0 c) ≤ S.pages = subst (λ (T : Shape). l.page + length (spelled_frame 0 c) ≤ T.pages) (sym same) (frame_fits x g r (spelled_frame 0 c) l a.0 a.1 a.2) in
+    let below : l.page < S.pages = omega (arith, some, fits) in
+    subst (λ (q : Place). Inside S q.extent q.page) (sym here) (there, below))
+    (λ (behind : p ∈ map place_of ls). places_there a.0 a.1 r S cs ls y h (same ∙ sym a.2.same_shape) a.3 p behind)
+    among
+places_there x g r S [] (l ∷ ls) y h same a p among = absurd a
+places_there x g r S (c ∷ cs) [] y h same a p among = absurd a
+
+-- locator k of a list is there
+in_places : (ls : List Locator) (k : ℕ) (d : Locator) → k < length ls → place_of (slice_index_or ls k d) ∈ map place_of ls
+in_places [] k d lt = absurd (omega (arith, lt))
+in_places (l ∷ ls) zero d lt = inl refl
+in_places (l ∷ ls) (suc k) d lt = inr (in_places ls k d (omega (arith, lt)))
+
+-- the locators of an identifier are there
+pub found_there : (S : Shape) (i : IndexState) (id : ℕ) (ls : List Locator) → AreInside S i → Some (map place_of ls) ≡ lookup id (index_of i) → (k : ℕ) (d : Locator) → k < length ls → ((slice_index_or ls k d).extent < S.extents) × ((slice_index_or ls k d).page < S.pages)
+found_there S i id ls inside is k d lt = inside id (place_of (slice_index_or ls k d)) (subst (λ (o : Option (List Place)). place_of (slice_index_or ls k d) ∈ live o) is (in_places ls k d lt))
+
+-- other room in the table changes nothing else
+pub same_limit : (i j : IndexState) → j ≡ record i { room = j.room } → j.limit ≡ i.limit
+same_limit i j e = ap (λ (u : IndexState). u.limit) e
+
+pub same_live : (i j : IndexState) → j ≡ record i { room = j.room } → (id : ℕ) → live_at (index_of j) id ≡ live_at (index_of i) id
+same_live i j e id = ap (λ (u : IndexState). live_at (index_of u) id) e
+
+-- the locators that an identifier has now
+pub set_found : (i : IndexState) (id : ℕ) (ls : List Place) (j : IndexState) → IsSet i id ls j → lookup id (index_of j) ≡ Some ls
+set_found i id ls j set = split (id == id) same (set.index id)
+  where
+    same : (id == id) ≡ true
+    same = grind (arith, nat_tests)
+
+    split : (b : Bool) → b ≡ true → lookup id (index_of j) ≡ (if b then Some ls else lookup id (index_of i)) → lookup id (index_of j) ≡ Some ls
+    split true e is = is
+    split false e is = absurd (cc e)
+
+-- what has locators now is live
+pub set_live : (i : IndexState) (id : ℕ) (ls : List Locator) (j : IndexState) → IsSet i id (map place_of ls) j → 1 ≤ length ls → live_at (index_of j) id ≡ [] → ⊥
+set_live i id [] j set some none = omega (arith, some)
+set_live i id (l ∷ ls) j set some none = let no : place_of l ∷ map place_of ls ≡ [] = ap live (sym (set_found i id (map place_of (l ∷ ls)) j set)) ∙ none in absurd (cc no)
+
+-- an identifier has other locators
+pub inside_set : (S : Shape) (i : IndexState) (id : ℕ) (ls : List Place) (j : IndexState) → AreInside S i → IsSet i id ls j → ((l : Place) → l ∈ ls → Inside S l.extent l.page) → AreInside S j
+inside_set S i id ls j old set new d l among = split (id == d) (set.index d)
+  where
+    split : (b : Bool) → lookup d (index_of j) ≡ (if b then Some ls else lookup d (index_of i)) → Inside S l.extent l.page
+    split true e = new l (subst (λ (o : Option (List Place)). l ∈ live o) e among)
+    split false e = old d l (subst (λ (o : Option (List Place)). l ∈ live o) e among)
+
+-- what is live stays
+pub inside_live : (S : Shape) (i j : IndexState) → AreInside S i → ((id : ℕ) → live_at (index_of j) id ≡ live_at (index_of i) id) → AreInside S j
+inside_live S i j old same d l among = old d l (subst (λ (ls : List Place). l ∈ ls) (same d) among)
+
+-- EXTENTS THAT ARE BEING SWEPT
+pub swept_appended : (x y : ExtentsState) (g h : GraphState) (r : Reason) (frame : List (List ℕ)) (l : Locator) → IsAppended x g r frame l y h → AreSwept x → AreSwept y
+swept_appended x y g h r frame l a swept e is = append_swept x y g h r frame l e a (swept e (sym (ap (λ (u : Extents). u.swept e) a.extents) ∙ is))
+
+pub swept_all : (x y : ExtentsState) (g h : GraphState) (r : Reason) (frames : List (List (List ℕ))) (ls : List Locator) → AreAppended x g r frames ls y h → AreSwept x → AreSwept y
+swept_all x y g h r [] [] a swept = subst AreSwept (sym a.0) swept
+swept_all x y g h r (f ∷ fs) (l ∷ ls) a swept = swept_all a.0 y a.1 h r fs ls a.3 (swept_appended x a.0 g a.1 r f l a.2 swept)
+swept_all x y g h r [] (l ∷ ls) a swept = absurd a
+swept_all x y g h r (f ∷ fs) [] a swept = absurd a
+
+swept_table : (i : IndexState) (x : ExtentsState) (g : GraphState) (v commands : ℕ) (j : IndexState) (y : ExtentsState) (h : GraphState) → IsTableStaged i x g v commands j y h → AreSwept x → AreSwept y
+swept_table i x g v commands j y h staged = swept_appended x y g staged.staged.0 ForRun (run_frame x staged.entries) (as_locator staged.place) staged.staged.1
+
+pub swept_merged : (i : IndexState) (x : ExtentsState) (g : GraphState) (r : Reason) (v commands : ℕ) (j : IndexState) (y : ExtentsState) (h : GraphState) → IsMergeStaged i x g r v commands j y h → AreSwept x → AreSwept y
+swept_merged i x g r v commands j y h staged swept = ⊎_elim
+    (λ (m : (entries : List Entry) × (place : Place) × (entries ≡ [] → ⊥) × IsMergedRun (index_of i) entries × IsRunAppended x g r entries place y staged.between × (j.runs ≡ record { place = place; entries = entries } ∷ [])).
+    swept_appended x y g staged.between r (run_frame x m.0) (as_locator m.1) m.4 swept)
+    (λ (m : ((id : ℕ) → live_at (index_of i) id ≡ []) × (y ≡ x) × (staged.between ≡ g) × (j.runs ≡ [])). subst AreSwept (sym m.1) swept)
+    staged.appended
+
+-- the index is staged, or not
+pub swept_staged : (result : Result (Option ℕ) Refusal) (commands : ℕ) (i : IndexState) (x : ExtentsState) (g : GraphState) (j : IndexState) (y : ExtentsState) (h : GraphState)
+    → (result ≡ Ok None → (j ≡ i) × (y ≡ x) × (h ≡ g))
+    → ((v : ℕ) → result ≡ Ok (Some v) → length i.runs < 4 → IsTableStaged i x g v commands j y h)
+    → ((v : ℕ) → result ≡ Ok (Some v) → 4 ≤ length i.runs → IsMergeStaged i x g ForRun v commands j y h)
+    → OnErr result (y ≡ x) → AreSwept x → AreSwept y
+swept_staged (Ok None) commands i x g j y h none table merged unwritten swept = subst AreSwept (sym (none refl).1) swept
+swept_staged (Ok (Some v)) commands i x g j y h none table merged unwritten swept = ⊎_elim
+    (λ (few : length i.runs < 4). swept_table i x g v commands j y h (table v refl few) swept)
+    (λ (many : 4 ≤ length i.runs). swept_merged i x g ForRun v commands j y h (merged v refl many) swept)
+    (cases_lt (length i.runs) 4)
+swept_staged (Err r) commands i x g j y h none table merged unwritten swept = subst AreSwept (sym unwritten) swept
+
+pub moves_retired : (i : IndexState) (x : ExtentsState) (g : GraphState) (e v commands : ℕ) (j : IndexState) (y : ExtentsState) (h : GraphState) → IsRetired i x g e v commands j y h → shape y ≡ shape x → KeepsDevice x g y h
+moves_retired i x g e v commands j y h r same =
+    let merged : KeepsDevice x g r.0 h = moves_merged i x g ForMove v commands j r.0 h r.1 in
+    moves_then x g r.0 h y h merged (moves_extents r.0 h y (same ∙ sym merged.same_shape))
+
+-- an extent is retired
+pub swept_retired : (i : IndexState) (x : ExtentsState) (g : GraphState) (e v commands : ℕ) (j : IndexState) (y : ExtentsState) (h : GraphState) → IsRetired i x g e v commands j y h → shape y ≡ shape x → AreSwept x → AreSwept y
+swept_retired i x g e v commands j y h r same swept d is =
+    let mid : AreSwept r.0 = swept_merged i x g ForMove v commands j r.0 h r.1 swept in
+    ⊎_elim
+    (λ (at : d ≡ e). let e1 : (extents_of y).swept e ≡ false = ap (λ (u : Extents). u.swept e) r.2 ∙ cond-true (e == e) false ((extents_of r.0).swept e) (eq-eqb e e refl) in
+    let e2 : (extents_of y).swept e ≡ true = ap (extents_of y).swept (sym at) ∙ is in
+    let e3 : false ≡ true = sym e1 ∙ e2 in absurd (cc e3))
+    (λ (other : d ≡ e → ⊥).
+    let here : (extents_of r.0).swept d ≡ true = sym (ap (λ (u : Extents). u.swept d) r.2 ∙ cond-false (d == e) false ((extents_of r.0).swept d) (ne_eqb d e other)) ∙ is in
+    let before = mid d here in
+    let shapes : shape r.0 ≡ shape x = (moves_merged i x g ForMove v commands j r.0 h r.1).same_shape in record {
+      inside = subst (λ (S : Shape). d < S.extents) (shapes ∙ sym same) before.inside;
+      marked = is;
+      closed = λ open_there. before.closed (sym (ap (λ (u : Extents). u.open_extent) r.2) ∙ open_there);
+      written = subst (λ (f : ℕ → ℕ). 0 < f d) (sym (ap (λ (u : Extents). u.pointer) r.2)) (subst (λ (k : ℕ). 0 < k) (sym (cond-false (d == e) 0 ((extents_of r.0).pointer d) (ne_eqb d e other))) before.written);
+    })
+    (cases_eq d e)
+
+-- SOUNDNESS
+pub kept_on : (s w : Stored) → IsKept s → KeepsDevice s.extents s.graph w.extents w.graph → AreResetsStaged (extents_of w.extents) w.graph.staging
+    → length w.graph.staging.latest ≡ length s.graph.staging.latest → w.index.limit ≡ s.index.limit → AreInside (shape s.extents) w.index
+    → w.out ≡ s.out → w.issued ≡ s.issued → w.base + w.accepted < 2 ^ 63 → AreSwept w.extents → IsKept w
+kept_on s w kept moves resets families limit inside out issued numbers swept = record {
+  families = families ∙ kept.families;
+  resets = resets;
+  writes = subst (λ (S : Shape). AreWithin (page_total S) w.graph) (sym moves.same_shape) (moves.within kept.writes);
+  limit = limit ∙ kept.limit ∙ ap (λ (S : Shape). S.most_names) (sym moves.same_shape);
+  places = subst (λ (S : Shape). AreInside S w.index) (sym moves.same_shape) inside;
+  round = out ∙ kept.round ∙ sym moves.round;
+  some = subst (λ (o : Option (List Element)). w.issued ≤ length (members_of o)) (sym out) (let le = kept.some in omega (arith, issued));
+  numbers = numbers;
+  swept = swept;
+}
+
+-- an extent is marked, or no longer
+pub swept_marked : (x y : ExtentsState) (e : ℕ) (b : Bool) → shape y ≡ shape x → extents_of y ≡ marked (extents_of x) e b → AreSwept x → (b ≡ true → IsSwept (shape y) (extents_of y) e) → AreSwept y
+swept_marked x y e b same extents swept here d is = ⊎_elim
+    (λ (at : d ≡ e). subst (λ (k : ℕ). IsSwept (shape y) (extents_of y) k) (sym at) (here (sym (cond-true (d == e) b ((extents_of x).swept d) (eq-eqb d e at)) ∙ sym (ap (λ (u : Extents). u.swept d) extents) ∙ is)))
+    (λ (other : d ≡ e → ⊥).
+    let before = swept d (sym (cond-false (d == e) b ((extents_of x).swept d) (ne_eqb d e other)) ∙ sym (ap (λ (u : Extents). u.swept d) extents) ∙ is) in record {
+      inside = subst (λ (S : Shape). d < S.extents) (sym same) before.inside;
+      marked = is;
+      closed = λ open_there. before.closed (sym (ap (λ (u : Extents). u.open_extent) extents) ∙ open_there);
+      written = subst (λ (f : ℕ → ℕ). 0 < f d) (sym (ap (λ (u : Extents). u.pointer) extents)) before.written;
+    })
+    (cases_eq d e)
+
+-- a mark changes no reset
+marked_resets : (x y : ExtentsState) (g : Staging) (e : ℕ) (b : Bool) → AreResetsStaged (extents_of x) g → extents_of y ≡ marked (extents_of x) e b → AreResetsStaged (extents_of y) g
+marked_resets x y g e b old is = subst (λ (u : Extents). AreResetsStaged u g) (sym is) old
+
+pub kept_marked : (s : Stored) → IsKept s → (y : ExtentsState) (e : ℕ) (b : Bool) → shape y ≡ shape s.extents → extents_of y ≡ marked (extents_of s.extents) e b → (b ≡ true → IsSwept (shape y) (extents_of y) e)
+    → IsKept (record s { extents = y })
+kept_marked s kept y e b same extents here = kept_on s (record s { extents = y }) kept (moves_extents s.extents s.graph y same) (marked_resets s.extents y s.graph.staging e b kept.resets extents)
+    refl refl kept.places refl refl kept.numbers (swept_marked s.extents y e b same extents kept.swept here)
+
+-- a round began or ended
+pub kept_round : (s : Stored) → IsKept s → (g : GraphState) → g.staging.latest ≡ s.graph.staging.latest → AddsNone s.graph g → (out : Option (List Element)) → out ≡ g.round → (issued frontier : ℕ) → issued ≤ length (members_of out)
+    → IsKept (record s { graph = g; out = out; issued = issued; frontier = frontier })
+kept_round s kept g latest none out is issued frontier few = record {
+  families = ap length latest ∙ kept.families;
+  resets = subst (λ (vs : List ℕ). (e : ℕ) → (extents_of s.extents).reset e ≤ slice_index vs 1) (sym latest) kept.resets;
+  writes = λ x w there. kept.writes x w (none x w there);
+  limit = kept.limit;
+  places = kept.places;
+  round = is;
+  some = few;
+  numbers = kept.numbers;
+  swept = kept.swept;
+}
+
+-- a member that is read
+pub is_member : {X : Type 0} (xs : List X) (i : ℕ) (d : X) → i < length xs → Contains xs (get_or xs i d)
+is_member xs i d lt = (i, lt, get_or_default xs i (get_or xs i d) d lt)

@@ -1,0 +1,204 @@
+-- A put is a step of the machine.
+use Rattle.std.proofs.Common.{◌≡◌, ◌⊎◌, inl, inr, ⊎_elim, ℕ, suc, ◌+◌, ◌*◌, ◌^◌, ◌<◌, ◌≤◌, true, false, List, ◌∷◌, Some, None, Ok, Err, length, map, refl, sym, ap, ◌∙◌, subst, arith}
+use Rattle.std.specs.Prelude.{◌↔◌, Option, is_some}
+use Rattle.cs_chunk.specs.Chunks.{IsPutWorn}
+use Rattle.cs_deps.specs.declared.refusals.Refusal.{Refusal as Code}
+use Rattle.cs_deps.specs.declared.refusals.Refusal.TheVariants as code
+use Rattle.cs_deps.specs.State.{State as GraphState}
+use Rattle.cs_extent.specs.Appended.{AreAppended}
+use Rattle.cs_extent.specs.State.{IsWhole, State as ExtentsState, extents_of, shape}
+use Rattle.cs_frame.specs.declared.locators.Locator.{Locator as Spot}
+use Rattle.cs_frame.specs.Formats.{formats_of, place_of}
+use Rattle.cs_index.specs.State.{IsSet, State as IndexState, index_of}
+use Rattle.cs_model.specs.Append.{chunk_frames, page_counts}
+use Rattle.cs_model.specs.Device.{Shape}
+use Rattle.cs_model.specs.Element.{Locator}
+use Rattle.cs_model.specs.Events.{Chunked, Does}
+use Rattle.cs_model.specs.Extents.{Fits, ForPut}
+use Rattle.cs_model.specs.Grounds.{NoRoomToPut, Refuses, WouldPass, is_named}
+use Rattle.cs_model.specs.Index.{lookup, names}
+use Rattle.cs_model.specs.Refusal.{Full, Halted, IndexFull, Refusal, TooLarge, WornOut}
+use Rattle.cs_model.specs.State.{Accepted, Put, Refused, State, index_now}
+use Rattle.cs_model.specs.Step.{Step}
+use Rattle.cs_bridge.proofs.Calls.{put}
+use Rattle.cs_bridge.proofs.Indexes.{as_many_named, looked_up}
+use Rattle.cs_bridge.proofs.RefusedPuts.{put_full, put_worn}
+use Rattle.cs_bridge.specs.Parts.{ArePartsOf}
+use Rattle.cs_core.specs.States.{IsStateOf}
+use Rattle.cs_core.specs.Stored.{IsWhyWorn, Stored, settled_rooms}
+use Rattle.cs_core.specs.Steps.{Declines}
+use Rattle.cs_core.proofs.Going.{Beside, beside_is, frontier_same, goes_on, going, no_more, pass, roots_same, same_state}
+use Rattle.cs_core.proofs.RootsStay.{SameRoots, appends_stay}
+
+-- what wasn't refused so has no ground for it
+pub ok_not : {T P : Type 0} (x : T) (r : Code) → (Ok x ≡ Err r) ↔ P → P → ⊥
+ok_not x r exact p = let e : Ok x ≡ Err r = exact.1 p in cc
+
+-- an identifier without an entry
+pub unnamed : (o : Option (List Locator)) → o ≡ None → is_some o ≡ false
+unnamed o none = ap (λ (u : Option (List Locator)). is_some u) none
+
+pub named_not : (o : Option (List Locator)) → is_some o ≡ false → o ≡ None
+named_not None is = refl
+named_not (Some ls) is = absurd (let e : true ≡ false = is in cc)
+
+module _ (v : Stored) (s : State) (whole : IsWhole v.extents) (is : IsStateOf v s) (id : ℕ) (bytes : List ℕ) where
+  S : Shape
+  S = shape v.extents
+
+  abbrev counts : List (List ℕ) → List ℕ
+  counts cs = page_counts (chunk_frames (shape v.extents) (formats_of (shape v.extents)) cs)
+
+  abbrev Large : Type 0
+  Large = (shape v.extents).most_chunks * (shape v.extents).chunk_bytes < length bytes
+
+  -- the machine's ground for 32 is that of the index
+  pub full_index : (limit : v.index.limit ≡ (shape v.extents).most_names)
+      → ((is_named (shape v.extents) (formats_of (shape v.extents)) s id ≡ false) × ((shape v.extents).most_names ≤ names (index_now s)))
+      ↔ ((lookup id (index_of v.index) ≡ None) × (v.index.limit ≤ names (index_of v.index)))
+  full_index limit =
+      let looked = looked_up v.index s.table s.runs is.parts.index id in
+      let count = as_many_named v.index s.table s.runs is.parts.index in (
+        (λ h. (looked ∙ named_not (lookup id (index_now s)) h.0, (let le = h.1 in omega (arith, limit, count)))),
+        (λ h. (unnamed (lookup id (index_now s)) (sym looked ∙ h.0), (let le = h.1 in omega (arith, limit, count)))),
+      )
+
+  module _ (limit : v.index.limit ≡ (shape v.extents).most_names) (runs : v.halted ≡ false) where
+    runs_on : s.halted ≡ true → ⊥
+    runs_on = going s.halted (is.halted ∙ runs)
+
+    abbrev Fitting : Type 0
+    Fitting = (cs : List (List ℕ)) → Chunked (shape v.extents).chunk_bytes bytes cs → Fits (shape v.extents) (extents_of v.extents) ForPut (counts cs) → ⊥
+
+    abbrev Worn : Type 0
+    Worn = (cs : List (List ℕ)) × Chunked (shape v.extents).chunk_bytes bytes cs × Fits (shape v.extents) (extents_of v.extents) ForPut (counts cs) × IsPutWorn v.graph.staging (counts cs)
+
+    Last : Type 0
+    Last = 2 ^ 63 ≤ v.base + v.accepted + 1
+
+    -- it is refused as too large
+    pub put_large : Large → Step (shape v.extents) (formats_of (shape v.extents)) s (Put id bytes) (Refused TooLarge) s
+    put_large large = (inl (inr (runs_on, inl (large, refl))), refl)
+
+    pub put_index : (Large → ⊥) → (lookup id (index_of v.index) ≡ None) × (v.index.limit ≤ names (index_of v.index))
+        → Step (shape v.extents) (formats_of (shape v.extents)) s (Put id bytes) (Refused IndexFull) s
+    put_index small full = (inl (inr (runs_on, inr (small, inl ((full_index limit).1 full, refl)))), refl)
+
+    module _ (small : Large → ⊥) (named : (lookup id (index_of v.index) ≡ None) × (v.index.limit ≤ names (index_of v.index)) → ⊥) where
+      unfull : (is_named (shape v.extents) (formats_of (shape v.extents)) s id ≡ false) × ((shape v.extents).most_names ≤ names (index_now s)) → ⊥
+      unfull h = named ((full_index limit).0 h)
+
+      pub put_no_room : Fitting → Step (shape v.extents) (formats_of (shape v.extents)) s (Put id bytes) (Refused Full) s
+      put_no_room none = (inl (inr (runs_on, inr (small, inr (unfull, inl ((put_full v.extents v.graph v.index s whole is.parts bytes).1 none, refl))))), refl)
+
+      room : (Fitting → ⊥) → NoRoomToPut (shape v.extents) (formats_of (shape v.extents)) s bytes → ⊥
+      room fits none = fits ((put_full v.extents v.graph v.index s whole is.parts bytes).0 none)
+
+      numbers_worn : WouldPass (shape v.extents) (formats_of (shape v.extents)) s (Put id bytes) → Worn ⊎ (2 ^ 63 ≤ v.base + v.accepted + 1)
+      numbers_worn would = let w = (put_worn v.extents v.graph v.index s whole is.parts is.sound is.bounded id bytes).0 would in ⊎_elim
+          (λ (worn : IsPutWorn v.graph.staging (counts w.0)). inl (w.0, w.1, w.2, worn))
+          (λ (last : 2 ^ 63 ≤ s.count + length s.commands + 1). inr (omega (arith, is.base, is.accepted)))
+          w.3
+
+      pub put_worn_out : (Fitting → ⊥) → Worn → Step (shape v.extents) (formats_of (shape v.extents)) s (Put id bytes) (Refused WornOut) s
+      put_worn_out fits w =
+          (inl (inr (runs_on, inr (small, inr (unfull, inr (room fits, inl ((put_worn v.extents v.graph v.index s whole is.parts is.sound is.bounded id bytes).1 (w.0, w.1, w.2, inl w.3), refl)))))), refl)
+
+      -- the number of commands is the greatest
+      pub put_last : (2 ^ 63 ≤ v.base + v.accepted + 1) → (cs : List (List ℕ)) × Chunked (shape v.extents).chunk_bytes bytes cs × Fits (shape v.extents) (extents_of v.extents) ForPut (counts cs)
+          → Step (shape v.extents) (formats_of (shape v.extents)) s (Put id bytes) (Refused WornOut) s
+      put_last last f =
+          let past : 2 ^ 63 ≤ s.count + length s.commands + 1 = omega (arith, is.base, is.accepted) in (
+            inl (inr (
+              runs_on,
+              inr (
+                small,
+                inr (
+                  unfull,
+                  inr (
+                    room (λ none. none f.0 f.1 f.2),
+                    inl ((put_worn v.extents v.graph v.index s whole is.parts is.sound is.bounded id bytes).1 (f.0, f.1, f.2, inr past), refl),
+                  ),
+                ),
+              ),
+            )),
+            refl,
+          )
+
+      -- it is done
+      pub put_done : (Fitting → ⊥) → (Worn → ⊥) → (2 ^ 63 ≤ v.base + v.accepted + 1 → ⊥)
+          → (y : ExtentsState) (h : GraphState) (j : IndexState) (cs : List (List ℕ)) (ls : List Spot) → Chunked (shape v.extents).chunk_bytes bytes cs
+          → AreAppended v.extents v.graph ForPut (chunk_frames (shape v.extents) (formats_of (shape v.extents)) cs) ls y h → IsSet v.index id (map place_of ls) j → shape y ≡ shape v.extents
+          → (t : State) × Step (shape v.extents) (formats_of (shape v.extents)) s (Put id bytes) (Accepted (v.accepted + 1)) t
+          × IsStateOf (record v { graph = h; extents = y; index = j; accepted = v.accepted + 1 }) t
+      put_done fits fresh young y h j cs ls cut all set same =
+          let none : (f : Refusal) → Refuses (shape v.extents) (formats_of (shape v.extents)) s (Put id bytes) f → ⊥
+          = pass Halted runs_on (pass TooLarge small (pass IndexFull unfull (pass Full (room fits) (pass WornOut (λ would. ⊎_elim fresh young (numbers_worn would)) no_more)))) in
+          let done = put v.extents v.graph v.index s is.parts y h j id bytes cs ls whole cut all set in
+          at done.0 none done.1 done.2
+        where
+          at : (t : State) → ((f : Refusal) → Refuses (shape v.extents) (formats_of (shape v.extents)) s (Put id bytes) f → ⊥)
+              → Does (shape v.extents) (formats_of (shape v.extents)) s (Put id bytes) (Accepted (suc (length s.commands))) t → ArePartsOf y h j t
+              → (z : State) × Step (shape v.extents) (formats_of (shape v.extents)) s (Put id bytes) (Accepted (v.accepted + 1)) z
+              × IsStateOf (record v { graph = h; extents = y; index = j; accepted = v.accepted + 1 }) z
+          at t none does parts =
+              let u : State = record s { world = does.4.0; table = record { id = id; locators = does.1 } ∷ s.table; commands = (id, Some bytes) ∷ s.commands } in
+              let tis : t ≡ u = does.6 ∙ ap (λ (m : State). record m { table = record { id = id; locators = does.1 } ∷ m.table; commands = (id, Some bytes) ∷ m.commands }) does.4.2 in
+              let number : suc (length s.commands) ≡ v.accepted + 1 = omega (arith, is.accepted) in
+              let step : Step (shape v.extents) (formats_of (shape v.extents)) s (Put id bytes) (Accepted (v.accepted + 1)) t
+              = subst (λ (n : ℕ). Step (shape v.extents) (formats_of (shape v.extents)) s (Put id bytes) (Accepted n) t) number (none, does) in
+              let beside : Beside s t = beside_is s t u tis (record { round_out = refl; left = refl; issued = refl; halted = refl; count = refl }) in
+              let roots : SameRoots s.world t.world = subst (λ (z : State). SameRoots s.world z.world) (sym tis)
+              (appends_stay (shape v.extents) s.world does.4.0 ForPut (chunk_frames (shape v.extents) (formats_of (shape v.extents)) does.0) does.1 does.4.1) in
+              let many : length t.commands ≡ v.accepted + 1 = ap (λ (z : State). length z.commands) tis ∙ number in (
+                t,
+                step,
+                goes_on v (record v { graph = h; extents = y; index = j; accepted = v.accepted + 1 }) s t (Put id bytes) (Accepted (v.accepted + 1)) whole is step same parts beside refl refl refl refl many
+                    (frontier_same (shape v.extents) (formats_of (shape v.extents)) s t v.frontier is.frontier roots beside.count)
+                    (roots_same v.roots s t is.roots roots beside.count),
+              )
+
+-- room for the entry alone has changed
+pub set_from : (id : ℕ) (i k j : IndexState) (ls : List Locator) → k ≡ record i { room = k.room } → IsSet k id ls j → IsSet i id ls j
+set_from id i k j ls e set = let there : IsSet (record i { room = k.room }) id ls j = subst (λ (u : IndexState). IsSet u id ls j) e set in
+    record { table = there.table; index = there.index; runs = there.runs; limit = there.limit }
+
+-- ---- refusals of the calls
+module _ (v w : Stored) (whole : IsWhole v.extents) (limit : v.index.limit ≡ (shape v.extents).most_names) (runs : v.halted ≡ false) (same : settled_rooms w ≡ settled_rooms v) (id : ℕ) (bytes : List ℕ) (r : Code) where
+  abbrev pub IsLarge : Type 0
+  IsLarge = (shape v.extents).most_chunks * (shape v.extents).chunk_bytes < length bytes
+
+  abbrev pub NoneFits : Type 0
+  NoneFits = (cs : List (List ℕ)) → Chunked (shape v.extents).chunk_bytes bytes cs → Fits (shape v.extents) (extents_of v.extents) ForPut (page_counts (chunk_frames (shape v.extents) (formats_of (shape v.extents)) cs)) → ⊥
+
+  abbrev pub IsOut : Type 0
+  IsOut = (cs : List (List ℕ)) × Chunked (shape v.extents).chunk_bytes bytes cs × Fits (shape v.extents) (extents_of v.extents) ForPut (page_counts (chunk_frames (shape v.extents) (formats_of (shape v.extents)) cs))
+      × IsPutWorn v.graph.staging (page_counts (chunk_frames (shape v.extents) (formats_of (shape v.extents)) cs))
+
+  abbrev pub IsNamed : Type 0
+  IsNamed = (lookup id (index_of v.index) ≡ None) × (v.index.limit ≤ names (index_of v.index))
+
+  pub test_declines : (r ≡ code.TooLarge) ⊎ (r ≡ code.IndexFull) → (r ≡ code.TooLarge → IsLarge) → (r ≡ code.IndexFull → (IsLarge → ⊥) × (lookup id (index_of v.index) ≡ None) × (v.index.limit ≤ names (index_of v.index)))
+      → Declines v (Put id bytes) r w
+  test_declines (inl e) large index = inr (TooLarge, e, λ s is. (s, put_large v s whole is id bytes limit runs (large e), same_state v w s is same))
+  test_declines (inr e) large index =
+      let i = index e in
+      inr (IndexFull, e, λ s is. (s, put_index v s whole is id bytes limit runs i.0 (i.1, i.2), same_state v w s is same))
+
+  module _ (small : IsLarge → ⊥) (named : (lookup id (index_of v.index) ≡ None) × (v.index.limit ≤ names (index_of v.index)) → ⊥) where
+    pub chunks_decline : (r ≡ code.TooLarge) ⊎ (r ≡ code.Full) ⊎ (r ≡ code.WornOut) ⊎ (r ≡ code.OutOfMemory) → (r ≡ code.TooLarge → IsLarge) → (r ≡ code.Full → (IsLarge → ⊥) × NoneFits) → (r ≡ code.WornOut → (IsLarge → ⊥) × IsOut)
+        → Declines v (Put id bytes) r w
+    chunks_decline (inl e) large full worn = absurd (small (large e))
+    chunks_decline (inr (inl e)) large full worn = inr (Full, e, λ s is. (s, put_no_room v s whole is id bytes limit runs small named (full e).1, same_state v w s is same))
+    chunks_decline (inr (inr (inl e))) large full worn =
+        let out = (worn e).1 in
+        inr (WornOut, e, λ s is. (s, put_worn_out v s whole is id bytes limit runs small named (λ none. none out.0 out.1 out.2) out, same_state v w s is same))
+    chunks_decline (inr (inr (inr e))) large full worn = inl e
+
+    pub last_declines : 2 ^ 63 ≤ v.base + v.accepted + 1 → IsWhyWorn v.extents bytes r → Declines v (Put id bytes) r w
+    last_declines last why = go r refl why
+      where
+        go : (q : Code) → r ≡ q → IsWhyWorn v.extents bytes q → Declines v (Put id bytes) r w
+        go code.WornOut e f = inr (WornOut, e, λ s is. (s, put_last v s whole is id bytes limit runs small named last f, same_state v w s is same))
+        go code.Full e none = inr (Full, e, λ s is. (s, put_no_room v s whole is id bytes limit runs small named none, same_state v w s is same))
+        go q e no_why = absurd no_why

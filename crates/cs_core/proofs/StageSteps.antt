@@ -1,0 +1,278 @@
+-- Stagings of runs and roots are steps of the machine.
+use Rattle.std.proofs.Common.{◌≡◌, ◌≢◌, ◌⊎◌, inl, inr, ⊎_elim, ℕ, suc, ◌+◌, ◌<◌, ◌≤◌, true, false, List, [], ◌∷◌, ◌++◌, Some, None, Ok, Err, length, refl, sym, ap, ◌∙◌, subst, arith}
+use Rattle.std.specs.Prelude.{◌↔◌, IfOk, Option, Result}
+use Rattle.std.proofs.lemmas.Bool.{cases_lt}
+use Rattle.cs_deps.specs.declared.refusals.Refusal.{Refusal as Code}
+use Rattle.cs_deps.specs.declared.refusals.Refusal.TheVariants as code
+use Rattle.cs_deps.specs.State.{State as GraphState}
+use Rattle.cs_extent.specs.State.{IsWhole, State as ExtentsState, extents_of, shape}
+use Rattle.cs_frame.specs.Formats.{formats_of}
+use Rattle.cs_index.specs.Staged.{IsFull, IsMergeStaged, IsStageWorn, IsTableStaged, IsWhy, WritesRun}
+use Rattle.cs_index.specs.State.{State as IndexState, index_of}
+use Rattle.cs_model.specs.Device.{Shape}
+use Rattle.cs_model.specs.Element.{Entry, Root, Run, roots_of}
+use Rattle.cs_model.specs.Events.{Does, IsFrontier, retired, rooted}
+use Rattle.cs_model.specs.Extents.{Extents, ForMove, ForRun}
+use Rattle.cs_model.specs.Formats.{Formats, RunFrame}
+use Rattle.cs_model.specs.Grounds.{NoRoomForRun, Refuses, WouldPass}
+use Rattle.cs_model.specs.Index.{NothingLive}
+use Rattle.cs_model.specs.Lists.{with}
+use Rattle.cs_model.specs.Machine.{World, root_now}
+use Rattle.cs_model.specs.Refusal.{Full, Halted, NotSweepable, Refusal, StillLive, WornOut}
+use Rattle.cs_model.specs.Lists.{◌∈◌}
+use Rattle.cs_model.specs.State.{Event, Reply, Refused, Retire, Retired, Stage, Staged, State, Unchanged, index_now, map_now}
+use Rattle.cs_model.specs.Step.{Step}
+use Rattle.cs_bridge.proofs.Calls.{merge_staged, retire, table_staged}
+use Rattle.cs_bridge.proofs.Indexes.{looked_up, none_too, nothing_live}
+use Rattle.cs_bridge.proofs.RefusedStages.{retire_full, retire_worn, stage_full, stage_worn}
+use Rattle.cs_bridge.specs.Parts.{ArePartsOf}
+use Rattle.cs_reclaim.specs.Retired.{IsRetireFull, IsRetireWorn, IsRetired}
+use Rattle.cs_core.specs.declared.roots.Root.{Root as Noted}
+use Rattle.cs_core.specs.States.{AreRootsOf, IsStateOf}
+use Rattle.cs_core.specs.Steps.{Declines, Steps}
+use Rattle.cs_core.specs.Stored.{Stored, settled_rooms}
+use Rattle.cs_core.proofs.Going.{Beside, frontier_stays, goes_on, going, no_more, pass, roots_more, same_state}
+use Rattle.cs_core.proofs.RootsStay.{SameRoots, append_stays, merge_stays}
+
+-- what a state has after a root was staged
+record IsRooted (s t : State) (v : ℕ) : Type 0 where
+  pub beside : Beside s t
+  pub commands : t.commands ≡ s.commands
+  pub root : Root
+  pub roots : roots_of t.world.elements ≡ root ∷ roots_of s.world.elements
+  pub version : v ≡ root.version
+  pub counts : root.commands ≡ s.count + length s.commands
+  pub persistent : t.world.persistent ≡ s.world.persistent
+
+module _ (S : Shape) (F : Formats) (s : State) where
+  rooted_so : (w : World) (runs : List Run) (pointers : ℕ → ℕ) (v : ℕ) → SameRoots s.world w → v ≡ suc s.world.root → IsRooted s (rooted S F (record s { world = w }) runs pointers) v
+  rooted_so w runs pointers v same number = record {
+    beside = record { round_out = refl; left = refl; issued = refl; halted = refl; count = refl };
+    commands = refl;
+    root = root_now w (s.count + length s.commands) runs (map_now s) pointers;
+    roots = ap (λ (rs : List Root). root_now w (s.count + length s.commands) runs (map_now s) pointers ∷ rs) same.roots;
+    version = number ∙ ap suc (sym same.root);
+    counts = refl;
+    persistent = same.persistent;
+  }
+
+  rooted_at : (mid t : State) (w : World) (runs : List Run) (v : ℕ) → mid ≡ record s { world = w } → SameRoots s.world w → v ≡ suc s.world.root → t ≡ rooted S F mid runs mid.world.extents.pointer → IsRooted s t v
+  rooted_at mid t w runs v mid_is same number tis =
+      subst (λ (z : State). IsRooted s z v) (sym (tis ∙ ap (λ (m : State). rooted S F m runs m.world.extents.pointer) mid_is)) (rooted_so w runs w.extents.pointer v same number)
+
+  retired_at : (mid t : State) (w : World) (runs : List Run) (e v : ℕ) → mid ≡ record s { world = w } → SameRoots s.world w → v ≡ suc s.world.root → t ≡ retired S F mid runs e → IsRooted s t v
+  retired_at mid t w runs e v mid_is same number tis =
+      let one = rooted_so w runs (with w.extents.pointer e 0) v same number in
+      subst (λ (z : State). IsRooted s z v) (sym (tis ∙ ap (λ (m : State). retired S F m runs e) mid_is)) (record {
+        beside = record { round_out = refl; left = refl; issued = refl; halted = refl; count = refl };
+        commands = refl;
+        root = one.root;
+        roots = one.roots;
+        version = one.version;
+        counts = one.counts;
+        persistent = one.persistent;
+      })
+
+  stage_rooted : (t : State) (v : ℕ) → Does S F s Stage (Staged v) t → IsRooted s t v
+  stage_rooted t v (some, number, inl (few, entries, l, mid, run, (w, append, mid_is), tis)) =
+      rooted_at mid t w (record { place = l; entries = entries } ∷ s.runs) v mid_is (append_stays S s.world w ForRun (F.frame RunFrame (F.run entries)) l append) number tis
+  stage_rooted t v (some, number, inr (many, mid, runs, (w, merges, mid_is), tis)) =
+      rooted_at mid t w runs v mid_is (merge_stays S F s.world w (index_now s) ForRun runs merges) number tis
+
+  retire_rooted : (t : State) (e v : ℕ) → Does S F s (Retire e) (Retired v) t → IsRooted s t v
+  retire_rooted t e v (swept, nothing, number, mid, runs, (w, merges, mid_is), tis) =
+      retired_at mid t w runs e v mid_is (merge_stays S F s.world w (index_now s) ForMove runs merges) number tis
+
+module _ (v : Stored) (s : State) (whole : IsWhole v.extents) (is : IsStateOf v s) (runs : v.halted ≡ false) where
+  runs_on : s.halted ≡ true → ⊥
+  runs_on = going s.halted (is.halted ∙ runs)
+
+  -- the commands that the root says
+  said : v.base + v.accepted ≡ s.count + length s.commands
+  said = omega (arith, is.base, is.accepted)
+
+  -- ---- Stage
+
+  no_table : v.index.table ≡ [] → s.table ≡ []
+  no_table = none_too v.index.table s.table is.parts.index.lookups
+
+  some_table : v.index.table ≢ [] → s.table ≢ []
+  some_table some none = some (none_too s.table v.index.table (λ id. sym (is.parts.index.lookups id)) none)
+
+  abbrev NoStage : Type 0
+  NoStage = IsFull (WritesRun v.index) v.extents ForRun
+
+  abbrev WornStage : Type 0
+  WornStage = (v.index.table ≢ []) × IsStageWorn (WritesRun v.index) v.extents v.graph.staging
+
+  stages : (NoStage → ⊥) → (WornStage → ⊥) → (f : Refusal) → Refuses (shape v.extents) (formats_of (shape v.extents)) s Stage f → ⊥
+  stages room young = pass Halted runs_on (pass Full (λ full. room ((stage_full v.extents v.graph v.index s whole is.parts).0 full))
+      (pass WornOut (λ would. young ((stage_worn v.extents v.graph v.index s whole is.parts is.sound is.bounded room).0 would)) no_more))
+
+  pub stage_nothing : v.index.table ≡ [] → Step (shape v.extents) (formats_of (shape v.extents)) s Stage Unchanged s
+  stage_nothing none = (stages (λ full. full.1.0 none) (λ worn. worn.0 none), (no_table none, refl))
+
+  pub stage_no_room : NoStage → Step (shape v.extents) (formats_of (shape v.extents)) s Stage (Refused Full) s
+  stage_no_room full = (inl (inr (runs_on, inl ((stage_full v.extents v.graph v.index s whole is.parts).1 full, refl))), refl)
+
+  pub stage_worn_out : (NoStage → ⊥) → WornStage → Step (shape v.extents) (formats_of (shape v.extents)) s Stage (Refused WornOut) s
+  stage_worn_out room worn =
+      (inl (inr (runs_on, inr ((λ full. room ((stage_full v.extents v.graph v.index s whole is.parts).0 full)), inl ((stage_worn v.extents v.graph v.index s whole is.parts is.sound is.bounded room).1 worn, refl)))), refl)
+
+  -- a root was staged, and noted
+  noted : (t : State) (n : ℕ) (w : Stored) → (event : Event) (reply : Reply) → IsRooted s t n → Step (shape v.extents) (formats_of (shape v.extents)) s event reply t → shape w.extents ≡ shape v.extents → ArePartsOf w.extents w.graph w.index t
+      → w.out ≡ v.out → w.issued ≡ v.issued → w.halted ≡ v.halted → w.base ≡ v.base → w.accepted ≡ v.accepted → w.frontier ≡ v.frontier → w.roots ≡ v.roots ++ record { version = n; commands = v.accepted } ∷ []
+      → IsStateOf w t
+  noted t n w event reply so step same parts out issued halted base accepted frontier roots =
+      goes_on v w s t event reply whole is step same parts so.beside out issued halted base (ap length so.commands ∙ is.accepted ∙ sym accepted)
+      (subst (λ (k : ℕ). IsFrontier (shape v.extents) (formats_of (shape v.extents)) t k) (sym frontier) (frontier_stays (shape v.extents) (formats_of (shape v.extents)) s t v.frontier is.frontier (λ r has. subst (λ (rs : List Root). r ∈ rs) (sym so.roots) (inr has)) so.persistent so.beside.count))
+      (subst (λ (qs : List Noted). AreRootsOf qs t) (sym roots)
+      (roots_more v.roots s t so.root (record { version = n; commands = v.accepted }) is.roots so.roots so.version (ap (λ (k : ℕ). s.count + k) (sym is.accepted) ∙ sym so.counts) so.beside.count))
+
+  pub stage_done : (n : ℕ) (y : ExtentsState) (h : GraphState) (j : IndexState) → (NoStage → ⊥) → (WornStage → ⊥) → v.index.table ≢ []
+      → (length v.index.runs < 4 → IsTableStaged v.index v.extents v.graph n (v.base + v.accepted) j y h)
+      → (4 ≤ length v.index.runs → IsMergeStaged v.index v.extents v.graph ForRun n (v.base + v.accepted) j y h) → shape y ≡ shape v.extents
+      → (t : State) × Step (shape v.extents) (formats_of (shape v.extents)) s Stage (Staged n) t
+      × IsStateOf (record v { graph = h; extents = y; index = j; roots = v.roots ++ record { version = n; commands = v.accepted } ∷ [] }) t
+  stage_done n y h j room young some table merged same = ⊎_elim
+      (λ (few : length v.index.runs < 4).
+      let law = table_staged v.extents v.graph v.index s whole is.parts y h j n some few (subst (λ (k : ℕ). IsTableStaged v.index v.extents v.graph n k j y h) said (table few)) in
+      at law.0 law.1 law.2)
+      (λ (many : 4 ≤ length v.index.runs).
+      let law = merge_staged v.extents v.graph v.index s whole is.parts y h j n some many (subst (λ (k : ℕ). IsMergeStaged v.index v.extents v.graph ForRun n k j y h) said (merged many)) in
+      at law.0 law.1 law.2)
+      (cases_lt (length v.index.runs) 4)
+    where
+      at : (t : State) → Does (shape v.extents) (formats_of (shape v.extents)) s Stage (Staged n) t → ArePartsOf y h j t
+          → (z : State) × Step (shape v.extents) (formats_of (shape v.extents)) s Stage (Staged n) z
+          × IsStateOf (record v { graph = h; extents = y; index = j; roots = v.roots ++ record { version = n; commands = v.accepted } ∷ [] }) z
+      at t does parts =
+          let step : Step (shape v.extents) (formats_of (shape v.extents)) s Stage (Staged n) t = (stages room young, does) in (
+            t,
+            step,
+            noted t n (record v { graph = h; extents = y; index = j; roots = v.roots ++ record { version = n; commands = v.accepted } ∷ [] }) Stage (Staged n)
+                (stage_rooted (shape v.extents) (formats_of (shape v.extents)) s t n does) step same parts refl refl refl refl refl refl refl,
+          )
+
+  -- ---- Retire
+
+  module _ (e : ℕ) (yes : (extents_of v.extents).swept e ≡ true) where
+    swept : s.world.extents.swept e ≡ true
+    swept = ap (λ (x : Extents). x.swept e) is.parts.world.extents ∙ yes
+
+    lives : NothingLive (index_of v.index) e ↔ NothingLive (index_now s) e
+    lives = (nothing_live (index_of v.index) (index_now s) (looked_up v.index s.table s.runs is.parts.index) e, nothing_live (index_now s) (index_of v.index) (λ id. sym (looked_up v.index s.table s.runs is.parts.index id)) e)
+
+    marked_there : s.world.extents.swept e ≡ false → ⊥
+    marked_there not = going (s.world.extents.swept e) not swept
+
+    pub retire_live : (NothingLive (index_of v.index) e → ⊥) → Step (shape v.extents) (formats_of (shape v.extents)) s (Retire e) (Refused StillLive) s
+    retire_live live = (inl (inr (runs_on, inr (marked_there, inl ((λ none. live (lives.1 none)), refl)))), refl)
+
+    module _ (none : NothingLive (index_of v.index) e) where
+      still : (NothingLive (index_now s) e → ⊥) → ⊥
+      still live = live (lives.0 none)
+
+      full_is : NoRoomForRun (shape v.extents) (formats_of (shape v.extents)) s ForMove ↔ IsRetireFull v.index v.extents
+      full_is = retire_full v.extents v.graph v.index s whole is.parts
+
+      worn_is : (IsRetireFull v.index v.extents → ⊥) → WouldPass (shape v.extents) (formats_of (shape v.extents)) s (Retire e) ↔ IsRetireWorn v.index v.extents v.graph.staging e
+      worn_is room = retire_worn v.extents v.graph v.index s whole is.parts is.sound is.bounded e swept none room
+
+      pub retire_no_room : IsRetireFull v.index v.extents → Step (shape v.extents) (formats_of (shape v.extents)) s (Retire e) (Refused Full) s
+      retire_no_room full = (inl (inr (runs_on, inr (marked_there, inr (still, inl (full_is.1 full, refl))))), refl)
+
+      pub retire_worn_out : (IsRetireFull v.index v.extents → ⊥) → IsRetireWorn v.index v.extents v.graph.staging e → Step (shape v.extents) (formats_of (shape v.extents)) s (Retire e) (Refused WornOut) s
+      retire_worn_out room worn = (inl (inr (runs_on, inr (marked_there, inr (still, inr ((λ full. room (full_is.0 full)), inl ((worn_is room).1 worn, refl)))))), refl)
+
+      pub retire_done : (n : ℕ) (y : ExtentsState) (h : GraphState) (j : IndexState) → (IsRetireFull v.index v.extents → ⊥) → (IsRetireWorn v.index v.extents v.graph.staging e → ⊥) → e < (shape v.extents).extents
+          → IsRetired v.index v.extents v.graph e n (v.base + v.accepted) j y h → shape y ≡ shape v.extents
+          → (t : State) × Step (shape v.extents) (formats_of (shape v.extents)) s (Retire e) (Retired n) t
+          × IsStateOf (record v { graph = h; extents = y; index = j; roots = v.roots ++ record { version = n; commands = v.accepted } ∷ [] }) t
+      retire_done n y h j room young inside done same =
+          let refuses : (f : Refusal) → Refuses (shape v.extents) (formats_of (shape v.extents)) s (Retire e) f → ⊥
+          = pass Halted runs_on (pass NotSweepable marked_there (pass StillLive still (pass Full (λ full. room (full_is.0 full)) (pass WornOut (λ would. young ((worn_is room).0 would)) no_more)))) in
+          let law = retire v.extents v.graph v.index s whole is.parts y h j e n swept inside same none (subst (λ (k : ℕ). IsRetired v.index v.extents v.graph e n k j y h) said done) in
+          let step : Step (shape v.extents) (formats_of (shape v.extents)) s (Retire e) (Retired n) law.0 = (refuses, law.1) in (
+            law.0,
+            step,
+            noted law.0 n (record v { graph = h; extents = y; index = j; roots = v.roots ++ record { version = n; commands = v.accepted } ∷ [] }) (Retire e) (Retired n)
+                (retire_rooted (shape v.extents) (formats_of (shape v.extents)) s law.0 e n law.1) step same law.2 refl refl refl refl refl refl refl,
+          )
+
+-- ---- the answers of the calls
+
+pub stage_declines : (v w : Stored) (whole : IsWhole v.extents) (runs : v.halted ≡ false) → settled_rooms w ≡ settled_rooms v → (r : Code)
+    → IsWhy r (IsFull (WritesRun v.index) v.extents ForRun) ((v.index.table ≢ []) × IsStageWorn (WritesRun v.index) v.extents v.graph.staging) → Declines v Stage r w
+stage_declines v w whole runs same code.Full full = inr (Full, refl, λ s is. (s, stage_no_room v s whole is runs full, same_state v w s is same))
+stage_declines v w whole runs same code.WornOut worn = inr (WornOut, refl, λ s is. (s, stage_worn_out v s whole is runs worn.0 worn.1, same_state v w s is same))
+stage_declines v w whole runs same code.OutOfMemory why = inl refl
+stage_declines v w whole runs same r why = absurd why
+
+pub retire_declines : (v w : Stored) (whole : IsWhole v.extents) (runs : v.halted ≡ false) → settled_rooms w ≡ settled_rooms v → (e : ℕ) → (extents_of v.extents).swept e ≡ true → NothingLive (index_of v.index) e → (r : Code)
+    → IsWhy r (IsRetireFull v.index v.extents) (IsRetireWorn v.index v.extents v.graph.staging e) → Declines v (Retire e) r w
+retire_declines v w whole runs same e marks none code.Full full = inr (Full, refl, λ s is. (s, retire_no_room v s whole is runs e marks none full, same_state v w s is same))
+retire_declines v w whole runs same e marks none code.WornOut worn = inr (WornOut, refl, λ s is. (s, retire_worn_out v s whole is runs e marks none worn.0 worn.1, same_state v w s is same))
+retire_declines v w whole runs same e marks none code.OutOfMemory why = inl refl
+retire_declines v w whole runs same e marks none r why = absurd why
+
+pub retire_lives : (v w : Stored) (whole : IsWhole v.extents) (runs : v.halted ≡ false) → settled_rooms w ≡ settled_rooms v → (e : ℕ) → (extents_of v.extents).swept e ≡ true → (NothingLive (index_of v.index) e → ⊥)
+    → Declines v (Retire e) code.StillLive w
+retire_lives v w whole runs same e marks live = inr (StillLive, refl, λ s is. (s, retire_live v s whole is runs e marks live, same_state v w s is same))
+
+pub stage_none : (v w : Stored) (whole : IsWhole v.extents) (runs : v.halted ≡ false) → settled_rooms w ≡ settled_rooms v → v.index.table ≡ [] → Steps v Stage Unchanged w
+stage_none v w whole runs same none s is = (s, stage_nothing v s whole is runs none, same_state v w s is same)
+
+pub stage_steps : (v : Stored) (whole : IsWhole v.extents) (runs : v.halted ≡ false) (n : ℕ) (y : ExtentsState) (h : GraphState) (j : IndexState) (roots : List Noted) → (IsFull (WritesRun v.index) v.extents ForRun → ⊥)
+    → ((v.index.table ≢ []) × IsStageWorn (WritesRun v.index) v.extents v.graph.staging → ⊥) → v.index.table ≢ []
+    → (length v.index.runs < 4 → IsTableStaged v.index v.extents v.graph n (v.base + v.accepted) j y h)
+    → (4 ≤ length v.index.runs → IsMergeStaged v.index v.extents v.graph ForRun n (v.base + v.accepted) j y h) → shape y ≡ shape v.extents
+    → roots ≡ v.roots ++ record { version = n; commands = v.accepted } ∷ [] → Steps v Stage (Staged n) (record v { graph = h; extents = y; index = j; roots = roots })
+stage_steps v whole runs n y h j roots room young some table merged same noted s is =
+    let d = stage_done v s whole is runs n y h j room young some table merged same in
+    (d.0, d.1, subst (λ (rs : List Noted). IsStateOf (record v { graph = h; extents = y; index = j; roots = rs }) d.0) (sym noted) d.2)
+
+pub retire_steps : (v : Stored) (whole : IsWhole v.extents) (runs : v.halted ≡ false) (e : ℕ) → (extents_of v.extents).swept e ≡ true → NothingLive (index_of v.index) e → (n : ℕ) (y : ExtentsState) (h : GraphState) (j : IndexState) (roots : List Noted)
+    → (IsRetireFull v.index v.extents → ⊥) → (IsRetireWorn v.index v.extents v.graph.staging e → ⊥) → e < (shape v.extents).extents
+    → IsRetired v.index v.extents v.graph e n (v.base + v.accepted) j y h → shape y ≡ shape v.extents
+    → roots ≡ v.roots ++ record { version = n; commands = v.accepted } ∷ [] → Steps v (Retire e) (Retired n) (record v { graph = h; extents = y; index = j; roots = roots })
+retire_steps v whole runs e marks none n y h j roots room young inside done same noted s is =
+    let d = retire_done v s whole is runs e marks none n y h j room young inside done same in
+    (d.0, d.1, subst (λ (rs : List Noted). IsStateOf (record v { graph = h; extents = y; index = j; roots = rs }) d.0) (sym noted) d.2)
+
+pub staged_none : (result : Result (Option ℕ) Code) (P : Type 0) → IfOk result (λ staged. (staged ≡ None) ↔ P) → result ≡ Ok None → P
+staged_none result P exact is = let at : IfOk {E = Code} (Ok None) (λ (staged : Option ℕ). (staged ≡ None) ↔ P) = subst (λ (r : Result (Option ℕ) Code). IfOk r (λ staged. (staged ≡ None) ↔ P)) is exact in at.0 refl
+
+pub staged_some : (result : Result (Option ℕ) Code) (P : Type 0) (v : ℕ) → IfOk result (λ staged. (staged ≡ None) ↔ P) → result ≡ Ok (Some v) → P → ⊥
+staged_some result P v exact is p = let at : IfOk {E = Code} (Ok (Some v)) (λ (staged : Option ℕ). (staged ≡ None) ↔ P) = subst (λ (r : Result (Option ℕ) Code). IfOk r (λ staged. (staged ≡ None) ↔ P)) is exact in
+    let e : Some v ≡ None = at.1 p in cc
+
+-- what wasn't refused so has nothing live
+pub alive_not : {T E P : Type 0} (x : T) (r : E) → (Ok x ≡ Err r) ↔ (P → ⊥) → (P → ⊥) → ⊥
+alive_not x r exact not = let e : Ok x ≡ Err r = exact.1 not in cc
+
+-- that nothing is live is said of what isn't there, so what can't be otherwise is so
+pub settled_nothing : (x : List Entry) (e : ℕ) → ((NothingLive x e → ⊥) → ⊥) → NothingLive x e
+settled_nothing x e nn id l has on = absurd (nn (λ none. none id l has on))
+
+abbrev pub wrong : Code → ℕ → Result ℕ (Code × ℕ)
+wrong r e = Err (r, e)
+
+abbrev pub which : Result ℕ (Code × ℕ) → Code
+which (Ok x) = code.Full
+which (Err r) = r.0
+
+pub retire_refused : (v w : Stored) (whole : IsWhole v.extents) (runs : v.halted ≡ false) → settled_rooms w ≡ settled_rooms v → (e : ℕ) → (extents_of v.extents).swept e ≡ true → (r : Code) (back : ℕ) → back ≡ e
+    → ((wrong r back ≡ wrong code.StillLive e) ↔ (NothingLive (index_of v.index) e → ⊥))
+    → (NothingLive (index_of v.index) e → IsWhy r (IsRetireFull v.index v.extents) (IsRetireWorn v.index v.extents v.graph.staging e))
+    → (r ≡ code.StillLive) ⊎ (r ≡ code.Full) ⊎ (r ≡ code.WornOut) ⊎ (r ≡ code.OutOfMemory) → Declines v (Retire e) r w
+retire_refused v w whole runs same e marks r back is alive why (inl live) = subst (λ (k : Code). Declines v (Retire e) k w) (sym live)
+    (retire_lives v w whole runs same e marks (alive.0 (ap (λ (k : Code). wrong k back) live ∙ ap (λ (k : ℕ). wrong code.StillLive k) is)))
+retire_refused v w whole runs same e marks r back is alive why (inr other) =
+    let none = settled_nothing (index_of v.index) e (λ live. not_still r e back other (alive.1 live)) in
+    retire_declines v w whole runs same e marks none r (why none)
+  where
+    not_still : (r : Code) (e back : ℕ) → (r ≡ code.Full) ⊎ (r ≡ code.WornOut) ⊎ (r ≡ code.OutOfMemory) → (wrong r back ≡ wrong code.StillLive e) → ⊥
+    not_still r e back (inl full) bad = let b : code.Full ≡ code.StillLive = ap which (subst (λ (k : Code). wrong k back ≡ wrong code.StillLive e) full bad) in cc b
+    not_still r e back (inr (inl worn)) bad = let b : code.WornOut ≡ code.StillLive = ap which (subst (λ (k : Code). wrong k back ≡ wrong code.StillLive e) worn bad) in cc b
+    not_still r e back (inr (inr memory)) bad = let b : code.OutOfMemory ≡ code.StillLive = ap which (subst (λ (k : Code). wrong k back ≡ wrong code.StillLive e) memory bad) in cc b

@@ -1,0 +1,32 @@
+use Rattle.std.proofs.Common.{◌≡◌, ◌∙◌, ℕ, ap, le_of_eq, sym, subst, true}
+use Rattle.cs_extent.specs.State.{extents_of, shape}
+use Rattle.cs_core.specs.contracts.stores.Store.{the_view}
+use Rattle.cs_core.specs.Reads.{MoveAnswers}
+use Rattle.cs_core.specs.Stored.{Stored, page_total}
+use Rattle.cs_core.proofs.KeptMoves.{kept_moved}
+use Rattle.cs_core.proofs.MoveSteps.{move_answers, move_unswept}
+use Rattle.cs_core.proofs.SweepSteps.{unswept}
+use Rattle.cs_core.proofs.stores.Store.move_one.Goals as goal
+
+pub returns-in_default-clause-step : goal.returns-in_default-clause-step
+returns-in_default-clause-step g c = rw (← c.self.view_is) (λ runs honest.
+    move_unswept (the_view c.self.inside) c.extent_count.ensures.whole runs (g.D.PageDisk.state c.args.disk.now) c.args.extent (unswept c.self.inside.extents c.args.extent c.self.invariant.swept c.in_default.ensures))
+
+pub invariant_of-self : goal.invariant_of-self
+invariant_of-self g c =
+    let d = c.move_one.ensures in
+    kept_moved (the_view c.self.inside) c.self.invariant c.in-Some.sweep c.move_one.new.extents c.move_one.new.graph c.move_one.new.index d.resets d.families d.shape d.limit c.move_one.result
+    (λ is. let u = d.unchanged is in (u.0, u.1, u.2)) (λ id k is. let m = d.moved id k is in (m.0, m.1)) d.refused d.unwritten d.unstaged
+
+pub returns-clause-step : goal.returns-clause-step
+returns-clause-step g c = rw (← c.self.view_is) (λ runs honest.
+    let v : Stored = the_view c.self.inside in
+    let at = c.in-Some.ensures in
+    let d = c.move_one.ensures in
+    let w : Stored = record v { extents = c.move_one.new.extents; graph = c.move_one.new.graph; index = c.move_one.new.index } in
+    let marks : (extents_of v.extents).swept c.in-Some.sweep ≡ true = subst (λ (k : ℕ). (extents_of v.extents).swept k ≡ true) (sym at.0) at.2 in
+    let answer : MoveAnswers v (g.D.PageDisk.state c.args.disk.now) c.in-Some.sweep c.move_one.result w = move_answers v c.extent_count.ensures.whole c.families.ensures.whole runs (g.D.PageDisk.state c.args.disk.now)
+    (le_of_eq (ap (λ (u : Stored). page_total (shape u.extents)) c.self.view_is ∙ c.requires.device ∙ sym (g.met.D.PageDisk.sized c.args.disk.now honest)))
+    c.in-Some.sweep marks c.move_one.result c.move_one.new.extents c.move_one.new.graph c.move_one.new.index d.none (λ is. let u = d.unchanged is in (u.0, u.1, u.2))
+    (λ id k is. let m = d.moved id k is in (m.0, m.1, m.2 honest)) (d.damaged honest) (d.why honest) d.refusals d.refused d.unwritten d.unstaged d.shape in
+    subst (λ (k : ℕ). MoveAnswers v (g.D.PageDisk.state c.args.disk.now) k c.move_one.result w) at.0 answer)

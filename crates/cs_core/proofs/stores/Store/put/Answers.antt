@@ -1,0 +1,85 @@
+use Rattle.std.proofs.Common.{◌∙◌, ◌+◌, ◌^◌, ◌≤◌, ◌<◌, Err, ap, arith, refl, sym, subst}
+use Rattle.std.specs.Prelude.{map}
+use Rattle.cs_deps.specs.declared.refusals.Refusal.TheVariants as code
+use Rattle.cs_extent.specs.State.{shape}
+use Rattle.cs_frame.specs.Formats.{place_of}
+use Rattle.cs_index.specs.State.{id_number}
+use Rattle.cs_model.specs.Extents.{ForPut}
+use Rattle.cs_core.specs.contracts.stores.Store.{the_view}
+use Rattle.cs_core.specs.Stored.{AreSwept, Stored}
+use Rattle.cs_core.proofs.Going.{roomed}
+use Rattle.cs_core.proofs.Kept.{inside_live, inside_set, kept_on, places_there, same_limit, same_live, swept_all}
+use Rattle.cs_core.proofs.Moves.{moves_all, moves_none, moves_refused}
+use Rattle.cs_core.proofs.Puts.{chunks_decline, last_declines, ok_not, put_done, set_from, test_declines}
+use Rattle.cs_core.proofs.stores.Store.put.Goals as goal
+
+pub returns-in-Err-clause-step : goal.returns-in-Err-clause-step
+returns-in-Err-clause-step c = rw (← c.self.view_is) (λ runs.
+    let v : Stored = the_view c.self.inside in
+    let e = c.in-Err.ensures in
+    test_declines v v c.test_put.ensures.whole c.self.invariant.limit runs refl (id_number c.args.id) c.args.bytes.now c.in-Err.refusal e.refusals (λ q. e.too_large.0 (ap Err q)) (λ q. e.index_full.0 (ap Err q)))
+
+pub returns-then-is_worn-clause-step : goal.returns-then-is_worn-clause-step
+returns-then-is_worn-clause-step c = rw (← c.self.view_is) (λ runs.
+    let v : Stored = the_view c.self.inside in
+    let e = c.in-Ok.ensures in
+    let last : 2 ^ 63 ≤ v.base + v.accepted + 1 = subst (λ (u : Stored). 2 ^ 63 ≤ u.base + u.accepted + 1) (sym c.self.view_is) c.if-is_worn.ensures in
+    let small = ok_not tt code.TooLarge e.too_large in
+    last_declines v v c.test_put.ensures.whole c.self.invariant.limit runs refl (id_number c.args.id) c.args.bytes.now c.why_worn.result small (λ h. ok_not tt code.IndexFull e.index_full (small, h.0, h.1)) last c.why_worn.ensures)
+
+pub invariant_of-self : goal.invariant_of-self
+invariant_of-self c =
+    let s : Stored = the_view c.self.inside in
+    let i = c.reserve.new.self in
+    let room = c.reserve.ensures.rest in
+    kept_on s (record s { index = i }) c.self.invariant (moves_none s.extents s.graph) c.self.invariant.resets refl (same_limit s.index i room)
+    (inside_live (shape s.extents) s.index i c.self.invariant.places (same_live s.index i room)) refl refl c.self.invariant.numbers c.self.invariant.swept
+
+pub invariant_of-self-in-Err-put_chunks : goal.invariant_of-self-in-Err-put_chunks
+invariant_of-self-in-Err-put_chunks c =
+    let s : Stored = the_view c.self.inside in
+    let i = c.reserve.new.self in
+    let room = c.reserve.ensures.rest in
+    let e = c.in-Err-put_chunks.ensures in
+    kept_on s (record s { index = i; extents = c.put_chunks.new.extents; graph = c.put_chunks.new.graph }) c.self.invariant (moves_refused s.extents s.graph c.put_chunks.new.extents c.put_chunks.new.graph e.refused e.unstaged)
+    c.put_chunks.ensures.resets c.put_chunks.ensures.families (same_limit s.index i room)
+    (inside_live (shape s.extents) s.index i c.self.invariant.places (same_live s.index i room)) refl refl c.self.invariant.numbers (subst (λ x. AreSwept x) (sym e.refused) c.self.invariant.swept)
+
+pub invariant_of-self-in-Ok-put_chunks : goal.invariant_of-self-in-Ok-put_chunks
+invariant_of-self-in-Ok-put_chunks c =
+    let s : Stored = the_view c.self.inside in
+    let i = c.reserve.new.self in
+    let room = c.reserve.ensures.rest in
+    let chunks = c.in-Ok-put_chunks.ensures.chunks in
+    let x = c.put_chunks.new.extents in
+    let g = c.put_chunks.new.graph in
+    let ls = c.in-Ok-put_chunks.places.items in
+    let young : s.base + (s.accepted + 1) < 2 ^ 63 = (let few : s.base + s.accepted + 1 < 2 ^ 63 = subst (λ (u : Stored). u.base + u.accepted + 1 < 2 ^ 63) (sym c.self.view_is) c.if-is_worn.ensures in omega arith) in
+    kept_on s (record s { index = c.enter.new.index; extents = x; graph = g; accepted = s.accepted + 1 }) c.self.invariant (moves_all s.extents s.graph ForPut _ ls x g chunks.2)
+    c.put_chunks.ensures.resets c.put_chunks.ensures.families (c.enter.ensures.limit ∙ same_limit s.index i room)
+    (inside_set (shape s.extents) i (id_number c.args.id) (map place_of ls) c.enter.new.index (inside_live (shape s.extents) s.index i c.self.invariant.places (same_live s.index i room)) c.enter.ensures
+    (λ p among. places_there s.extents s.graph ForPut (shape s.extents) chunks.0 ls x g refl chunks.2 p among)) refl refl young (swept_all s.extents x s.graph g ForPut _ ls chunks.2 c.self.invariant.swept)
+
+pub returns-in-Err-put_chunks-clause-step : goal.returns-in-Err-put_chunks-clause-step
+returns-in-Err-put_chunks-clause-step c = rw (← c.self.view_is) (λ runs.
+    let v : Stored = the_view c.self.inside in
+    let i = c.reserve.new.self in
+    let x = c.put_chunks.new.extents in
+    let g = c.put_chunks.new.graph in
+    let e = c.in-Ok.ensures in
+    let d = c.in-Err-put_chunks.ensures in
+    let small = ok_not tt code.TooLarge e.too_large in
+    chunks_decline v (record v { extents = x; graph = g; index = i }) c.test_put.ensures.whole c.self.invariant.limit runs (roomed v x g i d.refused d.unstaged c.reserve.ensures.rest) (id_number c.args.id) c.args.bytes.now c.in-Err-put_chunks.refusal
+    small (λ h. ok_not tt code.IndexFull e.index_full (small, h.0, h.1)) d.refusals (λ q. d.too_large.0 (ap Err q)) (λ q. d.full.0 (ap Err q)) (λ q. d.worn.0 (ap Err q)))
+
+pub returns-in-Ok-put_chunks-clause-step : goal.returns-in-Ok-put_chunks-clause-step
+returns-in-Ok-put_chunks-clause-step c = rw (← c.self.view_is) (λ runs s is.
+    let v : Stored = the_view c.self.inside in
+    let e = c.in-Ok.ensures in
+    let d = c.in-Ok-put_chunks.ensures in
+    let small = ok_not tt code.TooLarge e.too_large in
+    let young : 2 ^ 63 ≤ v.base + v.accepted + 1 → ⊥ = (let few : v.base + v.accepted + 1 < 2 ^ 63 = subst (λ (u : Stored). u.base + u.accepted + 1 < 2 ^ 63) (sym c.self.view_is) c.if-is_worn.ensures in λ (last : 2 ^ 63 ≤ v.base + v.accepted + 1). omega arith) in
+    put_done v s c.test_put.ensures.whole is (id_number c.args.id) c.args.bytes.now c.self.invariant.limit runs small (λ h. ok_not tt code.IndexFull e.index_full (small, h.0, h.1))
+    (λ none. ok_not c.in-Ok-put_chunks.places code.Full d.full (small, none)) (λ out. ok_not c.in-Ok-put_chunks.places code.WornOut d.worn (small, out)) young
+    c.put_chunks.new.extents c.put_chunks.new.graph c.enter.new.index d.chunks.0 c.in-Ok-put_chunks.places.items d.chunks.1 d.chunks.2
+    (set_from (id_number c.args.id) v.index c.reserve.new.self c.enter.new.index _ c.reserve.ensures.rest c.enter.ensures) c.put_chunks.ensures.shape)

@@ -1,0 +1,68 @@
+use Rattle.std.proofs.Common.{rules, ◌≡◌, ◌∙◌, ◌++◌, ◌∷◌, List, Some, None, Ok, [], ap, refl, subst}
+use Rattle.cs_extent.specs.State.{shape}
+use Rattle.cs_index.specs.Staged.{IsExact, IsFull, IsStageWorn, WritesRun}
+use Rattle.cs_model.specs.Extents.{ForRun}
+use Rattle.cs_core.specs.contracts.stores.Store.{the_view}
+use Rattle.cs_core.specs.declared.roots.Root.{Root}
+use Rattle.cs_core.specs.Stored.{Stored}
+use Rattle.cs_core.proofs.Going.{roomed_roots, same_graph, same_index}
+use Rattle.cs_core.proofs.Kept.{inside_live, kept_on, swept_staged}
+use Rattle.cs_core.proofs.Moves.{stage_empties, stage_moves}
+use Rattle.cs_core.proofs.StageSteps.{stage_declines, stage_none, stage_steps, staged_none, staged_some}
+use Rattle.cs_core.proofs.stores.Store.stage.Goals as goal
+
+pub returns-in-Ok-None-clause-step : goal.returns-in-Ok-None-clause-step
+returns-in-Ok-None-clause-step c = rw (← c.self.view_is) (λ runs.
+    let v : Stored = the_view c.self.inside in
+    let none : c.stage.result ≡ Ok None = search rules in
+    let e = c.stage.ensures.unchanged none in
+    stage_none v (record v { extents = c.stage.new.extents; graph = c.stage.new.graph; index = c.stage.new.self; roots = c.reserve.new.self.items }) c.extent_count.ensures.whole runs
+    (roomed_roots v c.stage.new.extents c.stage.new.graph c.stage.new.self c.reserve.new.self.items e.1 (same_graph v.graph c.stage.new.graph e.2) (same_index v.index c.stage.new.self e.0) c.reserve.ensures.items) (staged_none c.stage.result (v.index.table ≡ []) c.stage.ensures.none none))
+
+pub returns-in-Err-clause-step : goal.returns-in-Err-clause-step
+returns-in-Err-clause-step c = rw (← c.self.view_is) (λ runs.
+    let v : Stored = the_view c.self.inside in
+    let e = c.in-Err.ensures in
+    stage_declines v (record v { extents = c.stage.new.extents; graph = c.stage.new.graph; index = c.stage.new.self; roots = c.reserve.new.self.items }) c.extent_count.ensures.whole runs
+    (roomed_roots v c.stage.new.extents c.stage.new.graph c.stage.new.self c.reserve.new.self.items e.unwritten e.unstaged (same_index v.index c.stage.new.self e.refused) c.reserve.ensures.items) c.in-Err.refusal e.why)
+
+pub invariant_of-self-in-Err : goal.invariant_of-self-in-Err
+invariant_of-self-in-Err c =
+    let s : Stored = the_view c.self.inside in
+    let e = c.stage.ensures in
+    let m = stage_moves c.stage.result _ s.index s.extents s.graph c.stage.new.self c.stage.new.extents c.stage.new.graph e.unchanged e.staged e.merged e.refused e.unwritten e.unstaged in
+    kept_on s (record s { extents = c.stage.new.extents; graph = c.stage.new.graph; index = c.stage.new.self; roots = c.reserve.new.self.items }) c.self.invariant m.0 e.resets e.families m.1
+    (inside_live (shape s.extents) s.index c.stage.new.self c.self.invariant.places e.map) refl refl c.self.invariant.numbers
+    (swept_staged c.stage.result _ s.index s.extents s.graph c.stage.new.self c.stage.new.extents c.stage.new.graph e.unchanged e.staged e.merged e.unwritten c.self.invariant.swept)
+
+pub invariant_of-self-in-Ok-Some : goal.invariant_of-self-in-Ok-Some
+invariant_of-self-in-Ok-Some c =
+    let s : Stored = the_view c.self.inside in
+    let e = c.stage.ensures in
+    let m = stage_moves c.stage.result _ s.index s.extents s.graph c.stage.new.self c.stage.new.extents c.stage.new.graph e.unchanged e.staged e.merged e.refused e.unwritten e.unstaged in
+    kept_on s (record s { extents = c.stage.new.extents; graph = c.stage.new.graph; index = c.stage.new.self; roots = c.push_reserved.new.self.items }) c.self.invariant m.0 e.resets e.families m.1
+    (inside_live (shape s.extents) s.index c.stage.new.self c.self.invariant.places e.map) refl refl c.self.invariant.numbers
+    (swept_staged c.stage.result _ s.index s.extents s.graph c.stage.new.self c.stage.new.extents c.stage.new.graph e.unchanged e.staged e.merged e.unwritten c.self.invariant.swept)
+
+pub returns-in-Ok-Some-clause-shape : goal.returns-in-Ok-Some-clause-shape
+returns-in-Ok-Some-clause-shape c = rw (← c.self.view_is) (
+    let s : Stored = the_view c.self.inside in
+    let e = c.stage.ensures in
+    (stage_moves c.stage.result _ s.index s.extents s.graph c.stage.new.self c.stage.new.extents c.stage.new.graph e.unchanged e.staged e.merged e.refused e.unwritten e.unstaged).0.same_shape)
+
+pub returns-in-Ok-Some-clause-step : goal.returns-in-Ok-Some-clause-step
+returns-in-Ok-Some-clause-step c = rw (← c.self.view_is) (λ runs.
+    let v : Stored = the_view c.self.inside in
+    let e = c.stage.ensures in
+    let done : c.stage.result ≡ Ok (Some c.in-Ok-Some.version) = search rules in
+    let why = subst (λ r. IsExact r (IsFull (WritesRun v.index) v.extents ForRun) ((v.index.table ≡ [] → ⊥) × IsStageWorn (WritesRun v.index) v.extents v.graph.staging)) done e.why in
+    let m = stage_moves c.stage.result _ v.index v.extents v.graph c.stage.new.self c.stage.new.extents c.stage.new.graph e.unchanged e.staged e.merged e.refused e.unwritten e.unstaged in
+    stage_steps v c.extent_count.ensures.whole runs c.in-Ok-Some.version c.stage.new.extents c.stage.new.graph c.stage.new.self c.push_reserved.new.self.items why.0 why.1 (staged_some c.stage.result (v.index.table ≡ []) c.in-Ok-Some.version e.none done)
+    (λ few. e.staged c.in-Ok-Some.version done few) (λ many. e.merged c.in-Ok-Some.version done many) m.0.same_shape
+    (c.push_reserved.ensures.items ∙ ap (λ (rs : List Root). rs ++ record { version = c.in-Ok-Some.version; commands = v.accepted } ∷ []) c.reserve.ensures.items))
+
+pub returns-in-Ok-Some-clause-staged : goal.returns-in-Ok-Some-clause-staged
+returns-in-Ok-Some-clause-staged c =
+    let s : Stored = the_view c.self.inside in
+    let e = c.stage.ensures in
+    stage_empties c.stage.result _ s.index s.extents s.graph c.stage.new.self c.stage.new.extents c.stage.new.graph e.staged e.merged c.in-Ok-Some.version (search rules)

@@ -1,0 +1,27 @@
+-- What the reply to an event says of the store, whatever its disk does.
+use Rattle.cs_core.specs.declared.events.Event.{Event}
+use Rattle.cs_core.specs.declared.events.Event.TheVariants.{End, Get, Issue, MoveOne, Settle}
+use Rattle.cs_core.specs.declared.events.Reply.{Reply}
+use Rattle.cs_core.specs.Shapes.{MayAnswer}
+use Rattle.cs_core.specs.Stored.{Stored}
+use Rattle.cs_core.specs.Writebacks.{WritesBack}
+
+-- it is a reply to the event, and the store is as the reply says
+unfoldable pub IsAnswered : (old : Stored) → Event → Reply → (new : Stored) → Type 0
+IsAnswered old event reply new = MayAnswer event reply × WritesBack old event reply new
+
+-- events for which the disk is read, written or flushed, of those that a halted store refuses
+abbrev pub IsForDevice : Event → Type 0
+IsForDevice Issue = Unit {0}
+IsForDevice End = Unit {0}
+IsForDevice (MoveOne e) = Unit {0}
+IsForDevice event = ⊥
+
+-- events for which the disk is left alone, of those that a halted store refuses
+abbrev pub IsAlone : Event → Type 0
+IsAlone (Get id) = ⊥
+IsAlone (Settle n) = ⊥
+IsAlone Issue = ⊥
+IsAlone End = ⊥
+IsAlone (MoveOne e) = ⊥
+IsAlone event = Unit {0}

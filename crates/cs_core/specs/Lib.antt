@@ -1,0 +1,13 @@
+pub mod Answered
+pub mod Frontiers
+pub mod Meanings
+pub mod Reads
+pub mod Replays
+pub mod Rounds
+pub mod Shapes
+pub mod Started
+pub mod States
+pub mod Steps
+pub mod Stored
+pub mod Views
+pub mod Writebacks

@@ -1,0 +1,84 @@
+-- What a store has in memory, and what it keeps whatever its disk does.
+use Rattle.std.specs.Prelude.{◌≡◌, ◌+◌, ◌*◌, ◌^◌, ◌<◌, ◌≤◌, ℕ, Bool, true, List, Option, Some, length}
+use Rattle.cs_deps.specs.declared.elements.Element.{Element as Name}
+use Rattle.cs_deps.specs.State.{State as GraphState, Write, write_of}
+use Rattle.cs_extent.specs.Frames.{AreResetsStaged}
+use Rattle.cs_extent.specs.State.{State as ExtentsState, extents_of, shape}
+use Rattle.cs_index.specs.State.{State as IndexState, index_of}
+use Rattle.cs_model.specs.Device.{Inside, Shape}
+use Rattle.cs_model.specs.Element.{Locator as Place}
+use Rattle.cs_model.specs.Index.{live_at}
+use Rattle.cs_model.specs.Lists.{◌∈◌}
+use Rattle.cs_deps.specs.declared.refusals.Refusal.{Refusal}
+use Rattle.cs_deps.specs.declared.refusals.Refusal.TheVariants.{Full, WornOut}
+use Rattle.cs_frame.specs.Formats.{formats_of}
+use Rattle.cs_model.specs.Append.{chunk_frames, page_counts}
+use Rattle.cs_model.specs.Events.{Chunked}
+use Rattle.cs_model.specs.Extents.{Fits, ForPut}
+use Rattle.cs_reclaim.specs.Sweeps.{IsSwept}
+use Rattle.cs_bridge.specs.Rounds.{members_of as members}
+use Rattle.cs_core.specs.declared.roots.Root.{Root}
+
+pub record Stored : Type 0 where
+  pub graph : GraphState
+  pub extents : ExtentsState
+  pub index : IndexState
+  -- the roots that were staged, and before them the one that was read at open
+  pub roots : List Root
+  -- the members of the round that is out, and how many of them were written
+  pub out : Option (List Name)
+  pub issued : ℕ
+  -- the commands of the root that was read at open, those accepted since, and how many of these are persistent
+  pub base : ℕ
+  pub accepted : ℕ
+  pub frontier : ℕ
+  -- a write or a flush failed
+  pub halted : Bool
+
+-- how many pages the device has: superblock, root and those of the extents
+abbrev pub page_total : Shape → ℕ
+page_total S = 2 + S.extents * S.pages
+
+-- each page write that the graph keeps goes to one of so many pages
+abbrev pub AreWithin : ℕ → GraphState → Type 0
+AreWithin pages graph = (x : Name) (w : Write) → write_of graph x ≡ Some w → w.0 < pages
+
+-- each shard's chunks begin on pages of extents that are there
+abbrev pub AreInside : Shape → IndexState → Type 0
+AreInside S index = (id : ℕ) (l : Place) → l ∈ live_at (index_of index) id → Inside S l.extent l.page
+
+-- the device is as large as before, what goes to it goes to its pages still, and the round that is out is the same
+pub record KeepsDevice (x : ExtentsState) (g : GraphState) (y : ExtentsState) (h : GraphState) : Type 0 where
+  pub same_shape : shape y ≡ shape x
+  pub within : AreWithin (page_total (shape x)) g → AreWithin (page_total (shape x)) h
+  pub round : h.round ≡ g.round
+
+-- each extent that is marked may be swept
+abbrev pub AreSwept : ExtentsState → Type 0
+AreSwept x = (e : ℕ) → (extents_of x).swept e ≡ true → IsSwept (shape x) (extents_of x) e
+
+-- the members of the round that is out, none without one
+abbrev pub members_of : Option (List Name) → List Name
+members_of out = members out
+
+-- what every store keeps
+pub record IsKept (s : Stored) : Type 0 where
+  pub families : length s.graph.staging.latest ≡ 2
+  pub resets : AreResetsStaged (extents_of s.extents) s.graph.staging
+  pub writes : AreWithin (page_total (shape s.extents)) s.graph
+  pub limit : s.index.limit ≡ (shape s.extents).most_names
+  pub places : AreInside (shape s.extents) s.index
+  pub round : s.out ≡ s.graph.round
+  pub some : s.issued ≤ length (members_of s.out)
+  pub numbers : s.base + s.accepted < 2 ^ 63
+  pub swept : AreSwept s.extents
+
+-- the store as clauses see it from outside: for how much there is room isn't told
+abbrev pub settled_rooms : Stored → Stored
+settled_rooms s = record s { graph = record s.graph { room = 0 }; index = record s.index { room = 0 } }
+
+-- why a put is refused where the number of commands is the greatest: 30 where its chunks don't fit, else 35
+abbrev pub IsWhyWorn : ExtentsState → List ℕ → Refusal → Type 0
+IsWhyWorn x bytes WornOut = (cs : List (List ℕ)) × Chunked (shape x).chunk_bytes bytes cs × Fits (shape x) (extents_of x) ForPut (page_counts (chunk_frames (shape x) (formats_of (shape x)) cs))
+IsWhyWorn x bytes Full = (cs : List (List ℕ)) → Chunked (shape x).chunk_bytes bytes cs → Fits (shape x) (extents_of x) ForPut (page_counts (chunk_frames (shape x) (formats_of (shape x)) cs)) → ⊥
+IsWhyWorn x bytes _ = ⊥

@@ -1,0 +1,95 @@
+-- A core as contracts see it, and what one event does to it.
+use Rattle.std.specs.Prelude.{◌≡◌, ◌⊎◌, ◌<◌, ◌≤◌, ◌++◌, ◌∷◌, ℕ, List, [], length}
+use Rattle.cs_deps.specs.declared.refusals.Refusal.TheVariants.{HistoryFull}
+use Rattle.cs_disk.specs.Disk.{Image, State as DiskState, page}
+use Rattle.cs_extent.specs.State.{shape}
+use Rattle.cs_frame.specs.Formats.{formats_of}
+use Rattle.cs_model.specs.Device.{Shape}
+use Rattle.cs_model.specs.Element.{Map}
+use Rattle.cs_model.specs.Formats.{Formats}
+use Rattle.cs_model.specs.Open.{opened_state}
+use Rattle.cs_model.specs.Recovery.{Recovers}
+use Rattle.cs_model.specs.State as model
+use Rattle.cs_model.specs.Step.{History, Step}
+use Rattle.cs_bridge.specs.Devices.{IsDiskOf}
+use Rattle.cs_core.specs.declared.events.Event.{Event}
+use Rattle.cs_core.specs.declared.events.Reply.{Reply}
+use Rattle.cs_core.specs.declared.events.Reply.TheVariants.{Refused}
+use Rattle.cs_core.specs.Meanings.{Says, event_of}
+use Rattle.cs_core.specs.States.{IsStateOf}
+use Rattle.cs_core.specs.Stored.{Stored, page_total}
+
+-- A core over a disk of this type: its disk, the image that it was opened on, its store, the events with their replies, and
+-- how many these may be.
+pub record View (D : Type 0) : Type 0 where
+  pub disk : D
+  pub opened : Image
+  pub store : Stored
+  pub history : List (Event × Reply)
+  pub limit : ℕ
+
+-- a history says what one of the machine does
+abbrev pub AreSaid : Shape → Formats → List (Event × Reply) → List (model.Event × model.Reply) → Type 0
+AreSaid S F [] [] = Unit {0}
+AreSaid S F (x ∷ xs) (y ∷ ys) = ((y.0 ≡ event_of x.0) × Says S F x.1 y.1) × AreSaid S F xs ys
+AreSaid S F [] (y ∷ ys) = ⊥
+AreSaid S F (x ∷ xs) [] = ⊥
+
+-- The history leads from the state of a store that was opened on this image to the state s.
+pub record IsReached (S : Shape) (F : Formats) (opened : Image) (history : List (Event × Reply)) (s : model.State) : Type 0 where
+  pub count : ℕ
+  pub start : Map
+  pub gives : Recovers S F (page opened) count start
+  pub events : List (model.Event × model.Reply)
+  pub said : AreSaid S F history events
+  pub legal : History S F (opened_state S F (page opened) count start gives) events s
+
+-- A core with this disk is in the state s of the machine.
+pub record IsIn {D : Type 0} (state : D → DiskState) (v : View D) (s : model.State) : Type 0 where
+  pub store : IsStateOf v.store s
+  pub disk : IsDiskOf (shape v.store.extents) (formats_of (shape v.store.extents)) s (state v.disk)
+  pub reached : IsReached (shape v.store.extents) (formats_of (shape v.store.extents)) v.opened v.history s
+
+-- What every core keeps: the disk has the geometry's pages, and where it is honest the core is in a state of the machine that
+-- its history leads to.
+pub record IsCore {D : Type 0} (honest : D → Type 0) (state : D → DiskState) (page_count : D → ℕ) (v : View D) : Type 0 where
+  pub device : page_count v.disk ≡ page_total (shape v.store.extents)
+  pub sized : honest v.disk → length v.opened ≡ page_total (shape v.store.extents)
+  pub legal : honest v.disk → (s : model.State) × IsIn state v s
+
+-- the history was at its limit, and nothing has changed
+pub record IsFull {D : Type 0} (old : View D) (reply : Reply) (new : View D) : Type 0 where
+  pub reply_is : reply ≡ Refused HistoryFull
+  pub full : old.limit ≤ length old.history
+  pub same : new ≡ old
+
+-- The event with its reply was kept in the history, and where the disk is honest the core went on by one step of the machine,
+-- from whichever state it was in.
+pub record IsStep {D : Type 0} (honest : D → Type 0) (state : D → DiskState) (old : View D) (event : Event) (reply : Reply) (new : View D) : Type 0 where
+  pub room : length old.history < old.limit
+  pub history : new.history ≡ old.history ++ (event, reply) ∷ []
+  pub opened : new.opened ≡ old.opened
+  pub limit : new.limit ≡ old.limit
+  pub same_shape : shape new.store.extents ≡ shape old.store.extents
+  pub step : honest old.disk → (s : model.State) → IsIn state old s
+      → (m : model.Reply) × (t : model.State) × Says (shape old.store.extents) (formats_of (shape old.store.extents)) reply m
+      × Step (shape old.store.extents) (formats_of (shape old.store.extents)) s (event_of event) m t × IsIn state new t
+
+-- what one call does that isn't refused for want of memory
+abbrev pub Applies : {D : Type 0} → (honest : D → Type 0) → (state : D → DiskState) → (old : View D) → Event → Reply → (new : View D) → Type 0
+Applies honest state old event reply new = IsFull old reply new ⊎ IsStep honest state old event reply new
+
+-- What one event does to a store and to an honest disk: from whichever state they are of, the machine makes a step to one
+-- that they are of then.
+unfoldable pub Serves : (old : Stored) (disk : DiskState) → Event → Reply → (new : Stored) (after : DiskState) → Type 0
+Serves old disk event reply new after = (s : model.State) → IsStateOf old s → IsDiskOf (shape old.extents) (formats_of (shape old.extents)) s disk
+    → (m : model.Reply) × (t : model.State) × Says (shape old.extents) (formats_of (shape old.extents)) reply m
+    × Step (shape old.extents) (formats_of (shape old.extents)) s (event_of event) m t × IsStateOf new t × IsDiskOf (shape old.extents) (formats_of (shape old.extents)) t after
+
+-- nothing but rooms has changed, and nothing of an honest disk
+pub record IsAsked {D : Type 0} (honest : D → Type 0) (state : D → DiskState) (old new : View D) : Type 0 where
+  pub opened : new.opened ≡ old.opened
+  pub store : new.store ≡ old.store
+  pub history : new.history ≡ old.history
+  pub limit : new.limit ≡ old.limit
+  pub disk : honest old.disk → state new.disk ≡ state old.disk

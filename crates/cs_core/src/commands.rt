@@ -1,0 +1,132 @@
+//! Puts and deletes.
+ghost use Rattle.std.specs.Prelude.{◌≡◌, ◌≢◌, ◌+◌, ◌*◌, ◌^◌, ◌<◌, ◌≤◌, ◌⊎◌, ◌↔◌, [], IfErr, IfOk, IsTrue, MatchBool, MatchOption, OnErr, OnOk, None, false, length, map, vec_len};
+ghost use Rattle.cs_extent.specs.State.{IsWhole, shape};
+ghost use Rattle.cs_frame.specs.Formats.{place_of};
+ghost use Rattle.cs_index.specs.State.{IsSet, id_number, index_of};
+ghost use Rattle.cs_model.specs.Index.{live_at, lookup, names};
+ghost use Rattle.cs_model.specs.State.{Accepted, Delete, Put};
+ghost use Rattle.cs_core.specs.Steps.{Answers, deleted_or_not};
+ghost use Rattle.cs_core.specs.Stored.{IsWhyWorn, settled_rooms};
+ghost use Rattle.cs_core.specs.Writebacks.{AddsCommand, KeepsRound};
+
+use crate::stores::Store;
+use cs_chunk::{put_chunks, put_fits};
+use cs_deps::Refusal;
+use cs_extent::Extents;
+use cs_frame::{Locator, ShardId};
+use cs_index::Index;
+
+impl Store {
+    /// Stages a shard, chunk by chunk, and gives its number among the accepted commands.
+    ///
+    /// Refused 31 TooLarge for more than 8 chunks, then 32 IndexFull for an identifier without an entry where as many
+    /// have one as may, then 30 Full where the extents don't take all its chunks, then 35 WornOut, and 9 OutOfMemory.
+    pub fn put(&mut self, id: ShardId, bytes: &[u8]) -> Result<u64, Refusal>
+        ensures adds { IfOk result (λ n. AddsCommand n self.old self.new) }
+        ensures round { KeepsRound self.old self.new }
+        ensures step { self.old.halted ≡ false → Answers self.old (Put (id_number id) bytes.now) (λ n. Accepted n) result self.new }
+        ensures refused { OnErr result (settled_rooms self.new ≡ settled_rooms self.old) }
+        ensures shape { shape self.new.extents ≡ shape self.old.extents }
+        ensures frontier { self.new.frontier ≡ self.old.frontier }
+    {
+        match test_put(&self.extents, &self.index, id, bytes.len()) {
+            Ok(()) => {}
+            Err(refusal) => return Err(refusal),
+        }
+        if self.is_worn() {
+            return Err(why_worn(&self.extents, bytes));
+        }
+        self.index.reserve(1)?;
+        match put_chunks(self.alloc, &mut self.extents, &mut self.graph, bytes) {
+            Ok(places) => {
+                enter(&mut self.index, id, places);
+                self.accepted += 1;
+                Ok(self.accepted)
+            }
+            Err(refusal) => Err(refusal),
+        }
+    }
+
+    /// Deletes a shard, and gives the number of that among the accepted commands, None where there is no such shard.
+    ///
+    /// Refused 35 WornOut, and 9 OutOfMemory.
+    pub fn delete(&mut self, id: ShardId) -> Result<Option<u64>, Refusal>
+        ensures step { self.old.halted ≡ false → Answers self.old (Delete (id_number id)) deleted_or_not result self.new }
+        ensures adds { IfOk result (λ deleted. MatchOption deleted (settled_rooms self.new ≡ settled_rooms self.old) (λ n. AddsCommand n self.old self.new)) }
+        ensures round { KeepsRound self.old self.new }
+        ensures refused { OnErr result (settled_rooms self.new ≡ settled_rooms self.old) }
+        ensures shape { shape self.new.extents ≡ shape self.old.extents }
+        ensures frontier { self.new.frontier ≡ self.old.frontier }
+    {
+        // Its contract tells what all extents keep.
+        self.extents.extent_count();
+        if !is_live(&self.index, id) {
+            return Ok(None);
+        }
+        if self.is_worn() {
+            return Err(Refusal::WornOut);
+        }
+        match self.index.erase(id) {
+            Ok(true) => {
+                self.accepted += 1;
+                Ok(Some(self.accepted))
+            }
+            Ok(false) => unreachable!(),
+            Err(_) => Err(Refusal::OutOfMemory),
+        }
+    }
+}
+
+/// Whether an identifier has locators.
+fn is_live(index: &Index, id: ShardId) -> bool
+    ensures { MatchBool result (live_at (index_of index.now) (id_number id) ≢ []) (live_at (index_of index.now) (id_number id) ≡ []) }
+{
+    match index.lookup(id) {
+        Some(places) => !places.is_empty(),
+        None => false,
+    }
+}
+
+/// Whether a put of so many bytes is refused before anything is appended: 31 TooLarge, then 32 IndexFull.
+fn test_put(extents: &Extents, index: &Index, id: ShardId, size: usize) -> Result<(), Refusal>
+    ensures too_large { (result ≡ Err Refusal.TooLarge) ↔ ((shape extents.now).most_chunks * (shape extents.now).chunk_bytes < size) }
+    ensures index_full { (result ≡ Err Refusal.IndexFull) ↔ (¬ ((shape extents.now).most_chunks * (shape extents.now).chunk_bytes < size) × (lookup (id_number id) (index_of index.now) ≡ None) × (index.now.limit ≤ names (index_of index.now))) }
+    ensures room { OnOk result (lookup (id_number id) (index_of index.now) ≡ None → names (index_of index.now) < index.now.limit) }
+    ensures refusals { IfErr result (λ r. (r ≡ Refusal.TooLarge) ⊎ (r ≡ Refusal.IndexFull)) }
+    ensures whole { IsWhole extents.now }
+{
+    // Its contract tells what all extents keep.
+    extents.extent_count();
+    if 8 * (4096 * extents.extent_pages() - 41) < size {
+        return Err(Refusal::TooLarge);
+    }
+    if index.lookup(id).is_none() && index.limit() <= index.named_count() {
+        return Err(Refusal::IndexFull);
+    }
+    Ok(())
+}
+
+/// Why a put is refused where the number of commands is the greatest: 30 Full comes before 35 WornOut.
+fn why_worn(extents: &Extents, bytes: &[u8]) -> Refusal
+    requires { ¬ ((shape extents.now).most_chunks * (shape extents.now).chunk_bytes < length bytes.now) }
+    ensures { IsWhyWorn extents.now bytes.now result }
+{
+    if put_fits(extents, bytes) {
+        Refusal::WornOut
+    } else {
+        Refusal::Full
+    }
+}
+
+/// Points an identifier at the chunks that were put under it.
+fn enter(index: &mut Index, id: ShardId, places: Vec<Locator>)
+    requires count { (1 ≤ length places.items) × (length places.items ≤ 8) }
+    requires limit { lookup (id_number id) (index_of index.old) ≡ None → names (index_of index.old) < index.old.limit }
+    requires room { 0 < index.old.room }
+    ensures { IsSet index.old (id_number id) (map place_of places.items) index.new }
+{
+    match index.set(id, places) {
+        Ok(()) => {}
+        Err(_) => unreachable!(),
+    }
+}

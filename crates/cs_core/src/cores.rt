@@ -1,0 +1,256 @@
+//! The event machine over one disk.
+ghost use Rattle.std.specs.Prelude.{◌≡◌, ◌≢◌, ◌+◌, ◌*◌, ◌≤◌, ◌⊎◌, ◌↔◌, [], IfErr, IfOk, IsOk, IsSome, IsTrue, MatchOption, MatchResult, None, OnErr, OnOk, Some, length, take};
+ghost use Rattle.cs_bridge.specs.Crashes.{IsPrefix};
+ghost use Rattle.cs_deps.specs.Chain.{IsChainOf};
+ghost use Rattle.cs_deps.specs.Named.{IsWithin};
+ghost use Rattle.cs_deps.specs.Schedule.{Covers, IsFewest, IsSchedule, Respects};
+ghost use Rattle.cs_deps.specs.Staging.{IsKept};
+ghost use Rattle.cs_deps.specs.State.{everything};
+ghost use Rattle.cs_deps.specs.View.{pending_of, rounds_of};
+ghost use Rattle.cs_disk.specs.Disk.{Leaves, LeavesOnly, Rises, page};
+ghost use Rattle.cs_extent.specs.State.{shape};
+ghost use Rattle.cs_frame.specs.Formats.{formats_of};
+ghost use Rattle.cs_model.specs.Recovery.{Recovers};
+ghost use Rattle.cs_core.specs.Meanings.{commands_said};
+ghost use Rattle.cs_core.specs.Replays.{replayed};
+ghost use Rattle.cs_core.specs.Shapes.{MayAnswer};
+ghost use Rattle.cs_core.specs.Started.{new_stored};
+ghost use Rattle.cs_core.specs.Views.{Applies, IsAsked};
+ghost use Rattle.cs_core.specs.Writebacks.{WritesBack};
+
+use crate::contents::Bytes;
+use crate::events::{Event, OutOfMemory, Reply};
+use crate::formats::{new_store, write_new};
+use crate::replays::replay_events;
+use crate::stores::Store;
+use cs_deps::{Dependency, Element, GraphView, Plan, Refusal};
+use cs_disk::{DiskFault, PageDisk};
+use cs_frame::{Geometry, ShardId};
+use std::alloc::{AllocError, Global};
+use std::marker::Model;
+use std::snapshot::Snapshot;
+
+/// What a core may take.
+#[derive(Clone, Copy, Debug, PartialEq, Eq)]
+pub struct Limits {
+    /// How many events its history may have, 1 to 65,536.
+    pub history: usize,
+}
+
+/// The event machine of a shard store over its disk.
+#[derive(Drop)]
+pub struct Core<D: PageDisk> {
+    alloc: Global,
+    disk: D,
+    // the disk as it was when the core was opened
+    opened: Snapshot<D>,
+    store: Store,
+    history: Vec<(Event, Reply)>,
+    limit: usize,
+}
+
+impl<D: PageDisk> Model for Core<D> {
+    ghost use Rattle.std.specs.Prelude.{◌≤◌, length};
+    ghost use Rattle.cs_core.specs.Stored.{settled_rooms};
+    ghost use Rattle.cs_core.specs.Views.{IsCore, View};
+
+    ghost Value = { View D };
+
+    ghost view = { λ c. record { disk = c.disk; opened = (D.state c.opened.value).durable; store = settled_rooms c.store; history = c.history.items; limit = c.limit } };
+
+    ghost invariant = { λ c. IsCore D.honest D.state D.page_count (record { disk = c.disk; opened = (D.state c.opened.value).durable; store = settled_rooms c.store; history = c.history.items; limit = c.limit }) };
+}
+
+impl<D: PageDisk> Core<D> {
+    /// Makes a new store of this geometry on a disk: writes its superblock and its root, and makes them durable.
+    ///
+    /// Refused 43 NotAStore where the disk hasn't the geometry's pages, 1 DeviceFault, and 9 OutOfMemory. The disk comes
+    /// back then.
+    pub fn format(
+        alloc: Global,
+        disk: D,
+        geometry: Geometry,
+        limits: Limits,
+    ) -> Result<Self, (Refusal, D)>
+        ensures new { IfOk result (λ core. (core.history ≡ []) × (core.limit ≡ limits.history)) }
+        ensures store { IfOk result (λ core. core.store ≡ new_stored geometry.extents geometry.pages) }
+        // What it starts on recovers no command and no shard.
+        ensures start { IfOk result (λ core. D.honest disk → Recovers (shape core.store.extents) (formats_of (shape core.store.extents)) (page core.opened) 0 (λ id. None)) }
+        ensures pages { IfOk result (λ core. D.page_count core.disk ≡ D.page_count disk) }
+        ensures honest { MatchResult result (λ core. D.honest disk ↔ D.honest core.disk) (λ refused. D.honest disk ↔ D.honest refused.1) }
+        ensures not_a_store { IfErr result (λ refused. (refused.0 ≡ Refusal.NotAStore) ↔ (D.page_count disk ≢ 2 + geometry.extents * geometry.pages)) }
+        ensures sized { OnOk result (D.page_count disk ≡ 2 + geometry.extents * geometry.pages) }
+        ensures refusals { IfErr result (λ refused. (refused.0 ≡ Refusal.NotAStore) ⊎ (refused.0 ≡ Refusal.DeviceFault) ⊎ (refused.0 ≡ Refusal.OutOfMemory)) }
+        ensures cause { IfErr result (λ refused. refused.0 ≡ Refusal.DeviceFault → Rises (D.failure_count disk) (D.failure_count refused.1)) }
+    {
+        if disk.pages() != geometry.device_pages() {
+            return Err((Refusal::NotAStore, disk));
+        }
+        let Ok(made) = new_store(alloc, geometry) else {
+            return Err((Refusal::OutOfMemory, disk));
+        };
+        let mut disk = disk;
+        let written = write_new(&mut disk, &made.superblock, &made.root);
+        match written {
+            Ok(()) => Ok(Core {
+                alloc,
+                opened: Snapshot::of(&disk),
+                disk,
+                store: made.store,
+                history: Vec::new(alloc),
+                limit: limits.history,
+            }),
+            Err(DiskFault::DeviceFault) => Err((Refusal::DeviceFault, disk)),
+            Err(DiskFault::OutOfMemory) => Err((Refusal::OutOfMemory, disk)),
+        }
+    }
+
+    /// Does one event, and keeps it with its reply in the history.
+    ///
+    /// Refused 41 HistoryFull where the history stands at its limit, then 40 Halted where a write or a flush failed (but
+    /// for Get and Settle), then as the event is.
+    pub fn apply(&mut self, event: &Event) -> Result<Reply, OutOfMemory>
+        ensures step { IfOk result (λ reply. Applies D.honest D.state self.old event.now reply self.new) }
+        ensures memory { OnErr result (IsAsked D.honest D.state self.old self.new) }
+        ensures shape { IfOk result (λ reply. MayAnswer event.now reply) }
+        ensures writeback { IfOk result (λ reply. WritesBack self.old.store event.now reply self.new.store) }
+        ensures rises { self.old.store.frontier ≤ self.new.store.frontier }
+        // A crash at any moment of the event leaves the map after some of the commands, as before it.
+        ensures crash { D.honest self.old.disk → LeavesOnly D.moment D.left_since self.old.disk self.new.disk (IsPrefix (shape self.old.store.extents) (page self.old.opened) (commands_said self.old.history) self.old.store.frontier self.old.store.accepted) }
+        // A crash after it does so for the commands and the frontier then.
+        ensures left { D.honest self.old.disk → Leaves (D.state self.new.disk) (IsPrefix (shape self.new.store.extents) (page self.new.opened) (commands_said self.new.history) self.new.store.frontier self.new.store.accepted) }
+        ensures honest { D.honest self.old.disk ↔ D.honest self.new.disk }
+        ensures pages { D.page_count self.new.disk ≡ D.page_count self.old.disk }
+    {
+        // Its contract tells what all extents keep.
+        self.store.extent_count();
+        if self.limit <= self.history.len() {
+            return Ok(Reply::Refused(Refusal::HistoryFull));
+        }
+        self.history.reserve(1)?;
+        let kept = event.copy(self.alloc)?;
+        let (reply, noted) = self.store.serve(&mut self.disk, event)?;
+        self.history.push_reserved((kept, noted));
+        Ok(reply)
+    }
+
+    /// How many of the commands accepted since the core was opened are persistent.
+    pub fn frontier(&self) -> u64
+        ensures { result ≡ self.now.store.frontier }
+    {
+        self.store.frontier()
+    }
+
+    /// How many commands were accepted since the core was opened.
+    pub fn accepted(&self) -> u64
+        ensures { result ≡ self.now.store.accepted }
+    {
+        self.store.accepted()
+    }
+
+    /// Whether a write or a flush failed.
+    pub fn is_halted(&self) -> bool
+        ensures { result ≡ self.now.store.halted }
+    {
+        self.store.is_halted()
+    }
+
+    /// The members of the round that is out, in the order in which they are issued, and how many of them were.
+    pub fn round(&self) -> Option<(&[Element], usize)>
+        ensures { MatchOption result (self.now.store.out ≡ None) (λ r. (self.now.store.out ≡ Some r.0.now) × (self.now.store.issued ≡ r.1)) }
+    {
+        self.store.round()
+    }
+
+    /// The events so far with their replies, the first one first.
+    pub fn history(&self) -> &[(Event, Reply)]
+        ensures { result.now ≡ self.now.history }
+    {
+        &self.history
+    }
+
+    /// What the first k events put or deleted, each identifier with its bytes or None, the first of them first.
+    pub fn replay(&self, k: usize) -> Result<Vec<(ShardId, Option<Bytes>)>, AllocError>
+        ensures { IfOk result (λ changes. changes.items ≡ replayed (take k self.now.history)) }
+    {
+        replay_events(self.alloc, &self.history, k)
+    }
+
+    /// Whether something waits.
+    pub fn has_waiting(&self) -> bool
+        ensures { IsTrue result ↔ (self.now.store.graph.staging.pending.waiting ≢ []) }
+    {
+        self.store.graph.has_waiting()
+    }
+
+    /// How many events the history may have.
+    pub fn limit(&self) -> usize
+        ensures { result ≡ self.now.limit }
+    {
+        self.limit
+    }
+
+    /// Names all that was staged.
+    pub fn everything(&self) -> Result<Dependency, AllocError>
+        ensures { IfOk result (λ d. d ≡ everything self.now.store.graph.staging) }
+    {
+        self.store.graph.everything()
+    }
+
+    /// What is persistent and what waits, as plain data.
+    pub fn view(&self) -> Result<GraphView, AllocError>
+        ensures view { IfOk result (λ view. pending_of view ≡ self.now.store.graph.staging.pending) }
+        ensures kept { IsOk result → IsKept self.now.store.graph.staging }
+    {
+        // Its contract tells what every graph keeps.
+        self.store.graph.families();
+        self.store.graph.view()
+    }
+
+    /// The plan of all that waits. Refused 5 InFlight where a round is out, and 9 OutOfMemory.
+    pub fn plan(&self) -> Result<Plan, Refusal>
+        ensures kept { IsKept self.now.store.graph.staging }
+        ensures out { self.now.store.out ≡ self.now.store.graph.round }
+        ensures schedule { IfOk result (λ plan. IsSchedule self.now.store.graph.staging.pending (rounds_of plan)) }
+        ensures covers { IfOk result (λ plan. Covers self.now.store.graph.staging.pending (rounds_of plan) (everything self.now.store.graph.staging)) }
+        ensures respects { IfOk result (λ plan. Respects self.now.store.graph.staging.pending (rounds_of plan)) }
+        ensures fewest { IfOk result (λ plan. IsFewest self.now.store.graph.staging.pending (everything self.now.store.graph.staging) (rounds_of plan)) }
+        ensures chain { IfOk result (λ plan. IsChainOf self.now.store.graph.staging.pending (everything self.now.store.graph.staging) plan.chain.items) }
+        ensures chain_count { IfOk result (λ plan. length plan.chain.items ≡ length (rounds_of plan)) }
+        ensures in_flight { (result ≡ Err Refusal.InFlight) ↔ IsSome self.now.store.graph.round }
+        ensures refusals { IfErr result (λ r. (r ≡ Refusal.InFlight) ⊎ (r ≡ Refusal.OutOfMemory)) }
+    {
+        self.store.plan(self.alloc)
+    }
+
+    /// The plan that makes a dependency persistent. Refused 4 NotStaged, 5 InFlight where a round is out, and 9
+    /// OutOfMemory.
+    pub fn plan_for(&self, target: &Dependency) -> Result<Plan, Refusal>
+        ensures schedule { IfOk result (λ plan. IsSchedule self.now.store.graph.staging.pending (rounds_of plan)) }
+        ensures covers { IfOk result (λ plan. Covers self.now.store.graph.staging.pending (rounds_of plan) target.now) }
+        ensures respects { IfOk result (λ plan. Respects self.now.store.graph.staging.pending (rounds_of plan)) }
+        ensures fewest { IfOk result (λ plan. IsFewest self.now.store.graph.staging.pending target.now (rounds_of plan)) }
+        ensures chain { IfOk result (λ plan. IsChainOf self.now.store.graph.staging.pending target.now plan.chain.items) }
+        ensures chain_count { IfOk result (λ plan. length plan.chain.items ≡ length (rounds_of plan)) }
+        ensures not_staged { (result ≡ Err Refusal.NotStaged) ↔ ¬ IsWithin target.now self.now.store.graph.staging.staged self.now.store.graph.staging.latest }
+        ensures in_flight { (result ≡ Err Refusal.InFlight) ↔ (IsWithin target.now self.now.store.graph.staging.staged self.now.store.graph.staging.latest × IsSome self.now.store.graph.round) }
+        ensures refusals { IfErr result (λ r. (r ≡ Refusal.NotStaged) ⊎ (r ≡ Refusal.InFlight) ⊎ (r ≡ Refusal.OutOfMemory)) }
+    {
+        self.store.plan_for(self.alloc, target)
+    }
+
+    /// The disk.
+    pub fn into_disk(self) -> D
+        ensures { result ≡ self.disk }
+    {
+        let Core {
+            alloc: _,
+            disk,
+            opened: _,
+            store: _,
+            history: _,
+            limit: _,
+        } = self;
+        disk
+    }
+}

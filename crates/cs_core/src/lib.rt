@@ -1,0 +1,25 @@
+//! The event machine of a shard store over one disk: each call of `apply` is one event, and the history keeps it with its
+//! reply.
+#![tactic(auto)]
+
+mod commands;
+mod contents;
+mod cores;
+mod events;
+mod formats;
+mod frontiers;
+mod plans;
+mod reads;
+mod replays;
+mod replies;
+mod roots;
+mod rounds;
+mod serves;
+mod servings;
+mod stagings;
+mod stores;
+mod sweeps;
+
+pub use contents::{Bytes, Elements};
+pub use cores::{Core, Limits};
+pub use events::{Event, OutOfMemory, Reply};

@@ -1,0 +1,49 @@
+//! Plans of a store.
+ghost use Rattle.std.specs.Prelude.{◌≡◌, ◌⊎◌, ◌↔◌, IfErr, IfOk, IsSome, length};
+ghost use Rattle.cs_deps.specs.Chain.{IsChainOf};
+ghost use Rattle.cs_deps.specs.Named.{IsWithin};
+ghost use Rattle.cs_deps.specs.Schedule.{Covers, IsFewest, IsSchedule, Respects};
+ghost use Rattle.cs_deps.specs.Staging.{IsKept};
+ghost use Rattle.cs_deps.specs.State.{everything};
+ghost use Rattle.cs_deps.specs.View.{rounds_of};
+
+use crate::stores::Store;
+use cs_deps::{Dependency, Plan, Refusal};
+use cs_plan::plan_all;
+use std::alloc::Global;
+
+impl Store {
+    /// The plan of all that waits. Refused 5 InFlight where a round is out, and 9 OutOfMemory.
+    pub fn plan(&self, alloc: Global) -> Result<Plan, Refusal>
+        ensures kept { IsKept self.now.graph.staging }
+        ensures out { self.now.out ≡ self.now.graph.round }
+        ensures schedule { IfOk result (λ plan. IsSchedule self.now.graph.staging.pending (rounds_of plan)) }
+        ensures covers { IfOk result (λ plan. Covers self.now.graph.staging.pending (rounds_of plan) (everything self.now.graph.staging)) }
+        ensures respects { IfOk result (λ plan. Respects self.now.graph.staging.pending (rounds_of plan)) }
+        ensures fewest { IfOk result (λ plan. IsFewest self.now.graph.staging.pending (everything self.now.graph.staging) (rounds_of plan)) }
+        ensures chain { IfOk result (λ plan. IsChainOf self.now.graph.staging.pending (everything self.now.graph.staging) plan.chain.items) }
+        ensures chain_count { IfOk result (λ plan. length plan.chain.items ≡ length (rounds_of plan)) }
+        ensures in_flight { (result ≡ Err Refusal.InFlight) ↔ IsSome self.now.graph.round }
+        ensures refusals { IfErr result (λ r. (r ≡ Refusal.InFlight) ⊎ (r ≡ Refusal.OutOfMemory)) }
+    {
+        // Its contract tells what every graph keeps.
+        self.graph.families();
+        plan_all(alloc, &self.graph)
+    }
+
+    /// The plan that makes a dependency persistent. Refused 4 NotStaged, 5 InFlight where a round is out, and 9
+    /// OutOfMemory.
+    pub fn plan_for(&self, alloc: Global, target: &Dependency) -> Result<Plan, Refusal>
+        ensures schedule { IfOk result (λ plan. IsSchedule self.now.graph.staging.pending (rounds_of plan)) }
+        ensures covers { IfOk result (λ plan. Covers self.now.graph.staging.pending (rounds_of plan) target.now) }
+        ensures respects { IfOk result (λ plan. Respects self.now.graph.staging.pending (rounds_of plan)) }
+        ensures fewest { IfOk result (λ plan. IsFewest self.now.graph.staging.pending target.now (rounds_of plan)) }
+        ensures chain { IfOk result (λ plan. IsChainOf self.now.graph.staging.pending target.now plan.chain.items) }
+        ensures chain_count { IfOk result (λ plan. length plan.chain.items ≡ length (rounds_of plan)) }
+        ensures not_staged { (result ≡ Err Refusal.NotStaged) ↔ ¬ IsWithin target.now self.now.graph.staging.staged self.now.graph.staging.latest }
+        ensures in_flight { (result ≡ Err Refusal.InFlight) ↔ (IsWithin target.now self.now.graph.staging.staged self.now.graph.staging.latest × IsSome self.now.graph.round) }
+        ensures refusals { IfErr result (λ r. (r ≡ Refusal.NotStaged) ⊎ (r ≡ Refusal.InFlight) ⊎ (r ≡ Refusal.OutOfMemory)) }
+    {
+        cs_plan::plan(alloc, &self.graph, target)
+    }
+}

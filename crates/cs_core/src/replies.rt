@@ -1,0 +1,26 @@
+//! Replies, twice: one to tell and one to keep.
+ghost use Rattle.std.specs.Prelude.{◌≡◌, ◌≢◌, IfOk, MatchResult};
+
+use crate::contents::Bytes;
+use crate::events::{OutOfMemory, Reply};
+use cs_deps::Refusal;
+use std::alloc::Global;
+
+/// The reply with the bytes of a shard, twice.
+pub fn found(alloc: Global, bytes: Vec<u8>) -> Result<(Reply, Reply), OutOfMemory>
+    ensures { IfOk result (λ r. (r.0 ≡ Reply.Found bytes.items) × (r.1 ≡ Reply.Found bytes.items)) }
+{
+    let told = Bytes::new(bytes);
+    let noted = told.copy(alloc)?;
+    Ok((Reply::Found(told), Reply::Found(noted)))
+}
+
+/// The reply to a refused event, twice, but that want of memory has none.
+pub fn refused(refusal: Refusal) -> Result<(Reply, Reply), OutOfMemory>
+    ensures { MatchResult result (λ r. (r.0 ≡ Reply.Refused refusal) × (r.1 ≡ Reply.Refused refusal) × (refusal ≢ Refusal.OutOfMemory)) (λ _. refusal ≡ Refusal.OutOfMemory) }
+{
+    match refusal {
+        Refusal::OutOfMemory => Err(OutOfMemory),
+        other => Ok((Reply::Refused(other), Reply::Refused(other))),
+    }
+}

@@ -1,0 +1,155 @@
+//! Rounds of writeback.
+ghost use Rattle.std.specs.Prelude.{◌≡◌, ◌≢◌, ◌+◌, ◌<◌, ◌≤◌, ◌⊎◌, ◌↔◌, [], IfOk, IfErr, IfSome, MatchBool, MatchOption, MatchResult, OnErr, OnOk, IsErrOf, None, Some, false, true, length, slice_get, option_map};
+ghost use Rattle.cs_chunk.specs.Reads.{IsCaused};
+ghost use Rattle.cs_deps.specs.State.{IsQueue};
+ghost use Rattle.cs_disk.specs.Disk.{Elapses, flushed, written};
+ghost use Rattle.cs_extent.specs.State.{shape};
+ghost use Rattle.cs_core.specs.Rounds.{BeginAnswers, EndAnswers, IssueAnswers};
+ghost use Rattle.cs_core.specs.Stored.{members_of, page_total, settled_rooms};
+ghost use Rattle.cs_core.specs.Writebacks.{IsMemberIssued, IsRoundBegun, IsRoundEnded, StaysRefused};
+
+use crate::events::Event;
+use crate::frontiers::frontier_of;
+use crate::stores::Store;
+use cs_chunk::refusal_of_disk;
+use cs_deps::{Element, Refusal};
+use cs_disk::{DiskFault, PageDisk};
+use cs_plan::next_round;
+
+impl Store {
+    /// Takes the next round of the plan of all that waits, and gives its members twice; None where nothing waits.
+    ///
+    /// Refused 5 InFlight where a round is out, and 9 OutOfMemory.
+    pub fn begin(&mut self) -> Result<Option<(Vec<Element>, Vec<Element>)>, Refusal>
+        ensures begun { IfOk result (λ begun. MatchOption begun ((self.old.graph.staging.pending.waiting ≡ []) × (self.old.out ≡ None) × (settled_rooms self.new ≡ settled_rooms self.old)) (λ r. IsRoundBegun r.0.items (settled_rooms self.old) (settled_rooms self.new))) }
+        ensures twice { IfOk result (λ begun. IfSome begun (λ r. r.0.items ≡ r.1.items)) }
+        ensures step { self.old.halted ≡ false → BeginAnswers self.old result self.new }
+        ensures refused { OnErr result (settled_rooms self.new ≡ settled_rooms self.old) }
+        ensures shape { shape self.new.extents ≡ shape self.old.extents }
+        ensures frontier { self.new.frontier ≡ self.old.frontier }
+    {
+        // Their contracts tell what all extents and every graph keep.
+        self.extents.extent_count();
+        self.graph.families();
+        if self.out.is_some() {
+            return Err(Refusal::InFlight);
+        }
+        let round = match next_round(self.alloc, &self.graph) {
+            Ok(round) => round,
+            Err(refusal) => return Err(refusal),
+        };
+        if round.is_empty() {
+            return Ok(None);
+        }
+        let members = Vec::from_slice(self.alloc, &round)?;
+        let told = Vec::from_slice(self.alloc, &round)?;
+        let noted = Vec::from_slice(self.alloc, &round)?;
+        self.graph.take_round(round);
+        self.out = Some(members);
+        self.issued = 0;
+        Ok(Some((told, noted)))
+    }
+
+    /// Writes the next member of the round to its page, and gives the member and the page.
+    ///
+    /// Refused 42 NoRound where no round is out or none of it is left, 1 DeviceFault, which halts the store, and 9
+    /// OutOfMemory.
+    pub fn issue<D: PageDisk>(&mut self, disk: &mut D) -> Result<(Element, u64), Refusal>
+        requires device { page_total (shape self.old.extents) ≡ D.page_count disk.old }
+        ensures issued { MatchResult result (λ r. IsMemberIssued r.0 (settled_rooms self.old) (settled_rooms self.new)) (λ r. StaysRefused Event.Issue r (settled_rooms self.old) (settled_rooms self.new)) }
+        ensures step { self.old.halted ≡ false → D.honest disk.old → IssueAnswers self.old (D.state disk.old) result self.new (D.state disk.new) }
+        ensures memory { IsErrOf result Refusal.OutOfMemory → (self.new ≡ self.old) × (D.honest disk.old → D.state disk.new ≡ D.state disk.old) }
+        ensures shape { shape self.new.extents ≡ shape self.old.extents }
+        ensures frontier { self.new.frontier ≡ self.old.frontier }
+        ensures time { D.honest disk.old → Elapses (D.moment disk.old) (D.moment disk.new) (D.left_since disk.old) (D.left_since disk.new) (D.state disk.new) }
+        ensures honest { D.honest disk.old ↔ D.honest disk.new }
+        ensures pages { D.page_count disk.new ≡ D.page_count disk.old }
+        ensures cause { IsCaused (D.failure_count disk.old) (D.failure_count disk.new) result }
+    {
+        // Their contracts tell what all extents and every graph keep.
+        self.extents.extent_count();
+        self.graph.families();
+        let Some(member) = self.next_member() else {
+            return Err(Refusal::NoRound);
+        };
+        let page = self.graph.page_of(member).unwrap();
+        let bytes = self.graph.bytes_of(member).unwrap();
+        match disk.write(page, bytes) {
+            Ok(()) => {
+                self.issued += 1;
+                Ok((member, page))
+            }
+            Err(DiskFault::DeviceFault) => {
+                self.halted = true;
+                Err(Refusal::DeviceFault)
+            }
+            Err(DiskFault::OutOfMemory) => Err(Refusal::OutOfMemory),
+        }
+    }
+
+    /// The member of the round that is written next.
+    fn next_member(&self) -> Option<Element>
+        ensures { result ≡ slice_get (members_of self.now.out) self.now.issued }
+    {
+        match &self.out {
+            Some(round) => {
+                if self.issued < round.len() {
+                    Some(round[self.issued])
+                } else {
+                    None
+                }
+            }
+            None => None,
+        }
+    }
+
+    /// Flushes, after which the round is persistent, and gives how many commands are.
+    ///
+    /// Refused 42 NoRound where no round is out or some of it is left, 1 DeviceFault, which halts the store, and 9
+    /// OutOfMemory.
+    pub fn end<D: PageDisk>(&mut self, disk: &mut D) -> Result<u64, Refusal>
+        requires device { page_total (shape self.old.extents) ≡ D.page_count disk.old }
+        ensures ended { MatchResult result (λ n. IsRoundEnded n (settled_rooms self.old) (settled_rooms self.new)) (λ r. StaysRefused Event.End r (settled_rooms self.old) (settled_rooms self.new)) }
+        ensures step { self.old.halted ≡ false → D.honest disk.old → EndAnswers self.old (D.state disk.old) result self.new (D.state disk.new) }
+        ensures memory { IsErrOf result Refusal.OutOfMemory → (self.new ≡ self.old) × (D.honest disk.old → D.state disk.new ≡ D.state disk.old) }
+        ensures shape { shape self.new.extents ≡ shape self.old.extents }
+        ensures number { IfOk result (λ n. self.new.frontier ≡ n) }
+        ensures rises { self.old.frontier ≤ self.new.frontier }
+        ensures time { D.honest disk.old → Elapses (D.moment disk.old) (D.moment disk.new) (D.left_since disk.old) (D.left_since disk.new) (D.state disk.new) }
+        ensures honest { D.honest disk.old ↔ D.honest disk.new }
+        ensures pages { D.page_count disk.new ≡ D.page_count disk.old }
+        ensures cause { IsCaused (D.failure_count disk.old) (D.failure_count disk.new) result }
+    {
+        // Their contracts tell what all extents and every graph keep.
+        self.extents.extent_count();
+        self.graph.families();
+        if !self.is_issued() {
+            return Err(Refusal::NoRound);
+        }
+        match disk.flush() {
+            Ok(()) => {
+                self.graph.settle_round();
+                self.out = None;
+                self.issued = 0;
+                let counted = frontier_of(self.alloc, &self.graph, &self.roots);
+                self.frontier = self.frontier.max(counted);
+                Ok(self.frontier)
+            }
+            Err(DiskFault::DeviceFault) => {
+                self.halted = true;
+                Err(Refusal::DeviceFault)
+            }
+            Err(DiskFault::OutOfMemory) => Err(Refusal::OutOfMemory),
+        }
+    }
+
+    /// Whether a round is out, and all of it was written.
+    fn is_issued(&self) -> bool
+        ensures { MatchBool result ((self.now.out ≢ None) × (self.now.issued ≡ length (members_of self.now.out))) ((self.now.out ≡ None) ⊎ (self.now.issued < length (members_of self.now.out))) }
+    {
+        match &self.out {
+            Some(round) => self.issued == round.len(),
+            None => false,
+        }
+    }
+}

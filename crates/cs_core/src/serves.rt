@@ -1,0 +1,88 @@
+//! What one event does to a store and its disk, whichever it is.
+ghost use Rattle.std.specs.Prelude.{◌≡◌, ◌≤◌, ◌⊎◌, ◌↔◌, IfOk, OnErr};
+ghost use Rattle.cs_disk.specs.Disk.{Elapses, State as DiskState};
+ghost use Rattle.cs_extent.specs.State.{shape};
+ghost use Rattle.cs_core.specs.Answered.{IsAnswered};
+ghost use Rattle.cs_core.specs.Stored.{page_total, settled_rooms};
+ghost use Rattle.cs_core.specs.Views.{Serves};
+
+use crate::events::{Event, OutOfMemory, Reply};
+use crate::replies::{found, refused};
+use crate::stores::Store;
+use cs_deps::Refusal;
+use cs_disk::PageDisk;
+use cs_frame::ShardId;
+
+impl Store {
+    /// Does one event, and gives its reply twice.
+    pub fn serve<D: PageDisk>(
+        &mut self,
+        disk: &mut D,
+        event: &Event,
+    ) -> Result<(Reply, Reply), OutOfMemory>
+        requires device { page_total (shape self.old.extents) ≡ D.page_count disk.old }
+        ensures twice { IfOk result (λ r. r.0 ≡ r.1) }
+        ensures answered { IfOk result (λ r. IsAnswered (settled_rooms self.old) event.now r.0 (settled_rooms self.new)) }
+        ensures quiet { D.honest disk.old → (event.now ≡ Event.Issue) ⊎ (event.now ≡ Event.End) ⊎ (D.state disk.new ≡ D.state disk.old) }
+        ensures rises { self.old.frontier ≤ self.new.frontier }
+        ensures step { D.honest disk.old → IfOk result (λ r. Serves self.old (D.state disk.old) event.now r.0 self.new (D.state disk.new)) }
+        ensures refused { OnErr result (settled_rooms self.new ≡ settled_rooms self.old) }
+        ensures same { D.honest disk.old → OnErr result (D.state disk.new ≡ D.state disk.old) }
+        ensures shape { shape self.new.extents ≡ shape self.old.extents }
+        ensures time { D.honest disk.old → Elapses (D.moment disk.old) (D.moment disk.new) (D.left_since disk.old) (D.left_since disk.new) (D.state disk.new) }
+        ensures honest { D.honest disk.old ↔ D.honest disk.new }
+        ensures pages { D.page_count disk.new ≡ D.page_count disk.old }
+    {
+        match event {
+            Event::Get(id) => self.serve_get(disk, *id),
+            Event::Settle(n) => Ok(self.serve_settle(*n)),
+            _ => {
+                if self.is_halted() {
+                    return refused(Refusal::Halted);
+                }
+                if event.is_for_device() {
+                    self.serve_device(disk, event)
+                } else {
+                    self.serve_alone(event)
+                }
+            }
+        }
+    }
+
+    /// Tells whether a command is persistent, twice.
+    fn serve_settle(&self, n: u64) -> (Reply, Reply)
+        ensures twice { result.0 ≡ result.1 }
+        ensures answered { IsAnswered (settled_rooms self.now) (Event.Settle n) result.0 (settled_rooms self.now) }
+        ensures step { (disk : DiskState) → Serves self.now disk (Event.Settle n) result.0 self.now disk }
+    {
+        let frontier = self.frontier();
+        if 1 <= n && n <= frontier {
+            (Reply::Persistent, Reply::Persistent)
+        } else {
+            (Reply::NotYet(frontier), Reply::NotYet(frontier))
+        }
+    }
+
+    /// Gets a shard, and gives the reply twice.
+    fn serve_get<D: PageDisk>(
+        &self,
+        disk: &mut D,
+        id: ShardId,
+    ) -> Result<(Reply, Reply), OutOfMemory>
+        requires device { page_total (shape self.now.extents) ≡ D.page_count disk.old }
+        ensures twice { IfOk result (λ r. r.0 ≡ r.1) }
+        ensures answered { IfOk result (λ r. IsAnswered (settled_rooms self.now) (Event.Get id) r.0 (settled_rooms self.now)) }
+        ensures step { D.honest disk.old → IfOk result (λ r. Serves self.now (D.state disk.old) (Event.Get id) r.0 self.now (D.state disk.new)) }
+        ensures state { D.honest disk.old → D.state disk.new ≡ D.state disk.old }
+        ensures time { D.honest disk.old → Elapses (D.moment disk.old) (D.moment disk.new) (D.left_since disk.old) (D.left_since disk.new) (D.state disk.new) }
+        ensures honest { D.honest disk.old ↔ D.honest disk.new }
+        ensures pages { D.page_count disk.new ≡ D.page_count disk.old }
+    {
+        let bytes = match self.get(disk, id) {
+            Ok(Some(bytes)) => bytes,
+            Ok(None) => return Ok((Reply::Absent, Reply::Absent)),
+            Err(refusal) => return refused(refusal),
+        };
+        found(self.alloc, bytes)
+    }
+}

@@ -1,0 +1,47 @@
+//! Runs and roots.
+ghost use Rattle.std.specs.Prelude.{◌≡◌, ◌+◌, ◌∷◌, ◌++◌, [], IfOk, MatchOption, OnErr, false};
+ghost use Rattle.cs_extent.specs.State.{shape};
+ghost use Rattle.cs_model.specs.State.{Stage};
+ghost use Rattle.cs_core.specs.Steps.{Answers, staged_or_not};
+ghost use Rattle.cs_core.specs.Stored.{settled_rooms};
+ghost use Rattle.cs_core.specs.Writebacks.{KeepsRound};
+
+use crate::roots::Root;
+use crate::stores::Store;
+use cs_deps::Refusal;
+
+impl Store {
+    /// Stages a run for the index changes since the last root, and a root over it, and gives that root's version; None
+    /// where there are none.
+    ///
+    /// Refused 30 Full where no extent has room, 35 WornOut, and 9 OutOfMemory.
+    pub fn stage(&mut self) -> Result<Option<u64>, Refusal>
+        ensures step { self.old.halted ≡ false → Answers self.old Stage staged_or_not result self.new }
+        ensures staged { IfOk result (λ staged. MatchOption staged ((self.old.index.table ≡ []) × (settled_rooms self.new ≡ settled_rooms self.old)) (λ v. self.new.index.table ≡ [])) }
+        ensures round { KeepsRound self.old self.new }
+        ensures refused { OnErr result (settled_rooms self.new ≡ settled_rooms self.old) }
+        ensures shape { shape self.new.extents ≡ shape self.old.extents }
+        ensures frontier { self.new.frontier ≡ self.old.frontier }
+    {
+        // Its contract tells what all extents keep.
+        self.extents.extent_count();
+        if self.roots.reserve(1).is_err() {
+            return Err(Refusal::OutOfMemory);
+        }
+        let commands = self.base + self.accepted;
+        match self
+            .index
+            .stage(&mut self.extents, &mut self.graph, commands)
+        {
+            Ok(Some(version)) => {
+                self.roots.push_reserved(Root {
+                    version,
+                    commands: self.accepted,
+                });
+                Ok(Some(version))
+            }
+            Ok(None) => Ok(None),
+            Err(refusal) => Err(refusal),
+        }
+    }
+}

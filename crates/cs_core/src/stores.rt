@@ -1,0 +1,93 @@
+//! A store without its disk: extents, the graph of what waits, the index, and how far the round that is out has come.
+ghost use Rattle.std.specs.Prelude.{◌≡◌, ◌+◌, ◌^◌, ◌<◌, ◌≤◌, ◌⊎◌, ◌↔◌, MatchBool, MatchOption, None, Some};
+ghost use Rattle.cs_extent.specs.State.{IsWhole, shape};
+ghost use Rattle.cs_index.specs.State.{id_number, index_of};
+ghost use Rattle.cs_model.specs.Index.{live_at, lookup, names};
+ghost use Rattle.cs_core.specs.Stored.{IsKept, Stored, members_of};
+
+use crate::roots::Root;
+use cs_deps::{Element, Graph};
+use cs_extent::Extents;
+use cs_frame::ShardId;
+use cs_index::Index;
+use std::alloc::Global;
+use std::marker::Model;
+
+/// The greatest number of commands.
+pub const LAST: u64 = 0x7fff_ffff_ffff_ffff;
+
+/// A store without its disk.
+#[derive(Drop)]
+pub struct Store {
+    pub alloc: Global,
+    pub graph: Graph,
+    pub extents: Extents,
+    pub index: Index,
+    pub roots: Vec<Root>,
+    pub out: Option<Vec<Element>>,
+    pub issued: usize,
+    pub base: u64,
+    pub accepted: u64,
+    pub frontier: u64,
+    pub halted: bool,
+}
+
+impl Model for Store {
+    ghost use Rattle.std.specs.Prelude.{option_map};
+    ghost use Rattle.cs_core.specs.Stored.{IsKept, Stored};
+
+    ghost Value = { Stored };
+
+    ghost view = { λ s. record { graph = s.graph; extents = s.extents; index = s.index; roots = s.roots.items; out = option_map (λ r. r.items) s.out; issued = s.issued; base = s.base; accepted = s.accepted; frontier = s.frontier; halted = s.halted } };
+
+    ghost invariant = { λ s. IsKept (record { graph = s.graph; extents = s.extents; index = s.index; roots = s.roots.items; out = option_map (λ r. r.items) s.out; issued = s.issued; base = s.base; accepted = s.accepted; frontier = s.frontier; halted = s.halted }) };
+}
+
+impl Store {
+    /// Whether a write or a flush failed.
+    pub fn is_halted(&self) -> bool
+        ensures { result ≡ self.now.halted }
+    {
+        self.halted
+    }
+
+    /// How many commands were accepted since the store was opened.
+    pub fn accepted(&self) -> u64
+        ensures count { result ≡ self.now.accepted }
+        ensures fits { self.now.base + result < 2 ^ 63 }
+    {
+        self.accepted
+    }
+
+    /// How many of these are persistent.
+    pub fn frontier(&self) -> u64
+        ensures { result ≡ self.now.frontier }
+    {
+        self.frontier
+    }
+
+    /// The members of the round that is out, and how many of them were issued.
+    pub fn round(&self) -> Option<(&[Element], usize)>
+        ensures { MatchOption result (self.now.out ≡ None) (λ r. (self.now.out ≡ Some r.0.now) × (self.now.issued ≡ r.1)) }
+    {
+        match &self.out {
+            Some(round) => Some((round.as_slice(), self.issued)),
+            None => None,
+        }
+    }
+
+    /// How many extents there are. Its contract tells what all stores keep of them.
+    pub fn extent_count(&self) -> usize
+        ensures count { result ≡ (shape self.now.extents).extents }
+        ensures whole { IsWhole self.now.extents }
+    {
+        self.extents.extent_count()
+    }
+
+    /// Whether the number of commands is the greatest.
+    pub fn is_worn(&self) -> bool
+        ensures { MatchBool result (2 ^ 63 ≤ self.now.base + self.now.accepted + 1) (self.now.base + self.now.accepted + 1 < 2 ^ 63) }
+    {
+        LAST <= self.base + self.accepted
+    }
+}
