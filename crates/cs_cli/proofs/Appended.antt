@@ -1,6 +1,6 @@
 -- Bytes that are written one after another.
 use Rattle.std.proofs.Common.{◌≡◌, ◌∙◌, ℕ, List, [], ◌++◌, Some, None, sym, ap, subst, append_assoc}
-use Rattle.std.specs.Prelude.{Option}
+use Rattle.std.specs.Prelude.{Option, Result, Ok, Err, OnOk}
 use Rattle.std.proofs.lemmas.List.{append-nil}
 use Rattle.std.specs.Io.KnownBytes.{Appends, Keeps}
 
@@ -24,3 +24,9 @@ appends_kept None b c xs h k = tt
 appends_kept (Some us) None c xs h k = absurd h
 appends_kept (Some us) (Some vs) None xs h k = absurd k
 appends_kept (Some us) (Some vs) (Some ws) xs h k = k ∙ h
+
+-- one line is printed, of which this holds
+pub prints : {T E : Type 0} (r : Result T E) (before after : Option (List ℕ)) (line : List ℕ) (P : List ℕ → Type 0) → P line → OnOk r (Appends before after line)
+    → OnOk r ((out : List ℕ) × P out × Appends before after out)
+prints (Ok v) before after line P p h = (line, p, h)
+prints (Err e) before after line P p h = tt

@@ -1,11 +1,12 @@
 -- The lines of a plan, one after another, and what they say.
-use Rattle.std.proofs.Common.{◌≡◌, ◌∙◌, ℕ, ◌+◌, ◌<◌, List, [], ◌∷◌, ◌++◌, length, take, map, get_or, Vec, sym, ap, arith}
-use Rattle.std.specs.Prelude.{Option, Result, Ok, Err, IfOk}
+use Rattle.std.proofs.Common.{None, inr, ◌≡◌, ◌∙◌, ℕ, ◌+◌, ◌<◌, List, [], ◌∷◌, ◌++◌, length, take, map, get_or, Vec, sym, ap, arith}
+use Rattle.std.specs.Prelude.{Option, Result, Ok, Err, IfErr, IfOk, OnOk}
 use Rattle.std.specs.Global.{Global}
 use Rattle.std.proofs.lemmas.List.{take_more, map-append, length-map, length-take-le}
 use Rattle.std.specs.Io.KnownBytes.{Appends}
 use Rattle.cs_deps.specs.declared.elements.Element.{Element}
 use Rattle.cs_deps.specs.declared.refusals.Refusal.{Refusal}
+use Rattle.cs_deps.specs.declared.refusals.Refusal.TheVariants.{OutOfMemory}
 use Rattle.cs_deps.specs.declared.views.Plan.{Plan}
 use Rattle.cs_deps.specs.Named.{Named}
 use Rattle.cs_deps.specs.Pending.{Pending}
@@ -16,10 +17,18 @@ use Rattle.cs_deps.specs.State.{everything}
 use Rattle.cs_deps.specs.Turns.{LeadTo}
 use Rattle.cs_deps.specs.View.{rounds_of}
 use Rattle.cs_deps.proofs.InTurn.{everything_is_all, in_turn_is_a_plan}
+use Rattle.cs_disk.specs.Disk.{State as DiskState}
+use Rattle.cs_core.specs.declared.events.Event.TheVariants.{Stage}
+use Rattle.cs_core.specs.declared.events.Reply.{Reply}
+use Rattle.cs_core.specs.Shapes.{MayAnswer}
+use Rattle.cs_core.specs.Views.{View}
+use Rattle.cs_cli.specs.Histories.{Goes, IsNoRefusal}
 use Rattle.cs_cli.specs.Outputs.{round_line, round_lines}
-use Rattle.cs_cli.specs.Scripts.{IsBest}
+use Rattle.cs_cli.specs.Scripts.{IsBest, IsPlanRefused, Stages}
+use Rattle.cs_cli.proofs.Asked.{staged_of}
+use Rattle.cs_cli.proofs.Histories.{went_one}
 use Rattle.cs_cli.proofs.Appended.{appends_same, appends_then}
-use Rattle.cs_cli.proofs.SyncSteps.{round_lines_more}
+use Rattle.cs_cli.proofs.Rounds.{round_lines_more}
 
 -- what a plan of all that waits says, in one
 pub best_plan : (g : Pending) (target : Named) (r : Result Plan Refusal) → IfOk r (λ plan. IsSchedule g (rounds_of plan)) → IfOk r (λ plan. Covers g (rounds_of plan) target) → IfOk r (λ plan. Respects g (rounds_of plan)) → IfOk r (λ plan. IsFewest g target (rounds_of plan))
@@ -54,3 +63,17 @@ best_in_turn s kept h planned rounds chain best lead none =
       links = best.links;
       count = omega (arith, best.count, best.fewest rounds p.schedule p.respects p.covers, p.fewest planned best.schedule best.respects best.covers);
     }
+
+pub on_ok : {T E : Type 0} (r : Result T E) (P : Type 0) → P → OnOk r P
+on_ok (Ok v) P p = p
+on_ok (Err e) P p = tt
+
+module _ {D : Type 0} (honest : D → Type 0) (state : D → DiskState) where
+  -- the Stage before a plan
+  pub stages : (old new : View D) (reply : Reply) → old.store.out ≡ None → Goes honest state old Stage reply new → MayAnswer Stage reply → IsNoRefusal reply → Stages honest state old new
+  stages old new reply none g may done = (none, reply, staged_of reply may done, went_one honest state old new Stage reply g)
+
+  -- there is no memory for the plan
+  pub plan_refused : {T : Type 0} (old new : View D) (result : Result T Refusal) → Stages honest state old new → IfErr result (λ r. r ≡ OutOfMemory) → IfErr result (λ r. IsPlanRefused honest state old new r)
+  plan_refused old new (Ok v) staged is = tt
+  plan_refused old new (Err r) staged is = inr (inr (staged, is))

@@ -1,9 +1,7 @@
-pub mod Commands
-pub mod Stored
-pub mod Members
-pub mod Outputs
+pub mod Checks
+pub mod Histories
 pub mod Lines
+pub mod Outputs
+pub mod Rounds
 pub mod Scripts
 pub mod Stops
-pub mod Checks
-pub mod Sweeps

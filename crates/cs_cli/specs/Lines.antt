@@ -8,15 +8,17 @@ use Rattle.uuid.specs.Text.{parsed}
 use Rattle.hex.specs.Hex.{decode_of}
 use Rattle.hex.specs.declared.error.FromHexError.{FromHexError}
 use Rattle.cs_cli.specs.declared.lines.Line.{Line}
-use Rattle.cs_cli.specs.declared.lines.Line.TheVariants.{Put, Get, Delete, Sweep, Sync, Plan, Document, Nothing, Bad}
+use Rattle.cs_cli.specs.declared.lines.Line.TheVariants.{Put, Get, Delete, Sweep, Sync, Step, Plan, Document, Nothing, Bad}
 
--- to put these bytes under this identifier, to get or to delete what is under it, to sweep this extent, to make all persistent, to print the plan for that or its document, nothing, or it isn't readable
+-- to put these bytes under this identifier, to get or to delete what is under it, to sweep this extent, to make all persistent,
+-- to make one step of that, to print the plan for it or its document, nothing, or it isn't readable
 pub data Said : Type 0 where
   says_put : List ℕ → List ℕ → Said
   says_get : List ℕ → Said
   says_delete : List ℕ → Said
   says_sweep : ℕ → Said
   says_sync : Said
+  says_step : Said
   says_plan : Said
   says_document : Said
   says_nothing : Said
@@ -28,6 +30,7 @@ said_by (Get id) = says_get id
 said_by (Delete id) = says_delete id
 said_by (Sweep extent) = says_sweep extent
 said_by Sync = says_sync
+said_by Step = says_step
 said_by Plan = says_plan
 said_by Document = says_document
 said_by Nothing = says_nothing
@@ -98,7 +101,7 @@ said_alone said (word ∷ rest) = unreadable
 
 -- what a first word says that stands alone
 abbrev pub said_by_word : List ℕ → Said
-said_by_word word = if bytes_eq word (codes "sync") then says_sync else if bytes_eq word (codes "plan") then says_plan else if bytes_eq word (codes "document") then says_document else unreadable
+said_by_word word = if bytes_eq word (codes "sync") then says_sync else if bytes_eq word (codes "step") then says_step else if bytes_eq word (codes "plan") then says_plan else if bytes_eq word (codes "document") then says_document else unreadable
 
 abbrev pub said_words : List (List ℕ) → Said
 said_words [] = unreadable

@@ -1,5 +1,5 @@
 -- The lines that a script prints.
-use Rattle.std.specs.Prelude.{◌≡◌, ℕ, ◌+◌, List, [], ◌∷◌, ◌++◌, codes, decimal, length, if◌then◌else◌, ◌==◌}
+use Rattle.std.specs.Prelude.{ℕ, ◌+◌, List, [], ◌∷◌, ◌++◌, codes, decimal, length, if◌then◌else◌, ◌==◌}
 use Rattle.std.specs.List.{flat_map}
 use Rattle.cs_deps.specs.declared.elements.Element.{Element}
 use Rattle.cs_deps.specs.declared.elements.Element.TheVariants.{Plain, Version}
@@ -36,10 +36,6 @@ bad_line = line_of (codes "bad line")
 abbrev pub refusal_line : Refusal → List ℕ
 refusal_line r = line_of (codes "refused " ++ decimal (number_of r) ++ codes " " ++ name_of r)
 
--- the line of some refusal
-abbrev pub IsRefusalLine : List ℕ → Type 0
-IsRefusalLine out = (r : Refusal) × (out ≡ refusal_line r)
-
 abbrev pub end_line : ℕ → List ℕ
 end_line n = line_of (codes "end acknowledged " ++ decimal n)
 
@@ -51,6 +47,18 @@ element_name (Version f v) = (if f == 0 then codes "s" else codes "r") ++ decima
 -- a space and a name for each element
 abbrev pub element_names : List Element → List ℕ
 element_names xs = flat_map (λ x. codes " " ++ element_name x) xs
+
+-- the members of a round that begins
+abbrev pub begin_line : List Element → List ℕ
+begin_line round = line_of (codes "begin:" ++ element_names round)
+
+-- a member of the round that was written to this page
+abbrev pub issue_line : Element → ℕ → List ℕ
+issue_line x page = line_of (codes "issue " ++ element_name x ++ codes " page " ++ decimal page)
+
+-- nothing waits
+abbrev pub idle_line : List ℕ
+idle_line = line_of (codes "idle")
 
 abbrev pub round_line : ℕ → List Element → List ℕ
 round_line i round = line_of (codes "round " ++ decimal i ++ codes ":" ++ element_names round)

@@ -1,65 +1,27 @@
--- What a script writes and what it leaves behind, line by line, for any store that answers its commands.
-use Rattle.std.specs.Prelude.{◌≡◌, ◌≢◌, ◌⊎◌, ℕ, List, [], ◌∷◌, ◌++◌, codes, length}
+-- What a script prints and what its core's history gains, line by line.
+use Rattle.std.specs.Prelude.{◌≡◌, ◌≢◌, ◌⊎◌, ℕ, List, [], ◌∷◌, ◌++◌, Option, Some, None, codes, length, map, if◌then◌else◌, nat_lt}
 use Rattle.std.specs.Io.BufRead.{first_piece, drop_through}
 use Rattle.cs_deps.specs.declared.elements.Element.{Element}
 use Rattle.cs_deps.specs.declared.refusals.Refusal.{Refusal}
+use Rattle.cs_deps.specs.declared.refusals.Refusal.TheVariants as refusal
 use Rattle.cs_deps.specs.Named.{Named}
 use Rattle.cs_deps.specs.Pending.{Pending}
 use Rattle.cs_deps.specs.Schedule.{Respects, Covers, IsFewest, IsSchedule}
 use Rattle.cs_deps.specs.Chain.{IsChainOf}
-use Rattle.cs_check.specs.Written.{IsTextOf}
-use Rattle.cs_cli.specs.Commands.{Command}
-use Rattle.cs_cli.specs.Lines.{Said, says_put, says_get, says_delete, says_sweep, says_sync, says_plan, says_document, says_nothing, unreadable, said_of}
-use Rattle.cs_cli.specs.Outputs.{line_of, put_line, value_line, absent_line, delete_line, swept_line, bad_line, refusal_line, IsRefusalLine, end_line, round_lines, chain_line, flushes_line, acknowledged_line, plan_lines}
-
--- the accepted commands, and how many they were at the last sync that wasn't refused
-pub record Reached : Type 0 where
-  pub accepted : List Command
-  pub synced : ℕ
-
--- The command is accepted: it is added, and its number is printed.
-pub record Accepts (id bytes : List ℕ) (old new : Reached) (out : List ℕ) : Type 0 where
-  pub accepted : new.accepted ≡ old.accepted ++ (id, bytes) ∷ []
-  pub synced : new.synced ≡ old.synced
-  pub printed : out ≡ put_line (length new.accepted)
-
--- The command is refused: nothing is added, and the refusal is printed.
-pub record Refuses (old new : Reached) (out : List ℕ) : Type 0 where
-  pub same : new ≡ old
-  pub printed : IsRefusalLine out
-
--- the line of some shard's bytes, of no shard, or of a refusal
-abbrev pub IsValueLine : List ℕ → Type 0
-IsValueLine out = ((bytes : List ℕ) × (out ≡ value_line bytes)) ⊎ (out ≡ absent_line) ⊎ IsRefusalLine out
-
--- A shard is looked up: nothing changes, and its bytes are printed, or that there is none, or a refusal.
-pub record Gets (old new : Reached) (out : List ℕ) : Type 0 where
-  pub same : new ≡ old
-  pub printed : IsValueLine out
-
--- The delete is accepted: it is added as a command without bytes, and its number is printed.
-pub record Deletes (id : List ℕ) (old new : Reached) (out : List ℕ) : Type 0 where
-  pub accepted : new.accepted ≡ old.accepted ++ (id, []) ∷ []
-  pub synced : new.synced ≡ old.synced
-  pub printed : out ≡ delete_line (length new.accepted)
-
--- The delete isn't accepted: nothing is added, and it is printed that there is no such shard, or a refusal.
-pub record Keeps (old new : Reached) (out : List ℕ) : Type 0 where
-  pub same : new ≡ old
-  pub printed : (out ≡ absent_line) ⊎ IsRefusalLine out
-
--- The extent is swept: nothing of the commands changes, and it is printed how many chunks were moved, and under which root.
-pub record Sweeps (extent : ℕ) (old new : Reached) (out : List ℕ) : Type 0 where
-  pub same : new ≡ old
-  pub printed : (moved root : ℕ) × (out ≡ swept_line extent moved root)
-
--- a round that was out may be ended first
-abbrev pub IsEnded : List ℕ → Type 0
-IsEnded out = (out ≡ []) ⊎ ((n : ℕ) × (out ≡ end_line n))
-
--- the lines of a sync up to its last round
-abbrev pub AreRoundLines : List (List Element) → List ℕ → Type 0
-AreRoundLines rounds out = (first : List ℕ) × IsEnded first × (out ≡ first ++ round_lines 1 rounds)
+use Rattle.cs_deps.specs.State.{everything}
+use Rattle.cs_disk.specs.Disk.{State as DiskState}
+use Rattle.cs_frame.specs.declared.identifiers.ShardId.{ShardId}
+use Rattle.cs_check.specs.Written.{HasDocument, IsTextOf}
+use Rattle.cs_core.specs.declared.events.Event.{Event}
+use Rattle.cs_core.specs.declared.events.Event.TheVariants.{Abandon, Begin, BeginSweep, Delete, End, Get, Issue, MoveOne, Put, Retire, Stage}
+use Rattle.cs_core.specs.declared.events.Reply.{Reply}
+use Rattle.cs_core.specs.declared.events.Reply.TheVariants.{Abandoned, Absent, Accepted, Begun, Ended, Found, Issued, Moved, NoneLive, Nothing, Retired, Staged, Sweeping, Unchanged}
+use Rattle.cs_core.specs.Stored.{Stored}
+use Rattle.cs_core.specs.Views.{View}
+use Rattle.cs_cli.specs.Histories.{IsStopped, Stays, Went}
+use Rattle.cs_cli.specs.Lines.{Said, says_put, says_get, says_delete, says_sweep, says_sync, says_step, says_plan, says_document, says_nothing, unreadable, said_of}
+use Rattle.cs_cli.specs.Outputs.{absent_line, acknowledged_line, bad_line, begin_line, chain_line, delete_line, end_line, flushes_line, idle_line, issue_line, line_of, plan_lines, put_line, refusal_line, round_lines, swept_line, value_line}
+use Rattle.cs_cli.specs.Rounds.{IsOfRound, IsPart, Members, Turn, events_of_all, issues, rest_of_round, rounds_of}
 
 -- The rounds make the target persistent, a crash leaves a closed set, and no fewer will do, which the chain shows.
 pub record IsBest (g : Pending) (target : Named) (rounds : List (List Element)) (chain : List Element) : Type 0 where
@@ -70,64 +32,176 @@ pub record IsBest (g : Pending) (target : Named) (rounds : List (List Element)) 
   pub links : IsChainOf g target chain
   pub count : length chain ≡ length rounds
 
--- The sync ends well: its rounds are a best plan of what waited, all accepted commands are acknowledged, and how many they are is
--- printed last.
-pub record Acknowledges (old new : Reached) (out : List ℕ) : Type 0 where
-  pub accepted : new.accepted ≡ old.accepted
-  pub synced : new.synced ≡ length old.accepted
-  pub printed : (g : Pending) × (target : Named) × (rounds : List (List Element)) × (chain : List Element) × (before : List ℕ) × IsBest g target rounds chain × AreRoundLines rounds before
-      × (out ≡ before ++ chain_line chain ++ flushes_line (length rounds) ++ acknowledged_line new.synced)
+-- these are a best plan of all that waits in this store
+abbrev pub IsPlanOf : Stored → List (List Element) → List Element → Type 0
+IsPlanOf s rounds chain = IsBest s.graph.staging.pending (everything s.graph.staging) rounds chain
 
--- The sync is refused after some rounds: no more is acknowledged than before.
-pub record Stops (old new : Reached) (out : List ℕ) : Type 0 where
-  pub same : new ≡ old
-  pub printed : (rounds : List (List Element)) × (before : List ℕ) × (r : Refusal) × AreRoundLines rounds before × (out ≡ before ++ refusal_line r)
+-- a Stage that isn't refused
+abbrev pub IsStaged : Reply → Type 0
+IsStaged reply = ((v : ℕ) × (reply ≡ Staged v)) ⊎ (reply ≡ Unchanged)
 
--- the lines of a best plan of what waits
-abbrev pub ArePlanLines : Pending → Named → List ℕ → Type 0
-ArePlanLines g target out = (rounds : List (List Element)) × (chain : List Element) × IsBest g target rounds chain × (out ≡ plan_lines rounds chain)
+-- a chunk of each of these identifiers is moved
+abbrev pub moves : ℕ → List (ShardId × ℕ) → List (Event × Reply)
+moves extent moved = map (λ m. (MoveOne extent, Moved m.0 m.1)) moved
 
--- the text of a document of a best plan, with the letters of superblock and root
-abbrev pub IsPlanText : Pending → Named → List ℕ → Type 0
-IsPlanText g target text = (rounds : List (List Element)) × (chain : List Element) × IsBest g target rounds chain × IsTextOf text (codes "sr") g target rounds chain
+-- the event of writeback that is due where this round is out, of which so many members are issued: the next of them goes out, or
+-- the round ends; where none is out one begins
+abbrev pub event_due : Option (List Element) → ℕ → Event
+event_due None issued = Begin
+event_due (Some round) issued = if nat_lt issued (length round) then Issue else End
 
--- A best plan is printed, and nothing of the commands changes.
-pub record Plans (old new : Reached) (out : List ℕ) : Type 0 where
-  pub same : new ≡ old
-  pub printed : (g : Pending) × (target : Named) × ArePlanLines g target out
+-- the event of a line `step`
+abbrev pub step_event : Stored → Event
+step_event s = event_due s.out s.issued
 
--- The document of a best plan is printed as one line, and nothing of the commands changes.
-pub record Documents (old new : Reached) (out : List ℕ) : Type 0 where
-  pub same : new ≡ old
-  pub printed : (g : Pending) × (target : Named) × (text : List ℕ) × IsPlanText g target text × (out ≡ line_of text)
+-- what a line `step` prints
+abbrev pub step_line : Reply → List ℕ → Type 0
+step_line (Issued x page) out = out ≡ issue_line x page
+step_line (Ended frontier) out = out ≡ end_line frontier
+step_line (Begun round) out = out ≡ begin_line round
+step_line Nothing out = out ≡ idle_line
+step_line reply out = ⊥
 
--- what a line changes and prints
-abbrev pub Answers : Said → Reached → Reached → List ℕ → Type 0
-Answers (says_put id bytes) old new out = Accepts id bytes old new out ⊎ Refuses old new out
-Answers (says_get id) old new out = Gets old new out
-Answers (says_delete id) old new out = Deletes id old new out ⊎ Keeps old new out
-Answers (says_sweep extent) old new out = Sweeps extent old new out ⊎ Refuses old new out
-Answers says_sync old new out = Acknowledges old new out ⊎ Stops old new out
-Answers says_plan old new out = Plans old new out ⊎ Refuses old new out
-Answers says_document old new out = Documents old new out ⊎ Refuses old new out
-Answers says_nothing old new out = (new ≡ old) × (out ≡ [])
-Answers unreadable old new out = (new ≡ old) × (out ≡ bad_line)
+-- the line of a refusal of which this holds
+abbrev pub IsRefusalOf : (Refusal → Type 0) → List ℕ → Type 0
+IsRefusalOf P out = (r : Refusal) × P r × (out ≡ refusal_line r)
+
+-- the letters of superblock and root
+abbrev pub document_letters : List ℕ
+document_letters = codes "sr"
+
+-- the document of a best plan of all that waits is printed as one line, where no round is out
+abbrev pub Documents : Stored → List ℕ → Type 0
+Documents s out = (s.out ≡ None) × (rounds : List (List Element)) × (chain : List Element) × (text : List ℕ) × IsPlanOf s rounds chain
+    × IsTextOf text document_letters s.graph.staging.pending (everything s.graph.staging) rounds chain × (out ≡ line_of text)
+
+-- a round is out; or there is no memory; or a best plan can't be written
+abbrev pub IsDocumentRefused : Stored → Refusal → Type 0
+IsDocumentRefused s r = ((s.out ≢ None) × (r ≡ refusal.InFlight)) ⊎ (r ≡ refusal.OutOfMemory)
+    ⊎ ((r ≡ refusal.BadDocument) × (rounds : List (List Element)) × (chain : List Element) × IsPlanOf s rounds chain
+    × (¬ HasDocument document_letters s.graph.staging.pending (everything s.graph.staging) rounds chain))
+
+module _ {D : Type 0} (honest : D → Type 0) (state : D → DiskState) where
+  -- the event is refused, and that is printed
+  abbrev pub Declines : View D → Event → View D → List ℕ → Type 0
+  Declines old event new out = IsRefusalOf (λ r. IsStopped honest state old [] event r new) out
+
+  -- the event is recorded with this reply, and this line is printed
+  abbrev pub Answered : View D → Event → Reply → View D → (printed out : List ℕ) → Type 0
+  Answered old event reply new printed out = Went honest state old ((event, reply) ∷ []) new × (out ≡ printed)
+
+  -- a round that was out is ended first: what is left of it is issued, and it is printed how many commands are persistent then
+  abbrev pub Finishes : View D → View D → List ℕ → Type 0
+  Finishes old ended out = ((old.store.out ≡ None) × Stays honest state old ended × (out ≡ []))
+      ⊎ ((old.store.out ≢ None) × (members : Members) × (frontier : ℕ) × Went honest state old (rest_of_round members frontier) ended × (out ≡ end_line frontier))
+
+  -- A sync that ends well. A round that was out is ended, then the index's changes are staged, and then round after round is
+  -- written. The rounds that are printed are those that were begun and ended, they are a best plan of what waited after the
+  -- Stage, with the chain that is printed; nothing is left to stage or to write, and as many commands as are printed are persistent.
+  pub record Syncs (old new : View D) (out : List ℕ) : Type 0 where
+    pub ended : View D
+    pub first : List ℕ
+    pub finishes : Finishes old ended first
+    pub staged : View D
+    pub reply : Reply
+    pub stages : Went honest state ended ((Stage, reply) ∷ []) staged
+    pub is_staged : IsStaged reply
+    pub turns : List Turn
+    pub chain : List Element
+    pub turned : Went honest state staged (events_of_all turns) new
+    pub best : IsPlanOf staged.store (rounds_of turns) chain
+    pub none_out : new.store.out ≡ None
+    pub none_waiting : new.store.graph.staging.pending.waiting ≡ []
+    pub none_changed : new.store.index.table ≡ []
+    pub printed : out ≡ first ++ round_lines 1 (rounds_of turns) ++ chain_line chain ++ flushes_line (length turns) ++ acknowledged_line new.store.frontier
+
+  -- an event of the round that was out is refused before that ended
+  abbrev pub StopsFirst : View D → View D → Refusal → Type 0
+  StopsFirst old new r = (old.store.out ≢ None) × (members : Members) × (event : Event) × IsOfRound event × IsStopped honest state old (issues members) event r new
+
+  -- an event of a later round is refused, after a Stage and these turns, or there is no memory to plan them
+  abbrev pub StopsInTurn : View D → List Turn → View D → Refusal → Type 0
+  StopsInTurn ended turns new r = (reply : Reply) × IsStaged reply × (part : List (Event × Reply)) × (event : Event) × IsPart part event
+      × IsStopped honest state ended ((Stage, reply) ∷ events_of_all turns ++ part) event r new
+
+  -- A sync in which the Stage or a later event is refused, after some rounds, which are printed as they end.
+  pub record StopsLater (old new : View D) (refusal : Refusal) (before : List ℕ) : Type 0 where
+    pub ended : View D
+    pub first : List ℕ
+    pub finishes : Finishes old ended first
+    pub turns : List Turn
+    pub stopped : ((turns ≡ []) × IsStopped honest state ended [] Stage refusal new) ⊎ StopsInTurn ended turns new refusal
+    pub printed : before ≡ first ++ round_lines 1 (rounds_of turns)
+
+  -- a sync in which an event is refused, after these lines
+  abbrev pub StopsSync : View D → View D → Refusal → List ℕ → Type 0
+  StopsSync old new r before = (StopsFirst old new r × (before ≡ [])) ⊎ StopsLater old new r before
+
+  -- the index's changes are staged where no round is out
+  abbrev pub Stages : View D → View D → Type 0
+  Stages old new = (old.store.out ≡ None) × (reply : Reply) × IsStaged reply × Went honest state old ((Stage, reply) ∷ []) new
+
+  -- the plan of all that waits after a Stage is printed
+  abbrev pub Plans : View D → View D → List ℕ → Type 0
+  Plans old new out = Stages old new × (rounds : List (List Element)) × (chain : List Element) × IsPlanOf new.store rounds chain × (out ≡ plan_lines rounds chain)
+
+  -- a round is out, and nothing changes; or the Stage is refused; or there is no memory for the plan
+  abbrev pub IsPlanRefused : View D → View D → Refusal → Type 0
+  IsPlanRefused old new r = ((old.store.out ≢ None) × (new ≡ old) × (r ≡ refusal.InFlight)) ⊎ IsStopped honest state old [] Stage r new ⊎ (Stages old new × (r ≡ refusal.OutOfMemory))
+
+  -- The extent is swept: so many chunks are moved off it, and it is retired under this root.
+  pub record Sweeps (extent : ℕ) (old new : View D) (out : List ℕ) : Type 0 where
+    pub moved : List (ShardId × ℕ)
+    pub root : ℕ
+    pub went : Went honest state old ((BeginSweep extent, Sweeping) ∷ moves extent moved ++ (MoveOne extent, NoneLive) ∷ (Retire extent, Retired root) ∷ []) new
+    pub printed : out ≡ swept_line extent (length moved) root
+
+  -- a sweep in which a move is refused, or the Retire once nothing live is left
+  abbrev pub StopsSweep : ℕ → View D → View D → Refusal → Type 0
+  StopsSweep extent begun mid r = (moved : List (ShardId × ℕ))
+      × (IsStopped honest state begun (moves extent moved) (MoveOne extent) r mid
+      ⊎ IsStopped honest state begun (moves extent moved ++ (MoveOne extent, NoneLive) ∷ []) (Retire extent) r mid)
+
+  -- the extent isn't being swept any more, or the Abandon is refused too
+  abbrev pub Abandons : ℕ → View D → View D → Type 0
+  Abandons extent mid new = Went honest state mid ((Abandon extent, Abandoned) ∷ []) new ⊎ ((why : Refusal) × IsStopped honest state mid [] (Abandon extent) why new)
+
+  -- the sweep can't begin, or it stops later and is abandoned
+  abbrev pub IsSweepRefused : ℕ → View D → View D → Refusal → Type 0
+  IsSweepRefused extent old new r = IsStopped honest state old [] (BeginSweep extent) r new
+      ⊎ ((begun : View D) × (mid : View D) × Went honest state old ((BeginSweep extent, Sweeping) ∷ []) begun × StopsSweep extent begun mid r × Abandons extent mid new)
+
+  -- the event of writeback that is due, with its reply
+  abbrev pub Steps : View D → View D → List ℕ → Type 0
+  Steps old new out = (reply : Reply) × Went honest state old ((step_event old.store, reply) ∷ []) new × step_line reply out
+
+  -- what a line does to the core, and what it prints
+  abbrev pub Answers : Said → View D → View D → List ℕ → Type 0
+  Answers (says_put id bytes) old new out = ((n : ℕ) × Answered old (Put (record { 0 = id }) bytes) (Accepted n) new (put_line n) out)
+      ⊎ Declines old (Put (record { 0 = id }) bytes) new out
+  Answers (says_get id) old new out = ((bytes : List ℕ) × Answered old (Get (record { 0 = id })) (Found bytes) new (value_line bytes) out)
+      ⊎ Answered old (Get (record { 0 = id })) Absent new absent_line out
+      ⊎ Declines old (Get (record { 0 = id })) new out
+  Answers (says_delete id) old new out = ((n : ℕ) × Answered old (Delete (record { 0 = id })) (Accepted n) new (delete_line n) out)
+      ⊎ Answered old (Delete (record { 0 = id })) Absent new absent_line out
+      ⊎ Declines old (Delete (record { 0 = id })) new out
+  Answers (says_sweep extent) old new out = Sweeps extent old new out ⊎ IsRefusalOf (IsSweepRefused extent old new) out
+  Answers says_sync old new out = Syncs old new out ⊎ ((r : Refusal) × (before : List ℕ) × StopsSync old new r before × (out ≡ before ++ refusal_line r))
+  Answers says_step old new out = Steps old new out ⊎ Declines old (step_event old.store) new out
+  Answers says_plan old new out = Plans old new out ⊎ IsRefusalOf (IsPlanRefused old new) out
+  Answers says_document old new out = (new ≡ old) × (Documents old.store out ⊎ IsRefusalOf (IsDocumentRefused old.store) out)
+  Answers says_nothing old new out = (new ≡ old) × (out ≡ [])
+  Answers unreadable old new out = (new ≡ old) × (out ≡ bad_line)
 
 -- the exit status after a line: 1 from the first line on that isn't readable
 abbrev pub status_after : Said → ℕ → ℕ
-status_after (says_put id bytes) status = status
-status_after (says_get id) status = status
-status_after (says_delete id) status = status
-status_after (says_sweep extent) status = status
-status_after says_sync status = status
-status_after says_plan status = status
-status_after says_document status = status
-status_after says_nothing status = status
 status_after unreadable status = 1
+status_after said status = status
 
 -- A script runs: nothing is left of it, or its first line is answered and the rest runs. Each line ends with a line feed, the last one may end with the text.
-pub data Runs : List ℕ → Reached → ℕ → Reached → ℕ → List ℕ → Type 0 where
-  ended : (reached : Reached) (status : ℕ) → Runs [] reached status reached status []
-  then_runs : (text : List ℕ) (old mid new : Reached) (status last : ℕ) (out rest : List ℕ)
-      → text ≢ [] → Answers (said_of (first_piece 10 text)) old mid out → Runs (drop_through 10 text) mid (status_after (said_of (first_piece 10 text)) status) new last rest
-      → Runs text old status new last (out ++ rest)
+pub data Runs {D : Type 0} (honest : D → Type 0) (state : D → DiskState) : List ℕ → View D → ℕ → View D → ℕ → List ℕ → Type 0 where
+  ended : (v : View D) (status : ℕ) → Runs honest state [] v status v status []
+  then_runs : (text : List ℕ) (old mid new : View D) (status last : ℕ) (out rest : List ℕ)
+      → text ≢ [] → Answers honest state (said_of (first_piece 10 text)) old mid out
+      → Runs honest state (drop_through 10 text) mid (status_after (said_of (first_piece 10 text)) status) new last rest
+      → Runs honest state text old status new last (out ++ rest)

@@ -1,18 +1,30 @@
--- What was printed before a sync ended early.
-use Rattle.std.specs.Prelude.{◌≡◌, ℕ, List, Option}
+-- What a sync that ended early has done and printed. Where the writer failed nothing is said of it.
+use Rattle.std.specs.Prelude.{ℕ, List, [], ◌++◌, Option}
 use Rattle.std.specs.Io.KnownBytes.{Appends}
-use Rattle.cs_deps.specs.declared.elements.Element.{Element}
+use Rattle.cs_disk.specs.Disk.{State as DiskState}
+use Rattle.cs_core.specs.declared.events.Event.{Event}
+use Rattle.cs_core.specs.declared.events.Reply.{Reply}
+use Rattle.cs_core.specs.Views.{View}
 use Rattle.cs_cli.specs.declared.syncs.Stop.{Stop}
 use Rattle.cs_cli.specs.declared.syncs.Stop.TheVariants.{Refused, Output}
+use Rattle.cs_cli.specs.Histories.{IsStopped}
 use Rattle.cs_cli.specs.Outputs.{round_lines}
-use Rattle.cs_cli.specs.Scripts.{Reached, AreRoundLines}
+use Rattle.cs_cli.specs.Rounds.{IsPart, Turn, events_of_all, rounds_of}
+use Rattle.cs_cli.specs.Scripts.{StopsFirst, StopsSync}
 
--- where an event was refused, the lines of the rounds that ended
-abbrev pub AfterRounds : Option (List ℕ) → Option (List ℕ) → Stop → Type 0
-AfterRounds before after (Refused r) = (rounds : List (List Element)) × Appends before after (round_lines 1 rounds)
-AfterRounds before after (Output e) = Unit {0}
+module _ {D : Type 0} (honest : D → Type 0) (state : D → DiskState) where
+  -- while the round that was out was ended: nothing is printed
+  abbrev pub StopsAtFirst : (old new : View D) → (before after : Option (List ℕ)) → Stop → Type 0
+  StopsAtFirst old new before after (Refused r) = StopsFirst honest state old new r × Appends before after []
+  StopsAtFirst old new before after (Output e) = Unit {0}
 
--- where an event was refused, all that is printed before the refusal, and no more is acknowledged
-abbrev pub AfterSync : Reached → Reached → Option (List ℕ) → Option (List ℕ) → Stop → Type 0
-AfterSync old new before after (Refused r) = (new ≡ old) × ((rounds : List (List Element)) × (out : List ℕ) × AreRoundLines rounds out × Appends before after out)
-AfterSync old new before after (Output e) = Unit {0}
+  -- after so many rounds, which are printed
+  abbrev pub StopsInRounds : (old new : View D) → (before after : Option (List ℕ)) → Stop → Type 0
+  StopsInRounds old new before after (Refused r) = (turns : List Turn) × (part : List (Event × Reply)) × (event : Event) × IsPart part event
+      × IsStopped honest state old (events_of_all turns ++ part) event r new × Appends before after (round_lines 1 (rounds_of turns))
+  StopsInRounds old new before after (Output e) = Unit {0}
+
+  -- somewhere, after these lines
+  abbrev pub StopsAfter : (old new : View D) → (before after : Option (List ℕ)) → Stop → Type 0
+  StopsAfter old new before after (Refused r) = (out : List ℕ) × StopsSync honest state old new r out × Appends before after out
+  StopsAfter old new before after (Output e) = Unit {0}

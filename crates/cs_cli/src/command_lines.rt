@@ -1,17 +1,24 @@
 //! The command line.
-ghost use Rattle.std.specs.Prelude.{◌≤◌};
+ghost use Rattle.std.specs.Prelude.{◌≤◌, OnOk};
+ghost use Rattle.std.specs.Io.KnownBytes.{Appends};
+ghost use Rattle.cs_cli.specs.Outputs.{refusal_line};
 
 use crate::checks::run_check;
-use crate::scripts::{print_no_store, run_script};
+use crate::outputs::print_refusal;
+use crate::scripts::run_script;
 use crate::statuses;
 use clap::{Arg, ArgAction, ArgMatches, Command};
+use cs_core::{Core, Limits};
 use cs_deps::Refusal;
 use cs_disk::MemoryDisk;
 use cs_frame::Geometry;
 use std::alloc::{AllocError, Global};
-use std::io::BufWriter;
+use std::io::{BufWriter, Write};
 use std::rt::Env;
 use std::{env, io};
+
+/// How many events a script's core may record.
+const HISTORY: usize = 65_536;
 
 /// Does what the command line asks for, and gives the exit status.
 pub fn run<R: Env + AllocGlobal + Input + Print + Eprint>(rt: &R) -> u8
@@ -92,7 +99,7 @@ fn geometry_of(options: &ArgMatches) -> Result<Geometry, Refusal> {
     }
 }
 
-/// Runs the script on standard input over a new disk in memory.
+/// Runs the script on standard input over a new store on a disk in memory.
 fn run_standard_input<R: AllocGlobal + Input + Print>(rt: &R, options: &ArgMatches) -> u8
 where
     R::Reader: Drop,
@@ -102,14 +109,41 @@ where
     let Ok(mut writer) = BufWriter::new(alloc, io::writer(rt)) else {
         return print_no_store(&mut io::writer(rt), Refusal::OutOfMemory);
     };
-    let geometry = match geometry_of(options) {
-        Ok(geometry) => geometry,
-        Err(refusal) => return print_no_store(&mut writer, refusal),
-    };
-    match MemoryDisk::new(alloc, geometry.device_pages()) {
-        Ok(disk) => run_script(alloc, disk, geometry, rt.reader(), &mut writer).status,
-        Err(_) => print_no_store(&mut writer, Refusal::OutOfMemory),
+    match new_core(alloc, options) {
+        Ok(core) => run_script(alloc, core, rt.reader(), &mut writer).status,
+        Err(refusal) => print_no_store(&mut writer, refusal),
     }
+}
+
+/// A new store in memory, of the geometry that the options ask for. Refused 7 BadGeometry, and 9 OutOfMemory.
+fn new_core(alloc: Global, options: &ArgMatches) -> Result<Core<MemoryDisk>, Refusal> {
+    let geometry = geometry_of(options)?;
+    let Ok(disk) = MemoryDisk::new(alloc, geometry.device_pages()) else {
+        return Err(Refusal::OutOfMemory);
+    };
+    let limits = Limits { history: HISTORY };
+    match Core::format(alloc, disk, geometry, limits) {
+        Ok(core) => Ok(core),
+        Err((refusal, _)) => Err(refusal),
+    }
+}
+
+/// Prints why there is no store, and gives the exit status.
+fn print_no_store<W: Write>(writer: &mut W, refusal: Refusal) -> u8
+    ensures { (3 ≤ result) × (result ≤ 4) }
+{
+    match print_last(writer, refusal) {
+        Ok(()) => statuses::NO_STORE,
+        Err(_) => statuses::STREAM,
+    }
+}
+
+/// Prints a refusal as the last line. Where that doesn't reach the output, it ends with the writer's error.
+fn print_last<W: Write>(writer: &mut W, refusal: Refusal) -> io::Result<()>
+    ensures { OnOk result (Appends (W.contents writer.old) (W.contents writer.new) (refusal_line refusal)) }
+{
+    print_refusal(writer, refusal)?;
+    writer.flush()
 }
 
 /// Checks the plan document on standard input.

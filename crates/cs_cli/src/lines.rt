@@ -27,6 +27,8 @@ pub enum Line {
     Sweep { extent: usize },
     /// Makes all that was put and deleted persistent.
     Sync,
+    /// Makes one event of writeback.
+    Step,
     /// Prints how all that was put would be made persistent.
     Plan,
     /// Prints the plan document of all that waits.
@@ -101,6 +103,8 @@ fn read_word(word: &[u8]) -> Line
 {
     if word == b"sync".as_slice() {
         Line::Sync
+    } else if word == b"step".as_slice() {
+        Line::Step
     } else if word == b"plan".as_slice() {
         Line::Plan
     } else if word == b"document".as_slice() {

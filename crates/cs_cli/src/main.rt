@@ -1,25 +1,23 @@
-//! The program: runs scripts, whose lines are `put`, `get`, `del`, `sweep`, `sync`, `plan` and `document`, and checks plan documents.
+//! The program: runs scripts, whose lines are `put`, `get`, `del`, `sweep`, `sync`, `step`, `plan` and `document`,
+//! and checks plan documents.
 #![tactic(auto)]
 
-mod accepts;
+mod asks;
 mod bounded_readers;
 mod checks;
 mod command_lines;
 mod documents;
-mod formats;
-mod frontiers;
 mod lines;
-mod members;
 mod outputs;
 mod plans;
-mod roots;
 mod scripts;
 mod statuses;
-mod stores;
+mod steps;
 mod sweeps;
 mod syncs;
 #[cfg(test)]
 mod tests;
+mod turns;
 
 use std::process::ExitCode;
 

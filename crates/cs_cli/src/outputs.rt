@@ -2,7 +2,7 @@
 ghost use Rattle.std.specs.Prelude.{OnOk, ◌≤◌, length};
 ghost use Rattle.std.specs.Io.KnownBytes.{Appends};
 ghost use Rattle.hex.specs.Hex.{encode_lower};
-ghost use Rattle.cs_cli.specs.Outputs.{put_line, value_line, absent_line, delete_line, swept_line, bad_line, refusal_line, end_line, element_name, element_names, round_line, chain_line, flushes_line, acknowledged_line, optimal_line};
+ghost use Rattle.cs_cli.specs.Outputs.{absent_line, acknowledged_line, bad_line, begin_line, chain_line, delete_line, element_name, element_names, end_line, flushes_line, idle_line, issue_line, optimal_line, put_line, refusal_line, round_line, swept_line, value_line};
 
 use crate::sweeps::Swept;
 use cs_deps::{Element, Refusal};
@@ -10,7 +10,7 @@ use std::io;
 use std::io::Write;
 
 /// `put n`.
-pub fn print_put<W: Write>(writer: &mut W, number: usize) -> io::Result<()>
+pub fn print_put<W: Write>(writer: &mut W, number: u64) -> io::Result<()>
     ensures { OnOk result (Appends (W.contents writer.old) (W.contents writer.new) (put_line number)) }
 {
     writeln!(writer, "put {number}")
@@ -36,7 +36,7 @@ pub fn print_absent<W: Write>(writer: &mut W) -> io::Result<()>
 }
 
 /// `del n`.
-pub fn print_delete<W: Write>(writer: &mut W, number: usize) -> io::Result<()>
+pub fn print_delete<W: Write>(writer: &mut W, number: u64) -> io::Result<()>
     ensures { OnOk result (Appends (W.contents writer.old) (W.contents writer.new) (delete_line number)) }
 {
     writeln!(writer, "del {number}")
@@ -67,10 +67,35 @@ pub fn print_refusal<W: Write>(writer: &mut W, refusal: Refusal) -> io::Result<(
 }
 
 /// `end acknowledged n`.
-pub fn print_end<W: Write>(writer: &mut W, number: usize) -> io::Result<()>
+pub fn print_end<W: Write>(writer: &mut W, number: u64) -> io::Result<()>
     ensures { OnOk result (Appends (W.contents writer.old) (W.contents writer.new) (end_line number)) }
 {
     writeln!(writer, "end acknowledged {number}")
+}
+
+/// `begin:` and the elements of the round that begins.
+pub fn print_begin<W: Write>(writer: &mut W, round: &[Element]) -> io::Result<()>
+    ensures { OnOk result (Appends (W.contents writer.old) (W.contents writer.new) (begin_line round.now)) }
+{
+    write!(writer, "begin:")?;
+    print_elements(writer, round)?;
+    writeln!(writer)
+}
+
+/// `issue`, the element and the page that it was written to.
+pub fn print_issue<W: Write>(writer: &mut W, element: Element, page: u64) -> io::Result<()>
+    ensures { OnOk result (Appends (W.contents writer.old) (W.contents writer.new) (issue_line element page)) }
+{
+    write!(writer, "issue ")?;
+    print_element(writer, element)?;
+    writeln!(writer, " page {page}")
+}
+
+/// `idle`.
+pub fn print_idle<W: Write>(writer: &mut W) -> io::Result<()>
+    ensures { OnOk result (Appends (W.contents writer.old) (W.contents writer.new) idle_line) }
+{
+    writeln!(writer, "idle")
 }
 
 /// `round i:` and its elements.
@@ -102,7 +127,7 @@ pub fn print_flushes<W: Write>(writer: &mut W, number: usize) -> io::Result<()>
 }
 
 /// `acknowledged n`.
-pub fn print_acknowledged<W: Write>(writer: &mut W, number: usize) -> io::Result<()>
+pub fn print_acknowledged<W: Write>(writer: &mut W, number: u64) -> io::Result<()>
     ensures { OnOk result (Appends (W.contents writer.old) (W.contents writer.new) (acknowledged_line number)) }
 {
     writeln!(writer, "acknowledged {number}")

@@ -1,48 +1,57 @@
 //! The line `plan`. Where the writer fails, it ends with that error.
-ghost use Rattle.std.specs.Prelude.{◌≡◌, ◌↔◌, ◌⊎◌, ℕ, List, Err, IfOk, OnOk, IsSome, length, map};
+ghost use Rattle.std.specs.Prelude.{◌≡◌, ℕ, List, None, IfErr, IfOk, OnOk, map};
 ghost use Rattle.std.specs.Io.KnownBytes.{Appends};
-ghost use Rattle.cs_deps.specs.State.{everything};
+ghost use Rattle.cs_deps.specs.Staging.{IsKept};
 ghost use Rattle.cs_deps.specs.View.{rounds_of};
 ghost use Rattle.cs_cli.specs.Lines.{says_plan};
-ghost use Rattle.cs_cli.specs.Outputs.{refusal_line, IsRefusalLine, round_lines, plan_lines};
-ghost use Rattle.cs_cli.specs.Scripts.{Answers, IsBest};
-ghost use Rattle.cs_cli.specs.Stored.{ArePlanned, reached_of};
+ghost use Rattle.cs_cli.specs.Outputs.{plan_lines, round_lines};
+ghost use Rattle.cs_cli.specs.Scripts.{Answers, IsPlanOf, IsPlanRefused, Stages};
 
+use crate::asks::ask;
 use crate::outputs::{print_chain, print_flushes, print_refusal, print_round};
-use crate::stores::ScriptStore;
+use cs_core::{Core, Event};
 use cs_deps::{Element, Plan, Refusal};
+use cs_disk::PageDisk;
 use std::io;
 use std::io::Write;
 
 /// Prints how all that was put would be made persistent: the rounds, the chain and the number of flushes. As a `sync` does,
-/// it stages the index changes first; nothing is written back, and nothing is acknowledged.
-pub fn plan<W: Write>(store: &mut ScriptStore, writer: &mut W) -> io::Result<()>
-    ensures answers { OnOk result ((out : List ℕ) × Answers says_plan (reached_of store.old) (reached_of store.new) out × Appends (W.contents writer.old) (W.contents writer.new) out) }
-    ensures planned { OnOk result ((out : List ℕ) × (ArePlanned store.new out ⊎ IsRefusalLine out) × Appends (W.contents writer.old) (W.contents writer.new) out) }
-    ensures in_flight { IsSome store.old.out → OnOk result (Appends (W.contents writer.old) (W.contents writer.new) (refusal_line Refusal.InFlight)) }
-    ensures device { (store.new.disk ≡ store.old.disk) × (store.new.out ≡ store.old.out) }
+/// it stages the index's changes first; nothing is written back, and nothing is acknowledged.
+pub fn plan<D: PageDisk, W: Write>(core: &mut Core<D>, writer: &mut W) -> io::Result<()>
+    ensures { OnOk result ((out : List ℕ) × Answers D.honest D.state says_plan core.old core.new out × Appends (W.contents writer.old) (W.contents writer.new) out) }
 {
-    match stage_and_plan(store) {
+    match stage_and_plan(core) {
         Ok(plan) => print_plan(writer, &plan),
         Err(refusal) => print_refusal(writer, refusal),
     }
 }
 
-/// Stages the index changes, and plans all that waits.
+/// Stages the index's changes, and plans all that waits.
 ///
-/// Refused 5 InFlight where a round is out, 30 Full where no extent has room, and 9 OutOfMemory. Where the plan itself finds
-/// no memory, the index changes stay staged.
-fn stage_and_plan(store: &mut ScriptStore) -> Result<Plan, Refusal>
-    ensures best { IfOk result (λ plan. IsBest store.new.graph.staging.pending (everything store.new.graph.staging) (rounds_of plan) plan.chain.items) }
-    ensures in_flight { (result ≡ Err Refusal.InFlight) ↔ IsSome store.old.out }
-    ensures same { reached_of store.new ≡ reached_of store.old }
-    ensures device { (store.new.disk ≡ store.old.disk) × (store.new.out ≡ store.old.out) }
+/// Refused 5 InFlight where a round is out, with nothing staged; then as Stage is. Where the plan itself finds no memory, 9
+/// OutOfMemory, the changes stay staged.
+fn stage_and_plan<D: PageDisk>(core: &mut Core<D>) -> Result<Plan, Refusal>
+    ensures staged { OnOk result (Stages D.honest D.state core.old core.new) }
+    ensures best { IfOk result (λ plan. IsPlanOf core.new.store (rounds_of plan) plan.chain.items) }
+    ensures refused { IfErr result (λ refusal. IsPlanRefused D.honest D.state core.old core.new refusal) }
 {
-    if store.is_out() {
+    if core.round().is_some() {
         return Err(Refusal::InFlight);
     }
-    store.stage()?;
-    store.plan()
+    match ask(core, &Event::Stage) {
+        Ok(_) => plan_all(core),
+        Err(refusal) => Err(refusal),
+    }
+}
+
+/// Plans all that waits, where no round is out. Refused 9 OutOfMemory alone.
+pub fn plan_all<D: PageDisk>(core: &Core<D>) -> Result<Plan, Refusal>
+    requires { core.now.store.out ≡ None }
+    ensures best { IfOk result (λ plan. IsPlanOf core.now.store (rounds_of plan) plan.chain.items) }
+    ensures refused { IfErr result (λ refusal. refusal ≡ Refusal.OutOfMemory) }
+    ensures kept { IsKept core.now.store.graph.staging }
+{
+    core.plan()
 }
 
 /// The lines of a plan.

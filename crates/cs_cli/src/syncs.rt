@@ -1,20 +1,23 @@
 //! The line `sync`. Where the writer fails, it ends with that error.
-ghost use Rattle.std.specs.Prelude.{◌≡◌, ℕ, ◌≤◌, [], OnOk, IfOk, IfErr, None, length, List};
+ghost use Rattle.std.specs.Prelude.{◌≡◌, ℕ, [], None, List, IfErr, IfOk, OnOk, length};
 ghost use Rattle.std.specs.Io.KnownBytes.{Appends};
-ghost use Rattle.cs_deps.specs.declared.elements.Element.{Element as Item};
-ghost use Rattle.cs_deps.specs.Turns.{LeadTo};
-ghost use Rattle.cs_cli.specs.Outputs.{round_lines};
-ghost use Rattle.cs_cli.specs.Scripts.{Answers, Acknowledges};
+ghost use Rattle.cs_cli.specs.Histories.{Went};
 ghost use Rattle.cs_cli.specs.Lines.{says_sync};
-ghost use Rattle.cs_cli.specs.Stored.{reached_of, EndsAt};
-ghost use Rattle.cs_cli.specs.Stops.{AfterRounds, AfterSync};
+ghost use Rattle.cs_cli.specs.Outputs.{round_lines};
+ghost use Rattle.cs_cli.specs.Rounds.{Turn, events_of_all, rounds_of};
+ghost use Rattle.cs_cli.specs.Scripts.{Answers, Finishes, Syncs};
+ghost use Rattle.cs_cli.specs.Stops.{StopsAfter, StopsAtFirst, StopsInRounds};
 ghost use Rattle.cs_cli.specs.declared.syncs.Stop.TheVariants.{Refused as StopRefused, Output as StopOutput};
 
+use crate::asks::ask;
 use crate::outputs::{
     print_acknowledged, print_chain, print_end, print_flushes, print_refusal, print_round,
 };
-use crate::stores::ScriptStore;
+use crate::plans::plan_all;
+use crate::turns::{finish_round, run_round};
+use cs_core::{Core, Event};
 use cs_deps::Refusal;
+use cs_disk::PageDisk;
 use std::io;
 use std::io::Write;
 
@@ -44,10 +47,10 @@ impl From<io::Error> for Stop {
 }
 
 /// Makes all accepted commands persistent, and prints each round as it ends.
-pub fn sync<W: Write>(store: &mut ScriptStore, writer: &mut W) -> io::Result<()>
-    ensures { OnOk result ((out : List ℕ) × Answers says_sync (reached_of store.old) (reached_of store.new) out × Appends (W.contents writer.old) (W.contents writer.new) out) }
+pub fn sync<D: PageDisk, W: Write>(core: &mut Core<D>, writer: &mut W) -> io::Result<()>
+    ensures { OnOk result ((out : List ℕ) × Answers D.honest D.state says_sync core.old core.new out × Appends (W.contents writer.old) (W.contents writer.new) out) }
 {
-    match write_back(store, writer) {
+    match write_back(core, writer) {
         Ok(()) => Ok(()),
         Err(Stop::Refused(refusal)) => print_refusal(writer, refusal),
         Err(Stop::Output(error)) => Err(error),
@@ -55,53 +58,46 @@ pub fn sync<W: Write>(store: &mut ScriptStore, writer: &mut W) -> io::Result<()>
 }
 
 /// The events of a `sync`.
-fn write_back<W: Write>(store: &mut ScriptStore, writer: &mut W) -> Result<(), Stop>
-    ensures ok { OnOk result ((out : List ℕ) × Acknowledges (reached_of store.old) (reached_of store.new) out × Appends (W.contents writer.old) (W.contents writer.new) out) }
-    ensures err { IfErr result (AfterSync (reached_of store.old) (reached_of store.new) (W.contents writer.old) (W.contents writer.new)) }
+fn write_back<D: PageDisk, W: Write>(core: &mut Core<D>, writer: &mut W) -> Result<(), Stop>
+    ensures done { OnOk result ((out : List ℕ) × Syncs D.honest D.state core.old core.new out × Appends (W.contents writer.old) (W.contents writer.new) out) }
+    ensures stopped { IfErr result (StopsAfter D.honest D.state core.old core.new (W.contents writer.old) (W.contents writer.new)) }
 {
-    end_round(store, writer)?;
-    store.stage()?;
-    let plan = store.plan()?;
-    let most = store.waiting_count()?;
-    let flushes = run_rounds(store, writer, most)?;
+    end_round(core, writer)?;
+    ask(core, &Event::Stage)?;
+    let plan = plan_all(core)?;
+    let flushes = run_rounds(core, writer)?;
     print_chain(writer, &plan.chain)?;
     print_flushes(writer, flushes)?;
-    print_acknowledged(writer, store.acknowledge())?;
+    print_acknowledged(writer, core.frontier())?;
     Ok(())
 }
 
 /// Ends the round that is out, if there is one.
-fn end_round<W: Write>(store: &mut ScriptStore, writer: &mut W) -> Result<(), Stop>
-    ensures ok { OnOk result ((out : List ℕ) × EndsAt store.new out × Appends (W.contents writer.old) (W.contents writer.new) out) }
-    ensures err { IfErr result (AfterSync (reached_of store.old) (reached_of store.new) (W.contents writer.old) (W.contents writer.new)) }
-    ensures ended { OnOk result (store.new.out ≡ None) }
-    ensures same { reached_of store.new ≡ reached_of store.old }
+fn end_round<D: PageDisk, W: Write>(core: &mut Core<D>, writer: &mut W) -> Result<(), Stop>
+    ensures done { OnOk result ((out : List ℕ) × Finishes D.honest D.state core.old core.new out × Appends (W.contents writer.old) (W.contents writer.new) out) }
+    ensures stopped { IfErr result (StopsAtFirst D.honest D.state core.old core.new (W.contents writer.old) (W.contents writer.new)) }
 {
-    if store.is_out() {
-        store.end()?;
-        print_end(writer, store.frontier())?;
+    if core.round().is_some() {
+        let frontier = finish_round(core)?;
+        print_end(writer, frontier)?;
     }
     Ok(())
 }
 
-/// Begins and ends round after round, until nothing waits, and gives how many they were. Each of them leaves fewer waiting,
-/// so there are no more than `most`, the number of elements that wait. Why it stops, if it does, is said by
-/// `ScriptStore::begin` and `end`: for want of memory, or because the writer failed.
-fn run_rounds<W: Write>(store: &mut ScriptStore, writer: &mut W, most: usize) -> Result<usize, Stop>
-    requires none { store.old.out ≡ None }
-    requires few { length store.old.graph.staging.pending.waiting ≤ most }
-    ensures ok { IfOk result (λ n. (rounds : List (List Item)) × (n ≡ length rounds) × LeadTo store.old.graph.staging.pending rounds store.new.graph.staging.pending
-        × Appends (W.contents writer.old) (W.contents writer.new) (round_lines 1 rounds)) }
-    ensures settled { OnOk result (store.new.graph.staging.pending.waiting ≡ []) }
-    ensures err { IfErr result (AfterRounds (W.contents writer.old) (W.contents writer.new)) }
-    ensures same { reached_of store.new ≡ reached_of store.old }
+/// Runs round after round, until nothing waits, and gives how many they were.
+fn run_rounds<D: PageDisk, W: Write>(core: &mut Core<D>, writer: &mut W) -> Result<usize, Stop>
+    ensures done { IfOk result (λ count. (turns : List Turn) × (count ≡ length turns) × Went D.honest D.state core.old (events_of_all turns) core.new
+        × Appends (W.contents writer.old) (W.contents writer.new) (round_lines 1 (rounds_of turns))) }
+    ensures none { OnOk result (core.new.store.graph.staging.pending.waiting ≡ []) }
+    ensures stopped { IfErr result (StopsInRounds D.honest D.state core.old core.new (W.contents writer.old) (W.contents writer.new)) }
 {
-    for ended in 0..most {
-        if !store.begin()? {
+    for ended in 0..core.limit() {
+        if !core.has_waiting() {
             return Ok(ended);
         }
-        let round = store.end()?;
-        print_round(writer, ended + 1, &round)?;
+        let round = run_round(core)?;
+        print_round(writer, ended + 1, round.as_slice())?;
     }
-    Ok(most)
+    // Each round was recorded, so the history stands at its limit.
+    Err(Stop::Refused(Refusal::HistoryFull))
 }

@@ -7,28 +7,42 @@ mod streams;
 mod sweeps;
 
 use crate::scripts::{Ran, run_script};
+use cs_core::{Core, Limits};
 use cs_disk::MemoryDisk;
 use cs_frame::Geometry;
 use std::alloc::Global;
 use std::process::Abort;
 use std::test::Fail;
 
+/// A new store in memory with so many extents of 2 pages.
+fn new_core(rt: &(impl Abort + AllocGlobal), extents: u64) -> Result<Core<MemoryDisk>, Fail> {
+    let alloc = rt.alloc();
+    let geometry = Geometry::new(extents, 2)?;
+    let disk = MemoryDisk::new(alloc, geometry.device_pages())?;
+    match Core::format(alloc, disk, geometry, Limits { history: 1000 }) {
+        Ok(core) => Ok(core),
+        Err((refusal, _)) => {
+            assert!(rt; false, "{}", refusal.name());
+            unreachable!()
+        }
+    }
+}
+
 /// What a script left behind and printed, with so many extents of 2 pages.
 fn run_on(
     rt: &(impl Abort + AllocGlobal),
     extents: u64,
     script: &str,
-) -> Result<(Ran, Vec<u8>), Fail> {
+) -> Result<(Ran<MemoryDisk>, Vec<u8>), Fail> {
     let alloc = rt.alloc();
-    let geometry = Geometry::new(extents, 2)?;
-    let disk = MemoryDisk::new(alloc, geometry.device_pages())?;
+    let core = new_core(rt, extents)?;
     let mut output = Vec::new(alloc);
-    let ran = run_script(alloc, disk, geometry, script.as_bytes(), &mut output);
+    let ran = run_script(alloc, core, script.as_bytes(), &mut output);
     Ok((ran, output))
 }
 
 /// What a script left behind and printed, with 6 extents of 2 pages.
-fn run(rt: &(impl Abort + AllocGlobal), script: &str) -> Result<(Ran, Vec<u8>), Fail> {
+fn run(rt: &(impl Abort + AllocGlobal), script: &str) -> Result<(Ran<MemoryDisk>, Vec<u8>), Fail> {
     run_on(rt, 6, script)
 }
 
@@ -38,12 +52,12 @@ fn prints(
     script: &str,
     wanted: &str,
     status: u8,
-    synced: usize,
+    persistent: u64,
 ) -> Result<(), Fail> {
     let (ran, output) = run(rt, script)?;
     assert_eq!(rt; output.as_slice(), wanted.as_bytes(), "{script}");
     assert_eq!(rt; ran.status, status, "{script}");
-    assert_eq!(rt; ran.synced, synced, "{script}");
+    assert_eq!(rt; ran.core.frontier(), persistent, "{script}");
     Ok(())
 }
 

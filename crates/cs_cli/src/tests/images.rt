@@ -37,7 +37,8 @@ const ENTRY: &[u8] = b"\0\0\0\x01\0\0\0\0\0\0\0\0\0\0\0\0\0\0\0\x0a\x01";
 #[test]
 fn pages(rt: HostRuntime) -> Result<(), Fail> {
     let (ran, _) = run(&rt, "put 00000000-0000-0000-0000-00000000000a 61\nsync\n")?;
-    let image = ran.disk.image();
+    let disk = ran.core.into_disk();
+    let image = disk.image();
     assert_eq!(rt; image.len(), 14 * 4096);
     stands(&rt, image, 0, SUPERBLOCK);
     has_zeros(&rt, image, 22, 30);
@@ -64,7 +65,8 @@ fn leaves(
 ) -> Result<(), Fail> {
     let (ran, output) = run_on(rt, extents, script)?;
     assert!(rt; output.as_slice().ends_with(wanted.as_bytes()));
-    stands(rt, ran.disk.image(), 4116, runs);
+    let disk = ran.core.into_disk();
+    stands(rt, disk.image(), 4116, runs);
     Ok(())
 }
 

@@ -69,6 +69,27 @@ fn chunks(rt: HostRuntime) -> Result<(), Fail> {
     )
 }
 
+/// A shard of two chunks is read as it was put, before it is written back and after.
+#[test]
+fn two_chunks_are_read(rt: HostRuntime) -> Result<(), Fail> {
+    let alloc = rt.alloc();
+    let get = "get 0000000000000000000000000000000a";
+    let script = format!(in alloc; "{}62\n{get}\nsync\n{get}\n", long_put(&rt, 8151)?)?;
+    let mut value = "value ".to_string(alloc)?;
+    for _ in 0..8151 {
+        value.push_str("61")?;
+    }
+    value.push_str("62\n")?;
+    let plan = plan_lines(alloc, &["[w1, w2, w3, w4]", "[s4]", "[r2]"], "[w1, s4, r2]")?;
+    prints(
+        &rt,
+        script.as_str(),
+        &format!(in alloc; "put 1\n{value}{plan}acknowledged 1\n{value}")?,
+        0,
+        1,
+    )
+}
+
 #[test]
 fn eight_chunks(rt: HostRuntime) -> Result<(), Fail> {
     let mut script = long_put(&rt, 65208)?;

@@ -1,9 +1,7 @@
 //! Readers and writers that fail.
-use super::document_text;
+use super::{document_text, new_core};
 use crate::checks::run_check;
 use crate::scripts::run_script;
-use cs_disk::MemoryDisk;
-use cs_frame::Geometry;
 use std::io;
 use std::io::{ErrorKind, Read, Write};
 use std::test::Fail;
@@ -47,32 +45,52 @@ impl Write for FailingWriter {
     }
 }
 
+/// Takes all bytes, but can't be flushed.
+#[derive(Drop)]
+struct UnflushedWriter;
+
+impl Write for UnflushedWriter {
+    fn write(&mut self, bytes: &[u8]) -> io::Result<usize> {
+        Ok(bytes.len())
+    }
+
+    fn flush(&mut self) -> io::Result<()> {
+        Err(io::Error::from(ErrorKind::TimedOut))
+    }
+}
+
+#[test]
+fn a_writer_that_is_not_flushed(rt: HostRuntime) -> Result<(), Fail> {
+    let alloc = rt.alloc();
+    let core = new_core(&rt, 6)?;
+    let ran = run_script(alloc, core, b"get x\n".as_slice(), &mut UnflushedWriter);
+    assert_eq!(rt; ran.status, 4);
+    let core = new_core(&rt, 6)?;
+    let ran = run_script(alloc, core, b"".as_slice(), &mut UnflushedWriter);
+    assert_eq!(rt; ran.status, 0);
+    let ended = run_check(alloc, b"{".as_slice(), &mut UnflushedWriter);
+    assert_eq!(rt; ended, 4);
+    Ok(())
+}
+
 #[test]
 fn failing_streams(rt: HostRuntime) -> Result<(), Fail> {
     let alloc = rt.alloc();
     let mut output = Vec::new(alloc);
-    let geometry = Geometry::new(6, 2)?;
-    let disk = MemoryDisk::new(alloc, 14)?;
-    let ran = run_script(
-        alloc,
-        disk,
-        geometry,
-        FailingReader { left: 3 },
-        &mut output,
-    );
+    let core = new_core(&rt, 6)?;
+    let ran = run_script(alloc, core, FailingReader { left: 3 }, &mut output);
     assert_eq!(rt; (ran.status, output.len()), (4, 0));
-    let disk = MemoryDisk::new(alloc, 14)?;
+    let core = new_core(&rt, 6)?;
     let script =
         "frob\nput 0000000000000000000000000000000a 61\nput 0000000000000000000000000000000a 62\n";
     let ran = run_script(
         alloc,
-        disk,
-        geometry,
+        core,
         script.as_bytes(),
         &mut FailingWriter { left: 16 },
     );
     assert_eq!(rt; ran.status, 4);
-    assert_eq!(rt; ran.accepted.len(), 2);
+    assert_eq!(rt; ran.core.accepted(), 2);
     output.clear();
     let ended = run_check(alloc, FailingReader { left: 3 }, &mut output);
     assert_eq!(rt; (ended, output.len()), (4, 0));

@@ -70,6 +70,22 @@ fn what_was_put_last_is_moved(rt: HostRuntime) -> Result<(), Fail> {
     )
 }
 
+/// The extent that is named is swept, not the first.
+#[test]
+fn another_extent(rt: HostRuntime) -> Result<(), Fail> {
+    let alloc = rt.alloc();
+    let swept = sweep_line(alloc, 1, 1, 2)?;
+    prints(
+        &rt,
+        "put 0000000000000000000000000000000a 61\nput 0000000000000000000000000000000b 62\nput 0000000000000000000000000000000c 63\nput 0000000000000000000000000000000c 64\nput 0000000000000000000000000000000d 65\nsweep 1\nsweep 1\nget 0000000000000000000000000000000c\n",
+        &format!(in alloc;
+            "put 1\nput 2\nput 3\nput 4\nput 5\n{swept}refused 33 NotSweepable\nvalue 64\n"
+        )?,
+        0,
+        0,
+    )
+}
+
 #[test]
 fn extents_that_are_not_sweepable(rt: HostRuntime) -> Result<(), Fail> {
     prints(

@@ -1,6 +1,0 @@
-use Rattle.std.specs.Prelude.{IsTrue}
-use Rattle.cs_cli.proofs.RootSteps.{root_persistent}
-use Rattle.cs_cli.proofs.frontiers.is_persistent.Goals as goal
-
-pub returns : goal.returns
-returns c = root_persistent c.args.graph.now.staging c.args.root.version c.in-Ok.version (IsTrue c.is_persistent.result) c.in-Ok.ensures.plain c.in-Ok.ensures.version c.is_persistent.ensures

@@ -1,0 +1,46 @@
+-- How a core came from what it was, event by event.
+use Rattle.std.specs.Prelude.{◌≡◌, ◌⊎◌, ◌↔◌, ◌≤◌, ◌∷◌, ◌++◌, List, [], length}
+use Rattle.cs_deps.specs.declared.refusals.Refusal.{Refusal}
+use Rattle.cs_deps.specs.declared.refusals.Refusal.TheVariants.{HistoryFull, OutOfMemory}
+use Rattle.cs_disk.specs.Disk.{State as DiskState}
+use Rattle.cs_core.specs.declared.events.Event.{Event}
+use Rattle.cs_core.specs.declared.events.Reply.{Reply}
+use Rattle.cs_core.specs.declared.events.Reply.TheVariants.{Refused}
+use Rattle.cs_core.specs.Views.{IsAsked, IsStep, View}
+use Rattle.cs_core.specs.Writebacks.{WritesBack}
+
+-- the event was done
+abbrev pub IsNoRefusal : Reply → Type 0
+IsNoRefusal (Refused r) = ⊥
+IsNoRefusal reply = Unit {0}
+
+-- why an event is refused and not recorded: for want of memory, or since the history stands at its limit
+abbrev pub IsUnrecorded : {D : Type 0} → View D → Refusal → Type 0
+IsUnrecorded new r = (r ≡ OutOfMemory) ⊎ ((r ≡ HistoryFull) × (new.limit ≤ length new.history))
+
+-- what a refused event adds to the history that the core has then
+abbrev pub IsRefused : {D : Type 0} → (new : View D) → Event → Refusal → List (Event × Reply) → Type 0
+IsRefused new event r xs = (xs ≡ (event, Refused r) ∷ []) ⊎ ((xs ≡ []) × IsUnrecorded new r)
+
+module _ {D : Type 0} (honest : D → Type 0) (state : D → DiskState) where
+  -- nothing was recorded, and nothing has changed but for how much there is room
+  abbrev pub Stays : (old new : View D) → Type 0
+  Stays old new = IsAsked honest state old new × (honest old.disk ↔ honest new.disk)
+
+  -- one event was recorded with this reply: the machine's step, and what it does to the graph
+  pub record Goes (old : View D) (event : Event) (reply : Reply) (new : View D) : Type 0 where
+    pub step : IsStep honest state old event reply new
+    pub writeback : WritesBack old.store event reply new.store
+    pub stays_honest : honest old.disk ↔ honest new.disk
+
+  -- these events were recorded with their replies, one after another, and no others
+  abbrev pub Went : (old : View D) → List (Event × Reply) → (new : View D) → Type 0
+  Went old [] new = Stays old new
+  Went old (x ∷ xs) new = (before : View D) × (after : View D) × Stays old before × Goes before x.0 x.1 after × Went after xs new
+
+  -- These events were recorded with their replies, and then this event was refused: it is recorded so, or it isn't recorded
+  -- for a reason that stands.
+  pub record IsStopped (old : View D) (done : List (Event × Reply)) (event : Event) (refusal : Refusal) (new : View D) : Type 0 where
+    pub added : List (Event × Reply)
+    pub went : Went old (done ++ added) new
+    pub refused : IsRefused new event refusal added
