@@ -15,6 +15,7 @@ abbrev pub family_of : ℕ → ℕ
 family_of zero = 0
 family_of (suc j) = suc (suc j)
 
+-- the element of the graph that an element of the machine is
 abbrev pub name : Element → Name
 name (A_write x) = Plain x.number
 name (A_superblock u) = Version (family_of u.section) u.version

@@ -28,5 +28,6 @@ read_by FramePage staged device = staged
 read_by RootPage staged device = device
 read_by (SectionPage j) staged device = device
 
+-- what each page reads as: one of frames as it was staged last, another as the device has it
 abbrev pub pages_now : Shape → State → Image → ℕ → Page
 pages_now S s held p = read_by (S.kind p) (newest_page s p) (page held p)

@@ -36,6 +36,7 @@ pub record IsListedAt (g : Pending) (k : ℕ) (x : Element) (d : Named) : Type 0
   pub needs : (y : Element) → Names d y → IsPersistent g y ⊎ WaitsBefore g k y
   pub others : NamesOthers g x d
 
+-- each listed element stands where it may, and needs what it may
 abbrev pub IsListing : Pending → Type 0
 IsListing g = (k : ℕ) (x : Element) (d : Named) → WaitsAt g k x d → IsListedAt g k x d
 

@@ -40,10 +40,12 @@ pub record IsUpTo (g : Pending) (k : ℕ) (plain : ℕ) (latest : List ℕ) : Ty
 abbrev pub IsListedTo : Pending → ℕ → Type 0
 IsListedTo g k = (j : ℕ) (x : Element) (d : Named) → j < k → WaitsAt g j x d → IsListedAt g j x d
 
+-- the number of the last plain write once this element was listed
 abbrev pub plain_after : ℕ → Element → ℕ
 plain_after plain (Plain n) = n
 plain_after plain (Version f v) = plain
 
+-- the last version of each family once this element was listed
 abbrev pub latest_after : List ℕ → Element → List ℕ
 latest_after latest (Plain n) = latest
 latest_after latest (Version f v) = slice_set latest f v

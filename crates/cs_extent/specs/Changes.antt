@@ -3,6 +3,7 @@ use Rattle.std.specs.Prelude.{◌≡◌, ◌++◌, ◌∷◌, ℕ, zero, suc, Bo
 use Rattle.cs_model.specs.Device.{Shape}
 use Rattle.cs_model.specs.Extents.{Extents, Purpose as Reason, Placed, emptied, marked, taken}
 
+-- what is done to the extents, one thing at a time
 pub data Change : Type 0 where
   -- a frame of so many pages goes to an extent
   Append : (reason : Reason) (pages extent : ℕ) → Change

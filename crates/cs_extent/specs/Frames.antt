@@ -13,6 +13,7 @@ use Rattle.cs_model.specs.Extents.{Extents}
 abbrev pub superblock_family : ℕ
 superblock_family = 0
 
+-- the family of the root's versions
 abbrev pub root_family : ℕ
 root_family = 1
 

@@ -4,6 +4,7 @@ use Rattle.cs_model.specs.Extents.{Purpose as Reason, ForPut, ForRun, ForMove}
 use Rattle.cs_extent.specs.declared.purposes.Purpose.{Purpose}
 use Rattle.cs_extent.specs.declared.purposes.Purpose.TheVariants.{Put, Run, Move}
 
+-- a purpose in the words of the machine
 abbrev pub reason_of : Purpose → Reason
 reason_of Put = ForPut
 reason_of Run = ForRun

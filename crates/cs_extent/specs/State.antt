@@ -6,6 +6,7 @@ use Rattle.cs_model.specs.Extents.{Extents}
 use Rattle.cs_frame.specs.Superblocks.{SpellsSuperblock}
 use Rattle.cs_extent.specs.Frames.{greatest}
 
+-- the extents of a store, as lists with a place for each
 pub record State : Type 0 where
   -- how many pages each extent has
   pub pages : ℕ

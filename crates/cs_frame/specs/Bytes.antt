@@ -16,6 +16,7 @@ pub record IsPage (page : List ℕ) : Type 0 where
 abbrev pub EachHas : ℕ → List (List ℕ) → Type 0
 EachHas size lists = (i : ℕ) → i < length lists → length (slice_index_or lists i []) ≡ size
 
+-- so many zero bytes
 abbrev pub zeros : ℕ → List ℕ
 zeros count = replicate count 0
 

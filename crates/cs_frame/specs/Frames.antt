@@ -41,6 +41,7 @@ pub record SpellsFrame (kind : ℕ) (pages : List (List ℕ)) (payload : List �
   pub fits : length payload < 2 ^ 32
   pub spelled : take (page_count (length payload)) pages ≡ spelled_frame kind payload
 
+-- the first of these pages
 abbrev pub first_page : List (List ℕ) → List ℕ
 first_page pages = slice_index_or pages 0 []
 
@@ -56,6 +57,7 @@ frame_count pages = page_count (payload_length (first_page pages))
 abbrev pub bytes_in : List (List ℕ) → List ℕ
 bytes_in pages = flat_map (λ page. page) (take (frame_count pages) pages)
 
+-- the payload of the frame that these pages begin
 abbrev pub payload_in : List (List ℕ) → List ℕ
 payload_in pages = field 41 (41 + payload_length (first_page pages)) (bytes_in pages)
 
@@ -76,6 +78,7 @@ header_tests kind first there =
     ∷ room_test first there
     ∷ []
 
+-- the first test of a frame's header that fails
 abbrev pub header_fault : (kind : ℕ) → (first : List ℕ) → (there : ℕ) → Option FormatFault
 header_fault kind first there = first_fault (header_tests kind first there)
 

@@ -11,6 +11,7 @@ use Rattle.cs_frame.specs.declared.locators.Locator.{Locator}
 abbrev pub spelled_locator : Locator → List ℕ
 spelled_locator l = big_bytes 2 l.extent ++ big_bytes 2 l.page ++ big_bytes 4 l.generation
 
+-- locators one behind the other
 abbrev pub spelled_locators : List Locator → List ℕ
 spelled_locators locators = flat_map spelled_locator locators
 

@@ -25,6 +25,7 @@ pub record Entry : Type 0 where
 abbrev pub entry_of : ShardId × Vec Locator Global → Entry
 entry_of entry = record { id = entry.0.0; locators = entry.1.items }
 
+-- the entries of a run that code holds
 abbrev pub entries_of : List (ShardId × Vec Locator Global) → List Entry
 entries_of entries = map entry_of entries
 
@@ -93,6 +94,7 @@ entry_end piece = 17 + 8 * slice_index piece 16
 abbrev pub entry_in : List ℕ → Entry
 entry_in piece = record { id = id_in piece; locators = locators_in (field 17 (entry_end piece) piece) }
 
+-- the entries that a payload spells
 abbrev pub entries_in : List ℕ → List Entry
 entries_in payload = map entry_in (pieces_in payload)
 

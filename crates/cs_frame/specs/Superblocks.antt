@@ -15,6 +15,7 @@ use Rattle.cs_frame.specs.Pages.{digest_test, magic_test, padded, padding_test, 
 abbrev pub spelled_extent : ℕ × ℕ → List ℕ
 spelled_extent extent = big_bytes 2 extent.0 ++ big_bytes 4 extent.1
 
+-- pointers and generations one behind the other
 abbrev pub spelled_extents : List (ℕ × ℕ) → List ℕ
 spelled_extents extents = flat_map spelled_extent extents
 
@@ -78,6 +79,7 @@ extent_in bytes = (number 0 2 bytes, number 2 6 bytes)
 abbrev pub extents_from : List ℕ → List (ℕ × ℕ)
 extents_from bytes = map extent_in (first_chunks 6 (length bytes / 6) bytes)
 
+-- pointer and generation of each extent, as a superblock's bytes spell them
 abbrev pub extents_in : List ℕ → List (ℕ × ℕ)
 extents_in bytes = extents_from (field 16 (superblock_end bytes) bytes)
 

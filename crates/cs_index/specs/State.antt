@@ -24,6 +24,7 @@ pub record IsId (id : ShardId) : Type 0 where
 abbrev pub named_entry : ShardId × Vec Locator Global → Entry
 named_entry entry = record { id = id_number entry.0; locators = map place_of entry.1.items }
 
+-- a run as the machine's model has it
 abbrev pub run_of : StoredRun → Run
 run_of run = record { place = place_of run.place; entries = map named_entry run.entries.items }
 
@@ -32,6 +33,7 @@ abbrev pub newest_first : List StoredRun → List Run
 newest_first [] = []
 newest_first (run ∷ runs) = newest_first runs ++ run_of run ∷ []
 
+-- an index: what changed since the last run, and the runs
 pub record State : Type 0 where
   -- the entries that no run has yet
   pub table : List Entry
