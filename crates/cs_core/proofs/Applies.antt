@@ -39,14 +39,14 @@ module _ (S : Shape) (F : Formats) where
   }
 
 -- a core goes on by what its store serves
-pub goes : {D : Type 0} (state : D → DiskState) (v w : Stored) (disk after : D) (opened : Image) (history : List (Asked × Told)) (limit limit2 : ℕ) (event : Asked) (reply : Told)
+pub goes : {D : Type 0} (state : D → DiskState) (v w : Stored) (disk after : D) (opened : Image) (found : ℕ × ℕ) (history : List (Asked × Told)) (limit limit2 : ℕ) (event : Asked) (reply : Told)
     → shape w.extents ≡ shape v.extents → Serves v (state disk) event reply w (state after) → (s : State)
-    → IsIn state (record { disk = disk; opened = opened; store = settled_rooms v; history = history; limit = limit }) s
+    → IsIn state (record { disk = disk; opened = opened; found = found; store = settled_rooms v; history = history; limit = limit }) s
     → (m : Reply) × (t : State) × Says (shape v.extents) (formats_of (shape v.extents)) reply m
     × Step (shape v.extents) (formats_of (shape v.extents)) s (event_of event) m t
-    × IsIn state (record { disk = after; opened = opened; store = settled_rooms w; history = history ++ (event, reply) ∷ []; limit = limit2 }) t
+    × IsIn state (record { disk = after; opened = opened; found = found; store = settled_rooms w; history = history ++ (event, reply) ∷ []; limit = limit2 }) t
 unfolding Serves
-goes state v w disk after opened history limit limit2 event reply same serves s was =
+goes state v w disk after opened found history limit limit2 event reply same serves s was =
     let d = serves s (same_state (settled_rooms v) v s was.store refl) was.disk in (
       d.0,
       d.1,

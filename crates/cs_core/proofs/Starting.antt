@@ -1,5 +1,5 @@
 -- What a new store keeps.
-use Rattle.std.proofs.Common.{◌≡◌, ◌∙◌, inl, ⊎_elim, ℕ, zero, suc, ◌+◌, ◌-◌, ◌*◌, ◌/◌, ◌<◌, ◌≤◌, true, false, List, [], ◌∷◌, ◌++◌, Some, None, length, replicate, refl, sym, ap, set, subst, arith}
+use Rattle.std.proofs.Common.{◌≡◌, ◌≢◌, ◌∙◌, inl, ⊎_elim, rules, ℕ, zero, suc, ◌+◌, ◌-◌, ◌*◌, ◌/◌, ◌<◌, ◌≤◌, true, false, List, [], ◌∷◌, ◌++◌, Some, None, length, replicate, refl, sym, ap, set, subst, arith}
 use Rattle.std.proofs.lemmas.List.{length-replicate}
 use Rattle.std.specs.Prelude.{Contains, slice_index, slice_index_or}
 use Rattle.cs_deps.specs.State.{State as GraphState}
@@ -11,7 +11,7 @@ use Rattle.cs_frame.specs.Roots.{SpellsRoot}
 use Rattle.cs_frame.specs.Superblocks.{SpellsSuperblock}
 use Rattle.cs_index.specs.declared.runs.StoredRun.{StoredRun}
 use Rattle.cs_index.specs.State.{State as IndexState, newest_first}
-use Rattle.cs_model.specs.Element.{Root, roots_of}
+use Rattle.cs_model.specs.Element.{Map, Root, roots_of}
 use Rattle.cs_model.specs.Lists.{◌∈◌}
 use Rattle.cs_model.specs.Open.{opened_state, root_read}
 use Rattle.cs_model.specs.Recovery.{Recovers}
@@ -25,6 +25,7 @@ use Rattle.cs_core.specs.Stored.{IsKept, Stored, page_total, settled_rooms}
 use Rattle.cs_core.specs.declared.events.Event.{Event}
 use Rattle.cs_core.specs.declared.events.Reply.{Reply}
 use Rattle.cs_core.specs.Views.{IsCore, IsReached}
+use Rattle.cs_image.specs.Counts.{HasCount}
 
 -- what stands in a list of equal items
 all_default : {X : Type 0} (n e : ℕ) (d : X) → slice_index_or (replicate n d) e d ≡ d
@@ -148,11 +149,18 @@ new_is extents pages g x i roots graph extents_are index noted =
 pub pair_is : (p : ℕ × ℕ) → (p.0 ≡ 0) × (p.1 ≡ 0) → p ≡ (0, 0)
 pair_is (a, b) h = ap (λ (n : ℕ). (n, b)) h.0 ∙ ap (λ (n : ℕ). (0, n)) h.1
 
+-- no shard is there
+pub none_there : (m : Map) → ((id : ℕ) → m id ≡ None) → HasCount (λ id. m id ≢ None) 0
+none_there m none = ([], record { rising = search rules; exact = λ id. (λ has. absurd (not_in id has), λ some. absurd (some (none id))) }, refl)
+  where
+    not_in : (id : ℕ) → Contains [] id → ⊥
+    not_in id (k, lt, at) = let l : k < 0 = lt in omega arith
+
 -- a core over a disk on which a new store was written
 pub new_core : {D : Type 0} (honest : D → Type 0) (state : D → DiskState) (page_count : D → ℕ) (disk : D) (opened : Image) (v : Stored) (history : List (Event × Reply)) (limit extents pages : ℕ) (superblock root : List ℕ)
     → IsNewStore extents pages v superblock root → history ≡ [] → page_count disk ≡ 2 + extents * pages → opened ≡ (state disk).durable → (honest disk → length (state disk).durable ≡ page_count disk)
     → (old : DiskState) → (honest disk → (2 ≤ length old.durable) × (state disk ≡ flushed (written (written old 0 superblock) 1 root)))
-    → IsCore honest state page_count (record { disk = disk; opened = opened; store = settled_rooms v; history = history; limit = limit })
+    → IsCore honest state page_count (record { disk = disk; opened = opened; found = (0, 0); store = settled_rooms v; history = history; limit = limit })
 new_core honest state page_count disk opened v history limit extents pages superblock root made none size as_is sized old wrote =
     let total : page_total (shape v.extents) ≡ 2 + extents * pages
     = ap (λ (u : Stored). page_total (shape u.extents)) made.made ∙ ap (λ (n : ℕ). 2 + n * pages) (length-replicate extents (0, 0)) in
@@ -169,5 +177,12 @@ new_core honest state page_count disk opened v history limit extents pages super
               reached = subst (λ (i : Image). IsReached (shape v.extents) (formats_of (shape v.extents)) i history s.0) (sym as_is)
                   (subst (λ (h : List (Event × Reply)). IsReached (shape v.extents) (formats_of (shape v.extents)) (state disk).durable h s.0) (sym none) s.3);
             },
+          );
+      begun = λ h.
+          let w = wrote h in (
+            λ id. None,
+            subst (λ (i : Image). Recovers (shape v.extents) (formats_of (shape v.extents)) (page i) 0 (λ id. None)) (sym as_is)
+                (new_recovers extents pages v superblock root made old (state disk) w.0 w.1),
+            none_there (λ id. None) (λ id. refl),
           );
     }

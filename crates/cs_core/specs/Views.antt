@@ -1,9 +1,10 @@
 -- A core as contracts see it, and what one event does to it.
-use Rattle.std.specs.Prelude.{◌≡◌, ◌⊎◌, ◌<◌, ◌≤◌, ◌++◌, ◌∷◌, ℕ, List, [], length}
+use Rattle.std.specs.Prelude.{◌≡◌, ◌≢◌, ◌⊎◌, ◌<◌, ◌≤◌, ◌++◌, ◌∷◌, ℕ, List, [], None, length}
 use Rattle.cs_deps.specs.declared.refusals.Refusal.TheVariants.{HistoryFull}
 use Rattle.cs_disk.specs.Disk.{Image, State as DiskState, page}
 use Rattle.cs_extent.specs.State.{shape}
 use Rattle.cs_frame.specs.Formats.{formats_of}
+use Rattle.cs_image.specs.Counts.{HasCount}
 use Rattle.cs_model.specs.Device.{Shape}
 use Rattle.cs_model.specs.Element.{Map}
 use Rattle.cs_model.specs.Formats.{Formats}
@@ -19,11 +20,12 @@ use Rattle.cs_core.specs.Meanings.{Says, event_of}
 use Rattle.cs_core.specs.States.{IsStateOf}
 use Rattle.cs_core.specs.Stored.{Stored, page_total}
 
--- A core over a disk of this type: its disk, the image that it was opened on, its store, the events with their replies, and
--- how many these may be.
+-- A core over a disk of this type: its disk, the image that it was opened on, how many commands the root counted there and
+-- how many shards there were, its store, the events with their replies, and how many these may be.
 pub record View (D : Type 0) : Type 0 where
   pub disk : D
   pub opened : Image
+  pub found : ℕ × ℕ
   pub store : Stored
   pub history : List (Event × Reply)
   pub limit : ℕ
@@ -50,12 +52,17 @@ pub record IsIn {D : Type 0} (state : D → DiskState) (v : View D) (s : model.S
   pub disk : IsDiskOf (shape v.store.extents) (formats_of (shape v.store.extents)) s (state v.disk)
   pub reached : IsReached (shape v.store.extents) (formats_of (shape v.store.extents)) v.opened v.history s
 
+-- the image has a map, of so many commands and with so many shards
+abbrev pub IsFound : Shape → Image → (found : ℕ × ℕ) → Type 0
+IsFound S image found = (m : Map) × Recovers S (formats_of S) (page image) found.0 m × HasCount (λ id. m id ≢ None) found.1
+
 -- What every core keeps: the disk has the geometry's pages, and where it is honest the core is in a state of the machine that
--- its history leads to.
+-- its history leads to, and was opened on an image of that many commands and shards.
 pub record IsCore {D : Type 0} (honest : D → Type 0) (state : D → DiskState) (page_count : D → ℕ) (v : View D) : Type 0 where
   pub device : page_count v.disk ≡ page_total (shape v.store.extents)
   pub sized : honest v.disk → length v.opened ≡ page_total (shape v.store.extents)
   pub legal : honest v.disk → (s : model.State) × IsIn state v s
+  pub begun : honest v.disk → IsFound (shape v.store.extents) v.opened v.found
 
 -- the history was at its limit, and nothing has changed
 pub record IsFull {D : Type 0} (old : View D) (reply : Reply) (new : View D) : Type 0 where
@@ -69,6 +76,7 @@ pub record IsStep {D : Type 0} (honest : D → Type 0) (state : D → DiskState)
   pub room : length old.history < old.limit
   pub history : new.history ≡ old.history ++ (event, reply) ∷ []
   pub opened : new.opened ≡ old.opened
+  pub found : new.found ≡ old.found
   pub limit : new.limit ≡ old.limit
   pub same_shape : shape new.store.extents ≡ shape old.store.extents
   pub step : honest old.disk → (s : model.State) → IsIn state old s
@@ -89,6 +97,7 @@ Serves old disk event reply new after = (s : model.State) → IsStateOf old s �
 -- nothing but rooms has changed, and nothing of an honest disk
 pub record IsAsked {D : Type 0} (honest : D → Type 0) (state : D → DiskState) (old new : View D) : Type 0 where
   pub opened : new.opened ≡ old.opened
+  pub found : new.found ≡ old.found
   pub store : new.store ≡ old.store
   pub history : new.history ≡ old.history
   pub limit : new.limit ≡ old.limit

@@ -15,7 +15,7 @@ ghost use Rattle.cs_core.specs.Meanings.{commands_said};
 ghost use Rattle.cs_core.specs.Replays.{replayed};
 ghost use Rattle.cs_core.specs.Shapes.{MayAnswer};
 ghost use Rattle.cs_core.specs.Started.{new_stored};
-ghost use Rattle.cs_core.specs.Views.{Applies, IsAsked};
+ghost use Rattle.cs_core.specs.Views.{Applies, IsAsked, IsFound};
 ghost use Rattle.cs_core.specs.Writebacks.{WritesBack};
 
 use crate::contents::Bytes;
@@ -44,6 +44,8 @@ pub struct Core<D: PageDisk> {
     disk: D,
     // the disk as it was when the core was opened
     opened: Snapshot<D>,
+    // how many commands the root counted then, and how many shards there were
+    found: (u64, usize),
     store: Store,
     history: Vec<(Event, Reply)>,
     limit: usize,
@@ -56,9 +58,9 @@ impl<D: PageDisk> Model for Core<D> {
 
     ghost Value = { View D };
 
-    ghost view = { λ c. record { disk = c.disk; opened = (D.state c.opened.value).durable; store = settled_rooms c.store; history = c.history.items; limit = c.limit } };
+    ghost view = { λ c. record { disk = c.disk; opened = (D.state c.opened.value).durable; found = c.found; store = settled_rooms c.store; history = c.history.items; limit = c.limit } };
 
-    ghost invariant = { λ c. IsCore D.honest D.state D.page_count (record { disk = c.disk; opened = (D.state c.opened.value).durable; store = settled_rooms c.store; history = c.history.items; limit = c.limit }) };
+    ghost invariant = { λ c. IsCore D.honest D.state D.page_count (record { disk = c.disk; opened = (D.state c.opened.value).durable; found = c.found; store = settled_rooms c.store; history = c.history.items; limit = c.limit }) };
 }
 
 impl<D: PageDisk> Core<D> {
@@ -75,6 +77,7 @@ impl<D: PageDisk> Core<D> {
         ensures new { IfOk result (λ core. (core.history ≡ []) × (core.limit ≡ limits.history)) }
         ensures store { IfOk result (λ core. core.store ≡ new_stored geometry.extents geometry.pages) }
         // What it starts on recovers no command and no shard.
+        ensures found { IfOk result (λ core. core.found ≡ (0, 0)) }
         ensures start { IfOk result (λ core. D.honest disk → Recovers (shape core.store.extents) (formats_of (shape core.store.extents)) (page core.opened) 0 (λ id. None)) }
         ensures pages { IfOk result (λ core. D.page_count core.disk ≡ D.page_count disk) }
         ensures honest { MatchResult result (λ core. D.honest disk ↔ D.honest core.disk) (λ refused. D.honest disk ↔ D.honest refused.1) }
@@ -96,6 +99,7 @@ impl<D: PageDisk> Core<D> {
                 alloc,
                 opened: Snapshot::of(&disk),
                 disk,
+                found: (0, 0),
                 store: made.store,
                 history: Vec::new(alloc),
                 limit: limits.history,
@@ -132,6 +136,21 @@ impl<D: PageDisk> Core<D> {
         let (reply, noted) = self.store.serve(&mut self.disk, event)?;
         self.history.push_reserved((kept, noted));
         Ok(reply)
+    }
+
+    /// How many commands the root counted, and how many shards there were, as the core was opened.
+    pub fn opened(&self) -> (u64, usize)
+        ensures found { result ≡ self.now.found }
+        ensures image { D.honest self.now.disk → IsFound (shape self.now.store.extents) self.now.opened result }
+    {
+        self.found
+    }
+
+    /// The disk.
+    pub fn disk(&self) -> &D
+        ensures { result.now ≡ self.now.disk }
+    {
+        &self.disk
     }
 
     /// How many of the commands accepted since the core was opened are persistent.
@@ -239,7 +258,7 @@ impl<D: PageDisk> Core<D> {
         self.store.plan_for(self.alloc, target)
     }
 
-    /// The disk.
+    /// The disk, with which the core ends.
     pub fn into_disk(self) -> D
         ensures { result ≡ self.disk }
     {
@@ -247,6 +266,7 @@ impl<D: PageDisk> Core<D> {
             alloc: _,
             disk,
             opened: _,
+            found: _,
             store: _,
             history: _,
             limit: _,

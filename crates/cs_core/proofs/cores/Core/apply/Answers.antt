@@ -1,9 +1,13 @@
 use Rattle.std.proofs.Common.{rules, ◌≡◌, ◌∙◌, ◌++◌, ◌∷◌, List, [], ap, refl, sym, subst, inr}
 use Rattle.cs_extent.specs.State.{shape}
+use Rattle.cs_frame.specs.Formats.{formats_of}
 use Rattle.cs_core.specs.declared.events.Event.{Event as Asked}
 use Rattle.cs_core.specs.declared.events.Reply.{Reply as Told}
 use Rattle.cs_core.specs.Stored.{Stored, page_total, settled_rooms}
-use Rattle.cs_core.specs.Views.{IsIn, View}
+use Rattle.cs_core.specs.Views.{IsFound, IsIn, IsReached, View}
+use Rattle.cs_core.specs.States.{IsStateOf}
+use Rattle.cs_bridge.specs.Devices.{IsDiskOf}
+use Rattle.cs_model.specs.Device.{Shape}
 use Rattle.cs_bridge.specs.Crashes.{IsPrefix}
 use Rattle.cs_disk.specs.Disk.{Leaves, State as DiskState, page}
 use Rattle.cs_core.specs.Meanings.{commands_said}
@@ -19,13 +23,14 @@ invariant_of-self-2 g c =
     ∙ ap (λ (k : Asked). c.self.inside.history.items ++ (k, c.in_ok-reply.noted) ∷ []) c.in_ok-kept.ensures
     ∙ ap (λ (r : Told). c.self.inside.history.items ++ (c.args.event.now, r) ∷ []) (sym c.in_ok-reply.ensures.twice) in
     record {
+      begun = λ honest. subst (λ (S : Shape). IsFound S (g.D.PageDisk.state c.self.inside.opened.value).durable c.self.inside.found) (sym c.serve.ensures.shape) (c.self.invariant.begun (c.serve.ensures.honest.1 honest));
       device = c.serve.ensures.pages ∙ c.self.invariant.device ∙ ap page_total (sym c.serve.ensures.shape);
       sized = λ honest. c.self.invariant.sized (c.serve.ensures.honest.1 honest) ∙ ap page_total (sym c.serve.ensures.shape);
       legal = λ honest.
           let before = c.serve.ensures.honest.1 honest in
           let was = c.self.invariant.legal before in
-          let d = goes g.D.PageDisk.state c.self.inside.store c.serve.new.self c.self.inside.disk c.serve.new.disk (g.D.PageDisk.state c.self.inside.opened.value).durable c.self.inside.history.items c.self.inside.limit c.self.inside.limit c.args.event.now c.in_ok-reply.reply c.serve.ensures.shape (c.in_ok-reply.ensures.step before) was.0 was.1 in
-          (d.1, subst (λ (h : List (Asked × Told)). IsIn g.D.PageDisk.state (record { disk = c.serve.new.disk; opened = (g.D.PageDisk.state c.self.inside.opened.value).durable; store = settled_rooms c.serve.new.self; history = h; limit = c.self.inside.limit }) d.1) (sym hist) d.4);
+          let d = goes g.D.PageDisk.state c.self.inside.store c.serve.new.self c.self.inside.disk c.serve.new.disk (g.D.PageDisk.state c.self.inside.opened.value).durable c.self.inside.found c.self.inside.history.items c.self.inside.limit c.self.inside.limit c.args.event.now c.in_ok-reply.reply c.serve.ensures.shape (c.in_ok-reply.ensures.step before) was.0 was.1 in
+          (d.1, subst (λ (h : List (Asked × Told)). IsIn g.D.PageDisk.state (record { disk = c.serve.new.disk; opened = (g.D.PageDisk.state c.self.inside.opened.value).durable; found = c.self.inside.found; store = settled_rooms c.serve.new.self; history = h; limit = c.self.inside.limit }) d.1) (sym hist) d.4);
     }
 
 pub returns-clause-step : goal.returns-clause-step
@@ -38,11 +43,12 @@ returns-clause-step g c = rw (← c.self.view_is) (
       room = search rules;
       history = hist;
       opened = refl;
+      found = refl;
       limit = refl;
       same_shape = c.serve.ensures.shape;
       step = λ honest s was.
-          let d = goes g.D.PageDisk.state c.self.inside.store c.serve.new.self c.self.inside.disk c.serve.new.disk (g.D.PageDisk.state c.self.inside.opened.value).durable c.self.inside.history.items c.self.inside.limit c.self.inside.limit c.args.event.now c.in_ok-reply.reply c.serve.ensures.shape (c.in_ok-reply.ensures.step honest) s was in
-          (d.0, d.1, d.2, d.3, subst (λ (h : List (Asked × Told)). IsIn g.D.PageDisk.state (record { disk = c.serve.new.disk; opened = (g.D.PageDisk.state c.self.inside.opened.value).durable; store = settled_rooms c.serve.new.self; history = h; limit = c.self.inside.limit }) d.1) (sym hist) d.4);
+          let d = goes g.D.PageDisk.state c.self.inside.store c.serve.new.self c.self.inside.disk c.serve.new.disk (g.D.PageDisk.state c.self.inside.opened.value).durable c.self.inside.found c.self.inside.history.items c.self.inside.limit c.self.inside.limit c.args.event.now c.in_ok-reply.reply c.serve.ensures.shape (c.in_ok-reply.ensures.step honest) s was in
+          (d.0, d.1, d.2, d.3, subst (λ (h : List (Asked × Told)). IsIn g.D.PageDisk.state (record { disk = c.serve.new.disk; opened = (g.D.PageDisk.state c.self.inside.opened.value).durable; found = c.self.inside.found; store = settled_rooms c.serve.new.self; history = h; limit = c.self.inside.limit }) d.1) (sym hist) d.4);
     }))
 
 pub returns-then-self-len-clause-crash : goal.returns-then-self-len-clause-crash
@@ -105,7 +111,7 @@ returns-in_err-reply-clause-left g c = rw (← c.self.view_is) (λ honest.
 pub returns-clause-crash : goal.returns-clause-crash
 returns-clause-crash g c = rw (← c.self.view_is) (λ honest.
     let was = c.self.invariant.legal honest in
-    let d = goes g.D.PageDisk.state c.self.inside.store c.serve.new.self c.self.inside.disk c.serve.new.disk (g.D.PageDisk.state c.self.inside.opened.value).durable c.self.inside.history.items c.self.inside.limit c.self.inside.limit c.args.event.now c.in_ok-reply.reply c.serve.ensures.shape (c.in_ok-reply.ensures.step honest) was.0 was.1 in
+    let d = goes g.D.PageDisk.state c.self.inside.store c.serve.new.self c.self.inside.disk c.serve.new.disk (g.D.PageDisk.state c.self.inside.opened.value).durable c.self.inside.found c.self.inside.history.items c.self.inside.limit c.self.inside.limit c.args.event.now c.in_ok-reply.reply c.serve.ensures.shape (c.in_ok-reply.ensures.step honest) was.0 was.1 in
     let size = g.met.D.PageDisk.sized c.self.inside.disk honest ∙ c.self.invariant.device in
     let size_then = g.met.D.PageDisk.sized c.serve.new.disk (c.serve.ensures.honest.0 honest) ∙ c.serve.ensures.pages ∙ c.self.invariant.device in
     still_before g.D.PageDisk.state g.D.PageDisk.moment g.D.PageDisk.left_since c.self.inside.disk c.serve.new.disk (IsPrefix (shape c.self.inside.store.extents) (page (g.D.PageDisk.state c.self.inside.opened.value).durable) (commands_said c.self.inside.history.items) c.self.inside.store.frontier c.self.inside.store.accepted)
@@ -122,7 +128,7 @@ returns-clause-left g c = rw (← c.self.view_is) (λ honest.
     ∙ ap (λ (k : Asked). c.self.inside.history.items ++ (k, c.in_ok-reply.noted) ∷ []) c.in_ok-kept.ensures
     ∙ ap (λ (r : Told). c.self.inside.history.items ++ (c.args.event.now, r) ∷ []) (sym c.in_ok-reply.ensures.twice) in
     let was = c.self.invariant.legal honest in
-    let d = goes g.D.PageDisk.state c.self.inside.store c.serve.new.self c.self.inside.disk c.serve.new.disk (g.D.PageDisk.state c.self.inside.opened.value).durable c.self.inside.history.items c.self.inside.limit c.self.inside.limit c.args.event.now c.in_ok-reply.reply c.serve.ensures.shape (c.in_ok-reply.ensures.step honest) was.0 was.1 in
+    let d = goes g.D.PageDisk.state c.self.inside.store c.serve.new.self c.self.inside.disk c.serve.new.disk (g.D.PageDisk.state c.self.inside.opened.value).durable c.self.inside.found c.self.inside.history.items c.self.inside.limit c.self.inside.limit c.args.event.now c.in_ok-reply.reply c.serve.ensures.shape (c.in_ok-reply.ensures.step honest) was.0 was.1 in
     let size = g.met.D.PageDisk.sized c.self.inside.disk honest ∙ c.self.invariant.device in
     let size_then = g.met.D.PageDisk.sized c.serve.new.disk (c.serve.ensures.honest.0 honest) ∙ c.serve.ensures.pages ∙ c.self.invariant.device in
     subst (λ (h : List (Asked × Told)). Leaves (g.D.PageDisk.state c.serve.new.disk) (IsPrefix (shape c.serve.new.self.extents) (page (g.D.PageDisk.state c.self.inside.opened.value).durable) (commands_said h) c.serve.new.self.frontier c.serve.new.self.accepted)) (sym hist)
@@ -139,3 +145,25 @@ returns-clause-shape g c = answered_shape (settled_rooms c.self.inside.store) (s
 
 pub returns-clause-writeback : goal.returns-clause-writeback
 returns-clause-writeback g c = rw (← c.self.view_is) (answered_writes (settled_rooms c.self.inside.store) (settled_rooms c.serve.new.self) c.args.event.now c.in_ok-reply.reply c.in_ok-reply.ensures.answered)
+
+pub invariant_of-self-in_err-reply : goal.invariant_of-self-in_err-reply
+invariant_of-self-in_err-reply g c =
+    let same : shape c.self.inside.store.extents ≡ shape c.serve.new.self.extents = sym c.serve.ensures.shape in
+    let hist : c.self.inside.history.items ≡ c.reserve.new.self.items = sym c.reserve.ensures.items in
+    record {
+      device = c.serve.ensures.pages ∙ c.self.invariant.device ∙ ap page_total same;
+      sized = λ honest. c.self.invariant.sized (c.serve.ensures.honest.1 honest) ∙ ap page_total same;
+      legal = λ honest.
+          let before = c.serve.ensures.honest.1 honest in
+          let was = c.self.invariant.legal before in (
+            was.0,
+            record {
+              store = subst (λ (v : Stored). IsStateOf v was.0) (sym c.in_err-reply.ensures.refused) was.1.store;
+              disk = subst (λ (d : DiskState). IsDiskOf (shape c.serve.new.self.extents) (formats_of (shape c.serve.new.self.extents)) was.0 d) (sym (c.in_err-reply.ensures.same before))
+                  (subst (λ (S : Shape). IsDiskOf S (formats_of S) was.0 (g.D.PageDisk.state c.self.inside.disk)) same was.1.disk);
+              reached = subst (λ (h : List (Asked × Told)). IsReached (shape c.serve.new.self.extents) (formats_of (shape c.serve.new.self.extents)) (g.D.PageDisk.state c.self.inside.opened.value).durable h was.0) hist
+                  (subst (λ (S : Shape). IsReached S (formats_of S) (g.D.PageDisk.state c.self.inside.opened.value).durable c.self.inside.history.items was.0) same was.1.reached);
+            },
+          );
+      begun = λ honest. subst (λ (S : Shape). IsFound S (g.D.PageDisk.state c.self.inside.opened.value).durable c.self.inside.found) same (c.self.invariant.begun (c.serve.ensures.honest.1 honest));
+    }
