@@ -1,5 +1,6 @@
 pub mod Answering
 pub mod Applies
+pub mod Asking
 pub mod Crashes
 pub mod Damage
 pub mod Deletes

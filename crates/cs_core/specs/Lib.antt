@@ -1,4 +1,5 @@
 pub mod Answered
+pub mod Asked
 pub mod Frontiers
 pub mod Meanings
 pub mod Reads

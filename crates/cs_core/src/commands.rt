@@ -28,6 +28,7 @@ impl Store {
         ensures refused { OnErr result (settled_rooms self.new ≡ settled_rooms self.old) }
         ensures shape { shape self.new.extents ≡ shape self.old.extents }
         ensures frontier { self.new.frontier ≡ self.old.frontier }
+        ensures no_fault { IfErr result (λ r. r ≢ Refusal.DeviceFault) }
     {
         match test_put(&self.extents, &self.index, id, bytes.len()) {
             Ok(()) => {}
@@ -57,6 +58,7 @@ impl Store {
         ensures refused { OnErr result (settled_rooms self.new ≡ settled_rooms self.old) }
         ensures shape { shape self.new.extents ≡ shape self.old.extents }
         ensures frontier { self.new.frontier ≡ self.old.frontier }
+        ensures no_fault { IfErr result (λ r. r ≢ Refusal.DeviceFault) }
     {
         // Its contract tells what all extents keep.
         self.extents.extent_count();

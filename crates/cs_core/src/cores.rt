@@ -11,6 +11,7 @@ ghost use Rattle.cs_disk.specs.Disk.{Leaves, LeavesOnly, Rises, page};
 ghost use Rattle.cs_extent.specs.State.{shape};
 ghost use Rattle.cs_frame.specs.Formats.{formats_of};
 ghost use Rattle.cs_model.specs.Recovery.{Recovers};
+ghost use Rattle.cs_core.specs.Asked.{AsksDevice};
 ghost use Rattle.cs_core.specs.Meanings.{commands_said};
 ghost use Rattle.cs_core.specs.Replays.{replayed};
 ghost use Rattle.cs_core.specs.Shapes.{MayAnswer};
@@ -119,6 +120,10 @@ impl<D: PageDisk> Core<D> {
         ensures shape { IfOk result (λ reply. MayAnswer event.now reply) }
         ensures writeback { IfOk result (λ reply. WritesBack self.old.store event.now reply self.new.store) }
         ensures rises { self.old.store.frontier ≤ self.new.store.frontier }
+        // What it asks of the disk, by what the disk holds then. A flush that finds nothing to flush shows nowhere there; that
+        // it would do no harm is `crash`.
+        ensures device { D.honest self.old.disk → IfOk result (λ reply. AsksDevice self.old.store (D.state self.old.disk) event.now reply (D.state self.new.disk)) }
+        ensures cause { IfOk result (λ reply. reply ≡ Reply.Refused Refusal.DeviceFault → Rises (D.failure_count self.old.disk) (D.failure_count self.new.disk)) }
         // A crash at any moment of the event leaves the map after some of the commands, as before it.
         ensures crash { D.honest self.old.disk → LeavesOnly D.moment D.left_since self.old.disk self.new.disk (IsPrefix (shape self.old.store.extents) (page self.old.opened) (commands_said self.old.history) self.old.store.frontier self.old.store.accepted) }
         // A crash after it does so for the commands and the frontier then.

@@ -4,11 +4,12 @@ ghost use Rattle.cs_chunk.specs.Reads.{IsCaused};
 ghost use Rattle.cs_deps.specs.State.{IsQueue};
 ghost use Rattle.cs_disk.specs.Disk.{Elapses, flushed, written};
 ghost use Rattle.cs_extent.specs.State.{shape};
+ghost use Rattle.cs_core.specs.Asked.{AsksDevice};
 ghost use Rattle.cs_core.specs.Rounds.{BeginAnswers, EndAnswers, IssueAnswers};
 ghost use Rattle.cs_core.specs.Stored.{members_of, page_total, settled_rooms};
 ghost use Rattle.cs_core.specs.Writebacks.{IsMemberIssued, IsRoundBegun, IsRoundEnded, StaysRefused};
 
-use crate::events::Event;
+use crate::events::{Event, Reply};
 use crate::frontiers::frontier_of;
 use crate::stores::Store;
 use cs_chunk::refusal_of_disk;
@@ -27,6 +28,7 @@ impl Store {
         ensures refused { OnErr result (settled_rooms self.new ≡ settled_rooms self.old) }
         ensures shape { shape self.new.extents ≡ shape self.old.extents }
         ensures frontier { self.new.frontier ≡ self.old.frontier }
+        ensures no_fault { IfErr result (λ r. r ≢ Refusal.DeviceFault) }
     {
         // Their contracts tell what all extents and every graph keep.
         self.extents.extent_count();
@@ -64,6 +66,7 @@ impl Store {
         ensures time { D.honest disk.old → Elapses (D.moment disk.old) (D.moment disk.new) (D.left_since disk.old) (D.left_since disk.new) (D.state disk.new) }
         ensures honest { D.honest disk.old ↔ D.honest disk.new }
         ensures pages { D.page_count disk.new ≡ D.page_count disk.old }
+        ensures device { D.honest disk.old → MatchResult result (λ r. AsksDevice (settled_rooms self.old) (D.state disk.old) Event.Issue (Reply.Issued r.0 r.1) (D.state disk.new)) (λ r. AsksDevice (settled_rooms self.old) (D.state disk.old) Event.Issue (Reply.Refused r) (D.state disk.new)) }
         ensures cause { IsCaused (D.failure_count disk.old) (D.failure_count disk.new) result }
     {
         // Their contracts tell what all extents and every graph keep.
@@ -118,6 +121,7 @@ impl Store {
         ensures time { D.honest disk.old → Elapses (D.moment disk.old) (D.moment disk.new) (D.left_since disk.old) (D.left_since disk.new) (D.state disk.new) }
         ensures honest { D.honest disk.old ↔ D.honest disk.new }
         ensures pages { D.page_count disk.new ≡ D.page_count disk.old }
+        ensures device { D.honest disk.old → MatchResult result (λ n. AsksDevice (settled_rooms self.old) (D.state disk.old) Event.End (Reply.Ended n) (D.state disk.new)) (λ r. AsksDevice (settled_rooms self.old) (D.state disk.old) Event.End (Reply.Refused r) (D.state disk.new)) }
         ensures cause { IsCaused (D.failure_count disk.old) (D.failure_count disk.new) result }
     {
         // Their contracts tell what all extents and every graph keep.

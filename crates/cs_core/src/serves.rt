@@ -1,8 +1,9 @@
 //! What one event does to a store and its disk, whichever it is.
 ghost use Rattle.std.specs.Prelude.{◌≡◌, ◌≤◌, ◌⊎◌, ◌↔◌, IfOk, OnErr};
-ghost use Rattle.cs_disk.specs.Disk.{Elapses, State as DiskState};
+ghost use Rattle.cs_disk.specs.Disk.{Elapses, Rises, State as DiskState};
 ghost use Rattle.cs_extent.specs.State.{shape};
 ghost use Rattle.cs_core.specs.Answered.{IsAnswered};
+ghost use Rattle.cs_core.specs.Asked.{AsksDevice};
 ghost use Rattle.cs_core.specs.Stored.{page_total, settled_rooms};
 ghost use Rattle.cs_core.specs.Views.{Serves};
 
@@ -32,6 +33,8 @@ impl Store {
         ensures time { D.honest disk.old → Elapses (D.moment disk.old) (D.moment disk.new) (D.left_since disk.old) (D.left_since disk.new) (D.state disk.new) }
         ensures honest { D.honest disk.old ↔ D.honest disk.new }
         ensures pages { D.page_count disk.new ≡ D.page_count disk.old }
+        ensures device { D.honest disk.old → IfOk result (λ r. AsksDevice (settled_rooms self.old) (D.state disk.old) event.now r.0 (D.state disk.new)) }
+        ensures cause { IfOk result (λ r. r.0 ≡ Reply.Refused Refusal.DeviceFault → Rises (D.failure_count disk.old) (D.failure_count disk.new)) }
     {
         match event {
             Event::Get(id) => self.serve_get(disk, *id),
@@ -77,6 +80,7 @@ impl Store {
         ensures time { D.honest disk.old → Elapses (D.moment disk.old) (D.moment disk.new) (D.left_since disk.old) (D.left_since disk.new) (D.state disk.new) }
         ensures honest { D.honest disk.old ↔ D.honest disk.new }
         ensures pages { D.page_count disk.new ≡ D.page_count disk.old }
+        ensures cause { IfOk result (λ r. r.0 ≡ Reply.Refused Refusal.DeviceFault → Rises (D.failure_count disk.old) (D.failure_count disk.new)) }
     {
         let bytes = match self.get(disk, id) {
             Ok(Some(bytes)) => bytes,

@@ -1,8 +1,9 @@
 //! Events that a halted store refuses.
-ghost use Rattle.std.specs.Prelude.{◌≡◌, ◌≤◌, ◌⊎◌, ◌↔◌, IfOk, OnErr, false};
-ghost use Rattle.cs_disk.specs.Disk.{Elapses, State as DiskState};
+ghost use Rattle.std.specs.Prelude.{◌≡◌, ◌≢◌, ◌≤◌, ◌⊎◌, ◌↔◌, IfOk, OnErr, false};
+ghost use Rattle.cs_disk.specs.Disk.{Elapses, Rises, State as DiskState};
 ghost use Rattle.cs_extent.specs.State.{shape};
 ghost use Rattle.cs_core.specs.Answered.{IsAlone, IsAnswered, IsForDevice};
+ghost use Rattle.cs_core.specs.Asked.{AsksDevice};
 ghost use Rattle.cs_core.specs.Stored.{page_total, settled_rooms};
 ghost use Rattle.cs_core.specs.Views.{Serves};
 
@@ -10,6 +11,7 @@ use crate::contents::Elements;
 use crate::events::{Event, OutOfMemory, Reply};
 use crate::replies::refused;
 use crate::stores::Store;
+use cs_deps::Refusal;
 use cs_disk::PageDisk;
 
 impl Store {
@@ -23,6 +25,7 @@ impl Store {
         ensures step { (disk : DiskState) → IfOk result (λ r. Serves self.old disk event.now r.0 self.new disk) }
         ensures refused { OnErr result (settled_rooms self.new ≡ settled_rooms self.old) }
         ensures shape { shape self.new.extents ≡ shape self.old.extents }
+        ensures no_fault { IfOk result (λ r. r.0 ≢ Reply.Refused Refusal.DeviceFault) }
     {
         match event {
             Event::Put(id, bytes) => match self.put(*id, bytes.as_slice()) {
@@ -83,6 +86,8 @@ impl Store {
         ensures time { D.honest disk.old → Elapses (D.moment disk.old) (D.moment disk.new) (D.left_since disk.old) (D.left_since disk.new) (D.state disk.new) }
         ensures honest { D.honest disk.old ↔ D.honest disk.new }
         ensures pages { D.page_count disk.new ≡ D.page_count disk.old }
+        ensures device { D.honest disk.old → IfOk result (λ r. AsksDevice (settled_rooms self.old) (D.state disk.old) event.now r.0 (D.state disk.new)) }
+        ensures cause { IfOk result (λ r. r.0 ≡ Reply.Refused Refusal.DeviceFault → Rises (D.failure_count disk.old) (D.failure_count disk.new)) }
     {
         match event {
             Event::Issue => match self.issue(disk) {

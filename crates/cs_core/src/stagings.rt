@@ -1,5 +1,5 @@
 //! Runs and roots.
-ghost use Rattle.std.specs.Prelude.{◌≡◌, ◌+◌, ◌∷◌, ◌++◌, [], IfOk, MatchOption, OnErr, false};
+ghost use Rattle.std.specs.Prelude.{◌≡◌, ◌≢◌, ◌+◌, ◌∷◌, ◌++◌, [], IfErr, IfOk, MatchOption, OnErr, false};
 ghost use Rattle.cs_extent.specs.State.{shape};
 ghost use Rattle.cs_model.specs.State.{Stage};
 ghost use Rattle.cs_core.specs.Steps.{Answers, staged_or_not};
@@ -22,6 +22,7 @@ impl Store {
         ensures refused { OnErr result (settled_rooms self.new ≡ settled_rooms self.old) }
         ensures shape { shape self.new.extents ≡ shape self.old.extents }
         ensures frontier { self.new.frontier ≡ self.old.frontier }
+        ensures no_fault { IfErr result (λ r. r ≢ Refusal.DeviceFault) }
     {
         // Its contract tells what all extents keep.
         self.extents.extent_count();

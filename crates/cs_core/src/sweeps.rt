@@ -1,5 +1,5 @@
 //! Sweeps.
-ghost use Rattle.std.specs.Prelude.{◌≡◌, ◌↔◌, [], IfOk, None, OnErr, OnOk, false};
+ghost use Rattle.std.specs.Prelude.{◌≡◌, ◌≢◌, ◌↔◌, [], IfErr, IfOk, None, OnErr, OnOk, false};
 ghost use Rattle.cs_chunk.specs.Reads.{IsCaused};
 ghost use Rattle.cs_disk.specs.Disk.{Elapses};
 ghost use Rattle.cs_extent.specs.State.{shape};
@@ -24,6 +24,7 @@ impl Store {
         ensures refused { OnErr result (settled_rooms self.new ≡ settled_rooms self.old) }
         ensures shape { shape self.new.extents ≡ shape self.old.extents }
         ensures frontier { self.new.frontier ≡ self.old.frontier }
+        ensures no_fault { IfErr result (λ r. r ≢ Refusal.DeviceFault) }
     {
         // Its contract tells what all extents keep.
         self.extents.extent_count();
@@ -41,6 +42,7 @@ impl Store {
         ensures refused { OnErr result (settled_rooms self.new ≡ settled_rooms self.old) }
         ensures shape { shape self.new.extents ≡ shape self.old.extents }
         ensures frontier { self.new.frontier ≡ self.old.frontier }
+        ensures no_fault { IfErr result (λ r. r ≢ Refusal.DeviceFault) }
     {
         // Its contract tells what all extents keep.
         self.extents.extent_count();
@@ -62,6 +64,7 @@ impl Store {
         ensures refused { OnErr result (settled_rooms self.new ≡ settled_rooms self.old) }
         ensures shape { shape self.new.extents ≡ shape self.old.extents }
         ensures frontier { self.new.frontier ≡ self.old.frontier }
+        ensures no_fault { IfErr result (λ r. r ≢ Refusal.DeviceFault) }
     {
         // Its contract tells what all extents keep.
         self.extents.extent_count();

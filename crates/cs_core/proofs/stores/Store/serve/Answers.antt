@@ -6,6 +6,7 @@ use Rattle.cs_core.specs.Answered.{IsAnswered}
 use Rattle.cs_core.specs.Stored.{settled_rooms}
 use Rattle.cs_core.specs.Views.{Serves}
 use Rattle.cs_core.proofs.Answering.{alone_of, halted_so, if_refused_so}
+use Rattle.cs_core.proofs.Asking.{settle_never}
 use Rattle.cs_core.proofs.ServeSteps.{halted_steps, if_refused}
 use Rattle.cs_core.proofs.stores.Store.serve.Goals as goal
 
@@ -26,6 +27,11 @@ returns-in-Settle-clause-answered g c =
 pub returns-in-Settle-clause-step : goal.returns-in-Settle-clause-step
 returns-in-Settle-clause-step g c = λ honest.
     subst (λ (e : Asked). Serves c.args.self.now (g.D.PageDisk.state c.args.disk.now) e c.serve_settle.result.0 c.args.self.now (g.D.PageDisk.state c.args.disk.now)) (sym c.in-Settle.is) (c.serve_settle.ensures.step (g.D.PageDisk.state c.args.disk.now))
+
+pub returns-in-Settle-clause-cause : goal.returns-in-Settle-clause-cause
+returns-in-Settle-clause-cause g c =
+    let v = settled_rooms c.args.self.now in
+    λ fault. absurd (settle_never v v c.in-Settle.n c.serve_settle.result.0 c.serve_settle.ensures.answered fault)
 
 pub returns-then-is_halted-clause-answered : goal.returns-then-is_halted-clause-answered
 returns-then-is_halted-clause-answered g c =
