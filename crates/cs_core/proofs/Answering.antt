@@ -1,5 +1,5 @@
 -- What each event answers, whatever the disk does.
-use Rattle.std.proofs.Common.{◌≡◌, ◌≢◌, ℕ, ◌≤◌, List, [], None, Ok, Err, refl, sym, subst, arith}
+use Rattle.std.proofs.Common.{◌≡◌, ◌≢◌, ◌⊎◌, ℕ, ◌<◌, ◌≤◌, List, [], None, Ok, Err, refl, sym, subst, arith}
 use Rattle.std.specs.Prelude.{IfOk, MatchResult, Result}
 use Rattle.cs_deps.specs.declared.elements.Element.{Element as Name}
 use Rattle.cs_deps.specs.declared.refusals.Refusal.{Refusal as Code}
@@ -106,9 +106,9 @@ module _ (v w : Stored) where
   unfolding IsAnswered
   persistent_so n some same = (some, same)
 
-  pub not_yet_so : (n f : ℕ) → w ≡ v → IsAnswered v (Settle n) (NotYet f) w
+  pub not_yet_so : (n f : ℕ) → (n ≡ 0) ⊎ (f < n) → w ≡ v → IsAnswered v (Settle n) (NotYet f) w
   unfolding IsAnswered
-  not_yet_so n f same = (tt, same)
+  not_yet_so n f below same = (below, same)
 
   -- the reply is that of a refusal
   pub if_refused_so : (event : Event) (r : Code) (result : Result (Reply × Reply) OutOfMemory)

@@ -1,6 +1,7 @@
 pub mod Answering
 pub mod Applies
 pub mod Asking
+pub mod Counts
 pub mod Crashes
 pub mod Damage
 pub mod Deletes

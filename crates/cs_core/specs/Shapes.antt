@@ -1,12 +1,13 @@
 -- Which replies an event may have.
-use Rattle.std.specs.Prelude.{◌≡◌, ◌≢◌, ◌≤◌}
+use Rattle.std.specs.Prelude.{◌≡◌, ◌≢◌, ◌⊎◌, ◌<◌, ◌≤◌}
 use Rattle.cs_deps.specs.declared.refusals.Refusal.TheVariants.{HistoryFull, OutOfMemory}
 use Rattle.cs_core.specs.declared.events.Event.{Event}
 use Rattle.cs_core.specs.declared.events.Event.TheVariants.{Abandon, Begin, BeginSweep, Delete, End, Get, Issue, MoveOne, Put, Retire, Settle, Stage}
 use Rattle.cs_core.specs.declared.events.Reply.{Reply}
 use Rattle.cs_core.specs.declared.events.Reply.TheVariants.{Abandoned, Absent, Accepted, Begun, Ended, Found, Issued, Moved, NoneLive, NotYet, Nothing, Persistent, Refused, Retired, Staged, Sweeping, Unchanged}
 
--- the replies to each event; want of memory is none, and Settle is refused for a full history alone
+-- The replies to each event. Want of memory is none, Settle is refused for a full history alone, and what it tells of is below
+-- the number asked for.
 abbrev pub MayAnswer : Event → Reply → Type 0
 MayAnswer (Put id bytes) (Accepted n) = 1 ≤ n
 MayAnswer (Get id) (Found bytes) = Unit {0}
@@ -25,7 +26,7 @@ MayAnswer (MoveOne e) NoneLive = Unit {0}
 MayAnswer (Retire e) (Retired v) = Unit {0}
 MayAnswer (Abandon e) Abandoned = Unit {0}
 MayAnswer (Settle n) Persistent = 1 ≤ n
-MayAnswer (Settle n) (NotYet f) = Unit {0}
+MayAnswer (Settle n) (NotYet f) = (n ≡ 0) ⊎ (f < n)
 MayAnswer (Settle n) (Refused r) = r ≡ HistoryFull
 MayAnswer event (Refused r) = r ≢ OutOfMemory
 MayAnswer event reply = ⊥

@@ -1,5 +1,5 @@
 //! The event machine over one disk.
-ghost use Rattle.std.specs.Prelude.{◌≡◌, ◌≢◌, ◌+◌, ◌*◌, ◌≤◌, ◌⊎◌, ◌↔◌, [], IfErr, IfOk, IsOk, IsSome, IsTrue, MatchOption, MatchResult, None, OnErr, OnOk, Some, length, take};
+ghost use Rattle.std.specs.Prelude.{◌≡◌, ◌≢◌, ◌+◌, ◌*◌, ◌^◌, ◌<◌, ◌≤◌, ◌⊎◌, ◌↔◌, [], IfErr, IfOk, IsOk, IsSome, IsTrue, MatchOption, MatchResult, None, OnErr, OnOk, Some, length, take};
 ghost use Rattle.cs_bridge.specs.Crashes.{IsPrefix};
 ghost use Rattle.cs_deps.specs.Chain.{IsChainOf};
 ghost use Rattle.cs_deps.specs.Named.{IsWithin};
@@ -8,15 +8,17 @@ ghost use Rattle.cs_deps.specs.Staging.{IsKept};
 ghost use Rattle.cs_deps.specs.State.{everything};
 ghost use Rattle.cs_deps.specs.View.{pending_of, rounds_of};
 ghost use Rattle.cs_disk.specs.Disk.{Leaves, LeavesOnly, Rises, page};
-ghost use Rattle.cs_extent.specs.State.{shape};
+ghost use Rattle.cs_extent.specs.State.{extents_of, shape};
 ghost use Rattle.cs_frame.specs.Formats.{formats_of};
 ghost use Rattle.cs_model.specs.Recovery.{Recovers};
 ghost use Rattle.cs_core.specs.Asked.{AsksDevice};
+ghost use Rattle.cs_model.specs.State.{State};
+ghost use Rattle.cs_reclaim.specs.Sweeps.{IsNotSweepable};
 ghost use Rattle.cs_core.specs.Meanings.{commands_said};
 ghost use Rattle.cs_core.specs.Replays.{replayed};
 ghost use Rattle.cs_core.specs.Shapes.{MayAnswer};
 ghost use Rattle.cs_core.specs.Started.{new_stored};
-ghost use Rattle.cs_core.specs.Views.{Applies, IsAsked, IsFound};
+ghost use Rattle.cs_core.specs.Views.{Applies, IsAsked, IsFound, IsIn};
 ghost use Rattle.cs_core.specs.Writebacks.{WritesBack};
 
 use crate::contents::Bytes;
@@ -277,5 +279,62 @@ impl<D: PageDisk> Core<D> {
             limit: _,
         } = self;
         disk
+    }
+}
+
+/// What whoever drives a core asks of it.
+impl<D: PageDisk> Core<D> {
+    /// How many commands were accepted since the core was opened, and how many of these are persistent.
+    pub fn progress(&self) -> (u64, u64)
+        ensures accepted { result.0 ≡ self.now.store.accepted }
+        ensures frontier { result.1 ≡ self.now.store.frontier }
+        ensures fits { result.0 < 2 ^ 63 }
+        ensures within { D.honest self.now.disk → result.1 ≤ result.0 }
+    {
+        (self.store.accepted(), self.store.frontier())
+    }
+
+    /// Whether the index has changes that aren't staged.
+    pub fn has_changes(&self) -> bool
+        ensures { IsTrue result ↔ (self.now.store.index.table ≢ []) }
+    {
+        !self.store.index.is_table_empty()
+    }
+
+    /// How many extents there are.
+    pub fn extent_count(&self) -> usize
+        ensures { result ≡ (shape self.now.store.extents).extents }
+    {
+        self.store.extent_count()
+    }
+
+    /// Whether an extent may be swept: it is there, and neither open, empty nor being swept.
+    pub fn is_sweepable(&self, extent: usize) -> bool
+        ensures may { IsTrue result → ¬ IsNotSweepable (shape self.now.store.extents) (extents_of self.now.store.extents) extent }
+        ensures not { ¬ (IsTrue result) → IsNotSweepable (shape self.now.store.extents) (extents_of self.now.store.extents) extent }
+    {
+        let extents = &self.store.extents;
+        extent < extents.extent_count()
+            && extents.pointer(extent) > 0
+            && !extents.is_open(extent)
+            && !extents.is_swept(extent)
+    }
+
+    /// The disk, and the events with their replies, the first one first.
+    pub fn into_parts(self) -> (D, Vec<(Event, Reply)>)
+        ensures disk { result.0 ≡ self.disk }
+        ensures history { result.1.items ≡ self.history }
+        // Where the disk is honest the history led to a state of the machine in which disk and store are.
+        ensures legal { D.honest self.disk → (s : State) × IsIn D.state self s }
+    {
+        let Core {
+            alloc: _,
+            disk,
+            opened: _,
+            store: _,
+            history,
+            limit: _,
+        } = self;
+        (disk, history)
     }
 }

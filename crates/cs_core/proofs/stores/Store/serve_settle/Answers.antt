@@ -22,4 +22,5 @@ pub returns-then-n-frontier-clause-answered : goal.returns-then-n-frontier-claus
 returns-then-n-frontier-clause-answered c = persistent_so (settled_rooms c.args.self.now) (settled_rooms c.args.self.now) c.args.n c.if-n-ge1.true refl
 
 pub returns-else-n-ge1-clause-answered : goal.returns-else-n-ge1-clause-answered
-returns-else-n-ge1-clause-answered c = not_yet_so (settled_rooms c.args.self.now) (settled_rooms c.args.self.now) c.args.n c.frontier-frontier.result refl
+returns-else-n-ge1-clause-answered c = not_yet_so (settled_rooms c.args.self.now) (settled_rooms c.args.self.now) c.args.n c.frontier-frontier.result (
+    elim c.else-n-ge1.branch [ else-n-ge1-via-then-n-ge1+else-n-frontier w ↦ inr w.if-n-frontier.false | else-n-ge1-via-else-n-ge1 w ↦ inl (omega (arith, w.if-n-ge1.false)) ]) refl
