@@ -16,12 +16,13 @@ same_refusal r s e = cc
 
 module _ {D : Type 0} (honest : D → Type 0) (state : D → DiskState) where
   pub stays_same : (v : View D) → Stays honest state v v
-  stays_same v = (record { opened = refl; store = refl; history = refl; limit = refl; disk = λ h. refl }, (λ h. h, λ h. h))
+  stays_same v = (record { opened = refl; found = refl; store = refl; history = refl; limit = refl; disk = λ h. refl }, (λ h. h, λ h. h))
 
   pub stays_then : (a b c : View D) → Stays honest state a b → Stays honest state b c → Stays honest state a c
   stays_then a b c p q = (
     record {
       opened = q.0.opened ∙ p.0.opened;
+      found = q.0.found ∙ p.0.found;
       store = q.0.store ∙ p.0.store;
       history = q.0.history ∙ p.0.history;
       limit = q.0.limit ∙ p.0.limit;
