@@ -331,6 +331,7 @@ impl<D: PageDisk> Core<D> {
             alloc: _,
             disk,
             opened: _,
+            found: _,
             store: _,
             history,
             limit: _,
