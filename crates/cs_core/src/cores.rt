@@ -139,7 +139,7 @@ impl<D: PageDisk> Core<D> {
             return Ok(Reply::Refused(Refusal::HistoryFull));
         }
         self.history.reserve(1)?;
-        let kept = event.copy(self.alloc)?;
+        let kept = event.copy()?;
         let (reply, noted) = self.store.serve(&mut self.disk, event)?;
         self.history.push_reserved((kept, noted));
         Ok(reply)

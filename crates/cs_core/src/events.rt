@@ -5,7 +5,7 @@ ghost use Rattle.cs_core.specs.Answered.{IsForDevice};
 use crate::contents::{Bytes, Elements};
 use cs_deps::{Element, Refusal};
 use cs_frame::ShardId;
-use std::alloc::{AllocError, AllocFailed, Global};
+use std::alloc::{AllocError, AllocFailed};
 
 /// Memory was asked for and refused; nothing has changed.
 #[derive(Clone, Copy, Debug, PartialEq, Eq)]
@@ -60,14 +60,14 @@ impl Event {
         matches!(self, Event::Issue | Event::End | Event::MoveOne(_))
     }
 
-    /// The same event.
-    pub fn copy(&self, alloc: Global) -> Result<Event, AllocError>
+    /// The same event. A put's bytes are shared.
+    pub fn copy(&self) -> Result<Event, AllocError>
         ensures { IfOk result (λ e. e ≡ self.now) }
     {
         match self {
             Event::Put(id, bytes) => {
-                let copied = bytes.copy(alloc)?;
-                Ok(Event::Put(*id, copied))
+                let shared = bytes.share()?;
+                Ok(Event::Put(*id, shared))
             }
             Event::Get(id) => Ok(Event::Get(*id)),
             Event::Delete(id) => Ok(Event::Delete(*id)),

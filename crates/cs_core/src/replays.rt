@@ -19,14 +19,13 @@ pub fn replay_events(
     let last = count.min(events.len());
     for k in 0..last {
         let entry = &events[k];
-        push_change(alloc, &mut changes, &entry.0, &entry.1)?;
+        push_change(&mut changes, &entry.0, &entry.1)?;
     }
     Ok(changes)
 }
 
 /// Adds what an accepted event put under an identifier, or that it deleted it.
 fn push_change(
-    alloc: Global,
     changes: &mut Vec<(ShardId, Option<Bytes>)>,
     event: &Event,
     reply: &Reply,
@@ -38,8 +37,8 @@ fn push_change(
     };
     match event {
         Event::Put(id, bytes) => {
-            let copied = bytes.copy(alloc)?;
-            changes.push((*id, Some(copied)))?;
+            let shared = bytes.share()?;
+            changes.push((*id, Some(shared)))?;
             Ok(())
         }
         Event::Delete(id) => {

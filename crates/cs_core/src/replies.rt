@@ -10,8 +10,8 @@ use std::alloc::Global;
 pub fn found(alloc: Global, bytes: Vec<u8>) -> Result<(Reply, Reply), OutOfMemory>
     ensures { IfOk result (λ r. (r.0 ≡ Reply.Found bytes.items) × (r.1 ≡ Reply.Found bytes.items)) }
 {
-    let told = Bytes::new(bytes);
-    let noted = told.copy(alloc)?;
+    let told = Bytes::new(alloc, bytes)?;
+    let noted = told.share()?;
     Ok((Reply::Found(told), Reply::Found(noted)))
 }
 
