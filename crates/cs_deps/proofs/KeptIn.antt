@@ -1,6 +1,7 @@
 -- What a list keeps at a number.
 use Rattle.std.proofs.Common.{◌≡◌, ◌≢◌, ℕ, zero, suc, ◌+◌, ◌<◌, ◌≤◌, ◌⊎◌, Bool, true, false, List, [], ◌∷◌, ◌++◌, length, set, get_or, Option, Some, None, slice_get, refl, sym, ap, ◌∙◌, subst, inl, inr, ⊎_elim, arith}
 use Rattle.std.specs.Prelude.{Contains, if◌then◌else◌, nat_lt, ◌==◌, ◌-◌, Vec, option_map}
+use Rattle.std.specs.declared.collections.VecDeque.{VecDeque}
 use Rattle.std.specs.Global.{Global}
 use Rattle.std.proofs.lemmas.Bool.{cases_lt}
 use Rattle.std.proofs.lemmas.Bool.Decides.{nat_tests}
@@ -13,12 +14,12 @@ use Rattle.cs_deps.specs.Levels.{kept_in, family_at, level_of, level_by, relinke
 use Rattle.cs_deps.proofs.Settled.{same_family}
 use Rattle.cs_deps.proofs.Kept.{at_push, at_keep, at_end}
 
-pub family_here : (qs : List (Vec Kept Global)) (f : ℕ) (q : Vec Kept Global) → slice_get qs f ≡ Some q → family_at qs f ≡ q.items
+pub family_here : (qs : List (VecDeque Kept Global)) (f : ℕ) (q : VecDeque Kept Global) → slice_get qs f ≡ Some q → family_at qs f ≡ q.items
 family_here [] f q at = absurd (cc at)
 family_here (p ∷ qs) zero q at = ap (λ u. u.items) (same_Some p q at)
 family_here (p ∷ qs) (suc f) q at = family_here qs f q at
 
-pub family_past : (qs : List (Vec Kept Global)) (f : ℕ) → length qs ≤ f → family_at qs f ≡ []
+pub family_past : (qs : List (VecDeque Kept Global)) (f : ℕ) → length qs ≤ f → family_at qs f ≡ []
 family_past [] f le = refl
 family_past (p ∷ qs) zero le = absurd (omega (arith, le))
 family_past (p ∷ qs) (suc f) le = family_past qs f (omega (arith, le))

@@ -23,6 +23,7 @@ pub mod PlainStaged
 pub mod VersionStaged
 pub mod RoundsLevels
 pub mod Walk
+pub mod Trimmed
 pub mod Queues
 pub mod Held
 pub mod LeftOver

@@ -1,6 +1,8 @@
 -- One element more is kept.
 use Rattle.std.proofs.Common.{◌≡◌, ◌≢◌, ℕ, zero, suc, ◌+◌, ◌<◌, ◌≤◌, ◌⊎◌, Bool, true, false, List, [], ◌∷◌, ◌++◌, length, set, get_or, max, Option, Some, None, slice_get, length-append, refl, sym, ap, ◌∙◌, subst, inl, inr, ⊎_elim, arith, get_or-set_same, get_or-set_other}
-use Rattle.std.specs.Prelude.{nat_le, nat_lt, ◌&&◌, if◌then◌else◌, ◌==◌, option_map, Vec, vec_len, vec_capacity, All}
+use Rattle.std.specs.Prelude.{nat_le, nat_lt, ◌&&◌, if◌then◌else◌, ◌==◌, option_map, Vec, All}
+use Rattle.std.specs.declared.collections.VecDeque.{VecDeque}
+use Rattle.std.specs.VecDeque.{deque_len, deque_capacity}
 use Rattle.std.specs.Global.{Global}
 use Rattle.std.proofs.lemmas.Bool.{cases_lt}
 use Rattle.std.proofs.lemmas.List.Elements.{All-set, All-get_or}
@@ -27,7 +29,7 @@ rows_but old mid i r same count = record {
   count = length_set mid i r ∙ count;
 }
 
-pub plain_pushed : (l : Levels) (p : Vec Kept Global) (r : Vec Row Global) (linked : List Kept) (mid : List Row) (n i : ℕ) (k : Kept) (before : Option Element) (key : ℕ) → n ≡ l.dropped + length l.plains.items → p.items ≡ linked ++ k ∷ [] → k ≡ next_plain (kept_in l.plains.items l.dropped n) (n + 1) (l.ended + i + 1) before key → ((m : ℕ) → kept_in linked l.dropped m ≡ (if m == (row_at l.rows.items i).last then option_map (with_next (n + 1)) (kept_in l.plains.items l.dropped m) else kept_in l.plains.items l.dropped m)) → length linked ≡ length l.plains.items → r.items ≡ set mid i (with_plain (n + 1) (row_at l.rows.items i)) → ((j : ℕ) → row_at mid j ≡ row_at l.rows.items j) → length mid ≡ max (length l.rows.items) (i + 1) → IsPlainPushed l (record { ended = l.ended; base = l.base; plains = p; dropped = l.dropped; versions = l.versions; starts = l.starts; rows = r }) n i before key
+pub plain_pushed : (l : Levels) (p : VecDeque Kept Global) (r : VecDeque Row Global) (linked : List Kept) (mid : List Row) (n i : ℕ) (k : Kept) (before : Option Element) (key : ℕ) → n ≡ l.dropped + length l.plains.items → p.items ≡ linked ++ k ∷ [] → k ≡ next_plain (kept_in l.plains.items l.dropped n) (n + 1) (l.ended + i + 1) before key → ((m : ℕ) → kept_in linked l.dropped m ≡ (if m == (row_at l.rows.items i).last then option_map (with_next (n + 1)) (kept_in l.plains.items l.dropped m) else kept_in l.plains.items l.dropped m)) → length linked ≡ length l.plains.items → r.items ≡ set mid i (with_plain (n + 1) (row_at l.rows.items i)) → ((j : ℕ) → row_at mid j ≡ row_at l.rows.items j) → length mid ≡ max (length l.rows.items) (i + 1) → IsPlainPushed l (record { ended = l.ended; base = l.base; plains = p; dropped = l.dropped; versions = l.versions; starts = l.starts; rows = r }) n i before key
 plain_pushed l p r linked mid n i k before key is more new links count rows same wide = record {
   ended = refl;
   base = refl;
@@ -50,19 +52,19 @@ plain_pushed l p r linked mid n i k before key is more new links count rows same
     other (Version f v) ne = refl
 
 -- one family's list is another
-pub family_set : (qs : List (Vec Kept Global)) (f : ℕ) (q : Vec Kept Global) → f < length qs → family_at (set qs f q) f ≡ q.items
+pub family_set : (qs : List (VecDeque Kept Global)) (f : ℕ) (q : VecDeque Kept Global) → f < length qs → family_at (set qs f q) f ≡ q.items
 family_set [] f q lt = absurd (omega (arith, lt))
 family_set (p ∷ qs) zero q lt = refl
 family_set (p ∷ qs) (suc f) q lt = family_set qs f q (omega (arith, lt))
 
-pub family_other : (qs : List (Vec Kept Global)) (f g : ℕ) (q : Vec Kept Global) → g ≢ f → family_at (set qs f q) g ≡ family_at qs g
+pub family_other : (qs : List (VecDeque Kept Global)) (f g : ℕ) (q : VecDeque Kept Global) → g ≢ f → family_at (set qs f q) g ≡ family_at qs g
 family_other [] f g q ne = refl
 family_other (p ∷ qs) zero zero q ne = absurd (ne refl)
 family_other (p ∷ qs) zero (suc g) q ne = refl
 family_other (p ∷ qs) (suc f) zero q ne = refl
 family_other (p ∷ qs) (suc f) (suc g) q ne = family_other qs f g q (λ e. ne (ap suc e))
 
-pub version_pushed : (l : Levels) (qs : Vec (Vec Kept Global) Global) (r : Vec Row Global) (q : Vec Kept Global) (mid : List Row) (f v i : ℕ) (k : Kept) → f < length l.versions.items → v ≡ get_or l.starts.items f 0 + length (family_at l.versions.items f) → k.level ≡ l.ended + i + 1 → q.items ≡ family_at l.versions.items f ++ k ∷ [] → qs.items ≡ set l.versions.items f q → r.items ≡ set mid i (with_version f (v + 1) (row_at l.rows.items i)) → ((j : ℕ) → row_at mid j ≡ row_at l.rows.items j) → length mid ≡ max (length l.rows.items) (i + 1) → IsVersionPushed l (record { ended = l.ended; base = l.base; plains = l.plains; dropped = l.dropped; versions = qs; starts = l.starts; rows = r }) f v i k
+pub version_pushed : (l : Levels) (qs : Vec (VecDeque Kept Global) Global) (r : VecDeque Row Global) (q : VecDeque Kept Global) (mid : List Row) (f v i : ℕ) (k : Kept) → f < length l.versions.items → v ≡ get_or l.starts.items f 0 + length (family_at l.versions.items f) → k.level ≡ l.ended + i + 1 → q.items ≡ family_at l.versions.items f ++ k ∷ [] → qs.items ≡ set l.versions.items f q → r.items ≡ set mid i (with_version f (v + 1) (row_at l.rows.items i)) → ((j : ℕ) → row_at mid j ≡ row_at l.rows.items j) → length mid ≡ max (length l.rows.items) (i + 1) → IsVersionPushed l (record { ended = l.ended; base = l.base; plains = l.plains; dropped = l.dropped; versions = qs; starts = l.starts; rows = r }) f v i k
 version_pushed l qs r q mid f v i k inside is level more set_it rows same wide = record {
   ended = refl;
   base = refl;
@@ -107,25 +109,25 @@ next_range (Some k) base level ended top before a b c d = split (nat_le level k.
     split false q is = (c, d)
 
 -- one family's list has more room
-module _ (qs : List (Vec Kept Global)) (f : ℕ) (q r : Vec Kept Global) (inside : f < length qs) (at : q ≡ get_or qs f q) (items : r.items ≡ q.items) (len : vec_len r ≡ vec_len q) (more : vec_capacity q ≤ vec_capacity r) where
+module _ (qs : List (VecDeque Kept Global)) (f : ℕ) (q r : VecDeque Kept Global) (inside : f < length qs) (at : q ≡ get_or qs f q) (items : r.items ≡ q.items) (len : deque_len r ≡ deque_len q) (more : deque_capacity q ≤ deque_capacity r) where
   pub lists_kept : (g : ℕ) → family_at (set qs f r) g ≡ family_at qs g
   lists_kept g = ⊎_elim
       (λ (e : g ≡ f). ap (family_at (set qs f r)) e ∙ family_set qs f r inside ∙ items ∙ sym (family_here qs f q (slice_get_read qs (length qs) f q refl inside at)) ∙ ap (family_at qs) (sym e))
       (λ (ne : g ≢ f). family_other qs f g r ne)
       (same_family f g)
 
-  pub room_kept : (n : ℕ) → All (λ (p : Vec Kept Global). vec_len p + n ≤ vec_capacity p) qs → All (λ (p : Vec Kept Global). vec_len p + n ≤ vec_capacity p) (set qs f r)
+  pub room_kept : (n : ℕ) → All (λ (p : VecDeque Kept Global). deque_len p + n ≤ deque_capacity p) qs → All (λ (p : VecDeque Kept Global). deque_len p + n ≤ deque_capacity p) (set qs f r)
   room_kept n all =
-      let old : vec_len q + n ≤ vec_capacity q = rw at (All-get_or (λ (p : Vec Kept Global). vec_len p + n ≤ vec_capacity p) qs f q inside all) in
-      All-set (λ (p : Vec Kept Global). vec_len p + n ≤ vec_capacity p) qs f r (omega (arith, old, len, more)) all
+      let old : deque_len q + n ≤ deque_capacity q = rw at (All-get_or (λ (p : VecDeque Kept Global). deque_len p + n ≤ deque_capacity p) qs f q inside all) in
+      All-set (λ (p : VecDeque Kept Global). deque_len p + n ≤ deque_capacity p) qs f r (omega (arith, old, len, more)) all
 
-  pub room_more : (n : ℕ) → ((k : ℕ) (d : Vec Kept Global) → k < f → vec_len (get_or qs k d) + n ≤ vec_capacity (get_or qs k d)) → vec_len r + n ≤ vec_capacity r → (k : ℕ) (d : Vec Kept Global) → k < f + 1 → vec_len (get_or (set qs f r) k d) + n ≤ vec_capacity (get_or (set qs f r) k d)
+  pub room_more : (n : ℕ) → ((k : ℕ) (d : VecDeque Kept Global) → k < f → deque_len (get_or qs k d) + n ≤ deque_capacity (get_or qs k d)) → deque_len r + n ≤ deque_capacity r → (k : ℕ) (d : VecDeque Kept Global) → k < f + 1 → deque_len (get_or (set qs f r) k d) + n ≤ deque_capacity (get_or (set qs f r) k d)
   room_more n before here k d lt = ⊎_elim
       (λ (e : k ≡ f). let s : get_or (set qs f r) k d ≡ r = ap (λ i. get_or (set qs f r) i d) e ∙ get_or-set_same qs f r d inside in rw s here)
       (λ (ne : k ≢ f). rw (get_or-set_other qs f k r d ne) (before k d (omega (arith, lt, ne))))
       (same_family f k)
 
-pub no_family_more : (qs : List (Vec Kept Global)) (q : Vec Kept Global) → q.items ≡ [] → ((f : ℕ) → family_at qs f ≡ []) → (f : ℕ) → family_at (qs ++ q ∷ []) f ≡ []
+pub no_family_more : (qs : List (VecDeque Kept Global)) (q : VecDeque Kept Global) → q.items ≡ [] → ((f : ℕ) → family_at qs f ≡ []) → (f : ℕ) → family_at (qs ++ q ∷ []) f ≡ []
 no_family_more [] q is none zero = is
 no_family_more [] q is none (suc f) = refl
 no_family_more (p ∷ qs) q is none zero = none 0

@@ -1,5 +1,7 @@
 -- Levels that are kept as elements are staged.
-use Rattle.std.specs.Prelude.{AllPairs, ◌≡◌, ◌≢◌, ◌&&◌, nat_le, slice_set, ℕ, zero, suc, ◌+◌, ◌-◌, ◌≤◌, ◌<◌, ◌⊎◌, ◌==◌, ◌^◌, List, [], ◌∷◌, Bool, Option, Some, None, Vec, All, Contains, max, nat_lt, if◌then◌else◌, length, slice_get, slice_index, slice_index_or, option_map, vec_len, vec_capacity}
+use Rattle.std.specs.Prelude.{AllPairs, ◌≡◌, ◌≢◌, ◌&&◌, nat_le, slice_set, ℕ, zero, suc, ◌+◌, ◌-◌, ◌≤◌, ◌<◌, ◌⊎◌, ◌==◌, ◌^◌, List, [], ◌∷◌, Bool, Option, Some, None, Vec, All, Contains, max, nat_lt, if◌then◌else◌, length, slice_get, slice_index, slice_index_or, option_map}
+use Rattle.std.specs.declared.collections.VecDeque.{VecDeque}
+use Rattle.std.specs.VecDeque.{deque_len, deque_capacity}
 use Rattle.std.specs.Global.{Global}
 use Rattle.cs_deps.specs.declared.elements.Element.{Element}
 use Rattle.cs_deps.specs.declared.elements.Element.TheVariants.{Plain, Version}
@@ -17,7 +19,7 @@ abbrev pub kept_in : List Kept → ℕ → ℕ → Option Kept
 kept_in xs start n = if nat_lt start n then slice_get xs (n - start - 1) else None
 
 -- what is kept of a family
-abbrev pub family_at : List (Vec Kept Global) → ℕ → List Kept
+abbrev pub family_at : List (VecDeque Kept Global) → ℕ → List Kept
 family_at [] f = []
 family_at (q ∷ qs) zero = q.items
 family_at (q ∷ qs) (suc f) = family_at qs f
@@ -87,9 +89,9 @@ pub record AreLinked (kept : Element → Option Kept) (ended : ℕ) : Type 0 whe
 
 -- there is room for so many more elements
 pub record HasRoom (l : Levels) (room : ℕ) : Type 0 where
-  pub plains : vec_len l.plains + room ≤ vec_capacity l.plains
-  pub rows : vec_len l.rows + room ≤ vec_capacity l.rows
-  pub versions : All (λ q. vec_len q + room ≤ vec_capacity q) l.versions.items
+  pub plains : deque_len l.plains + room ≤ deque_capacity l.plains
+  pub rows : deque_len l.rows + room ≤ deque_capacity l.rows
+  pub versions : All (λ q. deque_len q + room ≤ deque_capacity q) l.versions.items
   pub limit : l.ended + length l.rows.items + room ≤ 2 ^ 63
 
 -- x stands in the queue at a place: a plain write of its level, or the version of its family that is kept there

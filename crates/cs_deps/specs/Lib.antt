@@ -10,4 +10,5 @@ pub mod Refusals
 pub mod Entries
 pub mod Turns
 pub mod Levels
+pub mod Trimmed
 pub mod Records

@@ -335,6 +335,7 @@ impl Graph {
                 &self.persistent,
                 &self.latest,
             );
+            self.levels.trim(self.staged, &self.latest);
         }
     }
 

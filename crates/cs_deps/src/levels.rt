@@ -1,13 +1,16 @@
 //! Levels that are kept as elements are staged, and the ready queue of each level.
 
-ghost use Rattle.std.specs.Prelude.{nat_lt, IsTrue, IsOk, IfOk, IfSome, OnOk, None, ◌≡◌, ◌==◌, [], ◌∷◌, ◌++◌, ◌^◌, if◌then◌else◌, ℕ, ◌+◌, ◌≤◌, ◌<◌, ◌⊎◌, All, Some, Contains, length, max, option_map, slice_index, vec_len, vec_capacity};
+ghost use Rattle.std.specs.Prelude.{nat_lt, IsTrue, IsOk, IfOk, IfSome, OnOk, None, ◌≡◌, ◌==◌, [], ◌∷◌, ◌++◌, ◌^◌, if◌then◌else◌, ℕ, ◌+◌, ◌≤◌, ◌<◌, ◌⊎◌, ◌≢◌, List, All, Some, Contains, length, max, option_map, slice_index};
+ghost use Rattle.std.specs.VecDeque.{deque_len, deque_capacity};
 ghost use Rattle.cs_deps.specs.declared.elements.Element.{Element as Item};
 ghost use Rattle.cs_deps.specs.declared.levels.Kept.{Kept as KeptOf};
+ghost use Rattle.cs_deps.specs.Trimmed.{IsTrimmedList, IsTrimmed};
 ghost use Rattle.cs_deps.specs.Levels.{kept_in, kept_by, family_at, level_by, level_of, no_row, row_at, IsBest, HasRoom, with_next, keyed, next_plain, next_version, with_plain, with_version, IsPlainPushed, IsVersionPushed, IsNew, IsSameBut, IsLevelsSettled, AreLinked, ArePlainsListed, AreVersionsListed};
 
 use crate::dependencies::{Dependency, version_at};
 use crate::elements::Element;
 use std::alloc::{AllocError, Global};
+use std::collections::VecDeque;
 
 /// The last level that may be given.
 const LIMIT: u64 = 0x8000_0000_0000_0000;
@@ -52,18 +55,18 @@ pub struct Levels {
     /// The same, and one while such a round is out.
     pub base: u64,
     /// What is kept of the plain writes, by number, from the one after `dropped` on.
-    pub plains: Vec<Kept>,
+    pub plains: VecDeque<Kept>,
     pub dropped: u64,
     /// What is kept of the versions of each family, by number, from the one after its `starts` on.
-    pub versions: Vec<Vec<Kept>>,
+    pub versions: Vec<VecDeque<Kept>>,
     pub starts: Vec<u64>,
     /// Ready queues, from the level after `ended` on.
-    pub rows: Vec<Row>,
+    pub rows: VecDeque<Row>,
 }
 
 /// What is kept at a number.
-pub fn kept_at(list: &[Kept], start: u64, number: u64) -> Option<Kept>
-    ensures { result ≡ kept_in list.now start number }
+pub fn kept_at(list: &VecDeque<Kept>, start: u64, number: u64) -> Option<Kept>
+    ensures { result ≡ kept_in list.now.items start number }
 {
     if number <= start {
         return None;
@@ -138,9 +141,9 @@ fn lesser(least: u64, row: &Row) -> u64
 }
 
 /// A number that is no greater than the first plain write of any queue.
-fn least_first(rows: &[Row]) -> u64
+fn least_first(rows: &VecDeque<Row>) -> u64
     ensures some { 0 < result }
-    ensures least { (i : ℕ) → 0 < (row_at rows.now i).first → result ≤ (row_at rows.now i).first }
+    ensures least { (i : ℕ) → 0 < (row_at rows.now.items i).first → result ≤ (row_at rows.now.items i).first }
 {
     let mut least: u64 = u64::MAX;
     for k in 0..rows.len() {
@@ -150,23 +153,23 @@ fn least_first(rows: &[Row]) -> u64
 }
 
 /// Adds a queue where one is missing for this place.
-fn widen(rows: &mut Vec<Row>, place: usize)
+fn widen(rows: &mut VecDeque<Row>, place: usize)
     requires place { place ≤ length rows.old.items }
-    requires room { vec_len rows.old < vec_capacity rows.old }
+    requires room { deque_len rows.old < deque_capacity rows.old }
     ensures rows { (i : ℕ) → row_at rows.new.items i ≡ row_at rows.old.items i }
     ensures count { length rows.new.items ≡ max (length rows.old.items) (place + 1) }
-    ensures capacity { vec_capacity rows.new ≡ vec_capacity rows.old }
+    ensures capacity { deque_capacity rows.new ≡ deque_capacity rows.old }
 {
     if place == rows.len() {
-        rows.push_reserved(no_row());
+        rows.push_back_reserved(no_row());
     }
 }
 
 /// Tells a plain write, if it is kept, which is the next of its level.
-fn link(plains: &mut Vec<Kept>, start: u64, number: u64, next: u64)
+fn link(plains: &mut VecDeque<Kept>, start: u64, number: u64, next: u64)
     ensures kept { (n : ℕ) → kept_in plains.new.items start n ≡ (if n == number then option_map (with_next next) (kept_in plains.old.items start n) else kept_in plains.old.items start n) }
     ensures count { length plains.new.items ≡ length plains.old.items }
-    ensures capacity { vec_capacity plains.new ≡ vec_capacity plains.old }
+    ensures capacity { deque_capacity plains.new ≡ deque_capacity plains.old }
 {
     if number <= start {
         return;
@@ -276,25 +279,25 @@ fn with_version(row: Row, family: usize, version: u64) -> Row
 }
 
 /// Nothing is kept of so many families.
-fn no_versions(alloc: Global, families: usize) -> Result<Vec<Vec<Kept>>, AllocError>
+fn no_versions(alloc: Global, families: usize) -> Result<Vec<VecDeque<Kept>>, AllocError>
     ensures count { IfOk result (λ qs. length qs.items ≡ families) }
     ensures empty { IfOk result (λ qs. (f : ℕ) → family_at qs.items f ≡ []) }
 {
     let mut versions = Vec::new(alloc);
     for family in 0..families {
         let _family = family;
-        versions.push(Vec::new(alloc))?;
+        versions.push(VecDeque::new(alloc))?;
     }
     Ok(versions)
 }
 
 /// Makes room for so many more in each family.
-fn reserve_each(versions: &mut Vec<Vec<Kept>>, stagings: usize) -> Result<(), AllocError>
+fn reserve_each(versions: &mut Vec<VecDeque<Kept>>, stagings: usize) -> Result<(), AllocError>
     ensures lists { (f : ℕ) → family_at versions.new.items f ≡ family_at versions.old.items f }
     ensures count { length versions.new.items ≡ length versions.old.items }
-    ensures room { OnOk result (All (λ q. vec_len q + stagings ≤ vec_capacity q) versions.new.items) }
-    ensures kept { (n : ℕ) → All (λ q. vec_len q + n ≤ vec_capacity q) versions.old.items → All (λ q. vec_len q + n ≤ vec_capacity q) versions.new.items }
-    ensures memory { All (λ q. vec_len q + stagings ≤ vec_capacity q) versions.old.items → IsOk result }
+    ensures room { OnOk result (All (λ q. deque_len q + stagings ≤ deque_capacity q) versions.new.items) }
+    ensures kept { (n : ℕ) → All (λ q. deque_len q + n ≤ deque_capacity q) versions.old.items → All (λ q. deque_len q + n ≤ deque_capacity q) versions.new.items }
+    ensures memory { All (λ q. deque_len q + stagings ≤ deque_capacity q) versions.old.items → IsOk result }
 {
     for family in 0..versions.len() {
         reserve_one(&mut versions[family], stagings)?;
@@ -303,14 +306,86 @@ fn reserve_each(versions: &mut Vec<Vec<Kept>>, stagings: usize) -> Result<(), Al
 }
 
 /// Makes room for so many more.
-fn reserve_one(list: &mut Vec<Kept>, stagings: usize) -> Result<(), AllocError>
+fn reserve_one(list: &mut VecDeque<Kept>, stagings: usize) -> Result<(), AllocError>
     ensures items { list.new.items ≡ list.old.items }
-    ensures len { vec_len list.new ≡ vec_len list.old }
-    ensures room { OnOk result (vec_len list.new + stagings ≤ vec_capacity list.new) }
-    ensures capacity { vec_capacity list.old ≤ vec_capacity list.new }
-    ensures memory { vec_len list.old + stagings ≤ vec_capacity list.old → IsOk result }
+    ensures len { deque_len list.new ≡ deque_len list.old }
+    ensures room { OnOk result (deque_len list.new + stagings ≤ deque_capacity list.new) }
+    ensures capacity { deque_capacity list.old ≤ deque_capacity list.new }
+    ensures memory { deque_len list.old + stagings ≤ deque_capacity list.old → IsOk result }
 {
     list.reserve(stagings)
+}
+
+/// Takes away the first of a list as long as their level is not above the base.
+fn trim_list(list: &mut VecDeque<Kept>, base: u64)
+    ensures list { IsTrimmedList base list.old.items list.new.items }
+    ensures room { deque_len list.new ≤ deque_len list.old }
+    ensures capacity { deque_capacity list.new ≡ deque_capacity list.old }
+{
+    for step in 0..list.len() {
+        let _step = step;
+        if !is_settled(list, base) {
+            return;
+        }
+        list.pop_front();
+    }
+}
+
+/// Whether a list has a first, and the level of that is not above the base.
+fn is_settled(list: &VecDeque<Kept>, base: u64) -> bool
+    ensures { IsTrue result → (k : KeptOf) × (ks : List KeptOf) × (list.now.items ≡ k ∷ ks) × (k.level ≤ base) }
+{
+    match list.front() {
+        Some(kept) => kept.level <= base,
+        None => false,
+    }
+}
+
+/// Takes away the first of a family's list, and tells where it begins, as its last number is this.
+fn trim_family(versions: &mut Vec<VecDeque<Kept>>, family: usize, base: u64, last: u64) -> u64
+    requires inside { family < length versions.old.items }
+    requires last { length (family_at versions.old.items family) ≤ last }
+    ensures here { IsTrimmedList base (family_at versions.old.items family) (family_at versions.new.items family) }
+    ensures start { result + length (family_at versions.new.items family) ≡ last }
+    ensures there { (f : ℕ) → f ≢ family → family_at versions.new.items f ≡ family_at versions.old.items f }
+    ensures count { length versions.new.items ≡ length versions.old.items }
+    ensures room { (n : ℕ) → All (λ q. deque_len q + n ≤ deque_capacity q) versions.old.items → All (λ q. deque_len q + n ≤ deque_capacity q) versions.new.items }
+{
+    trim_list(&mut versions[family], base);
+    last - versions[family].len() as u64
+}
+
+/// Takes away the first of a family's list, where it has one.
+fn trim_one(
+    versions: &mut Vec<VecDeque<Kept>>,
+    starts: &mut Vec<u64>,
+    family: usize,
+    base: u64,
+    latest: &[u64],
+)
+    requires inside { family < length versions.old.items }
+    requires counts { (f : ℕ) → slice_index starts.old.items f + length (family_at versions.old.items f) ≡ slice_index latest.now f }
+    ensures lists { (f : ℕ) → IsTrimmedList base (family_at versions.old.items f) (family_at versions.new.items f) }
+    ensures counts { (f : ℕ) → slice_index starts.new.items f + length (family_at versions.new.items f) ≡ slice_index latest.now f }
+    ensures count { length versions.new.items ≡ length versions.old.items }
+    ensures room { (n : ℕ) → All (λ q. deque_len q + n ≤ deque_capacity q) versions.old.items → All (λ q. deque_len q + n ≤ deque_capacity q) versions.new.items }
+{
+    if family < starts.len() {
+        starts[family] = trim_family(versions, family, base, version_at(latest, family));
+    }
+}
+
+/// Takes away the first of each family's list.
+fn trim_each(versions: &mut Vec<VecDeque<Kept>>, starts: &mut Vec<u64>, base: u64, latest: &[u64])
+    requires counts { (f : ℕ) → slice_index starts.old.items f + length (family_at versions.old.items f) ≡ slice_index latest.now f }
+    ensures lists { (f : ℕ) → IsTrimmedList base (family_at versions.old.items f) (family_at versions.new.items f) }
+    ensures counts { (f : ℕ) → slice_index starts.new.items f + length (family_at versions.new.items f) ≡ slice_index latest.now f }
+    ensures count { length versions.new.items ≡ length versions.old.items }
+    ensures room { (n : ℕ) → All (λ q. deque_len q + n ≤ deque_capacity q) versions.old.items → All (λ q. deque_len q + n ≤ deque_capacity q) versions.new.items }
+{
+    for family in 0..versions.len() {
+        trim_one(versions, starts, family, base, latest);
+    }
 }
 
 impl Levels {
@@ -323,11 +398,11 @@ impl Levels {
         Ok(Levels {
             ended: 0,
             base: 0,
-            plains: Vec::new(alloc),
+            plains: VecDeque::new(alloc),
             dropped: 0,
             versions,
             starts,
-            rows: Vec::new(alloc),
+            rows: VecDeque::new(alloc),
         })
     }
 
@@ -452,8 +527,8 @@ impl Levels {
         requires low { self.old.ended ≤ best.level }
         requires high { best.level ≤ self.old.ended + length self.old.rows.items }
         requires last { last ≡ self.old.dropped + length self.old.plains.items }
-        requires plains { vec_len self.old.plains < vec_capacity self.old.plains }
-        requires rows { vec_len self.old.rows < vec_capacity self.old.rows }
+        requires plains { deque_len self.old.plains < deque_capacity self.old.plains }
+        requires rows { deque_len self.old.rows < deque_capacity self.old.rows }
         requires limit { (self.old.ended + length self.old.rows.items < 2 ^ 63) × (last < 2 ^ 63) }
         ensures pushed { (i : ℕ) → self.old.ended + i ≡ best.level → IsPlainPushed self.old self.new last i best.before key }
         ensures room { (n : ℕ) → HasRoom self.old (n + 1) → HasRoom self.new n }
@@ -465,7 +540,13 @@ impl Levels {
         let row = self.rows[place];
         link(&mut self.plains, self.dropped, row.last, number);
         self.rows[place] = with_plain(row, number);
-        self.plains.push_reserved(next_plain(before, number, best.level + 1, best.before, key));
+        self.plains.push_back_reserved(next_plain(
+            before,
+            number,
+            best.level + 1,
+            best.before,
+            key,
+        ));
     }
 
     /// What is to be kept of the version behind the last one: one level over what it needs, and no lower than that one.
@@ -515,8 +596,8 @@ impl Levels {
         requires low { self.old.ended < kept.level }
         requires high { kept.level ≤ self.old.ended + length self.old.rows.items + 1 }
         requires last { last ≡ slice_index self.old.starts.items family + length (family_at self.old.versions.items family) }
-        requires versions { All (λ q. vec_len q < vec_capacity q) self.old.versions.items }
-        requires rows { vec_len self.old.rows < vec_capacity self.old.rows }
+        requires versions { All (λ q. deque_len q < deque_capacity q) self.old.versions.items }
+        requires rows { deque_len self.old.rows < deque_capacity self.old.rows }
         requires limit { last < 2 ^ 63 }
         ensures pushed { (i : ℕ) → self.old.ended + i + 1 ≡ kept.level → IsVersionPushed self.old self.new family last i (keyed key kept) }
         ensures room { (n : ℕ) → HasRoom self.old (n + 1) → HasRoom self.new n }
@@ -525,7 +606,7 @@ impl Levels {
         widen(&mut self.rows, place);
         let row = self.rows[place];
         self.rows[place] = with_version(row, family, last + 1);
-        self.versions[family].push_reserved(keyed(kept, key));
+        self.versions[family].push_back_reserved(keyed(kept, key));
     }
 
     /// Makes room for so many more elements.
@@ -564,8 +645,20 @@ impl Levels {
     {
         if self.ended < self.base {
             self.ended = self.base;
-            self.rows.remove(0);
+            self.rows.pop_front();
         }
+    }
+
+    /// Lets go what is kept of the elements that were staged first, as far as none is above the base, where so many were
+    /// staged. Each goes once: over all calls the work is linear in what was staged, and in the families.
+    pub fn trim(&mut self, staged: u64, latest: &[u64])
+        requires plains { self.old.dropped + length self.old.plains.items ≡ staged }
+        requires versions { (f : ℕ) → slice_index self.old.starts.items f + length (family_at self.old.versions.items f) ≡ slice_index latest.now f }
+        ensures { IsTrimmed self.old self.new }
+    {
+        trim_list(&mut self.plains, self.base);
+        self.dropped = staged - self.plains.len() as u64;
+        trim_each(&mut self.versions, &mut self.starts, self.base, latest);
     }
 }
 

@@ -1,4 +1,4 @@
-use Rattle.std.proofs.Common.{◌≡◌, ◌∙◌, ℕ, ◌+◌, ◌<◌, ◌≤◌, ◌⊎◌, List, [], ◌∷◌, zero, suc, length, get_or, refl, sym, ap, ⊎_elim, arith}
+use Rattle.std.proofs.Common.{◌≡◌, ◌∙◌, ℕ, ◌+◌, ◌<◌, ◌≤◌, ◌⊎◌, List, [], ◌∷◌, zero, suc, length, get_or, refl, sym, ap, subst, ⊎_elim, arith}
 use Rattle.std.proofs.lemmas.Bool.{cases_lt}
 use Rattle.std.proofs.lemmas.List.{get_or_past}
 use Rattle.cs_deps.specs.declared.levels.Row.{Row}
@@ -20,14 +20,14 @@ loop-k-preserved c = record {
   least = λ i lt up. ⊎_elim
       (λ (b : i < c.loop-k.k). omega (arith, c.loop-k.invariant.least i b up, c.lesser-least.ensures.least))
       (λ (e : i ≡ c.loop-k.k).
-      let f = ap (λ k. (row_at c.args.rows.now k).first) e in
-      let r = at_row c.args.rows.now c.loop-k.k c.loop-k-test.true _ c.lesser-least.result c.lesser-least.ensures.first (omega (arith, f, up)) in
+      let f = ap (λ k. (row_at c.args.rows.now.items k).first) e in
+      let r = at_row c.args.rows.now.items c.loop-k.k (omega (arith, c.loop-k-test.true, c.len-k-end.ensures, c.args.rows.now.ok.0)) c.index.result.now c.lesser-least.result (subst (λ (r : Row). 0 < r.first → c.lesser-least.result ≤ r.first) c.index.ensures c.lesser-least.ensures.first) (omega (arith, f, up)) in
       omega (arith, f, r))
       (below_next i c.loop-k.k lt);
 }
 
 pub returns-clause-least : goal.returns-clause-least
 returns-clause-least c i some = ⊎_elim
-    (λ (lt : i < length c.args.rows.now). c.loop-k.invariant.least i (omega (arith, lt, c.loop-k-test.false)) some)
-    (λ (le : length c.args.rows.now ≤ i). let e = ap (λ (r : Row). r.first) (get_or_past c.args.rows.now i no_row le) in absurd (omega (arith, e, some)))
-    (cases_lt i (length c.args.rows.now))
+    (λ (lt : i < length c.args.rows.now.items). c.loop-k.invariant.least i (omega (arith, lt, c.loop-k-test.false, c.len-k-end.ensures, c.args.rows.now.ok.0)) some)
+    (λ (le : length c.args.rows.now.items ≤ i). let e = ap (λ (r : Row). r.first) (get_or_past c.args.rows.now.items i no_row le) in absurd (omega (arith, e, some)))
+    (cases_lt i (length c.args.rows.now.items))

@@ -1,4 +1,4 @@
-use Rattle.std.proofs.Common.{◌≡◌, ◌∙◌, ℕ, List, Some, inl, sym, ap, arith}
+use Rattle.std.proofs.Common.{◌≡◌, ◌∙◌, ℕ, List, Some, None, refl, inl, sym, ap, arith}
 use Rattle.std.specs.Prelude.{filter, option_map}
 use Rattle.cs_deps.specs.declared.elements.Element.{Element}
 use Rattle.cs_deps.specs.Named.{Named}
@@ -7,7 +7,9 @@ use Rattle.cs_deps.specs.contracts.graphs.Graph.{the_view}
 use Rattle.cs_deps.specs.Records.{writes_of}
 use Rattle.cs_deps.specs.State.{State, after_round}
 use Rattle.cs_deps.specs.Staging.{Staging, raised}
-use Rattle.cs_deps.specs.Entries.{entry_stays}
+use Rattle.cs_deps.specs.Entries.{state_of, entry_stays}
+use Rattle.cs_deps.specs.Levels.{IsIndexed}
+use Rattle.cs_deps.proofs.Trimmed.{indexed_trimmed, filed_trimmed}
 use Rattle.cs_deps.proofs.StateSteps.{settled_round_adds}
 use Rattle.cs_deps.proofs.Entries.{whole_left, current_settled, waiting_settled}
 use Rattle.cs_deps.proofs.Filed.{less_kept}
@@ -15,6 +17,24 @@ use Rattle.cs_deps.proofs.FiledSteps.{filed_settled}
 use Rattle.cs_deps.proofs.Held.{indexed_left}
 use Rattle.cs_deps.proofs.LeftOver.{entries_left}
 use Rattle.cs_deps.proofs.graphs.Graph.settle_round.Goals as goal
+
+pub trim-requires-clause-plains : goal.trim-requires-clause-plains
+trim-requires-clause-plains c =
+    let g = c.self.inside in
+    let s : State = the_view g in
+    let round : List Element = c.in-Some.round.items in
+    let out : s.round ≡ Some round = ap (option_map (λ r. r.items)) (sym c.take.ensures.value ∙ c.in-Some.is) in
+    let ready = indexed_left g.persistent.items g.entries.items g.staged g.latest.items s.round (writes_of g.records.slots) g.room c.self.invariant.whole c.self.invariant.current g.levels c.self.invariant.indexed c.settle.new.self c.settle.ensures.none c.settle.ensures.one round out (writes_of c.give_up.new.records.slots) in
+    ready.plain_count
+
+pub trim-requires-clause-versions : goal.trim-requires-clause-versions
+trim-requires-clause-versions c f =
+    let g = c.self.inside in
+    let s : State = the_view g in
+    let round : List Element = c.in-Some.round.items in
+    let out : s.round ≡ Some round = ap (option_map (λ r. r.items)) (sym c.take.ensures.value ∙ c.in-Some.is) in
+    let ready = indexed_left g.persistent.items g.entries.items g.staged g.latest.items s.round (writes_of g.records.slots) g.room c.self.invariant.whole c.self.invariant.current g.levels c.self.invariant.indexed c.settle.new.self c.settle.ensures.none c.settle.ensures.one round out (writes_of c.give_up.new.records.slots) in
+    rw c.deref-in-Some-4.ensures.value (ready.version_count f)
 
 pub invariant_of-self : goal.invariant_of-self
 invariant_of-self c =
@@ -28,13 +48,19 @@ invariant_of-self c =
     let given = rw c.deref.ensures.value at c.give_up.ensures in
     let filed = filed_settled s g.levels c.settle.new.self ix g.records c.give_up.new.records c.self.invariant.filed c.settle.ensures.none c.settle.ensures.one round out given.less given.gone given.rest in
     let now = writes_of c.give_up.new.records.slots in
+    let l = c.settle.new.self in
+    let m = c.trim.new.self in
+    let is = c.trim.ensures in
+    let after : State = state_of (raised g.persistent.items round) (filter (λ w. entry_stays round (raised g.persistent.items round) g.latest.items w.0) g.entries.items) g.staged g.latest.items None now g.room in
+    let ready : IsIndexed after l = indexed_left g.persistent.items g.entries.items g.staged g.latest.items s.round (writes_of g.records.slots) g.room c.self.invariant.whole c.self.invariant.current g.levels ix l c.settle.ensures.none c.settle.ensures.one round out now in
+    let still = ready.still refl in
     rw (persistent, entries, c.take.ensures.after) (record {
       whole = whole_left g.persistent.items g.entries.items g.staged g.latest.items s.round (writes_of g.records.slots) g.room round c.self.invariant.whole c.self.invariant.current out now;
       current = current_settled g.persistent.items g.latest.items g.entries.items c.self.invariant.current c.self.invariant.whole.kept.families round;
-      filed = filed;
+      filed = filed_trimmed after l m is ready still c.give_up.new.records filed;
       entries_fit = omega (arith, c.self.invariant.entries_fit, c.keep_entries.ensures.count, c.keep_entries.ensures.capacity);
       records_fit = omega (arith, c.self.invariant.records_fit, c.give_up.ensures.count, c.give_up.ensures.capacity);
-      indexed = indexed_left g.persistent.items g.entries.items g.staged g.latest.items s.round (writes_of g.records.slots) g.room c.self.invariant.whole c.self.invariant.current g.levels ix c.settle.new.self c.settle.ensures.none c.settle.ensures.one round out now;
+      indexed = indexed_trimmed after l m is ready still refl;
     })
 
 pub returns-in-Some-clause-settled : goal.returns-in-Some-clause-settled

@@ -251,6 +251,9 @@ returns-then-before-ge-LAST-clause-worn c =
       (λ h. refl),
     )
 
+pub returns-then-before-ge-LAST-clause-own : goal.returns-then-before-ge-LAST-clause-own
+returns-then-before-ge-LAST-clause-own c = ((λ e. absurd (cc e)), (λ h. absurd (cc (c.names_family.ensures.no h.1.0 h.1.1, c.if-names_family.false))))
+
 pub returns-in-Ok-clause-own : goal.returns-in-Ok-clause-own
 returns-in-Ok-clause-own c = ((λ e. absurd (cc e)), (λ h. absurd (cc (c.names_family.ensures.no h.1.0 h.1.1, c.if-names_family.false))))
 

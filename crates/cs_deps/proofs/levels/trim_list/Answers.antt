@@ -1,0 +1,35 @@
+use Rattle.std.proofs.Common.{◌≡◌, ◌∙◌, ◌≤◌, ◌+◌, List, ◌∷◌, drop, sym, ap, subst, refl, le_refl, arith}
+use Rattle.cs_deps.specs.declared.levels.Kept.{Kept}
+use Rattle.cs_deps.specs.Trimmed.{IsTrimmedList}
+use Rattle.cs_deps.proofs.Trimmed.{trimmed_none, trimmed_more, trimmed_first, without_first}
+use Rattle.cs_deps.proofs.levels.trim_list.Goals as goal
+
+pub loop-step-init : goal.loop-step-init
+loop-step-init c = record { list = trimmed_none c.args.base c.args.list.now.items; room = le_refl c.args.list.now.len; capacity = refl }
+
+pub loop-step-preserved : goal.loop-step-preserved
+loop-step-preserved c =
+    let k = c.is_settled.ensures c.if-not-is_settled.false in
+    record {
+      list = trimmed_more c.args.base c.args.list.now.items c.loop-step.list.items c.pop_front.new.self.items c.loop-step.invariant.list (without_first c.args.base k.0 k.1 c.loop-step.list.items c.pop_front.new.self.items k.2 c.pop_front.ensures.rest k.3);
+      room = omega (arith, c.pop_front.ensures.len, c.loop-step.invariant.room);
+      capacity = c.pop_front.ensures.capacity ∙ c.loop-step.invariant.capacity;
+    }
+
+pub returns-then-not-is_settled-clause-list : goal.returns-then-not-is_settled-clause-list
+returns-then-not-is_settled-clause-list c = c.loop-step.invariant.list
+
+pub returns-then-not-is_settled-clause-room : goal.returns-then-not-is_settled-clause-room
+returns-then-not-is_settled-clause-room c = c.loop-step.invariant.room
+
+pub returns-then-not-is_settled-clause-capacity : goal.returns-then-not-is_settled-clause-capacity
+returns-then-not-is_settled-clause-capacity c = c.loop-step.invariant.capacity
+
+pub returns-clause-list : goal.returns-clause-list
+returns-clause-list c = c.loop-step.invariant.list
+
+pub returns-clause-room : goal.returns-clause-room
+returns-clause-room c = c.loop-step.invariant.room
+
+pub returns-clause-capacity : goal.returns-clause-capacity
+returns-clause-capacity c = c.loop-step.invariant.capacity
