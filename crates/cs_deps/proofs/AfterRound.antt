@@ -1,11 +1,10 @@
 -- What may be staged may be staged once the round that is out has joined.
-use Rattle.std.proofs.Common.{◌≡◌, ◌≢◌, ℕ, ◌+◌, ◌<◌, ◌≤◌, ◌⊎◌, Bool, true, false, List, [], ◌∷◌, length, get_or, Option, Some, None, slice_get, refl, sym, ap, ◌∙◌, subst, inl, inr, ⊎_elim, arith}
+use Rattle.std.proofs.Common.{◌≡◌, ◌≢◌, ℕ, ◌⊎◌, Bool, true, false, List, Option, Some, None, refl, sym, ap, ◌∙◌, subst, inl, inr, ⊎_elim, arith}
 use Rattle.std.specs.Prelude.{Contains}
-use Rattle.std.proofs.lemmas.Option.{some_pair_parts}
 use Rattle.cs_deps.specs.declared.elements.Element.{Element}
 use Rattle.cs_deps.specs.declared.elements.Element.TheVariants.{Plain, Version}
-use Rattle.cs_deps.specs.Named.{Named, Names, StandsFor}
-use Rattle.cs_deps.specs.Pending.{Pending, WaitsAt, Waits, Needs, IsPersistent, IsStaged}
+use Rattle.cs_deps.specs.Named.{Named, StandsFor}
+use Rattle.cs_deps.specs.Pending.{Pending, WaitsAt, Waits, IsPersistent, IsStaged}
 use Rattle.cs_deps.specs.Staging.{settled, staged_after, still_waits}
 use Rattle.cs_deps.specs.State.{State, after, after_round}
 use Rattle.cs_deps.specs.Entries.{IsSound}

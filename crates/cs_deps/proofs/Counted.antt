@@ -1,24 +1,21 @@
 -- How many page writes are kept.
-use Rattle.std.proofs.Common.{◌≡◌, ◌∙◌, ◌≢◌, ℕ, zero, suc, ◌+◌, ◌<◌, ◌≤◌, ◌⊎◌, List, [], ◌∷◌, length, get_or, cond, Option, Some, None, refl, sym, ap, subst, inl, inr, ⊎_elim, arith}
-use Rattle.std.specs.Prelude.{Contains, AllPairs, All, count_by, is_some, ◌↔◌, ◌-◌}
-use Rattle.std.proofs.lemmas.Bool.{cases_lt}
+use Rattle.std.proofs.Common.{◌≡◌, ◌∙◌, ◌≢◌, ℕ, zero, suc, ◌+◌, List, [], ◌∷◌, length, get_or, cond, Option, Some, None, refl, sym, ap, subst, ⊎_elim, arith}
+use Rattle.std.specs.Prelude.{Contains, AllPairs, count_by, is_some, ◌-◌}
 use Rattle.std.proofs.lemmas.Option.{same_Some}
 use Rattle.std.proofs.lemmas.List.Elements.{Contains-get_or}
 use Rattle.std.proofs.lemmas.List.Kept.{AllPairs-cons}
 use Rattle.std.proofs.lemmas.List.Sums.{sum_by-cons}
 use Rattle.slab.proofs.SlabLemmas.{Contains-cons, Contains-cons_cases}
-use Rattle.slab.specs.Slab.{Slab, get, slab_len}
+use Rattle.slab.specs.Slab.{Slab, slab_len}
 use Rattle.cs_deps.specs.declared.elements.Element.{Element}
 use Rattle.cs_deps.specs.declared.elements.Element.TheVariants.{Plain, Version}
-use Rattle.cs_deps.specs.declared.levels.Kept.{Kept}
 use Rattle.cs_deps.specs.declared.levels.Levels.{Levels}
 use Rattle.cs_deps.specs.declared.records.Record.{Record}
 use Rattle.cs_deps.specs.Chain.{IsHeight}
-use Rattle.cs_deps.specs.Pending.{Waits}
 use Rattle.cs_deps.specs.Entries.{IsSound}
-use Rattle.cs_deps.specs.Levels.{kept_by, level_by, level_of, row_at, IsInRow, IsQueued, IsIndexed}
+use Rattle.cs_deps.specs.Levels.{kept_by, level_by, row_at, IsInRow, IsQueued, IsIndexed}
 use Rattle.cs_deps.specs.Records.{AreFiled}
-use Rattle.cs_deps.specs.State.{State, AreCounted, after_round}
+use Rattle.cs_deps.specs.State.{State, AreCounted}
 use Rattle.cs_deps.proofs.Filed.{one_key, queued_kept, queued_waits, plain_queued}
 use Rattle.cs_deps.proofs.HeightSteps.{height_positive}
 use Rattle.cs_deps.proofs.InRow.{row_level, same_in_row}

@@ -1,6 +1,6 @@
 -- Records under keys: what a list of slots has, and what it means of a graph.
 use Rattle.std.proofs.Common.{◌≡◌, ◌∙◌, ◌≢◌, ℕ, zero, suc, ◌+◌, ◌<◌, ◌≤◌, ◌⊎◌, Bool, true, false, List, [], ◌∷◌, get_or, Option, Some, None, refl, sym, ap, subst, inl, inr, ⊎_elim, arith}
-use Rattle.std.specs.Prelude.{◌-◌, if◌then◌else◌, option_map, Contains}
+use Rattle.std.specs.Prelude.{◌-◌, if◌then◌else◌, Contains}
 use Rattle.cs_deps.specs.Named.{StandsFor}
 use Rattle.std.proofs.lemmas.Bool.{cases_lt}
 use Rattle.std.proofs.lemmas.Option.{same_Some}
@@ -11,10 +11,10 @@ use Rattle.cs_deps.specs.declared.levels.Kept.{Kept}
 use Rattle.cs_deps.specs.declared.levels.Levels.{Levels}
 use Rattle.cs_deps.specs.declared.records.Record.{Record}
 use Rattle.cs_deps.specs.Pending.{Waits}
-use Rattle.cs_deps.specs.Levels.{kept_by, level_by, level_of, row_at, IsInRow, IsQueued, IsIndexed}
+use Rattle.cs_deps.specs.Levels.{kept_by, level_by, IsInRow, IsQueued, IsIndexed}
 use Rattle.cs_deps.specs.Records.{writes_of, AreFiled}
-use Rattle.cs_deps.specs.Staging.{still_waits, settled}
-use Rattle.cs_deps.specs.State.{State, Write, IsOut, IsOfLevel, KeepsBytes, IsWhole, after, after_round, same_element, last_write, write_of}
+use Rattle.cs_deps.specs.Staging.{still_waits}
+use Rattle.cs_deps.specs.State.{State, Write, IsOut, IsOfLevel, KeepsBytes, IsWhole, after, after_round, same_element, last_write}
 use Rattle.cs_deps.specs.Entries.{IsSound}
 use Rattle.cs_deps.proofs.AllHeights.{all_have_heights}
 use Rattle.cs_deps.proofs.Filtered.{filter_keeps}
@@ -23,7 +23,7 @@ use Rattle.cs_deps.proofs.InRow.{level_in_row, row_level}
 use Rattle.cs_deps.proofs.KeptIn.{kept_from}
 use Rattle.cs_deps.proofs.Settled.{one_stands}
 use Rattle.cs_deps.proofs.StateSteps.{same_itself, same_is, after_waits}
-use Rattle.cs_deps.proofs.Tops.{kept_after, up}
+use Rattle.cs_deps.proofs.Tops.{kept_after}
 
 -- SLOTS
 -- a write that is kept stands in a slot

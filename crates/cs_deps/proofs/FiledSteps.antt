@@ -1,8 +1,7 @@
 -- Records stay filed as elements are staged and rounds settled.
-use Rattle.std.proofs.Common.{◌≡◌, ◌∙◌, ◌≢◌, ℕ, zero, suc, ◌+◌, ◌<◌, ◌≤◌, ◌⊎◌, Bool, true, false, List, [], ◌∷◌, length, get_or, Option, Some, None, refl, sym, ap, subst, inl, inr, ⊎_elim, arith}
-use Rattle.std.specs.Prelude.{count_by, is_some, IfSome, Contains, if◌then◌else◌, ◌==◌, ◌-◌, option_map}
+use Rattle.std.proofs.Common.{◌≡◌, ◌∙◌, ◌≢◌, ℕ, zero, suc, ◌+◌, ◌<◌, ◌≤◌, ◌⊎◌, Bool, true, false, List, [], length, get_or, Option, Some, None, refl, sym, ap, subst, inl, inr, ⊎_elim, arith}
+use Rattle.std.specs.Prelude.{count_by, is_some, IfSome, Contains, if◌then◌else◌, ◌==◌, option_map}
 use Rattle.std.proofs.lemmas.Bool.{cases_lt}
-use Rattle.std.proofs.lemmas.Bool.Decides.{nat_tests}
 use Rattle.std.proofs.lemmas.Option.{same_Some}
 use Rattle.slab.specs.Slab.{Slab, get, slab_len, HasRoomFor, Updates}
 use Rattle.cs_deps.specs.declared.elements.Element.{Element}
@@ -16,10 +15,10 @@ use Rattle.cs_deps.specs.Entries.{IsSound}
 use Rattle.cs_deps.proofs.PlainStaged.{rows_there as plain_there, rows_back as plain_back}
 use Rattle.cs_deps.proofs.VersionStaged.{rows_there, rows_back, versions_here}
 use Rattle.cs_deps.specs.Staging.{IsJoined}
-use Rattle.cs_deps.specs.Levels.{IsBest, next_plain, next_version, kept_by, kept_in, family_at, level_by, level_of, row_at, relinked, with_next, keyed, IsInRow, IsQueued, IsIndexed, IsSameBut, IsNew, IsPlainPushed, IsVersionPushed, IsLevelsSettled}
+use Rattle.cs_deps.specs.Levels.{IsBest, next_plain, next_version, kept_by, kept_in, family_at, level_of, row_at, relinked, with_next, keyed, IsInRow, IsQueued, IsIndexed, IsSameBut, IsNew, IsPlainPushed, IsVersionPushed, IsLevelsSettled}
 use Rattle.cs_deps.specs.Records.{AreFiled}
-use Rattle.cs_deps.specs.State.{State, IsOut}
-use Rattle.cs_deps.proofs.InRow.{row_level, one_row}
+use Rattle.cs_deps.specs.State.{State}
+use Rattle.cs_deps.proofs.InRow.{one_row}
 use Rattle.cs_deps.proofs.KeptIn.{relinked_from, is_plain, is_version, none_in, in_within, kept_from}
 use Rattle.cs_deps.proofs.Settled.{same_family}
 

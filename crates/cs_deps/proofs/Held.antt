@@ -1,16 +1,15 @@
 -- The levels that a graph keeps, by its fields.
-use Rattle.std.proofs.Common.{◌≡◌, ◌≢◌, ℕ, ◌+◌, ◌<◌, ◌≤◌, ◌⊎◌, List, [], ◌∷◌, ◌++◌, length, set, get_or, Option, Some, None, refl, sym, ap, ◌∙◌, subst, inl, inr, ⊎_elim, arith}
+use Rattle.std.proofs.Common.{◌≡◌, ◌≢◌, ℕ, ◌+◌, ◌<◌, ◌≤◌, List, [], ◌∷◌, ◌++◌, length, set, get_or, Option, Some, None, sym, ap, subst, ⊎_elim, arith}
 use Rattle.std.specs.Prelude.{◌-◌, filter}
 use Rattle.std.proofs.lemmas.Bool.{cases_lt}
 use Rattle.cs_deps.specs.declared.elements.Element.{Element}
 use Rattle.cs_deps.specs.declared.elements.Element.TheVariants.{Plain, Version}
-use Rattle.cs_deps.specs.declared.levels.Kept.{Kept}
 use Rattle.cs_deps.specs.declared.levels.Levels.{Levels}
 use Rattle.cs_deps.specs.Named.{Named, Names, IsWithin}
 use Rattle.cs_deps.specs.Pending.{Pending, Waits}
 use Rattle.cs_deps.specs.Staging.{raised}
 use Rattle.cs_deps.specs.State.{State, Write, after, after_round}
-use Rattle.cs_deps.specs.Entries.{state_of, AreCurrent, waiting_of, entry_stays, IsSound}
+use Rattle.cs_deps.specs.Entries.{state_of, AreCurrent, entry_stays, IsSound}
 use Rattle.cs_deps.specs.Levels.{row_at, kept_by, level_by, keyed, next_version, HasRoom, IsBest, IsIndexed, IsSameBut, IsPlainPushed, IsVersionPushed, IsLevelsSettled}
 use Rattle.cs_deps.proofs.Entries.{waiting_plain, waiting_next, joined_next, next_needs, waiting_settled}
 use Rattle.cs_deps.proofs.PlainStaged.{indexed_plain}

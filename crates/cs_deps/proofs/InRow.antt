@@ -1,16 +1,13 @@
 -- What stands in a queue is what a round would take of that level.
-use Rattle.std.proofs.Common.{◌≡◌, ◌∙◌, ◌≢◌, ℕ, ◌+◌, ◌<◌, ◌≤◌, ◌⊎◌, List, get_or, Option, Some, None, refl, sym, ap, subst, inl, inr, ⊎_elim, arith}
-use Rattle.std.specs.Prelude.{◌-◌}
-use Rattle.std.proofs.lemmas.Bool.{cases_lt}
+use Rattle.std.proofs.Common.{◌≡◌, ◌∙◌, ℕ, ◌+◌, ◌≤◌, List, get_or, sym, ap, subst, arith}
 use Rattle.cs_deps.specs.declared.elements.Element.{Element}
 use Rattle.cs_deps.specs.declared.elements.Element.TheVariants.{Plain, Version}
 use Rattle.cs_deps.specs.declared.levels.Levels.{Levels}
 use Rattle.cs_deps.specs.declared.levels.Row.{Row}
-use Rattle.cs_deps.specs.declared.levels.Kept.{Kept}
 use Rattle.cs_deps.specs.Chain.{IsHeight}
-use Rattle.cs_deps.specs.Pending.{Pending, Waits, IsStaged}
+use Rattle.cs_deps.specs.Pending.{Pending, IsStaged}
 use Rattle.cs_deps.specs.State.{IsOfLevel}
-use Rattle.cs_deps.specs.Levels.{kept_by, level_by, level_of, row_at, IsInRow, AreKeptLevels, AreRows}
+use Rattle.cs_deps.specs.Levels.{kept_by, level_by, row_at, IsInRow, AreKeptLevels, AreRows}
 use Rattle.cs_deps.proofs.AllHeights.{all_have_heights}
 use Rattle.cs_deps.proofs.KeptIn.{level_one}
 

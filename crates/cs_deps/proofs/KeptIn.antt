@@ -1,6 +1,6 @@
 -- What a list keeps at a number.
-use Rattle.std.proofs.Common.{◌≡◌, ◌≢◌, ℕ, zero, suc, ◌+◌, ◌<◌, ◌≤◌, ◌⊎◌, Bool, true, false, List, [], ◌∷◌, ◌++◌, length, set, get_or, Option, Some, None, slice_get, refl, sym, ap, ◌∙◌, subst, inl, inr, ⊎_elim, arith}
-use Rattle.std.specs.Prelude.{Contains, if◌then◌else◌, nat_lt, ◌==◌, ◌-◌, Vec, option_map}
+use Rattle.std.proofs.Common.{◌≡◌, ◌≢◌, ℕ, zero, suc, ◌+◌, ◌<◌, ◌≤◌, ◌⊎◌, Bool, true, false, List, [], ◌∷◌, ◌++◌, length, get_or, Option, Some, None, slice_get, refl, sym, ap, ◌∙◌, inl, inr, ⊎_elim, arith}
+use Rattle.std.specs.Prelude.{if◌then◌else◌, nat_lt, ◌==◌, ◌-◌, option_map}
 use Rattle.std.specs.declared.collections.VecDeque.{VecDeque}
 use Rattle.std.specs.Global.{Global}
 use Rattle.std.proofs.lemmas.Bool.{cases_lt}
@@ -12,7 +12,7 @@ use Rattle.cs_deps.specs.declared.elements.Element.TheVariants.{Plain, Version}
 use Rattle.cs_deps.specs.declared.elements.Element.{Element}
 use Rattle.cs_deps.specs.Levels.{kept_in, family_at, level_of, level_by, relinked, with_next}
 use Rattle.cs_deps.proofs.Settled.{same_family}
-use Rattle.cs_deps.proofs.Kept.{at_push, at_keep, at_end}
+use Rattle.cs_deps.proofs.Kept.{at_end}
 
 pub family_here : (qs : List (VecDeque Kept Global)) (f : ℕ) (q : VecDeque Kept Global) → slice_get qs f ≡ Some q → family_at qs f ≡ q.items
 family_here [] f q at = absurd (cc at)

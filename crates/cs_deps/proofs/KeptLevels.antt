@@ -1,11 +1,10 @@
 -- Kept levels: staging and rounds leave each kept level, and the level of a new element comes from those of what it needs.
-use Rattle.std.proofs.Common.{◌≡◌, ◌≢◌, ℕ, zero, suc, ◌+◌, ◌<◌, ◌≤◌, ◌⊎◌, List, [], ◌∷◌, ◌++◌, max, refl, sym, ap, ◌∙◌, subst, inl, inr, ⊎_elim, arith}
-use Rattle.std.specs.Prelude.{◌↔◌}
+use Rattle.std.proofs.Common.{◌≡◌, ℕ, zero, suc, ◌+◌, ◌<◌, ◌≤◌, ◌⊎◌, List, max, refl, sym, ap, ◌∙◌, subst, inl, inr, ⊎_elim, arith}
 use Rattle.std.proofs.lemmas.Bool.{cases_lt}
 use Rattle.cs_deps.specs.declared.elements.Element.{Element}
-use Rattle.cs_deps.specs.declared.elements.Element.TheVariants.{Plain, Version}
+use Rattle.cs_deps.specs.declared.elements.Element.TheVariants.{Version}
 use Rattle.cs_deps.specs.Named.{Named, Names}
-use Rattle.cs_deps.specs.Pending.{Pending, WaitsAt, Waits, Needs, IsStaged}
+use Rattle.cs_deps.specs.Pending.{Pending, WaitsAt, Waits, IsStaged}
 use Rattle.cs_deps.specs.Chain.{IsHeight, ChainTo}
 use Rattle.cs_deps.specs.Staging.{staged_after, settled, IsJoined}
 use Rattle.cs_deps.specs.State.{IsQueue}
@@ -14,7 +13,7 @@ use Rattle.cs_deps.proofs.Chains.{chain_of_one, chain_to_next, need_is_lower}
 use Rattle.cs_deps.proofs.ByHeight.{HaveHeights}
 use Rattle.cs_deps.proofs.AllHeights.{all_have_heights}
 use Rattle.cs_deps.proofs.Kept.{MayFollow, old_or_new}
-use Rattle.cs_deps.proofs.HeightSteps.{chain_ends_waiting, need_of_chain, same_height, height_was, height_new, lowered, height_positive, entry_left, more_waits, new_waits}
+use Rattle.cs_deps.proofs.HeightSteps.{chain_ends_waiting, need_of_chain, same_height, height_was, height_new, lowered, entry_left, more_waits, new_waits}
 use Rattle.cs_deps.proofs.Settled.{waited}
 
 -- KEPT LEVELS

@@ -1,17 +1,16 @@
 -- What waits once a round has joined, by levels.
-use Rattle.std.proofs.Common.{◌≡◌, ◌∙◌, ℕ, zero, suc, ◌+◌, ◌<◌, ◌≤◌, ◌⊎◌, Bool, true, false, cond, List, [], ◌∷◌, length, drop, Option, Some, None, slice_get, refl, sym, ap, subst, inl, inr, ⊎_elim, arith}
+use Rattle.std.proofs.Common.{◌≡◌, ◌∙◌, ℕ, suc, ◌<◌, ◌≤◌, Bool, true, false, cond, List, [], ◌∷◌, Option, Some, slice_get, refl, sym, ap, subst, ⊎_elim}
 use Rattle.std.specs.Prelude.{filter, nat_lt}
 use Rattle.std.proofs.lemmas.Bool.{cases_lt, lt-ltb, le-ltb}
-use Rattle.std.proofs.lemmas.Option.{same_Some}
 use Rattle.cs_deps.specs.declared.elements.Element.{Element}
 use Rattle.cs_deps.specs.declared.elements.Element.TheVariants.{Plain, Version}
 use Rattle.cs_deps.specs.declared.levels.Levels.{Levels}
-use Rattle.cs_deps.specs.Named.{Named, IsPlain}
-use Rattle.cs_deps.specs.Pending.{Pending, Waits}
-use Rattle.cs_deps.specs.Staging.{still_waits, settled}
-use Rattle.cs_deps.specs.State.{State, Write, after, after_round, waits_still}
-use Rattle.cs_deps.specs.Entries.{state_of, entry_stays, waiting_of, IsSound}
-use Rattle.cs_deps.specs.Levels.{kept_by, level_by, level_of, entry_left, IsIndexed, IsLevelsSettled}
+use Rattle.cs_deps.specs.Named.{Named}
+use Rattle.cs_deps.specs.Pending.{Waits}
+use Rattle.cs_deps.specs.Staging.{still_waits}
+use Rattle.cs_deps.specs.State.{State, Write, after_round, waits_still}
+use Rattle.cs_deps.specs.Entries.{state_of, entry_stays, IsSound}
+use Rattle.cs_deps.specs.Levels.{level_by, level_of, entry_left, IsIndexed, IsLevelsSettled}
 use Rattle.cs_deps.proofs.Entries.{listed_now}
 use Rattle.cs_deps.proofs.Filtered.{filter_keeps}
 use Rattle.cs_deps.proofs.Settled.{came}

@@ -1,5 +1,5 @@
 -- A plain write is staged: what is kept of levels stays right.
-use Rattle.std.proofs.Common.{◌≡◌, ◌≢◌, ℕ, zero, suc, ◌+◌, ◌<◌, ◌≤◌, ◌⊎◌, Bool, true, false, List, [], ◌∷◌, length, get_or, max, Option, Some, None, slice_get, refl, sym, ap, ◌∙◌, subst, inl, inr, ⊎_elim, arith}
+use Rattle.std.proofs.Common.{◌≡◌, ◌≢◌, ℕ, ◌+◌, ◌<◌, ◌≤◌, ◌⊎◌, Bool, true, false, List, length, get_or, Option, Some, None, refl, sym, ap, ◌∙◌, subst, inl, inr, ⊎_elim, arith}
 use Rattle.std.specs.Prelude.{◌-◌, if◌then◌else◌, nat_lt, ◌==◌}
 use Rattle.std.proofs.lemmas.Bool.{cases_lt}
 use Rattle.std.proofs.lemmas.Bool.Decides.{nat_tests}
@@ -10,12 +10,11 @@ use Rattle.cs_deps.specs.declared.levels.Kept.{Kept}
 use Rattle.cs_deps.specs.declared.levels.Row.{Row}
 use Rattle.cs_deps.specs.declared.levels.Levels.{Levels}
 use Rattle.cs_deps.specs.Named.{Named, Names, IsWithin}
-use Rattle.cs_deps.specs.Pending.{Pending, WaitsAt, Waits, Needs, IsPersistent, IsStaged}
-use Rattle.cs_deps.specs.Chain.{IsHeight}
+use Rattle.cs_deps.specs.Pending.{Pending, Waits, Needs, IsStaged}
 use Rattle.cs_deps.specs.Staging.{staged_after}
-use Rattle.cs_deps.specs.State.{State, Write, IsOut, after, after_round}
+use Rattle.cs_deps.specs.State.{State, Write, after, after_round}
 use Rattle.cs_deps.specs.Entries.{IsSound}
-use Rattle.cs_deps.specs.Levels.{IsInRow, kept_by, level_by, level_of, row_at, relinked, top_of, least_of, next_plain, with_plain, AreKeptLevels, AreTops, AreRows, AreLinked, IsBest, HasRoom, IsIndexed, IsPlainPushed, family_at}
+use Rattle.cs_deps.specs.Levels.{IsInRow, kept_by, level_by, level_of, row_at, top_of, least_of, next_plain, with_plain, AreKeptLevels, AreTops, AreRows, AreLinked, IsBest, HasRoom, IsIndexed, IsPlainPushed, family_at}
 use Rattle.cs_deps.proofs.AllHeights.{all_have_heights}
 use Rattle.cs_deps.proofs.Kept.{MayFollow, plain_may, keep, needs_cases, at_end}
 use Rattle.cs_deps.proofs.KeptIn.{in_within, kept_from, relinked_level, relinked_none, relinked_from, IsRelinked, is_plain}

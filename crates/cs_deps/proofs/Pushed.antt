@@ -1,10 +1,9 @@
 -- One element more is kept.
-use Rattle.std.proofs.Common.{◌≡◌, ◌≢◌, ℕ, zero, suc, ◌+◌, ◌<◌, ◌≤◌, ◌⊎◌, Bool, true, false, List, [], ◌∷◌, ◌++◌, length, set, get_or, max, Option, Some, None, slice_get, length-append, refl, sym, ap, ◌∙◌, subst, inl, inr, ⊎_elim, arith, get_or-set_same, get_or-set_other}
+use Rattle.std.proofs.Common.{◌≡◌, ◌≢◌, ℕ, zero, suc, ◌+◌, ◌<◌, ◌≤◌, Bool, true, false, List, [], ◌∷◌, ◌++◌, length, set, get_or, max, Option, Some, None, length-append, refl, sym, ap, ◌∙◌, subst, ⊎_elim, arith, get_or-set_same, get_or-set_other}
 use Rattle.std.specs.Prelude.{nat_le, nat_lt, ◌&&◌, if◌then◌else◌, ◌==◌, option_map, Vec, All}
 use Rattle.std.specs.declared.collections.VecDeque.{VecDeque}
 use Rattle.std.specs.VecDeque.{deque_len, deque_capacity}
 use Rattle.std.specs.Global.{Global}
-use Rattle.std.proofs.lemmas.Bool.{cases_lt}
 use Rattle.std.proofs.lemmas.List.Elements.{All-set, All-get_or}
 use Rattle.std.proofs.lemmas.Option.{slice_get_read}
 use Rattle.cs_deps.specs.declared.elements.Element.{Element}
@@ -14,7 +13,7 @@ use Rattle.cs_deps.specs.declared.levels.Row.{Row}
 use Rattle.cs_deps.specs.declared.levels.Levels.{Levels}
 use Rattle.std.proofs.lemmas.Bool.Decides.{nat_tests}
 use Rattle.cs_deps.specs.Levels.{level_of, next_version, kept_in, kept_by, no_row, row_at, family_at, relinked, with_next, next_plain, with_plain, with_version, AreRowsBut, IsPlainPushed, IsVersionPushed}
-use Rattle.cs_deps.proofs.KeptIn.{in_pushed, in_kept, in_at, family_here}
+use Rattle.cs_deps.proofs.KeptIn.{in_pushed, in_kept, family_here}
 use Rattle.cs_deps.proofs.Settled.{same_family}
 
 length_set : {X : Type 0} (xs : List X) (i : ℕ) (x : X) → length (set xs i x) ≡ length xs

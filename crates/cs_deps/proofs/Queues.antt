@@ -1,17 +1,15 @@
 -- What the kept levels and queues say where no round is out.
-use Rattle.std.proofs.Common.{◌≡◌, ◌≢◌, ℕ, zero, suc, ◌+◌, ◌<◌, ◌≤◌, ◌⊎◌, Bool, true, false, List, [], ◌∷◌, length, get_or, Option, Some, None, slice_get, refl, sym, ap, ◌∙◌, subst, inl, inr, ⊎_elim, arith, rules}
-use Rattle.std.specs.Prelude.{Contains, ◌↔◌, ◌-◌, AllPairs}
-use Rattle.std.proofs.lemmas.Bool.{cases_lt}
+use Rattle.std.proofs.Common.{◌≡◌, ℕ, ◌+◌, ◌<◌, ◌≤◌, List, [], length, get_or, Some, None, sym, ap, ◌∙◌, subst, ⊎_elim, arith, rules}
+use Rattle.std.specs.Prelude.{Contains, ◌-◌, AllPairs}
 use Rattle.std.proofs.lemmas.Option.{same_Some}
 use Rattle.cs_deps.specs.declared.elements.Element.{Element}
 use Rattle.cs_deps.specs.declared.elements.Element.TheVariants.{Plain, Version}
 use Rattle.cs_deps.specs.declared.levels.Kept.{Kept}
 use Rattle.cs_deps.specs.declared.levels.Levels.{Levels}
-use Rattle.cs_deps.specs.Named.{Named, Names, IsPlain}
-use Rattle.cs_deps.specs.Pending.{Pending, WaitsAt, Waits, Needs}
+use Rattle.cs_deps.specs.Named.{IsPlain}
+use Rattle.cs_deps.specs.Pending.{Pending, Waits, Needs}
 use Rattle.cs_deps.specs.Chain.{IsHeight}
 use Rattle.cs_deps.specs.Rounds.{IsListedBefore}
-use Rattle.cs_deps.specs.Staging.{Staging}
 use Rattle.cs_deps.specs.State.{State, Write, IsOfLevel, IsQueue, after, after_round}
 use Rattle.cs_deps.specs.Entries.{IsSound}
 use Rattle.cs_deps.specs.Levels.{IsInRow, kept_in, kept_by, level_by, level_of, row_at, family_at, AreKeptLevels, AreTops, AreRows, AreLinked, HasRoom, IsIndexed, IsNew, IsSameBut, ArePlainsListed, AreVersionsListed}

@@ -1,19 +1,17 @@
 -- A round is taken, and settled: what is kept of levels stays right.
-use Rattle.std.proofs.Common.{◌≡◌, ◌≢◌, ℕ, zero, suc, ◌+◌, ◌<◌, ◌≤◌, ◌⊎◌, Bool, true, false, List, [], ◌∷◌, length, get_or, Option, Some, None, slice_get, refl, sym, ap, ◌∙◌, subst, inl, inr, ⊎_elim, arith}
+use Rattle.std.proofs.Common.{◌≡◌, ◌+◌, ◌<◌, ◌≤◌, List, length, get_or, Some, None, slice_get, refl, sym, ap, ◌∙◌, subst, arith}
 use Rattle.std.specs.Prelude.{Contains}
 use Rattle.std.proofs.lemmas.Option.{same_Some, some_pair_parts}
 use Rattle.cs_deps.specs.declared.elements.Element.{Element}
 use Rattle.cs_deps.specs.declared.elements.Element.TheVariants.{Plain, Version}
-use Rattle.cs_deps.specs.declared.levels.Kept.{Kept}
 use Rattle.cs_deps.specs.declared.levels.Row.{Row}
 use Rattle.cs_deps.specs.declared.levels.Levels.{Levels}
-use Rattle.cs_deps.specs.Named.{Named, Names}
-use Rattle.cs_deps.specs.Pending.{Pending, WaitsAt, Waits, Needs, IsPersistent, IsStaged}
-use Rattle.cs_deps.specs.Chain.{IsHeight}
-use Rattle.cs_deps.specs.Staging.{Staging, settled}
-use Rattle.cs_deps.specs.State.{State, Write, IsOut, IsQueue, after, after_round}
+use Rattle.cs_deps.specs.Named.{Names}
+use Rattle.cs_deps.specs.Pending.{Pending, Waits, Needs, IsPersistent, IsStaged}
+use Rattle.cs_deps.specs.Staging.{settled}
+use Rattle.cs_deps.specs.State.{State, Write, IsQueue, after, after_round}
 use Rattle.cs_deps.specs.Entries.{IsSound}
-use Rattle.cs_deps.specs.Levels.{IsInRow, kept_by, level_by, level_of, row_at, AreKeptLevels, AreTops, AreRows, AreLinked, HasRoom, IsIndexed, IsLevelsSettled}
+use Rattle.cs_deps.specs.Levels.{kept_by, level_by, level_of, row_at, AreKeptLevels, AreTops, IsIndexed, IsLevelsSettled}
 use Rattle.cs_deps.proofs.HeightSteps.{chain_ends_waiting}
 use Rattle.cs_deps.proofs.InRow.{level_in_row, row_of_level}
 use Rattle.cs_deps.proofs.KeptLevels.{levels_taken}

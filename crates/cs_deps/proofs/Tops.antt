@@ -1,19 +1,17 @@
 -- What is found among the kept levels of what a new element needs is the greatest.
-use Rattle.std.proofs.Common.{◌≡◌, ◌≢◌, ℕ, zero, suc, ◌+◌, ◌<◌, ◌≤◌, ◌⊎◌, Bool, true, false, List, [], ◌∷◌, length, get_or, Option, Some, None, slice_get, refl, sym, ap, ◌∙◌, subst, inl, inr, ⊎_elim, arith}
+use Rattle.std.proofs.Common.{◌≡◌, ℕ, ◌<◌, ◌≤◌, Bool, true, false, List, get_or, Option, Some, None, refl, sym, ap, ◌∙◌, inl, inr, ⊎_elim, arith}
 use Rattle.std.specs.Prelude.{Contains}
 use Rattle.std.proofs.lemmas.Bool.{cases_lt}
-use Rattle.std.proofs.lemmas.Option.{same_Some}
 use Rattle.cs_deps.specs.declared.elements.Element.{Element}
 use Rattle.cs_deps.specs.declared.elements.Element.TheVariants.{Plain, Version}
 use Rattle.cs_deps.specs.declared.levels.Kept.{Kept}
 use Rattle.cs_deps.specs.declared.levels.Levels.{Levels}
-use Rattle.cs_deps.specs.Named.{Named, Names, IsWithin, StandsFor, IsNumbered}
-use Rattle.cs_deps.specs.Pending.{Pending, WaitsAt, Waits, Needs, IsStaged}
-use Rattle.cs_deps.specs.Chain.{IsHeight}
-use Rattle.cs_deps.specs.Staging.{Staging, IsKept, settled, staged_after, still_waits}
+use Rattle.cs_deps.specs.Named.{Named, Names, IsWithin, StandsFor}
+use Rattle.cs_deps.specs.Pending.{Pending, Waits}
+use Rattle.cs_deps.specs.Staging.{IsKept, staged_after, still_waits}
 use Rattle.cs_deps.specs.State.{State, after, after_round}
 use Rattle.cs_deps.specs.Entries.{IsSound}
-use Rattle.cs_deps.specs.Levels.{kept_by, level_by, level_of, AreKeptLevels, Top, IsCandidate, IsBest, AreTops, IsIndexed}
+use Rattle.cs_deps.specs.Levels.{kept_by, level_by, level_of, Top, IsCandidate, IsBest, IsIndexed}
 use Rattle.cs_deps.proofs.AllHeights.{all_have_heights}
 use Rattle.cs_deps.proofs.HeightSteps.{height_positive, settled_then_staged}
 use Rattle.cs_deps.proofs.KeptLevels.{heights_rise}

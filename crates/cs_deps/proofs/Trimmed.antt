@@ -1,5 +1,5 @@
 -- Lists that lose their first elements, and levels that are trimmed.
-use Rattle.std.proofs.Common.{◌≡◌, ◌≢◌, ℕ, zero, suc, ◌+◌, ◌<◌, ◌≤◌, ◌⊎◌, Bool, true, false, List, [], ◌∷◌, ◌++◌, length, drop, set, get_or, get_or-set_same, get_or-set_other, Option, Some, None, slice_get, refl, sym, ap, ◌∙◌, subst, inl, inr, ⊎_elim, arith}
+use Rattle.std.proofs.Common.{◌≡◌, ℕ, zero, suc, ◌+◌, ◌<◌, ◌≤◌, ◌⊎◌, List, [], ◌∷◌, ◌++◌, length, drop, set, get_or, Option, Some, None, slice_get, refl, sym, ap, ◌∙◌, subst, inl, inr, ⊎_elim, arith}
 use Rattle.std.specs.Prelude.{Contains, ◌-◌, All}
 use Rattle.std.specs.declared.collections.VecDeque.{VecDeque}
 use Rattle.std.specs.VecDeque.{deque_len, deque_capacity}
@@ -7,25 +7,22 @@ use Rattle.std.specs.declared.vec.Vec.{Vec}
 use Rattle.std.specs.Global.{Global}
 use Rattle.std.proofs.lemmas.Bool.{cases_lt}
 use Rattle.std.proofs.lemmas.List.{length-append, append_assoc}
-use Rattle.std.proofs.lemmas.List.Elements.{Contains-append_cases, Contains-append_left, Contains-append_right, All-set, All-get_or}
-use Rattle.std.proofs.lemmas.Option.{same_Some, slice_get_within}
-use Rattle.slab.specs.Slab.{Slab, get}
+use Rattle.std.proofs.lemmas.List.Elements.{Contains-append_cases, Contains-append_right, All-set, All-get_or}
+use Rattle.std.proofs.lemmas.Option.{same_Some}
+use Rattle.slab.specs.Slab.{Slab}
 use Rattle.cs_deps.specs.declared.elements.Element.{Element}
 use Rattle.cs_deps.specs.declared.elements.Element.TheVariants.{Plain, Version}
 use Rattle.cs_deps.specs.declared.levels.Kept.{Kept}
-use Rattle.cs_deps.specs.declared.levels.Row.{Row}
 use Rattle.cs_deps.specs.declared.levels.Levels.{Levels}
 use Rattle.cs_deps.specs.declared.records.Record.{Record}
-use Rattle.cs_deps.specs.Pending.{Waits}
 use Rattle.cs_deps.specs.Records.{AreFiled}
 use Rattle.cs_deps.specs.State.{State, after}
-use Rattle.cs_deps.specs.Levels.{IsInRow, IsQueued, kept_in, kept_by, family_at, level_by, level_of, row_at, AreKeptLevels, AreTops, AreRows, AreLinked, HasRoom, IsIndexed}
+use Rattle.cs_deps.specs.Levels.{IsInRow, kept_in, kept_by, family_at, level_by, level_of, row_at, AreKeptLevels, AreTops, AreRows, AreLinked, IsIndexed}
 use Rattle.cs_deps.specs.Trimmed.{IsTrimmedList, IsTrimmed}
 use Rattle.cs_deps.proofs.HeightSteps.{height_positive}
 use Rattle.cs_deps.proofs.InRow.{row_level}
-use Rattle.cs_deps.proofs.Settled.{same_family}
 use Rattle.cs_deps.proofs.Sets.{no_element, only_element}
-use Rattle.cs_deps.proofs.KeptIn.{in_at, in_before, in_within, kept_from}
+use Rattle.cs_deps.proofs.KeptIn.{in_at, in_within, kept_from}
 
 -- A LIST
 pub trimmed_none : (base : ℕ) (xs : List Kept) → IsTrimmedList base xs xs

@@ -1,6 +1,6 @@
 -- A version is staged: what is kept of levels stays right.
-use Rattle.std.proofs.Common.{◌≡◌, ◌≢◌, ℕ, zero, suc, ◌+◌, ◌<◌, ◌≤◌, ◌⊎◌, Bool, true, false, List, [], ◌∷◌, length, set, get_or, max, Option, Some, None, slice_get, refl, sym, ap, ◌∙◌, subst, inl, inr, ⊎_elim, arith, get_or-set_same, get_or-set_other}
-use Rattle.std.specs.Prelude.{◌-◌, ◌&&◌, if◌then◌else◌, nat_lt, nat_le, ◌==◌, ◌↔◌, Contains}
+use Rattle.std.proofs.Common.{◌≡◌, ◌≢◌, ℕ, ◌+◌, ◌<◌, ◌≤◌, ◌⊎◌, Bool, true, false, List, length, set, get_or, max, Option, Some, None, slice_get, refl, sym, ap, ◌∙◌, subst, inl, inr, ⊎_elim, arith, get_or-set_same, get_or-set_other}
+use Rattle.std.specs.Prelude.{◌-◌, ◌&&◌, if◌then◌else◌, nat_lt, nat_le, Contains}
 use Rattle.std.proofs.lemmas.Bool.{cases_lt}
 use Rattle.std.proofs.lemmas.List.{length-set}
 use Rattle.std.proofs.lemmas.Bool.Decides.{nat_tests}
@@ -11,10 +11,10 @@ use Rattle.cs_deps.specs.declared.levels.Kept.{Kept}
 use Rattle.cs_deps.specs.declared.levels.Row.{Row}
 use Rattle.cs_deps.specs.declared.levels.Levels.{Levels}
 use Rattle.cs_deps.specs.Named.{Named, Names, IsWithin, StandsFor}
-use Rattle.cs_deps.specs.Pending.{Pending, WaitsAt, Waits, Needs, IsPersistent, IsStaged}
+use Rattle.cs_deps.specs.Pending.{Pending, Waits, Needs, IsStaged}
 use Rattle.cs_deps.specs.Chain.{IsHeight}
-use Rattle.cs_deps.specs.Staging.{staged_after, settled, still_waits, IsJoined}
-use Rattle.cs_deps.specs.State.{State, Write, IsOut, after, after_round}
+use Rattle.cs_deps.specs.Staging.{staged_after, still_waits, IsJoined}
+use Rattle.cs_deps.specs.State.{State, Write, after, after_round}
 use Rattle.cs_deps.specs.Entries.{IsSound}
 use Rattle.cs_deps.specs.Levels.{IsInRow, kept_by, level_by, level_of, row_at, family_at, keyed, next_version, with_version, AreKeptLevels, Top, AreTops, AreRows, AreLinked, IsBest, HasRoom, IsIndexed, IsVersionPushed}
 use Rattle.cs_deps.proofs.AllHeights.{all_have_heights}

@@ -1,5 +1,5 @@
 -- Levels that are kept as elements are staged.
-use Rattle.std.specs.Prelude.{AllPairs, ◌≡◌, ◌≢◌, ◌&&◌, nat_le, slice_set, ℕ, zero, suc, ◌+◌, ◌-◌, ◌≤◌, ◌<◌, ◌⊎◌, ◌==◌, ◌^◌, List, [], ◌∷◌, Bool, Option, Some, None, Vec, All, Contains, max, nat_lt, if◌then◌else◌, length, slice_get, slice_index, slice_index_or, option_map}
+use Rattle.std.specs.Prelude.{AllPairs, ◌≡◌, ◌≢◌, ◌&&◌, nat_le, slice_set, ℕ, zero, suc, ◌+◌, ◌-◌, ◌≤◌, ◌<◌, ◌⊎◌, ◌==◌, ◌^◌, List, [], ◌∷◌, Bool, Option, Some, None, All, Contains, max, nat_lt, if◌then◌else◌, length, slice_get, slice_index, slice_index_or, option_map}
 use Rattle.std.specs.declared.collections.VecDeque.{VecDeque}
 use Rattle.std.specs.VecDeque.{deque_len, deque_capacity}
 use Rattle.std.specs.Global.{Global}
@@ -12,7 +12,7 @@ use Rattle.cs_deps.specs.Named.{Named, Names, IsPlain}
 use Rattle.cs_deps.specs.Pending.{Pending, Waits, Needs, IsPersistent}
 use Rattle.cs_deps.specs.Chain.{IsHeight}
 use Rattle.cs_deps.specs.Rounds.{IsListedBefore}
-use Rattle.cs_deps.specs.State.{State, after, IsOut, waits_still}
+use Rattle.cs_deps.specs.State.{State, after, IsOut}
 
 -- what a list keeps at a number, where it begins after `start`
 abbrev pub kept_in : List Kept → ℕ → ℕ → Option Kept

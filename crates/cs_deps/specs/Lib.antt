@@ -11,4 +11,5 @@ pub mod Entries
 pub mod Turns
 pub mod Levels
 pub mod Trimmed
+pub mod Spent
 pub mod Records

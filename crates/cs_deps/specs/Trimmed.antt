@@ -1,7 +1,7 @@
 -- What is kept of the elements that were staged first goes, once it is not above the base.
 use Rattle.std.specs.Prelude.{◌≡◌, ℕ, ◌+◌, ◌≤◌, ◌<◌, ◌⊎◌, List, ◌++◌, Some, None, Contains, length, slice_index}
 use Rattle.cs_deps.specs.declared.elements.Element.{Element}
-use Rattle.cs_deps.specs.declared.elements.Element.TheVariants.{Plain, Version}
+use Rattle.cs_deps.specs.declared.elements.Element.TheVariants.{Plain}
 use Rattle.cs_deps.specs.declared.levels.Kept.{Kept}
 use Rattle.cs_deps.specs.declared.levels.Levels.{Levels}
 use Rattle.cs_deps.specs.Levels.{family_at, kept_by, level_by, HasRoom}

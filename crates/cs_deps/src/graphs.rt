@@ -15,6 +15,7 @@ use crate::levels::{Levels, add_plains, add_versions};
 use crate::records::{Record, clear, give_up, make_room, need_room, record_of};
 use crate::refusals::Refusal;
 use crate::rounds::raise_all;
+use crate::spent::fold_all;
 use crate::views::GraphView;
 use crate::waiting::{copy_all, elements_of, keep_entries, names_one, needs_of};
 use slab::Slab;
@@ -335,6 +336,7 @@ impl Graph {
                 &self.persistent,
                 &self.latest,
             );
+            fold_all(&mut self.entries, &self.persistent, &round);
             self.levels.trim(self.staged, &self.latest);
         }
     }

@@ -9,6 +9,7 @@ mod levels;
 mod records;
 mod refusals;
 mod rounds;
+mod spent;
 #[cfg(test)]
 mod tests;
 mod views;

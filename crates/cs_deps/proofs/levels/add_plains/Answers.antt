@@ -1,7 +1,5 @@
-use Rattle.std.proofs.Common.{◌≡◌, ◌∙◌, ◌<◌, ◌≤◌, ◌+◌, ◌++◌, ◌∷◌, [], ℕ, refl, sym, ap, subst, arith}
-use Rattle.std.specs.Prelude.{◌-◌, ◌^◌}
-use Rattle.cs_deps.specs.declared.elements.Element.TheVariants.{Plain}
-use Rattle.cs_deps.specs.Levels.{kept_by, level_by, level_of, ArePlainsBefore}
+use Rattle.std.proofs.Common.{◌∙◌, ◌<◌, sym, ap, arith}
+use Rattle.cs_deps.specs.Levels.{kept_by, level_of}
 use Rattle.cs_deps.proofs.Walk.{plains_more, plains_done, nearer}
 use Rattle.cs_deps.proofs.levels.add_plains.Goals as goal
 

@@ -1,4 +1,4 @@
-use Rattle.std.proofs.Common.{◌≡◌, ◌∙◌, ◌<◌, length, refl, arith}
+use Rattle.std.proofs.Common.{◌∙◌, refl}
 use Rattle.cs_deps.specs.Levels.{family_at}
 use Rattle.cs_deps.proofs.Trimmed.{trimmed_none, trimmed_more}
 use Rattle.cs_deps.proofs.levels.trim_each.Goals as goal

@@ -1,11 +1,8 @@
-use Rattle.std.proofs.Common.{◌≡◌, ◌∙◌, ◌≤◌, ◌<◌, ◌+◌, ℕ, List, length, set, get_or, get_or-set_same, refl, sym, ap, subst, arith}
-use Rattle.std.specs.Prelude.{◌-◌}
+use Rattle.std.proofs.Common.{◌≡◌, ◌∙◌, length, get_or-set_same, refl, ap, arith}
 use Rattle.std.proofs.lemmas.Option.{slice_get_read}
-use Rattle.cs_deps.specs.declared.levels.Kept.{Kept}
 use Rattle.cs_deps.specs.Levels.{family_at}
-use Rattle.cs_deps.specs.Trimmed.{IsTrimmedList}
 use Rattle.cs_deps.proofs.KeptIn.{family_here}
-use Rattle.cs_deps.proofs.Pushed.{family_set, family_other, room_kept}
+use Rattle.cs_deps.proofs.Pushed.{family_set, family_other}
 use Rattle.cs_deps.proofs.Trimmed.{trimmed_length, room_trimmed}
 use Rattle.cs_deps.proofs.levels.trim_family.Goals as goal
 

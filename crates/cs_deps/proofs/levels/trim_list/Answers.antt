@@ -1,7 +1,5 @@
-use Rattle.std.proofs.Common.{◌≡◌, ◌∙◌, ◌≤◌, ◌+◌, List, ◌∷◌, drop, sym, ap, subst, refl, le_refl, arith}
-use Rattle.cs_deps.specs.declared.levels.Kept.{Kept}
-use Rattle.cs_deps.specs.Trimmed.{IsTrimmedList}
-use Rattle.cs_deps.proofs.Trimmed.{trimmed_none, trimmed_more, trimmed_first, without_first}
+use Rattle.std.proofs.Common.{◌∙◌, refl, le_refl, arith}
+use Rattle.cs_deps.proofs.Trimmed.{trimmed_none, trimmed_more, without_first}
 use Rattle.cs_deps.proofs.levels.trim_list.Goals as goal
 
 pub loop-step-init : goal.loop-step-init

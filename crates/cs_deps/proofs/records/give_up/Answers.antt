@@ -1,10 +1,8 @@
-use Rattle.std.proofs.Common.{◌≡◌, ◌≢◌, ◌∙◌, ℕ, ◌+◌, ◌<◌, ◌≤◌, ◌⊎◌, List, [], ◌∷◌, zero, suc, length, get_or, Option, Some, None, slice_get, refl, sym, ap, subst, ⊎_elim, inl, inr, arith}
-use Rattle.std.specs.Prelude.{Contains}
+use Rattle.std.proofs.Common.{◌≡◌, ◌∙◌, ℕ, ◌<◌, List, [], ◌∷◌, zero, suc, length, get_or, Option, Some, None, slice_get, refl, sym, ap, ⊎_elim, arith}
 use Rattle.std.proofs.lemmas.Option.{slice_get_read, slice_get_within, get_or_from_slice_get, same_Some}
 use Rattle.slab.specs.Slab.{get}
 use Rattle.cs_deps.specs.declared.elements.Element.{Element}
 use Rattle.cs_deps.specs.declared.elements.Element.TheVariants.{Plain}
-use Rattle.cs_deps.specs.declared.levels.Kept.{Kept}
 use Rattle.cs_deps.specs.declared.records.Record.{Record}
 use Rattle.cs_deps.specs.Levels.{kept_by}
 use Rattle.cs_deps.proofs.Within.{below_next}

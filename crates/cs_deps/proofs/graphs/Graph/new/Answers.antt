@@ -1,6 +1,4 @@
-use Rattle.std.proofs.Common.{◌≡◌, ◌∙◌, ◌+◌, ℕ, List, [], Option, Some, None, refl, arith, subst, sym, ap, get_or}
-use Rattle.cs_deps.specs.declared.records.Record.{Record}
-use Rattle.cs_deps.specs.Entries.{state_of}
+use Rattle.std.proofs.Common.{arith}
 use Rattle.cs_deps.specs.Records.{writes_of}
 use Rattle.cs_deps.proofs.FiledSteps.{filed_new, room_new}
 use Rattle.cs_deps.proofs.StateSteps.{whole_new}

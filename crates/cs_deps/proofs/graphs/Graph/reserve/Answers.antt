@@ -1,4 +1,4 @@
-use Rattle.std.proofs.Common.{◌≡◌, ap, arith, subst, sym}
+use Rattle.std.proofs.Common.{ap, arith}
 use Rattle.slab.specs.Slab.{Slab, get}
 use Rattle.cs_deps.specs.contracts.graphs.Graph.{the_view}
 use Rattle.cs_deps.specs.declared.records.Record.{Record}

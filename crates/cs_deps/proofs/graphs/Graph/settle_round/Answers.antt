@@ -1,4 +1,4 @@
-use Rattle.std.proofs.Common.{◌≡◌, ◌∙◌, ℕ, List, Some, None, refl, inl, sym, ap, arith}
+use Rattle.std.proofs.Common.{◌≡◌, ◌∙◌, List, Some, None, refl, sym, ap, arith}
 use Rattle.std.specs.Prelude.{filter, option_map}
 use Rattle.cs_deps.specs.declared.elements.Element.{Element}
 use Rattle.cs_deps.specs.Named.{Named}
@@ -7,7 +7,7 @@ use Rattle.cs_deps.specs.contracts.graphs.Graph.{the_view}
 use Rattle.cs_deps.specs.Records.{writes_of}
 use Rattle.cs_deps.specs.State.{State, after_round}
 use Rattle.cs_deps.specs.Staging.{Staging, raised}
-use Rattle.cs_deps.specs.Entries.{state_of, entry_stays}
+use Rattle.cs_deps.specs.Entries.{state_of, entry_stays, waiting_of}
 use Rattle.cs_deps.specs.Levels.{IsIndexed}
 use Rattle.cs_deps.proofs.Trimmed.{indexed_trimmed, filed_trimmed}
 use Rattle.cs_deps.proofs.StateSteps.{settled_round_adds}
@@ -34,7 +34,7 @@ trim-requires-clause-versions c f =
     let round : List Element = c.in-Some.round.items in
     let out : s.round ≡ Some round = ap (option_map (λ r. r.items)) (sym c.take.ensures.value ∙ c.in-Some.is) in
     let ready = indexed_left g.persistent.items g.entries.items g.staged g.latest.items s.round (writes_of g.records.slots) g.room c.self.invariant.whole c.self.invariant.current g.levels c.self.invariant.indexed c.settle.new.self c.settle.ensures.none c.settle.ensures.one round out (writes_of c.give_up.new.records.slots) in
-    rw c.deref-in-Some-4.ensures.value (ready.version_count f)
+    rw c.deref-in-Some-6.ensures.value (ready.version_count f)
 
 pub invariant_of-self : goal.invariant_of-self
 invariant_of-self c =
@@ -45,6 +45,7 @@ invariant_of-self c =
     let ix = c.self.invariant.indexed in
     let persistent : c.raise_all.new.versions.items ≡ raised g.persistent.items round = rw c.deref-in-Some.ensures.value at c.raise_all.ensures in
     let entries : c.keep_entries.new.entries.items ≡ filter (λ w. entry_stays round (raised g.persistent.items round) g.latest.items w.0) g.entries.items = (rw (c.deref-in-Some-2.ensures.value, persistent, c.deref-in-Some-3.ensures.value) at c.keep_entries.ensures.items) ∙ entries_left g.persistent.items g.entries.items g.staged g.latest.items s.round (writes_of g.records.slots) g.room c.self.invariant.whole g.levels ix c.settle.new.self c.settle.ensures.none c.settle.ensures.one round out (raised g.persistent.items round) in
+    let folded : waiting_of (raised g.persistent.items round) c.fold_all.new.entries.items ≡ waiting_of (raised g.persistent.items round) (filter (λ w. entry_stays round (raised g.persistent.items round) g.latest.items w.0) g.entries.items) = (rw (c.deref-in-Some-4.ensures.value, persistent, entries) at c.fold_all.ensures.waiting) in
     let given = rw c.deref.ensures.value at c.give_up.ensures in
     let filed = filed_settled s g.levels c.settle.new.self ix g.records c.give_up.new.records c.self.invariant.filed c.settle.ensures.none c.settle.ensures.one round out given.less given.gone given.rest in
     let now = writes_of c.give_up.new.records.slots in
@@ -54,11 +55,11 @@ invariant_of-self c =
     let after : State = state_of (raised g.persistent.items round) (filter (λ w. entry_stays round (raised g.persistent.items round) g.latest.items w.0) g.entries.items) g.staged g.latest.items None now g.room in
     let ready : IsIndexed after l = indexed_left g.persistent.items g.entries.items g.staged g.latest.items s.round (writes_of g.records.slots) g.room c.self.invariant.whole c.self.invariant.current g.levels ix l c.settle.ensures.none c.settle.ensures.one round out now in
     let still = ready.still refl in
-    rw (persistent, entries, c.take.ensures.after) (record {
+    rw (persistent, folded, c.take.ensures.after) (record {
       whole = whole_left g.persistent.items g.entries.items g.staged g.latest.items s.round (writes_of g.records.slots) g.room round c.self.invariant.whole c.self.invariant.current out now;
-      current = current_settled g.persistent.items g.latest.items g.entries.items c.self.invariant.current c.self.invariant.whole.kept.families round;
+      current = (rw (c.deref-in-Some-4.ensures.value, persistent, entries) at c.fold_all.ensures.current) g.latest.items (current_settled g.persistent.items g.latest.items g.entries.items c.self.invariant.current c.self.invariant.whole.kept.families round);
       filed = filed_trimmed after l m is ready still c.give_up.new.records filed;
-      entries_fit = omega (arith, c.self.invariant.entries_fit, c.keep_entries.ensures.count, c.keep_entries.ensures.capacity);
+      entries_fit = omega (arith, c.self.invariant.entries_fit, c.keep_entries.ensures.count, c.keep_entries.ensures.capacity, c.fold_all.ensures.count, c.fold_all.ensures.capacity);
       records_fit = omega (arith, c.self.invariant.records_fit, c.give_up.ensures.count, c.give_up.ensures.capacity);
       indexed = indexed_trimmed after l m is ready still refl;
     })
@@ -72,10 +73,11 @@ returns-in-Some-clause-settled c =
     let ix = c.self.invariant.indexed in
     let persistent : c.raise_all.new.versions.items ≡ raised g.persistent.items round = rw c.deref-in-Some.ensures.value at c.raise_all.ensures in
     let entries : c.keep_entries.new.entries.items ≡ filter (λ w. entry_stays round (raised g.persistent.items round) g.latest.items w.0) g.entries.items = (rw (c.deref-in-Some-2.ensures.value, persistent, c.deref-in-Some-3.ensures.value) at c.keep_entries.ensures.items) ∙ entries_left g.persistent.items g.entries.items g.staged g.latest.items s.round (writes_of g.records.slots) g.room c.self.invariant.whole g.levels ix c.settle.new.self c.settle.ensures.none c.settle.ensures.one round out (raised g.persistent.items round) in
+    let folded : waiting_of (raised g.persistent.items round) c.fold_all.new.entries.items ≡ waiting_of (raised g.persistent.items round) (filter (λ w. entry_stays round (raised g.persistent.items round) g.latest.items w.0) g.entries.items) = (rw (c.deref-in-Some-4.ensures.value, persistent, entries) at c.fold_all.ensures.waiting) in
     let left = waiting_settled g.persistent.items g.latest.items g.entries.items c.self.invariant.current c.self.invariant.whole.kept.families round in
     let joined : List (Element × Named) → Staging = λ ws. record { pending = record { persistent = raised g.persistent.items round; waiting = ws }; staged = g.staged; latest = g.latest.items } in
     let then : Pending → Staging = λ p. record { pending = p; staged = g.staged; latest = g.latest.items } in
-    rw (← c.self.view_is, persistent, entries) (ap joined left ∙ sym (ap (λ o. then (after_round s.staging.pending o)) out))
+    rw (← c.self.view_is, persistent, folded) (ap joined left ∙ sym (ap (λ o. then (after_round s.staging.pending o)) out))
 
 pub returns-in-Some-clause-adds : goal.returns-in-Some-clause-adds
 returns-in-Some-clause-adds c =
@@ -86,8 +88,9 @@ returns-in-Some-clause-adds c =
     let ix = c.self.invariant.indexed in
     let persistent : c.raise_all.new.versions.items ≡ raised g.persistent.items round = rw c.deref-in-Some.ensures.value at c.raise_all.ensures in
     let entries : c.keep_entries.new.entries.items ≡ filter (λ w. entry_stays round (raised g.persistent.items round) g.latest.items w.0) g.entries.items = (rw (c.deref-in-Some-2.ensures.value, persistent, c.deref-in-Some-3.ensures.value) at c.keep_entries.ensures.items) ∙ entries_left g.persistent.items g.entries.items g.staged g.latest.items s.round (writes_of g.records.slots) g.room c.self.invariant.whole g.levels ix c.settle.new.self c.settle.ensures.none c.settle.ensures.one round out (raised g.persistent.items round) in
+    let folded : waiting_of (raised g.persistent.items round) c.fold_all.new.entries.items ≡ waiting_of (raised g.persistent.items round) (filter (λ w. entry_stays round (raised g.persistent.items round) g.latest.items w.0) g.entries.items) = (rw (c.deref-in-Some-4.ensures.value, persistent, entries) at c.fold_all.ensures.waiting) in
     let left = waiting_settled g.persistent.items g.latest.items g.entries.items c.self.invariant.current c.self.invariant.whole.kept.families round in
-    rw (← c.self.view_is, persistent, entries, left) (settled_round_adds s c.self.invariant.whole round out)
+    rw (← c.self.view_is, persistent, folded, left) (settled_round_adds s c.self.invariant.whole round out)
 
 pub returns-in-Some-clause-writes : goal.returns-in-Some-clause-writes
 returns-in-Some-clause-writes c =

@@ -1,4 +1,4 @@
-use Rattle.std.proofs.Common.{◌∙◌, ◌+◌, ◌++◌, ◌∷◌, ◌≡◌, ◌≢◌, [], List, Some, None, ℕ, refl, sym, ap, arith, subst, inl, inr, ⊎_elim}
+use Rattle.std.proofs.Common.{◌∙◌, ◌+◌, ◌++◌, ◌∷◌, ◌≡◌, ◌≢◌, [], List, refl, sym, ap, arith, subst, inl, inr, ⊎_elim}
 use Rattle.std.specs.Prelude.{option_map, ◌-◌}
 use Rattle.slab.specs.Slab.{Slab, get}
 use Rattle.cs_deps.specs.declared.elements.Element.{Element}
@@ -6,9 +6,9 @@ use Rattle.cs_deps.specs.declared.elements.Element.TheVariants.{Plain}
 use Rattle.cs_deps.specs.declared.records.Record.{Record}
 use Rattle.cs_deps.specs.Named.{Named}
 use Rattle.cs_deps.specs.Staging.{Staging}
-use Rattle.cs_deps.specs.Records.{writes_of, AreFiled}
+use Rattle.cs_deps.specs.Records.{writes_of}
 use Rattle.cs_deps.specs.Entries.{waiting_of}
-use Rattle.cs_deps.specs.Levels.{HasRoom, IsPlainPushed}
+use Rattle.cs_deps.specs.Levels.{HasRoom}
 use Rattle.cs_deps.specs.contracts.graphs.Graph.{the_view}
 use Rattle.cs_deps.proofs.Filed.{record_write, others_kept}
 use Rattle.cs_deps.proofs.FiledSteps.{filed_same}

@@ -1,4 +1,4 @@
-use Rattle.std.proofs.Common.{◌∙◌, ◌+◌, ◌++◌, ◌∷◌, ◌≡◌, ◌≢◌, ◌<◌, ◌≤◌, [], List, Some, None, ℕ, set, length, refl, sym, ap, arith, subst, inl, inr, ⊎_elim}
+use Rattle.std.proofs.Common.{◌∙◌, ◌+◌, ◌++◌, ◌∷◌, ◌≡◌, ◌≢◌, ◌≤◌, [], List, ℕ, set, length, refl, sym, ap, arith, subst, inl, inr, ⊎_elim}
 use Rattle.std.specs.Prelude.{option_map, ◌-◌}
 use Rattle.std.proofs.lemmas.Option.{slice_get_read, get_or_from_slice_get, same_Some}
 use Rattle.slab.specs.Slab.{Slab, get}

@@ -1,9 +1,6 @@
-use Rattle.std.proofs.Common.{◌≡◌, ◌<◌, ◌≤◌, ◌⊎◌, ⊎_elim, sym, subst, length, arith}
+use Rattle.std.proofs.Common.{◌≡◌, ◌<◌, ◌≤◌, ⊎_elim, length, arith}
 use Rattle.std.proofs.lemmas.Bool.{cases_lt}
 use Rattle.cs_deps.specs.contracts.graphs.Graph.{the_view}
-use Rattle.cs_deps.specs.declared.levels.Levels.{Levels}
-use Rattle.cs_deps.specs.State.{State}
-use Rattle.cs_deps.specs.Levels.{IsIndexed}
 use Rattle.cs_deps.proofs.Ready.{queue_ready}
 use Rattle.cs_deps.proofs.FiledSteps.{filed_taken}
 use Rattle.cs_deps.proofs.RoundsLevels.{taken_empty, taken_one}

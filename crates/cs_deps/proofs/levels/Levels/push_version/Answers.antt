@@ -1,5 +1,5 @@
-use Rattle.std.proofs.Common.{◌≡◌, ◌∙◌, ◌≤◌, ◌<◌, ◌+◌, ◌++◌, ◌∷◌, [], length, set, get_or, refl, sym, ap, arith, ℕ}
-use Rattle.std.specs.Prelude.{◌-◌, max, Vec}
+use Rattle.std.proofs.Common.{◌≡◌, ◌∙◌, ◌≤◌, ◌<◌, ◌+◌, ◌++◌, ◌∷◌, [], length, set, get_or, refl, sym, ap, arith}
+use Rattle.std.specs.Prelude.{◌-◌, max}
 use Rattle.std.specs.Vec.{with_item}
 use Rattle.std.specs.VecDeque.{deque_with_item}
 use Rattle.std.specs.declared.collections.VecDeque.{VecDeque}
@@ -9,7 +9,6 @@ use Rattle.std.proofs.lemmas.List.{length-set}
 use Rattle.std.proofs.lemmas.List.Elements.{All-set, All-get_or}
 use Rattle.std.proofs.lemmas.Option.{slice_get_read, get_or_from_slice_get}
 use Rattle.cs_deps.specs.declared.levels.Kept.{Kept}
-use Rattle.cs_deps.specs.declared.levels.Row.{Row}
 use Rattle.cs_deps.specs.Levels.{no_row, row_at, keyed, with_version, family_at}
 use Rattle.cs_deps.proofs.KeptIn.{family_here}
 use Rattle.cs_deps.proofs.Pushed.{version_pushed}

@@ -1,8 +1,5 @@
-use Rattle.std.proofs.Common.{◌≡◌, ◌∙◌, ◌≤◌, ◌<◌, ◌⊎◌, ⊎_elim, inl, inr, ℕ, Some, length, refl, sym, ap, subst, slice_index, le_refl, arith}
-use Rattle.std.specs.Prelude.{Contains}
-use Rattle.cs_deps.specs.declared.elements.Element.{Element}
+use Rattle.std.proofs.Common.{◌≡◌, ◌∙◌, ⊎_elim, inl, inr, refl, sym, ap, slice_index, le_refl, arith}
 use Rattle.cs_deps.specs.declared.elements.Element.TheVariants.{Plain, Version}
-use Rattle.cs_deps.specs.Levels.{kept_by, level_by, IsCandidate}
 use Rattle.cs_deps.proofs.levels.Levels.top.Goals as goal
 
 pub returns : goal.returns

@@ -1,4 +1,4 @@
-use Rattle.std.proofs.Common.{◌≡◌, ◌∙◌, ◌≤◌, ◌+◌, sym, length, arith}
+use Rattle.std.proofs.Common.{◌∙◌, sym, arith}
 use Rattle.std.specs.Prelude.{◌-◌}
 use Rattle.cs_deps.proofs.Trimmed.{trimmed, trimmed_length}
 use Rattle.cs_deps.proofs.levels.Levels.trim.Goals as goal

@@ -1,0 +1,91 @@
+//! Entries of versions that are persistent, of which a family keeps few while a later one of its versions waits.
+ghost use Rattle.std.specs.Prelude.{◌≡◌, ℕ, ◌≤◌, ◌<◌, List, true, IfOk, IsTrue, Some, slice_get, vec_len, vec_capacity};
+ghost use Rattle.cs_deps.specs.declared.elements.Element.{Element as Item};
+ghost use Rattle.cs_deps.specs.Named.{Named};
+ghost use Rattle.cs_deps.specs.Entries.{nothing, waiting_of, AreCurrent};
+ghost use Rattle.cs_deps.specs.Spent.{is_spent, carried_with, IsFolded};
+
+use crate::dependencies::{Dependency, version_at};
+use crate::elements::Element;
+use crate::rounds::stands;
+use std::alloc::{AllocError, Global};
+
+/// Whether an entry is that of a version of a family up to this one, and its needs take no memory.
+fn is_spent(entry: &(Element, Dependency), family: usize, version: u64) -> bool
+    ensures { result ≡ is_spent family version entry.now }
+{
+    stands(Element::Version(family, version), entry.0) && entry.1.is_small()
+}
+
+/// Whether there is such an entry.
+fn has_spent(entries: &[(Element, Dependency)], family: usize, version: u64) -> bool
+    ensures { IsTrue result → (k : ℕ) × (w : Item × Named) × (slice_get entries.now k ≡ Some w) × (is_spent family version w ≡ true) }
+{
+    for k in 0..entries.len() {
+        let entry = &entries[k];
+        if is_spent(entry, family, version) {
+            return true;
+        }
+    }
+    false
+}
+
+/// What all such entries need. It takes no memory.
+fn carried(
+    alloc: Global,
+    entries: &[(Element, Dependency)],
+    family: usize,
+    version: u64,
+) -> Result<Dependency, AllocError>
+    ensures { IfOk result (λ all. all ≡ carried_with family version nothing entries.now) }
+{
+    let mut all = Dependency::empty(alloc);
+    for k in 0..entries.len() {
+        let entry = &entries[k];
+        if is_spent(entry, family, version) {
+            all.join(&entry.1)?;
+        }
+    }
+    Ok(all)
+}
+
+/// Puts one entry in the place of all such entries.
+fn fold(entries: &mut Vec<(Element, Dependency)>, family: usize, version: u64)
+    ensures items { IsFolded family version entries.old.items entries.new.items }
+    ensures count { vec_len entries.new ≤ vec_len entries.old }
+    ensures capacity { vec_capacity entries.new ≡ vec_capacity entries.old }
+{
+    let alloc = *entries.allocator();
+    if !has_spent(entries, family, version) {
+        return;
+    }
+    if let Ok(needs) = carried(alloc, entries, family, version) {
+        entries.retain(|w| !is_spent(w, family, version));
+        entries.push_reserved((Element::Version(family, version), needs));
+    }
+}
+
+/// The same of the family of a member of a round, up to its persistent version.
+fn fold_family(entries: &mut Vec<(Element, Dependency)>, persistent: &[u64], element: Element)
+    ensures waiting { waiting_of persistent.now entries.new.items ≡ waiting_of persistent.now entries.old.items }
+    ensures current { (latest : List ℕ) → AreCurrent persistent.now latest entries.old.items → AreCurrent persistent.now latest entries.new.items }
+    ensures count { vec_len entries.new ≤ vec_len entries.old }
+    ensures capacity { vec_capacity entries.new ≡ vec_capacity entries.old }
+{
+    if let Element::Version(family, _) = element {
+        fold(entries, family, version_at(persistent, family));
+    }
+}
+
+/// Of each family that a round has a version of, puts one entry in the place of those of its persistent versions whose needs
+/// take no memory. What waits and what it needs stays, and no memory is taken. It goes through the entries for each such family.
+pub fn fold_all(entries: &mut Vec<(Element, Dependency)>, persistent: &[u64], round: &[Element])
+    ensures waiting { waiting_of persistent.now entries.new.items ≡ waiting_of persistent.now entries.old.items }
+    ensures current { (latest : List ℕ) → AreCurrent persistent.now latest entries.old.items → AreCurrent persistent.now latest entries.new.items }
+    ensures count { vec_len entries.new ≤ vec_len entries.old }
+    ensures capacity { vec_capacity entries.new ≡ vec_capacity entries.old }
+{
+    for y in round {
+        fold_family(entries, persistent, *y);
+    }
+}
