@@ -2,6 +2,7 @@ pub mod Answered
 pub mod Asked
 pub mod Frontiers
 pub mod Meanings
+pub mod Openings
 pub mod Reads
 pub mod Replays
 pub mod Rounds

@@ -1,20 +1,32 @@
 //! The event machine over one disk.
-ghost use Rattle.std.specs.Prelude.{◌≡◌, ◌≢◌, ◌+◌, ◌*◌, ◌^◌, ◌<◌, ◌≤◌, ◌⊎◌, ◌↔◌, [], IfErr, IfOk, IsOk, IsSome, IsTrue, MatchOption, MatchResult, None, OnErr, OnOk, Some, length, take};
+//!
+//! **What a crash leaves.** Take a core on an honest disk that was opened on an image in which no shard is damaged, and any events.
+//! Whenever it stops, in the middle of an event or after one, what the crash leaves on the disk can be opened again, unless memory
+//! or the device refuses. It is then the map after the first n of the commands accepted since, and counts n more than the image did:
+//! n isn't below the frontier, which no acknowledged number exceeds, nor above the number of commands accepted. That the image is such
+//! a one say the clauses `crash` and `left` of `Core::apply`, that it is opened as that `recovers` of `Core::open`.
+ghost use Rattle.std.specs.Prelude.{IfErr, IfOk, IsOk, IsSome, IsTrue, MatchOption, MatchResult, None, OnErr, OnOk, Some, [], length, take, ℕ, ◌*◌, ◌+◌, ◌<◌, ◌^◌, ◌↔◌, ◌≡◌, ◌≢◌, ◌≤◌, ◌⊎◌};
 ghost use Rattle.cs_bridge.specs.Crashes.{IsPrefix};
+ghost use Rattle.cs_chunk.specs.Reads.{IsNoAnswer};
 ghost use Rattle.cs_deps.specs.Chain.{IsChainOf};
 ghost use Rattle.cs_deps.specs.Named.{IsWithin};
 ghost use Rattle.cs_deps.specs.Schedule.{Covers, IsFewest, IsSchedule, Respects};
 ghost use Rattle.cs_deps.specs.Staging.{IsKept};
 ghost use Rattle.cs_deps.specs.State.{everything};
 ghost use Rattle.cs_deps.specs.View.{pending_of, rounds_of};
-ghost use Rattle.cs_disk.specs.Disk.{Leaves, LeavesOnly, Rises, page};
+ghost use Rattle.cs_disk.specs.Disk.{Leaves, LeavesOnly, MayLeave, Rises, flushed, page, seen};
 ghost use Rattle.cs_extent.specs.State.{extents_of, shape};
 ghost use Rattle.cs_frame.specs.Formats.{formats_of};
+ghost use Rattle.cs_frame.specs.Geometries.{IsGeometry};
+ghost use Rattle.cs_image.specs.Counts.{HasCount};
+ghost use Rattle.cs_model.specs.Element.{Map};
+ghost use Rattle.cs_model.specs.Geometry.{shape_of};
 ghost use Rattle.cs_model.specs.Recovery.{Recovers};
 ghost use Rattle.cs_core.specs.Asked.{AsksDevice};
 ghost use Rattle.cs_model.specs.State.{State};
 ghost use Rattle.cs_reclaim.specs.Sweeps.{IsNotSweepable};
 ghost use Rattle.cs_core.specs.Meanings.{commands_said};
+ghost use Rattle.cs_core.specs.Openings.{IsOpened, IsWhyNotOpened};
 ghost use Rattle.cs_core.specs.Replays.{replayed};
 ghost use Rattle.cs_core.specs.Shapes.{MayAnswer};
 ghost use Rattle.cs_core.specs.Started.{new_stored};
@@ -24,6 +36,7 @@ ghost use Rattle.cs_core.specs.Writebacks.{WritesBack};
 use crate::contents::Bytes;
 use crate::events::{Event, OutOfMemory, Reply};
 use crate::formats::{new_store, write_new};
+use crate::openings::open_store;
 use crate::replays::replay_events;
 use crate::stores::Store;
 use cs_deps::{Dependency, Element, GraphView, Plan, Refusal};
@@ -109,6 +122,49 @@ impl<D: PageDisk> Core<D> {
             }),
             Err(DiskFault::DeviceFault) => Err((Refusal::DeviceFault, disk)),
             Err(DiskFault::OutOfMemory) => Err((Refusal::OutOfMemory, disk)),
+        }
+    }
+
+    /// Opens the store on a disk: flushes, and reads superblock, root and runs. The pages of shards aren't read.
+    ///
+    /// The disk comes back where it is refused, by the first test that fails: 43 NotAStore where there are fewer than 10
+    /// pages, before the disk is asked for anything; 20 to 24 for page 0; 43 where the disk hasn't the superblock's pages;
+    /// 20 to 24 for page 1; for each run, the oldest first, 43 where its locator is of no frame, and 20 to 25 for its
+    /// pages; 43 where a locator of an entry is of no frame, or where more identifiers are named than one run may name.
+    /// 1 DeviceFault and 9 OutOfMemory may come in place of any but the first. The index is all that is kept in memory.
+    pub fn open(alloc: Global, disk: D, limits: Limits) -> Result<Self, (Refusal, D)>
+        ensures new { IfOk result (λ core. (core.history ≡ []) × (core.limit ≡ limits.history)) }
+        ensures image { IfOk result (λ core. D.honest disk → (core.opened ≡ seen (D.state disk)) × (D.state core.disk ≡ flushed (D.state disk))) }
+        ensures store { IfOk result (λ core. IsOpened (D.honest disk) core.opened core.found core.store) }
+        // Where the disk reads as a store of some geometry, that store is opened.
+        ensures recovers { D.honest disk → (extents pages : ℕ) → IsGeometry extents pages → D.page_count disk ≡ 2 + extents * pages → (n : ℕ) (m : Map)
+            → (let S = shape_of extents pages 1 extents 1 in Recovers S (formats_of S) (page (seen (D.state disk))) n m
+            → MatchResult result (λ core. (shape core.store.extents ≡ S) × (core.found.0 ≡ n) × HasCount (λ id. m id ≢ None) core.found.1) (λ refused. IsNoAnswer refused.0)) }
+        ensures refusals { IfErr result (λ refused. D.honest disk → IsNoAnswer refused.0 ⊎ IsWhyNotOpened (D.page_count disk) (page (seen (D.state disk))) refused.0) }
+        ensures small { D.page_count disk < 10 → result ≡ Err (Refusal.NotAStore, disk) }
+        // Nothing but a flush is done to the disk, and a crash within leaves what one before it might have left.
+        ensures kept { IfErr result (λ refused. D.honest disk → (D.state refused.1 ≡ D.state disk) ⊎ (D.state refused.1 ≡ flushed (D.state disk))) }
+        ensures crash { D.honest disk → MatchResult result (λ core. LeavesOnly D.moment D.left_since disk core.disk (MayLeave (D.state disk))) (λ refused. LeavesOnly D.moment D.left_since disk refused.1 (MayLeave (D.state disk))) }
+        ensures honest { MatchResult result (λ core. D.honest disk ↔ D.honest core.disk) (λ refused. D.honest disk ↔ D.honest refused.1) }
+        ensures pages { MatchResult result (λ core. D.page_count core.disk ≡ D.page_count disk) (λ refused. D.page_count refused.1 ≡ D.page_count disk) }
+        ensures cause { IfErr result (λ refused. refused.0 ≡ Refusal.DeviceFault → Rises (D.failure_count disk) (D.failure_count refused.1)) }
+    {
+        if disk.pages() < 10 {
+            return Err((Refusal::NotAStore, disk));
+        }
+        let mut disk = disk;
+        let read = open_store(alloc, &mut disk);
+        match read {
+            Ok(found) => Ok(Core {
+                alloc,
+                opened: Snapshot::of(&disk),
+                disk,
+                found: (found.commands, found.live),
+                store: found.store,
+                history: Vec::new(alloc),
+                limit: limits.history,
+            }),
+            Err(refusal) => Err((refusal, disk)),
         }
     }
 

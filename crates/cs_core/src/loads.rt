@@ -1,0 +1,109 @@
+//! Stores that are made of what was read.
+ghost use Rattle.std.specs.Prelude.{◌≡◌, ◌≢◌, ◌⊎◌, ◌+◌, ◌-◌, ◌*◌, ◌/◌, ◌^◌, ◌<◌, ◌≤◌, ℕ, List, [], IfErr, IfOk, OnOk, length, map};
+ghost use Rattle.std.specs.List.{AllByRecursion};
+ghost use Rattle.cs_extent.specs.State.{shape};
+ghost use Rattle.cs_frame.specs.Formats.{place_of};
+ghost use Rattle.cs_frame.specs.Runs.{IsRun};
+ghost use Rattle.cs_frame.specs.Superblocks.{SpellsSuperblock};
+ghost use Rattle.cs_image.specs.Counts.{HasCount};
+ghost use Rattle.cs_image.specs.Openings.{graph_at};
+ghost use Rattle.cs_image.specs.Reads.{AreLocated, extents_at};
+ghost use Rattle.cs_index.specs.Sorted.{live_entry};
+ghost use Rattle.cs_index.specs.State.{index_of, newest_first};
+ghost use Rattle.cs_model.specs.Index.{entries_of, live_at, names};
+ghost use Rattle.cs_core.specs.Openings.{opened_stored};
+
+use crate::roots::Root as Noted;
+use crate::runs::are_located;
+use crate::stores::Store;
+use cs_deps::{Graph, Refusal};
+use cs_extent::Extents;
+use cs_frame::{Locator, Root};
+use cs_index::{Index, StoredRun};
+use std::alloc::Global;
+
+/// A store that was opened, how many commands its root counts, and how many shards it has.
+#[derive(Drop)]
+pub struct OpenedStore {
+    pub store: Store,
+    pub commands: u64,
+    pub live: usize,
+}
+
+/// 1 where a shard has locators, 0 where it was deleted.
+fn one_if_live(locators: &[Locator]) -> usize
+    ensures { (id : ℕ) → result ≡ length (live_entry id (map place_of locators.now)) }
+{
+    if locators.is_empty() { 0 } else { 1 }
+}
+
+/// How many shards have locators. It goes through the index.
+fn live_count(index: &Index) -> usize
+    ensures { HasCount (λ id. live_at (index_of index.now) id ≢ []) result }
+{
+    let _named = index.named_count();
+    let mut count: usize = 0;
+    let mut read = index.entries();
+    while let Some((id, locators)) = read.next_entry() {
+        let _bytes = id.bytes();
+        count += one_if_live(locators);
+    }
+    count
+}
+
+/// A store of these extents and this graph, on which nothing was staged, and of this root's runs, oldest first.
+///
+/// Refused 43 NotAStore where a locator of an entry isn't located or the runs name more identifiers than one run may, and 9
+/// OutOfMemory.
+pub fn load_store(
+    alloc: Global,
+    extents: Extents,
+    graph: Graph,
+    root: &Root,
+    runs: Vec<StoredRun>,
+) -> Result<OpenedStore, Refusal>
+    requires some { (version : ℕ) × (bytes : List ℕ) × SpellsSuperblock bytes version extents.pages extents.written }
+    requires extents { extents ≡ extents_at extents.pages extents.written }
+    requires graph { (version : ℕ) × (graph ≡ graph_at version root.now.version) }
+    requires commands { root.now.commands < 2 ^ 63 }
+    requires few { length runs.items ≤ 4 }
+    requires runs { AllByRecursion (λ run. IsRun (record { entries = run.entries })) runs.items }
+    ensures made { IfOk result (λ found. (version : ℕ) → graph ≡ graph_at version root.now.version → found.store ≡ opened_stored version extents.pages extents.written root.now.version root.now.commands runs.items) }
+    ensures commands { IfOk result (λ found. found.commands ≡ root.now.commands) }
+    ensures live { IfOk result (λ found. HasCount (λ id. live_at (entries_of (newest_first runs.items)) id ≢ []) found.live) }
+    ensures located { OnOk result (AreLocated extents runs.items) }
+    ensures named { OnOk result (names (entries_of (newest_first runs.items)) ≤ (shape extents).most_names) }
+    ensures why { IfErr result (λ r. (r ≡ Refusal.OutOfMemory) ⊎ ((r ≡ Refusal.NotAStore) × ((¬ AreLocated extents runs.items) ⊎ ((shape extents).most_names < names (entries_of (newest_first runs.items)))))) }
+{
+    if !are_located(&extents, &runs) {
+        return Err(Refusal::NotAStore);
+    }
+    let limit = (4096 * extents.extent_pages() - 45) / 81;
+    let index = match Index::load(alloc, limit, runs) {
+        Ok(index) => index,
+        Err(refusal) => return Err(refusal),
+    };
+    let live = live_count(&index);
+    let mut roots = Vec::new(alloc);
+    roots.push(Noted {
+        version: root.version,
+        commands: 0,
+    })?;
+    Ok(OpenedStore {
+        store: Store {
+            alloc,
+            graph,
+            extents,
+            index,
+            roots,
+            out: None,
+            issued: 0,
+            base: root.commands,
+            accepted: 0,
+            frontier: 0,
+            halted: false,
+        },
+        commands: root.commands,
+        live,
+    })
+}

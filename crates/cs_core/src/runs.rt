@@ -1,0 +1,138 @@
+//! Reads of the index's runs.
+ghost use Rattle.std.specs.Prelude.{◌≡◌, ◌+◌, ◌*◌, ◌<◌, ◌≤◌, ◌⊎◌, ◌↔◌, ℕ, IfErr, IfOk, MatchBool, length, map};
+ghost use Rattle.std.specs.List.{AllByRecursion};
+ghost use Rattle.cs_chunk.specs.Reads.{IsCaused, IsNoAnswer, IsOfFault, OnlyReads};
+ghost use Rattle.cs_deps.specs.State.{NoneOn};
+ghost use Rattle.cs_disk.specs.Disk.{page, seen};
+ghost use Rattle.cs_extent.specs.State.{shape};
+ghost use Rattle.cs_frame.specs.Runs.{IsRun, SpellsRun, entries_of, run_fault};
+ghost use Rattle.cs_image.specs.Reads.{AreLocated, IsLocated, IsRunRead};
+ghost use Rattle.cs_core.specs.Openings.{IsWhyNoRuns, IsWhyNotRead};
+
+use cs_chunk::{read_frame, refusal_of_fault};
+use cs_deps::{Graph, Refusal};
+use cs_disk::PageDisk;
+use cs_extent::Extents;
+use cs_frame::{FrameKind, Locator, ShardId, decode_run};
+use cs_index::StoredRun;
+use std::alloc::Global;
+
+/// Whether a frame that is given may begin at a place: its extent exists and has the generation, and the page is below the
+/// pointer.
+fn is_located(extents: &Extents, place: Locator) -> bool
+    ensures { MatchBool result (IsLocated extents.now place) (¬ IsLocated extents.now place) }
+{
+    let extent = usize::from(place.extent);
+    extent < extents.extent_count()
+        && extents.generation(extent) == place.generation
+        && usize::from(place.page) < extents.pointer(extent)
+}
+
+/// Whether all of these places are located.
+fn are_places_located(extents: &Extents, places: &[Locator]) -> bool
+    ensures { MatchBool result (AllByRecursion (IsLocated extents.now) places.now) (¬ AllByRecursion (IsLocated extents.now) places.now) }
+{
+    for k in 0..places.len() {
+        if !is_located(extents, places[k]) {
+            return false;
+        }
+    }
+    true
+}
+
+/// Whether the places of all of these entries are located.
+fn are_entries_located(extents: &Extents, entries: &[(ShardId, Vec<Locator>)]) -> bool
+    ensures { MatchBool result (AllByRecursion (λ entry. AllByRecursion (IsLocated extents.now) entry.1.items) entries.now) (¬ AllByRecursion (λ entry. AllByRecursion (IsLocated extents.now) entry.1.items) entries.now) }
+{
+    for k in 0..entries.len() {
+        let entry = &entries[k];
+        if !are_places_located(extents, &entry.1) {
+            return false;
+        }
+    }
+    true
+}
+
+/// Whether the places of all entries of these runs are located.
+pub fn are_located(extents: &Extents, runs: &[StoredRun]) -> bool
+    ensures { MatchBool result (AreLocated extents.now runs.now) (¬ AreLocated extents.now runs.now) }
+{
+    for k in 0..runs.len() {
+        let run = &runs[k];
+        if !are_entries_located(extents, &run.entries) {
+            return false;
+        }
+    }
+    true
+}
+
+/// The run that a payload spells, with its place.
+fn decoded_run(alloc: Global, place: Locator, payload: &[u8]) -> Result<StoredRun, Refusal>
+    ensures spelled { IfOk result (λ run. SpellsRun payload.now (entries_of run.entries.items)) }
+    ensures place { IfOk result (λ run. run.place ≡ place) }
+    ensures run { IfOk result (λ run. IsRun (record { entries = run.entries })) }
+    ensures fault { IfErr result (λ r. (r ≡ Refusal.OutOfMemory) ⊎ IsOfFault (run_fault payload.now) r) }
+{
+    match decode_run(alloc, payload) {
+        Ok(run) => Ok(StoredRun {
+            place,
+            entries: run.entries,
+        }),
+        Err(fault) => Err(refusal_of_fault(fault)),
+    }
+}
+
+/// Reads the run at a place, where nothing waits.
+fn read_run<D: PageDisk>(
+    alloc: Global,
+    extents: &Extents,
+    graph: &Graph,
+    disk: &mut D,
+    place: Locator,
+) -> Result<StoredRun, Refusal>
+    requires device { 2 + (shape extents.now).extents * (shape extents.now).pages ≤ D.page_count disk.old }
+    requires none { (p : ℕ) → NoneOn graph.now p }
+    ensures read { D.honest disk.old → IfOk result (λ run. IsRunRead extents.now (page (seen (D.state disk.old))) run) }
+    ensures place { IfOk result (λ run. run.place ≡ place) }
+    ensures run { IfOk result (λ run. IsRun (record { entries = run.entries })) }
+    ensures why { D.honest disk.old → IfErr result (λ r. IsNoAnswer r ⊎ IsWhyNotRead extents.now (page (seen (D.state disk.old))) place r) }
+    ensures disk { OnlyReads D.honest D.state D.page_count D.failure_count D.moment D.left_since disk.old disk.new }
+    ensures cause { IsCaused (D.failure_count disk.old) (D.failure_count disk.new) result }
+{
+    // Its contract tells how many pages an extent may have.
+    extents.extent_count();
+    if !is_located(extents, place) {
+        return Err(Refusal::NotAStore);
+    }
+    match read_frame(alloc, extents, graph, disk, FrameKind::Run, place) {
+        Ok(payload) => decoded_run(alloc, place, &payload),
+        Err(refusal) => Err(refusal),
+    }
+}
+
+/// Reads the runs at these places, one after another, where nothing waits.
+pub fn read_runs<D: PageDisk>(
+    alloc: Global,
+    extents: &Extents,
+    graph: &Graph,
+    disk: &mut D,
+    places: &[Locator],
+) -> Result<Vec<StoredRun>, Refusal>
+    requires device { 2 + (shape extents.now).extents * (shape extents.now).pages ≤ D.page_count disk.old }
+    requires none { (p : ℕ) → NoneOn graph.now p }
+    ensures read { D.honest disk.old → IfOk result (λ runs. (map (λ run. run.place) runs.items ≡ places.now) × AllByRecursion (IsRunRead extents.now (page (seen (D.state disk.old)))) runs.items) }
+    ensures runs { IfOk result (λ runs. AllByRecursion (λ run. IsRun (record { entries = run.entries })) runs.items) }
+    ensures count { IfOk result (λ runs. length runs.items ≡ length places.now) }
+    ensures why { D.honest disk.old → IfErr result (λ r. IsNoAnswer r ⊎ IsWhyNoRuns extents.now (page (seen (D.state disk.old))) places.now r) }
+    ensures disk { OnlyReads D.honest D.state D.page_count D.failure_count D.moment D.left_since disk.old disk.new }
+    ensures cause { IsCaused (D.failure_count disk.old) (D.failure_count disk.new) result }
+{
+    let mut runs = Vec::new(alloc);
+    for k in 0..places.len() {
+        match read_run(alloc, extents, graph, disk, places[k]) {
+            Ok(run) => runs.push(run)?,
+            Err(refusal) => return Err(refusal),
+        }
+    }
+    Ok(runs)
+}
