@@ -19,6 +19,7 @@ pub mod Opening
 pub mod Opens
 pub mod Puts
 pub mod Replaying
+pub mod Resting
 pub mod Rising
 pub mod RootSteps
 pub mod RoundSteps
