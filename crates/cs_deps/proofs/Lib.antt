@@ -24,6 +24,7 @@ pub mod VersionStaged
 pub mod RoundsLevels
 pub mod Walk
 pub mod Trimmed
+pub mod Noted
 pub mod Folded
 pub mod Queues
 pub mod Held

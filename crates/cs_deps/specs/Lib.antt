@@ -11,5 +11,6 @@ pub mod Entries
 pub mod Turns
 pub mod Levels
 pub mod Trimmed
+pub mod Newest
 pub mod Spent
 pub mod Records

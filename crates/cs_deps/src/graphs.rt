@@ -6,12 +6,12 @@ ghost use Rattle.cs_deps.specs.Staging.{IsSatisfied, staged_after, IsVersionStag
 ghost use Rattle.cs_deps.specs.View.{pending_of};
 ghost use Rattle.cs_deps.specs.Chain.{IsHeight};
 ghost use Rattle.cs_deps.specs.Pending.{Waits, WaitsAt, Needs, IsPersistent};
-ghost use Rattle.cs_deps.specs.Records.{IsOnPage};
 ghost use Rattle.cs_deps.specs.State.{State, write_of, after, everything, IsNewestOn, IsOut, IsQueue, IsWhole, KeepsBytes, KeepsOthers, AddsNone, AreCounted, NoneOn};
 
 use crate::dependencies::Dependency;
 use crate::elements::Element;
 use crate::levels::{Levels, add_plains, add_versions};
+use crate::pages::{note, noted};
 use crate::records::{Record, clear, give_up, make_room, need_room, record_of};
 use crate::refusals::Refusal;
 use crate::rounds::raise_all;
@@ -20,6 +20,7 @@ use crate::views::GraphView;
 use crate::waiting::{copy_all, elements_of, keep_entries, names_one, needs_of};
 use slab::Slab;
 use std::alloc::{AllocError, Global};
+use std::collections::HashMap;
 use std::marker::Model;
 
 /// What is persistent, what waits with its needs and its page write, and the round that is out.
@@ -39,6 +40,8 @@ pub struct Graph {
     entries: Vec<(Element, Dependency)>,
     /// The page writes of what stands in the ready queues, under the keys that are kept with the levels.
     records: Slab<Record>,
+    /// For each page the number of the newest plain write that has a record.
+    newest: HashMap<u64, u64>,
     /// The members of the round that is out.
     round: Option<Vec<Element>>,
     /// So many more entries and records have their place already.
@@ -48,7 +51,8 @@ pub struct Graph {
 }
 
 impl Model for Graph {
-    ghost use Rattle.std.specs.Prelude.{option_map, vec_len, vec_capacity};
+    ghost use Rattle.std.specs.Prelude.{nat_eq, option_map, vec_len, vec_capacity};
+    ghost use Rattle.std.specs.HashMap.{get, spare};
     ghost use Rattle.cs_deps.specs.State.{State};
     ghost use Rattle.cs_deps.specs.Entries.{state_of, IsHeld};
     ghost use Rattle.cs_deps.specs.Records.{writes_of};
@@ -57,7 +61,7 @@ impl Model for Graph {
 
     ghost view = { λ g. state_of g.persistent.items g.entries.items g.staged g.latest.items (option_map (λ r. r.items) g.round) (writes_of g.records.slots) g.room };
 
-    ghost invariant = { λ g. IsHeld (state_of g.persistent.items g.entries.items g.staged g.latest.items (option_map (λ r. r.items) g.round) (writes_of g.records.slots) g.room) g.entries.items (vec_len g.entries) (vec_capacity g.entries) g.records g.levels };
+    ghost invariant = { λ g. IsHeld (state_of g.persistent.items g.entries.items g.staged g.latest.items (option_map (λ r. r.items) g.round) (writes_of g.records.slots) g.room) g.entries.items (vec_len g.entries) (vec_capacity g.entries) g.records (λ p. get nat_eq g.newest p) (spare g.newest) g.levels };
 }
 
 /// The greatest number that is given.
@@ -80,6 +84,7 @@ impl Graph {
             staged: 0,
             entries: Vec::new(alloc),
             records: Slab::new(alloc),
+            newest: HashMap::new(alloc),
             round: None,
             room: 0,
             levels,
@@ -97,6 +102,7 @@ impl Graph {
         let room = make_room(
             &mut self.entries,
             &mut self.records,
+            &mut self.newest,
             &mut self.levels,
             self.room,
             stagings,
@@ -136,16 +142,20 @@ impl Graph {
         match need_room(
             &mut self.entries,
             &mut self.records,
+            &mut self.newest,
             &mut self.levels,
             self.room,
         ) {
             Ok(made) => {
                 let number = self.staged + 1;
                 let best = self.levels.top(&needs);
+                let older = noted(&self.newest, page);
+                note(&mut self.newest, page, number);
                 let key = self.records.insert_reserved(Record {
                     element: Element::Plain(number),
                     page,
                     bytes: *bytes,
+                    older,
                 });
                 self.entries.push_reserved((Element::Plain(number), needs));
                 self.levels.push_plain(self.staged, best, key);
@@ -196,6 +206,7 @@ impl Graph {
         match need_room(
             &mut self.entries,
             &mut self.records,
+            &mut self.newest,
             &mut self.levels,
             self.room,
         ) {
@@ -208,6 +219,7 @@ impl Graph {
                     element: Element::Version(family, version),
                     page,
                     bytes: *bytes,
+                    older: 0,
                 });
                 self.entries
                     .push_reserved((Element::Version(family, version), needs));
@@ -273,25 +285,14 @@ impl Graph {
         }
     }
 
-    /// The bytes of the newest waiting plain write to a page. It goes down the plain writes from the last one to the one that is
-    /// found, or the first that waits, and takes no memory.
+    /// The bytes of the newest waiting plain write to a page. It is looked up by its page, and takes no memory.
     pub fn newest_on(&self, page: u64) -> Option<&[u8; 4096]>
         ensures newest { MatchOption result (NoneOn self.now page) (λ bytes. IsNewestOn self.now page bytes.now) }
         ensures whole { IsWhole self.now }
     {
-        match newest_number(self, page, self.levels.below_plains(), self.staged) {
-            Some(number) => self.bytes_of(Element::Plain(number)),
+        match self.newest.get(&page) {
+            Some(number) => self.bytes_of(Element::Plain(*number)),
             None => None,
-        }
-    }
-
-    /// Whether a plain write has bytes that go to this page.
-    fn is_on(&self, page: u64, number: u64) -> bool
-        ensures { IsTrue result ↔ IsOnPage self.now page number }
-    {
-        match self.page_of(Element::Plain(number)) {
-            Some(other) => other == page,
-            None => false,
         }
     }
 
@@ -327,7 +328,7 @@ impl Graph {
         ensures room { self.new.room ≡ self.old.room }
     {
         if let Some(round) = self.round.take() {
-            give_up(&mut self.records, &self.levels, &round);
+            give_up(&mut self.records, &mut self.newest, &self.levels, &round);
             self.levels.settle();
             raise_all(&mut self.persistent, &round);
             keep_entries(
@@ -468,18 +469,4 @@ impl Graph {
     {
         self.is_staged(needs) && !names_one(needs, &self.entries, &self.persistent)
     }
-}
-
-/// The greatest number over `first` and up to `last` of a plain write that goes to this page.
-fn newest_number(graph: &Graph, page: u64, first: u64, last: u64) -> Option<u64>
-    ensures { MatchOption result ((n : ℕ) → first < n → n ≤ last → ¬ IsOnPage graph.now page n) (λ n. IsOnPage graph.now page n × ((m : ℕ) → n < m → m ≤ last → ¬ IsOnPage graph.now page m)) }
-{
-    let mut number = last;
-    while number > first {
-        if graph.is_on(page, number) {
-            return Some(number);
-        }
-        number -= 1;
-    }
-    None
 }

@@ -126,32 +126,6 @@ fn goes_before(best: Best, level: u64, number: u64) -> bool
             && matches!(best.before, Some(Element::Plain(least)) if number < least))
 }
 
-/// The lesser of a number and the first plain write of a queue, where it has one.
-fn lesser(least: u64, row: &Row) -> u64
-    requires { 0 < least }
-    ensures some { 0 < result }
-    ensures least { result ≤ least }
-    ensures first { 0 < row.now.first → result ≤ row.now.first }
-{
-    if row.first == 0 {
-        least
-    } else {
-        least.min(row.first)
-    }
-}
-
-/// A number that is no greater than the first plain write of any queue.
-fn least_first(rows: &VecDeque<Row>) -> u64
-    ensures some { 0 < result }
-    ensures least { (i : ℕ) → 0 < (row_at rows.now.items i).first → result ≤ (row_at rows.now.items i).first }
-{
-    let mut least: u64 = u64::MAX;
-    for k in 0..rows.len() {
-        least = lesser(least, &rows[k]);
-    }
-    least
-}
-
 /// Adds a queue where one is missing for this place.
 fn widen(rows: &mut VecDeque<Row>, place: usize)
     requires place { place ≤ length rows.old.items }
@@ -434,13 +408,6 @@ impl Levels {
     {
         let level = level_at(self.kept(Element::Plain(number)));
         self.base < level
-    }
-
-    /// A number below those of the plain writes that stand in a queue. It looks at the first of each queue.
-    pub fn below_plains(&self) -> u64
-        ensures { (i : ℕ) → 0 < (row_at self.now.rows.items i).first → result < (row_at self.now.rows.items i).first }
-    {
-        least_first(&self.rows) - 1
     }
 
     /// With the greatest level of the plain writes up to a number.

@@ -6,6 +6,7 @@ mod elements;
 mod graphs;
 mod laws;
 mod levels;
+mod pages;
 mod records;
 mod refusals;
 mod rounds;

@@ -1,5 +1,7 @@
 //! The page writes that are kept, and room for more.
-ghost use Rattle.std.specs.Prelude.{◌≡◌, ◌≢◌, ℕ, ◌+◌, ◌≤◌, ◌<◌, ◌∷◌, [], ◌++◌, Contains, IfOk, IfSome, IsOk, length, max, Some, None, vec_len, vec_capacity};
+ghost use Rattle.std.specs.Prelude.{◌≡◌, ◌≢◌, ℕ, ◌+◌, ◌≤◌, ◌<◌, ◌∷◌, [], ◌++◌, Contains, nat_eq, IfOk, IfSome, IsOk, length, max, Some, None, vec_len, vec_capacity};
+ghost use Rattle.std.specs.HashMap.{get as get_number, spare};
+ghost use Rattle.cs_deps.specs.Newest.{AreKeyed, AreNewest};
 ghost use Rattle.slab.specs.Slab.{get, slab_len, HasRoomFor};
 ghost use Rattle.cs_deps.specs.declared.elements.Element.{Element as Item};
 ghost use Rattle.cs_deps.specs.declared.levels.Kept.{Kept as KeptOf};
@@ -9,8 +11,10 @@ ghost use Rattle.cs_deps.specs.Levels.{kept_by, HasRoom, IsSameBut};
 use crate::dependencies::Dependency;
 use crate::elements::Element;
 use crate::levels::{Kept, Levels};
+use crate::pages::lower;
 use slab::Slab;
 use std::alloc::AllocError;
+use std::collections::HashMap;
 
 /// An element's page write.
 #[derive(Drop)]
@@ -18,6 +22,8 @@ pub struct Record {
     pub element: Element,
     pub page: u64,
     pub bytes: [u8; 4096],
+    /// Of a plain write a number that none before it to its page is above, 0 where none had a record when it was staged.
+    pub older: u64,
 }
 
 /// The record of an element of which this is kept, where it still has one.
@@ -47,28 +53,46 @@ fn record_at(records: &Slab<Record>, key: usize, element: Element) -> Option<&Re
 }
 
 /// Gives up the record of one element.
-fn give_up_one(records: &mut Slab<Record>, levels: &Levels, element: Element)
+fn give_up_one(
+    records: &mut Slab<Record>,
+    newest: &mut HashMap<u64, u64>,
+    levels: &Levels,
+    element: Element,
+)
+    requires keyed { AreKeyed levels.now records.old }
     ensures less { (key : ℕ) (r : RecordOf) → get records.new key ≡ Some r → get records.old key ≡ Some r }
     ensures gone { (k : KeptOf) → kept_by levels.now element ≡ Some k → get records.new k.key ≡ None }
     ensures rest { (key : ℕ) (r : RecordOf) → get records.old key ≡ Some r → ((k : KeptOf) → kept_by levels.now element ≡ Some k → k.key ≢ key) → get records.new key ≡ Some r }
     ensures count { slab_len records.new ≤ slab_len records.old }
     ensures capacity { records.new.capacity ≡ records.old.capacity }
+    ensures newest { AreNewest records.old (get_number nat_eq newest.old) → AreNewest records.new (get_number nat_eq newest.new) }
+    ensures spare { spare newest.old ≤ spare newest.new }
 {
     if let Some(kept) = levels.kept(element) {
-        records.try_remove(kept.key);
+        if let Some(gone) = records.try_remove(kept.key) {
+            lower(newest, records, levels, &gone);
+        }
     }
 }
 
 /// Gives up the records of a round.
-pub fn give_up(records: &mut Slab<Record>, levels: &Levels, round: &[Element])
+pub fn give_up(
+    records: &mut Slab<Record>,
+    newest: &mut HashMap<u64, u64>,
+    levels: &Levels,
+    round: &[Element],
+)
+    requires keyed { AreKeyed levels.now records.old }
     ensures less { (key : ℕ) (r : RecordOf) → get records.new key ≡ Some r → get records.old key ≡ Some r }
     ensures gone { (x : Item) (k : KeptOf) → Contains round.now x → kept_by levels.now x ≡ Some k → get records.new k.key ≡ None }
     ensures rest { (key : ℕ) (r : RecordOf) → get records.old key ≡ Some r → ((x : Item) (k : KeptOf) → Contains round.now x → kept_by levels.now x ≡ Some k → k.key ≢ key) → get records.new key ≡ Some r }
     ensures count { slab_len records.new ≤ slab_len records.old }
     ensures capacity { records.new.capacity ≡ records.old.capacity }
+    ensures newest { AreNewest records.old (get_number nat_eq newest.old) → AreNewest records.new (get_number nat_eq newest.new) }
+    ensures spare { spare newest.old ≤ spare newest.new }
 {
     for k in 0..round.len() {
-        give_up_one(records, levels, round[k]);
+        give_up_one(records, newest, levels, round[k]);
     }
 }
 
@@ -89,28 +113,34 @@ pub fn clear(records: &mut Slab<Record>, key: Option<usize>)
 pub fn make_room(
     entries: &mut Vec<(Element, Dependency)>,
     records: &mut Slab<Record>,
+    newest: &mut HashMap<u64, u64>,
     levels: &mut Levels,
     room: usize,
     stagings: usize,
 ) -> Result<usize, AllocError>
     requires entries_fit { vec_len entries.old + room ≤ vec_capacity entries.old }
     requires records_fit { HasRoomFor records.old room }
+    requires newest_fit { room ≤ spare newest.old }
     requires levels_fit { HasRoom levels.old room }
     ensures entries { entries.new.items ≡ entries.old.items }
     ensures records { records.new ≡ record records.old { capacity = records.new.capacity } }
+    ensures newest { (p : ℕ) → get_number nat_eq newest.new p ≡ get_number nat_eq newest.old p }
     ensures levels { IsSameBut levels.old levels.new }
     ensures entry_count { vec_len entries.new ≡ vec_len entries.old }
     ensures more_entries { vec_capacity entries.old ≤ vec_capacity entries.new }
     ensures more_records { records.old.capacity ≤ records.new.capacity }
+    ensures more_newest { spare newest.old ≤ spare newest.new }
     ensures room { IfOk result (λ made. made ≡ max room stagings) }
     ensures memory { stagings ≤ room → IsOk result }
     ensures entries_fit { IfOk result (λ made. vec_len entries.new + made ≤ vec_capacity entries.new) }
     ensures records_fit { IfOk result (λ made. HasRoomFor records.new made) }
+    ensures newest_fit { IfOk result (λ made. made ≤ spare newest.new) }
     ensures levels_fit { IfOk result (λ made. HasRoom levels.new made) }
 {
     levels.reserve(stagings)?;
     entries.reserve(stagings)?;
     records.reserve(stagings)?;
+    newest.reserve(stagings)?;
     Ok(room.max(stagings))
 }
 
@@ -118,27 +148,32 @@ pub fn make_room(
 pub fn need_room(
     entries: &mut Vec<(Element, Dependency)>,
     records: &mut Slab<Record>,
+    newest: &mut HashMap<u64, u64>,
     levels: &mut Levels,
     room: usize,
 ) -> Result<usize, AllocError>
     requires entries_fit { vec_len entries.old + room ≤ vec_capacity entries.old }
     requires records_fit { HasRoomFor records.old room }
+    requires newest_fit { room ≤ spare newest.old }
     requires levels_fit { HasRoom levels.old room }
     ensures entries { entries.new.items ≡ entries.old.items }
     ensures records { records.new ≡ record records.old { capacity = records.new.capacity } }
+    ensures newest { (p : ℕ) → get_number nat_eq newest.new p ≡ get_number nat_eq newest.old p }
     ensures levels { IsSameBut levels.old levels.new }
     ensures entry_room { vec_len entries.new + room ≤ vec_capacity entries.new }
     ensures record_room { HasRoomFor records.new room }
+    ensures newest_room { room ≤ spare newest.new }
     ensures level_room { HasRoom levels.new room }
     ensures some { IfOk result (λ made. 0 < made) }
     ensures room { IfOk result (λ made. room ≤ made) }
     ensures memory { 0 < room → IsOk result }
     ensures entries_fit { IfOk result (λ made. vec_len entries.new + made ≤ vec_capacity entries.new) }
     ensures records_fit { IfOk result (λ made. HasRoomFor records.new made) }
+    ensures newest_fit { IfOk result (λ made. made ≤ spare newest.new) }
     ensures levels_fit { IfOk result (λ made. HasRoom levels.new made) }
 {
     if room == 0 {
-        make_room(entries, records, levels, room, 1)
+        make_room(entries, records, newest, levels, room, 1)
     } else {
         Ok(room)
     }

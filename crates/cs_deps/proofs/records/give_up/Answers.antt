@@ -35,6 +35,8 @@ loop-k-preserved c =
       rest = λ key r h none. g.rest key r (i.rest key r h (λ j y k lt there is. none j y k (omega (arith, lt)) there is)) (λ k is. none c.loop-k.k x k (omega arith) at is);
       count = omega (arith, i.count, g.count);
       capacity = g.capacity ∙ i.capacity;
+      newest = λ are. g.newest (i.newest are);
+      spare = omega (arith, i.spare, g.spare);
     }
 
 pub returns-clause-gone : goal.returns-clause-gone
@@ -43,3 +45,9 @@ returns-clause-gone c x k there is =
 
 pub returns-clause-rest : goal.returns-clause-rest
 returns-clause-rest c key r h none = c.loop-k.invariant.rest key r h (λ j y k lt there is. none y k (j, slice_get_within c.args.round.now j y there, get_or_from_slice_get c.args.round.now j y y there) is)
+
+pub returns-clause-newest : goal.returns-clause-newest
+returns-clause-newest c = c.loop-k.invariant.newest
+
+pub returns-clause-spare : goal.returns-clause-spare
+returns-clause-spare c = c.loop-k.invariant.spare

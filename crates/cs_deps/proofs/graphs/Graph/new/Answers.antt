@@ -1,4 +1,8 @@
-use Rattle.std.proofs.Common.{arith}
+use Rattle.std.proofs.Common.{ap, arith}
+use Rattle.std.specs.Prelude.{nat_eq}
+use Rattle.std.specs.HashMap.{get}
+use Rattle.std.specs.Map.{lookup}
+use Rattle.cs_deps.proofs.Noted.{newest_new}
 use Rattle.cs_deps.specs.Records.{writes_of}
 use Rattle.cs_deps.proofs.FiledSteps.{filed_new, room_new}
 use Rattle.cs_deps.proofs.StateSteps.{whole_new}
@@ -17,5 +21,7 @@ invariant_of-result c =
       filed = filed_new ps c.in_ok-levels.levels c.in_ok-levels.ensures c.new-3.result none;
       entries_fit = omega (arith, c.new-2.ensures.len);
       records_fit = room_new c.new-3.result none;
+      newest = newest_new c.new-3.result none (get nat_eq c.new-4.result) (λ p. ap (lookup (nat_eq p)) c.new-4.ensures.empty);
+      newest_fit = omega arith;
       indexed = indexed_new ps c.in_ok-levels.levels c.in_ok-levels.ensures (omega (arith, c.requires.families.1)) (writes_of c.new-3.result.slots);
     })

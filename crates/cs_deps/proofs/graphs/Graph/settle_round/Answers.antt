@@ -18,6 +18,9 @@ use Rattle.cs_deps.proofs.Held.{indexed_left}
 use Rattle.cs_deps.proofs.LeftOver.{entries_left}
 use Rattle.cs_deps.proofs.graphs.Graph.settle_round.Goals as goal
 
+pub give_up-requires : goal.give_up-requires
+give_up-requires c = record { keyed = λ key r at. (let h = c.self.invariant.filed.there key r at in (h.0, h.1, h.2)) }
+
 pub trim-requires-clause-plains : goal.trim-requires-clause-plains
 trim-requires-clause-plains c =
     let g = c.self.inside in
@@ -60,6 +63,8 @@ invariant_of-self c =
       current = (rw (c.deref-in-Some-4.ensures.value, persistent, entries) at c.fold_all.ensures.current) g.latest.items (current_settled g.persistent.items g.latest.items g.entries.items c.self.invariant.current c.self.invariant.whole.kept.families round);
       filed = filed_trimmed after l m is ready still c.give_up.new.records filed;
       entries_fit = omega (arith, c.self.invariant.entries_fit, c.keep_entries.ensures.count, c.keep_entries.ensures.capacity, c.fold_all.ensures.count, c.fold_all.ensures.capacity);
+      newest = given.newest c.self.invariant.newest;
+      newest_fit = omega (arith, c.self.invariant.newest_fit, given.spare);
       records_fit = omega (arith, c.self.invariant.records_fit, c.give_up.ensures.count, c.give_up.ensures.capacity);
       indexed = indexed_trimmed after l m is ready still refl;
     })

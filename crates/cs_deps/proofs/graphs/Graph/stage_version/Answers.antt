@@ -1,6 +1,8 @@
 use Rattle.std.proofs.Common.{◌∙◌, ◌+◌, ◌++◌, ◌∷◌, ◌≡◌, ◌≢◌, ◌≤◌, [], List, ℕ, set, length, refl, sym, ap, arith, subst, inl, inr, ⊎_elim}
-use Rattle.std.specs.Prelude.{option_map, ◌-◌}
+use Rattle.std.specs.Prelude.{nat_eq, option_map, ◌-◌}
 use Rattle.std.proofs.lemmas.Option.{slice_get_read, get_or_from_slice_get, same_Some}
+use Rattle.std.specs.HashMap.{get as get_number}
+use Rattle.cs_deps.proofs.Noted.{newest_same}
 use Rattle.slab.specs.Slab.{Slab, get}
 use Rattle.cs_deps.specs.declared.elements.Element.{Element}
 use Rattle.cs_deps.specs.declared.elements.Element.TheVariants.{Version}
@@ -111,7 +113,7 @@ invariant_of-self c =
     let range = next_range (kept_by m (Version f before)) m.base (c.top-best.result.level + 1) m.ended (m.ended + length m.rows.items) c.top-best.result.before (ix.within (Version f before)) ix.low (omega (arith, low)) (omega (arith, high)) in
     let level : c.next_of-kept.result.level ≡ k.level = ap (λ (u : Kept). u.level) c.next_of-kept.ensures in
     let own : (v : ℕ) → Names c.args.needs (Version f v) → ⊥ = λ v n. absurd (cc (c.names_family.ensures.no v n, c.if-names_family.false)) in
-    let r : Record = record { element = Version f (before + 1); page = c.args.page; bytes = c.args.bytes.now } in
+    let r : Record = record { element = Version f (before + 1); page = c.args.page; bytes = c.args.bytes.now; older = 0 } in
     let key = c.insert_reserved-key.ensures in
     let place : m.ended + (k.level - m.ended - 1) + 1 ≡ k.level = omega (arith, range.0) in
     let there : m.ended + (k.level - m.ended - 1) + 1 ≡ c.next_of-kept.result.level = place ∙ sym level in
@@ -122,12 +124,23 @@ invariant_of-self c =
     (came_of m f (k.level - m.ended - 1) c.need_room.new.records c.clear.new.records old c.replaced.result (c.replaced.ensures.some (k.level - m.ended - 1) there) (c.replaced.ensures.none (k.level - m.ended - 1) there) c.clear.ensures.none c.clear.ensures.gone c.clear.ensures.others)
     key.was_vacant r key.updates refl in
     let now = writes_of c.insert_reserved-key.new.self.slots in
+    let left = left_of m f (k.level - m.ended - 1) c.need_room.new.records c.clear.new.records old c.replaced.result (c.replaced.ensures.some (k.level - m.ended - 1) there) (c.replaced.ensures.none (k.level - m.ended - 1) there) c.clear.ensures.none c.clear.ensures.gone c.clear.ensures.others in
+    let came = came_of m f (k.level - m.ended - 1) c.need_room.new.records c.clear.new.records old c.replaced.result (c.replaced.ensures.some (k.level - m.ended - 1) there) (c.replaced.ensures.none (k.level - m.ended - 1) there) c.clear.ensures.none c.clear.ensures.gone c.clear.ensures.others in
     let fits : HasRoom c.push_version.new.self (made - 1) = (let n : made - 1 + 1 ≡ made = omega (arith, c.in-Ok.ensures.some) in c.push_version.ensures.room (made - 1) (subst (HasRoom m) (sym n) c.in-Ok.ensures.levels_fit)) in
     rw (c.push_reserved.ensures.items, c.in-Ok.ensures.entries) (record {
       whole = whole_version g.persistent.items g.entries.items g.staged g.latest.items (option_map (λ r. r.items) g.round) (writes_of g.records.slots) g.room c.self.invariant.whole c.self.invariant.current f inside before last c.args.needs (made - 1) now within own;
       current = current_version g.persistent.items g.entries.items g.staged g.latest.items (option_map (λ r. r.items) g.round) (writes_of g.records.slots) g.room c.self.invariant.whole c.self.invariant.current f inside before last c.args.needs;
       filed = filed;
       entries_fit = omega (arith, c.in-Ok.ensures.entries_fit, c.in-Ok.ensures.some, c.push_reserved.ensures.len, c.push_reserved.ensures.capacity);
+      newest = newest_same g.records c.insert_reserved-key.new.self (get_number nat_eq g.newest) (get_number nat_eq c.need_room.new.newest) c.self.invariant.newest c.need_room.ensures.newest
+          (λ other u n of at. ⊎_elim
+          (λ (o : other ≡ c.insert_reserved-key.result). absurd (cc (sym of ∙ ap (λ (w : Record). w.element) (same_Some u r (sym at ∙ ap (get c.insert_reserved-key.new.self) o ∙ key.updates.changed)))))
+          (λ (ne : other ≢ c.insert_reserved-key.result). ap (λ (w : Slab Record). get w other) (sym c.in-Ok.ensures.records) ∙ (came other u (sym (key.updates.others other ne) ∙ at)).0)
+          (same_family c.insert_reserved-key.result other))
+          (λ other u n of at.
+          let here = left other u (ap (λ (w : Slab Record). get w other) c.in-Ok.ensures.records ∙ at) (λ e. absurd (cc (sym of ∙ e))) in
+          key.updates.others other (λ e. absurd (cc (sym here ∙ ap (get c.clear.new.records) e ∙ key.was_vacant))) ∙ here);
+      newest_fit = omega (arith, c.in-Ok.ensures.newest_fit);
       records_fit = omega (arith, c.in-Ok.ensures.records_fit, c.in-Ok.ensures.some, c.clear.ensures.count, c.clear.ensures.capacity, key.len, key.capacity);
       indexed = indexed_with_version g.persistent.items g.entries.items g.staged g.latest.items (option_map (λ r. r.items) g.round) (writes_of g.records.slots) g.room c.self.invariant.whole g.levels c.self.invariant.indexed m c.in-Ok.ensures.levels made c.in-Ok.ensures.levels_fit c.args.needs within c.top-best.result.level c.top-best.result.before c.top-best.ensures f inside own before last c.self.invariant.current c.insert_reserved-key.result c.push_version.new.self (k.level - m.ended - 1) pushed now (made - 1) fits;
     })
@@ -165,7 +178,7 @@ returns-in-Ok-clause-write c =
     let range = next_range (kept_by m (Version f before)) m.base (c.top-best.result.level + 1) m.ended (m.ended + length m.rows.items) c.top-best.result.before (ix.within (Version f before)) ix.low (omega (arith, low)) (omega (arith, high)) in
     let level : c.next_of-kept.result.level ≡ k.level = ap (λ (u : Kept). u.level) c.next_of-kept.ensures in
     let own : (v : ℕ) → Names c.args.needs (Version f v) → ⊥ = λ v n. absurd (cc (c.names_family.ensures.no v n, c.if-names_family.false)) in
-    let r : Record = record { element = Version f (before + 1); page = c.args.page; bytes = c.args.bytes.now } in
+    let r : Record = record { element = Version f (before + 1); page = c.args.page; bytes = c.args.bytes.now; older = 0 } in
     let key = c.insert_reserved-key.ensures in
     let place : m.ended + (k.level - m.ended - 1) + 1 ≡ k.level = omega (arith, range.0) in
     let there : m.ended + (k.level - m.ended - 1) + 1 ≡ c.next_of-kept.result.level = place ∙ sym level in
@@ -195,7 +208,7 @@ returns-in-Ok-clause-others c =
     let range = next_range (kept_by m (Version f before)) m.base (c.top-best.result.level + 1) m.ended (m.ended + length m.rows.items) c.top-best.result.before (ix.within (Version f before)) ix.low (omega (arith, low)) (omega (arith, high)) in
     let level : c.next_of-kept.result.level ≡ k.level = ap (λ (u : Kept). u.level) c.next_of-kept.ensures in
     let own : (v : ℕ) → Names c.args.needs (Version f v) → ⊥ = λ v n. absurd (cc (c.names_family.ensures.no v n, c.if-names_family.false)) in
-    let r : Record = record { element = Version f (before + 1); page = c.args.page; bytes = c.args.bytes.now } in
+    let r : Record = record { element = Version f (before + 1); page = c.args.page; bytes = c.args.bytes.now; older = 0 } in
     let key = c.insert_reserved-key.ensures in
     let place : m.ended + (k.level - m.ended - 1) + 1 ≡ k.level = omega (arith, range.0) in
     let there : m.ended + (k.level - m.ended - 1) + 1 ≡ c.next_of-kept.result.level = place ∙ sym level in
@@ -222,6 +235,8 @@ invariant_of-self-in-Err c =
       filed = filed_same g.levels c.need_room.new.levels g.records c.need_room.new.records c.self.invariant.filed e.levels (λ key. ap (λ (r : Slab Record). get r key) e.records);
       entries_fit = e.entry_room;
       records_fit = e.record_room;
+      newest = newest_same g.records c.need_room.new.records (get_number nat_eq g.newest) (get_number nat_eq c.need_room.new.newest) c.self.invariant.newest e.newest (λ key r n of at. sym (ap (λ (u : Slab Record). get u key) e.records) ∙ at) (λ key r n of at. ap (λ (u : Slab Record). get u key) e.records ∙ at);
+      newest_fit = e.newest_room;
       indexed = indexed_same (the_view g) g.levels c.self.invariant.indexed c.need_room.new.levels e.levels (writes_of c.need_room.new.records.slots) g.room e.level_room;
     })
 
@@ -235,6 +250,8 @@ invariant_of-self-in-Err-2 c =
       filed = filed_same g.levels c.need_room.new.levels g.records c.need_room.new.records c.self.invariant.filed e.levels (λ key. ap (λ (r : Slab Record). get r key) e.records);
       entries_fit = e.entry_room;
       records_fit = e.record_room;
+      newest = newest_same g.records c.need_room.new.records (get_number nat_eq g.newest) (get_number nat_eq c.need_room.new.newest) c.self.invariant.newest e.newest (λ key r n of at. sym (ap (λ (u : Slab Record). get u key) e.records) ∙ at) (λ key r n of at. ap (λ (u : Slab Record). get u key) e.records ∙ at);
+      newest_fit = e.newest_room;
       indexed = indexed_same (the_view g) g.levels c.self.invariant.indexed c.need_room.new.levels e.levels (writes_of c.need_room.new.records.slots) g.room e.level_room;
     })
 

@@ -21,6 +21,8 @@ invariant_of-self c =
       filed = filed_taken s g.levels c.take.new.self g.records c.self.invariant.filed c.take.ensures.empty c.take.ensures.one;
       entries_fit = c.self.invariant.entries_fit;
       records_fit = c.self.invariant.records_fit;
+      newest = c.self.invariant.newest;
+      newest_fit = c.self.invariant.newest_fit;
       indexed = ⊎_elim
           (λ (some : 0 < length g.levels.rows.items). rw (c.take.ensures.one some) (taken_one s whole none g.levels ix c.args.round.items first some))
           (λ (le : length g.levels.rows.items ≤ 0). let zero : length g.levels.rows.items ≡ 0 = omega (arith, le) in rw (c.take.ensures.empty zero) (taken_empty s whole none g.levels ix c.args.round.items first zero))
