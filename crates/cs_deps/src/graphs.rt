@@ -10,11 +10,12 @@ ghost use Rattle.cs_deps.specs.State.{State, write_of, after, everything, IsNewe
 
 use crate::dependencies::Dependency;
 use crate::elements::Element;
-use crate::levels::{Levels, add_plains, add_versions};
+use crate::levels::Levels;
 use crate::pages::{note, noted};
 use crate::records::{Record, clear, give_up, make_room, need_room, record_of};
 use crate::refusals::Refusal;
 use crate::rounds::raise_all;
+use crate::rows::{add_plains, add_versions};
 use crate::spent::fold_all;
 use crate::views::GraphView;
 use crate::waiting::{copy_all, elements_of, keep_entries, names_one, needs_of};

@@ -1,14 +1,16 @@
 //! Levels that are kept as elements are staged, and the ready queue of each level.
 
-ghost use Rattle.std.specs.Prelude.{nat_lt, IsTrue, IsOk, IfOk, IfSome, OnOk, None, ◌≡◌, ◌==◌, [], ◌∷◌, ◌++◌, ◌^◌, if◌then◌else◌, ℕ, ◌+◌, ◌≤◌, ◌<◌, ◌⊎◌, ◌≢◌, List, All, Some, Contains, length, max, option_map, slice_index};
+ghost use Rattle.std.specs.Prelude.{nat_lt, IsTrue, IsOk, IfOk, IfSome, OnOk, None, ◌≡◌, [], ◌^◌, ℕ, ◌+◌, ◌≤◌, ◌<◌, ◌⊎◌, All, Some, Contains, length, slice_index};
 ghost use Rattle.std.specs.VecDeque.{deque_len, deque_capacity};
-ghost use Rattle.cs_deps.specs.declared.elements.Element.{Element as Item};
 ghost use Rattle.cs_deps.specs.declared.levels.Kept.{Kept as KeptOf};
-ghost use Rattle.cs_deps.specs.Trimmed.{IsTrimmedList, IsTrimmed};
-ghost use Rattle.cs_deps.specs.Levels.{kept_in, kept_by, family_at, level_by, level_of, no_row, row_at, IsBest, HasRoom, with_next, keyed, next_plain, next_version, with_plain, with_version, IsPlainPushed, IsVersionPushed, IsNew, IsSameBut, IsLevelsSettled, AreLinked, ArePlainsListed, AreVersionsListed};
+ghost use Rattle.cs_deps.specs.Trimmed.{IsTrimmed};
+ghost use Rattle.cs_deps.specs.Levels.{kept_by, family_at, level_by, row_at, IsBest, HasRoom, keyed, next_version, IsPlainPushed, IsVersionPushed, IsNew, IsSameBut, IsLevelsSettled};
 
 use crate::dependencies::{Dependency, version_at};
 use crate::elements::Element;
+use crate::keeps::{kept_at, keyed, level_at, link, next_plain, next_version};
+use crate::rows::{widen, with_plain, with_version};
+use crate::trimming::{trim_each, trim_list};
 use std::alloc::{AllocError, Global};
 use std::collections::VecDeque;
 
@@ -64,42 +66,6 @@ pub struct Levels {
     pub rows: VecDeque<Row>,
 }
 
-/// What is kept at a number.
-pub fn kept_at(list: &VecDeque<Kept>, start: u64, number: u64) -> Option<Kept>
-    ensures { result ≡ kept_in list.now.items start number }
-{
-    if number <= start {
-        return None;
-    }
-    let place = number - start - 1;
-    if place < list.len() as u64 {
-        Some(list[place as usize])
-    } else {
-        None
-    }
-}
-
-/// The level that is kept, 0 where nothing is.
-fn level_at(kept: Option<Kept>) -> u64
-    ensures { result ≡ level_of kept }
-{
-    match kept {
-        Some(kept) => kept.level,
-        None => 0,
-    }
-}
-
-/// An empty queue.
-fn no_row() -> Row
-    ensures { result ≡ no_row }
-{
-    Row {
-        first: 0,
-        last: 0,
-        versions: [0; 16],
-    }
-}
-
 /// The higher of two.
 fn better(best: Best, level: u64, element: Element) -> Best
     ensures low { best.level ≤ result.level }
@@ -124,132 +90,6 @@ fn goes_before(best: Best, level: u64, number: u64) -> bool
     best.level < level
         || (best.level == level
             && matches!(best.before, Some(Element::Plain(least)) if number < least))
-}
-
-/// Adds a queue where one is missing for this place.
-fn widen(rows: &mut VecDeque<Row>, place: usize)
-    requires place { place ≤ length rows.old.items }
-    requires room { deque_len rows.old < deque_capacity rows.old }
-    ensures rows { (i : ℕ) → row_at rows.new.items i ≡ row_at rows.old.items i }
-    ensures count { length rows.new.items ≡ max (length rows.old.items) (place + 1) }
-    ensures capacity { deque_capacity rows.new ≡ deque_capacity rows.old }
-{
-    if place == rows.len() {
-        rows.push_back_reserved(no_row());
-    }
-}
-
-/// Tells a plain write, if it is kept, which is the next of its level.
-fn link(plains: &mut VecDeque<Kept>, start: u64, number: u64, next: u64)
-    ensures kept { (n : ℕ) → kept_in plains.new.items start n ≡ (if n == number then option_map (with_next next) (kept_in plains.old.items start n) else kept_in plains.old.items start n) }
-    ensures count { length plains.new.items ≡ length plains.old.items }
-    ensures capacity { deque_capacity plains.new ≡ deque_capacity plains.old }
-{
-    if number <= start {
-        return;
-    }
-    let place = number - start - 1;
-    if place < plains.len() as u64 {
-        let mut kept = plains[place as usize];
-        kept.next = next;
-        plains[place as usize] = kept;
-    }
-}
-
-/// What is kept of a plain write behind the last one.
-fn next_plain(
-    last: Option<Kept>,
-    number: u64,
-    level: u64,
-    before: Option<Element>,
-    key: usize,
-) -> Kept
-    ensures { result ≡ next_plain last number level before key }
-{
-    let (top, least) = match last {
-        Some(kept) => (kept.top, kept.least),
-        None => (0, 0),
-    };
-    if top < level {
-        Kept {
-            level,
-            before,
-            next: 0,
-            top: level,
-            least: number,
-            key,
-        }
-    } else {
-        Kept {
-            level,
-            before,
-            next: 0,
-            top,
-            least,
-            key,
-        }
-    }
-}
-
-/// What is kept of a version behind the last one of its family: the same where that waits and is no lower.
-fn next_version(last: Option<Kept>, base: u64, level: u64, before: Option<Element>) -> Kept
-    ensures { result ≡ next_version last base level before }
-{
-    let own = Kept {
-        level,
-        before,
-        next: 0,
-        top: 0,
-        least: 0,
-        key: 0,
-    };
-    match last {
-        Some(kept) => if level <= kept.level && base < kept.level {
-            kept
-        } else {
-            own
-        },
-        None => own,
-    }
-}
-
-/// The same, under another key.
-fn keyed(kept: Kept, key: usize) -> Kept
-    ensures { result ≡ keyed key kept }
-{
-    Kept {
-        level: kept.level,
-        before: kept.before,
-        next: kept.next,
-        top: kept.top,
-        least: kept.least,
-        key,
-    }
-}
-
-/// A queue with one plain write more, the last.
-fn with_plain(row: Row, number: u64) -> Row
-    ensures { result ≡ with_plain number row }
-{
-    Row {
-        first: if row.first == 0 { number } else { row.first },
-        last: number,
-        versions: row.versions,
-    }
-}
-
-/// A queue with a greater version of a family.
-fn with_version(row: Row, family: usize, version: u64) -> Row
-    requires { family < 16 }
-    ensures { result ≡ with_version family version row }
-{
-    let mut versions = row.versions;
-    versions[family] = version;
-    Row {
-        first: row.first,
-        last: row.last,
-        versions,
-    }
 }
 
 /// Nothing is kept of so many families.
@@ -288,78 +128,6 @@ fn reserve_one(list: &mut VecDeque<Kept>, stagings: usize) -> Result<(), AllocEr
     ensures memory { deque_len list.old + stagings ≤ deque_capacity list.old → IsOk result }
 {
     list.reserve(stagings)
-}
-
-/// Takes away the first of a list as long as their level is not above the base.
-fn trim_list(list: &mut VecDeque<Kept>, base: u64)
-    ensures list { IsTrimmedList base list.old.items list.new.items }
-    ensures room { deque_len list.new ≤ deque_len list.old }
-    ensures capacity { deque_capacity list.new ≡ deque_capacity list.old }
-{
-    for step in 0..list.len() {
-        let _step = step;
-        if !is_settled(list, base) {
-            return;
-        }
-        list.pop_front();
-    }
-}
-
-/// Whether a list has a first, and the level of that is not above the base.
-fn is_settled(list: &VecDeque<Kept>, base: u64) -> bool
-    ensures { IsTrue result → (k : KeptOf) × (ks : List KeptOf) × (list.now.items ≡ k ∷ ks) × (k.level ≤ base) }
-{
-    match list.front() {
-        Some(kept) => kept.level <= base,
-        None => false,
-    }
-}
-
-/// Takes away the first of a family's list, and tells where it begins, as its last number is this.
-fn trim_family(versions: &mut Vec<VecDeque<Kept>>, family: usize, base: u64, last: u64) -> u64
-    requires inside { family < length versions.old.items }
-    requires last { length (family_at versions.old.items family) ≤ last }
-    ensures here { IsTrimmedList base (family_at versions.old.items family) (family_at versions.new.items family) }
-    ensures start { result + length (family_at versions.new.items family) ≡ last }
-    ensures there { (f : ℕ) → f ≢ family → family_at versions.new.items f ≡ family_at versions.old.items f }
-    ensures count { length versions.new.items ≡ length versions.old.items }
-    ensures room { (n : ℕ) → All (λ q. deque_len q + n ≤ deque_capacity q) versions.old.items → All (λ q. deque_len q + n ≤ deque_capacity q) versions.new.items }
-{
-    trim_list(&mut versions[family], base);
-    last - versions[family].len() as u64
-}
-
-/// Takes away the first of a family's list, where it has one.
-fn trim_one(
-    versions: &mut Vec<VecDeque<Kept>>,
-    starts: &mut Vec<u64>,
-    family: usize,
-    base: u64,
-    latest: &[u64],
-)
-    requires inside { family < length versions.old.items }
-    requires counts { (f : ℕ) → slice_index starts.old.items f + length (family_at versions.old.items f) ≡ slice_index latest.now f }
-    ensures lists { (f : ℕ) → IsTrimmedList base (family_at versions.old.items f) (family_at versions.new.items f) }
-    ensures counts { (f : ℕ) → slice_index starts.new.items f + length (family_at versions.new.items f) ≡ slice_index latest.now f }
-    ensures count { length versions.new.items ≡ length versions.old.items }
-    ensures room { (n : ℕ) → All (λ q. deque_len q + n ≤ deque_capacity q) versions.old.items → All (λ q. deque_len q + n ≤ deque_capacity q) versions.new.items }
-{
-    if family < starts.len() {
-        starts[family] = trim_family(versions, family, base, version_at(latest, family));
-    }
-}
-
-/// Takes away the first of each family's list.
-fn trim_each(versions: &mut Vec<VecDeque<Kept>>, starts: &mut Vec<u64>, base: u64, latest: &[u64])
-    requires counts { (f : ℕ) → slice_index starts.old.items f + length (family_at versions.old.items f) ≡ slice_index latest.now f }
-    ensures lists { (f : ℕ) → IsTrimmedList base (family_at versions.old.items f) (family_at versions.new.items f) }
-    ensures counts { (f : ℕ) → slice_index starts.new.items f + length (family_at versions.new.items f) ≡ slice_index latest.now f }
-    ensures count { length versions.new.items ≡ length versions.old.items }
-    ensures room { (n : ℕ) → All (λ q. deque_len q + n ≤ deque_capacity q) versions.old.items → All (λ q. deque_len q + n ≤ deque_capacity q) versions.new.items }
-{
-    for family in 0..versions.len() {
-        trim_one(versions, starts, family, base, latest);
-    }
 }
 
 impl Levels {
@@ -627,52 +395,4 @@ impl Levels {
         self.dropped = staged - self.plains.len() as u64;
         trim_each(&mut self.versions, &mut self.starts, self.base, latest);
     }
-}
-
-/// Adds the plain writes of a level that come from this one on.
-pub fn add_plains(
-    xs: &mut Vec<Element>,
-    levels: &Levels,
-    level: u64,
-    first: u64,
-    bound: u64,
-) -> Result<(), AllocError>
-    requires above { levels.now.ended < level }
-    requires rows { AreLinked (kept_by levels.now) levels.now.ended }
-    requires first { 0 < first → level_by levels.now (Element.Plain first) ≡ level }
-    requires none { xs.old.items ≡ [] }
-    requires earliest { (n : ℕ) → level_by levels.now (Element.Plain n) ≡ level → (0 < first) × (first ≤ n) }
-    requires bound { (n : ℕ) → 0 < level_by levels.now (Element.Plain n) → n ≤ bound }
-    ensures listed { OnOk result (ArePlainsListed (kept_by levels.now) level xs.new.items) }
-{
-    let mut number = first;
-    while number != 0 {
-        xs.push(Element::Plain(number))?;
-        number = match levels.kept(Element::Plain(number)) {
-            Some(kept) => kept.next,
-            None => 0,
-        };
-    }
-    Ok(())
-}
-
-/// Adds the versions of a level.
-pub fn add_versions(xs: &mut Vec<Element>, versions: &[u64; 16]) -> Result<(), AllocError>
-    ensures listed { OnOk result (AreVersionsListed xs.old.items versions.now 16 xs.new.items) }
-{
-    for family in 0..16 {
-        add_version(xs, family, versions[family])?;
-    }
-    Ok(())
-}
-
-/// Adds a version, where it is one.
-fn add_version(xs: &mut Vec<Element>, family: usize, version: u64) -> Result<(), AllocError>
-    ensures none { version ≡ 0 → OnOk result (xs.new.items ≡ xs.old.items) }
-    ensures one { 0 < version → OnOk result (xs.new.items ≡ xs.old.items ++ (Element.Version family version) ∷ []) }
-{
-    if version > 0 {
-        xs.push(Element::Version(family, version))?;
-    }
-    Ok(())
 }

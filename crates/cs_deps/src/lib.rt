@@ -4,15 +4,18 @@
 mod dependencies;
 mod elements;
 mod graphs;
+mod keeps;
 mod laws;
 mod levels;
 mod pages;
 mod records;
 mod refusals;
 mod rounds;
+mod rows;
 mod spent;
 #[cfg(test)]
 mod tests;
+mod trimming;
 mod views;
 mod waiting;
 

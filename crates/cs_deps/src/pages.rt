@@ -1,5 +1,5 @@
 //! The newest plain write of each page.
-ghost use Rattle.std.specs.Prelude.{◌≡◌, ℕ, ◌+◌, ◌≤◌, ◌<◌, ◌==◌, ◌↔◌, nat_eq, if◌then◌else◌, IfSome, IsSome, IsTrue, Some, None};
+ghost use Rattle.std.specs.Prelude.{◌≡◌, ℕ, ◌+◌, ◌≤◌, ◌<◌, ◌==◌, ◌↔◌, nat_eq, if◌then◌else◌, IsSome, IsTrue, Some};
 ghost use Rattle.std.specs.HashMap.{get, spare};
 ghost use Rattle.slab.specs.Slab.{Slab as SlabOf};
 ghost use Rattle.cs_deps.specs.declared.records.Record.{Record as RecordOf};

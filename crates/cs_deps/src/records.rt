@@ -1,5 +1,5 @@
 //! The page writes that are kept, and room for more.
-ghost use Rattle.std.specs.Prelude.{◌≡◌, ◌≢◌, ℕ, ◌+◌, ◌≤◌, ◌<◌, ◌∷◌, [], ◌++◌, Contains, nat_eq, IfOk, IfSome, IsOk, length, max, Some, None, vec_len, vec_capacity};
+ghost use Rattle.std.specs.Prelude.{◌≡◌, ◌≢◌, ℕ, ◌+◌, ◌≤◌, ◌<◌, Contains, nat_eq, IfOk, IfSome, IsOk, max, Some, None, vec_len, vec_capacity};
 ghost use Rattle.std.specs.HashMap.{get as get_number, spare};
 ghost use Rattle.cs_deps.specs.Newest.{AreKeyed, AreNewest};
 ghost use Rattle.slab.specs.Slab.{get, slab_len, HasRoomFor};

@@ -1,5 +1,5 @@
 //! Entries of versions that are persistent, of which a family keeps few while a later one of its versions waits.
-ghost use Rattle.std.specs.Prelude.{◌≡◌, ℕ, ◌≤◌, ◌<◌, List, true, IfOk, IsTrue, Some, slice_get, vec_len, vec_capacity};
+ghost use Rattle.std.specs.Prelude.{◌≡◌, ℕ, ◌≤◌, List, true, IfOk, IsTrue, Some, slice_get, vec_len, vec_capacity};
 ghost use Rattle.cs_deps.specs.declared.elements.Element.{Element as Item};
 ghost use Rattle.cs_deps.specs.Named.{Named};
 ghost use Rattle.cs_deps.specs.Entries.{nothing, waiting_of, AreCurrent};

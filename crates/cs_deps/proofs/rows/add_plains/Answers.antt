@@ -1,7 +1,7 @@
 use Rattle.std.proofs.Common.{◌∙◌, ◌<◌, sym, ap, arith}
 use Rattle.cs_deps.specs.Levels.{kept_by, level_of}
 use Rattle.cs_deps.proofs.Walk.{plains_more, plains_done, nearer}
-use Rattle.cs_deps.proofs.levels.add_plains.Goals as goal
+use Rattle.cs_deps.proofs.rows.add_plains.Goals as goal
 
 pub loop-number-smaller-in-Some : goal.loop-number-smaller-in-Some
 loop-number-smaller-in-Some c =

@@ -1,6 +1,6 @@
 use Rattle.std.proofs.Common.{◌∙◌, refl, le_refl, arith}
 use Rattle.cs_deps.proofs.Trimmed.{trimmed_none, trimmed_more, without_first}
-use Rattle.cs_deps.proofs.levels.trim_list.Goals as goal
+use Rattle.cs_deps.proofs.trimming.trim_list.Goals as goal
 
 pub loop-step-init : goal.loop-step-init
 loop-step-init c = record { list = trimmed_none c.args.base c.args.list.now.items; room = le_refl c.args.list.now.len; capacity = refl }

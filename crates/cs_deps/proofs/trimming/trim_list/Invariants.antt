@@ -1,7 +1,7 @@
 use Rattle.std.specs.Prelude.{◌≡◌, ◌≤◌}
 use Rattle.std.specs.VecDeque.{deque_len, deque_capacity}
 use Rattle.cs_deps.specs.Trimmed.{IsTrimmedList}
-use Rattle.cs_deps.proofs.levels.trim_list.Given as goal
+use Rattle.cs_deps.proofs.trimming.trim_list.Given as goal
 
 abbrev pub invariant-loop-step : goal.invariant-loop-step
 invariant-loop-step l = record {

@@ -4,7 +4,7 @@ use Rattle.cs_deps.specs.Levels.{family_at}
 use Rattle.cs_deps.proofs.KeptIn.{family_here}
 use Rattle.cs_deps.proofs.Pushed.{family_set, family_other}
 use Rattle.cs_deps.proofs.Trimmed.{trimmed_length, room_trimmed}
-use Rattle.cs_deps.proofs.levels.trim_family.Goals as goal
+use Rattle.cs_deps.proofs.trimming.trim_family.Goals as goal
 
 pub overflow_sub-result : goal.overflow_sub-result
 overflow_sub-result c =

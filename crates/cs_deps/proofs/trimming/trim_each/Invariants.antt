@@ -2,7 +2,7 @@ use Rattle.std.specs.Prelude.{◌≡◌, ℕ, ◌+◌, ◌≤◌, All, length, s
 use Rattle.std.specs.VecDeque.{deque_len, deque_capacity}
 use Rattle.cs_deps.specs.Levels.{family_at}
 use Rattle.cs_deps.specs.Trimmed.{IsTrimmedList}
-use Rattle.cs_deps.proofs.levels.trim_each.Given as goal
+use Rattle.cs_deps.proofs.trimming.trim_each.Given as goal
 
 abbrev pub invariant-loop-family : goal.invariant-loop-family
 invariant-loop-family l = record {

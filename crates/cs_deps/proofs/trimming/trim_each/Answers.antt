@@ -1,7 +1,7 @@
 use Rattle.std.proofs.Common.{◌∙◌, refl}
 use Rattle.cs_deps.specs.Levels.{family_at}
 use Rattle.cs_deps.proofs.Trimmed.{trimmed_none, trimmed_more}
-use Rattle.cs_deps.proofs.levels.trim_each.Goals as goal
+use Rattle.cs_deps.proofs.trimming.trim_each.Goals as goal
 
 pub loop-family-init : goal.loop-family-init
 loop-family-init c = record { lists = λ f. trimmed_none c.args.base (family_at c.args.versions.now.items f); counts = c.requires.counts; count = refl; room = λ n all. all }
