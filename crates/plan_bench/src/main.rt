@@ -1,9 +1,15 @@
-//! Times the planner: so many puts, each a plain write and a superblock version over all plain writes so far, a root
-//! over the latest version, then the plan of all of it. The number of puts is the one argument.
+//! Times the graph and the planner. The first argument is a number of puts, each a plain write and a superblock version over all
+//! plain writes so far. The second says what is done with them:
+//!
+//! - `plan`, and where none is given: all wait, with a root over the latest version at the end, and are planned at once;
+//! - `steady`: a round is out all the time, and after each put it ends and the next is taken;
+//! - `gets`: all wait, and a million times the newest write to a page is looked up.
 #![tactic(auto)]
 
+ghost use Rattle.std.specs.Prelude.{None, ◌≡◌};
+
 use cs_deps::{Dependency, Graph, Refusal};
-use cs_plan::plan_all;
+use cs_plan::{next_round, plan_all};
 use std::alloc::{AllocError, Global};
 use std::num::ParseIntError;
 use std::rt::Env;
@@ -33,9 +39,29 @@ fn puts_wanted(rt: &(impl Env + AllocGlobal)) -> Result<u64, Fault> {
     }
 }
 
-/// Stages a put: a plain write, and a superblock version that needs all plain writes so far.
-fn stage_put(alloc: Global, graph: &mut Graph) -> Result<(), Fault> {
-    let number = graph.stage_plain(2, &PAGE, Dependency::none(alloc))?;
+/// What is to be done with the puts.
+#[derive(Drop)]
+enum Work {
+    Plan,
+    Steady,
+    Gets,
+}
+
+/// The work that the command line asks for.
+fn work_wanted(rt: &(impl Env + AllocGlobal)) -> Result<Work, Fault> {
+    match env::args(rt)?.nth(2) {
+        Some(text) => match text.as_str() {
+            "steady" => Ok(Work::Steady),
+            "gets" => Ok(Work::Gets),
+            _ => Ok(Work::Plan),
+        },
+        None => Ok(Work::Plan),
+    }
+}
+
+/// Stages a put: a plain write to this page, and a superblock version that needs all plain writes so far.
+fn stage_put(alloc: Global, graph: &mut Graph, page: u64) -> Result<(), Fault> {
+    let number = graph.stage_plain(page, &PAGE, Dependency::none(alloc))?;
     if graph.families() == 2 {
         graph.stage_version(0, 0, &PAGE, Dependency::through(alloc, number))?;
     }
@@ -51,19 +77,75 @@ fn stage_root(alloc: Global, graph: &mut Graph) -> Result<(), Fault> {
     Ok(())
 }
 
-fn main(rt: HostRuntime) -> Result<(), Fault> {
+/// All puts wait, and are planned.
+fn plan_puts(rt: &HostRuntime, graph: &mut Graph, puts: u64) -> Result<(), Fault> {
     let alloc = rt.alloc();
-    let puts = puts_wanted(&rt)?;
-    let mut graph = Graph::new(alloc, &[1, 1])?;
     for _ in 0..puts {
-        stage_put(alloc, &mut graph)?;
+        stage_put(alloc, graph, 2)?;
     }
-    stage_root(alloc, &mut graph)?;
-    let plan = plan_all(alloc, &graph)?;
-    println!(rt;
+    stage_root(alloc, graph)?;
+    let plan = plan_all(alloc, graph)?;
+    println!(*rt;
         "puts {puts} rounds {} chain {}",
         plan.rounds.len(),
         plan.chain.len()
     )?;
     Ok(())
+}
+
+/// Ends the round that is out, if one is.
+fn end_round(graph: &mut Graph)
+    ensures { graph.new.round ≡ None }
+{
+    if graph.is_out() {
+        graph.settle_round();
+    }
+}
+
+/// Ends the round that is out, and takes the next.
+fn turn(alloc: Global, graph: &mut Graph) -> Result<(), Fault> {
+    end_round(graph);
+    let round = next_round(alloc, graph)?;
+    graph.take_round(round);
+    Ok(())
+}
+
+/// A round is out all the time.
+fn put_steadily(rt: &HostRuntime, graph: &mut Graph, puts: u64) -> Result<(), Fault> {
+    let alloc = rt.alloc();
+    for put in 0..puts {
+        stage_put(alloc, graph, 2 + put % 1000)?;
+        if put % 100 == 0 {
+            stage_root(alloc, graph)?;
+        }
+        turn(alloc, graph)?;
+    }
+    println!(*rt; "puts {puts} pages {}", graph.kept_pages())?;
+    Ok(())
+}
+
+/// All puts wait, each to a page of its own, and the newest write to a page is looked up.
+fn get_beside(rt: &HostRuntime, graph: &mut Graph, puts: u64) -> Result<(), Fault> {
+    let alloc = rt.alloc();
+    for put in 0..puts {
+        stage_put(alloc, graph, 2 + put % 1_000_000)?;
+    }
+    let mut found: u64 = 0;
+    for get in 0..1_000_000u64 {
+        if graph.newest_on(2 + get % 20_000).is_some() {
+            found = found.saturating_add(1);
+        }
+    }
+    println!(*rt; "puts {puts} found {found}")?;
+    Ok(())
+}
+
+fn main(rt: HostRuntime) -> Result<(), Fault> {
+    let puts = puts_wanted(&rt)?;
+    let mut graph = Graph::new(rt.alloc(), &[1, 1])?;
+    match work_wanted(&rt)? {
+        Work::Plan => plan_puts(&rt, &mut graph, puts),
+        Work::Steady => put_steadily(&rt, &mut graph, puts),
+        Work::Gets => get_beside(&rt, &mut graph, puts),
+    }
 }
