@@ -155,6 +155,6 @@ pub fn open_store<D: PageDisk>(alloc: Global, disk: &mut D) -> Result<OpenedStor
 {
     match disk.flush() {
         Ok(()) => read_store(alloc, disk),
-        Err(fault) => Err(refusal_of_disk(fault)),
+        Err(failed) => Err(refusal_of_disk(failed)),
     }
 }
