@@ -1,0 +1,6 @@
+pub mod Crosses
+pub mod Going
+pub mod LogSteps
+pub mod Resting
+pub mod Steps
+pub mod Sums

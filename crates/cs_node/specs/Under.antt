@@ -1,0 +1,9 @@
+-- What contracts see of the locked state.
+use Rattle.std.specs.Prelude.{ℕ, Bool}
+use Rattle.cs_core.specs.Views.{View}
+
+-- the core, how many purses were given, and whether the pilot was
+pub record Under (D : Type 0) : Type 0 where
+  pub core : View D
+  pub given : ℕ
+  pub piloted : Bool

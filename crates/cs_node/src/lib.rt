@@ -1,0 +1,36 @@
+//! A core under one lock that threads share, purses for what each of them was told, and a board that tells without the lock how
+//! many commands are persistent.
+#![tactic(auto)]
+
+mod alike;
+mod boards;
+mod ferries;
+mod gates;
+mod jobs;
+mod locked;
+mod logs;
+mod nodes;
+mod pilots;
+mod polls;
+mod purses;
+mod reclaimers;
+mod rests;
+mod tallies;
+mod tickets;
+mod writebacks;
+
+pub use boards::{Board, Naming};
+pub use ferries::{Dock, Ramp, ferry};
+pub use gates::{Gate, Open, Step};
+pub use jobs::Job;
+pub use logs::Call;
+pub use nodes::{Node, Settled, Why};
+pub use pilots::Pilot;
+pub use polls::Polled;
+pub use purses::{Purse, the_floor_rises};
+pub use reclaimers::Reclaimer;
+pub use rests::{Closed, NotClosed, Rest, Unclosed};
+pub use tickets::{Ack, Ticket};
+
+#[cfg(test)]
+mod tests;

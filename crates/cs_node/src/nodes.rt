@@ -1,0 +1,174 @@
+//! The node that threads share.
+ghost use Rattle.std.specs.Prelude.{◌≡◌, [], IfErr, IfOk};
+ghost use Rattle.cs_node.specs.Answers.{Settles, deleted, got};
+ghost use Rattle.cs_node.specs.Starts.{start_of};
+ghost use Rattle.cs_node.specs.Told.{Adds, Refuses};
+
+use crate::boards::{Board, Naming, Words};
+use crate::gates::{Gate, Open};
+use crate::locked::Locked;
+use crate::purses::Purse;
+use crate::tickets::{Ack, Ticket};
+use cs_core::{Bytes, Core, Event, Reply};
+use cs_deps::Refusal;
+use cs_disk::PageDisk;
+use cs_frame::ShardId;
+use std::alloc::Global;
+use std::marker::PhantomData;
+use std::sync::{Mutex, Wait};
+
+/// A core under its lock, and its board. Each call takes the lock at most once at a time, for at most one event.
+#[derive(Drop)]
+pub struct Node<D: PageDisk, K: Naming> {
+    pub(crate) state: Mutex<Locked<D, K>>,
+    pub(crate) words: Words,
+    ghost named: { words.shared.table_id ≡ K.table },
+    ghost one_word: { words.shared.table_id.words ≡ 1 },
+}
+
+/// Why a ticket came back from a settle.
+#[derive(Clone, Copy, Debug)]
+pub enum Why {
+    /// The command isn't persistent; those up to this one are.
+    NotYet(u64),
+    /// 41: the history is full.
+    HistoryFull,
+    /// 9: a growth was refused.
+    OutOfMemory,
+}
+
+/// What a settle answers.
+#[derive(Drop)]
+pub enum Settled<K: Naming> {
+    Done(Ack<K>),
+    Back(Ticket<K>, Why),
+}
+
+impl<D: PageDisk, K: Naming> Node<D, K> {
+    /// A node of a board and a core that did nothing yet.
+    pub fn new(board: Board, core: Core<D>) -> Self
+        requires board { board ≡ K.table }
+        requires start { start_of core ≡ K.start }
+        requires history { core.history ≡ [] }
+        requires accepted { core.store.accepted ≡ 0 }
+        requires frontier { core.store.frontier ≡ 0 }
+    {
+        let Board { words, keeper } = board;
+        Node {
+            state: Mutex::new(Locked {
+                core,
+                keeper,
+                given: 0,
+                piloted: false,
+                of: PhantomData,
+            }),
+            words,
+        }
+    }
+
+    /// A new purse. Refused 35 WornOut past 2^63 - 1 purses.
+    pub fn purse<R: Wait>(&self, rt: &R, alloc: Global) -> Result<Purse<K>, Refusal>
+        ensures ok { IfOk result (λ purse. (purse.calls ≡ []) × (purse.tickets ≡ []) × (purse.acks ≡ [])) }
+        ensures err { IfErr result (λ r. r ≡ Refusal.WornOut) }
+    {
+        self.state.lock(rt).give(&self.words.shared, alloc)
+    }
+
+    /// Keeps bytes under an identifier. The ticket has the command's number.
+    ///
+    /// Refused 31 TooLarge, 32 IndexFull, 30 Full, 35 WornOut and 40 Halted, which are recorded, and 41 HistoryFull and
+    /// 9 OutOfMemory, which aren't. The bytes are gone then.
+    pub fn put<R: Wait>(
+        &self,
+        rt: &R,
+        purse: &mut Purse<K>,
+        id: ShardId,
+        bytes: Bytes,
+    ) -> Result<Ticket<K>, Refusal>
+        ensures ok { IfOk result (λ ticket. Adds purse.old (Event.Put id bytes) (Reply.Accepted ticket) purse.new) }
+        ensures err { IfErr result (λ r. Refuses purse.old (Event.Put id bytes) r purse.new) }
+    {
+        self.put_with(rt, purse, id, bytes, &Open)
+    }
+
+    /// The same with a gate, which is asked under the lock after the event.
+    pub fn put_with<G: Gate, R: Wait>(
+        &self,
+        rt: &R,
+        purse: &mut Purse<K>,
+        id: ShardId,
+        bytes: Bytes,
+        gate: &G,
+    ) -> Result<Ticket<K>, Refusal>
+        ensures ok { IfOk result (λ ticket. Adds purse.old (Event.Put id bytes) (Reply.Accepted ticket) purse.new) }
+        ensures err { IfErr result (λ r. Refuses purse.old (Event.Put id bytes) r purse.new) }
+    {
+        self.state
+            .lock(rt)
+            .put(&self.words.shared, purse, id, bytes, gate)
+    }
+
+    /// Reads what is under an identifier, None where there is nothing. The bytes are shared with the history and the purse.
+    ///
+    /// Refused 1 DeviceFault, 20 to 24 where a chunk is damaged, which are recorded, and 41 HistoryFull and 9 OutOfMemory, which
+    /// aren't. It waits while the bytes have the greatest number of owners.
+    pub fn get<R: Wait>(
+        &self,
+        rt: &R,
+        purse: &mut Purse<K>,
+        id: ShardId,
+    ) -> Result<Option<Bytes>, Refusal>
+        ensures ok { IfOk result (λ found. Adds purse.old (Event.Get id) (got found) purse.new) }
+        ensures err { IfErr result (λ r. Refuses purse.old (Event.Get id) r purse.new) }
+    {
+        let there = self
+            .state
+            .lock(rt)
+            .get(&self.words.shared, purse, id, &Open)?;
+        if !there {
+            return Ok(None);
+        }
+        let Some(found) = purse.log.found() else {
+            unreachable!()
+        };
+        Ok(Some(shared(rt, found)))
+    }
+
+    /// Deletes an identifier, None where there was nothing under it.
+    ///
+    /// Refused 35 WornOut and 40 Halted, which are recorded, and 41 HistoryFull and 9 OutOfMemory, which aren't.
+    pub fn delete<R: Wait>(
+        &self,
+        rt: &R,
+        purse: &mut Purse<K>,
+        id: ShardId,
+    ) -> Result<Option<Ticket<K>>, Refusal>
+        ensures ok { IfOk result (λ ticket. Adds purse.old (Event.Delete id) (deleted ticket) purse.new) }
+        ensures err { IfErr result (λ r. Refuses purse.old (Event.Delete id) r purse.new) }
+    {
+        self.state
+            .lock(rt)
+            .delete(&self.words.shared, purse, id, &Open)
+    }
+
+    /// Asks under the lock whether a command is persistent.
+    pub fn settle<R: Wait>(&self, rt: &R, purse: &mut Purse<K>, ticket: Ticket<K>) -> Settled<K>
+        ensures { Settles purse.old ticket result purse.new }
+    {
+        self.state
+            .lock(rt)
+            .settle(&self.words.shared, purse, ticket, &Open)
+    }
+}
+
+/// One owner more of the same bytes. It takes no memory, and waits while they have the greatest number of owners.
+fn shared<R: Wait>(rt: &R, bytes: &Bytes) -> Bytes
+    ensures { result ≡ bytes.now }
+{
+    for _ in rt.forever() {
+        if let Ok(owner) = bytes.share() {
+            return owner;
+        }
+    }
+    unreachable!()
+}

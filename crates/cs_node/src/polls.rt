@@ -1,0 +1,34 @@
+//! Asking the board, without the lock.
+ghost use Rattle.std.specs.Prelude.{◌≡◌, ◌≤◌, max};
+ghost use Rattle.cs_node.specs.Answers.{Tells};
+ghost use Rattle.cs_node.specs.Told.{floor_of};
+
+use crate::boards::{Naming, Sees};
+use crate::nodes::Node;
+use crate::purses::Purse;
+use crate::tickets::{Ack, Ticket};
+use cs_disk::PageDisk;
+
+/// What a poll answers: an ack, or the ticket with the number of the last command that is known to be persistent.
+#[derive(Drop)]
+pub enum Polled<K: Naming> {
+    Done(Ack<K>),
+    Back(Ticket<K>, u64),
+}
+
+impl<K: Naming> Purse<K> {
+    /// Asks the board whether a command is persistent. It takes no lock and no memory, waits for nobody and loads one word.
+    pub fn poll<D: PageDisk>(&mut self, node: &Node<D, K>, ticket: Ticket<K>) -> Polled<K>
+        ensures told { Tells (max self.new.seen (floor_of self.old.calls)) ticket result }
+        ensures later { self.old.seen ≤ self.new.seen }
+        ensures same { self.new ≡ record self.old { seen = self.new.seen } }
+    {
+        let word = node.words.shared.load::<Sees>(&mut self.reader, 0);
+        let known = word.max(self.log.floor());
+        if ticket.number() <= known {
+            Polled::Done(ticket.into_ack())
+        } else {
+            Polled::Back(ticket, known)
+        }
+    }
+}

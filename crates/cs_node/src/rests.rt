@@ -1,0 +1,146 @@
+//! A node at rest, and its close.
+ghost use Rattle.std.specs.Prelude.{◌≡◌, ◌≤◌, ℕ, IfErr, IfOk};
+ghost use Rattle.cs_model.specs.State.{State};
+ghost use Rattle.cs_core.specs.Views.{IsIn};
+ghost use Rattle.cs_node.specs.Accounts.{acknowledged_by, once_to};
+ghost use Rattle.cs_node.specs.Closes.{Fails, IsClosed};
+ghost use Rattle.cs_node.specs.Starts.{start_of};
+
+use crate::boards::{Naming, Words};
+use crate::locked::Locked;
+use crate::nodes::Node;
+use crate::purses::Purse;
+use crate::tallies::judge;
+use cs_core::{Core, Event, Reply};
+use cs_disk::PageDisk;
+use std::alloc::Global;
+use std::marker::Model;
+use std::sync::Mutex;
+
+/// A node whose lock is open. Contracts see its core, and what it gave.
+#[derive(Drop)]
+pub struct Rest<D: PageDisk, K: Naming> {
+    pub(crate) locked: Locked<D, K>,
+    pub(crate) words: Words,
+}
+
+impl<D: PageDisk, K: Naming> Model for Rest<D, K> {
+    ghost use Rattle.std.specs.Prelude.{◌≡◌};
+    ghost use Rattle.cs_node.specs.Under.{Under};
+
+    ghost Value = { Under D };
+
+    ghost view = { λ r. r.locked };
+
+    ghost invariant = { λ r. (r.words.shared.table_id ≡ K.table) × (r.words.shared.table_id.words ≡ 1) };
+}
+
+/// Why a node wasn't closed.
+#[derive(Clone, Copy, Debug)]
+pub enum Unclosed {
+    /// 50: so many numbers of accepted commands have no ticket and no ack in the purses; 0 where another test failed alone.
+    Missing(u64),
+    /// 9: a growth was refused.
+    OutOfMemory,
+}
+
+/// A node that wasn't closed, with what came.
+#[derive(Drop)]
+pub struct NotClosed<D: PageDisk, K: Naming> {
+    pub why: Unclosed,
+    pub rest: Rest<D, K>,
+    pub purses: Vec<Purse<K>>,
+}
+
+/// What a node did: its disk, how many commands were accepted and how many of them are persistent and so acknowledged, and all
+/// events with their replies, the first one first.
+#[derive(Drop)]
+pub struct Closed<D> {
+    pub disk: D,
+    pub accepted: u64,
+    pub acknowledged: u64,
+    pub history: Vec<(Event, Reply)>,
+}
+
+impl<D: PageDisk, K: Naming> Node<D, K> {
+    /// Opens the lock, for which no other thread may have the node.
+    pub fn rest(self) -> Rest<D, K> {
+        let Node { state, words } = self;
+        Rest {
+            locked: state.into_inner(),
+            words,
+        }
+    }
+}
+
+impl<D: PageDisk, K: Naming> Rest<D, K> {
+    /// Its core, which was opened on what K names.
+    pub fn core(&self) -> &Core<D>
+        ensures core { result.now ≡ self.now.core }
+        ensures start { start_of self.now.core ≡ K.start }
+    {
+        self.locked.core()
+    }
+
+    /// How many purses the node gave.
+    pub fn given(&self) -> u64
+        ensures { result ≡ self.now.given }
+    {
+        self.locked.given()
+    }
+
+    /// Locks it again.
+    pub fn resume(self) -> Node<D, K> {
+        let Rest { locked, words } = self;
+        Node {
+            state: Mutex::new(locked),
+            words,
+        }
+    }
+
+    /// Closes the node where these purses account for its history: they are all that it gave, their calls are those of the history,
+    /// each once, and their tickets and acks are the numbers of all accepted commands, each once, with no ack for one that isn't
+    /// persistent. The tickets for persistent commands become acks then, so that these are the persistent commands, each once.
+    ///
+    /// Refused 50 Missing and 9 OutOfMemory; what came is handed back.
+    pub fn close(self, alloc: Global, purses: Vec<Purse<K>>) -> Result<Closed<D>, NotClosed<D, K>>
+        ensures closed { IfOk result (λ c. IsClosed self purses.items c) }
+        ensures acknowledged { D.honest self.core.disk → IfOk result (λ c. (x : ℕ) → acknowledged_by c.acknowledged x purses.items ≡ once_to c.acknowledged x) }
+        ensures start { start_of self.core ≡ K.start }
+        ensures legal { D.honest self.core.disk → (s : State) × IsIn D.state self.core s }
+        ensures err { IfErr result (λ e. (e.rest ≡ self) × (e.purses.items ≡ purses.items) × Fails self purses.items e.why) }
+    {
+        match judge(alloc, self.core(), self.given(), purses.as_slice()) {
+            Ok(None) => Ok(self.end()),
+            Ok(Some(missing)) => Err(NotClosed {
+                why: Unclosed::Missing(missing),
+                rest: self,
+                purses,
+            }),
+            Err(_) => Err(NotClosed {
+                why: Unclosed::OutOfMemory,
+                rest: self,
+                purses,
+            }),
+        }
+    }
+
+    /// What the node did.
+    fn end(self) -> Closed<D>
+        ensures disk { result.disk ≡ self.core.disk }
+        ensures accepted { result.accepted ≡ self.core.store.accepted }
+        ensures acknowledged { result.acknowledged ≡ self.core.store.frontier }
+        ensures within { D.honest self.core.disk → self.core.store.frontier ≤ self.core.store.accepted }
+        ensures history { result.history.items ≡ self.core.history }
+    {
+        let (accepted, acknowledged) = self.core().progress();
+        let Rest { locked, words: _ } = self;
+        let (disk, history) = locked.into_core().into_parts();
+        Closed {
+            disk,
+            accepted,
+            acknowledged,
+            history,
+        }
+    }
+}

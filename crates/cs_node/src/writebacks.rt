@@ -1,0 +1,102 @@
+//! Events of writeback, under the lock.
+ghost use Rattle.std.specs.Prelude.{◌≡◌, ◌⊎◌, ◌≤◌, IfOk, IfSome, MatchOption, false, true};
+ghost use Rattle.cs_core.specs.Shapes.{MayAnswer};
+ghost use Rattle.cs_core.specs.Views.{IsStep};
+ghost use Rattle.cs_node.specs.Dues.{IsAtRest, IsDue, Turns};
+
+use crate::boards::{Naming, Shown};
+use crate::gates::{Gate, Open, Step, step_of};
+use crate::locked::Locked;
+use crate::pilots::Pilot;
+use cs_core::{Core, Event, Reply};
+use cs_deps::Refusal;
+use cs_disk::PageDisk;
+
+/// Which event of writeback is due, None where nothing waits and nothing has changed.
+pub fn due<D: PageDisk>(core: &Core<D>) -> Option<Event>
+    ensures { MatchOption result (IsAtRest core.now.store) (λ event. IsDue core.now.store event) }
+{
+    if let Some((members, issued)) = core.round() {
+        if issued < members.len() {
+            return Some(Event::Issue);
+        }
+        return Some(Event::End);
+    }
+    if core.has_waiting() {
+        return Some(Event::Begin);
+    }
+    if core.has_changes() {
+        return Some(Event::Stage);
+    }
+    None
+}
+
+impl<D: PageDisk, K: Naming> Locked<D, K> {
+    /// Does one event of the node's own, after which the gate is asked, and gives its reply. Refused as the event is, which is
+    /// recorded, and 9 OutOfMemory and 41 HistoryFull, which aren't.
+    pub fn work<G: Gate>(
+        &mut self,
+        board: &Shown,
+        event: &Event,
+        gate: &G,
+    ) -> Result<Reply, Refusal>
+        requires { (board.now.table_id ≡ K.table) × (board.now.table_id.words ≡ 1) }
+        ensures step { IfOk result (λ reply. IsStep D.honest D.state self.old.core event.now reply self.new.core) }
+        ensures shape { IfOk result (λ reply. MayAnswer event.now reply) }
+    {
+        match self.record(board, event, gate)? {
+            Reply::Refused(refusal) => Err(refusal),
+            reply => Ok(reply),
+        }
+    }
+
+    /// Does the event of writeback that is due. Refused as the event is, 9 OutOfMemory and 41 HistoryFull.
+    pub fn turn<G: Gate>(&mut self, board: &Shown, gate: &G) -> Result<Step, Refusal>
+        requires { (board.now.table_id ≡ K.table) × (board.now.table_id.words ≡ 1) }
+        ensures { IfOk result (λ step. Turns D.honest D.state self.old.core step self.new.core) }
+    {
+        let Some(event) = due(&self.core) else {
+            return Ok(Step::Idle);
+        };
+        match self.work(board, &event, gate) {
+            Ok(_) => Ok(step_of(&event)),
+            Err(refusal) => Err(refusal),
+        }
+    }
+
+    /// Stages what has changed, and gives how many commands were accepted then.
+    pub fn stage(&mut self, board: &Shown) -> Result<u64, Refusal>
+        requires { (board.now.table_id ≡ K.table) × (board.now.table_id.words ≡ 1) }
+        ensures { IfOk result (λ accepted. accepted ≡ self.new.core.store.accepted) }
+    {
+        self.work(board, &Event::Stage, &Open)?;
+        Ok(self.core.accepted())
+    }
+
+    /// Gives how many commands are persistent where so many are or nothing is left to do, else does the event of writeback that is due.
+    pub fn advance(&mut self, board: &Shown, target: u64) -> Result<Option<u64>, Refusal>
+        requires { (board.now.table_id ≡ K.table) × (board.now.table_id.words ≡ 1) }
+        ensures { IfOk result (λ reached. IfSome reached (λ frontier. (frontier ≡ self.new.core.store.frontier) × ((target ≤ frontier) ⊎ IsAtRest self.new.core.store))) }
+    {
+        let frontier = self.core.frontier();
+        if target <= frontier {
+            return Ok(Some(frontier));
+        }
+        let Some(event) = due(&self.core) else {
+            return Ok(Some(frontier));
+        };
+        self.work(board, &event, &Open)?;
+        Ok(None)
+    }
+
+    /// The pilot, None once it was given.
+    pub fn hire(&mut self) -> Option<Pilot<K>>
+        ensures { MatchOption result ((self.old.piloted ≡ true) × (self.new ≡ self.old)) (λ _. (self.old.piloted ≡ false) × (self.new ≡ record self.old { piloted = true })) }
+    {
+        if self.piloted {
+            return None;
+        }
+        self.piloted = true;
+        Some(Pilot::new())
+    }
+}
