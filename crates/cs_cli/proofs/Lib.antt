@@ -11,3 +11,4 @@ pub mod LineSteps
 pub mod PlanSteps
 pub mod CheckSteps
 pub mod HexSteps
+pub mod CrashSteps

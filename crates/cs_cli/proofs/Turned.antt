@@ -1,6 +1,6 @@
 -- What rounds do to the graph and the index.
 use Rattle.std.proofs.Common.{take_all, ◌≡◌, ◌≢◌, ◌∙◌, ℕ, ◌<◌, List, [], ◌∷◌, ◌++◌, None, length, map, take, sym, ap, subst, refl, inr, arith, append_assoc}
-use Rattle.std.specs.Prelude.{Option}
+use Rattle.std.specs.Prelude.{IfErr, IfOk, Option, Result, Ok, Err}
 use Rattle.std.proofs.lemmas.List.{append-nil, map-append}
 use Rattle.cs_deps.specs.declared.elements.Element.{Element}
 use Rattle.cs_deps.specs.declared.refusals.Refusal.{Refusal}
@@ -152,6 +152,18 @@ module _ {D : Type 0} (honest : D → Type 0) (state : D → DiskState) where
   pub rest_refused : (a b c : View D) (event : Event) (r : Refusal) → IsOfRound event → (members : Members) × Went honest state a (issues members) b
       → IsStopped honest state b [] event r c → (members : Members) × (event : Event) × IsOfRound event × IsStopped honest state a (issues members) event r c
   rest_refused a b c event r is (members, w) s = (members, event, is, stopped_next honest state (issues members) a b c event r w s)
+
+  -- the round ends where the End isn't refused
+  pub finished_if : (a b c : View D) (r : Result ℕ Refusal) → (members : Members) × Went honest state a (issues members) b
+      → IfOk r (λ frontier. Goes honest state b End (Ended frontier) c) → IfOk r (λ frontier. (members : Members) × Went honest state a (rest_of_round members frontier) c)
+  finished_if a b c (Ok frontier) so g = finished a b c (Ended frontier) frontier refl so g
+  finished_if a b c (Err r) so g = tt
+
+  -- and else it doesn't
+  pub end_refused_if : (a b c : View D) (r : Result ℕ Refusal) → (members : Members) × Went honest state a (issues members) b
+      → IfErr r (λ refusal. IsStopped honest state b [] End refusal c) → IfErr r (λ refusal. (members : Members) × (event : Event) × IsOfRound event × IsStopped honest state a (issues members) event refusal c)
+  end_refused_if a b c (Ok frontier) so s = tt
+  end_refused_if a b c (Err r) so s = rest_refused a b c End r (inr refl) so s
 
   -- the same, with the reply to the Begin
   pub turn_from : (round : List Element) (a b c : View D) (reply : Reply) → reply ≡ Begun round → Goes honest state a Begin reply b → (frontier : ℕ) → (members : Members) × Went honest state b (rest_of_round members frontier) c

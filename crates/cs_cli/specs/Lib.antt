@@ -1,4 +1,5 @@
 pub mod Checks
+pub mod Crashes
 pub mod Histories
 pub mod Lines
 pub mod Outputs

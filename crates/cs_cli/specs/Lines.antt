@@ -1,5 +1,5 @@
 -- What a line of a script says.
-use Rattle.std.specs.Prelude.{ℕ, Bool, true, List, [], ◌∷◌, length, codes, nat_lt, ◌==◌, ◌&&◌, ◌^◌, if◌then◌else◌, filter, Option, Some, None, option_map, unwrap_or, Result, Ok, Err}
+use Rattle.std.specs.Prelude.{ℕ, Bool, true, List, [], ◌∷◌, length, codes, nat_lt, ◌==◌, ◌&&◌, ◌||◌, ◌^◌, if◌then◌else◌, filter, map, Option, Some, None, option_map, unwrap_or, Result, Ok, Err}
 use Rattle.std.specs.List.{list_all, slice_split}
 use Rattle.std.specs.Char.{is_ascii_digit}
 use Rattle.std.specs.Str.{bytes_eq}
@@ -8,10 +8,11 @@ use Rattle.uuid.specs.Text.{parsed}
 use Rattle.hex.specs.Hex.{decode_of}
 use Rattle.hex.specs.declared.error.FromHexError.{FromHexError}
 use Rattle.cs_cli.specs.declared.lines.Line.{Line}
-use Rattle.cs_cli.specs.declared.lines.Line.TheVariants.{Put, Get, Delete, Sweep, Sync, Step, Plan, Document, Nothing, Bad}
+use Rattle.cs_cli.specs.declared.lines.Line.TheVariants.{Put, Get, Delete, Sweep, Sync, Step, Plan, Document, Crash, Nothing, Bad}
 
 -- to put these bytes under this identifier, to get or to delete what is under it, to sweep this extent, to make all persistent,
--- to make one step of that, to print the plan for it or its document, nothing, or it isn't readable
+-- to make one step of that, to print the plan for it or its document, to crash and to keep those of the volatile writes for
+-- which the mask says true, nothing, or it isn't readable
 pub data Said : Type 0 where
   says_put : List ℕ → List ℕ → Said
   says_get : List ℕ → Said
@@ -21,6 +22,7 @@ pub data Said : Type 0 where
   says_step : Said
   says_plan : Said
   says_document : Said
+  says_crash : List Bool → Said
   says_nothing : Said
   unreadable : Said
 
@@ -33,6 +35,7 @@ said_by Sync = says_sync
 said_by Step = says_step
 said_by Plan = says_plan
 said_by Document = says_document
+said_by (Crash mask) = says_crash mask.items
 said_by Nothing = says_nothing
 said_by Bad = unreadable
 
@@ -94,6 +97,29 @@ one_number (number ∷ word ∷ rest) = None
 abbrev pub said_sweep : List (List ℕ) → Said
 said_sweep rest = unwrap_or (option_map says_sweep (one_number rest)) unreadable
 
+-- the digit 1
+abbrev pub is_one : ℕ → Bool
+is_one b = b == 49
+
+-- a binary digit
+abbrev pub is_binary : ℕ → Bool
+is_binary b = b == 48 || b == 49
+
+-- the truth values of binary digits, 1 for true, and `-` for none
+abbrev pub mask_of : List ℕ → Option (List Bool)
+mask_of word = if bytes_eq word (codes "-") then Some [] else if list_all is_binary word then Some (map is_one word) else None
+
+-- to crash with the mask that was read, if it was
+abbrev pub crash_of : Option (List Bool) → Said
+crash_of (Some mask) = says_crash mask
+crash_of None = unreadable
+
+-- with these words behind `crash`
+abbrev pub said_crash : List (List ℕ) → Said
+said_crash [] = unreadable
+said_crash (digits ∷ []) = crash_of (mask_of digits)
+said_crash (digits ∷ word ∷ rest) = unreadable
+
 -- with these words behind a word that stands alone
 abbrev pub said_alone : Said → List (List ℕ) → Said
 said_alone said [] = said
@@ -105,7 +131,7 @@ said_by_word word = if bytes_eq word (codes "sync") then says_sync else if bytes
 
 abbrev pub said_words : List (List ℕ) → Said
 said_words [] = unreadable
-said_words (word ∷ rest) = if bytes_eq word (codes "put") then said_put rest else if bytes_eq word (codes "get") then said_get rest else if bytes_eq word (codes "del") then said_delete rest else if bytes_eq word (codes "sweep") then said_sweep rest else said_alone (said_by_word word) rest
+said_words (word ∷ rest) = if bytes_eq word (codes "put") then said_put rest else if bytes_eq word (codes "get") then said_get rest else if bytes_eq word (codes "del") then said_delete rest else if bytes_eq word (codes "sweep") then said_sweep rest else if bytes_eq word (codes "crash") then said_crash rest else said_alone (said_by_word word) rest
 
 -- what a line says, without its line feed
 abbrev pub said_of : List ℕ → Said

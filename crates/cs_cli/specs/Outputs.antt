@@ -32,6 +32,14 @@ swept_line extent moved root = line_of (codes "sweep " ++ decimal extent ++ code
 abbrev pub bad_line : List ℕ
 bad_line = line_of (codes "bad line")
 
+-- how many of how many volatile writes a crash kept
+abbrev pub crash_line : ℕ → ℕ → List ℕ
+crash_line kept volatile = line_of (codes "crash kept " ++ decimal kept ++ codes " of " ++ decimal volatile)
+
+-- how many commands and how many shards a store had as it was opened
+abbrev pub open_line : ℕ → ℕ → List ℕ
+open_line commands shards = line_of (codes "open commands " ++ decimal commands ++ codes " shards " ++ decimal shards)
+
 -- the number and the name of a refusal
 abbrev pub refusal_line : Refusal → List ℕ
 refusal_line r = line_of (codes "refused " ++ decimal (number_of r) ++ codes " " ++ name_of r)

@@ -1,5 +1,5 @@
 -- What a script prints and what its core's history gains, line by line.
-use Rattle.std.specs.Prelude.{◌≡◌, ◌≢◌, ◌⊎◌, ℕ, List, [], ◌∷◌, ◌++◌, Option, Some, None, codes, length, map, if◌then◌else◌, nat_lt}
+use Rattle.std.specs.Prelude.{◌≡◌, ◌≢◌, ◌⊎◌, ℕ, Bool, List, [], ◌∷◌, ◌++◌, Option, Some, None, codes, length, map, if◌then◌else◌, nat_lt}
 use Rattle.std.specs.Io.BufRead.{first_piece, drop_through}
 use Rattle.cs_deps.specs.declared.elements.Element.{Element}
 use Rattle.cs_deps.specs.declared.refusals.Refusal.{Refusal}
@@ -18,8 +18,9 @@ use Rattle.cs_core.specs.declared.events.Reply.{Reply}
 use Rattle.cs_core.specs.declared.events.Reply.TheVariants.{Abandoned, Absent, Accepted, Begun, Ended, Found, Issued, Moved, NoneLive, Nothing, Retired, Staged, Sweeping, Unchanged}
 use Rattle.cs_core.specs.Stored.{Stored}
 use Rattle.cs_core.specs.Views.{View}
+use Rattle.cs_cli.specs.Crashes.{Crashes, CrashesForGood, IsCrash}
 use Rattle.cs_cli.specs.Histories.{IsStopped, Stays, Went}
-use Rattle.cs_cli.specs.Lines.{Said, says_put, says_get, says_delete, says_sweep, says_sync, says_step, says_plan, says_document, says_nothing, unreadable, said_of}
+use Rattle.cs_cli.specs.Lines.{Said, says_put, says_get, says_delete, says_sweep, says_sync, says_step, says_plan, says_document, says_crash, says_nothing, unreadable, said_of}
 use Rattle.cs_cli.specs.Outputs.{absent_line, acknowledged_line, bad_line, begin_line, chain_line, delete_line, end_line, flushes_line, idle_line, issue_line, line_of, plan_lines, put_line, refusal_line, round_lines, swept_line, value_line}
 use Rattle.cs_cli.specs.Rounds.{IsOfRound, IsPart, Members, Turn, events_of_all, issues, rest_of_round, rounds_of}
 
@@ -175,7 +176,7 @@ module _ {D : Type 0} (honest : D → Type 0) (state : D → DiskState) where
   abbrev pub Steps : View D → View D → List ℕ → Type 0
   Steps old new out = (reply : Reply) × Went honest state old ((step_event old.store, reply) ∷ []) new × step_line reply out
 
-  -- what a line does to the core, and what it prints
+  -- what a line does to the core, and what it prints. A line `crash` stands here for one that isn't readable
   abbrev pub Answers : Said → View D → View D → List ℕ → Type 0
   Answers (says_put id bytes) old new out = ((n : ℕ) × Answered old (Put (record { 0 = id }) bytes) (Accepted n) new (put_line n) out)
       ⊎ Declines old (Put (record { 0 = id }) bytes) new out
@@ -191,17 +192,30 @@ module _ {D : Type 0} (honest : D → Type 0) (state : D → DiskState) where
   Answers says_plan old new out = Plans old new out ⊎ IsRefusalOf (IsPlanRefused old new) out
   Answers says_document old new out = (new ≡ old) × (Documents old.store out ⊎ IsRefusalOf (IsDocumentRefused old.store) out)
   Answers says_nothing old new out = (new ≡ old) × (out ≡ [])
+  Answers (says_crash mask) old new out = (new ≡ old) × (out ≡ bad_line)
   Answers unreadable old new out = (new ≡ old) × (out ≡ bad_line)
 
 -- the exit status after a line: 1 from the first line on that isn't readable
 abbrev pub status_after : Said → ℕ → ℕ
 status_after unreadable status = 1
+status_after (says_crash mask) status = 1
 status_after said status = status
 
--- A script runs: nothing is left of it, or its first line is answered and the rest runs. Each line ends with a line feed, the last one may end with the text.
-pub data Runs {D : Type 0} (honest : D → Type 0) (state : D → DiskState) : List ℕ → View D → ℕ → View D → ℕ → List ℕ → Type 0 where
-  ended : (v : View D) (status : ℕ) → Runs honest state [] v status v status []
-  then_runs : (text : List ℕ) (old mid new : View D) (status last : ℕ) (out rest : List ℕ)
-      → text ≢ [] → Answers honest state (said_of (first_piece 10 text)) old mid out
-      → Runs honest state (drop_through 10 text) mid (status_after (said_of (first_piece 10 text)) status) new last rest
-      → Runs honest state text old status new last (out ++ rest)
+module _ {D : Type 0} (honest : D → Type 0) (state : D → DiskState) (page_count : D → ℕ) (can_crash : D → Type 0) (volatile_count : D → ℕ) where
+  -- a line that isn't a readable `crash` is answered by the core; and after a crash the core goes on that is opened then
+  abbrev pub GoesOn : Said → (old : View D) (status : ℕ) → (new : View D) (after : ℕ) → List ℕ → Type 0
+  GoesOn said old status new after out =
+      (((mask : List Bool) → ¬ IsCrash honest state page_count can_crash volatile_count said old mask) × Answers honest state said old new out × (after ≡ status_after said status))
+      ⊎ ((mask : List Bool) × IsCrash honest state page_count can_crash volatile_count said old mask × Crashes honest state page_count can_crash volatile_count mask old new out × (after ≡ status))
+
+  -- A script runs: nothing is left of it; or its first line is answered and the rest runs; or no store is opened after a crash, and
+  -- it ends with no core. Each line ends with a line feed, the last one may end with the text.
+  pub data Runs : List ℕ → View D → ℕ → Option (View D) → ℕ → List ℕ → Type 0 where
+    ended : (v : View D) (status : ℕ) → Runs [] v status (Some v) status []
+    then_runs : (text : List ℕ) (old mid : View D) (new : Option (View D)) (status after last : ℕ) (out rest : List ℕ)
+        → text ≢ [] → GoesOn (said_of (first_piece 10 text)) old status mid after out
+        → Runs (drop_through 10 text) mid after new last rest
+        → Runs text old status new last (out ++ rest)
+    unopened : (text : List ℕ) (old : View D) (status : ℕ) (out : List ℕ)
+        → text ≢ [] → CrashesForGood honest state page_count can_crash volatile_count (said_of (first_piece 10 text)) old out
+        → Runs text old status None 3 out

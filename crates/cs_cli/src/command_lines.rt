@@ -1,10 +1,8 @@
 //! The command line.
-ghost use Rattle.std.specs.Prelude.{◌≤◌, OnOk};
-ghost use Rattle.std.specs.Io.KnownBytes.{Appends};
-ghost use Rattle.cs_cli.specs.Outputs.{refusal_line};
+ghost use Rattle.std.specs.Prelude.{◌≤◌};
 
 use crate::checks::run_check;
-use crate::outputs::print_refusal;
+use crate::outputs::print_no_store;
 use crate::scripts::run_script;
 use crate::statuses;
 use clap::{Arg, ArgAction, ArgMatches, Command};
@@ -13,7 +11,7 @@ use cs_deps::Refusal;
 use cs_disk::MemoryDisk;
 use cs_frame::Geometry;
 use std::alloc::{AllocError, Global};
-use std::io::{BufWriter, Write};
+use std::io::BufWriter;
 use std::rt::Env;
 use std::{env, io};
 
@@ -126,24 +124,6 @@ fn new_core(alloc: Global, options: &ArgMatches) -> Result<Core<MemoryDisk>, Ref
         Ok(core) => Ok(core),
         Err((refusal, _)) => Err(refusal),
     }
-}
-
-/// Prints why there is no store, and gives the exit status.
-fn print_no_store<W: Write>(writer: &mut W, refusal: Refusal) -> u8
-    ensures { (3 ≤ result) × (result ≤ 4) }
-{
-    match print_last(writer, refusal) {
-        Ok(()) => statuses::NO_STORE,
-        Err(_) => statuses::STREAM,
-    }
-}
-
-/// Prints a refusal as the last line. Where that doesn't reach the output, it ends with the writer's error.
-fn print_last<W: Write>(writer: &mut W, refusal: Refusal) -> io::Result<()>
-    ensures { OnOk result (Appends (W.contents writer.old) (W.contents writer.new) (refusal_line refusal)) }
-{
-    print_refusal(writer, refusal)?;
-    writer.flush()
 }
 
 /// Checks the plan document on standard input.

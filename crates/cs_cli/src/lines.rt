@@ -1,10 +1,10 @@
 //! The lines of a script.
-ghost use Rattle.std.specs.Prelude.{◌≡◌, ◌==◌, ◌∷◌, [], IfOk, MatchOption, option_map, not};
+ghost use Rattle.std.specs.Prelude.{◌≡◌, ◌==◌, ◌∷◌, [], IfOk, MatchOption, map, option_map, not};
 ghost use Rattle.std.specs.Prelude.{position};
 ghost use Rattle.std.specs.Char.{is_ascii_digit};
 ghost use Rattle.std.specs.List.{list_all};
 ghost use Rattle.uuid.specs.Text.{parsed};
-ghost use Rattle.cs_cli.specs.Lines.{said_by, is_silent, words, payload_of, one_id, one_number, decimal_of, said_put, said_get, said_delete, said_sweep, said_alone, said_by_word, said_of};
+ghost use Rattle.cs_cli.specs.Lines.{said_by, is_silent, words, payload_of, one_id, one_number, decimal_of, is_one, is_binary, mask_of, said_put, said_get, said_delete, said_sweep, said_crash, said_alone, said_by_word, said_of};
 
 use hex::FromHexError;
 use std::alloc::{AllocError, Global};
@@ -33,6 +33,8 @@ pub enum Line {
     Plan,
     /// Prints the plan document of all that waits.
     Document,
+    /// Crashes the disk, keeps those of its volatile writes for which the mask says true, and opens what is left.
+    Crash { mask: Vec<bool> },
     /// An empty line, or a remark.
     Nothing,
     /// Not readable.
@@ -41,8 +43,9 @@ pub enum Line {
 
 impl Line {
     /// Reads a line without its line feed. Words are parted by spaces alone: a tab belongs to its word. An identifier
-    /// is any text that `uuid` reads, a payload is hex digits in either case, or `-` for no byte, and an extent is decimal
-    /// digits of a number below 2^64. The only memory that it takes is for a payload.
+    /// is any text that `uuid` reads, a payload is hex digits in either case, or `-` for no byte, an extent is decimal
+    /// digits of a number below 2^64, and a mask is binary digits, or `-` for none. The only memory that it takes is for
+    /// a payload or a mask.
     pub fn read(alloc: Global, text: &[u8]) -> Result<Line, AllocError>
         ensures { IfOk result (λ line. said_by line ≡ said_of text.now) }
     {
@@ -60,6 +63,8 @@ impl Line {
             Ok(read_delete(rest))
         } else if word == b"sweep".as_slice() {
             Ok(read_sweep(rest))
+        } else if word == b"crash".as_slice() {
+            read_crash(alloc, rest)
         } else {
             Ok(read_alone(read_word(word), rest))
         }
@@ -240,4 +245,52 @@ fn read_payload(alloc: Global, word: &[u8]) -> Result<Option<Vec<u8>>, AllocErro
         Err(FromHexError::OutOfMemory) => Err(AllocError),
         Err(_) => Ok(None),
     }
+}
+
+/// The line with these words behind `crash`.
+fn read_crash(alloc: Global, rest: &[u8]) -> Result<Line, AllocError>
+    ensures { IfOk result (λ line. said_by line ≡ said_crash (words rest.now)) }
+{
+    let Some((digits, rest)) = take_word(rest) else {
+        return Ok(Line::Bad);
+    };
+    if take_word(rest).is_some() {
+        return Ok(Line::Bad);
+    }
+    match read_mask(alloc, digits)? {
+        Some(mask) => Ok(Line::Crash { mask }),
+        None => Ok(Line::Bad),
+    }
+}
+
+/// The truth values that a word of binary digits stands for, `-` for none.
+fn read_mask(alloc: Global, word: &[u8]) -> Result<Option<Vec<bool>>, AllocError>
+    ensures { IfOk result (λ found. option_map (λ mask. mask.items) found ≡ mask_of word.now) }
+{
+    if word == b"-".as_slice() {
+        return Ok(Some(Vec::new(alloc)));
+    }
+    if !are_binary(word) {
+        return Ok(None);
+    }
+    let mask = truth_values(alloc, word)?;
+    Ok(Some(mask))
+}
+
+/// Whether all bytes are binary digits.
+fn are_binary(word: &[u8]) -> bool
+    ensures { result ≡ list_all is_binary word.now }
+{
+    word.iter().all(|byte| *byte == b'0' || *byte == b'1')
+}
+
+/// For each byte whether it is the digit 1.
+fn truth_values(alloc: Global, word: &[u8]) -> Result<Vec<bool>, AllocError>
+    ensures { IfOk result (λ mask. mask.items ≡ map is_one word.now) }
+{
+    let mut mask = Vec::new(alloc);
+    for byte in word {
+        mask.push(*byte == b'1')?;
+    }
+    Ok(mask)
 }

@@ -1,11 +1,12 @@
-//! The program: runs scripts, whose lines are `put`, `get`, `del`, `sweep`, `sync`, `step`, `plan` and `document`,
-//! and checks plan documents.
+//! The program: runs scripts, whose lines are `put`, `get`, `del`, `sweep`, `sync`, `step`, `plan`, `document` and
+//! `crash`, and checks plan documents.
 #![tactic(auto)]
 
 mod asks;
 mod bounded_readers;
 mod checks;
 mod command_lines;
+mod crashes;
 mod documents;
 mod lines;
 mod outputs;

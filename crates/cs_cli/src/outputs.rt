@@ -1,9 +1,10 @@
 //! The lines that a script prints. Any write may fail, and nothing says when, so each of these may answer an error.
-ghost use Rattle.std.specs.Prelude.{OnOk, ◌≤◌, length};
+ghost use Rattle.std.specs.Prelude.{◌≡◌, ◌⊎◌, OnOk, ◌≤◌, length};
 ghost use Rattle.std.specs.Io.KnownBytes.{Appends};
 ghost use Rattle.hex.specs.Hex.{encode_lower};
-ghost use Rattle.cs_cli.specs.Outputs.{absent_line, acknowledged_line, bad_line, begin_line, chain_line, delete_line, element_name, element_names, end_line, flushes_line, idle_line, issue_line, optimal_line, put_line, refusal_line, round_line, swept_line, value_line};
+ghost use Rattle.cs_cli.specs.Outputs.{absent_line, acknowledged_line, bad_line, begin_line, chain_line, crash_line, delete_line, element_name, element_names, end_line, flushes_line, idle_line, issue_line, open_line, optimal_line, put_line, refusal_line, round_line, swept_line, value_line};
 
+use crate::statuses;
 use crate::sweeps::Swept;
 use cs_deps::{Element, Refusal};
 use std::io;
@@ -57,6 +58,20 @@ pub fn print_bad_line<W: Write>(writer: &mut W) -> io::Result<()>
     writeln!(writer, "bad line")
 }
 
+/// `crash kept k of v`.
+pub fn print_crash<W: Write>(writer: &mut W, kept: usize, volatile: usize) -> io::Result<()>
+    ensures { OnOk result (Appends (W.contents writer.old) (W.contents writer.new) (crash_line kept volatile)) }
+{
+    writeln!(writer, "crash kept {kept} of {volatile}")
+}
+
+/// `open commands n shards m`.
+pub fn print_open<W: Write>(writer: &mut W, commands: u64, shards: usize) -> io::Result<()>
+    ensures { OnOk result (Appends (W.contents writer.old) (W.contents writer.new) (open_line commands shards)) }
+{
+    writeln!(writer, "open commands {commands} shards {shards}")
+}
+
 /// `refused N Name`.
 pub fn print_refusal<W: Write>(writer: &mut W, refusal: Refusal) -> io::Result<()>
     ensures { OnOk result (Appends (W.contents writer.old) (W.contents writer.new) (refusal_line refusal)) }
@@ -64,6 +79,24 @@ pub fn print_refusal<W: Write>(writer: &mut W, refusal: Refusal) -> io::Result<(
     let number = refusal.number();
     let name = refusal.name();
     writeln!(writer, "refused {number} {name}")
+}
+
+/// Prints as the last line why there is no store, and gives the exit status.
+pub fn print_no_store<W: Write>(writer: &mut W, refusal: Refusal) -> u8
+    ensures { ((result ≡ 3) × Appends (W.contents writer.old) (W.contents writer.new) (refusal_line refusal)) ⊎ (result ≡ 4) }
+{
+    match print_last(writer, refusal) {
+        Ok(()) => statuses::NO_STORE,
+        Err(_) => statuses::STREAM,
+    }
+}
+
+/// Prints a refusal as the last line. Where that doesn't reach the output, it ends with the writer's error.
+fn print_last<W: Write>(writer: &mut W, refusal: Refusal) -> io::Result<()>
+    ensures { OnOk result (Appends (W.contents writer.old) (W.contents writer.new) (refusal_line refusal)) }
+{
+    print_refusal(writer, refusal)?;
+    writer.flush()
 }
 
 /// `end acknowledged n`.

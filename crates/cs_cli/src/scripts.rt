@@ -1,12 +1,14 @@
 //! Scripts, line by line. Any write may fail, and nothing says when, so what prints may answer an error.
-ghost use Rattle.std.specs.Prelude.{◌≡◌, ◌⊎◌, ℕ, ◌≤◌, ◌<◌, List, IfOk, MatchOption, OnOk, Some, length};
+ghost use Rattle.std.specs.Prelude.{◌≡◌, ◌⊎◌, ℕ, ◌≤◌, ◌<◌, List, IfErr, IfOk, IsSome, MatchOption, None, OnOk, Some, length};
 ghost use Rattle.std.specs.Io.BufRead.{strip_last};
 ghost use Rattle.std.specs.Io.KnownBytes.{Appends};
 ghost use Rattle.cs_cli.specs.Lines.{said_by, said_of, says_put, says_get, says_delete};
-ghost use Rattle.cs_cli.specs.Scripts.{Answers, status_after, Runs};
+ghost use Rattle.cs_cli.specs.Crashes.{CrashesForGood};
+ghost use Rattle.cs_cli.specs.Scripts.{Answers, GoesOn, status_after, Runs};
 
 use crate::asks::ask;
 use crate::bounded_readers::{BoundedReader, READS};
+use crate::crashes::{crash, mask_of};
 use crate::documents::document;
 use crate::lines::Line;
 use crate::outputs::{
@@ -18,84 +20,87 @@ use crate::steps::step;
 use crate::sweeps::sweep;
 use crate::syncs::sync;
 use cs_core::{Bytes, Core, Event, Reply};
-use cs_disk::PageDisk;
+use cs_deps::Refusal;
+use cs_disk::{CrashDisk, PageDisk};
 use cs_frame::ShardId;
-use std::alloc::Global;
+use std::alloc::{AllocError, Global};
 use std::io;
 use std::io::{BufRead, BufReader, Read, Write};
 
 /// What a script left behind.
 #[derive(Drop)]
 pub struct Ran<D: PageDisk> {
-    /// The exit status: 0, 1 where a line wasn't readable, 4 where the reader or the writer failed, the input didn't end, or
-    /// a line's text found no memory.
+    /// The exit status: 0, 1 where a line wasn't readable, 3 where the store couldn't be opened after a crash, 4 where the
+    /// reader or the writer failed, the input didn't end, or a line's text found no memory.
     pub status: u8,
-    /// The core, with what the script added to its history.
-    pub core: Core<D>,
+    /// The core with what was added to its history, or none where the store couldn't be opened after a crash.
+    pub core: Option<Core<D>>,
 }
 
 /// Runs a script, line by line, on a core. The reader is read at most 4,294,967,296 times.
-pub fn run_script<D: PageDisk, R: Read + Drop, W: Write>(
+pub fn run_script<D: CrashDisk + Drop, R: Read + Drop, W: Write>(
     alloc: Global,
-    mut core: Core<D>,
+    core: Core<D>,
     reader: R,
     writer: &mut W,
 ) -> Ran<D>
-    // Each line is answered and printed as it says, by the events that it names.
-    ensures script { (text : List ℕ) → R.remaining reader ≡ Some text → result.status < 3 → (out : List ℕ)
-        × Runs D.honest D.state text core 0 result.core result.status out
+    // Each line is answered and printed as it says, by the events that it names or by a crash.
+    ensures script { (text : List ℕ) → R.remaining reader ≡ Some text → result.status < 4 → (out : List ℕ)
+        × Runs D.honest D.state D.page_count D.can_crash D.volatile_count text core 0 result.core result.status out
         × Appends (W.contents writer.old) (W.contents writer.new) out }
 
-    ensures status { (result.status ≤ 1) ⊎ (result.status ≡ 4) }
-{
-    let status = read_script(alloc, &mut core, reader, writer);
-    Ran { status, core }
-}
-
-/// Reads and runs a script, and gives the exit status.
-fn read_script<D: PageDisk, R: Read + Drop, W: Write>(
-    alloc: Global,
-    core: &mut Core<D>,
-    reader: R,
-    writer: &mut W,
-) -> u8
-    ensures script { (text : List ℕ) → R.remaining reader ≡ Some text → result < 3 → (out : List ℕ)
-        × Runs D.honest D.state text core.old 0 core.new result out
-        × Appends (W.contents writer.old) (W.contents writer.new) out }
-    ensures status { (result ≤ 1) ⊎ (result ≡ 4) }
+    ensures status { (result.status ≤ 1) ⊎ (result.status ≡ 3) ⊎ (result.status ≡ 4) }
+    ensures core { (result.status ≤ 1 → IsSome result.core) × (result.status ≡ 3 → result.core ≡ None) }
 {
     match BufReader::new(alloc, BoundedReader::new(reader, READS)) {
         Ok(mut reader) => run_lines(alloc, core, &mut reader, writer),
-        Err(_) => statuses::STREAM,
+        Err(_) => Ran {
+            status: statuses::STREAM,
+            core: Some(core),
+        },
     }
 }
 
-/// Runs line after line, up to the end of the input, and gives the exit status.
-fn run_lines<D: PageDisk, B: BufRead, W: Write>(
+/// Runs line after line, up to the end of the input.
+fn run_lines<D: CrashDisk + Drop, B: BufRead, W: Write>(
     alloc: Global,
-    core: &mut Core<D>,
+    core: Core<D>,
     reader: &mut B,
     writer: &mut W,
-) -> u8
-    ensures script { (text : List ℕ) → B.remaining reader.old ≡ Some text → result < 3 → (out : List ℕ)
-        × Runs D.honest D.state text core.old 0 core.new result out
+) -> Ran<D>
+    ensures script { (text : List ℕ) → B.remaining reader.old ≡ Some text → result.status < 4 → (out : List ℕ)
+        × Runs D.honest D.state D.page_count D.can_crash D.volatile_count text core 0 result.core result.status out
         × Appends (W.contents writer.old) (W.contents writer.new) out }
-    ensures status { (result ≤ 1) ⊎ (result ≡ 4) }
+    ensures status { (result.status ≤ 1) ⊎ (result.status ≡ 3) ⊎ (result.status ≡ 4) }
+    ensures core { (result.status ≤ 1 → IsSome result.core) × (result.status ≡ 3 → result.core ≡ None) }
 {
+    let mut core = core;
     let mut status = statuses::DONE;
     for _ in 0..u64::MAX {
         let mut line = Vec::new(alloc);
         match reader.read_until(b'\n', &mut line) {
-            Ok(0) => return status,
+            Ok(0) => return Ran {
+                status,
+                core: Some(core),
+            },
             Ok(_) => {}
-            Err(_) => return statuses::STREAM,
+            Err(_) => return Ran {
+                status: statuses::STREAM,
+                core: Some(core),
+            },
         }
         match run_line(alloc, core, without_line_feed(&line), status, writer) {
-            Ok(after) => status = after,
-            Err(_) => return statuses::STREAM,
+            Ok((left, after)) => {
+                core = left;
+                status = after;
+            }
+            Err(ran) => return ran,
         }
     }
-    statuses::STREAM
+    Ran {
+        status: statuses::STREAM,
+        core: Some(core),
+    }
 }
 
 /// A line without the line feed at its end.
@@ -108,24 +113,72 @@ fn without_line_feed(line: &[u8]) -> &[u8]
     }
 }
 
-/// Runs a line, and gives the exit status so far.
-fn run_line<D: PageDisk, W: Write>(
+/// Runs a line. It gives the core and the status with which the script goes on, or what it left behind.
+fn run_line<D: CrashDisk + Drop, W: Write>(
     alloc: Global,
-    core: &mut Core<D>,
+    core: Core<D>,
     text: &[u8],
     status: u8,
     writer: &mut W,
-) -> io::Result<u8>
-    ensures answers { OnOk result ((out : List ℕ) × Answers D.honest D.state (said_of text.now) core.old core.new out × Appends (W.contents writer.old) (W.contents writer.new) out) }
-    ensures status { IfOk result (λ after. after ≡ status_after (said_of text.now) status) }
+) -> Result<(Core<D>, u8), Ran<D>>
+    ensures on { IfOk result (λ on. (out : List ℕ) × GoesOn D.honest D.state D.page_count D.can_crash D.volatile_count (said_of text.now) core status on.0 on.1 out
+        × Appends (W.contents writer.old) (W.contents writer.new) out) }
+    ensures ended { IfErr result (λ ran. ((ran.status ≡ 3) × (ran.core ≡ None)
+        × ((out : List ℕ) × CrashesForGood D.honest D.state D.page_count D.can_crash D.volatile_count (said_of text.now) core out × Appends (W.contents writer.old) (W.contents writer.new) out))
+        ⊎ (ran.status ≡ 4)) }
 {
-    let line = Line::read(alloc, text)?;
+    let Ok(line) = Line::read(alloc, text) else {
+        return Err(Ran {
+            status: statuses::STREAM,
+            core: Some(core),
+        });
+    };
+    match mask_of(&core, &line) {
+        Some(mask) => crash(alloc, core, mask, status, writer),
+        None => answer_line(alloc, core, line, status, writer),
+    }
+}
+
+/// Answers a line that is no readable `crash`. It gives the core and the status with which the script goes on, or what it
+/// left behind.
+fn answer_line<D: PageDisk, W: Write>(
+    alloc: Global,
+    core: Core<D>,
+    line: Line,
+    status: u8,
+    writer: &mut W,
+) -> Result<(Core<D>, u8), Ran<D>>
+    ensures on { IfOk result (λ on. (on.1 ≡ status_after (said_by line) status) × ((out : List ℕ) × Answers D.honest D.state (said_by line) core on.0 out
+        × Appends (W.contents writer.old) (W.contents writer.new) out)) }
+    ensures ended { IfErr result (λ ran. ran.status ≡ 4) }
+{
+    let mut core = core;
+    match answer_and_flush(alloc, &mut core, line, status, writer) {
+        Ok(after) => Ok((core, after)),
+        Err(_) => Err(Ran {
+            status: statuses::STREAM,
+            core: Some(core),
+        }),
+    }
+}
+
+/// Answers a line, and gives the exit status so far, once all is written out.
+fn answer_and_flush<D: PageDisk, W: Write>(
+    alloc: Global,
+    core: &mut Core<D>,
+    line: Line,
+    status: u8,
+    writer: &mut W,
+) -> io::Result<u8>
+    ensures answers { OnOk result ((out : List ℕ) × Answers D.honest D.state (said_by line) core.old core.new out × Appends (W.contents writer.old) (W.contents writer.new) out) }
+    ensures status { IfOk result (λ after. after ≡ status_after (said_by line) status) }
+{
     let after = answer(alloc, core, line, status, writer)?;
     writer.flush()?;
     Ok(after)
 }
 
-/// Answers a line, and gives the exit status so far.
+/// Answers a line that is no readable `crash`, and gives the exit status so far.
 fn answer<D: PageDisk, W: Write>(
     alloc: Global,
     core: &mut Core<D>,
@@ -137,7 +190,7 @@ fn answer<D: PageDisk, W: Write>(
     ensures status { IfOk result (λ after. after ≡ status_after (said_by line) status) }
 {
     match line {
-        Line::Put { id, bytes } => put(core, id, bytes, writer)?,
+        Line::Put { id, bytes } => put(alloc, core, id, bytes, writer)?,
         Line::Get { id } => get(core, id, writer)?,
         Line::Delete { id } => delete(core, id, writer)?,
         Line::Sweep { extent } => sweep(core, extent, writer)?,
@@ -146,7 +199,8 @@ fn answer<D: PageDisk, W: Write>(
         Line::Plan => plan(core, writer)?,
         Line::Document => document(alloc, core, writer)?,
         Line::Nothing => {}
-        Line::Bad => {
+        // The mask of a readable one is told from these before.
+        Line::Crash { mask: _ } | Line::Bad => {
             print_bad_line(writer)?;
             return Ok(statuses::BAD_LINE);
         }
@@ -156,6 +210,7 @@ fn answer<D: PageDisk, W: Write>(
 
 /// Puts a shard.
 fn put<D: PageDisk, W: Write>(
+    alloc: Global,
     core: &mut Core<D>,
     id: [u8; 16],
     bytes: Vec<u8>,
@@ -163,7 +218,22 @@ fn put<D: PageDisk, W: Write>(
 ) -> io::Result<()>
     ensures { OnOk result ((out : List ℕ) × Answers D.honest D.state (says_put id bytes.items) core.old core.new out × Appends (W.contents writer.old) (W.contents writer.new) out) }
 {
-    match ask(core, &Event::Put(ShardId(id), Bytes::new(bytes))) {
+    match Bytes::new(alloc, bytes) {
+        Ok(bytes) => put_bytes(core, id, bytes, writer),
+        Err(AllocError) => print_refusal(writer, Refusal::OutOfMemory),
+    }
+}
+
+/// Puts these bytes under an identifier.
+fn put_bytes<D: PageDisk, W: Write>(
+    core: &mut Core<D>,
+    id: [u8; 16],
+    bytes: Bytes,
+    writer: &mut W,
+) -> io::Result<()>
+    ensures { OnOk result ((out : List ℕ) × Answers D.honest D.state (says_put id bytes) core.old core.new out × Appends (W.contents writer.old) (W.contents writer.new) out) }
+{
+    match ask(core, &Event::Put(ShardId(id), bytes)) {
         Ok(Reply::Accepted(number)) => print_put(writer, number),
         Ok(_) => unreachable!(),
         Err(refusal) => print_refusal(writer, refusal),

@@ -12,7 +12,7 @@ pub const REFUSED: u8 = 1;
 /// The command line is faulty.
 pub const COMMAND_LINE: u8 = 2;
 
-/// There is no store: no memory for it.
+/// There is no store: it couldn't be made, or couldn't be opened after a crash.
 pub const NO_STORE: u8 = 3;
 
 /// The standard input or output failed, the input didn't end, or the text of a line or a document found no memory.

@@ -1,6 +1,10 @@
 //! What scripts and documents print and leave behind, by worked rows.
+mod crashes;
+mod damage;
 mod documents;
 mod images;
+mod moments;
+mod plans;
 mod puts;
 mod rounds;
 mod streams;
@@ -8,7 +12,7 @@ mod sweeps;
 
 use crate::scripts::{Ran, run_script};
 use cs_core::{Core, Limits};
-use cs_disk::MemoryDisk;
+use cs_disk::{CrashDisk, MemoryDisk};
 use cs_frame::Geometry;
 use std::alloc::Global;
 use std::process::Abort;
@@ -16,10 +20,19 @@ use std::test::Fail;
 
 /// A new store in memory with so many extents of 2 pages.
 fn new_core(rt: &(impl Abort + AllocGlobal), extents: u64) -> Result<Core<MemoryDisk>, Fail> {
+    new_core_of(rt, extents, 1000)
+}
+
+/// A new store in memory with so many extents of 2 pages, whose history may have so many events.
+fn new_core_of(
+    rt: &(impl Abort + AllocGlobal),
+    extents: u64,
+    history: usize,
+) -> Result<Core<MemoryDisk>, Fail> {
     let alloc = rt.alloc();
     let geometry = Geometry::new(extents, 2)?;
     let disk = MemoryDisk::new(alloc, geometry.device_pages())?;
-    match Core::format(alloc, disk, geometry, Limits { history: 1000 }) {
+    match Core::format(alloc, disk, geometry, Limits { history }) {
         Ok(core) => Ok(core),
         Err((refusal, _)) => {
             assert!(rt; false, "{}", refusal.name());
@@ -28,62 +41,75 @@ fn new_core(rt: &(impl Abort + AllocGlobal), extents: u64) -> Result<Core<Memory
     }
 }
 
-/// What a script left behind and printed, with so many extents of 2 pages.
+/// The core that a script left behind.
+fn core_of<D: CrashDisk>(rt: &impl Abort, ran: Ran<D>) -> Core<D> {
+    match ran.core {
+        Some(core) => core,
+        None => {
+            assert!(rt; false, "no core is left");
+            unreachable!()
+        }
+    }
+}
+
+/// The text of a script whose lines are parted by strokes, and in which @ stands for the first 31 digits of an identifier.
+fn script_text(alloc: Global, script: &str) -> Result<String, Fail> {
+    let mut text = script
+        .replace(alloc, "@", "0000000000000000000000000000000")?
+        .replace(alloc, " / ", "\n")?;
+    text.push('\n')?;
+    Ok(text)
+}
+
+/// Lines that are printed, parted by strokes. Elements stand in brackets, with commas.
+fn printed(alloc: Global, lines: &str) -> Result<String, Fail> {
+    let mut text = lines
+        .replace(alloc, "[", "")?
+        .replace(alloc, "]", "")?
+        .replace(alloc, ", ", " ")?
+        .replace(alloc, " / ", "\n")?;
+    text.push('\n')?;
+    Ok(text)
+}
+
+/// What a script's text left behind and printed, with so many extents of 2 pages.
 fn run_on(
     rt: &(impl Abort + AllocGlobal),
     extents: u64,
-    script: &str,
+    text: &str,
 ) -> Result<(Ran<MemoryDisk>, Vec<u8>), Fail> {
-    let alloc = rt.alloc();
     let core = new_core(rt, extents)?;
-    let mut output = Vec::new(alloc);
-    let ran = run_script(alloc, core, script.as_bytes(), &mut output);
+    let mut output = Vec::new(rt.alloc());
+    let ran = run_script(rt.alloc(), core, text.as_bytes(), &mut output);
     Ok((ran, output))
 }
 
-/// What a script left behind and printed, with 6 extents of 2 pages.
-fn run(rt: &(impl Abort + AllocGlobal), script: &str) -> Result<(Ran<MemoryDisk>, Vec<u8>), Fail> {
-    run_on(rt, 6, script)
-}
-
-/// Asserts a script's output, its exit status and how many commands are acknowledged.
-fn prints(
+/// Asserts the output of a script's text, its exit status and how many commands are acknowledged, with 6 extents of 2 pages.
+fn prints_text(
     rt: &(impl Abort + AllocGlobal),
-    script: &str,
+    text: &str,
     wanted: &str,
     status: u8,
     persistent: u64,
 ) -> Result<(), Fail> {
-    let (ran, output) = run(rt, script)?;
-    assert_eq!(rt; output.as_slice(), wanted.as_bytes(), "{script}");
-    assert_eq!(rt; ran.status, status, "{script}");
-    assert_eq!(rt; ran.core.frontier(), persistent, "{script}");
+    let (ran, output) = run_on(rt, 6, text)?;
+    assert_eq!(rt; output.as_slice(), wanted.as_bytes(), "{text}");
+    assert_eq!(rt; ran.status, status, "{text}");
+    assert_eq!(rt; core_of(rt, ran).frontier(), persistent, "{text}");
     Ok(())
 }
 
-/// A list of elements as it is printed, without brackets and commas.
-fn printed(alloc: Global, list: &str) -> Result<String, Fail> {
-    Ok(
-        list.replace(alloc, "[", "")?
-            .replace(alloc, "]", "")?
-            .replace(alloc, ", ", " ")?,
-    )
-}
-
-/// The lines of a plan with these rounds and this chain.
-fn plan_lines(alloc: Global, rounds: &[&str], chain: &str) -> Result<String, Fail> {
-    let mut lines = String::new(alloc);
-    for (number, round) in (1..=rounds.len()).zip(rounds.iter()) {
-        lines.push_str(&format!(in alloc; "round {number}: {}\n", printed(alloc, round)?)?)?;
-    }
-    let chain = printed(alloc, chain)?;
-    lines.push_str(&format!(in alloc; "chain: {chain}\nflushes {}\n", rounds.len())?)?;
-    Ok(lines)
-}
-
-/// The line of a sweep that moved so many chunks and staged this root.
-fn sweep_line(alloc: Global, extent: u64, moved: usize, root: u64) -> Result<String, Fail> {
-    Ok(format!(in alloc; "sweep {extent} moved {moved} root r{root}\n")?)
+/// The same for a script and lines that are written as rows are.
+fn prints(
+    rt: &(impl Abort + AllocGlobal),
+    script: &str,
+    lines: &str,
+    status: u8,
+    persistent: u64,
+) -> Result<(), Fail> {
+    let text = script_text(rt.alloc(), script)?;
+    let wanted = printed(rt.alloc(), lines)?;
+    prints_text(rt, &text, &wanted, status, persistent)
 }
 
 /// The document of one put and the index changes over it, with its words without their quotes.
@@ -107,28 +133,29 @@ fn document_text(alloc: Global) -> Result<String, Fail> {
 
 #[test]
 fn rows(rt: HostRuntime) -> Result<(), Fail> {
-    let alloc = rt.alloc();
-    let plan = plan_lines(alloc, &["[w1, w2]", "[s3]", "[r2]"], "[w1, s3, r2]")?;
     prints(
         &rt,
-        "put 00000000-0000-0000-0000-00000000000a 61\nsync\n",
-        &format!(in alloc; "put 1\n{plan}acknowledged 1\n")?,
+        "put @a 61 / sync",
+        "put 1 / round 1: [w1, w2] / round 2: [s3] / round 3: [r2] / chain: [w1, s3, r2] / flushes 3 / acknowledged 1",
         0,
         1,
     )?;
-    prints(&rt, "sync", "chain: -\nflushes 0\nacknowledged 0\n", 0, 0)?;
-    let plan = plan_lines(alloc, &["[w1, w2, w3, w4]", "[s5]", "[r2]"], "[w1, s5, r2]")?;
+    prints_text(&rt, "sync", "chain: -\nflushes 0\nacknowledged 0\n", 0, 0)?;
     prints(
         &rt,
-        "put 00000000-0000-0000-0000-00000000000a 61\nput 00000000-0000-0000-0000-00000000000b 62\nput 00000000-0000-0000-0000-00000000000c 63\nsync\n",
-        &format!(in alloc; "put 1\nput 2\nput 3\n{plan}acknowledged 3\n")?,
+        "put @a 61 / put @b 62 / put @c 63 / sync",
+        "put 1 / put 2 / put 3 / round 1: [w1, w2, w3, w4] / round 2: [s5] / round 3: [r2] / chain: [w1, s5, r2] / flushes 3 / acknowledged 3",
         0,
         3,
-    )?;
+    )
+}
+
+#[test]
+fn bad_lines(rt: HostRuntime) -> Result<(), Fail> {
     prints(
         &rt,
-        "put 00000000-0000-0000-0000-00000000000a 6\nfrob\nput 00000000-0000-0000-0000-00000000000a 61\n",
-        "bad line\nbad line\nput 1\n",
+        "put @a 6 / frob / put @a 61",
+        "bad line / bad line / put 1",
         1,
         0,
     )
@@ -136,11 +163,18 @@ fn rows(rt: HostRuntime) -> Result<(), Fail> {
 
 #[test]
 fn lines(rt: HostRuntime) -> Result<(), Fail> {
-    prints(
+    prints_text(
         &rt,
-        "\n# a remark\n  put  {0000000000000000000000000000000a}   -  \n put 0000000000000000000000000000000A aBcD\n   \n # no remark\nsync\r\nsync sync\nput\tsync\nputt\nput 0000000000000000000000000000000a 61 -\n",
+        "\n# a remark\n  put  {0000000000000000000000000000000a}   -  \n put 0000000000000000000000000000000A aBcD\n   \n # no remark\nsync\r\nsync sync\nput\tsync\nputt\nput 00000000-0000-0000-0000-00000000000a 61 -\n",
         "bad line\nput 1\nbad line\nbad line\nbad line\nbad line\nbad line\nbad line\nbad line\n",
         1,
+        0,
+    )?;
+    prints_text(
+        &rt,
+        "put 00000000-0000-0000-0000-00000000000a 61\n",
+        "put 1\n",
+        0,
         0,
     )
 }

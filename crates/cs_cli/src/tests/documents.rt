@@ -1,27 +1,31 @@
 //! Plans and documents, as they are printed and judged.
-use super::{document_text, plan_lines, prints};
+use super::{document_text, printed, prints, prints_text, script_text};
 use crate::checks::run_check;
 use std::process::Abort;
 use std::test::Fail;
 
 #[test]
 fn plans(rt: HostRuntime) -> Result<(), Fail> {
-    let alloc = rt.alloc();
-    let plan = plan_lines(alloc, &["[w1, w2]", "[s3]", "[r2]"], "[w1, s3, r2]")?;
     prints(
         &rt,
-        "put 00000000-0000-0000-0000-00000000000a 61\nplan\nplan x\n",
-        &format!(in alloc; "put 1\n{plan}bad line\n")?,
+        "put @a 61 / plan / plan x",
+        "put 1 / round 1: [w1, w2] / round 2: [s3] / round 3: [r2] / chain: [w1, s3, r2] / flushes 3 / bad line",
         1,
         0,
-    )?;
-    prints(
-        &rt,
-        "put 00000000-0000-0000-0000-00000000000a 61\nplan\ndocument\n",
-        &format!(in alloc; "put 1\n{plan}{}\n", document_text(alloc)?)?,
-        0,
-        0,
     )
+}
+
+#[test]
+fn a_document_of_a_plan(rt: HostRuntime) -> Result<(), Fail> {
+    let alloc = rt.alloc();
+    let text = script_text(alloc, "put @a 61 / plan / document")?;
+    let mut wanted = printed(
+        alloc,
+        "put 1 / round 1: [w1, w2] / round 2: [s3] / round 3: [r2] / chain: [w1, s3, r2] / flushes 3",
+    )?;
+    wanted.push_str(&document_text(alloc)?)?;
+    wanted.push('\n')?;
+    prints_text(&rt, &text, &wanted, 0, 0)
 }
 
 /// Asserts what a check of a document prints, and its exit status.

@@ -1,5 +1,5 @@
 //! What stands on the device's pages.
-use super::{plan_lines, run, run_on};
+use super::{core_of, printed, run_on, script_text};
 use std::process::Abort;
 use std::test::Fail;
 
@@ -36,8 +36,9 @@ const ENTRY: &[u8] = b"\0\0\0\x01\0\0\0\0\0\0\0\0\0\0\0\0\0\0\0\x0a\x01";
 
 #[test]
 fn pages(rt: HostRuntime) -> Result<(), Fail> {
-    let (ran, _) = run(&rt, "put 00000000-0000-0000-0000-00000000000a 61\nsync\n")?;
-    let disk = ran.core.into_disk();
+    let text = script_text(rt.alloc(), "put @a 61 / sync")?;
+    let (ran, _) = run_on(&rt, 6, &text)?;
+    let disk = core_of(&rt, ran).into_disk();
     let image = disk.image();
     assert_eq!(rt; image.len(), 14 * 4096);
     stands(&rt, image, 0, SUPERBLOCK);
@@ -55,39 +56,44 @@ fn pages(rt: HostRuntime) -> Result<(), Fail> {
     Ok(())
 }
 
-/// Asserts a script's output, with so many extents of 2 pages, and what stands on the root's page behind its commands.
+/// Asserts how a script's output ends, with so many extents of 2 pages, and what stands on the root's page behind its
+/// commands.
 fn leaves(
     rt: &(impl Abort + AllocGlobal),
     extents: u64,
     script: &str,
-    wanted: &str,
+    end: &str,
     runs: &[u8],
 ) -> Result<(), Fail> {
-    let (ran, output) = run_on(rt, extents, script)?;
+    let text = script_text(rt.alloc(), script)?;
+    let (ran, output) = run_on(rt, extents, &text)?;
+    let wanted = printed(rt.alloc(), end)?;
     assert!(rt; output.as_slice().ends_with(wanted.as_bytes()));
-    let disk = ran.core.into_disk();
+    let disk = core_of(rt, ran).into_disk();
     stands(rt, disk.image(), 4116, runs);
     Ok(())
 }
 
-/// The fifth run is of all that is live, and of nothing where nothing is.
+/// The fifth run is of all that is live.
 #[test]
 fn merges(rt: HostRuntime) -> Result<(), Fail> {
-    let alloc = rt.alloc();
-    let plan = plan_lines(alloc, &["[w9, w10]", "[s11]", "[r6]"], "[w9, s11, r6]")?;
     leaves(
         &rt,
         12,
-        "put 0000000000000000000000000000000a 01\nsync\nput 0000000000000000000000000000000a 02\nsync\nput 0000000000000000000000000000000a 03\nsync\nput 0000000000000000000000000000000a 04\nsync\nput 0000000000000000000000000000000a 05\nsync\n",
-        &format!(in alloc; "put 5\n{plan}acknowledged 5\n")?,
+        "put @a 01 / sync / put @a 02 / sync / put @a 03 / sync / put @a 04 / sync / put @a 05 / sync",
+        "put 5 / round 1: [w9, w10] / round 2: [s11] / round 3: [r6] / chain: [w9, s11, r6] / flushes 3 / acknowledged 5",
         b"\x01\0\x04\0\x01\0\0\0\0",
-    )?;
-    let plan = plan_lines(alloc, &["[w7]", "[s8]", "[r6]"], "[w7, s8, r6]")?;
+    )
+}
+
+/// And of nothing where nothing is live.
+#[test]
+fn merges_of_nothing(rt: HostRuntime) -> Result<(), Fail> {
     leaves(
         &rt,
         6,
-        "put 0000000000000000000000000000000a 01\nsync\ndel 0000000000000000000000000000000a\nsync\nput 0000000000000000000000000000000a 02\nsync\ndel 0000000000000000000000000000000a\nsync\nput 0000000000000000000000000000000a 03\ndel 0000000000000000000000000000000a\nsync\n",
-        &format!(in alloc; "put 5\ndel 6\n{plan}acknowledged 6\n")?,
+        "put @a 01 / sync / del @a / sync / put @a 02 / sync / del @a / sync / put @a 03 / del @a / sync",
+        "put 5 / del 6 / round 1: [w7] / round 2: [s8] / round 3: [r6] / chain: [w7, s8, r6] / flushes 3 / acknowledged 6",
         b"\0",
     )
 }

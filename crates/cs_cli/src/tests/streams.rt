@@ -1,9 +1,10 @@
 //! Readers and writers that fail.
-use super::{document_text, new_core};
+use super::{core_of, document_text, new_core, script_text};
 use crate::checks::run_check;
 use crate::scripts::run_script;
 use std::io;
 use std::io::{ErrorKind, Read, Write};
+use std::process::Abort;
 use std::test::Fail;
 
 /// Gives some bytes, and then fails.
@@ -59,43 +60,63 @@ impl Write for UnflushedWriter {
     }
 }
 
-#[test]
-fn a_writer_that_is_not_flushed(rt: HostRuntime) -> Result<(), Fail> {
-    let alloc = rt.alloc();
-    let core = new_core(&rt, 6)?;
-    let ran = run_script(alloc, core, b"get x\n".as_slice(), &mut UnflushedWriter);
-    assert_eq!(rt; ran.status, 4);
-    let core = new_core(&rt, 6)?;
-    let ran = run_script(alloc, core, b"".as_slice(), &mut UnflushedWriter);
-    assert_eq!(rt; ran.status, 0);
-    let ended = run_check(alloc, b"{".as_slice(), &mut UnflushedWriter);
-    assert_eq!(rt; ended, 4);
+/// Asserts the exit status of a script on a new store, and how many commands were accepted.
+fn ends<R: Read + Drop, W: Write>(
+    rt: &(impl Abort + AllocGlobal),
+    reader: R,
+    writer: &mut W,
+    status: u8,
+    accepted: u64,
+) -> Result<(), Fail> {
+    let core = new_core(rt, 6)?;
+    let ran = run_script(rt.alloc(), core, reader, writer);
+    assert_eq!(rt; ran.status, status);
+    assert_eq!(rt; core_of(rt, ran).accepted(), accepted);
     Ok(())
 }
 
 #[test]
-fn failing_streams(rt: HostRuntime) -> Result<(), Fail> {
-    let alloc = rt.alloc();
-    let mut output = Vec::new(alloc);
-    let core = new_core(&rt, 6)?;
-    let ran = run_script(alloc, core, FailingReader { left: 3 }, &mut output);
-    assert_eq!(rt; (ran.status, output.len()), (4, 0));
-    let core = new_core(&rt, 6)?;
-    let script =
-        "frob\nput 0000000000000000000000000000000a 61\nput 0000000000000000000000000000000a 62\n";
-    let ran = run_script(
-        alloc,
-        core,
-        script.as_bytes(),
-        &mut FailingWriter { left: 16 },
+fn scripts_into_a_writer_that_is_not_flushed(rt: HostRuntime) -> Result<(), Fail> {
+    ends(&rt, b"get x\n".as_slice(), &mut UnflushedWriter, 4, 0)?;
+    ends(&rt, b"".as_slice(), &mut UnflushedWriter, 0, 0)
+}
+
+#[test]
+fn a_check_into_a_writer_that_is_not_flushed(rt: HostRuntime) {
+    let ended = run_check(rt.alloc(), b"{".as_slice(), &mut UnflushedWriter);
+    assert_eq!(rt; ended, 4);
+}
+
+#[test]
+fn a_script_from_a_failing_reader(rt: HostRuntime) -> Result<(), Fail> {
+    let mut output = Vec::new(rt.alloc());
+    ends(&rt, FailingReader { left: 3 }, &mut output, 4, 0)?;
+    assert!(rt; output.is_empty());
+    Ok(())
+}
+
+#[test]
+fn a_script_into_a_failing_writer(rt: HostRuntime) -> Result<(), Fail> {
+    let text = script_text(rt.alloc(), "frob / put @a 61 / put @a 62")?;
+    ends(&rt, text.as_bytes(), &mut FailingWriter { left: 16 }, 4, 2)
+}
+
+#[test]
+fn a_check_from_a_failing_reader(rt: HostRuntime) {
+    let mut output = Vec::new(rt.alloc());
+    let ended = run_check(rt.alloc(), FailingReader { left: 3 }, &mut output);
+    assert_eq!(rt; ended, 4);
+    assert!(rt; output.is_empty());
+}
+
+#[test]
+fn a_check_into_a_failing_writer(rt: HostRuntime) -> Result<(), Fail> {
+    let document = document_text(rt.alloc())?;
+    let ended = run_check(
+        rt.alloc(),
+        document.as_bytes(),
+        &mut FailingWriter { left: 5 },
     );
-    assert_eq!(rt; ran.status, 4);
-    assert_eq!(rt; ran.core.accepted(), 2);
-    output.clear();
-    let ended = run_check(alloc, FailingReader { left: 3 }, &mut output);
-    assert_eq!(rt; (ended, output.len()), (4, 0));
-    let document = document_text(alloc)?;
-    let ended = run_check(alloc, document.as_bytes(), &mut FailingWriter { left: 5 });
     assert_eq!(rt; ended, 4);
     Ok(())
 }

@@ -1,23 +1,22 @@
-use Rattle.std.proofs.Common.{ap, inl, inr, refl}
+use Rattle.std.proofs.Common.{[], ℕ, List, inl, inr, refl, subst}
+use Rattle.std.specs.Prelude.{OnOk}
+use Rattle.std.specs.Io.KnownBytes.{Appends}
 use Rattle.cs_core.specs.declared.events.Event.TheVariants.{Put}
-use Rattle.cs_core.specs.declared.events.Reply.TheVariants.{Accepted}
+use Rattle.cs_deps.specs.declared.refusals.Refusal.TheVariants.{OutOfMemory}
 use Rattle.cs_cli.specs.Lines.{says_put}
-use Rattle.cs_cli.specs.Outputs.{put_line, refusal_line}
+use Rattle.cs_cli.specs.Outputs.{refusal_line}
 use Rattle.cs_cli.specs.Scripts.{Answers}
 use Rattle.cs_cli.proofs.Appended.{prints}
-use Rattle.cs_cli.proofs.Histories.{stopped_as, went_as}
+use Rattle.cs_cli.proofs.Histories.{stays_same, stopped_unrecorded}
 use Rattle.cs_cli.proofs.scripts.put.Goals as goal
 
-pub returns-in-Ok-Accepted : goal.returns-in-Ok-Accepted
-returns-in-Ok-Accepted g c =
-    let old = c.args.core.now in
-    let new = c.ask.new.core in
-    prints c.print_put.result (g.W.Write.contents c.args.writer.now) (g.W.Write.contents c.print_put.new.writer) (put_line c.in-Ok-Accepted.number) (Answers g.D.PageDisk.honest g.D.PageDisk.state (says_put c.args.id c.args.bytes.items) old new)
-    (inl (c.in-Ok-Accepted.number, (went_as g.D.PageDisk.honest g.D.PageDisk.state old new (Put (record { 0 = c.args.id }) c.new.result) (Put (record { 0 = c.args.id }) c.args.bytes.items) c.in-Ok-Accepted.field-0 (Accepted c.in-Ok-Accepted.number) (ap (Put (record { 0 = c.args.id })) c.new.ensures) c.in-Ok-Accepted.field-0-is c.in-Ok-Accepted.ensures.done, refl))) c.print_put.ensures
+pub returns-in-Ok : goal.returns-in-Ok
+returns-in-Ok g c =
+    subst (λ (l : List ℕ). OnOk c.put_bytes.result ((out : List ℕ) × Answers g.D.PageDisk.honest g.D.PageDisk.state (says_put c.args.id l) c.args.core.now c.put_bytes.new.core out × Appends (g.W.Write.contents c.args.writer.now) (g.W.Write.contents c.put_bytes.new.writer) out))
+    c.in-Ok.ensures c.put_bytes.ensures
 
-pub returns : goal.returns
-returns g c =
+pub returns-in-Err : goal.returns-in-Err
+returns-in-Err g c =
     let old = c.args.core.now in
-    let new = c.ask.new.core in
-    prints c.print_refusal.result (g.W.Write.contents c.args.writer.now) (g.W.Write.contents c.print_refusal.new.writer) (refusal_line c.in-Err.refusal) (Answers g.D.PageDisk.honest g.D.PageDisk.state (says_put c.args.id c.args.bytes.items) old new)
-    (inr (c.in-Err.refusal, stopped_as g.D.PageDisk.honest g.D.PageDisk.state old new (Put (record { 0 = c.args.id }) c.new.result) (Put (record { 0 = c.args.id }) c.args.bytes.items) c.in-Err.refusal (ap (Put (record { 0 = c.args.id })) c.new.ensures) c.in-Err.ensures.refused, refl)) c.print_refusal.ensures
+    prints c.print_refusal.result (g.W.Write.contents c.args.writer.now) (g.W.Write.contents c.print_refusal.new.writer) (refusal_line OutOfMemory) (Answers g.D.PageDisk.honest g.D.PageDisk.state (says_put c.args.id c.args.bytes.items) old old)
+    (inr (OutOfMemory, stopped_unrecorded g.D.PageDisk.honest g.D.PageDisk.state [] old old (Put (record { 0 = c.args.id }) c.args.bytes.items) OutOfMemory (stays_same g.D.PageDisk.honest g.D.PageDisk.state old) (inl refl), refl)) c.print_refusal.ensures

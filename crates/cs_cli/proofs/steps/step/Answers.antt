@@ -1,10 +1,10 @@
-use Rattle.std.proofs.Common.{ap, inl, refl}
+use Rattle.std.proofs.Common.{ap, inl, inr, refl}
 use Rattle.cs_core.specs.declared.events.Reply.TheVariants.{Begun, Ended, Issued, Nothing}
 use Rattle.cs_cli.specs.Lines.{says_step}
-use Rattle.cs_cli.specs.Outputs.{begin_line, end_line, idle_line, issue_line}
+use Rattle.cs_cli.specs.Outputs.{begin_line, end_line, idle_line, issue_line, refusal_line}
 use Rattle.cs_cli.specs.Scripts.{Answers, step_event}
 use Rattle.cs_cli.proofs.Appended.{prints}
-use Rattle.cs_cli.proofs.Histories.{went_as}
+use Rattle.cs_cli.proofs.Histories.{stopped_as, went_as}
 use Rattle.cs_cli.proofs.steps.step.Goals as goal
 
 pub returns-in-Ok-Issued : goal.returns-in-Ok-Issued
@@ -29,3 +29,10 @@ returns-in-Ok-Nothing g c =
     let line = idle_line in
     prints c.print_idle.result (g.W.Write.contents c.args.writer.now) (g.W.Write.contents c.print_idle.new.writer) line (Answers g.D.PageDisk.honest g.D.PageDisk.state says_step c.args.core.now c.ask.new.core)
     (inl (Nothing, went_as g.D.PageDisk.honest g.D.PageDisk.state c.args.core.now c.ask.new.core c.next_event-event.result (step_event c.args.core.now.store) c.in-Ok-Nothing.field-0 (Nothing) c.next_event-event.ensures c.in-Ok-Nothing.field-0-is c.in-Ok-Nothing.ensures.done, refl)) c.print_idle.ensures
+
+pub returns : goal.returns
+returns g c =
+    let old = c.args.core.now in
+    let new = c.ask.new.core in
+    prints c.print_refusal.result (g.W.Write.contents c.args.writer.now) (g.W.Write.contents c.print_refusal.new.writer) (refusal_line c.in-Err.refusal) (Answers g.D.PageDisk.honest g.D.PageDisk.state says_step old new)
+    (inr (c.in-Err.refusal, stopped_as g.D.PageDisk.honest g.D.PageDisk.state old new c.next_event-event.result (step_event old.store) c.in-Err.refusal c.next_event-event.ensures c.in-Err.ensures.refused, refl)) c.print_refusal.ensures
