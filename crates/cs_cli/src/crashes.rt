@@ -109,7 +109,6 @@ fn reopen<D: CrashDisk + Drop>(
 }
 
 /// The core's disk, after a crash that kept of its volatile writes what the mask says.
-#[tactic(auto, using(crate::proofs::CrashSteps::crashed_of))]
 fn crashed_disk<D: CrashDisk>(core: Core<D>, mask: &[bool]) -> D
     requires { D.can_crash core.disk × (length mask.now ≡ D.volatile_count core.disk) }
     ensures { IsCrashed D.honest D.state D.page_count D.can_crash D.volatile_count mask.now core.disk result }

@@ -107,6 +107,13 @@ fn needs(store: &Store, element: Element, other: Element) -> Result<bool, Fail> 
     }
 }
 
+/// Whether a frame of two pages fits for a put.
+fn fits_two(rt: &impl Abort, store: &Store) -> bool {
+    let pages = store.extents.extent_pages();
+    assert_eq!(rt; pages, 2);
+    store.extents.fits(&[2], Purpose::Put)
+}
+
 #[test]
 fn frames_fill_the_extents(rt: HostRuntime) -> Result<(), Fail> {
     let mut store = new_store(&rt, rt.alloc())?;
@@ -116,7 +123,7 @@ fn frames_fill_the_extents(rt: HostRuntime) -> Result<(), Fail> {
     assert_eq!(rt; store.extents.extent_pages(), 2);
     assert!(rt; store.extents.fits(&[1], Purpose::Put));
     assert!(rt; !store.extents.fits(&[1, 1], Purpose::Put));
-    assert!(rt; !store.extents.fits(&[2], Purpose::Put));
+    assert!(rt; !fits_two(&rt, &store));
     assert_eq!(rt; page_of(&rt, &mut store, Purpose::Put)?, Some(9));
     assert_eq!(rt; page_of(&rt, &mut store, Purpose::Put), Err(Refusal::Full));
     assert_eq!(rt; page_of(&rt, &mut store, Purpose::Run)?, Some(10));
