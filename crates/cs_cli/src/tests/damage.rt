@@ -42,18 +42,25 @@ fn a_damaged_superblock(rt: HostRuntime) -> Result<(), Fail> {
     Ok(())
 }
 
+/// The store on a disk.
+fn opened(rt: &(impl Abort + AllocGlobal), disk: MemoryDisk) -> Result<Core<MemoryDisk>, Fail> {
+    match Core::open(rt.alloc(), disk, Limits { history: 1000 }) {
+        Ok(core) => Ok(core),
+        Err((refusal, _)) => {
+            assert!(rt; false, "{}", refusal.name());
+            unreachable!()
+        }
+    }
+}
+
 /// What a `get` prints on a disk that is opened.
 fn got(rt: &(impl Abort + AllocGlobal), disk: MemoryDisk) -> Result<Vec<u8>, Fail> {
     let alloc = rt.alloc();
+    let core = opened(rt, disk)?;
     let mut output = Vec::new(alloc);
-    match Core::open(alloc, disk, Limits { history: 1000 }) {
-        Ok(core) => {
-            let text = script_text(alloc, "get @a")?;
-            let ran = run_script(alloc, core, text.as_bytes(), &mut output);
-            assert_eq!(rt; ran.status, 0);
-        }
-        Err((refusal, _)) => assert!(rt; false, "{}", refusal.name()),
-    }
+    let text = script_text(alloc, "get @a")?;
+    let ran = run_script(alloc, core, text.as_bytes(), &mut output);
+    assert_eq!(rt; ran.status, 0);
     Ok(output)
 }
 
