@@ -1,4 +1,3 @@
-pub mod Crosses
 pub mod Going
 pub mod LogSteps
 pub mod Resting
