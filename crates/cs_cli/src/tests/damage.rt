@@ -77,9 +77,9 @@ fn a_damaged_shard(rt: HostRuntime) -> Result<(), Fail> {
 #[test]
 fn a_shorter_disk(rt: HostRuntime) -> Result<(), Fail> {
     let alloc = rt.alloc();
-    let image = image(&rt)?;
-    assert!(rt; 13 * 4096 <= image.len());
-    let disk = MemoryDisk::of_image(alloc, Vec::from_slice(alloc, &image[..13 * 4096])?)?;
+    let mut image = image(&rt)?;
+    image.truncate(13 * 4096);
+    let disk = MemoryDisk::of_image(alloc, image)?;
     let refusal = why_not_opened(alloc, disk);
     assert_eq!(rt; refusal, Some(Refusal::NotAStore));
     Ok(())
