@@ -11,7 +11,8 @@ use Rattle.cs_deps.specs.Named.{Named, Names, StandsFor}
 use Rattle.cs_deps.specs.Pending.{Pending, WaitsAt, Waits, Needs, IsPersistent, SatisfiedBy, Satisfied}
 use Rattle.cs_deps.specs.Schedule.{IsSchedule, all_of, CrashLeaves, Respects, Covers, IsFewest}
 use Rattle.cs_deps.specs.Chain.{IsChain, LastIs, IsChainOf}
-use Rattle.cs_deps.proofs.Sets.{no_element, place_of, within, only_element}
+use Rattle.cs_deps.proofs.LowerBound.{Orders, no_fewer_sets_than_a_chain}
+use Rattle.cs_deps.proofs.Sets.{no_element, place_of, within}
 use Rattle.cs_check.specs.Listing.{IsListing, WaitsBefore}
 use Rattle.cs_check.specs.Tests.{IsNested, InTime, Passes}
 use Rattle.cs_check.specs.Progress.{elements_of}
@@ -73,7 +74,7 @@ needs_later g listing nested f v (suc n) x needs wx w =
     let before = version_before g listing f (v + n) (omega (arith, first)) last in
     subst (λ u. Needs g (Version f u) x) (sym e) (nested f (v + n) x (needs_later g listing nested f v n x needs wx before) wx last)
 
--- ---- a chain takes as many sets as it has elements
+-- ---- a chain takes as many sets as it has elements: what that needs of a view
 
 -- nothing needs itself while it waits
 needs_not_itself : (g : Pending) → IsListing g → (x : Element) → Needs g x x → ⊥
@@ -108,63 +109,18 @@ stands_not_for_need g listing (Version f v) y (Plain k) wy h s t = s
 waits_not_persistent : (g : Pending) → IsListing g → (x : Element) → Waits g x → IsPersistent g x → ⊥
 waits_not_persistent g listing x w p = listed_not_persistent g listing w.0 x w.1 w.2 p
 
-module _ (g : Pending) (listing : IsListing g) (nested : IsNested g) (sets : List (List Element)) (schedule : IsSchedule g sets) (respects : Respects g sets) where
-  -- a need is satisfied by fewer sets
-  sooner : (x y : Element) (m : ℕ) → Needs g x y → Waits g y → SatisfiedBy (all_of (take m sets)) x → (i : ℕ) × (i < m) × SatisfiedBy (all_of (take i sets)) y
-  sooner x y m needs waits sat =
-      let at = place_of sets m sat.0 sat.1 in
-      let i : ℕ = at.0 in
-      let z : Element = sat.0 in
-      let zwaits : Waits g z = All-contains (Waits g) (slice_index_or sets i []) z (schedule i [] at.2) at.3 in
-      let left : List Element = all_of (take i sets) ++ z ∷ [] in
-      let crash : CrashLeaves sets left = (i, z ∷ [], All-cons (Contains (slice_index_or sets i [])) z [] at.3 (All-nil (Contains (slice_index_or sets i []))), refl) in
-      let closed : Satisfied g left y = respects left crash z y (Contains-push (all_of (take i sets)) z) (needs_of_later g listing nested x y z sat.2 zwaits waits needs) in
-      ⊎_elim
-      (λ (p : IsPersistent g y). absurd (waits_not_persistent g listing y waits p))
-      (λ (s : SatisfiedBy left y).
-      ⊎_elim
-      (λ (before : Contains (all_of (take i sets)) s.0). (i, at.1, (s.0, before, s.2)))
-      (λ (same : Contains (z ∷ []) s.0). absurd (stands_not_for_need g listing x y z waits needs sat.2 (subst (λ u. StandsFor u y) (sym (only_element z s.0 same)) s.2)))
-      (Contains-append_cases (all_of (take i sets)) (z ∷ []) s.0 s.1))
-      closed
-
-  -- the first element of a chain is satisfied by as many sets fewer as there are others in it
-  first_in_chain : (x : Element) (rest : List Element) (m : ℕ) → IsChain g (x ∷ rest) → LastIs (λ y. SatisfiedBy (all_of (take m sets)) y) (x ∷ rest) → (i : ℕ) × (i + length rest ≤ m) × SatisfiedBy (all_of (take i sets)) x
-  first_in_chain x [] m c l = (m, omega arith, l)
-  first_in_chain x (y ∷ ys) m c l =
-      let r = first_in_chain y ys m c.2 l in
-      let s = sooner y x r.0 c.1 c.0 r.2 in
-      (s.0, omega (arith, r.1, s.1), s.2)
-
-  chain_within : (xs : List Element) → IsChain g xs → LastIs (λ y. SatisfiedBy (all_of (take (length sets) sets)) y) xs → length xs ≤ length sets
-  chain_within [] c l = omega arith
-  chain_within (x ∷ rest) c l = from (first_in_chain x rest (length sets) c l)
-    where
-      from : (i : ℕ) × (i + length rest ≤ length sets) × SatisfiedBy (all_of (take i sets)) x → suc (length rest) ≤ length sets
-      from (zero, le, s) = absurd (no_element s.0 s.1)
-      from (suc i, le, s) = omega (arith, le)
-
--- what holds of the last element of a chain, which waits
-last_of_chain : (g : Pending) (P Q : Element → Type 0) → ((x : Element) → Waits g x → P x → Q x) → (xs : List Element) → IsChain g xs → LastIs P xs → LastIs Q xs
-last_of_chain g P Q f [] c l = tt
-last_of_chain g P Q f (x ∷ []) c l = f x c l
-last_of_chain g P Q f (x ∷ y ∷ ys) c l = last_of_chain g P Q f (y ∷ ys) c.2 l
-
--- THE LOWER BOUND: a schedule that respects and covers has no fewer sets than a chain of its target has elements
-pub no_fewer_sets : (g : Pending) → IsListing g → IsNested g → (target : Named) (xs : List Element) → IsChainOf g target xs → (sets : List (List Element)) → IsSchedule g sets → Respects g sets → Covers g sets target → length xs ≤ length sets
-no_fewer_sets g listing nested target xs chain sets schedule respects covers =
-    chain_within g listing nested sets schedule respects xs chain.0
-    (last_of_chain g (Names target) (λ y. SatisfiedBy (all_of (take (length sets) sets)) y)
-    (λ x waits named. ⊎_elim
-    (λ (p : IsPersistent g x). absurd (waits_not_persistent g listing x waits p))
-    (λ (s : SatisfiedBy (all_of sets) x). subst (λ l. SatisfiedBy (all_of l) x) (sym (take-length sets)) s)
-    (covers x named))
-    xs chain.0 chain.1)
+-- what is listed well and nested has the order in which a chain bounds every schedule
+listed_orders : (g : Pending) → IsListing g → IsNested g → Orders g
+listed_orders g listing nested = record {
+  not_yet = waits_not_persistent g listing;
+  later = needs_of_later g listing nested;
+  apart = stands_not_for_need g listing;
+}
 
 -- a plan that passes has the fewest sets
 pub fewest_from : (g : Pending) (target : Named) (rounds : List (List Element)) (chain : List Element) → Passes g target rounds chain → IsFewest g target rounds
 fewest_from g target rounds chain passes sets schedule respects covers =
-    omega (arith, passes.long_enough, no_fewer_sets g passes.well_formed.elements passes.nested target chain passes.linked sets schedule respects covers)
+    omega (arith, passes.long_enough, no_fewer_sets_than_a_chain g (listed_orders g passes.well_formed.elements passes.nested) target chain passes.linked sets schedule respects covers)
 
 pub passes_of : (g : Pending) (target : Named) (rounds others : List (Vec Element Global)) (chain more : List Element) → rounds ≡ others → chain ≡ more → Passes g target (elements_of rounds) chain → Passes g target (elements_of others) more
 passes_of g target rounds others chain more same_rounds same_chain passes =

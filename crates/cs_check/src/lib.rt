@@ -10,8 +10,6 @@ mod names;
 mod nestings;
 mod plans;
 mod readings;
-#[cfg(test)]
-mod tests;
 mod texts;
 mod values;
 mod verdicts;

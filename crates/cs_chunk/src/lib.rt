@@ -15,6 +15,3 @@ pub use puts::{put_chunks, put_fits};
 pub use reads::read_frame;
 pub use refusals::{refusal_of_disk, refusal_of_fault};
 pub use shards::read_chunks;
-
-#[cfg(test)]
-mod tests;

@@ -12,3 +12,4 @@ pub mod PlanSteps
 pub mod CheckSteps
 pub mod HexSteps
 pub mod CrashSteps
+pub mod RaceSteps

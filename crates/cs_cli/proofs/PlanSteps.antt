@@ -10,6 +10,7 @@ use Rattle.cs_deps.specs.declared.refusals.Refusal.TheVariants.{OutOfMemory}
 use Rattle.cs_deps.specs.declared.views.Plan.{Plan}
 use Rattle.cs_deps.specs.Named.{Named}
 use Rattle.cs_deps.specs.Pending.{Pending}
+use Rattle.cs_deps.specs.Rounds.{AreRounds}
 use Rattle.cs_deps.specs.Schedule.{Covers, Respects, IsFewest, IsSchedule}
 use Rattle.cs_deps.specs.Chain.{IsChainOf}
 use Rattle.cs_deps.specs.Staging.{IsKept, Staging}
@@ -32,9 +33,9 @@ use Rattle.cs_cli.proofs.Rounds.{round_lines_more}
 
 -- what a plan of all that waits says, in one
 pub best_plan : (g : Pending) (target : Named) (r : Result Plan Refusal) → IfOk r (λ plan. IsSchedule g (rounds_of plan)) → IfOk r (λ plan. Covers g (rounds_of plan) target) → IfOk r (λ plan. Respects g (rounds_of plan)) → IfOk r (λ plan. IsFewest g target (rounds_of plan))
-    → IfOk r (λ plan. IsChainOf g target plan.chain.items) → IfOk r (λ plan. length plan.chain.items ≡ length (rounds_of plan)) → IfOk r (λ plan. IsBest g target (rounds_of plan) plan.chain.items)
-best_plan g target (Ok plan) schedule covers respects fewest chain count = record { schedule = schedule; covers = covers; respects = respects; fewest = fewest; links = chain; count = count }
-best_plan g target (Err r) schedule covers respects fewest chain count = tt
+    → IfOk r (λ plan. IsChainOf g target plan.chain.items) → IfOk r (λ plan. length plan.chain.items ≡ length (rounds_of plan)) → IfOk r (λ plan. AreRounds g target (rounds_of plan)) → IfOk r (λ plan. IsBest g target (rounds_of plan) plan.chain.items)
+best_plan g target (Ok plan) schedule covers respects fewest chain count heights = record { schedule = schedule; covers = covers; respects = respects; fewest = fewest; links = chain; count = count; heights = heights }
+best_plan g target (Err r) schedule covers respects fewest chain count heights = tt
 
 abbrev pub elements_of : List (Vec Element Global) → List (List Element)
 elements_of rounds = map (λ (round : Vec Element Global). round.items) rounds
@@ -61,6 +62,7 @@ best_in_turn s kept h planned rounds chain best lead none =
       respects = p.respects;
       fewest = p.fewest;
       links = best.links;
+      heights = p.heights;
       count = omega (arith, best.count, best.fewest rounds p.schedule p.respects p.covers, p.fewest planned best.schedule best.respects best.covers);
     }
 

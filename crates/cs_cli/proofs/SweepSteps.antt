@@ -89,19 +89,17 @@ module _ {D : Type 0} (honest : D → Type 0) (state : D → DiskState) where
     printed = ap (λ n. swept_line extent n root) counted;
   }
 
-  -- the sweep is abandoned, or that is refused too
-  pub abandons : (extent : ℕ) (mid new : View D) (result : Result Reply Refusal) → IfOk result (λ reply. Goes honest state mid (Abandon extent) reply new)
-      → IfOk result (λ reply. MayAnswer (Abandon extent) reply) → IfOk result (λ reply. IsNoRefusal reply)
-      → IfErr result (λ r. IsStopped honest state mid [] (Abandon extent) r new) → Abandons honest state extent mid new
-  abandons extent mid new (Ok reply) g may none s = inl (went_as honest state mid new (Abandon extent) (Abandon extent) reply Abandoned refl (abandoned_of extent reply may none) g)
-  abandons extent mid new (Err r) g may none s = inr (r, s)
+  -- the sweep is abandoned
+  pub abandons : (extent : ℕ) (mid new : View D) (reply : Reply) (r : Refusal) → Goes honest state mid (Abandon extent) reply new → MayAnswer (Abandon extent) reply → IsNoRefusal reply
+      → Abandons honest state extent mid new r r
+  abandons extent mid new reply r g may none = inl (went_as honest state mid new (Abandon extent) (Abandon extent) reply Abandoned refl (abandoned_of extent reply may none) g, refl)
 
   -- the sweep began, stopped and is abandoned
   pub sweep_refused : (extent : ℕ) (old begun new : View D) (reply : Reply) (r : Refusal) → Goes honest state old (BeginSweep extent) reply begun
-      → MayAnswer (BeginSweep extent) reply → IsNoRefusal reply → (mid : View D) × StopsSweep honest state extent begun mid r × Abandons honest state extent mid new
+      → MayAnswer (BeginSweep extent) reply → IsNoRefusal reply → (mid : View D) × (why : Refusal) × StopsSweep honest state extent begun mid why × Abandons honest state extent mid new why r
       → IsSweepRefused honest state extent old new r
-  sweep_refused extent old begun new reply r g may none (mid, stops, abandoned) =
-      inr (begun, mid, went_as honest state old begun (BeginSweep extent) (BeginSweep extent) reply Sweeping refl (sweeping_of extent reply may none) g, stops, abandoned)
+  sweep_refused extent old begun new reply r g may none (mid, why, stops, abandoned) =
+      inr (begun, mid, why, went_as honest state old begun (BeginSweep extent) (BeginSweep extent) reply Sweeping refl (sweeping_of extent reply may none) g, stops, abandoned)
 
   -- what a sweep that began did, in one with its begin
   pub sweep_done : (extent : ℕ) (old begun new : View D) (reply : Reply) (result : Result Swept Refusal) → Goes honest state old (BeginSweep extent) reply begun
@@ -113,7 +111,7 @@ module _ {D : Type 0} (honest : D → Type 0) (state : D → DiskState) where
 
   pub sweep_stopped : (extent : ℕ) (old begun new : View D) (reply : Reply) (result : Result Swept Refusal) → Goes honest state old (BeginSweep extent) reply begun
       → MayAnswer (BeginSweep extent) reply → IsNoRefusal reply
-      → IfErr result (λ r. (mid : View D) × StopsSweep honest state extent begun mid r × Abandons honest state extent mid new)
+      → IfErr result (λ r. (mid : View D) × (why : Refusal) × StopsSweep honest state extent begun mid why × Abandons honest state extent mid new why r)
       → IfErr result (λ r. IsSweepRefused honest state extent old new r)
   sweep_stopped extent old begun new reply (Ok s) g may none all = tt
   sweep_stopped extent old begun new reply (Err r) g may none all = sweep_refused extent old begun new reply r g may none all

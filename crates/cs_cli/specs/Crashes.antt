@@ -2,9 +2,10 @@
 use Rattle.std.specs.Prelude.{◌≡◌, ◌⊎◌, ◌++◌, ◌↔◌, ℕ, Bool, List, [], count_by, length}
 use Rattle.cs_chunk.specs.Reads.{IsNoAnswer}
 use Rattle.cs_deps.specs.declared.refusals.Refusal.{Refusal}
-use Rattle.cs_disk.specs.Disk.{State as DiskState, crashed, flushed, page, seen}
+use Rattle.cs_deps.specs.declared.refusals.Refusal.TheVariants.{DeviceFault}
+use Rattle.cs_disk.specs.Disk.{Rises, State as DiskState, crashed, flushed, page, seen}
 use Rattle.cs_extent.specs.State.{shape}
-use Rattle.cs_core.specs.Openings.{IsOpened, IsWhyNotOpened}
+use Rattle.cs_core.specs.Openings.{IsOpened, IsOpeningRefusal, IsWhyNotOpened}
 use Rattle.cs_core.specs.Views.{IsFound, View}
 use Rattle.cs_cli.specs.Lines.{Said, says_crash}
 use Rattle.cs_cli.specs.Outputs.{crash_line, open_line, refusal_line}
@@ -13,7 +14,7 @@ use Rattle.cs_cli.specs.Outputs.{crash_line, open_line, refusal_line}
 abbrev pub kept_count : List Bool → ℕ
 kept_count mask = count_by (λ b. b) mask
 
-module _ {D : Type 0} (honest : D → Type 0) (state : D → DiskState) (page_count : D → ℕ) (can_crash : D → Type 0) (volatile_count : D → ℕ) where
+module _ {D : Type 0} (honest : D → Type 0) (state : D → DiskState) (page_count : D → ℕ) (can_crash : D → Type 0) (volatile_count : D → ℕ) (failure_count : D → ℕ) where
   -- a readable line `crash`: it has one digit for each volatile write of a disk that can crash
   abbrev pub IsCrash : Said → View D → List Bool → Type 0
   IsCrash said v mask = (said ≡ says_crash mask) × can_crash v.disk × (length mask ≡ volatile_count v.disk)
@@ -23,6 +24,7 @@ module _ {D : Type 0} (honest : D → Type 0) (state : D → DiskState) (page_co
     pub image : honest before → state after ≡ crashed (state before) mask
     pub stays_honest : honest before ↔ honest after
     pub pages : page_count after ≡ page_count before
+    pub failures : failure_count after ≡ failure_count before
 
   -- The store on a disk is opened: a core with an empty history and the same limit, and with the numbers of the image.
   pub record IsReopened (disk : D) (limit : ℕ) (new : View D) : Type 0 where
@@ -37,9 +39,20 @@ module _ {D : Type 0} (honest : D → Type 0) (state : D → DiskState) (page_co
   abbrev pub Reopens : List Bool → (old new : View D) → Type 0
   Reopens mask old new = (disk : D) × IsCrashed mask old.disk disk × IsReopened disk old.limit new
 
-  -- why no store is opened after a crash
+  -- Opening a store on a disk answers this refusal. The disk was flushed or left as it was, and 1 is answered only where it
+  -- failed.
+  pub record IsOpeningRefused (disk : D) (r : Refusal) : Type 0 where
+    pub after : D
+    pub number : IsOpeningRefusal r
+    pub why : honest disk → IsNoAnswer r ⊎ IsWhyNotOpened (page_count disk) (page (seen (state disk))) r
+    pub kept : honest disk → (state after ≡ state disk) ⊎ (state after ≡ flushed (state disk))
+    pub stays_honest : honest disk ↔ honest after
+    pub pages : page_count after ≡ page_count disk
+    pub cause : r ≡ DeviceFault → Rises (failure_count disk) (failure_count after)
+
+  -- no store is opened after a crash
   abbrev pub IsNotReopened : List Bool → View D → Refusal → Type 0
-  IsNotReopened mask old r = (disk : D) × IsCrashed mask old.disk disk × (honest disk → IsNoAnswer r ⊎ IsWhyNotOpened (page_count disk) (page (seen (state disk))) r)
+  IsNotReopened mask old r = (disk : D) × IsCrashed mask old.disk disk × IsOpeningRefused disk r
 
   -- the disk crashes, and the store that is left is opened: it is printed how many of the volatile writes were kept, and the
   -- numbers with which the core was opened

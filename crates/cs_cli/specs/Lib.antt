@@ -3,6 +3,8 @@ pub mod Crashes
 pub mod Histories
 pub mod Lines
 pub mod Outputs
+pub mod Races
 pub mod Rounds
 pub mod Scripts
 pub mod Stops
+pub mod Stores

@@ -26,6 +26,7 @@ pub data Said : Type 0 where
   says_nothing : Said
   unreadable : Said
 
+-- what a line says as it was read
 abbrev pub said_by : Line → Said
 said_by (Put id bytes) = says_put id bytes.items
 said_by (Get id) = says_get id
@@ -48,6 +49,7 @@ is_silent (b ∷ bs) = b == 35
 abbrev pub words : List ℕ → List (List ℕ)
 words text = filter (λ word. nat_lt 0 (length word)) (slice_split (λ b. b == 32) text)
 
+-- the bytes that hex digits spell, where they do
 abbrev pub ok_of : Result (List ℕ) FromHexError → Option (List ℕ)
 ok_of (Ok bytes) = Some bytes
 ok_of (Err e) = None
@@ -129,6 +131,7 @@ said_alone said (word ∷ rest) = unreadable
 abbrev pub said_by_word : List ℕ → Said
 said_by_word word = if bytes_eq word (codes "sync") then says_sync else if bytes_eq word (codes "step") then says_step else if bytes_eq word (codes "plan") then says_plan else if bytes_eq word (codes "document") then says_document else unreadable
 
+-- what the words of a line say: its first one is the command
 abbrev pub said_words : List (List ℕ) → Said
 said_words [] = unreadable
 said_words (word ∷ rest) = if bytes_eq word (codes "put") then said_put rest else if bytes_eq word (codes "get") then said_get rest else if bytes_eq word (codes "del") then said_delete rest else if bytes_eq word (codes "sweep") then said_sweep rest else if bytes_eq word (codes "crash") then said_crash rest else said_alone (said_by_word word) rest

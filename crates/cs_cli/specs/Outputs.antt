@@ -11,6 +11,7 @@ use Rattle.hex.specs.Hex.{encode_lower}
 abbrev pub line_of : List ℕ → List ℕ
 line_of text = text ++ 10 ∷ []
 
+-- the number of a put
 abbrev pub put_line : ℕ → List ℕ
 put_line n = line_of (codes "put " ++ decimal n)
 
@@ -19,9 +20,11 @@ abbrev pub value_line : List ℕ → List ℕ
 value_line [] = line_of (codes "value -")
 value_line (x ∷ xs) = line_of (codes "value " ++ encode_lower (x ∷ xs))
 
+-- there is no such shard
 abbrev pub absent_line : List ℕ
 absent_line = line_of (codes "absent")
 
+-- the number of a delete
 abbrev pub delete_line : ℕ → List ℕ
 delete_line n = line_of (codes "del " ++ decimal n)
 
@@ -29,6 +32,7 @@ delete_line n = line_of (codes "del " ++ decimal n)
 abbrev pub swept_line : ℕ → ℕ → ℕ → List ℕ
 swept_line extent moved root = line_of (codes "sweep " ++ decimal extent ++ codes " moved " ++ decimal moved ++ codes " root r" ++ decimal root)
 
+-- the line can't be read
 abbrev pub bad_line : List ℕ
 bad_line = line_of (codes "bad line")
 
@@ -44,6 +48,7 @@ open_line commands shards = line_of (codes "open commands " ++ decimal commands 
 abbrev pub refusal_line : Refusal → List ℕ
 refusal_line r = line_of (codes "refused " ++ decimal (number_of r) ++ codes " " ++ name_of r)
 
+-- a round ended, and so many commands are persistent
 abbrev pub end_line : ℕ → List ℕ
 end_line n = line_of (codes "end acknowledged " ++ decimal n)
 
@@ -68,6 +73,7 @@ issue_line x page = line_of (codes "issue " ++ element_name x ++ codes " page " 
 abbrev pub idle_line : List ℕ
 idle_line = line_of (codes "idle")
 
+-- a round by its place, and its elements
 abbrev pub round_line : ℕ → List Element → List ℕ
 round_line i round = line_of (codes "round " ++ decimal i ++ codes ":" ++ element_names round)
 
@@ -76,9 +82,11 @@ abbrev pub chain_line : List Element → List ℕ
 chain_line [] = line_of (codes "chain: -")
 chain_line (x ∷ xs) = line_of (codes "chain:" ++ element_names (x ∷ xs))
 
+-- how many rounds there are
 abbrev pub flushes_line : ℕ → List ℕ
 flushes_line n = line_of (codes "flushes " ++ decimal n)
 
+-- how many commands are persistent
 abbrev pub acknowledged_line : ℕ → List ℕ
 acknowledged_line n = line_of (codes "acknowledged " ++ decimal n)
 

@@ -24,6 +24,7 @@ pub record Turn : Type 0 where
   pub members : Members
   pub frontier : ℕ
 
+-- the elements of a whole round
 abbrev pub elements_of : Turn → List Element
 elements_of turn = map (λ m. m.0) turn.members
 
@@ -31,9 +32,11 @@ elements_of turn = map (λ m. m.0) turn.members
 abbrev pub events_of : Turn → List (Event × Reply)
 events_of turn = (Begin, Begun (elements_of turn)) ∷ rest_of_round turn.members turn.frontier
 
+-- the events of whole rounds, one after another
 abbrev pub events_of_all : List Turn → List (Event × Reply)
 events_of_all turns = flat_map events_of turns
 
+-- the elements of each round
 abbrev pub rounds_of : List Turn → List (List Element)
 rounds_of turns = map elements_of turns
 

@@ -1,11 +1,12 @@
 -- What a script prints and what its core's history gains, line by line.
-use Rattle.std.specs.Prelude.{◌≡◌, ◌≢◌, ◌⊎◌, ℕ, Bool, List, [], ◌∷◌, ◌++◌, Option, Some, None, codes, length, map, if◌then◌else◌, nat_lt}
+use Rattle.std.specs.Prelude.{◌≡◌, ◌≢◌, ◌⊎◌, ◌↔◌, ℕ, Bool, false, IsTrue, List, [], ◌∷◌, ◌++◌, Option, Some, None, codes, length, map, if◌then◌else◌, nat_lt}
 use Rattle.std.specs.Io.BufRead.{first_piece, drop_through}
 use Rattle.cs_deps.specs.declared.elements.Element.{Element}
 use Rattle.cs_deps.specs.declared.refusals.Refusal.{Refusal}
 use Rattle.cs_deps.specs.declared.refusals.Refusal.TheVariants as refusal
 use Rattle.cs_deps.specs.Named.{Named}
 use Rattle.cs_deps.specs.Pending.{Pending}
+use Rattle.cs_deps.specs.Rounds.{AreRounds}
 use Rattle.cs_deps.specs.Schedule.{Respects, Covers, IsFewest, IsSchedule}
 use Rattle.cs_deps.specs.Chain.{IsChainOf}
 use Rattle.cs_deps.specs.State.{everything}
@@ -24,7 +25,8 @@ use Rattle.cs_cli.specs.Lines.{Said, says_put, says_get, says_delete, says_sweep
 use Rattle.cs_cli.specs.Outputs.{absent_line, acknowledged_line, bad_line, begin_line, chain_line, delete_line, end_line, flushes_line, idle_line, issue_line, line_of, plan_lines, put_line, refusal_line, round_lines, swept_line, value_line}
 use Rattle.cs_cli.specs.Rounds.{IsOfRound, IsPart, Members, Turn, events_of_all, issues, rest_of_round, rounds_of}
 
--- The rounds make the target persistent, a crash leaves a closed set, and no fewer will do, which the chain shows.
+-- The rounds make the target persistent, a crash leaves a closed set, and no fewer will do, which the chain shows. Each round has
+-- exactly what is needed at its height, once.
 pub record IsBest (g : Pending) (target : Named) (rounds : List (List Element)) (chain : List Element) : Type 0 where
   pub schedule : IsSchedule g rounds
   pub covers : Covers g rounds target
@@ -32,6 +34,7 @@ pub record IsBest (g : Pending) (target : Named) (rounds : List (List Element)) 
   pub fewest : IsFewest g target rounds
   pub links : IsChainOf g target chain
   pub count : length chain ≡ length rounds
+  pub heights : AreRounds g target rounds
 
 -- these are a best plan of all that waits in this store
 abbrev pub IsPlanOf : Stored → List (List Element) → List Element → Type 0
@@ -71,9 +74,10 @@ IsRefusalOf P out = (r : Refusal) × P r × (out ≡ refusal_line r)
 abbrev pub document_letters : List ℕ
 document_letters = codes "sr"
 
--- the document of a best plan of all that waits is printed as one line, where no round is out
+-- the document of a best plan of all that waits, which has one, is printed as one line, where no round is out
 abbrev pub Documents : Stored → List ℕ → Type 0
 Documents s out = (s.out ≡ None) × (rounds : List (List Element)) × (chain : List Element) × (text : List ℕ) × IsPlanOf s rounds chain
+    × HasDocument document_letters s.graph.staging.pending (everything s.graph.staging) rounds chain
     × IsTextOf text document_letters s.graph.staging.pending (everything s.graph.staging) rounds chain × (out ≡ line_of text)
 
 -- a round is out; or there is no memory; or a best plan can't be written
@@ -163,14 +167,18 @@ module _ {D : Type 0} (honest : D → Type 0) (state : D → DiskState) where
       × (IsStopped honest state begun (moves extent moved) (MoveOne extent) r mid
       ⊎ IsStopped honest state begun (moves extent moved ++ (MoveOne extent, NoneLive) ∷ []) (Retire extent) r mid)
 
-  -- the extent isn't being swept any more, or the Abandon is refused too
-  abbrev pub Abandons : ℕ → View D → View D → Type 0
-  Abandons extent mid new = Went honest state mid ((Abandon extent, Abandoned) ∷ []) new ⊎ ((why : Refusal) × IsStopped honest state mid [] (Abandon extent) why new)
+  -- a sweep that was refused so is abandoned, and that refusal is told; or the Abandon is refused too, and where that is for want
+  -- of memory, it is what is told
+  abbrev pub Abandons : ℕ → View D → View D → (refused told : Refusal) → Type 0
+  Abandons extent mid new r told = (Went honest state mid ((Abandon extent, Abandoned) ∷ []) new × (told ≡ r))
+      ⊎ ((why : Refusal) × IsStopped honest state mid [] (Abandon extent) why new
+      × (((why ≡ refusal.OutOfMemory) × (told ≡ refusal.OutOfMemory)) ⊎ ((why ≢ refusal.OutOfMemory) × (told ≡ r))))
 
   -- the sweep can't begin, or it stops later and is abandoned
   abbrev pub IsSweepRefused : ℕ → View D → View D → Refusal → Type 0
-  IsSweepRefused extent old new r = IsStopped honest state old [] (BeginSweep extent) r new
-      ⊎ ((begun : View D) × (mid : View D) × Went honest state old ((BeginSweep extent, Sweeping) ∷ []) begun × StopsSweep extent begun mid r × Abandons extent mid new)
+  IsSweepRefused extent old new told = IsStopped honest state old [] (BeginSweep extent) told new
+      ⊎ ((begun : View D) × (mid : View D) × (r : Refusal) × Went honest state old ((BeginSweep extent, Sweeping) ∷ []) begun × StopsSweep extent begun mid r
+      × Abandons extent mid new r told)
 
   -- the event of writeback that is due, with its reply
   abbrev pub Steps : View D → View D → List ℕ → Type 0
@@ -195,18 +203,28 @@ module _ {D : Type 0} (honest : D → Type 0) (state : D → DiskState) where
   Answers (says_crash mask) old new out = (new ≡ old) × (out ≡ bad_line)
   Answers unreadable old new out = (new ≡ old) × (out ≡ bad_line)
 
+-- what a line says to a disk of which it is told whether it can crash: where it can't, a line `step` isn't readable
+abbrev pub said_to : (can_crash : Bool) → Said → Said
+said_to false says_step = unreadable
+said_to can_crash said = said
+
 -- the exit status after a line: 1 from the first line on that isn't readable
 abbrev pub status_after : Said → ℕ → ℕ
 status_after unreadable status = 1
 status_after (says_crash mask) status = 1
 status_after said status = status
 
-module _ {D : Type 0} (honest : D → Type 0) (state : D → DiskState) (page_count : D → ℕ) (can_crash : D → Type 0) (volatile_count : D → ℕ) where
+module _ {D : Type 0} (honest : D → Type 0) (state : D → DiskState) (page_count : D → ℕ) (can_crash : D → Type 0) (volatile_count : D → ℕ) (failure_count : D → ℕ) where
+  -- a line is answered by the core, as what it says to the core's disk
+  abbrev pub AnswersOver : Said → (old : View D) (status : ℕ) → (new : View D) (after : ℕ) → List ℕ → Type 0
+  AnswersOver said old status new after out =
+      (can : Bool) × (IsTrue can ↔ can_crash old.disk) × Answers honest state (said_to can said) old new out × (after ≡ status_after (said_to can said) status)
+
   -- a line that isn't a readable `crash` is answered by the core; and after a crash the core goes on that is opened then
   abbrev pub GoesOn : Said → (old : View D) (status : ℕ) → (new : View D) (after : ℕ) → List ℕ → Type 0
   GoesOn said old status new after out =
-      (((mask : List Bool) → ¬ IsCrash honest state page_count can_crash volatile_count said old mask) × Answers honest state said old new out × (after ≡ status_after said status))
-      ⊎ ((mask : List Bool) × IsCrash honest state page_count can_crash volatile_count said old mask × Crashes honest state page_count can_crash volatile_count mask old new out × (after ≡ status))
+      (((mask : List Bool) → ¬ IsCrash honest state page_count can_crash volatile_count failure_count said old mask) × AnswersOver said old status new after out)
+      ⊎ ((mask : List Bool) × IsCrash honest state page_count can_crash volatile_count failure_count said old mask × Crashes honest state page_count can_crash volatile_count failure_count mask old new out × (after ≡ status))
 
   -- A script runs: nothing is left of it; or its first line is answered and the rest runs; or no store is opened after a crash, and
   -- it ends with no core. Each line ends with a line feed, the last one may end with the text.
@@ -217,5 +235,5 @@ module _ {D : Type 0} (honest : D → Type 0) (state : D → DiskState) (page_co
         → Runs (drop_through 10 text) mid after new last rest
         → Runs text old status new last (out ++ rest)
     unopened : (text : List ℕ) (old : View D) (status : ℕ) (out : List ℕ)
-        → text ≢ [] → CrashesForGood honest state page_count can_crash volatile_count (said_of (first_piece 10 text)) old out
+        → text ≢ [] → CrashesForGood honest state page_count can_crash volatile_count failure_count (said_of (first_piece 10 text)) old out
         → Runs text old status None 3 out

@@ -1,4 +1,4 @@
-//! The program: runs scripts, whose lines are `put`, `get`, `del`, `sweep`, `sync`, `step`, `plan`, `document` and
+//! The program: runs races of threads on one node, and scripts, whose lines are `put`, `get`, `del`, `sweep`, `sync`, `step`, `plan`, `document` and
 //! `crash`, and checks plan documents.
 #![tactic(auto)]
 
@@ -11,9 +11,12 @@ mod documents;
 mod lines;
 mod outputs;
 mod plans;
+mod racers;
+mod races;
 mod scripts;
 mod statuses;
 mod steps;
+mod stores;
 mod sweeps;
 mod syncs;
 #[cfg(test)]

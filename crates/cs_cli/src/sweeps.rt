@@ -1,6 +1,7 @@
 //! The line `sweep`. Where the writer fails, it ends with that error.
 ghost use Rattle.std.specs.Prelude.{◌≡◌, ◌⊎◌, ◌++◌, ◌∷◌, [], ℕ, List, IfErr, IfOk, OnOk, length};
 ghost use Rattle.std.specs.Io.KnownBytes.{Appends};
+ghost use Rattle.cs_deps.specs.declared.refusals.Refusal.{Refusal as Why};
 ghost use Rattle.cs_frame.specs.declared.identifiers.ShardId.{ShardId};
 ghost use Rattle.cs_core.specs.declared.events.Event.TheVariants.{MoveOne, Retire};
 ghost use Rattle.cs_core.specs.declared.events.Reply.TheVariants.{NoneLive, Retired};
@@ -57,15 +58,23 @@ fn sweep_extent<D: PageDisk>(core: &mut Core<D>, extent: usize) -> Result<Swept,
 fn empty_or_abandon<D: PageDisk>(core: &mut Core<D>, extent: usize) -> Result<Swept, Refusal>
     ensures done { IfOk result (λ swept. (moved : List (ShardId × ℕ)) × (swept.moved ≡ length moved)
         × Went D.honest D.state core.old (moves extent moved ++ (MoveOne extent, NoneLive) ∷ (Retire extent, Retired swept.root) ∷ []) core.new) }
-    ensures refused { IfErr result (λ refusal. (mid : View D) × StopsSweep D.honest D.state extent core.old mid refusal × Abandons D.honest D.state extent mid core.new) }
+    ensures refused { IfErr result (λ told. (mid : View D) × (r : Why) × StopsSweep D.honest D.state extent core.old mid r × Abandons D.honest D.state extent mid core.new r told) }
 {
     match empty_extent(core, extent) {
         Ok(swept) => Ok(swept),
-        Err(refusal) => {
-            // Where this is refused too, the refusal before it is the one to tell.
-            let _ = ask(core, &Event::Abandon(extent));
-            Err(refusal)
-        }
+        Err(refusal) => Err(abandon(core, extent, refusal)),
+    }
+}
+
+/// Abandons a sweep that was refused, and gives the refusal to tell: that one, also where the Abandon is refused too, but 9
+/// OutOfMemory where there was no memory for it.
+fn abandon<D: PageDisk>(core: &mut Core<D>, extent: usize, refusal: Refusal) -> Refusal
+    ensures { Abandons D.honest D.state extent core.old core.new refusal result }
+{
+    match ask(core, &Event::Abandon(extent)) {
+        Ok(_) => refusal,
+        Err(Refusal::OutOfMemory) => Refusal::OutOfMemory,
+        Err(_) => refusal,
     }
 }
 

@@ -2,11 +2,15 @@
 mod crashes;
 mod damage;
 mod documents;
+mod failures;
+mod files;
 mod images;
 mod moments;
 mod plans;
 mod puts;
+mod races;
 mod rounds;
+mod stops;
 mod streams;
 mod sweeps;
 

@@ -1,6 +1,6 @@
 -- What each event answers, whatever the disk does.
 use Rattle.std.proofs.Common.{◌≡◌, ◌≢◌, ◌⊎◌, ℕ, ◌<◌, ◌≤◌, List, [], None, Ok, Err, refl, sym, subst, arith}
-use Rattle.std.specs.Prelude.{IfOk, MatchResult, Result}
+use Rattle.std.specs.Prelude.{IfOk, MatchResult, OnOk, Result}
 use Rattle.cs_deps.specs.declared.elements.Element.{Element as Name}
 use Rattle.cs_deps.specs.declared.refusals.Refusal.{Refusal as Code}
 use Rattle.cs_deps.specs.declared.refusals.Refusal.TheVariants as code
@@ -13,7 +13,11 @@ use Rattle.cs_core.specs.declared.events.Reply.TheVariants.{Abandoned, Absent, A
 use Rattle.cs_core.specs.Answered.{IsAlone, IsAnswered, IsForDevice}
 use Rattle.cs_core.specs.Shapes.{MayAnswer}
 use Rattle.cs_core.specs.Stored.{Stored}
-use Rattle.cs_core.specs.Writebacks.{AddsCommand, IsMemberIssued, IsRoundBegun, IsRoundEnded, KeepsRound, StaysRefused, WritesBack}
+use Rattle.cs_core.specs.Writebacks.{AddsCommand, IsMemberIssued, IsRoundBegun, IsRoundEnded, KeepsRound, KeepsStaging, Stages, StaysRefused, WritesBack}
+
+-- what an answer that isn't a refusal says
+pub ok_of : {A B : Type 0} (P : Type 0) (r : Result A B) (x : A) → r ≡ Ok x → OnOk r P → P
+ok_of {A} {B} P r x is p = subst (λ (k : Result A B). OnOk k P) is p
 
 -- events that no refusal halts, and that may be refused
 abbrev pub IsPlain : Event → Type 0
@@ -38,13 +42,13 @@ module _ (v w : Stored) where
   unfolding IsAnswered
   end_refused_so r known stays = (known, stays)
 
-  pub put_so : (id : ShardId) (bytes : List ℕ) (n : ℕ) → AddsCommand n v w → KeepsRound v w → IsAnswered v (Put id bytes) (Accepted n) w
+  pub put_so : (id : ShardId) (bytes : List ℕ) (n : ℕ) → AddsCommand n v w → KeepsRound v w → Stages v w → IsAnswered v (Put id bytes) (Accepted n) w
   unfolding IsAnswered
-  put_so id bytes n adds round = (omega (arith, adds.0), (adds, round))
+  put_so id bytes n adds round behind = (omega (arith, adds.0), (adds, round, behind))
 
-  pub delete_so : (id : ShardId) (n : ℕ) → AddsCommand n v w → KeepsRound v w → IsAnswered v (Delete id) (Accepted n) w
+  pub delete_so : (id : ShardId) (n : ℕ) → AddsCommand n v w → KeepsRound v w → KeepsStaging v w → IsAnswered v (Delete id) (Accepted n) w
   unfolding IsAnswered
-  delete_so id n adds round = (omega (arith, adds.0), (adds, round))
+  delete_so id n adds round same = (omega (arith, adds.0), (adds, round, same))
 
   pub delete_absent_so : (id : ShardId) → w ≡ v → IsAnswered v (Delete id) Absent w
   unfolding IsAnswered
@@ -58,9 +62,9 @@ module _ (v w : Stored) where
   unfolding IsAnswered
   get_absent_so id same = (tt, same)
 
-  pub stage_so : (n : ℕ) → w.index.table ≡ [] → KeepsRound v w → IsAnswered v Stage (Staged n) w
+  pub stage_so : (n : ℕ) → w.index.table ≡ [] → KeepsRound v w → Stages v w → IsAnswered v Stage (Staged n) w
   unfolding IsAnswered
-  stage_so n table round = (tt, (table, round))
+  stage_so n table round behind = (tt, (table, round, behind))
 
   pub stage_none_so : (v.index.table ≡ []) × (w ≡ v) → IsAnswered v Stage Unchanged w
   unfolding IsAnswered
@@ -82,25 +86,25 @@ module _ (v w : Stored) where
   unfolding IsAnswered
   end_so n ended = (tt, ended)
 
-  pub begin_sweep_so : (e : ℕ) → KeepsRound v w → IsAnswered v (BeginSweep e) Sweeping w
+  pub begin_sweep_so : (e : ℕ) → KeepsRound v w → KeepsStaging v w → IsAnswered v (BeginSweep e) Sweeping w
   unfolding IsAnswered
-  begin_sweep_so e round = (tt, round)
+  begin_sweep_so e round same = (tt, (round, same))
 
-  pub move_so : (e : ℕ) (id : ShardId) (chunk : ℕ) → KeepsRound v w → IsAnswered v (MoveOne e) (Moved id chunk) w
+  pub move_so : (e : ℕ) (id : ShardId) (chunk : ℕ) → KeepsRound v w → Stages v w → IsAnswered v (MoveOne e) (Moved id chunk) w
   unfolding IsAnswered
-  move_so e id chunk round = (tt, round)
+  move_so e id chunk round behind = (tt, (round, behind))
 
   pub move_none_so : (e : ℕ) → w ≡ v → IsAnswered v (MoveOne e) NoneLive w
   unfolding IsAnswered
   move_none_so e same = (tt, same)
 
-  pub retire_so : (e n : ℕ) → w.index.table ≡ [] → KeepsRound v w → IsAnswered v (Retire e) (Retired n) w
+  pub retire_so : (e n : ℕ) → w.index.table ≡ [] → KeepsRound v w → Stages v w → IsAnswered v (Retire e) (Retired n) w
   unfolding IsAnswered
-  retire_so e n table round = (tt, (table, round))
+  retire_so e n table round behind = (tt, (table, round, behind))
 
-  pub abandon_so : (e : ℕ) → KeepsRound v w → IsAnswered v (Abandon e) Abandoned w
+  pub abandon_so : (e : ℕ) → KeepsRound v w → KeepsStaging v w → IsAnswered v (Abandon e) Abandoned w
   unfolding IsAnswered
-  abandon_so e round = (tt, round)
+  abandon_so e round same = (tt, (round, same))
 
   pub persistent_so : (n : ℕ) → 1 ≤ n → w ≡ v → IsAnswered v (Settle n) Persistent w
   unfolding IsAnswered

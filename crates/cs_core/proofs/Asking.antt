@@ -1,5 +1,5 @@
 -- Which events don't answer that the disk failed.
-use Rattle.std.proofs.Common.{◌≡◌, ◌≢◌, ℕ}
+use Rattle.std.proofs.Common.{◌≢◌, ℕ}
 use Rattle.cs_deps.specs.declared.refusals.Refusal.TheVariants as code
 use Rattle.cs_core.specs.declared.events.Event.TheVariants.{Settle}
 use Rattle.cs_core.specs.declared.events.Reply.{Reply}

@@ -1,5 +1,5 @@
 -- How many commands are persistent, of those accepted.
-use Rattle.std.proofs.Common.{◌≡◌, ◌≤◌, ◌+◌, ℕ, arith}
+use Rattle.std.proofs.Common.{◌≡◌, ◌≤◌, ◌+◌, arith}
 use Rattle.cs_model.specs.State.{State}
 use Rattle.cs_core.specs.States.{IsStateOf}
 use Rattle.cs_core.specs.Stored.{Stored}

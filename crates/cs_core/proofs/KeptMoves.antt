@@ -1,6 +1,6 @@
 -- What a move of a chunk keeps.
 use Rattle.std.proofs.Common.{◌≡◌, ◌⊎◌, inl, inr, ⊎_elim, ℕ, zero, suc, List, [], ◌∷◌, Some, None, Ok, Err, length, refl, sym, subst}
-use Rattle.std.specs.Prelude.{OnErr, Option, Result}
+use Rattle.std.specs.Prelude.{OnErr, OnOk, Option, Result}
 use Rattle.cs_deps.specs.declared.refusals.Refusal.{Refusal as Code}
 use Rattle.cs_deps.specs.State.{State as GraphState}
 use Rattle.cs_extent.specs.Frames.{AreResetsStaged}
@@ -12,9 +12,9 @@ use Rattle.cs_model.specs.Extents.{ForMove}
 use Rattle.cs_model.specs.Index.{live_at}
 use Rattle.cs_model.specs.Lists.{replaced, ◌∈◌}
 use Rattle.cs_reclaim.specs.Moves.{IsMoved, chunk_frame}
-use Rattle.cs_core.specs.Stored.{AreSwept, IsKept, Stored}
+use Rattle.cs_core.specs.Stored.{AreSwept, IsKept, StagesBehind, Stored}
 use Rattle.cs_core.proofs.Kept.{inside_live, inside_set, kept_on, places_there, same_live, swept_appended}
-use Rattle.cs_core.proofs.Moves.{moves_appended, moves_refused}
+use Rattle.cs_core.proofs.Moves.{behind_none, moves_appended, moves_refused}
 
 -- what is in a list with one item replaced
 in_replaced : {A : Type 0} (xs : List A) (k : ℕ) (y x : A) → x ∈ replaced xs k y → (x ≡ y) ⊎ (x ∈ xs)
@@ -50,3 +50,13 @@ module _ (v : Stored) (kept : IsKept v) (e : ℕ) (y : ExtentsState) (h : GraphS
       (moves_refused v.extents v.graph y h unwritten unstaged) resets families limit
       (inside_live (shape v.extents) v.index j kept.places (same_live v.index j refused)) refl refl kept.numbers
       (subst (λ (x : ExtentsState). AreSwept x) (sym unwritten) kept.swept)
+
+-- what a move stages
+pub move_behind : (i : IndexState) (x : ExtentsState) (g : GraphState) (e : ℕ) (j : IndexState) (y : ExtentsState) (h : GraphState) (result : Result (Option (ShardId × ℕ)) Code)
+    → (result ≡ Ok None → (j ≡ i) × (y ≡ x) × (h ≡ g))
+    → ((id : ShardId) (k : ℕ) → result ≡ Ok (Some (id, k)) → (payload : List ℕ) × IsMoved i x g e (id_number id) k payload j y h)
+    → OnOk result (StagesBehind g.staging.pending h.staging.pending)
+move_behind i x g e j y h (Ok None) unchanged moved = subst (λ (k : GraphState). StagesBehind g.staging.pending k.staging.pending) (sym (unchanged refl).2) (behind_none g.staging.pending)
+move_behind i x g e j y h (Ok (Some (id, k))) unchanged moved =
+    let m = moved id k refl in (moves_appended x g ForMove (chunk_frame x m.0) m.1.to y h m.1.appended).behind
+move_behind i x g e j y h (Err r) unchanged moved = tt

@@ -1,6 +1,8 @@
 pub mod Answering
 pub mod Applies
 pub mod Asking
+pub mod Composing
+pub mod Counted
 pub mod Counts
 pub mod Crashes
 pub mod Damage
@@ -8,6 +10,8 @@ pub mod Deletes
 pub mod Exactly
 pub mod Gets
 pub mod Going
+pub mod Heads
+pub mod Heights
 pub mod Kept
 pub mod KeptMoves
 pub mod Living
@@ -18,6 +22,7 @@ pub mod Moves
 pub mod Opening
 pub mod Opens
 pub mod Puts
+pub mod Ranges
 pub mod Replaying
 pub mod Resting
 pub mod Rising

@@ -6,6 +6,7 @@ pub mod Openings
 pub mod Reads
 pub mod Replays
 pub mod Rounds
+pub mod Runs
 pub mod Shapes
 pub mod Started
 pub mod States

@@ -2,9 +2,10 @@
 use Rattle.std.specs.Prelude.{◌≡◌, ◌≢◌, ◌⊎◌, ◌+◌, ◌-◌, ◌*◌, ◌/◌, ◌<◌, ◌≤◌, ℕ, false, List, ◌∷◌, [], None, Some, length, map, slice_get}
 use Rattle.std.specs.List.{AllByRecursion}
 use Rattle.cs_chunk.specs.Chunks.{IsFrameAt}
-use Rattle.cs_chunk.specs.Reads.{IsOfFault, fault_at}
+use Rattle.cs_chunk.specs.Reads.{IsNoAnswer, IsOfFault, fault_at}
 use Rattle.cs_deps.specs.declared.refusals.Refusal.{Refusal}
 use Rattle.cs_deps.specs.declared.refusals.Refusal.TheVariants.{NotAStore}
+use Rattle.cs_deps.specs.Refusals.{number_of}
 use Rattle.cs_disk.specs.Disk.{Image, page}
 use Rattle.cs_extent.specs.State.{State as ExtentsState, shape}
 use Rattle.cs_frame.specs.declared.frames.FrameKind.TheVariants.{Run}
@@ -120,6 +121,10 @@ pub record IsIndexDamaged (count : ℕ) (view : ℕ → List ℕ) (r : Refusal) 
 abbrev pub IsWhyNotOpened : (count : ℕ) → (view : ℕ → List ℕ) → Refusal → Type 0
 IsWhyNotOpened count view r = IsTooSmall count r ⊎ IsSuperblockDamaged count view r ⊎ IsOtherDevice count view r ⊎ IsRootDamaged count view r
     ⊎ IsRunDamaged count view r ⊎ IsIndexDamaged count view r
+
+-- the refusals of any opening: 1, 9, 20 to 25, and 43
+abbrev pub IsOpeningRefusal : Refusal → Type 0
+IsOpeningRefusal r = IsNoAnswer r ⊎ ((20 ≤ number_of r) × (number_of r ≤ 25)) ⊎ (r ≡ NotAStore)
 
 -- ---- what is read on the way
 

@@ -1,5 +1,6 @@
 -- A store as it is made.
-use Rattle.std.specs.Prelude.{◌≡◌, ◌-◌, ◌*◌, ◌/◌, ℕ, false, List, [], ◌∷◌, None, length, replicate}
+use Rattle.std.specs.Prelude.{All, ◌≡◌, ◌-◌, ◌*◌, ◌/◌, ◌<◌, ◌++◌, ℕ, false, List, [], ◌∷◌, None, length, replicate}
+use Rattle.cs_disk.specs.Disk.{State as DiskState, Write, flushed}
 use Rattle.cs_frame.specs.Roots.{SpellsRoot}
 use Rattle.cs_frame.specs.Superblocks.{SpellsSuperblock}
 use Rattle.cs_core.specs.Stored.{Stored}
@@ -35,3 +36,14 @@ pub record IsNewStore (extents pages : ℕ) (store : Stored) (superblock root : 
   pub made : store ≡ new_stored extents pages
   pub superblock_page : SpellsSuperblock superblock 1 pages (replicate extents (0, 0))
   pub root_page : SpellsRoot root 1 0 []
+
+-- Nothing was written to the disk but superblock and root, on pages 0 and 1, and nothing was flushed.
+pub record IsHeadWritten (old new : DiskState) : Type 0 where
+  pub writes : List Write
+  pub head : All (λ (w : Write). w.0 < 2) writes
+  pub volatile : new.volatile ≡ old.volatile ++ writes
+  pub durable : new.durable ≡ old.durable
+
+-- nothing was written but superblock and root, and then all was flushed
+abbrev pub IsFormatted : (old new : DiskState) → Type 0
+IsFormatted old new = (between : DiskState) × IsHeadWritten old between × (new ≡ flushed between)

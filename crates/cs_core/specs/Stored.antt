@@ -1,6 +1,8 @@
 -- What a store has in memory, and what it keeps whatever its disk does.
-use Rattle.std.specs.Prelude.{◌≡◌, ◌+◌, ◌*◌, ◌^◌, ◌<◌, ◌≤◌, ℕ, Bool, true, List, Option, Some, length}
+use Rattle.std.specs.Prelude.{◌≡◌, ◌+◌, ◌*◌, ◌^◌, ◌<◌, ◌≤◌, ◌++◌, ℕ, Bool, true, List, Option, Some, length}
 use Rattle.cs_deps.specs.declared.elements.Element.{Element as Name}
+use Rattle.cs_deps.specs.Named.{Named}
+use Rattle.cs_deps.specs.Pending.{Pending}
 use Rattle.cs_deps.specs.State.{State as GraphState, Write, write_of}
 use Rattle.cs_extent.specs.Frames.{AreResetsStaged}
 use Rattle.cs_extent.specs.State.{State as ExtentsState, extents_of, shape}
@@ -19,6 +21,7 @@ use Rattle.cs_reclaim.specs.Sweeps.{IsSwept}
 use Rattle.cs_bridge.specs.Rounds.{members_of as members}
 use Rattle.cs_core.specs.declared.roots.Root.{Root}
 
+-- What a core has in memory besides its disk and its history.
 pub record Stored : Type 0 where
   pub graph : GraphState
   pub extents : ExtentsState
@@ -47,11 +50,19 @@ AreWithin pages graph = (x : Name) (w : Write) → write_of graph x ≡ Some w �
 abbrev pub AreInside : Shape → IndexState → Type 0
 AreInside S index = (id : ℕ) (l : Place) → l ∈ live_at (index_of index) id → Inside S l.extent l.page
 
--- the device is as large as before, what goes to it goes to its pages still, and the round that is out is the same
+-- What waits is what waited, and behind it what was staged since; what is persistent is the same.
+pub record StagesBehind (g h : Pending) : Type 0 where
+  pub more : List (Name × Named)
+  pub behind : h.waiting ≡ g.waiting ++ more
+  pub persistent : h.persistent ≡ g.persistent
+
+-- the device is as large as before, what goes to it goes to its pages still, the round that is out is the same, and nothing but
+-- what was staged since waits anew
 pub record KeepsDevice (x : ExtentsState) (g : GraphState) (y : ExtentsState) (h : GraphState) : Type 0 where
   pub same_shape : shape y ≡ shape x
   pub within : AreWithin (page_total (shape x)) g → AreWithin (page_total (shape x)) h
   pub round : h.round ≡ g.round
+  pub behind : StagesBehind g.staging.pending h.staging.pending
 
 -- each extent that is marked may be swept
 abbrev pub AreSwept : ExtentsState → Type 0

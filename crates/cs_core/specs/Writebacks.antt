@@ -8,12 +8,20 @@ use Rattle.cs_deps.specs.State.{IsQueue}
 use Rattle.cs_core.specs.declared.events.Event.{Event}
 use Rattle.cs_core.specs.declared.events.Event.TheVariants.{Begin, Delete, End, Get, Issue, MoveOne, Put, Retire, Settle, Stage}
 use Rattle.cs_core.specs.declared.events.Reply.{Reply}
-use Rattle.cs_core.specs.declared.events.Reply.TheVariants.{Absent, Accepted, Begun, Ended, Issued, NoneLive, Nothing, Refused, Retired, Staged, Unchanged}
-use Rattle.cs_core.specs.Stored.{Stored, members_of}
+use Rattle.cs_core.specs.declared.events.Reply.TheVariants.{Absent, Accepted, Begun, Ended, Issued, Moved, NoneLive, Nothing, Refused, Retired, Staged, Unchanged}
+use Rattle.cs_core.specs.Stored.{StagesBehind, Stored, members_of}
 
 -- the round that is out, and how much of it is issued, are as before
 abbrev pub KeepsRound : (old new : Stored) → Type 0
 KeepsRound old new = (new.out ≡ old.out) × (new.issued ≡ old.issued)
+
+-- nothing was staged, and nothing became persistent
+abbrev pub KeepsStaging : (old new : Stored) → Type 0
+KeepsStaging old new = new.graph.staging ≡ old.graph.staging
+
+-- what was staged waits behind what waited, and nothing became persistent
+abbrev pub Stages : (old new : Stored) → Type 0
+Stages old new = StagesBehind old.graph.staging.pending new.graph.staging.pending
 
 -- a command more was accepted, and it has the number n
 abbrev pub AddsCommand : ℕ → (old new : Stored) → Type 0
@@ -57,17 +65,18 @@ StaysRefused event r old new = new ≡ old
 -- what an event with this reply does
 abbrev pub WritesBack : (old : Stored) → Event → Reply → (new : Stored) → Type 0
 WritesBack old event (Refused r) new = StaysRefused event r old new
-WritesBack old (Put id bytes) (Accepted n) new = AddsCommand n old new × KeepsRound old new
-WritesBack old (Delete id) (Accepted n) new = AddsCommand n old new × KeepsRound old new
+WritesBack old (Put id bytes) (Accepted n) new = AddsCommand n old new × KeepsRound old new × Stages old new
+WritesBack old (Delete id) (Accepted n) new = AddsCommand n old new × KeepsRound old new × KeepsStaging old new
 WritesBack old (Delete id) Absent new = new ≡ old
 WritesBack old (Get id) reply new = new ≡ old
 WritesBack old (Settle n) reply new = new ≡ old
-WritesBack old Stage (Staged v) new = (new.index.table ≡ []) × KeepsRound old new
+WritesBack old Stage (Staged v) new = (new.index.table ≡ []) × KeepsRound old new × Stages old new
 WritesBack old Stage Unchanged new = (old.index.table ≡ []) × (new ≡ old)
 WritesBack old Begin (Begun round) new = IsRoundBegun round old new
 WritesBack old Begin Nothing new = (old.graph.staging.pending.waiting ≡ []) × (old.out ≡ None) × (new ≡ old)
 WritesBack old Issue (Issued x page) new = IsMemberIssued x old new
 WritesBack old End (Ended n) new = IsRoundEnded n old new
+WritesBack old (MoveOne e) (Moved id chunk) new = KeepsRound old new × Stages old new
 WritesBack old (MoveOne e) NoneLive new = new ≡ old
-WritesBack old (Retire e) (Retired v) new = (new.index.table ≡ []) × KeepsRound old new
-WritesBack old event reply new = KeepsRound old new
+WritesBack old (Retire e) (Retired v) new = (new.index.table ≡ []) × KeepsRound old new × Stages old new
+WritesBack old event reply new = KeepsRound old new × KeepsStaging old new

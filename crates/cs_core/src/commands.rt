@@ -7,7 +7,7 @@ ghost use Rattle.cs_model.specs.Index.{live_at, lookup, names};
 ghost use Rattle.cs_model.specs.State.{Accepted, Delete, Put};
 ghost use Rattle.cs_core.specs.Steps.{Answers, deleted_or_not};
 ghost use Rattle.cs_core.specs.Stored.{IsWhyWorn, settled_rooms};
-ghost use Rattle.cs_core.specs.Writebacks.{AddsCommand, KeepsRound};
+ghost use Rattle.cs_core.specs.Writebacks.{AddsCommand, KeepsRound, KeepsStaging, Stages};
 
 use crate::stores::Store;
 use cs_chunk::{put_chunks, put_fits};
@@ -24,6 +24,7 @@ impl Store {
     pub fn put(&mut self, id: ShardId, bytes: &[u8]) -> Result<u64, Refusal>
         ensures adds { IfOk result (λ n. AddsCommand n self.old self.new) }
         ensures round { KeepsRound self.old self.new }
+        ensures behind { OnOk result (Stages self.old self.new) }
         ensures step { self.old.halted ≡ false → Answers self.old (Put (id_number id) bytes.now) (λ n. Accepted n) result self.new }
         ensures refused { OnErr result (settled_rooms self.new ≡ settled_rooms self.old) }
         ensures shape { shape self.new.extents ≡ shape self.old.extents }
@@ -55,6 +56,7 @@ impl Store {
         ensures step { self.old.halted ≡ false → Answers self.old (Delete (id_number id)) deleted_or_not result self.new }
         ensures adds { IfOk result (λ deleted. MatchOption deleted (settled_rooms self.new ≡ settled_rooms self.old) (λ n. AddsCommand n self.old self.new)) }
         ensures round { KeepsRound self.old self.new }
+        ensures staging { KeepsStaging self.old self.new }
         ensures refused { OnErr result (settled_rooms self.new ≡ settled_rooms self.old) }
         ensures shape { shape self.new.extents ≡ shape self.old.extents }
         ensures frontier { self.new.frontier ≡ self.old.frontier }

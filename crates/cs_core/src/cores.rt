@@ -4,15 +4,17 @@
 //! Whenever it stops, in the middle of an event or after one, what the crash leaves on the disk can be opened again, unless memory
 //! or the device refuses. It is then the map after the first n of the commands accepted since, and counts n more than the image did:
 //! n isn't below the frontier, which no acknowledged number exceeds, nor above the number of commands accepted. That the image is such
-//! a one say the clauses `crash` and `left` of `Core::apply`, that it is opened as that `recovers` of `Core::open`.
-ghost use Rattle.std.specs.Prelude.{IfErr, IfOk, IsOk, IsSome, IsTrue, MatchOption, MatchResult, None, OnErr, OnOk, Some, [], length, take, ℕ, ◌*◌, ◌+◌, ◌<◌, ◌^◌, ◌↔◌, ◌≡◌, ◌≢◌, ◌≤◌, ◌⊎◌};
+//! a one say the clauses `crash` and `left` of `Core::apply`, of many calls one after another `a_crash_of_a_run_leaves_a_prefix`; that
+//! it is opened as that says `recovers` of `Core::open`.
+ghost use Rattle.std.specs.Prelude.{All, IfErr, IfOk, IsOk, IsSome, IsTrue, MatchOption, MatchResult, None, OnErr, OnOk, Some, [], length, take, ℕ, ◌*◌, ◌+◌, ◌<◌, ◌^◌, ◌↔◌, ◌≡◌, ◌≢◌, ◌≤◌, ◌⊎◌};
 ghost use Rattle.cs_bridge.specs.Crashes.{IsPrefix};
 ghost use Rattle.cs_chunk.specs.Reads.{IsNoAnswer};
 ghost use Rattle.cs_deps.specs.Chain.{IsChainOf};
 ghost use Rattle.cs_deps.specs.Named.{IsWithin};
+ghost use Rattle.cs_deps.specs.Rounds.{AreRounds};
 ghost use Rattle.cs_deps.specs.Schedule.{Covers, IsFewest, IsSchedule, Respects};
 ghost use Rattle.cs_deps.specs.Staging.{IsKept};
-ghost use Rattle.cs_deps.specs.State.{everything};
+ghost use Rattle.cs_deps.specs.State.{AreCounted, everything};
 ghost use Rattle.cs_deps.specs.View.{pending_of, rounds_of};
 ghost use Rattle.cs_disk.specs.Disk.{Leaves, LeavesOnly, MayLeave, Rises, flushed, page, seen};
 ghost use Rattle.cs_extent.specs.State.{extents_of, shape};
@@ -26,10 +28,10 @@ ghost use Rattle.cs_core.specs.Asked.{AsksDevice};
 ghost use Rattle.cs_model.specs.State.{State};
 ghost use Rattle.cs_reclaim.specs.Sweeps.{IsNotSweepable};
 ghost use Rattle.cs_core.specs.Meanings.{commands_said};
-ghost use Rattle.cs_core.specs.Openings.{IsOpened, IsWhyNotOpened};
+ghost use Rattle.cs_core.specs.Openings.{IsOpened, IsOpeningRefusal, IsWhyNotOpened};
 ghost use Rattle.cs_core.specs.Replays.{replayed};
 ghost use Rattle.cs_core.specs.Shapes.{MayAnswer};
-ghost use Rattle.cs_core.specs.Started.{new_stored};
+ghost use Rattle.cs_core.specs.Started.{IsFormatted, IsHeadWritten, new_stored};
 ghost use Rattle.cs_core.specs.Views.{Applies, IsAsked, IsFound, IsIn};
 ghost use Rattle.cs_core.specs.Writebacks.{WritesBack};
 
@@ -95,6 +97,9 @@ impl<D: PageDisk> Core<D> {
         // What it starts on recovers no command and no shard.
         ensures found { IfOk result (λ core. core.found ≡ (0, 0)) }
         ensures start { IfOk result (λ core. D.honest disk → Recovers (shape core.store.extents) (formats_of (shape core.store.extents)) (page core.opened) 0 (λ id. None)) }
+        // No page but 0 and 1 is written; where it is refused 43 the disk isn't asked for anything.
+        ensures written { D.honest disk → MatchResult result (λ core. IsFormatted (D.state disk) (D.state core.disk)) (λ refused. IsHeadWritten (D.state disk) (D.state refused.1)) }
+        ensures same { D.page_count disk ≢ 2 + geometry.extents * geometry.pages → result ≡ Err (Refusal.NotAStore, disk) }
         ensures pages { IfOk result (λ core. D.page_count core.disk ≡ D.page_count disk) }
         ensures honest { MatchResult result (λ core. D.honest disk ↔ D.honest core.disk) (λ refused. D.honest disk ↔ D.honest refused.1) }
         ensures not_a_store { IfErr result (λ refused. (refused.0 ≡ Refusal.NotAStore) ↔ (D.page_count disk ≢ 2 + geometry.extents * geometry.pages)) }
@@ -141,6 +146,8 @@ impl<D: PageDisk> Core<D> {
             → (let S = shape_of extents pages 1 extents 1 in Recovers S (formats_of S) (page (seen (D.state disk))) n m
             → MatchResult result (λ core. (shape core.store.extents ≡ S) × (core.found.0 ≡ n) × HasCount (λ id. m id ≢ None) core.found.1) (λ refused. IsNoAnswer refused.0)) }
         ensures refusals { IfErr result (λ refused. D.honest disk → IsNoAnswer refused.0 ⊎ IsWhyNotOpened (D.page_count disk) (page (seen (D.state disk))) refused.0) }
+        // Whatever the disk answers: 1, 9, 20 to 25, or 43.
+        ensures number { IfErr result (λ refused. IsOpeningRefusal refused.0) }
         ensures small { D.page_count disk < 10 → result ≡ Err (Refusal.NotAStore, disk) }
         // Nothing but a flush is done to the disk, and a crash within leaves what one before it might have left.
         ensures kept { IfErr result (λ refused. D.honest disk → (D.state refused.1 ≡ D.state disk) ⊎ (D.state refused.1 ≡ flushed (D.state disk))) }
@@ -299,6 +306,9 @@ impl<D: PageDisk> Core<D> {
         ensures fewest { IfOk result (λ plan. IsFewest self.now.store.graph.staging.pending (everything self.now.store.graph.staging) (rounds_of plan)) }
         ensures chain { IfOk result (λ plan. IsChainOf self.now.store.graph.staging.pending (everything self.now.store.graph.staging) plan.chain.items) }
         ensures chain_count { IfOk result (λ plan. length plan.chain.items ≡ length (rounds_of plan)) }
+        // Each round has exactly what is needed at its height, once.
+        ensures rounds { IfOk result (λ plan. AreRounds self.now.store.graph.staging.pending (everything self.now.store.graph.staging) (rounds_of plan)) }
+        ensures no_empty { IfOk result (λ plan. All (λ round. 0 < length round) (rounds_of plan)) }
         ensures in_flight { (result ≡ Err Refusal.InFlight) ↔ IsSome self.now.store.graph.round }
         ensures refusals { IfErr result (λ r. (r ≡ Refusal.InFlight) ⊎ (r ≡ Refusal.OutOfMemory)) }
     {
@@ -314,6 +324,9 @@ impl<D: PageDisk> Core<D> {
         ensures fewest { IfOk result (λ plan. IsFewest self.now.store.graph.staging.pending target.now (rounds_of plan)) }
         ensures chain { IfOk result (λ plan. IsChainOf self.now.store.graph.staging.pending target.now plan.chain.items) }
         ensures chain_count { IfOk result (λ plan. length plan.chain.items ≡ length (rounds_of plan)) }
+        // Each round has exactly what is needed at its height, once.
+        ensures rounds { IfOk result (λ plan. AreRounds self.now.store.graph.staging.pending target.now (rounds_of plan)) }
+        ensures no_empty { IfOk result (λ plan. All (λ round. 0 < length round) (rounds_of plan)) }
         ensures not_staged { (result ≡ Err Refusal.NotStaged) ↔ ¬ IsWithin target.now self.now.store.graph.staging.staged self.now.store.graph.staging.latest }
         ensures in_flight { (result ≡ Err Refusal.InFlight) ↔ (IsWithin target.now self.now.store.graph.staging.staged self.now.store.graph.staging.latest × IsSome self.now.store.graph.round) }
         ensures refusals { IfErr result (λ r. (r ≡ Refusal.NotStaged) ⊎ (r ≡ Refusal.InFlight) ⊎ (r ≡ Refusal.OutOfMemory)) }
@@ -346,6 +359,8 @@ impl<D: PageDisk> Core<D> {
         ensures frontier { result.1 ≡ self.now.store.frontier }
         ensures fits { result.0 < 2 ^ 63 }
         ensures within { D.honest self.now.disk → result.1 ≤ result.0 }
+        // Where the disk is honest the history led to a state of the machine in which disk and store are.
+        ensures legal { D.honest self.now.disk → (s : State) × IsIn D.state self.now s }
     {
         (self.store.accepted(), self.store.frontier())
     }
@@ -374,6 +389,14 @@ impl<D: PageDisk> Core<D> {
             && extents.pointer(extent) > 0
             && !extents.is_open(extent)
             && !extents.is_swept(extent)
+    }
+
+    /// How many page writes are kept in memory; where no round is out, one for each plain write that waits, and at each height
+    /// one for each family of which a version waits there. It takes no memory.
+    pub fn kept_pages(&self) -> usize
+        ensures { self.now.store.out ≡ None → AreCounted self.now.store.graph result }
+    {
+        self.store.kept_pages()
     }
 
     /// The disk, and the events with their replies, the first one first.

@@ -1,7 +1,7 @@
 //! New stores.
-ghost use Rattle.std.specs.Prelude.{◌≡◌, ◌⊎◌, ◌↔◌, ◌≤◌, IfOk, OnOk};
+ghost use Rattle.std.specs.Prelude.{◌≡◌, ◌⊎◌, ◌↔◌, ◌≤◌, IfOk, OnErr, OnOk};
 ghost use Rattle.cs_disk.specs.Disk.{HasCause, flushed, written};
-ghost use Rattle.cs_core.specs.Started.{IsNewStore};
+ghost use Rattle.cs_core.specs.Started.{IsHeadWritten, IsNewStore};
 
 use crate::roots::Root as Noted;
 use crate::stores::Store;
@@ -73,6 +73,7 @@ pub fn write_new<D: PageDisk>(
 ) -> Result<(), DiskFault>
     requires { 2 ≤ D.page_count disk.old }
     ensures written { D.honest disk.old → OnOk result (D.state disk.new ≡ flushed (written (written (D.state disk.old) 0 superblock.now) 1 root.now)) }
+    ensures failed { D.honest disk.old → OnErr result (IsHeadWritten (D.state disk.old) (D.state disk.new)) }
     ensures honest { D.honest disk.old ↔ D.honest disk.new }
     ensures pages { D.page_count disk.new ≡ D.page_count disk.old }
     ensures cause { HasCause (D.failure_count disk.old) (D.failure_count disk.new) result }

@@ -11,7 +11,7 @@ ghost use Rattle.cs_image.specs.Reads.{AreLocated, extents_at};
 ghost use Rattle.cs_index.specs.Sorted.{live_entry};
 ghost use Rattle.cs_index.specs.State.{index_of, newest_first};
 ghost use Rattle.cs_model.specs.Index.{entries_of, live_at, names};
-ghost use Rattle.cs_core.specs.Openings.{opened_stored};
+ghost use Rattle.cs_core.specs.Openings.{IsOpeningRefusal, opened_stored};
 
 use crate::roots::Root as Noted;
 use crate::runs::are_located;
@@ -73,6 +73,7 @@ pub fn load_store(
     ensures live { IfOk result (λ found. HasCount (λ id. live_at (entries_of (newest_first runs.items)) id ≢ []) found.live) }
     ensures located { OnOk result (AreLocated extents runs.items) }
     ensures named { OnOk result (names (entries_of (newest_first runs.items)) ≤ (shape extents).most_names) }
+    ensures number { IfErr result IsOpeningRefusal }
     ensures why { IfErr result (λ r. (r ≡ Refusal.OutOfMemory) ⊎ ((r ≡ Refusal.NotAStore) × ((¬ AreLocated extents runs.items) ⊎ ((shape extents).most_names < names (entries_of (newest_first runs.items)))))) }
 {
     if !are_located(&extents, &runs) {

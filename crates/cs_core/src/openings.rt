@@ -4,7 +4,7 @@ ghost use Rattle.cs_chunk.specs.Reads.{AnswersFault, IsCaused, IsNoAnswer, IsOfF
 ghost use Rattle.cs_disk.specs.Disk.{LeavesOnly, MayLeave, flushed, page, seen};
 ghost use Rattle.cs_frame.specs.Roots.{SpellsRoot, root_fault};
 ghost use Rattle.cs_frame.specs.Superblocks.{SpellsSuperblock, superblock_fault};
-ghost use Rattle.cs_core.specs.Openings.{IsStoreMade, IsWhyNotOpened};
+ghost use Rattle.cs_core.specs.Openings.{IsOpeningRefusal, IsStoreMade, IsWhyNotOpened};
 
 use crate::loads::{OpenedStore, load_store};
 use crate::runs::read_runs;
@@ -19,6 +19,7 @@ use std::alloc::Global;
 fn decoded_superblock(alloc: Global, page: &[u8; 4096]) -> Result<Superblock, Refusal>
     ensures spelled { IfOk result (λ it. SpellsSuperblock page.now it.version it.pages it.extents.items) }
     ensures fault { IfErr result (λ r. (r ≡ Refusal.OutOfMemory) ⊎ IsOfFault (superblock_fault page.now) r) }
+    ensures number { IfErr result IsOpeningRefusal }
 {
     match decode_superblock(alloc, page) {
         Ok(superblock) => Ok(superblock),
@@ -32,6 +33,7 @@ fn read_superblock<D: PageDisk>(alloc: Global, disk: &mut D) -> Result<Superbloc
     ensures read { D.honest disk.old → IfOk result (λ it. SpellsSuperblock (page (seen (D.state disk.old)) 0) it.version it.pages it.extents.items) }
     ensures some { IfOk result (λ it. (bytes : List ℕ) × SpellsSuperblock bytes it.version it.pages it.extents.items) }
     ensures fault { D.honest disk.old → IfErr result (λ r. IsNoAnswer r ⊎ IsOfFault (superblock_fault (page (seen (D.state disk.old)) 0)) r) }
+    ensures number { IfErr result IsOpeningRefusal }
     ensures disk { OnlyReads D.honest D.state D.page_count D.failure_count D.moment D.left_since disk.old disk.new }
     ensures cause { IsCaused (D.failure_count disk.old) (D.failure_count disk.new) result }
 {
@@ -46,6 +48,7 @@ fn read_superblock<D: PageDisk>(alloc: Global, disk: &mut D) -> Result<Superbloc
 fn decoded_root(alloc: Global, page: &[u8; 4096]) -> Result<Root, Refusal>
     ensures spelled { IfOk result (λ it. SpellsRoot page.now it.version it.commands it.runs.items) }
     ensures fault { IfErr result (λ r. (r ≡ Refusal.OutOfMemory) ⊎ IsOfFault (root_fault page.now) r) }
+    ensures number { IfErr result IsOpeningRefusal }
 {
     match decode_root(alloc, page) {
         Ok(root) => Ok(root),
@@ -59,6 +62,7 @@ fn read_root<D: PageDisk>(alloc: Global, disk: &mut D) -> Result<Root, Refusal>
     ensures read { D.honest disk.old → IfOk result (λ it. SpellsRoot (page (seen (D.state disk.old)) 1) it.version it.commands it.runs.items) }
     ensures some { IfOk result (λ it. (bytes : List ℕ) × SpellsRoot bytes it.version it.commands it.runs.items) }
     ensures fault { D.honest disk.old → IfErr result (λ r. IsNoAnswer r ⊎ IsOfFault (root_fault (page (seen (D.state disk.old)) 1)) r) }
+    ensures number { IfErr result IsOpeningRefusal }
     ensures disk { OnlyReads D.honest D.state D.page_count D.failure_count D.moment D.left_since disk.old disk.new }
     ensures cause { IsCaused (D.failure_count disk.old) (D.failure_count disk.new) result }
 {
@@ -91,6 +95,7 @@ fn read_index<D: PageDisk>(
     requires root { D.honest disk.old → SpellsRoot (page (seen (D.state disk.old)) 1) root.now.version root.now.commands root.now.runs.items }
     ensures made { IfOk result (λ found. IsStoreMade (D.honest disk.old) (page (seen (D.state disk.old))) superblock.now.version superblock.now.pages superblock.now.extents.items found.commands found.live found.store) }
     ensures why { D.honest disk.old → IfErr result (λ r. IsNoAnswer r ⊎ IsWhyNotOpened (D.page_count disk.old) (page (seen (D.state disk.old))) r) }
+    ensures number { IfErr result IsOpeningRefusal }
     ensures disk { OnlyReads D.honest D.state D.page_count D.failure_count D.moment D.left_since disk.old disk.new }
     ensures cause { IsCaused (D.failure_count disk.old) (D.failure_count disk.new) result }
 {
@@ -113,6 +118,7 @@ fn read_rest<D: PageDisk>(
     requires superblock { D.honest disk.old → SpellsSuperblock (page (seen (D.state disk.old)) 0) superblock.now.version superblock.now.pages superblock.now.extents.items }
     ensures made { IfOk result (λ found. IsStoreMade (D.honest disk.old) (page (seen (D.state disk.old))) superblock.now.version superblock.now.pages superblock.now.extents.items found.commands found.live found.store) }
     ensures why { D.honest disk.old → IfErr result (λ r. IsNoAnswer r ⊎ IsWhyNotOpened (D.page_count disk.old) (page (seen (D.state disk.old))) r) }
+    ensures number { IfErr result IsOpeningRefusal }
     ensures disk { OnlyReads D.honest D.state D.page_count D.failure_count D.moment D.left_since disk.old disk.new }
     ensures cause { IsCaused (D.failure_count disk.old) (D.failure_count disk.new) result }
 {
@@ -128,6 +134,7 @@ fn read_store<D: PageDisk>(alloc: Global, disk: &mut D) -> Result<OpenedStore, R
     ensures made { IfOk result (λ found. (version : ℕ) × (pages : ℕ) × (written : List (ℕ × ℕ)) × (D.page_count disk.old ≡ 2 + length written * pages)
         × IsStoreMade (D.honest disk.old) (page (seen (D.state disk.old))) version pages written found.commands found.live found.store) }
     ensures why { D.honest disk.old → IfErr result (λ r. IsNoAnswer r ⊎ IsWhyNotOpened (D.page_count disk.old) (page (seen (D.state disk.old))) r) }
+    ensures number { IfErr result IsOpeningRefusal }
     ensures disk { OnlyReads D.honest D.state D.page_count D.failure_count D.moment D.left_since disk.old disk.new }
     ensures cause { IsCaused (D.failure_count disk.old) (D.failure_count disk.new) result }
 {
@@ -147,6 +154,7 @@ pub fn open_store<D: PageDisk>(alloc: Global, disk: &mut D) -> Result<OpenedStor
     ensures made { IfOk result (λ found. (version : ℕ) × (pages : ℕ) × (written : List (ℕ × ℕ)) × (D.page_count disk.old ≡ 2 + length written * pages)
         × IsStoreMade (D.honest disk.old) (page (seen (D.state disk.old))) version pages written found.commands found.live found.store) }
     ensures why { D.honest disk.old → IfErr result (λ r. IsNoAnswer r ⊎ IsWhyNotOpened (D.page_count disk.old) (page (seen (D.state disk.old))) r) }
+    ensures number { IfErr result IsOpeningRefusal }
     ensures state { D.honest disk.old → MatchResult result (λ _. D.state disk.new ≡ flushed (D.state disk.old)) (λ _. (D.state disk.new ≡ D.state disk.old) ⊎ (D.state disk.new ≡ flushed (D.state disk.old))) }
     ensures crash { D.honest disk.old → LeavesOnly D.moment D.left_since disk.old disk.new (MayLeave (D.state disk.old)) }
     ensures honest { D.honest disk.old ↔ D.honest disk.new }

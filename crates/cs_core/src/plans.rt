@@ -1,7 +1,8 @@
 //! Plans of a store.
-ghost use Rattle.std.specs.Prelude.{◌≡◌, ◌⊎◌, ◌↔◌, IfErr, IfOk, IsSome, length};
+ghost use Rattle.std.specs.Prelude.{All, ◌≡◌, ◌<◌, ◌⊎◌, ◌↔◌, IfErr, IfOk, IsSome, length};
 ghost use Rattle.cs_deps.specs.Chain.{IsChainOf};
 ghost use Rattle.cs_deps.specs.Named.{IsWithin};
+ghost use Rattle.cs_deps.specs.Rounds.{AreRounds};
 ghost use Rattle.cs_deps.specs.Schedule.{Covers, IsFewest, IsSchedule, Respects};
 ghost use Rattle.cs_deps.specs.Staging.{IsKept};
 ghost use Rattle.cs_deps.specs.State.{everything};
@@ -23,6 +24,8 @@ impl Store {
         ensures fewest { IfOk result (λ plan. IsFewest self.now.graph.staging.pending (everything self.now.graph.staging) (rounds_of plan)) }
         ensures chain { IfOk result (λ plan. IsChainOf self.now.graph.staging.pending (everything self.now.graph.staging) plan.chain.items) }
         ensures chain_count { IfOk result (λ plan. length plan.chain.items ≡ length (rounds_of plan)) }
+        ensures rounds { IfOk result (λ plan. AreRounds self.now.graph.staging.pending (everything self.now.graph.staging) (rounds_of plan)) }
+        ensures no_empty { IfOk result (λ plan. All (λ round. 0 < length round) (rounds_of plan)) }
         ensures in_flight { (result ≡ Err Refusal.InFlight) ↔ IsSome self.now.graph.round }
         ensures refusals { IfErr result (λ r. (r ≡ Refusal.InFlight) ⊎ (r ≡ Refusal.OutOfMemory)) }
     {
@@ -40,6 +43,8 @@ impl Store {
         ensures fewest { IfOk result (λ plan. IsFewest self.now.graph.staging.pending target.now (rounds_of plan)) }
         ensures chain { IfOk result (λ plan. IsChainOf self.now.graph.staging.pending target.now plan.chain.items) }
         ensures chain_count { IfOk result (λ plan. length plan.chain.items ≡ length (rounds_of plan)) }
+        ensures rounds { IfOk result (λ plan. AreRounds self.now.graph.staging.pending target.now (rounds_of plan)) }
+        ensures no_empty { IfOk result (λ plan. All (λ round. 0 < length round) (rounds_of plan)) }
         ensures not_staged { (result ≡ Err Refusal.NotStaged) ↔ ¬ IsWithin target.now self.now.graph.staging.staged self.now.graph.staging.latest }
         ensures in_flight { (result ≡ Err Refusal.InFlight) ↔ (IsWithin target.now self.now.graph.staging.staged self.now.graph.staging.latest × IsSome self.now.graph.round) }
         ensures refusals { IfErr result (λ r. (r ≡ Refusal.NotStaged) ⊎ (r ≡ Refusal.InFlight) ⊎ (r ≡ Refusal.OutOfMemory)) }

@@ -7,7 +7,7 @@ ghost use Rattle.cs_disk.specs.Disk.{page, seen};
 ghost use Rattle.cs_extent.specs.State.{shape};
 ghost use Rattle.cs_frame.specs.Runs.{IsRun, SpellsRun, entries_of, run_fault};
 ghost use Rattle.cs_image.specs.Reads.{AreLocated, IsLocated, IsRunRead};
-ghost use Rattle.cs_core.specs.Openings.{IsWhyNoRuns, IsWhyNotRead};
+ghost use Rattle.cs_core.specs.Openings.{IsOpeningRefusal, IsWhyNoRuns, IsWhyNotRead};
 
 use cs_chunk::{read_frame, refusal_of_fault};
 use cs_deps::{Graph, Refusal};
@@ -72,6 +72,7 @@ fn decoded_run(alloc: Global, place: Locator, payload: &[u8]) -> Result<StoredRu
     ensures place { IfOk result (λ run. run.place ≡ place) }
     ensures run { IfOk result (λ run. IsRun (record { entries = run.entries })) }
     ensures fault { IfErr result (λ r. (r ≡ Refusal.OutOfMemory) ⊎ IsOfFault (run_fault payload.now) r) }
+    ensures number { IfErr result IsOpeningRefusal }
 {
     match decode_run(alloc, payload) {
         Ok(run) => Ok(StoredRun {
@@ -96,6 +97,7 @@ fn read_run<D: PageDisk>(
     ensures place { IfOk result (λ run. run.place ≡ place) }
     ensures run { IfOk result (λ run. IsRun (record { entries = run.entries })) }
     ensures why { D.honest disk.old → IfErr result (λ r. IsNoAnswer r ⊎ IsWhyNotRead extents.now (page (seen (D.state disk.old))) place r) }
+    ensures number { IfErr result IsOpeningRefusal }
     ensures disk { OnlyReads D.honest D.state D.page_count D.failure_count D.moment D.left_since disk.old disk.new }
     ensures cause { IsCaused (D.failure_count disk.old) (D.failure_count disk.new) result }
 {
@@ -124,6 +126,7 @@ pub fn read_runs<D: PageDisk>(
     ensures runs { IfOk result (λ runs. AllByRecursion (λ run. IsRun (record { entries = run.entries })) runs.items) }
     ensures count { IfOk result (λ runs. length runs.items ≡ length places.now) }
     ensures why { D.honest disk.old → IfErr result (λ r. IsNoAnswer r ⊎ IsWhyNoRuns extents.now (page (seen (D.state disk.old))) places.now r) }
+    ensures number { IfErr result IsOpeningRefusal }
     ensures disk { OnlyReads D.honest D.state D.page_count D.failure_count D.moment D.left_since disk.old disk.new }
     ensures cause { IsCaused (D.failure_count disk.old) (D.failure_count disk.new) result }
 {

@@ -1,10 +1,10 @@
 //! Runs and roots.
-ghost use Rattle.std.specs.Prelude.{◌≡◌, ◌≢◌, ◌+◌, ◌∷◌, ◌++◌, [], IfErr, IfOk, MatchOption, OnErr, false};
+ghost use Rattle.std.specs.Prelude.{◌≡◌, ◌≢◌, ◌+◌, ◌∷◌, ◌++◌, [], IfErr, IfOk, MatchOption, OnErr, OnOk, false};
 ghost use Rattle.cs_extent.specs.State.{shape};
 ghost use Rattle.cs_model.specs.State.{Stage};
 ghost use Rattle.cs_core.specs.Steps.{Answers, staged_or_not};
 ghost use Rattle.cs_core.specs.Stored.{settled_rooms};
-ghost use Rattle.cs_core.specs.Writebacks.{KeepsRound};
+ghost use Rattle.cs_core.specs.Writebacks.{KeepsRound, Stages};
 
 use crate::roots::Root;
 use crate::stores::Store;
@@ -19,6 +19,7 @@ impl Store {
         ensures step { self.old.halted ≡ false → Answers self.old Stage staged_or_not result self.new }
         ensures staged { IfOk result (λ staged. MatchOption staged ((self.old.index.table ≡ []) × (settled_rooms self.new ≡ settled_rooms self.old)) (λ v. self.new.index.table ≡ [])) }
         ensures round { KeepsRound self.old self.new }
+        ensures behind { OnOk result (Stages self.old self.new) }
         ensures refused { OnErr result (settled_rooms self.new ≡ settled_rooms self.old) }
         ensures shape { shape self.new.extents ≡ shape self.old.extents }
         ensures frontier { self.new.frontier ≡ self.old.frontier }

@@ -1,5 +1,6 @@
 //! A store without its disk: extents, the graph of what waits, the index, and how far the round that is out has come.
 ghost use Rattle.std.specs.Prelude.{◌≡◌, ◌+◌, ◌^◌, ◌<◌, ◌≤◌, ◌⊎◌, ◌↔◌, MatchBool, MatchOption, None, Some};
+ghost use Rattle.cs_deps.specs.State.{AreCounted};
 ghost use Rattle.cs_extent.specs.State.{IsWhole, shape};
 ghost use Rattle.cs_index.specs.State.{id_number, index_of};
 ghost use Rattle.cs_model.specs.Index.{live_at, lookup, names};
@@ -74,6 +75,13 @@ impl Store {
             Some(round) => Some((round.as_slice(), self.issued)),
             None => None,
         }
+    }
+
+    /// How many page writes are kept.
+    pub fn kept_pages(&self) -> usize
+        ensures { self.now.out ≡ None → AreCounted self.now.graph result }
+    {
+        self.graph.kept_pages()
     }
 
     /// How many extents there are. Its contract tells what all stores keep of them.

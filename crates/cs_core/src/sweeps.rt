@@ -7,7 +7,7 @@ ghost use Rattle.cs_model.specs.State.{Abandon, Abandoned, BeginSweep, Retire, R
 ghost use Rattle.cs_core.specs.Reads.{MoveAnswers};
 ghost use Rattle.cs_core.specs.Steps.{Answers};
 ghost use Rattle.cs_core.specs.Stored.{page_total, settled_rooms};
-ghost use Rattle.cs_core.specs.Writebacks.{KeepsRound};
+ghost use Rattle.cs_core.specs.Writebacks.{KeepsRound, KeepsStaging, Stages};
 
 use crate::roots::Root;
 use crate::stores::Store;
@@ -21,6 +21,7 @@ impl Store {
     pub fn begin_sweep(&mut self, extent: usize) -> Result<(), Refusal>
         ensures step { self.old.halted ≡ false → Answers self.old (BeginSweep extent) (λ _. Sweeping) result self.new }
         ensures round { KeepsRound self.old self.new }
+        ensures staging { KeepsStaging self.old self.new }
         ensures refused { OnErr result (settled_rooms self.new ≡ settled_rooms self.old) }
         ensures shape { shape self.new.extents ≡ shape self.old.extents }
         ensures frontier { self.new.frontier ≡ self.old.frontier }
@@ -39,6 +40,7 @@ impl Store {
     pub fn abandon(&mut self, extent: usize) -> Result<(), Refusal>
         ensures step { self.old.halted ≡ false → Answers self.old (Abandon extent) (λ _. Abandoned) result self.new }
         ensures round { KeepsRound self.old self.new }
+        ensures staging { KeepsStaging self.old self.new }
         ensures refused { OnErr result (settled_rooms self.new ≡ settled_rooms self.old) }
         ensures shape { shape self.new.extents ≡ shape self.old.extents }
         ensures frontier { self.new.frontier ≡ self.old.frontier }
@@ -61,6 +63,7 @@ impl Store {
         ensures staged { OnOk result (self.new.index.table ≡ []) }
         ensures step { self.old.halted ≡ false → Answers self.old (Retire extent) (λ v. Retired v) result self.new }
         ensures round { KeepsRound self.old self.new }
+        ensures behind { OnOk result (Stages self.old self.new) }
         ensures refused { OnErr result (settled_rooms self.new ≡ settled_rooms self.old) }
         ensures shape { shape self.new.extents ≡ shape self.old.extents }
         ensures frontier { self.new.frontier ≡ self.old.frontier }
@@ -105,6 +108,7 @@ impl Store {
         ensures none { result ≡ Ok None → settled_rooms self.new ≡ settled_rooms self.old }
         ensures step { self.old.halted ≡ false → D.honest disk.old → MoveAnswers self.old (D.state disk.old) extent result self.new }
         ensures round { KeepsRound self.old self.new }
+        ensures behind { OnOk result (Stages self.old self.new) }
         ensures refused { OnErr result (settled_rooms self.new ≡ settled_rooms self.old) }
         ensures shape { shape self.new.extents ≡ shape self.old.extents }
         ensures frontier { self.new.frontier ≡ self.old.frontier }

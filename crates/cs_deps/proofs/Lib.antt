@@ -34,3 +34,4 @@ pub mod Filed
 pub mod FiledSteps
 pub mod Newest
 pub mod Counted
+pub mod Marking

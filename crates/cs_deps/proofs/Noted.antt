@@ -1,11 +1,10 @@
 -- The newest plain write of each page, as records come and go.
-use Rattle.std.proofs.Common.{◌≡◌, ◌∙◌, ◌≢◌, ℕ, ◌+◌, ◌<◌, ◌≤◌, ◌⊎◌, Bool, true, false, List, [], length, get_or, Option, Some, None, refl, sym, ap, subst, inl, inr, ⊎_elim, arith}
-use Rattle.std.specs.Prelude.{MatchOption, ◌==◌, if◌then◌else◌}
+use Rattle.std.proofs.Common.{◌≡◌, ◌∙◌, ◌≢◌, ℕ, ◌+◌, ◌<◌, ◌≤◌, true, false, [], length, get_or, Option, Some, None, refl, sym, ap, subst, ⊎_elim, arith}
+use Rattle.std.specs.Prelude.{◌==◌, if◌then◌else◌}
 use Rattle.std.proofs.lemmas.Bool.Decides.{nat_tests}
 use Rattle.std.proofs.lemmas.Option.{same_Some}
 use Rattle.slab.specs.Slab.{Slab, get, Updates}
-use Rattle.cs_deps.specs.declared.elements.Element.{Element}
-use Rattle.cs_deps.specs.declared.elements.Element.TheVariants.{Plain, Version}
+use Rattle.cs_deps.specs.declared.elements.Element.TheVariants.{Plain}
 use Rattle.cs_deps.specs.declared.levels.Kept.{Kept}
 use Rattle.cs_deps.specs.declared.levels.Levels.{Levels}
 use Rattle.cs_deps.specs.declared.records.Record.{Record}

@@ -34,6 +34,7 @@ abbrev pub level_of : Option Kept → ℕ
 level_of None = 0
 level_of (Some k) = k.level
 
+-- the level of an element, 0 where nothing is kept of it
 abbrev pub level_by : Levels → Element → ℕ
 level_by l x = level_of (kept_by l x)
 
@@ -149,6 +150,7 @@ abbrev pub top_of : Option Kept → ℕ
 top_of None = 0
 top_of (Some k) = k.top
 
+-- the least plain write of the greatest level so far, 0 where nothing is kept
 abbrev pub least_of : Option Kept → ℕ
 least_of None = 0
 least_of (Some k) = k.least

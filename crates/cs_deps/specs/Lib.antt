@@ -14,3 +14,4 @@ pub mod Trimmed
 pub mod Newest
 pub mod Spent
 pub mod Records
+pub mod Wanted

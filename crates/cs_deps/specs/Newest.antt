@@ -1,7 +1,6 @@
 -- Of each page the newest plain write of which a record is kept.
 use Rattle.std.specs.Prelude.{◌≡◌, ℕ, ◌≤◌, ◌<◌, ◌≢◌, Option, Some, None, MatchOption}
 use Rattle.slab.specs.Slab.{Slab, get}
-use Rattle.cs_deps.specs.declared.elements.Element.{Element}
 use Rattle.cs_deps.specs.declared.elements.Element.TheVariants.{Plain}
 use Rattle.cs_deps.specs.declared.levels.Kept.{Kept}
 use Rattle.cs_deps.specs.declared.levels.Levels.{Levels}

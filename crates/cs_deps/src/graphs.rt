@@ -6,6 +6,7 @@ ghost use Rattle.cs_deps.specs.Staging.{IsSatisfied, staged_after, IsVersionStag
 ghost use Rattle.cs_deps.specs.View.{pending_of};
 ghost use Rattle.cs_deps.specs.Chain.{IsHeight};
 ghost use Rattle.cs_deps.specs.Pending.{Waits, WaitsAt, Needs, IsPersistent};
+ghost use Rattle.cs_deps.specs.Wanted.{AreWanted};
 ghost use Rattle.cs_deps.specs.State.{State, write_of, after, everything, IsNewestOn, IsOut, IsQueue, IsWhole, KeepsBytes, KeepsOthers, AddsNone, AreCounted, NoneOn};
 
 use crate::dependencies::Dependency;
@@ -19,6 +20,8 @@ use crate::rows::{add_plains, add_versions};
 use crate::spent::fold_all;
 use crate::views::GraphView;
 use crate::waiting::{copy_all, elements_of, keep_entries, names_one, needs_of};
+use crate::wanted::Wanted;
+use crate::wanting::wanted_of;
 use slab::Slab;
 use std::alloc::{AllocError, Global};
 use std::collections::HashMap;
@@ -262,6 +265,17 @@ impl Graph {
     {
         let alloc = *self.persistent.allocator();
         needs_of(alloc, &self.entries, &self.persistent, element)
+    }
+
+    /// What a target needs of what waits: of the waiting elements those that it names, and again and again what they need. What
+    /// else it names isn't said. It goes through what waits, the last first, and once more for each family.
+    pub fn wanted(&self, target: &Dependency) -> Result<Wanted, AllocError>
+        ensures { IfOk result (λ d. AreWanted self.now.staging.pending target.now d) }
+    {
+        let alloc = *self.persistent.allocator();
+        let count = self.levels.plains.len();
+        let target = Wanted::new(alloc, self.levels.dropped, count, target)?;
+        wanted_of(alloc, &self.entries, &self.persistent, target)
     }
 
     /// The bytes of an element's page write, as they were staged. It takes no memory and seeks nothing.

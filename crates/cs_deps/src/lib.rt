@@ -13,11 +13,11 @@ mod refusals;
 mod rounds;
 mod rows;
 mod spent;
-#[cfg(test)]
-mod tests;
 mod trimming;
 mod views;
 mod waiting;
+mod wanted;
+mod wanting;
 
 pub use dependencies::Dependency;
 pub use elements::Element;
@@ -29,3 +29,4 @@ pub use laws::{
 pub use refusals::Refusal;
 pub use views::{GraphView, Plan};
 pub use waiting::find;
+pub use wanted::Wanted;

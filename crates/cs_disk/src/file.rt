@@ -2,21 +2,31 @@
 ghost use Rattle.std.specs.Prelude.{◌≡◌, ◌<◌, ◌^◌, ◌↔◌, [], IsOk, IfOk, IsOkUnless};
 ghost use Rattle.cs_disk.specs.Disk.{HasCause};
 
+use crate::unflushed::Unflushed;
 use crate::{CrashDisk, DiskFault, OpenFault, PageDisk};
+use std::alloc::Global;
 use std::fs::File;
 use std::io;
 use std::os::unix::fs::FileExt;
 use std::rt::Files;
 
 /// A disk in a file, page 0 first. No clause can say what a file holds, so nothing says that it is honest: what is
-/// proved of an honest disk holds of it on the premise that the operating system keeps to the model, `sync_all` being
-/// the flush. No crash of it can be tried out.
+/// proved of an honest disk is carried over to it by an argument outside the contracts, with the premise that the operating system keeps to the model, `sync_data` being
+/// the flush of a file whose length doesn't change. No crash of it can be tried out.
 ///
-/// A call of the operating system that fails is 1 DeviceFault, and counted; it never answers 9 OutOfMemory. A read and
-/// a write are of one page at its place, a flush is one `sync_all`.
+/// A write stays in memory up to the next flush, so it may be refused 9 OutOfMemory; what was never flushed is lost with the
+/// value, as after a crash. A flush writes what was kept, in the order of the pages and adjacent ones in one call where they came
+/// in that order, and makes one `sync_data`. Where one of these calls fails, all of it is kept, and the next flush writes it again.
+/// A read is of one page: the last write to it that is kept, else what the file has there.
+///
+/// A call of the operating system that fails is 1 DeviceFault, and counted.
+///
+/// The file is locked for as long as the value lives, so that one process at a time uses it. The lock binds those that ask for it, as
+/// this type does.
 #[derive(Drop)]
 pub struct FileDisk {
     file: File,
+    unflushed: Unflushed,
     pages: u64,
     failures: u64,
     ghost small: { pages < 2 ^ 52 },
@@ -28,8 +38,9 @@ impl FileDisk {
     // A body that always refuses, or opens another file, would be proved too: no clause can say what the operating
     // system answers. A test opens a file that is there.
     /// Opens a file that is there, with as many pages as its length has. Refused 1 DeviceFault where the operating
-    /// system refuses it, and 6 OddLength where its length is no multiple of 4,096 bytes.
-    pub fn open<R: Files<File = File>>(rt: &R, path: &str) -> Result<Self, OpenFault>
+    /// system refuses it, as where there is none, where it is a folder or may not be written, and where another process has
+    /// it open as a disk; and 6 OddLength where its length is no multiple of 4,096 bytes.
+    pub fn open<R: Files<File = File>>(rt: &R, alloc: Global, path: &str) -> Result<Self, OpenFault>
         ensures pages { IfOk result (λ d. file_pages d < 2 ^ 52) }
         ensures failures { IfOk result (λ d. file_failures d ≡ 0) }
     {
@@ -41,26 +52,33 @@ impl FileDisk {
         }
         Ok(FileDisk {
             file,
+            unflushed: Unflushed::new(alloc),
             pages: length / 4096,
             failures: 0,
         })
     }
 
     // As at `open`, a test shows that it makes the file that is named.
-    /// Makes a file of so many pages of zeros, and syncs it and its folder. One that is there is emptied. Refused
-    /// 1 DeviceFault alone, also where so many pages are more than a file can have; a file may be there then, of any
-    /// length.
-    pub fn create<R: Files<File = File>>(rt: &R, path: &str, pages: u64) -> Result<Self, OpenFault>
+    /// Makes a file of so many pages of zeros, writes all of it, and syncs it and its folder. One that is there is emptied, but
+    /// not while another process has it open as a disk. Refused 1 DeviceFault alone, also where so many pages are more than a
+    /// file can have, and where the device hasn't room for them; a file may be there then, of any length.
+    pub fn create<R: Files<File = File>>(
+        rt: &R,
+        alloc: Global,
+        path: &str,
+        pages: u64,
+    ) -> Result<Self, OpenFault>
         ensures pages { IfOk result (λ d. file_pages d ≡ pages) }
         ensures failures { IfOk result (λ d. file_failures d ≡ 0) }
         ensures fault { IsOkUnless result OpenFault.DeviceFault }
     {
-        let Some(length) = pages.checked_mul(4096) else {
+        if pages.checked_mul(4096).is_none() {
             return Err(OpenFault::DeviceFault);
-        };
-        match file_of_zeros(rt, path, length) {
+        }
+        match file_of_zeros(rt, path, pages) {
             Ok(file) => Ok(FileDisk {
                 file,
+                unflushed: Unflushed::new(alloc),
                 pages,
                 failures: 0,
             }),
@@ -69,23 +87,50 @@ impl FileDisk {
     }
 }
 
-// Of this function and the next two no clause can say more than their types do; a test calls them.
-/// A file that is there, and its length in bytes.
+impl FileDisk {
+    /// Writes to the file what is kept, and syncs it.
+    fn write_out(&mut self) -> io::Result<()>
+        ensures pages { self.new.pages ≡ self.old.pages }
+        ensures failures { self.new.failures ≡ self.old.failures }
+    {
+        self.unflushed.write_to(&self.file)?;
+        self.file.sync_data()
+    }
+}
+
+// Of this function and the next three no clause can say more than their types do; a test calls them.
+/// A file that is there, locked, and its length in bytes.
 fn existing<R: Files<File = File>>(rt: &R, path: &str) -> io::Result<(File, u64)> {
     let file = File::options().read(true).write(true).open(rt, path)?;
+    file.try_lock()?;
     let length = file.metadata()?.len();
     Ok((file, length))
 }
 
-/// A new or emptied file of so many bytes of zeros. Its folder is synced too, so that a crash leaves its name there.
-fn file_of_zeros<R: Files<File = File>>(rt: &R, path: &str, length: u64) -> io::Result<File> {
+/// A new or emptied file of so many pages of zeros, locked. It is written full, so that no later flush has to find room for it, and
+/// its folder is synced too, so that a crash leaves its name there.
+fn file_of_zeros<R: Files<File = File>>(rt: &R, path: &str, pages: u64) -> io::Result<File> {
     let mut options = File::options();
-    options.read(true).write(true).create(true).truncate(true);
+    options.read(true).write(true).create(true);
     let file = options.open(rt, path)?;
-    file.set_len(length)?;
+    file.try_lock()?;
+    file.set_len(0)?;
+    fill(&file, pages)?;
     file.sync_all()?;
     folder_of(rt, path)?.sync_all()?;
     Ok(file)
+}
+
+/// Writes so many pages of zeros, 64 in a call.
+fn fill(file: &File, pages: u64) -> io::Result<()> {
+    let zeros = [0; 64 * 4096];
+    for group in 0..pages / 64 {
+        file.write_all_at(&zeros, group.saturating_mul(64 * 4096))?;
+    }
+    for page in pages - pages % 64..pages {
+        file.write_all_at(&zeros[..4096], page.saturating_mul(4096))?;
+    }
+    Ok(())
 }
 
 /// The folder that a file stands in.
@@ -133,17 +178,25 @@ impl PageDisk for FileDisk {
     // The body `Ok(())` would be proved here, in `write` and in `flush`, since nothing says that the disk is honest, nor
     // that a call of the operating system fails. A test reads back what was written.
     fn read(&mut self, number: u64, buffer: &mut [u8; 4096]) -> Result<(), DiskFault> {
-        let answer = self.file.read_exact_at(buffer, number * 4096);
+        let offset = number * 4096;
+        if let Some(bytes) = self.unflushed.newest(offset) {
+            *buffer = *bytes;
+            return Ok(());
+        }
+        let answer = self.file.read_exact_at(buffer, offset);
         counted(&mut self.failures, answer)
     }
 
     fn write(&mut self, number: u64, bytes: &[u8; 4096]) -> Result<(), DiskFault> {
-        let answer = self.file.write_all_at(bytes, number * 4096);
-        counted(&mut self.failures, answer)
+        self.unflushed.keep(number * 4096, bytes)?;
+        Ok(())
     }
 
     fn flush(&mut self) -> Result<(), DiskFault> {
-        let answer = self.file.sync_all();
+        let answer = self.write_out();
+        if answer.is_ok() {
+            self.unflushed.clear();
+        }
         counted(&mut self.failures, answer)
     }
 

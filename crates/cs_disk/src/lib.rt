@@ -9,6 +9,7 @@ mod fault;
 mod file;
 mod memory;
 mod past;
+mod unflushed;
 
 pub use disk::{CrashDisk, PageDisk};
 pub use fail_at::FailAt;

@@ -1,5 +1,6 @@
 use crate::{CrashDisk, DiskFault, FailAt, FileDisk, ImageFault, MemoryDisk, OpenFault, PageDisk};
 use std::process::Abort;
+use std::rt::Files;
 use std::test::Fail;
 
 const ONES: [u8; 4096] = [1; 4096];
@@ -124,9 +125,10 @@ fn the_count_goes_on_through_a_crash(rt: HostRuntime) -> Result<(), Fail> {
 
 #[test]
 fn a_file_keeps_its_pages(rt: HostRuntime) -> Result<(), Fail> {
+    let alloc = rt.alloc();
     let path = "cs_disk_pages";
     std::fs::write(&rt, path, "one that is there is emptied")?;
-    let mut disk = FileDisk::create(&rt, path, 2)?;
+    let mut disk = FileDisk::create(&rt, alloc, path, 2)?;
     assert!(rt; disk.pages() == 2);
     disk.write(1, &TWOS)?;
     disk.flush()?;
@@ -134,7 +136,8 @@ fn a_file_keeps_its_pages(rt: HostRuntime) -> Result<(), Fail> {
     assert!(rt; disk.volatile() == 0);
     let disk = disk.crash(&[]);
     assert_eq!(rt; disk.failures(), 0);
-    let mut disk = FileDisk::open(&rt, "./cs_disk_pages")?;
+    drop(disk);
+    let mut disk = FileDisk::open(&rt, alloc, "./cs_disk_pages")?;
     let mut buffer = [9; 4096];
     assert!(rt; disk.pages() == 2);
     disk.read(0, &mut buffer)?;
@@ -146,23 +149,128 @@ fn a_file_keeps_its_pages(rt: HostRuntime) -> Result<(), Fail> {
     assert!(rt; disk.pages() == 2);
     assert_eq!(rt; disk.read(1, &mut buffer), Err(DiskFault::DeviceFault));
     assert_eq!(rt; disk.failures(), 1);
-    assert!(rt; matches!(FileDisk::open(&rt, path), Err(OpenFault::OddLength)));
+    drop(disk);
+    assert!(rt; matches!(FileDisk::open(&rt, alloc, path), Err(OpenFault::OddLength)));
     std::fs::remove_file(&rt, path)?;
-    assert!(rt; matches!(FileDisk::open(&rt, path), Err(OpenFault::DeviceFault)));
+    assert!(rt;
+        matches!(
+            FileDisk::open(&rt, alloc, path),
+            Err(OpenFault::DeviceFault)
+        )
+    );
     Ok(())
 }
 
 #[test]
 fn a_file_that_cannot_be_made(rt: HostRuntime) -> Result<(), Fail> {
-    for (path, pages) in [("no_such_folder/pages", 1), ("cs_disk_too_long", 1 << 60)] {
-        let made = FileDisk::create(&rt, path, pages);
+    let alloc = rt.alloc();
+    for (path, pages) in [
+        ("no_such_folder/pages", 1),
+        ("cs_disk_too_long", 1 << 60),
+        (".", 1),
+    ] {
+        let made = FileDisk::create(&rt, alloc, path, pages);
         assert!(rt; matches!(made, Err(OpenFault::DeviceFault)), "{path}");
+        let opened = FileDisk::open(&rt, alloc, path);
+        assert!(rt; matches!(opened, Err(OpenFault::DeviceFault)), "{path}");
     }
+    Ok(())
+}
+
+/// Asserts the first byte of a page.
+fn reads(rt: &impl Abort, disk: &mut FileDisk, number: u64, byte: u8) -> Result<(), Fail> {
+    let mut buffer = [9; 4096];
+    if number < disk.pages() {
+        disk.read(number, &mut buffer)?;
+    }
+    assert_eq!(rt; buffer[0], byte, "page {number}");
+    Ok(())
+}
+
+/// Writes to a page, which has to be there.
+fn writes(
+    rt: &impl Abort,
+    disk: &mut FileDisk,
+    number: u64,
+    bytes: &[u8; 4096],
+) -> Result<(), Fail> {
+    assert!(rt; number < disk.pages());
+    Ok(disk.write(number, bytes)?)
+}
+
+/// The first bytes of the four pages of a file.
+fn first_bytes(
+    rt: &(impl Abort + AllocGlobal + Files),
+    path: &str,
+) -> Result<(u8, u8, u8, u8), Fail> {
+    let bytes = std::fs::read(rt, path)?;
+    assert_eq!(rt; bytes.len(), 16384);
+    Ok((bytes[0], bytes[4096], bytes[8192], bytes[12288]))
+}
+
+/// Until a flush what is written is read, and isn't in the file. What wasn't flushed is lost.
+#[test]
+fn a_file_is_written_at_a_flush(rt: HostRuntime) -> Result<(), Fail> {
+    let path = "cs_disk_unflushed";
+    let mut disk = FileDisk::create(&rt, rt.alloc(), path, 4)?;
+    writes(&rt, &mut disk, 3, &ONES)?;
+    writes(&rt, &mut disk, 2, &TWOS)?;
+    writes(&rt, &mut disk, 3, &TWOS)?;
+    writes(&rt, &mut disk, 0, &ONES)?;
+    writes(&rt, &mut disk, 1, &TWOS)?;
+    reads(&rt, &mut disk, 3, 2)?;
+    reads(&rt, &mut disk, 0, 1)?;
+    assert_eq!(rt; first_bytes(&rt, path)?, (0, 0, 0, 0));
+    disk.flush()?;
+    assert_eq!(rt; first_bytes(&rt, path)?, (1, 2, 2, 2));
+    reads(&rt, &mut disk, 3, 2)?;
+    writes(&rt, &mut disk, 3, &ONES)?;
+    drop(disk);
+    let mut disk = FileDisk::open(&rt, rt.alloc(), path)?;
+    disk.flush()?;
+    reads(&rt, &mut disk, 3, 2)?;
+    assert_eq!(rt; disk.failures(), 0);
+    std::fs::remove_file(&rt, path)?;
+    Ok(())
+}
+
+/// While a file is open as a disk it is neither opened nor made, and it keeps its bytes.
+#[test]
+fn a_file_is_one_disk_at_a_time(rt: HostRuntime) -> Result<(), Fail> {
+    let alloc = rt.alloc();
+    let path = "cs_disk_locked";
+    let mut disk = FileDisk::create(&rt, alloc, path, 4)?;
+    writes(&rt, &mut disk, 1, &ONES)?;
+    disk.flush()?;
     assert!(rt;
         matches!(
-            FileDisk::open(&rt, "cs_disk_too_long"),
+            FileDisk::open(&rt, alloc, path),
             Err(OpenFault::DeviceFault)
         )
     );
+    assert!(rt;
+        matches!(
+            FileDisk::create(&rt, alloc, path, 2),
+            Err(OpenFault::DeviceFault)
+        )
+    );
+    drop(disk);
+    assert_eq!(rt; first_bytes(&rt, path)?, (0, 1, 0, 0));
+    let disk = FileDisk::create(&rt, alloc, path, 4)?;
+    assert_eq!(rt; first_bytes(&rt, path)?, (0, 0, 0, 0));
+    assert_eq!(rt; disk.failures(), 0);
+    std::fs::remove_file(&rt, path)?;
+    Ok(())
+}
+
+/// A file of more pages than are written in one call.
+#[test]
+fn a_file_is_filled(rt: HostRuntime) -> Result<(), Fail> {
+    let path = "cs_disk_filled";
+    let disk = FileDisk::create(&rt, rt.alloc(), path, 130)?;
+    assert!(rt; disk.pages() == 130);
+    let bytes = std::fs::read(&rt, path)?;
+    assert_eq!(rt; bytes.len(), 532480);
+    std::fs::remove_file(&rt, path)?;
     Ok(())
 }

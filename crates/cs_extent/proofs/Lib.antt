@@ -5,4 +5,3 @@ pub mod Fitting
 pub mod Staged
 pub mod Given
 pub mod Joined
-pub mod TestStores

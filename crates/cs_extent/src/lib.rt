@@ -14,6 +14,3 @@ mod supplies;
 pub use extents::Extents;
 pub use laws::{joining_adds_nothing, needs_never_fall, one_place, pages_are_given_once};
 pub use purposes::Purpose;
-
-#[cfg(test)]
-mod tests;

@@ -29,6 +29,3 @@ pub use locators::Locator;
 pub use roots::{Root, decode_root, encode_root};
 pub use runs::{Run, decode_run, encode_run};
 pub use superblocks::{Superblock, decode_superblock, encode_superblock};
-
-#[cfg(test)]
-mod tests;

@@ -15,6 +15,3 @@ mod tables;
 pub use entries::Entries;
 pub use indexes::Index;
 pub use runs::StoredRun;
-
-#[cfg(test)]
-mod tests;

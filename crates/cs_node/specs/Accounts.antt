@@ -19,6 +19,7 @@ wanted _ = 0
 abbrev pub Stands : List (Event × Reply) → Call → Type 0
 Stands history c = slice_get history c.place ≡ Some (c.event, c.reply)
 
+-- how many of the calls have this place
 abbrev pub times_at : ℕ → List Call → ℕ
 times_at place calls = count_by (λ c. c.place == place) calls
 
@@ -31,6 +32,7 @@ pub record AreCalls (history : List (Event × Reply)) (purses : List Holdings) :
   pub stand : All (λ h. All (Stands history) h.calls) purses
   pub once : (place : ℕ) (d : Event × Reply) → place < length history → called_at place purses ≡ wanted (slice_index_or history place d).0
 
+-- how often a number is there
 abbrev pub times : ℕ → List ℕ → ℕ
 times x xs = count_by (λ y. y == x) xs
 

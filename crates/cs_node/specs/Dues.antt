@@ -1,11 +1,16 @@
 -- Which event of writeback is due.
-use Rattle.std.specs.Prelude.{◌≡◌, ◌≢◌, ◌⊎◌, ◌<◌, ◌≤◌, [], None, length}
+use Rattle.std.specs.Prelude.{◌≡◌, ◌≢◌, ◌⊎◌, ◌<◌, ◌≤◌, ℕ, ◌+◌, [], None, Ok, Option, Result, Some, length, MatchOption, MatchResult}
+use Rattle.cs_deps.specs.declared.refusals.Refusal.{Refusal}
 use Rattle.cs_disk.specs.Disk.{State as DiskState}
 use Rattle.cs_core.specs.declared.events.Event.{Event}
 use Rattle.cs_core.specs.declared.events.Event.TheVariants as asked
 use Rattle.cs_core.specs.declared.events.Reply.{Reply}
+use Rattle.cs_extent.specs.State.{extents_of, shape as shape_of}
+use Rattle.cs_reclaim.specs.Sweeps.{IsNotSweepable}
 use Rattle.cs_core.specs.Stored.{Stored, members_of}
 use Rattle.cs_core.specs.Views.{IsStep, View}
+use Rattle.cs_node.specs.Locks.{IsRefused, WhileLocked}
+use Rattle.cs_node.specs.Starts.{Start}
 use Rattle.cs_node.specs.declared.gates.Step.{Step}
 use Rattle.cs_node.specs.declared.gates.Step.TheVariants.{Abandon, Begin, BeginSweep, Delete, End, Get, Idle, Issue, MoveOne, Put, Retire, Settle, Stage}
 
@@ -41,3 +46,63 @@ IsAtRest s = (s.out ≡ None) × (s.graph.staging.pending.waiting ≡ []) × (s.
 abbrev pub Turns : {D : Type 0} → (honest : D → Type 0) → (state : D → DiskState) → (old : View D) → Step → (new : View D) → Type 0
 Turns honest state old step new = ((step ≡ Idle) × IsAtRest old.store × (new ≡ old))
     ⊎ ((event : Event) × (reply : Reply) × (step ≡ step_of event) × IsDue old.store event × IsStep honest state old event reply new)
+
+-- the event that was due was refused: it was recorded with its refusal, and no other was; or none was
+abbrev pub IsTurnRefused : {D : Type 0} → (honest : D → Type 0) → (state : D → DiskState) → (old : View D) → Refusal → (new : View D) → Type 0
+IsTurnRefused honest state old r new = (event : Event) × IsDue old.store event × IsRefused honest state old event r new
+
+-- at most one event: the one that was due, which was done or refused
+abbrev pub IsTurn : {D : Type 0} → (honest : D → Type 0) → (state : D → DiskState) → (old : View D) → Result Step Refusal → (new : View D) → Type 0
+IsTurn honest state old result new = MatchResult result (λ step. Turns honest state old step new) (λ r. IsTurnRefused honest state old r new)
+
+-- one Stage, after which so many commands are accepted; or it was refused
+abbrev pub IsStaged : {D : Type 0} → (honest : D → Type 0) → (state : D → DiskState) → (old : View D) → Result ℕ Refusal → (new : View D) → Type 0
+IsStaged honest state old result new = MatchResult result (λ accepted. (reply : Reply) × IsStep honest state old asked.Stage reply new × (accepted ≡ new.store.accepted)) (λ r. IsRefused honest state old asked.Stage r new)
+
+-- so many commands as were wanted are persistent, and nothing was done; or at most one event was done, or it was refused
+abbrev pub IsAdvance : {D : Type 0} → (honest : D → Type 0) → (state : D → DiskState) → (old : View D) → ℕ → Result (Option ℕ) Refusal → (new : View D) → Type 0
+IsAdvance honest state old target result new = MatchResult result
+    (λ reached. MatchOption reached ((step : Step) × Turns honest state old step new) (λ frontier. (new ≡ old) × (frontier ≡ old.store.frontier) × (target ≤ frontier)))
+    (λ r. IsTurnRefused honest state old r new)
+
+-- a sync: once it staged, and at last as many commands were persistent as were accepted then
+abbrev pub Syncs : {D : Type 0} → (honest : D → Type 0) → (state : D → DiskState) → Start → (frontier : ℕ) → Type 0
+Syncs honest state start frontier = (target : ℕ) × (target ≤ frontier)
+    × WhileLocked honest state start (λ old new. IsStaged honest state old (Ok target) new)
+    × WhileLocked honest state start (λ old new. (new ≡ old) × (frontier ≡ old.store.frontier))
+
+-- the event of a sync that was refused: its Stage, or one that was due then
+abbrev pub IsSyncRefused : {D : Type 0} → (honest : D → Type 0) → (state : D → DiskState) → (old : View D) → Refusal → (new : View D) → Type 0
+IsSyncRefused honest state old r new = IsRefused honest state old asked.Stage r new ⊎ IsTurnRefused honest state old r new
+
+-- an event of a sweep. One that begins is of an extent that may be swept
+abbrev pub IsOfSweep : Stored → Event → Type 0
+IsOfSweep s (asked.BeginSweep e) = ¬ IsNotSweepable (shape_of s.extents) (extents_of s.extents) e
+IsOfSweep s (asked.MoveOne e) = Unit {0}
+IsOfSweep s (asked.Retire e) = Unit {0}
+IsOfSweep s (asked.Abandon e) = Unit {0}
+IsOfSweep s event = ⊥
+
+-- one event of a sweep was done, which this step names, or none
+abbrev pub Sweeps : {D : Type 0} → (honest : D → Type 0) → (state : D → DiskState) → (old : View D) → Step → (new : View D) → Type 0
+Sweeps honest state old step new = ((step ≡ Idle) × (new ≡ old))
+    ⊎ ((event : Event) × (reply : Reply) × (step ≡ step_of event) × IsOfSweep old.store event × IsStep honest state old event reply new)
+
+-- at most one event of a sweep: it was done, or it was refused
+abbrev pub IsSweepTurn : {D : Type 0} → (honest : D → Type 0) → (state : D → DiskState) → (old : View D) → Result Step Refusal → (new : View D) → Type 0
+IsSweepTurn honest state old result new = MatchResult result (λ step. Sweeps honest state old step new) (λ r. (event : Event) × IsOfSweep old.store event × IsRefused honest state old event r new)
+
+-- the least extent from this one on that may be swept
+pub record IsLeastFrom (s : Stored) (from e : ℕ) : Type 0 where
+  pub from_there : from ≤ e
+  pub may : ¬ IsNotSweepable (shape_of s.extents) (extents_of s.extents) e
+  pub least : (k : ℕ) → from ≤ k → k < e → IsNotSweepable (shape_of s.extents) (extents_of s.extents) k
+
+-- none from this one on may be swept
+abbrev pub NoneFrom : Stored → ℕ → Type 0
+NoneFrom s from = (k : ℕ) → from ≤ k → k < (shape_of s.extents).extents → IsNotSweepable (shape_of s.extents) (extents_of s.extents) k
+
+-- the extent whose sweep begins next: the least above the one that was begun last that may be swept, else the least of all
+abbrev pub IsNextAfter : Stored → (last : Option ℕ) → ℕ → Type 0
+IsNextAfter s None e = IsLeastFrom s 0 e
+IsNextAfter s (Some last) e = IsLeastFrom s (last + 1) e ⊎ (NoneFrom s (last + 1) × IsLeastFrom s 0 e)

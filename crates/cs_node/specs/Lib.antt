@@ -2,7 +2,9 @@ pub mod Accounts
 pub mod Answers
 pub mod Closes
 pub mod Dues
+pub mod Locks
 pub mod Mirror
 pub mod Starts
+pub mod Streams
 pub mod Told
 pub mod Under

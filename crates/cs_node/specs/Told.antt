@@ -8,6 +8,7 @@ use Rattle.cs_core.specs.declared.events.Reply.{Reply}
 use Rattle.cs_core.specs.declared.events.Reply.TheVariants.{Found, NotYet, Persistent, Refused}
 use Rattle.cs_node.specs.declared.logs.Call.{Call}
 
+-- a call with its place in the history, its event and its reply
 abbrev pub call : ℕ → Event → Reply → Call
 call place event reply = record { place = place; event = event; reply = reply }
 

@@ -81,7 +81,9 @@ impl Model for Board {
 
 impl Board {
     /// A board that tells of no command.
-    pub fn new(alloc: Global) -> Result<Board, AllocError> {
+    pub fn new(alloc: Global) -> Result<Board, AllocError>
+        ensures { IfOk result (λ board. board.words ≡ 1) }
+    {
         let (words, keeper) = Words::of_words(alloc, &[0], &())?;
         Ok(Board { words, keeper })
     }

@@ -1,8 +1,9 @@
 //! What lies under the lock.
-ghost use Rattle.std.specs.Prelude.{◌≡◌, ◌≢◌, ◌⊎◌, ◌^◌, ◌<◌, ◌≤◌, ◌+◌, IfErr, IfOk, OnErr, OnOk, length};
+ghost use Rattle.std.specs.Prelude.{◌≡◌, ◌≢◌, ◌⊎◌, ◌^◌, ◌<◌, ◌≤◌, ◌+◌, IfErr, IfOk, MatchResult, OnErr, OnOk, length};
 ghost use Rattle.cs_core.specs.Shapes.{MayAnswer};
 ghost use Rattle.cs_core.specs.Views.{Applies, IsAsked, IsStep};
 ghost use Rattle.cs_node.specs.Answers.{Gets, Settles, deleted};
+ghost use Rattle.cs_node.specs.Locks.{Declines, IsAnswered, IsBehind, IsCallRefused, IsGot, IsSettledBy};
 ghost use Rattle.cs_node.specs.Starts.{start_of};
 ghost use Rattle.cs_node.specs.Told.{Adds, Below, Refuses, empty, is_unrecorded};
 
@@ -78,8 +79,12 @@ impl<D: PageDisk, K: Naming> Locked<D, K> {
         ensures shape { IfOk result (λ reply. MayAnswer event.now reply) }
         ensures recorded { IfOk result (λ reply. reply ≢ Reply.Refused Refusal.HistoryFull) }
         ensures err { IfErr result (λ r. (r ≡ Refusal.OutOfMemory) ⊎ (r ≡ Refusal.HistoryFull)) }
+        ensures declined { IfErr result (λ r. Declines D.honest D.state self.old.core r self.new.core) }
         ensures given { (self.new.given ≡ self.old.given) × (self.new.piloted ≡ self.old.piloted) }
+        ensures behind { IsBehind D.honest D.state K.start self.old.core }
     {
+        // Its contract tells what a core behind the lock keeps.
+        self.core();
         let Ok(reply) = self.apply(board, event) else {
             return Err(Refusal::OutOfMemory);
         };
@@ -108,8 +113,11 @@ impl<D: PageDisk, K: Naming> Locked<D, K> {
         ensures room { OnOk result (1 ≤ log.new.room) }
         ensures calls { log.new.calls ≡ log.old.calls }
         ensures err { IfErr result (λ r. (r ≡ Refusal.OutOfMemory) ⊎ (r ≡ Refusal.HistoryFull)) }
+        ensures declined { IfErr result (λ r. Declines D.honest D.state self.old.core r self.new.core) }
+        ensures given { (self.new.given ≡ self.old.given) × (self.new.piloted ≡ self.old.piloted) }
+        ensures behind { IsBehind D.honest D.state K.start self.old.core }
     {
-        let place = self.core.history().len() as u64;
+        let place = self.core().history().len() as u64;
         if !log.is_above(place) || log.reserve().is_err() {
             return Err(Refusal::OutOfMemory);
         }
@@ -129,6 +137,9 @@ impl<D: PageDisk, K: Naming> Locked<D, K> {
         requires { (board.now.table_id ≡ K.table) × (board.now.table_id.words ≡ 1) }
         ensures ok { IfOk result (λ ticket. Adds purse.old (Event.Put id bytes) (Reply.Accepted ticket) purse.new) }
         ensures err { IfErr result (λ r. Refuses purse.old (Event.Put id bytes) r purse.new) }
+        ensures step { IsAnswered D.honest D.state self.old.core purse.old (Event.Put id bytes) (λ n. Reply.Accepted n) result self.new.core purse.new }
+        ensures given { (self.new.given ≡ self.old.given) × (self.new.piloted ≡ self.old.piloted) }
+        ensures behind { IsBehind D.honest D.state K.start self.old.core }
     {
         let event = Event::Put(id, bytes);
         let (place, reply) = self.ask(board, &mut purse.log, &event, gate)?;
@@ -156,6 +167,9 @@ impl<D: PageDisk, K: Naming> Locked<D, K> {
         requires { (board.now.table_id ≡ K.table) × (board.now.table_id.words ≡ 1) }
         ensures ok { IfOk result (λ there. Gets purse.old id there purse.new) }
         ensures err { IfErr result (λ r. Refuses purse.old (Event.Get id) r purse.new) }
+        ensures step { MatchResult result (λ there. IsGot D.honest D.state self.old.core purse.old id there self.new.core purse.new) (λ r. IsCallRefused D.honest D.state self.old.core purse.old (Event.Get id) r self.new.core purse.new) }
+        ensures given { (self.new.given ≡ self.old.given) × (self.new.piloted ≡ self.old.piloted) }
+        ensures behind { IsBehind D.honest D.state K.start self.old.core }
     {
         let event = Event::Get(id);
         let (place, reply) = self.ask(board, &mut purse.log, &event, gate)?;
@@ -187,6 +201,9 @@ impl<D: PageDisk, K: Naming> Locked<D, K> {
         requires { (board.now.table_id ≡ K.table) × (board.now.table_id.words ≡ 1) }
         ensures ok { IfOk result (λ ticket. Adds purse.old (Event.Delete id) (deleted ticket) purse.new) }
         ensures err { IfErr result (λ r. Refuses purse.old (Event.Delete id) r purse.new) }
+        ensures step { IsAnswered D.honest D.state self.old.core purse.old (Event.Delete id) deleted result self.new.core purse.new }
+        ensures given { (self.new.given ≡ self.old.given) × (self.new.piloted ≡ self.old.piloted) }
+        ensures behind { IsBehind D.honest D.state K.start self.old.core }
     {
         let event = Event::Delete(id);
         let (place, reply) = self.ask(board, &mut purse.log, &event, gate)?;
@@ -216,7 +233,10 @@ impl<D: PageDisk, K: Naming> Locked<D, K> {
         gate: &G,
     ) -> Settled<K>
         requires { (board.now.table_id ≡ K.table) × (board.now.table_id.words ≡ 1) }
-        ensures { Settles purse.old ticket result purse.new }
+        ensures told { Settles purse.old ticket result purse.new }
+        ensures step { IsSettledBy D.honest D.state self.old.core purse.old ticket result self.new.core purse.new }
+        ensures given { (self.new.given ≡ self.old.given) × (self.new.piloted ≡ self.old.piloted) }
+        ensures behind { IsBehind D.honest D.state K.start self.old.core }
     {
         let event = Event::Settle(ticket.number());
         match self.ask(board, &mut purse.log, &event, gate) {
@@ -228,9 +248,9 @@ impl<D: PageDisk, K: Naming> Locked<D, K> {
                 purse.log.push(place, event, Reply::NotYet(frontier));
                 Settled::Back(ticket, Why::NotYet(frontier))
             }
-            Ok(_) => unreachable!(),
             Err(Refusal::HistoryFull) => Settled::Back(ticket, Why::HistoryFull),
-            Err(_) => Settled::Back(ticket, Why::OutOfMemory),
+            Err(Refusal::OutOfMemory) => Settled::Back(ticket, Why::OutOfMemory),
+            _ => unreachable!(),
         }
     }
 
@@ -259,7 +279,10 @@ impl<D: PageDisk, K: Naming> Locked<D, K> {
     pub fn core(&self) -> &Core<D>
         ensures core { result.now ≡ self.now.core }
         ensures start { start_of self.now.core ≡ K.start }
+        ensures behind { IsBehind D.honest D.state K.start self.now.core }
     {
+        // Its contract tells that the history is legal.
+        self.core.progress();
         &self.core
     }
 

@@ -1,6 +1,7 @@
 //! The node that threads share.
 ghost use Rattle.std.specs.Prelude.{◌≡◌, [], IfErr, IfOk};
 ghost use Rattle.cs_node.specs.Answers.{Settles, deleted, got};
+ghost use Rattle.cs_node.specs.Locks.{IsAnswered, IsSettledBy, WhileLocked};
 ghost use Rattle.cs_node.specs.Starts.{start_of};
 ghost use Rattle.cs_node.specs.Told.{Adds, Refuses};
 
@@ -87,6 +88,7 @@ impl<D: PageDisk, K: Naming> Node<D, K> {
     ) -> Result<Ticket<K>, Refusal>
         ensures ok { IfOk result (λ ticket. Adds purse.old (Event.Put id bytes) (Reply.Accepted ticket) purse.new) }
         ensures err { IfErr result (λ r. Refuses purse.old (Event.Put id bytes) r purse.new) }
+        ensures step { WhileLocked D.honest D.state K.start (λ old new. IsAnswered D.honest D.state old purse.old (Event.Put id bytes) (λ n. Reply.Accepted n) result new purse.new) }
     {
         self.put_with(rt, purse, id, bytes, &Open)
     }
@@ -102,6 +104,7 @@ impl<D: PageDisk, K: Naming> Node<D, K> {
     ) -> Result<Ticket<K>, Refusal>
         ensures ok { IfOk result (λ ticket. Adds purse.old (Event.Put id bytes) (Reply.Accepted ticket) purse.new) }
         ensures err { IfErr result (λ r. Refuses purse.old (Event.Put id bytes) r purse.new) }
+        ensures step { WhileLocked D.honest D.state K.start (λ old new. IsAnswered D.honest D.state old purse.old (Event.Put id bytes) (λ n. Reply.Accepted n) result new purse.new) }
     {
         self.state
             .lock(rt)
@@ -120,6 +123,7 @@ impl<D: PageDisk, K: Naming> Node<D, K> {
     ) -> Result<Option<Bytes>, Refusal>
         ensures ok { IfOk result (λ found. Adds purse.old (Event.Get id) (got found) purse.new) }
         ensures err { IfErr result (λ r. Refuses purse.old (Event.Get id) r purse.new) }
+        ensures step { WhileLocked D.honest D.state K.start (λ old new. IsAnswered D.honest D.state old purse.old (Event.Get id) got result new purse.new) }
     {
         let there = self
             .state
@@ -145,6 +149,7 @@ impl<D: PageDisk, K: Naming> Node<D, K> {
     ) -> Result<Option<Ticket<K>>, Refusal>
         ensures ok { IfOk result (λ ticket. Adds purse.old (Event.Delete id) (deleted ticket) purse.new) }
         ensures err { IfErr result (λ r. Refuses purse.old (Event.Delete id) r purse.new) }
+        ensures step { WhileLocked D.honest D.state K.start (λ old new. IsAnswered D.honest D.state old purse.old (Event.Delete id) deleted result new purse.new) }
     {
         self.state
             .lock(rt)
@@ -153,7 +158,8 @@ impl<D: PageDisk, K: Naming> Node<D, K> {
 
     /// Asks under the lock whether a command is persistent.
     pub fn settle<R: Wait>(&self, rt: &R, purse: &mut Purse<K>, ticket: Ticket<K>) -> Settled<K>
-        ensures { Settles purse.old ticket result purse.new }
+        ensures told { Settles purse.old ticket result purse.new }
+        ensures step { WhileLocked D.honest D.state K.start (λ old new. IsSettledBy D.honest D.state old purse.old ticket result new purse.new) }
     {
         self.state
             .lock(rt)

@@ -1,4 +1,7 @@
 //! Who writes back.
+ghost use Rattle.std.specs.Prelude.{IfErr, IfOk};
+ghost use Rattle.cs_node.specs.Dues.{IsSyncRefused, IsTurn, IsTurnRefused, Syncs};
+ghost use Rattle.cs_node.specs.Locks.{WhileLocked};
 
 use crate::boards::Naming;
 use crate::gates::{Gate, Step};
@@ -29,7 +32,9 @@ impl<K: Naming> Pilot<K> {
         rt: &R,
         node: &Node<D, K>,
         gate: &G,
-    ) -> Result<Step, Refusal> {
+    ) -> Result<Step, Refusal>
+        ensures { WhileLocked D.honest D.state K.start (λ old new. IsTurn D.honest D.state old result new) }
+    {
         node.state.lock(rt).turn(&node.words.shared, gate)
     }
 
@@ -39,7 +44,9 @@ impl<K: Naming> Pilot<K> {
         rt: &R,
         node: &Node<D, K>,
         gate: &G,
-    ) -> Result<(), Refusal> {
+    ) -> Result<(), Refusal>
+        ensures { IfErr result (λ r. WhileLocked D.honest D.state K.start (λ old new. IsTurnRefused D.honest D.state old r new)) }
+    {
         for _ in rt.forever() {
             if !gate.before() {
                 return Ok(());
@@ -62,7 +69,10 @@ impl<D: PageDisk, K: Naming> Node<D, K> {
     /// that is out, and then round by round, each event under a lock of its own. Answers how many are persistent.
     ///
     /// Refused as one of its events is, 9 OutOfMemory and 41 HistoryFull. The events before that stand.
-    pub fn sync<R: Wait>(&self, rt: &R, _pilot: &mut Pilot<K>) -> Result<u64, Refusal> {
+    pub fn sync<R: Wait>(&self, rt: &R, _pilot: &mut Pilot<K>) -> Result<u64, Refusal>
+        ensures ok { IfOk result (λ frontier. Syncs D.honest D.state K.start frontier) }
+        ensures err { IfErr result (λ r. WhileLocked D.honest D.state K.start (λ old new. IsSyncRefused D.honest D.state old r new)) }
+    {
         let target = self.state.lock(rt).stage(&self.words.shared)?;
         for _ in rt.forever() {
             let reached = self.state.lock(rt).advance(&self.words.shared, target)?;

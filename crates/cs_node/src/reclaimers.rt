@@ -1,7 +1,7 @@
 //! Who sweeps extents.
-ghost use Rattle.std.specs.Prelude.{◌≡◌, ◌≤◌, IfSome};
-ghost use Rattle.cs_extent.specs.State.{extents_of, shape};
-ghost use Rattle.cs_reclaim.specs.Sweeps.{IsNotSweepable};
+ghost use Rattle.std.specs.Prelude.{◌≡◌, ◌⊎◌, ◌^◌, ◌-◌, ◌<◌, IfErr, IfSome, MatchOption};
+ghost use Rattle.cs_node.specs.Dues.{IsLeastFrom, IsNextAfter, IsSweepTurn, NoneFrom};
+ghost use Rattle.cs_node.specs.Locks.{IsBehind, WhileLocked};
 
 use crate::boards::{Naming, Shown};
 use crate::gates::{Gate, Step};
@@ -52,7 +52,9 @@ impl Reclaimer {
         rt: &R,
         node: &Node<D, K>,
         gate: &G,
-    ) -> Result<Step, Refusal> {
+    ) -> Result<Step, Refusal>
+        ensures { WhileLocked D.honest D.state K.start (λ old new. IsSweepTurn D.honest D.state old result new) }
+    {
         node.state.lock(rt).sweep(&node.words.shared, self, gate)
     }
 
@@ -63,7 +65,9 @@ impl Reclaimer {
         rt: &R,
         node: &Node<D, K>,
         gate: &G,
-    ) -> Result<(), Refusal> {
+    ) -> Result<(), Refusal>
+        ensures { IfErr result (λ r. (r ≡ Refusal.Halted) ⊎ (r ≡ Refusal.HistoryFull)) }
+    {
         for _ in rt.forever() {
             if self.is_done() || !gate.before() {
                 return Ok(());
@@ -94,6 +98,8 @@ impl<D: PageDisk, K: Naming> Locked<D, K> {
         gate: &G,
     ) -> Result<Step, Refusal>
         requires { (board.now.table_id ≡ K.table) × (board.now.table_id.words ≡ 1) }
+        ensures turn { IsSweepTurn D.honest D.state self.old.core result self.new.core }
+        ensures behind { IsBehind D.honest D.state K.start self.old.core }
     {
         match reclaimer.next {
             Next::Begin => self.begin_sweep(board, reclaimer, gate),
@@ -134,11 +140,14 @@ impl<D: PageDisk, K: Naming> Locked<D, K> {
         gate: &G,
     ) -> Result<Step, Refusal>
         requires { (board.now.table_id ≡ K.table) × (board.now.table_id.words ≡ 1) }
+        ensures turn { IsSweepTurn D.honest D.state self.old.core result self.new.core }
+        ensures behind { IsBehind D.honest D.state K.start self.old.core }
     {
+        let chosen = next_extent(self.core(), reclaimer.last);
         if reclaimer.sweeps == 0 {
             return Ok(Step::Idle);
         }
-        let Some(extent) = next_extent(self.core(), reclaimer.last) else {
+        let Some(extent) = chosen else {
             return Ok(Step::Idle);
         };
         self.work(board, &Event::BeginSweep(extent), gate)?;
@@ -151,7 +160,7 @@ impl<D: PageDisk, K: Naming> Locked<D, K> {
 
 /// The lowest extent above the last one that may be swept, else the lowest that may.
 fn next_extent<D: PageDisk>(core: &Core<D>, last: Option<usize>) -> Option<usize>
-    ensures { IfSome result (λ e. ¬ IsNotSweepable (shape core.now.store.extents) (extents_of core.now.store.extents) e) }
+    ensures { MatchOption result (NoneFrom core.now.store 0) (λ e. IsNextAfter core.now.store last e) }
 {
     if let Some(extent) = last {
         let above = lowest_from(core, extent.saturating_add(1));
@@ -164,8 +173,8 @@ fn next_extent<D: PageDisk>(core: &Core<D>, last: Option<usize>) -> Option<usize
 
 /// The lowest extent from this one on that may be swept.
 fn lowest_from<D: PageDisk>(core: &Core<D>, from: usize) -> Option<usize>
-    ensures from { IfSome result (λ e. from ≤ e) }
-    ensures may { IfSome result (λ e. ¬ IsNotSweepable (shape core.now.store.extents) (extents_of core.now.store.extents) e) }
+    ensures lowest { MatchOption result (NoneFrom core.now.store from) (λ e. IsLeastFrom core.now.store from e) }
+    ensures fits { IfSome result (λ e. e < 2 ^ 64 - 1) }
 {
     for extent in from..core.extent_count() {
         if core.is_sweepable(extent) {

@@ -4,6 +4,7 @@ ghost use Rattle.cs_model.specs.State.{State};
 ghost use Rattle.cs_core.specs.Views.{IsIn};
 ghost use Rattle.cs_node.specs.Accounts.{acknowledged_by, once_to};
 ghost use Rattle.cs_node.specs.Closes.{Fails, IsClosed};
+ghost use Rattle.cs_node.specs.Locks.{IsBehind};
 ghost use Rattle.cs_node.specs.Starts.{start_of};
 
 use crate::boards::{Naming, Words};
@@ -64,12 +65,14 @@ pub struct Closed<D> {
 
 impl<D: PageDisk, K: Naming> Node<D, K> {
     /// Opens the lock, for which no other thread may have the node.
-    pub fn rest(self) -> Rest<D, K> {
+    pub fn rest(self) -> Rest<D, K>
+        ensures { IsBehind D.honest D.state K.start result.core }
+    {
         let Node { state, words } = self;
-        Rest {
-            locked: state.into_inner(),
-            words,
-        }
+        let locked = state.into_inner();
+        // Its contract tells what a core behind the lock keeps.
+        locked.core();
+        Rest { locked, words }
     }
 }
 
@@ -78,6 +81,7 @@ impl<D: PageDisk, K: Naming> Rest<D, K> {
     pub fn core(&self) -> &Core<D>
         ensures core { result.now ≡ self.now.core }
         ensures start { start_of self.now.core ≡ K.start }
+        ensures behind { IsBehind D.honest D.state K.start self.now.core }
     {
         self.locked.core()
     }

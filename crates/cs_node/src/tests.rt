@@ -2,6 +2,9 @@
 ghost use Rattle.std.specs.Prelude.{◌≡◌, [], IfOk};
 ghost use Rattle.cs_node.specs.Starts.{start_of};
 
+mod threads;
+mod workers;
+
 use super::*;
 use cs_core::{Bytes, Core, Limits};
 use cs_deps::Refusal;

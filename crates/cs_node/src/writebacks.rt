@@ -1,8 +1,9 @@
 //! Events of writeback, under the lock.
-ghost use Rattle.std.specs.Prelude.{◌≡◌, ◌⊎◌, ◌≤◌, IfOk, IfSome, MatchOption, false, true};
+ghost use Rattle.std.specs.Prelude.{◌≡◌, IfErr, IfOk, MatchOption, false, true};
 ghost use Rattle.cs_core.specs.Shapes.{MayAnswer};
 ghost use Rattle.cs_core.specs.Views.{IsStep};
-ghost use Rattle.cs_node.specs.Dues.{IsAtRest, IsDue, Turns};
+ghost use Rattle.cs_node.specs.Dues.{IsAdvance, IsAtRest, IsDue, IsStaged, IsTurn};
+ghost use Rattle.cs_node.specs.Locks.{IsBehind, IsRefused};
 
 use crate::boards::{Naming, Shown};
 use crate::gates::{Gate, Open, Step, step_of};
@@ -43,6 +44,9 @@ impl<D: PageDisk, K: Naming> Locked<D, K> {
         requires { (board.now.table_id ≡ K.table) × (board.now.table_id.words ≡ 1) }
         ensures step { IfOk result (λ reply. IsStep D.honest D.state self.old.core event.now reply self.new.core) }
         ensures shape { IfOk result (λ reply. MayAnswer event.now reply) }
+        ensures refused { IfErr result (λ r. IsRefused D.honest D.state self.old.core event.now r self.new.core) }
+        ensures given { (self.new.given ≡ self.old.given) × (self.new.piloted ≡ self.old.piloted) }
+        ensures behind { IsBehind D.honest D.state K.start self.old.core }
     {
         match self.record(board, event, gate)? {
             Reply::Refused(refusal) => Err(refusal),
@@ -53,9 +57,11 @@ impl<D: PageDisk, K: Naming> Locked<D, K> {
     /// Does the event of writeback that is due. Refused as the event is, 9 OutOfMemory and 41 HistoryFull.
     pub fn turn<G: Gate>(&mut self, board: &Shown, gate: &G) -> Result<Step, Refusal>
         requires { (board.now.table_id ≡ K.table) × (board.now.table_id.words ≡ 1) }
-        ensures { IfOk result (λ step. Turns D.honest D.state self.old.core step self.new.core) }
+        ensures turn { IsTurn D.honest D.state self.old.core result self.new.core }
+        ensures given { (self.new.given ≡ self.old.given) × (self.new.piloted ≡ self.old.piloted) }
+        ensures behind { IsBehind D.honest D.state K.start self.old.core }
     {
-        let Some(event) = due(&self.core) else {
+        let Some(event) = due(self.core()) else {
             return Ok(Step::Idle);
         };
         match self.work(board, &event, gate) {
@@ -67,25 +73,26 @@ impl<D: PageDisk, K: Naming> Locked<D, K> {
     /// Stages what has changed, and gives how many commands were accepted then.
     pub fn stage(&mut self, board: &Shown) -> Result<u64, Refusal>
         requires { (board.now.table_id ≡ K.table) × (board.now.table_id.words ≡ 1) }
-        ensures { IfOk result (λ accepted. accepted ≡ self.new.core.store.accepted) }
+        ensures staged { IsStaged D.honest D.state self.old.core result self.new.core }
+        ensures given { (self.new.given ≡ self.old.given) × (self.new.piloted ≡ self.old.piloted) }
+        ensures behind { IsBehind D.honest D.state K.start self.old.core }
     {
         self.work(board, &Event::Stage, &Open)?;
         Ok(self.core.accepted())
     }
 
-    /// Gives how many commands are persistent where so many are or nothing is left to do, else does the event of writeback that is due.
+    /// Gives how many commands are persistent where as many are, else does the event of writeback that is due.
     pub fn advance(&mut self, board: &Shown, target: u64) -> Result<Option<u64>, Refusal>
         requires { (board.now.table_id ≡ K.table) × (board.now.table_id.words ≡ 1) }
-        ensures { IfOk result (λ reached. IfSome reached (λ frontier. (frontier ≡ self.new.core.store.frontier) × ((target ≤ frontier) ⊎ IsAtRest self.new.core.store))) }
+        ensures advance { IsAdvance D.honest D.state self.old.core target result self.new.core }
+        ensures given { (self.new.given ≡ self.old.given) × (self.new.piloted ≡ self.old.piloted) }
+        ensures behind { IsBehind D.honest D.state K.start self.old.core }
     {
-        let frontier = self.core.frontier();
+        let frontier = self.core().frontier();
         if target <= frontier {
             return Ok(Some(frontier));
         }
-        let Some(event) = due(&self.core) else {
-            return Ok(Some(frontier));
-        };
-        self.work(board, &event, &Open)?;
+        self.turn(board, &Open)?;
         Ok(None)
     }
 

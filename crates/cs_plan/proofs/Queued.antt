@@ -1,27 +1,24 @@
 -- A plan by queues.
-use Rattle.std.proofs.Common.{◌≡◌, ◌∙◌, ℕ, zero, suc, ◌+◌, ◌<◌, ◌≤◌, ◌⊎◌, List, [], ◌∷◌, ◌++◌, length, map, get_or, Option, Some, None, slice_get, refl, sym, ap, subst, inl, inr, ⊎_elim, arith}
+use Rattle.std.proofs.Common.{◌≡◌, ◌∙◌, ℕ, zero, suc, ◌+◌, ◌<◌, ◌≤◌, List, [], ◌∷◌, ◌++◌, length, map, drop, get_or, Some, slice_get, refl, sym, ap, subst, ⊎_elim, arith}
 use Rattle.std.specs.Prelude.{◌-◌, Contains, All, Vec, option_map}
 use Rattle.std.specs.Global.{Global}
-use Rattle.std.proofs.lemmas.Bool.{cases_lt}
 use Rattle.std.proofs.lemmas.List.{length-map}
-use Rattle.std.proofs.lemmas.Option.{same_Some, slice_get_within, slice_get_read, slice_get-get_or, slice_get-map}
+use Rattle.std.proofs.lemmas.Option.{same_Some, slice_get_within, slice_get-get_or, slice_get-map}
 use Rattle.cs_deps.specs.declared.elements.Element.{Element}
-use Rattle.cs_deps.specs.declared.elements.Element.TheVariants.{Plain, Version}
 use Rattle.cs_deps.specs.Named.{Named, Names}
-use Rattle.cs_deps.specs.Pending.{Pending, WaitsAt, Waits, Needs, IsPersistent, IsStaged, SatisfiedBy}
+use Rattle.cs_deps.specs.Pending.{Pending, WaitsAt, Needs, IsPersistent, SatisfiedBy}
 use Rattle.cs_deps.specs.Chain.{IsChain, IsChainOf, IsHeight, LastIs}
-use Rattle.cs_deps.specs.Rounds.{IsDue}
 use Rattle.cs_deps.specs.Staging.{Staging, IsKept}
 use Rattle.cs_deps.specs.State.{IsQueue, everything}
 use Rattle.cs_deps.specs.Turns.{IsPlanOf}
 use Rattle.cs_deps.proofs.AllHeights.{all_have_heights}
-use Rattle.cs_deps.proofs.HeightSteps.{chain_ends_waiting, height_positive, queue_serves, of_level_height, same_height}
-use Rattle.cs_deps.proofs.InTurn.{AreQueues, due_of, everything_is_all, queues_are_a_plan}
+use Rattle.cs_deps.proofs.HeightSteps.{chain_ends_waiting, queue_serves, of_level_height}
+use Rattle.cs_deps.proofs.InTurn.{AreQueues, everything_is_all, queues_are_a_plan}
 use Rattle.cs_deps.proofs.Kept.{at_push}
 use Rattle.cs_deps.proofs.LowerBound.{waiting_not_persistent}
 use Rattle.cs_deps.proofs.Ready.{satisfied_is_first}
 use Rattle.cs_deps.proofs.Sets.{no_element}
-use Rattle.cs_plan.specs.Queues.{AreListed, IsFollowed}
+use Rattle.cs_plan.specs.Queues.{AreListed, IsFollowed, backwards}
 use Rattle.cs_plan.proofs.Whole.{due_somewhere}
 
 -- THE CHAIN
@@ -47,6 +44,22 @@ followed_more g end height i element next made lt step so = record {
   where
     needs : i + 1 < height → Needs g element next × IsHeight g next (height - i - 2 + 1)
     needs more = let same : height - i ≡ height - i - 2 + 2 = omega (arith, more) in step (height - i - 2) (subst (IsHeight g element) same (so.next_height lt))
+
+-- one element more, from the end
+pub backwards_push : (xs : List Element) (x : Element) → backwards (xs ++ x ∷ []) ≡ x ∷ backwards xs
+backwards_push [] x = refl
+backwards_push (y ∷ ys) x = ap (λ l. l ++ y ∷ []) (backwards_push ys x)
+
+pub backwards_more : (xs : List Element) (k : ℕ) (d : Element) → k < length xs → backwards (drop (suc k) xs) ++ get_or xs k d ∷ [] ≡ backwards (drop k xs)
+backwards_more [] k d lt = absurd (omega (arith, lt))
+backwards_more (x ∷ xs) zero d lt = refl
+backwards_more (x ∷ xs) (suc k) d lt = backwards_more xs k d (omega (arith, lt))
+
+pub backwards_none : (xs : List Element) (k : ℕ) → length xs ≤ k → backwards (drop k xs) ≡ []
+backwards_none [] zero le = refl
+backwards_none [] (suc k) le = refl
+backwards_none (x ∷ xs) zero le = absurd (omega (arith, le))
+backwards_none (x ∷ xs) (suc k) le = backwards_none xs k (omega (arith, le))
 
 -- a chain that ends in a named element
 pub last_named : (target : Named) (end : Element) (xs : List Element) → Names target end → LastIs (λ y. y ≡ end) xs → LastIs (Names target) xs

@@ -1,5 +1,5 @@
-//! Plans, counted from scratch at each call.
-ghost use Rattle.std.specs.Prelude.{◌≡◌, ℕ, ◌+◌, ◌≤◌, ◌<◌, ◌⊎◌, ◌↔◌, List, [], All, IfOk, IfErr, IfSome, IsOk, IsSome, None, Vec, Contains, ◌-◌, slice_index_or, slice_get, Some, MatchOption, length, map, vec_len};
+//! Plans.
+ghost use Rattle.std.specs.Prelude.{◌≡◌, ℕ, ◌+◌, ◌≤◌, ◌<◌, ◌⊎◌, ◌↔◌, List, [], All, IfOk, IfErr, IfSome, IsSome, None, Vec, Contains, ◌-◌, slice_index_or, slice_get, Some, MatchOption, length, map, vec_len};
 ghost use Rattle.cs_deps.specs.declared.elements.Element.{Element as Item};
 ghost use Rattle.cs_deps.specs.Named.{Names, IsWithin};
 ghost use Rattle.cs_deps.specs.Pending.{IsStaged, IsPersistent, Needs, Waits};
@@ -7,11 +7,12 @@ ghost use Rattle.cs_deps.specs.Schedule.{IsSchedule, Respects, Covers, IsFewest}
 ghost use Rattle.cs_deps.specs.Chain.{IsChain, IsChainOf, IsHeight, LastIs};
 ghost use Rattle.cs_deps.specs.Staging.{IsKept};
 ghost use Rattle.cs_deps.specs.State.{everything, IsQueue, IsReady};
-ghost use Rattle.cs_plan.specs.Queues.{AreListed};
+ghost use Rattle.cs_plan.specs.Queues.{AreListed, backwards};
 ghost use Rattle.std.specs.Global.{Global as Heap};
 ghost use Rattle.cs_deps.specs.Rounds.{AreRounds};
 ghost use Rattle.cs_deps.specs.View.{pending_of, rounds_of};
 
+use crate::targets::{shown_last, wanted_rounds};
 use crate::{chain, levels, ranks, rounds};
 use cs_deps::{Dependency, Element, Graph, GraphView, Plan, Refusal};
 use std::alloc::{AllocError, Global};
@@ -51,9 +52,10 @@ pub fn plan_view(alloc: Global, view: &GraphView, target: &Dependency) -> Result
     Ok(Plan { rounds, chain })
 }
 
-/// The plan of a target that was staged.
+/// The plan of a target that was staged: the queues of what waits one after another, less what the target doesn't need.
 fn plan_staged(alloc: Global, graph: &Graph, target: &Dependency) -> Result<Plan, AllocError>
-    requires { IsWithin target.now graph.now.staging.staged graph.now.staging.latest }
+    requires none { graph.now.round ≡ None }
+    requires within { IsWithin target.now graph.now.staging.staged graph.now.staging.latest }
     ensures schedule { IfOk result (λ plan. IsSchedule graph.now.staging.pending (rounds_of plan)) }
     ensures covers { IfOk result (λ plan. Covers graph.now.staging.pending (rounds_of plan) target.now) }
     ensures respects { IfOk result (λ plan. Respects graph.now.staging.pending (rounds_of plan)) }
@@ -62,15 +64,17 @@ fn plan_staged(alloc: Global, graph: &Graph, target: &Dependency) -> Result<Plan
     ensures chain_count { IfOk result (λ plan. length plan.chain.items ≡ length (rounds_of plan)) }
     ensures no_empty { IfOk result (λ plan. All (λ round. 0 < length round) (rounds_of plan)) }
     ensures rounds { IfOk result (λ plan. AreRounds graph.now.staging.pending target.now (rounds_of plan)) }
-    ensures kept { IsOk result → IsKept graph.now.staging }
 {
-    let view = graph.view()?;
-    plan_view(alloc, &view, target)
+    let _families = graph.families();
+    let wanted = graph.wanted(target)?;
+    let rounds = wanted_rounds(alloc, graph, &wanted, graph.depth())?;
+    let chain = shown_last(alloc, graph, &rounds)?;
+    Ok(Plan { rounds, chain })
 }
 
 /// The plan of a target, which any dependency may be. A need that is persistent is passed over.
 ///
-/// Refused 4 NotStaged, 5 InFlight, 9 OutOfMemory. Cost: as `plan_view`, and a copy of all needs that wait.
+/// Refused 4 NotStaged, 5 InFlight, 9 OutOfMemory. Takes time and memory that grow with what waits.
 pub fn plan(alloc: Global, graph: &Graph, target: &Dependency) -> Result<Plan, Refusal>
     ensures schedule { IfOk result (λ plan. IsSchedule graph.now.staging.pending (rounds_of plan)) }
     ensures covers { IfOk result (λ plan. Covers graph.now.staging.pending (rounds_of plan) target.now) }
@@ -166,7 +170,7 @@ fn queues(alloc: Global, graph: &Graph, depth: usize) -> Result<Vec<Vec<Element>
 }
 
 /// The first element of the last round, where there is one.
-fn first_of_last(rounds: &[Vec<Element>]) -> Option<Element>
+pub fn first_of_last(rounds: &[Vec<Element>]) -> Option<Element>
     ensures some { IfSome result (λ x. (0 < length rounds.now) × ((d : Vec Item Heap) → Contains (slice_index_or rounds.now (length rounds.now - 1) d).items x)) }
     ensures none { result ≡ None → 0 < length rounds.now → (d : Vec Item Heap) → (slice_index_or rounds.now (length rounds.now - 1) d).items ≡ [] }
 {
@@ -178,7 +182,7 @@ fn first_of_last(rounds: &[Vec<Element>]) -> Option<Element>
 }
 
 /// The chain that ends in an element of this height.
-fn follow(
+pub fn follow(
     alloc: Global,
     graph: &Graph,
     end: Element,
@@ -190,14 +194,26 @@ fn follow(
     ensures last { IfOk result (λ chain. LastIs (λ y. y ≡ end) chain.items) }
     ensures count { IfOk result (λ chain. length chain.items ≡ height) }
 {
-    let mut chain = Vec::new(alloc);
+    let mut made = Vec::new(alloc);
     let mut element = end;
     for i in 0..height {
         let _turn = i;
-        chain.insert(0, element)?;
+        made.push(element)?;
         element = earlier(graph, element);
     }
+    let chain = turned(alloc, &made)?;
     Ok(chain)
+}
+
+/// The same elements from the last to the first.
+fn turned(alloc: Global, elements: &[Element]) -> Result<Vec<Element>, AllocError>
+    ensures { IfOk result (λ xs. xs.items ≡ backwards elements.now) }
+{
+    let mut turned = Vec::new(alloc);
+    for k in (0..elements.len()).rev() {
+        turned.push(elements[k])?;
+    }
+    Ok(turned)
 }
 
 /// A need of an element that is one lower, where there is one.

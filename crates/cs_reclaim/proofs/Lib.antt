@@ -3,5 +3,4 @@ pub mod Living
 pub mod Moving
 pub mod Retiring
 pub mod Sweeping
-pub mod TestPlaces
 pub mod RetireKeeps

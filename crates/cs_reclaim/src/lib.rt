@@ -10,6 +10,3 @@ mod sweeps;
 
 pub use laws::{a_sweep_keeps_every_shard, a_swept_extent_stays};
 pub use sweeps::Sweep;
-
-#[cfg(test)]
-mod tests;

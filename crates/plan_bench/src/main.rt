@@ -2,6 +2,7 @@
 //! plain writes so far. The second says what is done with them:
 //!
 //! - `plan`, and where none is given: all wait, with a root over the latest version at the end, and are planned at once;
+//! - `target`: the same, and what is planned is the latest superblock version and what it needs;
 //! - `steady`: a round is out all the time, and after each put it ends and the next is taken;
 //! - `gets`: all wait, and a million times the newest write to a page is looked up.
 #![tactic(auto)]
@@ -9,7 +10,7 @@
 ghost use Rattle.std.specs.Prelude.{None, ◌≡◌};
 
 use cs_deps::{Dependency, Graph, Refusal};
-use cs_plan::{next_round, plan_all};
+use cs_plan::{next_round, plan, plan_all};
 use std::alloc::{AllocError, Global};
 use std::num::ParseIntError;
 use std::rt::Env;
@@ -43,6 +44,7 @@ fn puts_wanted(rt: &(impl Env + AllocGlobal)) -> Result<u64, Fault> {
 #[derive(Drop)]
 enum Work {
     Plan,
+    Target,
     Steady,
     Gets,
 }
@@ -51,6 +53,7 @@ enum Work {
 fn work_wanted(rt: &(impl Env + AllocGlobal)) -> Result<Work, Fault> {
     match env::args(rt)?.nth(2) {
         Some(text) => match text.as_str() {
+            "target" => Ok(Work::Target),
             "steady" => Ok(Work::Steady),
             "gets" => Ok(Work::Gets),
             _ => Ok(Work::Plan),
@@ -90,6 +93,25 @@ fn plan_puts(rt: &HostRuntime, graph: &mut Graph, puts: u64) -> Result<(), Fault
         plan.rounds.len(),
         plan.chain.len()
     )?;
+    Ok(())
+}
+
+/// All puts wait, and what is planned is the latest superblock version and what it needs.
+fn plan_superblock(rt: &HostRuntime, graph: &mut Graph, puts: u64) -> Result<(), Fault> {
+    let alloc = rt.alloc();
+    for _ in 0..puts {
+        stage_put(alloc, graph, 2)?;
+    }
+    stage_root(alloc, graph)?;
+    if graph.families() == 2 {
+        let target = Dependency::on_version(alloc, 0, graph.last_version(0))?;
+        let plan = plan(alloc, graph, &target)?;
+        println!(*rt;
+            "puts {puts} rounds {} chain {}",
+            plan.rounds.len(),
+            plan.chain.len()
+        )?;
+    }
     Ok(())
 }
 
@@ -145,6 +167,7 @@ fn main(rt: HostRuntime) -> Result<(), Fault> {
     let mut graph = Graph::new(rt.alloc(), &[1, 1])?;
     match work_wanted(&rt)? {
         Work::Plan => plan_puts(&rt, &mut graph, puts),
+        Work::Target => plan_superblock(&rt, &mut graph, puts),
         Work::Steady => put_steadily(&rt, &mut graph, puts),
         Work::Gets => get_beside(&rt, &mut graph, puts),
     }

@@ -140,7 +140,7 @@ fn core_that_fails(
 }
 
 /// Asserts what a script prints on a disk of which a call fails, and its exit status, and that it leaves a core or none.
-fn fails(
+pub fn fails(
     rt: &(impl Abort + AllocGlobal),
     call: u64,
     script: &str,

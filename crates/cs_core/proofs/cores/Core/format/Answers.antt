@@ -3,6 +3,7 @@ use Rattle.cs_disk.specs.Disk.{Image, page}
 use Rattle.cs_extent.specs.State.{shape}
 use Rattle.cs_frame.specs.Formats.{formats_of}
 use Rattle.cs_model.specs.Recovery.{Recovers}
+use Rattle.cs_core.proofs.Heads.{formatted}
 use Rattle.cs_core.proofs.Starting.{new_core, new_recovers}
 use Rattle.cs_core.proofs.cores.Core.format.Goals as goal
 
@@ -26,3 +27,6 @@ returns-in-Ok-written-clause-start g c = λ honest.
     subst (λ (i : Image). Recovers (shape v.extents) (formats_of (shape v.extents)) (page i) 0 (λ id. None)) (sym (ap (λ d. (g.D.PageDisk.state d).durable) c.of.ensures))
     (new_recovers c.args.geometry.extents c.args.geometry.pages v c.in-Ok.made.superblock c.in-Ok.made.root c.in-Ok.ensures (g.D.PageDisk.state c.args.disk) (g.D.PageDisk.state c.write_new-written.new.disk)
     (omega (arith, there, size)) (c.in-Ok-written.ensures.written honest))
+
+pub returns-in-Ok-written-clause-written : goal.returns-in-Ok-written-clause-written
+returns-in-Ok-written-clause-written g c = λ honest. formatted (g.D.PageDisk.state c.args.disk) (g.D.PageDisk.state c.write_new-written.new.disk) c.in-Ok.made.superblock c.in-Ok.made.root (c.in-Ok-written.ensures.written honest)

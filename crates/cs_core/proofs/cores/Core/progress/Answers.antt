@@ -7,3 +7,6 @@ returns-clause-within g c = rw (← c.self.view_is) (λ honest.
     let was = c.self.invariant.legal honest in
     let within = frontier_within _ was.0 was.1.store in
     omega (arith, within, c.frontier.ensures, c.accepted.ensures.count))
+
+pub returns-clause-legal : goal.returns-clause-legal
+returns-clause-legal g c = rw (← c.self.view_is) (λ honest. c.self.invariant.legal honest)

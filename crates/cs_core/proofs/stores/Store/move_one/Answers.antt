@@ -3,7 +3,7 @@ use Rattle.cs_extent.specs.State.{extents_of, shape}
 use Rattle.cs_core.specs.contracts.stores.Store.{the_view}
 use Rattle.cs_core.specs.Reads.{MoveAnswers}
 use Rattle.cs_core.specs.Stored.{Stored, page_total}
-use Rattle.cs_core.proofs.KeptMoves.{kept_moved}
+use Rattle.cs_core.proofs.KeptMoves.{kept_moved, move_behind}
 use Rattle.cs_core.proofs.MoveSteps.{move_answers, move_unswept}
 use Rattle.cs_core.proofs.SweepSteps.{unswept}
 use Rattle.cs_core.proofs.stores.Store.move_one.Goals as goal
@@ -30,3 +30,10 @@ returns-clause-step g c = rw (← c.self.view_is) (λ runs honest.
     c.in-Some.sweep marks c.move_one.result c.move_one.new.extents c.move_one.new.graph c.move_one.new.index d.none (λ is. let u = d.unchanged is in (u.0, u.1, u.2))
     (λ id k is. let m = d.moved id k is in (m.0, m.1, m.2 honest)) (d.damaged honest) (d.why honest) d.refusals d.refused d.unwritten d.unstaged d.shape in
     subst (λ (k : ℕ). MoveAnswers v (g.D.PageDisk.state c.args.disk.now) k c.move_one.result w) at.0 answer)
+
+pub returns-clause-behind : goal.returns-clause-behind
+returns-clause-behind g c = rw (← c.self.view_is) (
+    let v : Stored = the_view c.self.inside in
+    let d = c.move_one.ensures in
+    move_behind v.index v.extents v.graph c.in-Some.sweep c.move_one.new.index c.move_one.new.extents c.move_one.new.graph c.move_one.result
+    (λ is. let u = d.unchanged is in (u.0, u.1, u.2)) (λ id k is. let m = d.moved id k is in (m.0, m.1)))

@@ -83,3 +83,8 @@ returns-in-Ok-put_chunks-clause-step c = rw (← c.self.view_is) (λ runs s is.
     (λ none. ok_not c.in-Ok-put_chunks.places code.Full d.full (small, none)) (λ out. ok_not c.in-Ok-put_chunks.places code.WornOut d.worn (small, out)) young
     c.put_chunks.new.extents c.put_chunks.new.graph c.enter.new.index d.chunks.0 c.in-Ok-put_chunks.places.items d.chunks.1 d.chunks.2
     (set_from (id_number c.args.id) v.index c.reserve.new.self c.enter.new.index _ c.reserve.ensures.rest c.enter.ensures) c.put_chunks.ensures.shape)
+
+pub returns-in-Ok-put_chunks-clause-behind : goal.returns-in-Ok-put_chunks-clause-behind
+returns-in-Ok-put_chunks-clause-behind c = rw (← c.self.view_is) (
+    let s : Stored = the_view c.self.inside in
+    (moves_all s.extents s.graph ForPut _ c.in-Ok-put_chunks.places.items c.put_chunks.new.extents c.put_chunks.new.graph c.in-Ok-put_chunks.ensures.chunks.2).behind)

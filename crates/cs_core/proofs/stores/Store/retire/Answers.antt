@@ -62,3 +62,8 @@ returns-in-Err-clause-step c = rw (← c.self.view_is) (λ runs.
     let same : settled_rooms w ≡ settled_rooms v = roomed_roots v c.retire.new.extents c.retire.new.graph c.retire.new.index c.reserve.new.self.items d.unwritten d.unstaged (same_index v.index c.retire.new.index d.refused) c.reserve.ensures.items in
     let answer : Declines v (Retire c.in-Some.sweep) c.in-Err.refusal w = retire_refused v w c.extent_count.ensures.whole runs same c.in-Some.sweep marks c.in-Err.refusal c.in-Err._sweep d.back d.alive d.why d.refusals in
     subst (λ (k : ℕ). Declines v (Retire k) c.in-Err.refusal w) at.0 answer)
+
+pub returns-in-Ok-clause-behind : goal.returns-in-Ok-clause-behind
+returns-in-Ok-clause-behind c = rw (← c.self.view_is) (
+    let s : Stored = the_view c.self.inside in
+    (moves_retired s.index s.extents s.graph c.in-Some.sweep c.in-Ok.version _ c.retire.new.index c.retire.new.extents c.retire.new.graph c.in-Ok.ensures.retired c.retire.ensures.shape).behind)

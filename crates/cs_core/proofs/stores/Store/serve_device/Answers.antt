@@ -9,7 +9,8 @@ use Rattle.cs_core.specs.declared.events.Reply.TheVariants as told
 use Rattle.cs_core.specs.Views.{Serves}
 use Rattle.cs_core.specs.Answered.{IsAnswered}
 use Rattle.cs_core.specs.Stored.{settled_rooms}
-use Rattle.cs_core.proofs.Answering.{end_refused_so, end_so, if_refused_so, issue_refused_so, issue_so, move_none_so, move_so, refused_alone}
+use Rattle.cs_core.proofs.Answering.{end_refused_so, end_so, if_refused_so, issue_refused_so, issue_so, move_none_so, move_so, ok_of, refused_alone}
+use Rattle.cs_core.specs.Writebacks.{Stages}
 use Rattle.cs_core.proofs.ServeSteps.{end_refused, end_served, if_refused, issue_refused, issue_served, move_refused, moved_served, none_live_served}
 use Rattle.cs_core.proofs.stores.Store.serve_device.Goals as goal
 
@@ -110,7 +111,7 @@ pub returns-in-Ok-Some-clause-answered : goal.returns-in-Ok-Some-clause-answered
 returns-in-Ok-Some-clause-answered g c =
     let v = settled_rooms c.args.self.now in
     let w = settled_rooms c.move_one.new.self in
-    subst (λ (e : Asked). IsAnswered v e (told.Moved c.in-Ok-Some.id c.in-Ok-Some.chunk) w) (sym c.in-MoveOne.is) (move_so v w c.in-MoveOne.e c.in-Ok-Some.id c.in-Ok-Some.chunk c.move_one.ensures.round)
+    subst (λ (e : Asked). IsAnswered v e (told.Moved c.in-Ok-Some.id c.in-Ok-Some.chunk) w) (sym c.in-MoveOne.is) (move_so v w c.in-MoveOne.e c.in-Ok-Some.id c.in-Ok-Some.chunk c.move_one.ensures.round (ok_of (Stages v w) c.move_one.result (Some (c.in-Ok-Some.id, c.in-Ok-Some.chunk)) (search rules) c.move_one.ensures.behind))
 
 pub returns-in-Ok-None-clause-answered : goal.returns-in-Ok-None-clause-answered
 returns-in-Ok-None-clause-answered g c =

@@ -66,3 +66,9 @@ returns-in-Ok-Some-clause-staged c =
     let s : Stored = the_view c.self.inside in
     let e = c.stage.ensures in
     stage_empties c.stage.result _ s.index s.extents s.graph c.stage.new.self c.stage.new.extents c.stage.new.graph e.staged e.merged c.in-Ok-Some.version (search rules)
+
+pub returns-in-Ok-Some-clause-behind : goal.returns-in-Ok-Some-clause-behind
+returns-in-Ok-Some-clause-behind c = rw (← c.self.view_is) (
+    let s : Stored = the_view c.self.inside in
+    let e = c.stage.ensures in
+    (stage_moves c.stage.result _ s.index s.extents s.graph c.stage.new.self c.stage.new.extents c.stage.new.graph e.unchanged e.staged e.merged e.refused e.unwritten e.unstaged).0.behind)

@@ -1,0 +1,95 @@
+//! A crash in each round over a swept extent, after its begin and after each of its issues, with each mask.
+use super::{core_of, run_on, script_text};
+use cs_core::{Core, Limits};
+use cs_disk::{CrashDisk, MemoryDisk};
+use std::alloc::Global;
+use std::process::Abort;
+use std::test::Fail;
+
+/// How many crashes left how many commands: none, two or four.
+#[derive(Clone, Copy)]
+struct Outcomes {
+    none: u64,
+    two: u64,
+    four: u64,
+}
+
+/// The disk after a sweep, two more puts and so many steps.
+fn stopped(rt: &(impl Abort + AllocGlobal), steps: u64) -> Result<MemoryDisk, Fail> {
+    let alloc = rt.alloc();
+    let mut text = script_text(
+        alloc,
+        "put @a 61 / put @b 62 / sweep 0 / put @c 63 / put @d 64 / plan",
+    )?;
+    for _ in 0..steps {
+        text.push_str("step\n")?;
+    }
+    let (ran, _) = run_on(rt, 6, &text)?;
+    Ok(core_of(rt, ran).into_disk())
+}
+
+/// The mask that a number stands for, its lowest digit first.
+fn mask_of(alloc: Global, count: usize, number: u64) -> Result<Vec<bool>, Fail> {
+    let mut mask = Vec::new(alloc);
+    let mut rest = number;
+    for _ in 0..count {
+        mask.push(rest % 2 == 1)?;
+        rest /= 2;
+    }
+    Ok(mask)
+}
+
+/// Counts what a crash after so many steps leaves, with this mask.
+fn count(
+    rt: &(impl Abort + AllocGlobal),
+    steps: u64,
+    number: u64,
+    outcomes: &mut Outcomes,
+) -> Result<(), Fail> {
+    let disk = stopped(rt, steps)?;
+    let mask = mask_of(rt.alloc(), disk.volatile(), number)?;
+    assert!(rt; disk.crashable());
+    assert!(rt; mask.len() == disk.volatile());
+    let disk = disk.crash(&mask);
+    let found = match Core::open(rt.alloc(), disk, Limits { history: 1 }) {
+        Ok(core) => core.opened(),
+        Err((refusal, _)) => {
+            assert!(rt; false, "{}", refusal.name());
+            unreachable!()
+        }
+    };
+    match found {
+        (0, 0) => outcomes.none = outcomes.none.saturating_add(1),
+        (2, 2) => outcomes.two = outcomes.two.saturating_add(1),
+        (4, 4) => outcomes.four = outcomes.four.saturating_add(1),
+        _ => assert!(rt; false, "{steps} steps, mask {number}"),
+    }
+    Ok(())
+}
+
+/// The rounds have six, one, one, three, one and one members: with the begin of each and its end, 25 steps. A step that ends a round
+/// leaves nothing volatile, and is no stop.
+#[test]
+fn each_stop_with_each_mask(rt: HostRuntime) -> Result<(), Fail> {
+    let mut outcomes = Outcomes {
+        none: 0,
+        two: 0,
+        four: 0,
+    };
+    let mut begun: u64 = 0;
+    for members in [6, 1, 1, 3, 1, 1] {
+        for issued in 0..=members {
+            for number in 0..1 << issued {
+                count(
+                    &rt,
+                    begun.saturating_add(1).saturating_add(issued),
+                    number,
+                    &mut outcomes,
+                )?;
+            }
+        }
+        begun = begun.saturating_add(members).saturating_add(2);
+    }
+    assert_eq!(rt; (outcomes.none, outcomes.two, outcomes.four), (132, 21, 1));
+    Ok(())
+}

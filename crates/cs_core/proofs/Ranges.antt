@@ -1,0 +1,149 @@
+-- The numbers under which an opening is refused.
+use Rattle.std.proofs.Common.{◌≡◌, ◌⊎◌, inl, inr, ⊎_elim, ℕ, ◌+◌, ◌*◌, ◌^◌, ◌≤◌, Bool, true, false, List, [], ◌∷◌, ◌++◌, codes, length, drop, Option, Some, None, Result, Ok, Err, IfErr, arith, refl, sym, subst, bytes_eq, nat_le}
+use Rattle.std.specs.Prelude.{◌==◌, ◌&&◌, nat_lt, slice_index}
+use Rattle.std.specs.List.{list_all}
+use Rattle.std.proofs.lemmas.Option.{same_Some}
+use Rattle.cs_chunk.specs.Reads.{IsNoAnswer, IsOfFault, IsReadRefusal, refusal_for}
+use Rattle.cs_deps.specs.declared.refusals.Refusal.{Refusal}
+use Rattle.cs_deps.specs.declared.refusals.Refusal.TheVariants.{NotAStore, OutOfMemory as NoMemory}
+use Rattle.cs_deps.specs.Refusals.{number_of}
+use Rattle.cs_frame.specs.declared.faults.FormatFault.{FormatFault}
+use Rattle.cs_frame.specs.declared.faults.FormatFault.TheVariants.{BadDigest, BadGeometry, BadLength, BadMagic, BadPadding, BadVersion, OutOfMemory, OutOfOrder}
+use Rattle.cs_frame.specs.Bytes.{all_zero, field, number}
+use Rattle.cs_frame.specs.Faults.{fault_number, first_fault, unless}
+use Rattle.cs_frame.specs.Pages.{digest_test}
+use Rattle.cs_frame.specs.Roots.{root_end, root_fault, root_tests}
+use Rattle.cs_frame.specs.Runs.{entries_tests, entry_end, id_in, is_before, order_test, pieces_in, run_fault, run_tests}
+use Rattle.cs_frame.specs.Superblocks.{extents_in, superblock_end, superblock_fault, superblock_tests}
+use Rattle.cs_core.specs.Openings.{IsOpeningRefusal}
+
+abbrev InRange : FormatFault → Type 0
+InRange f = (20 ≤ fault_number f) × (fault_number f ≤ 25)
+
+-- whatever this test finds is in range
+abbrev FindsInRange : Option FormatFault → Type 0
+FindsInRange test = (f : FormatFault) → test ≡ Some f → InRange f
+
+abbrev AllFind : List (Option FormatFault) → Type 0
+AllFind [] = Unit {0}
+AllFind (test ∷ tests) = FindsInRange test × AllFind tests
+
+finds : (b : Bool) (g : FormatFault) → InRange g → FindsInRange (unless b g)
+finds true g is f h = absurd (cc h)
+finds false g is f h = subst InRange (same_Some g f h) is
+
+first_finds : (tests : List (Option FormatFault)) → AllFind tests → FindsInRange (first_fault tests)
+first_finds [] all f h = absurd (cc h)
+first_finds (None ∷ tests) all f h = first_finds tests all.1 f h
+first_finds (Some g ∷ tests) all f h = all.0 f h
+
+all_find : (xs ys : List (Option FormatFault)) → AllFind xs → AllFind ys → AllFind (xs ++ ys)
+all_find [] ys a b = b
+all_find (x ∷ xs) ys a b = (a.0, all_find xs ys a.1 b)
+
+digest : (end : ℕ) (bytes : List ℕ) → FindsInRange (digest_test end bytes)
+digest end bytes = finds _ BadDigest (omega arith, omega arith)
+
+superblock_finds : (bytes : List ℕ) → FindsInRange (superblock_fault bytes)
+superblock_finds bytes = first_finds (superblock_tests bytes) (
+  finds (bytes_eq (field 0 3 bytes) (codes "CSS")) BadMagic (omega arith, omega arith),
+  (
+    finds (slice_index bytes 3 == 49) BadVersion (omega arith, omega arith),
+    (
+      finds (nat_le 4 (number 12 14 bytes) && nat_le (number 12 14 bytes) 512 && nat_le 2 (number 14 16 bytes) && nat_le (number 14 16 bytes) 256) BadLength (omega arith, omega arith),
+      (
+        digest (superblock_end bytes) bytes,
+        (
+          finds (nat_le 1 (number 4 12 bytes) && nat_lt (number 4 12 bytes) (2 ^ 63)) BadVersion (omega arith, omega arith),
+          (
+            finds (list_all (λ (extent : ℕ × ℕ). nat_le extent.0 (number 14 16 bytes)) (extents_in bytes)) BadLength (omega arith, omega arith),
+            (
+              finds (all_zero (drop (superblock_end bytes + 32) bytes)) BadPadding (omega arith, omega arith),
+              tt,
+            ),
+          ),
+        ),
+      ),
+    ),
+  ),
+)
+
+root_finds : (bytes : List ℕ) → FindsInRange (root_fault bytes)
+root_finds bytes = first_finds (root_tests bytes) (
+  finds (bytes_eq (field 0 3 bytes) (codes "CSR")) BadMagic (omega arith, omega arith),
+  (
+    finds (slice_index bytes 3 == 49) BadVersion (omega arith, omega arith),
+    (
+      finds (nat_le (slice_index bytes 20) 4) BadLength (omega arith, omega arith),
+      (
+        digest (root_end bytes) bytes,
+        (
+          finds (nat_le 1 (number 4 12 bytes) && nat_lt (number 4 12 bytes) (2 ^ 63) && nat_lt (number 12 20 bytes) (2 ^ 63)) BadVersion (omega arith, omega arith),
+          (
+            finds (all_zero (drop (root_end bytes + 32) bytes)) BadPadding (omega arith, omega arith),
+            tt,
+          ),
+        ),
+      ),
+    ),
+  ),
+)
+
+order_finds : (previous : Option (List ℕ)) (id : List ℕ) → FindsInRange (order_test previous id)
+order_finds None id f h = absurd (cc h)
+order_finds (Some previous) id f h = finds (is_before previous id) OutOfOrder (omega arith, omega arith) f h
+
+entries_find : (previous : Option (List ℕ)) (pieces : List (List ℕ)) → AllFind (entries_tests previous pieces)
+entries_find previous [] = tt
+entries_find previous (piece ∷ pieces) = (
+  order_finds previous (id_in piece),
+  (
+    finds (nat_le (slice_index piece 16) 8) BadLength (omega arith, omega arith),
+    (
+      finds (all_zero (drop (entry_end piece) piece)) BadPadding (omega arith, omega arith),
+      entries_find (Some (id_in piece)) pieces,
+    ),
+  ),
+)
+
+run_finds : (payload : List ℕ) → FindsInRange (run_fault payload)
+run_finds payload = first_finds (run_tests payload) (
+  finds (nat_le 4 (length payload) && nat_le 1 (number 0 4 payload) && length payload == 4 + 81 * number 0 4 payload) BadLength (omega arith, omega arith),
+  entries_find None (pieces_in payload),
+)
+
+-- the refusal has the fault's number
+same_number : (f : FormatFault) → number_of (refusal_for f) ≡ fault_number f
+same_number BadGeometry = refl
+same_number OutOfMemory = refl
+same_number BadMagic = refl
+same_number BadDigest = refl
+same_number BadLength = refl
+same_number BadPadding = refl
+same_number BadVersion = refl
+same_number OutOfOrder = refl
+
+of_fault : (found : Option FormatFault) → FindsInRange found → (r : Refusal) → (r ≡ NoMemory) ⊎ IsOfFault found r → IsOpeningRefusal r
+of_fault found range r (inl memory) = inl (inr memory)
+of_fault found range r (inr fault) =
+    let there = range fault.0 fault.1 in
+    let number : number_of (refusal_for fault.0) ≡ fault_number fault.0 = same_number fault.0 in
+    inr (inl (subst (λ (k : Refusal). (20 ≤ number_of k) × (number_of k ≤ 25)) (sym fault.2) (omega (arith, number, there.0), omega (arith, number, there.1))))
+
+pub superblock_refused : (bytes : List ℕ) (r : Refusal) → (r ≡ NoMemory) ⊎ IsOfFault (superblock_fault bytes) r → IsOpeningRefusal r
+superblock_refused bytes r why = of_fault (superblock_fault bytes) (superblock_finds bytes) r why
+
+pub root_refused : (bytes : List ℕ) (r : Refusal) → (r ≡ NoMemory) ⊎ IsOfFault (root_fault bytes) r → IsOpeningRefusal r
+root_refused bytes r why = of_fault (root_fault bytes) (root_finds bytes) r why
+
+pub run_refused : (payload : List ℕ) (r : Refusal) → (r ≡ NoMemory) ⊎ IsOfFault (run_fault payload) r → IsOpeningRefusal r
+run_refused payload r why = of_fault (run_fault payload) (run_finds payload) r why
+
+-- the frame of a run isn't read
+pub frame_refused : (r : Refusal) → IsReadRefusal r → IsOpeningRefusal r
+frame_refused r why = ⊎_elim (λ (none : IsNoAnswer r). inl none) (λ (there : (20 ≤ number_of r) × (number_of r ≤ 24)). inr (inl (there.0, omega (arith, there.1)))) why
+
+-- no store is made of what was read
+pub load_refused : {T : Type 0} (P : Type 0) (result : Result T Refusal) → IfErr result (λ r. (r ≡ NoMemory) ⊎ ((r ≡ NotAStore) × P)) → IfErr result IsOpeningRefusal
+load_refused P (Ok x) why = tt
+load_refused P (Err r) why = ⊎_elim (λ (memory : r ≡ NoMemory). inl (inr memory)) (λ (is : (r ≡ NotAStore) × P). inr (inr is.0)) why

@@ -1,0 +1,50 @@
+-- Events one after another.
+use Rattle.std.specs.Prelude.{List, [], ◌∷◌, ◌≡◌, ◌≤◌, ◌⊎◌, ℕ}
+use Rattle.std.specs.List.{AllByRecursion}
+use Rattle.cs_deps.specs.declared.elements.Element.{Element as Name}
+use Rattle.cs_disk.specs.Disk.{Image, LeavesOnly, State as DiskState, page}
+use Rattle.cs_extent.specs.State.{shape}
+use Rattle.cs_bridge.specs.Crashes.{IsPrefix}
+use Rattle.cs_core.specs.declared.events.Event.{Event}
+use Rattle.cs_core.specs.declared.events.Event.TheVariants.{Begin, End}
+use Rattle.cs_core.specs.declared.events.Reply.{Reply}
+use Rattle.cs_core.specs.declared.events.Reply.TheVariants.{Begun, Ended}
+use Rattle.cs_core.specs.Meanings.{commands_said}
+use Rattle.cs_core.specs.Stored.{Stored}
+use Rattle.cs_core.specs.Views.{Applies, IsAsked, View}
+use Rattle.cs_core.specs.Writebacks.{WritesBack}
+
+-- these events with their replies, one after another, do this to a store
+abbrev pub AreDone : (old : Stored) → List (Event × Reply) → (new : Stored) → Type 0
+AreDone old [] new = new ≡ old
+AreDone old (x ∷ xs) new = (between : Stored) × WritesBack old x.0 x.1 between × AreDone between xs new
+
+-- no round ends
+abbrev pub EndsNone : Event → Reply → Type 0
+EndsNone End (Ended n) = ⊥
+EndsNone event reply = Unit {0}
+
+-- A round began, then these events came, none of which ended it, and then it ended.
+pub record IsRoundDone (old new : Stored) : Type 0 where
+  pub round : List Name
+  pub begun : Stored
+  pub begin : WritesBack old Begin (Begun round) begun
+  pub between : List (Event × Reply)
+  pub last : Stored
+  pub done : AreDone begun between last
+  pub still_out : AllByRecursion (λ (e : Event × Reply). EndsNone e.0 e.1) between
+  pub frontier : ℕ
+  pub end : WritesBack last End (Ended frontier) new
+
+module _ {D : Type 0} (honest : D → Type 0) (state : D → DiskState) (moment : D → ℕ) (left_since : D → ℕ → Image → Type 0) where
+  -- One call of `apply`, by what its contract says of crashes: an event was done, or nothing for want of memory.
+  pub record IsCall (old new : View D) : Type 0 where
+    pub did : ((event : Event) × (reply : Reply) × Applies honest state old event reply new) ⊎ IsAsked honest state old new
+    pub rises : old.store.frontier ≤ new.store.frontier
+    pub stays_honest : honest old.disk → honest new.disk
+    pub crash : honest old.disk → LeavesOnly moment left_since old.disk new.disk (IsPrefix (shape old.store.extents) (page old.opened) (commands_said old.history) old.store.frontier old.store.accepted)
+
+  -- one call and more, with these cores between them
+  abbrev pub AreCalls : (old : View D) → List (View D) → (new : View D) → Type 0
+  AreCalls old [] new = IsCall old new
+  AreCalls old (between ∷ later) new = IsCall old between × AreCalls between later new

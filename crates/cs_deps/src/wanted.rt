@@ -1,0 +1,115 @@
+//! What a target needs of what waits.
+ghost use Rattle.std.specs.Prelude.{◌≡◌, ℕ, ◌+◌, ◌<◌, ◌↔◌, ◌⊎◌, true, false, Contains, IfOk, IfSome, IsTrue, length, slice_index, slice_index_or};
+ghost use Rattle.cs_deps.specs.Named.{Names};
+ghost use Rattle.cs_deps.specs.Entries.{union};
+
+use crate::dependencies::Dependency;
+use crate::elements::Element;
+use std::alloc::{AllocError, Global};
+use std::marker::Model;
+
+/// A set of elements, in which a plain write that waits isn't sought.
+#[derive(Drop)]
+pub struct Wanted {
+    all: Dependency,
+    /// Whether each plain write from the one after `start` on is one of the single ones.
+    marks: Vec<bool>,
+    start: u64,
+}
+
+impl Model for Wanted {
+    ghost use Rattle.cs_deps.specs.Named.{Named};
+    ghost use Rattle.cs_deps.specs.Wanted.{AreMarked};
+
+    ghost Value = { Named };
+
+    ghost view = { λ w. w.all };
+
+    ghost invariant = { λ w. AreMarked w.start w.marks.items w.all.plains };
+}
+
+impl Wanted {
+    /// What the target names. So many plain writes from the one after `start` on are looked up and not sought.
+    pub(crate) fn new(
+        alloc: Global,
+        start: u64,
+        count: usize,
+        target: &Dependency,
+    ) -> Result<Self, AllocError>
+        ensures { IfOk result (λ w. w ≡ target.now) }
+    {
+        let all = target.copy()?;
+        let mut marks = vec![in alloc; false; count]?;
+        mark_all(&mut marks, start, target.listed());
+        Ok(Wanted { all, marks, start })
+    }
+
+    /// With what a dependency names.
+    pub(crate) fn with(self, more: &Dependency) -> Result<Self, AllocError>
+        ensures { IfOk result (λ w. w ≡ union self more.now) }
+    {
+        let mut wanted = self;
+        wanted.all.join(more)?;
+        mark_all(&mut wanted.marks, wanted.start, more.listed());
+        Ok(wanted)
+    }
+
+    /// Whether it names this element. A plain write that waits isn't searched for, and a version never is.
+    pub fn names(&self, element: Element) -> bool
+        ensures { IsTrue result ↔ Names self.now element }
+    {
+        match element {
+            Element::Plain(number) => match mark_at(&self.marks, self.start, number) {
+                Some(mark) => mark || number <= self.all.through_number(),
+                None => self.all.names(element),
+            },
+            Element::Version(_, _) => self.all.names(element),
+        }
+    }
+
+    /// The number to which it names the versions of a family, 0 where it names none.
+    pub fn least_of(&self, family: usize) -> u64
+        ensures { result ≡ slice_index self.now.least family }
+    {
+        self.all.least_of(family)
+    }
+}
+
+/// The mark of a number, where it has a place.
+fn mark_at(marks: &[bool], start: u64, number: u64) -> Option<bool>
+    ensures { IfSome result (λ mark. (i : ℕ) × (number ≡ start + i + 1) × (i < length marks.now) × (mark ≡ slice_index_or marks.now i false)) }
+{
+    if number <= start {
+        return None;
+    }
+    let place = number - start - 1;
+    if place < marks.len() as u64 {
+        Some(marks[place as usize])
+    } else {
+        None
+    }
+}
+
+/// Marks a number, where it has a place.
+fn mark(marks: &mut Vec<bool>, start: u64, number: u64)
+    ensures count { length marks.new.items ≡ length marks.old.items }
+    ensures marks { (i : ℕ) → i < length marks.old.items → (slice_index_or marks.new.items i false ≡ true) ↔ ((slice_index_or marks.old.items i false ≡ true) ⊎ (number ≡ start + i + 1)) }
+{
+    if number <= start {
+        return;
+    }
+    let place = number - start - 1;
+    if place < marks.len() as u64 {
+        marks[place as usize] = true;
+    }
+}
+
+/// Marks numbers.
+fn mark_all(marks: &mut Vec<bool>, start: u64, numbers: &[u64])
+    ensures count { length marks.new.items ≡ length marks.old.items }
+    ensures marks { (i : ℕ) → i < length marks.old.items → (slice_index_or marks.new.items i false ≡ true) ↔ ((slice_index_or marks.old.items i false ≡ true) ⊎ Contains numbers.now (start + i + 1)) }
+{
+    for number in numbers {
+        mark(marks, start, *number);
+    }
+}

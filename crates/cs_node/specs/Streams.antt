@@ -1,0 +1,34 @@
+-- Which event of writeback is due where rounds of several syncs overlap.
+use Rattle.std.specs.Prelude.{◌≡◌, ◌≢◌, ◌⊎◌, ◌<◌, ◌≤◌, [], None, Result, length, MatchResult}
+use Rattle.cs_deps.specs.declared.refusals.Refusal.{Refusal}
+use Rattle.cs_disk.specs.Disk.{State as DiskState}
+use Rattle.cs_core.specs.declared.events.Event.{Event}
+use Rattle.cs_core.specs.declared.events.Event.TheVariants.{Begin, End, Issue, Stage}
+use Rattle.cs_core.specs.declared.events.Reply.{Reply}
+use Rattle.cs_core.specs.Stored.{Stored, members_of}
+use Rattle.cs_core.specs.Views.{IsStep, View}
+use Rattle.cs_node.specs.declared.gates.Step.{Step}
+use Rattle.cs_node.specs.declared.gates.Step.TheVariants.{Idle}
+use Rattle.cs_node.specs.Dues.{IsAtRest, step_of}
+use Rattle.cs_node.specs.Locks.{IsRefused}
+
+-- the event that is due: what is left of the round that is out, else to stage what has changed, else a new round where something waits
+abbrev pub IsNext : Stored → Event → Type 0
+IsNext s Issue = s.issued < length (members_of s.out)
+IsNext s End = (s.out ≢ None) × (length (members_of s.out) ≤ s.issued)
+IsNext s Stage = (s.out ≡ None) × (s.index.table ≢ [])
+IsNext s Begin = (s.out ≡ None) × (s.index.table ≡ []) × (s.graph.staging.pending.waiting ≢ [])
+IsNext s event = ⊥
+
+-- one event was done, which this step names and which was due; or none was due
+abbrev pub Streams : {D : Type 0} → (honest : D → Type 0) → (state : D → DiskState) → (old : View D) → Step → (new : View D) → Type 0
+Streams honest state old step new = ((step ≡ Idle) × IsAtRest old.store × (new ≡ old))
+    ⊎ ((event : Event) × (reply : Reply) × (step ≡ step_of event) × IsNext old.store event × IsStep honest state old event reply new)
+
+-- the event that was due was refused: it was recorded with its refusal, and no other was; or none was
+abbrev pub IsStreamRefused : {D : Type 0} → (honest : D → Type 0) → (state : D → DiskState) → (old : View D) → Refusal → (new : View D) → Type 0
+IsStreamRefused honest state old r new = (event : Event) × IsNext old.store event × IsRefused honest state old event r new
+
+-- at most one event: the one that was due, which was done or refused
+abbrev pub IsStreamTurn : {D : Type 0} → (honest : D → Type 0) → (state : D → DiskState) → (old : View D) → Result Step Refusal → (new : View D) → Type 0
+IsStreamTurn honest state old result new = MatchResult result (λ step. Streams honest state old step new) (λ r. IsStreamRefused honest state old r new)

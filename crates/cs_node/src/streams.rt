@@ -1,0 +1,109 @@
+//! Who writes back under steady load.
+ghost use Rattle.std.specs.Prelude.{◌≡◌, IfErr, MatchOption};
+ghost use Rattle.cs_node.specs.Dues.{IsAtRest};
+ghost use Rattle.cs_node.specs.Locks.{IsBehind, WhileLocked};
+ghost use Rattle.cs_node.specs.Streams.{IsNext, IsStreamRefused, IsStreamTurn};
+
+use crate::boards::{Naming, Shown};
+use crate::gates::{Gate, Step, step_of};
+use crate::locked::Locked;
+use crate::nodes::Node;
+use crate::pilots::Pilot;
+use cs_core::{Core, Event};
+use cs_deps::Refusal;
+use cs_disk::PageDisk;
+use std::sync::Wait;
+use std::thread;
+
+/// The pilot's seat under steady load. Whenever no round is out it stages what has changed before the next round begins. So rounds of
+/// several syncs overlap: under one flush go the data of what came last, the superblock of what came before, and the root of what came
+/// before that.
+#[derive(Drop)]
+pub struct Stream<K: Naming> {
+    pilot: Pilot<K>,
+}
+
+impl<K: Naming> Stream<K> {
+    /// The pilot's seat for a stream.
+    pub fn new(pilot: Pilot<K>) -> Self {
+        Stream { pilot }
+    }
+
+    /// The pilot again.
+    pub fn into_pilot(self) -> Pilot<K> {
+        let Stream { pilot } = self;
+        pilot
+    }
+
+    /// Does the event of writeback that is due, under one lock: a round that is out goes on and ends, what the index has changed is
+    /// staged, a new round begins where something waits, or nothing is left to do.
+    ///
+    /// Refused as the event is, 9 OutOfMemory and 41 HistoryFull.
+    pub fn turn<D: PageDisk, G: Gate, R: Wait>(
+        &mut self,
+        rt: &R,
+        node: &Node<D, K>,
+        gate: &G,
+    ) -> Result<Step, Refusal>
+        ensures { WhileLocked D.honest D.state K.start (λ old new. IsStreamTurn D.honest D.state old result new) }
+    {
+        node.state.lock(rt).stream(&node.words.shared, gate)
+    }
+
+    /// Takes turns until the gate ends it or a turn is refused. It yields where there is nothing to do.
+    pub fn run<D: PageDisk, G: Gate, R: Wait>(
+        &mut self,
+        rt: &R,
+        node: &Node<D, K>,
+        gate: &G,
+    ) -> Result<(), Refusal>
+        ensures { IfErr result (λ r. WhileLocked D.honest D.state K.start (λ old new. IsStreamRefused D.honest D.state old r new)) }
+    {
+        for _ in rt.forever() {
+            if !gate.before() {
+                return Ok(());
+            }
+            if self.turn(rt, node, gate)? == Step::Idle {
+                thread::yield_now();
+            }
+        }
+        unreachable!()
+    }
+}
+
+/// Which event of writeback is due in a stream, None where nothing waits and nothing has changed.
+fn next_event<D: PageDisk>(core: &Core<D>) -> Option<Event>
+    ensures { MatchOption result (IsAtRest core.now.store) (λ event. IsNext core.now.store event) }
+{
+    if let Some((members, issued)) = core.round() {
+        if issued < members.len() {
+            return Some(Event::Issue);
+        }
+        return Some(Event::End);
+    }
+    if core.has_changes() {
+        return Some(Event::Stage);
+    }
+    if core.has_waiting() {
+        return Some(Event::Begin);
+    }
+    None
+}
+
+impl<D: PageDisk, K: Naming> Locked<D, K> {
+    /// Does the event of writeback that is due in a stream. Refused as the event is, 9 OutOfMemory and 41 HistoryFull.
+    pub fn stream<G: Gate>(&mut self, board: &Shown, gate: &G) -> Result<Step, Refusal>
+        requires { (board.now.table_id ≡ K.table) × (board.now.table_id.words ≡ 1) }
+        ensures turn { IsStreamTurn D.honest D.state self.old.core result self.new.core }
+        ensures given { (self.new.given ≡ self.old.given) × (self.new.piloted ≡ self.old.piloted) }
+        ensures behind { IsBehind D.honest D.state K.start self.old.core }
+    {
+        let Some(event) = next_event(self.core()) else {
+            return Ok(Step::Idle);
+        };
+        match self.work(board, &event, gate) {
+            Ok(_) => Ok(step_of(&event)),
+            Err(refusal) => Err(refusal),
+        }
+    }
+}

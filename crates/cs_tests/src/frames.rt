@@ -1,0 +1,305 @@
+//! The formats by their bytes, and by each byte that is damaged.
+use crate::tables::expected;
+use cs_frame::{
+    FormatFault, FrameKind, Geometry, Locator, Root, Run, ShardId, Superblock, decode_frame,
+    decode_frame_header, decode_root, decode_run, decode_superblock, encode_frame, encode_root,
+    encode_run, encode_superblock, frame_has_one_spelling, frame_is_read_by_its_header,
+    frame_pages, root_has_one_spelling, run_has_one_spelling, superblock_has_one_spelling,
+    these_formats_are_formats,
+};
+use std::test::Fail;
+
+// The expected pages are from the layouts, with digests by sha256sum.
+
+// A superblock as a store of 6 extents of 2 pages begins.
+const FORMAT_SUPERBLOCK: [u8; 84] = [
+    0x43, 0x53, 0x53, 0x31, 0x00, 0x00, 0x00, 0x00, 0x00, 0x00, 0x00, 0x01, 0x00, 0x06, 0x00, 0x02,
+    0x00, 0x00, 0x00, 0x00, 0x00, 0x00, 0x00, 0x00, 0x00, 0x00, 0x00, 0x00, 0x00, 0x00, 0x00, 0x00,
+    0x00, 0x00, 0x00, 0x00, 0x00, 0x00, 0x00, 0x00, 0x00, 0x00, 0x00, 0x00, 0x00, 0x00, 0x00, 0x00,
+    0x00, 0x00, 0x00, 0x00, 0x53, 0xde, 0x10, 0x0a, 0xa5, 0x6e, 0xae, 0xf3, 0x51, 0x95, 0x26, 0x6b,
+    0xcb, 0x33, 0x88, 0x7f, 0x53, 0xd4, 0x67, 0xc5, 0x2d, 0xd1, 0x24, 0xdf, 0xd9, 0xca, 0x5d, 0xb6,
+    0xd5, 0xb5, 0x95, 0x53,
+];
+
+// One put later.
+const SUPERBLOCK: [u8; 84] = [
+    0x43, 0x53, 0x53, 0x31, 0x00, 0x00, 0x00, 0x00, 0x00, 0x00, 0x00, 0x03, 0x00, 0x06, 0x00, 0x02,
+    0x00, 0x02, 0x00, 0x00, 0x00, 0x00, 0x00, 0x00, 0x00, 0x00, 0x00, 0x00, 0x00, 0x00, 0x00, 0x00,
+    0x00, 0x00, 0x00, 0x00, 0x00, 0x00, 0x00, 0x00, 0x00, 0x00, 0x00, 0x00, 0x00, 0x00, 0x00, 0x00,
+    0x00, 0x00, 0x00, 0x00, 0x1f, 0xe2, 0xc4, 0xcb, 0x0b, 0x99, 0x98, 0x63, 0xd2, 0xe2, 0x83, 0xe9,
+    0x16, 0xcc, 0x8d, 0x8e, 0x2a, 0xfd, 0x79, 0x34, 0xc7, 0xfe, 0xb1, 0xcf, 0x30, 0x27, 0xd1, 0xa7,
+    0x95, 0x6d, 0xbe, 0xef,
+];
+
+const FORMAT_ROOT: [u8; 53] = [
+    0x43, 0x53, 0x52, 0x31, 0x00, 0x00, 0x00, 0x00, 0x00, 0x00, 0x00, 0x01, 0x00, 0x00, 0x00, 0x00,
+    0x00, 0x00, 0x00, 0x00, 0x00, 0xa7, 0x03, 0x2c, 0xf5, 0xea, 0xe3, 0x80, 0x27, 0x5d, 0x1c, 0x5e,
+    0xda, 0xd4, 0xc2, 0x3a, 0x42, 0x0d, 0x94, 0x47, 0x65, 0x34, 0xb0, 0xd1, 0x36, 0xfd, 0x7d, 0x48,
+    0x78, 0x3f, 0x19, 0x5b, 0xf3,
+];
+
+const ROOT: [u8; 61] = [
+    0x43, 0x53, 0x52, 0x31, 0x00, 0x00, 0x00, 0x00, 0x00, 0x00, 0x00, 0x02, 0x00, 0x00, 0x00, 0x00,
+    0x00, 0x00, 0x00, 0x01, 0x01, 0x00, 0x00, 0x00, 0x01, 0x00, 0x00, 0x00, 0x00, 0xad, 0xc0, 0x11,
+    0xf4, 0xa1, 0x2b, 0x76, 0x64, 0xbe, 0x5d, 0xf6, 0x5e, 0xbc, 0xc3, 0xec, 0x5f, 0x43, 0x83, 0xf9,
+    0xe4, 0xa0, 0x25, 0x93, 0xa1, 0xf6, 0xf9, 0x2f, 0xff, 0xb8, 0x8f, 0xe5, 0x70,
+];
+
+// A chunk of the byte 61.
+const CHUNK: [u8; 42] = [
+    0x43, 0x53, 0x46, 0x31, 0x00, 0x00, 0x00, 0x00, 0x01, 0xca, 0x97, 0x81, 0x12, 0xca, 0x1b, 0xbd,
+    0xca, 0xfa, 0xc2, 0x31, 0xb3, 0x9a, 0x23, 0xdc, 0x4d, 0xa7, 0x86, 0xef, 0xf8, 0x14, 0x7c, 0x4e,
+    0x72, 0xb9, 0x80, 0x77, 0x85, 0xaf, 0xee, 0x48, 0xbb, 0x61,
+];
+
+// A run of one identifier.
+const RUN: [u8; 126] = [
+    0x43, 0x53, 0x46, 0x31, 0x01, 0x00, 0x00, 0x00, 0x55, 0x08, 0xe3, 0x07, 0xea, 0x1b, 0xcb, 0x07,
+    0x73, 0xad, 0x46, 0x47, 0x6b, 0x52, 0x05, 0xf9, 0x73, 0x87, 0xca, 0x92, 0xb3, 0x83, 0x0d, 0x16,
+    0x0f, 0x48, 0x3f, 0xd2, 0xf4, 0xfa, 0xb0, 0x6b, 0x30, 0x00, 0x00, 0x00, 0x01, 0x00, 0x00, 0x00,
+    0x00, 0x00, 0x00, 0x00, 0x00, 0x00, 0x00, 0x00, 0x00, 0x00, 0x00, 0x00, 0x0a, 0x01, 0x00, 0x00,
+    0x00, 0x00, 0x00, 0x00, 0x00, 0x00, 0x00, 0x00, 0x00, 0x00, 0x00, 0x00, 0x00, 0x00, 0x00, 0x00,
+    0x00, 0x00, 0x00, 0x00, 0x00, 0x00, 0x00, 0x00, 0x00, 0x00, 0x00, 0x00, 0x00, 0x00, 0x00, 0x00,
+    0x00, 0x00, 0x00, 0x00, 0x00, 0x00, 0x00, 0x00, 0x00, 0x00, 0x00, 0x00, 0x00, 0x00, 0x00, 0x00,
+    0x00, 0x00, 0x00, 0x00, 0x00, 0x00, 0x00, 0x00, 0x00, 0x00, 0x00, 0x00, 0x00, 0x00,
+];
+
+// A chunk of no byte.
+const EMPTY_CHUNK: [u8; 41] = [
+    0x43, 0x53, 0x46, 0x31, 0x00, 0x00, 0x00, 0x00, 0x00, 0xe3, 0xb0, 0xc4, 0x42, 0x98, 0xfc, 0x1c,
+    0x14, 0x9a, 0xfb, 0xf4, 0xc8, 0x99, 0x6f, 0xb9, 0x24, 0x27, 0xae, 0x41, 0xe4, 0x64, 0x9b, 0x93,
+    0x4c, 0xa4, 0x95, 0x99, 0x1b, 0x78, 0x52, 0xb8, 0x55,
+];
+
+const FIRST: Locator = Locator {
+    extent: 0,
+    page: 0,
+    generation: 0,
+};
+
+const SECOND: Locator = Locator {
+    extent: 0,
+    page: 1,
+    generation: 0,
+};
+
+// The page begins with these bytes, and zeros follow.
+fn is_page(page: &[u8; 4096], start: &[u8]) -> bool {
+    page.strip_prefix(start)
+        .is_some_and(|rest| rest.iter().all(|byte| *byte == 0))
+}
+
+#[test]
+fn superblocks(rt: HostRuntime) -> Result<(), Fail> {
+    let extents = vec![in rt.alloc(); (0, 0), (0, 0), (0, 0), (0, 0), (0, 0), (0, 0)]?;
+    let first = Superblock {
+        version: 1,
+        pages: 2,
+        extents,
+    };
+    assert!(rt; is_page(&encode_superblock(&first), &FORMAT_SUPERBLOCK));
+    let extents = vec![in rt.alloc(); (2, 0), (0, 0), (0, 0), (0, 0), (0, 0), (0, 0)]?;
+    let later = Superblock {
+        version: 3,
+        pages: 2,
+        extents,
+    };
+    let page = encode_superblock(&later);
+    assert!(rt; is_page(&page, &SUPERBLOCK));
+    let read = decode_superblock(rt.alloc(), &page)?;
+    assert_eq!(rt; (read.version, read.pages, read.extents.len()), (3, 2, 6));
+    Ok(())
+}
+
+#[test]
+fn damaged_superblocks(rt: HostRuntime) -> Result<(), Fail> {
+    let table = [(3, 20), (4, 24), (14, 21), (15, 22), (84, 21), (4096, 23)];
+    let mut page = [0; 4096];
+    page[..84].copy_from_slice(&SUPERBLOCK);
+    for i in 0..4096 {
+        page[i] ^= 1;
+        let found = decode_superblock(rt.alloc(), &page)
+            .err()
+            .map_or(0, |fault| fault.number());
+        assert_eq!(rt; found, expected(&table, i), "at {i}");
+        page[i] ^= 1;
+    }
+    Ok(())
+}
+
+#[test]
+fn roots(rt: HostRuntime) -> Result<(), Fail> {
+    let first = Root {
+        version: 1,
+        commands: 0,
+        runs: Vec::new(rt.alloc()),
+    };
+    assert!(rt; is_page(&encode_root(&first), &FORMAT_ROOT));
+    let later = Root {
+        version: 2,
+        commands: 1,
+        runs: vec![in rt.alloc(); SECOND]?,
+    };
+    let page = encode_root(&later);
+    assert!(rt; is_page(&page, &ROOT));
+    let read = decode_root(rt.alloc(), &page)?;
+    assert_eq!(rt; (read.version, read.commands), (2, 1));
+    assert_eq!(rt; read.runs.as_slice(), [SECOND].as_slice());
+    Ok(())
+}
+
+#[test]
+fn damaged_roots(rt: HostRuntime) -> Result<(), Fail> {
+    let table = [(3, 20), (4, 24), (61, 21), (4096, 23)];
+    let mut page = [0; 4096];
+    page[..61].copy_from_slice(&ROOT);
+    for i in 0..4096 {
+        page[i] ^= 1;
+        let found = decode_root(rt.alloc(), &page)
+            .err()
+            .map_or(0, |fault| fault.number());
+        assert_eq!(rt; found, expected(&table, i), "at {i}");
+        page[i] ^= 1;
+    }
+    Ok(())
+}
+
+#[test]
+fn frames(rt: HostRuntime) -> Result<(), Fail> {
+    let alloc = rt.alloc();
+    for (payload, start) in [(b"a".as_slice(), CHUNK.as_slice()), (b"", &EMPTY_CHUNK)] {
+        let pages = encode_frame(alloc, FrameKind::Chunk, payload)?;
+        assert_eq!(rt; pages.len(), 1);
+        assert!(rt; is_page(&pages[0], start));
+        let header = decode_frame_header(FrameKind::Chunk, &pages[0], 1)?;
+        assert_eq!(rt;
+            (header.payload_len as usize, header.pages()),
+            (payload.len(), 1)
+        );
+        let read = decode_frame(alloc, FrameKind::Chunk, &pages)?;
+        assert_eq!(rt; read.as_slice(), payload);
+    }
+    Ok(())
+}
+
+#[test]
+fn frames_of_two_pages(rt: HostRuntime) -> Result<(), Fail> {
+    let alloc = rt.alloc();
+    let payload = [7; 4056].to_vec(alloc)?;
+    assert_eq!(rt; (frame_pages(4055), frame_pages(4056)), (1, 2));
+    let pages = encode_frame(alloc, FrameKind::Run, &payload)?;
+    assert_eq!(rt; pages.len(), 2);
+    assert_eq!(rt; (pages[0][4095], pages[1][0], pages[1][1]), (7, 7, 0));
+    let header = decode_frame_header(FrameKind::Run, &pages[0], 1);
+    assert_eq!(rt; header, Err(FormatFault::BadLength));
+    let read = decode_frame(alloc, FrameKind::Run, &pages)?;
+    assert_eq!(rt; read.as_slice(), payload.as_slice());
+    Ok(())
+}
+
+#[test]
+fn damaged_frames(rt: HostRuntime) -> Result<(), Fail> {
+    let chunk = [(3, 20), (5, 24), (7, 22), (42, 21), (4096, 23)];
+    let run = [(3, 20), (5, 24), (7, 22), (126, 21), (4096, 23)];
+    let mut pages = [[0; 4096], [0; 4096]];
+    pages[0][..42].copy_from_slice(&CHUNK);
+    pages[1][..126].copy_from_slice(&RUN);
+    for i in 0..4096 {
+        pages[0][i] ^= 1;
+        pages[1][i] ^= 1;
+        let found = decode_frame(rt.alloc(), FrameKind::Chunk, &pages)
+            .err()
+            .map_or(0, |fault| fault.number());
+        assert_eq!(rt; found, expected(&chunk, i), "chunk at {i}");
+        let found = decode_frame(rt.alloc(), FrameKind::Run, &pages[1..])
+            .err()
+            .map_or(0, |fault| fault.number());
+        assert_eq!(rt; found, expected(&run, i), "run at {i}");
+        pages[0][i] ^= 1;
+        pages[1][i] ^= 1;
+    }
+    Ok(())
+}
+
+#[test]
+fn runs(rt: HostRuntime) -> Result<(), Fail> {
+    let alloc = rt.alloc();
+    let id = ShardId::parse("00000000-0000-0000-0000-00000000000A")?;
+    assert_eq!(rt;
+        format!(in alloc; "{id}")?.as_str(),
+        "00000000-0000-0000-0000-00000000000a"
+    );
+    let mut entries = Vec::new(alloc);
+    entries.push((id, vec![in alloc; FIRST]?))?;
+    let payload = encode_run(alloc, &Run { entries })?;
+    assert_eq!(rt; payload.as_slice(), &RUN[41..]);
+    let read = decode_run(alloc, &payload)?;
+    assert_eq!(rt; read.entries.len(), 1);
+    for (found, locators) in &read.entries {
+        assert_eq!(rt; *found, id);
+        assert_eq!(rt; locators.as_slice(), [FIRST].as_slice());
+    }
+    Ok(())
+}
+
+#[test]
+fn damaged_runs(rt: HostRuntime) -> Result<(), Fail> {
+    // Two entries of one locator each, by the identifiers 0a and 0b.
+    let mut payload = [0; 166];
+    payload[3] = 2;
+    payload[19] = 10;
+    payload[20] = 1;
+    payload[24] = 1;
+    payload[100] = 11;
+    payload[101] = 1;
+    payload[105] = 1;
+    let table = [
+        (4, 22),
+        (20, 25),
+        (21, 23),
+        (29, 0),
+        (85, 23),
+        (100, 0),
+        (101, 25),
+        (102, 23),
+        (110, 0),
+        (166, 23),
+    ];
+    for i in 0..166 {
+        payload[i] ^= 1;
+        let found = decode_run(rt.alloc(), &payload)
+            .err()
+            .map_or(0, |fault| fault.number());
+        assert_eq!(rt; found, expected(&table, i), "at {i}");
+        payload[i] ^= 1;
+    }
+    Ok(())
+}
+
+#[test]
+fn geometries(rt: HostRuntime) -> Result<(), Fail> {
+    let geometry = Geometry::new(6, 2)?;
+    assert_eq!(rt; (geometry.extents(), geometry.pages()), (6, 2));
+    assert_eq!(rt;
+        (geometry.device_pages(), geometry.device_page(5, 1)),
+        (14, 13)
+    );
+    assert_eq!(rt;
+        (geometry.payload_bytes(), geometry.named_limit()),
+        (8151, 100)
+    );
+    assert_eq!(rt; Geometry::new(512, 256)?.named_limit(), 12944);
+    let refused = Geometry::new(3, 2).err().map(|fault| fault.number());
+    assert_eq!(rt; refused, Some(7));
+    Ok(())
+}
+
+#[test]
+fn laws() {
+    superblock_has_one_spelling();
+    root_has_one_spelling();
+    run_has_one_spelling();
+    frame_has_one_spelling();
+    frame_is_read_by_its_header();
+    these_formats_are_formats();
+}

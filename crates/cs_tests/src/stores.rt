@@ -1,0 +1,43 @@
+//! The parts of a store that tests of several crates need.
+ghost use Rattle.std.specs.Prelude.{ℕ, ◌≤◌, slice_index};
+ghost use Rattle.cs_extent.specs.State.{extents_of};
+
+use cs_deps::Graph;
+use cs_extent::Extents;
+use cs_frame::{ShardId, Superblock};
+use cs_index::Index;
+use std::alloc::Global;
+use std::process::Abort;
+use std::test::Fail;
+
+/// An index with the extents where its shards and runs lie, and the graph that all is staged in.
+#[derive(Drop)]
+pub struct Store {
+    pub index: Index,
+    pub extents: Extents,
+    pub graph: Graph,
+    ghost staged: { (e : ℕ) → (extents_of extents).reset e ≤ slice_index graph.staging.latest 1 },
+}
+
+/// An identifier whose last byte is this.
+pub fn id(last: u8) -> ShardId {
+    ShardId([0, 0, 0, 0, 0, 0, 0, 0, 0, 0, 0, 0, 0, 0, 0, last])
+}
+
+/// An empty store of 6 extents of 2 pages, with version 1 of superblock and root persistent.
+pub fn new_store(rt: &impl Abort, alloc: Global) -> Result<Store, Fail> {
+    let superblock = Superblock {
+        version: 1,
+        pages: 2,
+        extents: Vec::from_slice(alloc, &[(0, 0); 6])?,
+    };
+    assert_eq!(rt; superblock.extents.len(), 6);
+    let extents = Extents::of(alloc, &superblock)?;
+    let graph = Graph::new(alloc, &[1, 1])?;
+    let index = Index::load(alloc, 100, Vec::new(alloc))?;
+    Ok(Store {
+        index,
+        extents,
+        graph,
+    })
+}

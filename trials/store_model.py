@@ -1,0 +1,434 @@
+"""A second store, written from the rules in docs/ alone and sharing nothing with the first: it answers scripts line by line.
+
+It keeps sets where the program keeps levels, and counts everything anew at each plan, so it is slow and short."""
+import json
+
+PAGE = 4096
+ENTRY = 81
+FAMILIES = ("s", "r")
+
+
+class Refused(Exception):
+    def __init__(self, number, name):
+        super().__init__(f"refused {number} {name}")
+
+
+FULL = (30, "Full")
+TOO_LARGE = (31, "TooLarge")
+INDEX_FULL = (32, "IndexFull")
+NOT_SWEEPABLE = (33, "NotSweepable")
+IN_FLIGHT = (5, "InFlight")
+
+
+class BadLine(Exception):
+    pass
+
+
+class Disk:
+    def __init__(self):
+        self.durable, self.volatile = {}, []
+
+    def write(self, page, content):
+        self.volatile.append((page, content))
+
+    def flush(self):
+        self.durable.update(self.volatile)
+        self.volatile = []
+
+    def crash(self, kept):
+        for (page, content), keep in zip(self.volatile, kept):
+            if keep:
+                self.durable[page] = content
+        self.volatile = []
+
+
+class Element:
+    """A page write: a plain one (family "w") or a version; it needs plain writes through a number, and versions up to one each."""
+
+    def __init__(self, family, number, page, content, through=0, versions=(0, 0)):
+        self.family, self.number, self.page, self.content = family, number, page, content
+        self.through, self.versions = through, versions
+        self.name = f"{family}{number}"
+
+    def needs(self, other):
+        if other.family == "w":
+            return other.number <= self.through
+        return other.number <= self.versions[FAMILIES.index(other.family)]
+
+
+class Store:
+    def __init__(self, extents, pages):
+        self.disk = Disk()
+        self.disk.durable = {
+            0: (1, [0] * extents, [0] * extents),
+            1: (1, 0, []),
+        }
+        self.extents, self.pages = extents, pages
+        self.open()
+
+    def open(self):
+        version, pointers, generations = self.disk.durable[0]
+        root, count, locators = self.disk.durable[1]
+        self.pointer, self.generation = list(pointers), list(generations)
+        self.reset_root = [0] * self.extents
+        self.open_extent, self.swept = None, set()
+        self.latest = [version, root]
+        self.persistent = [version, root]
+        self.persistent_plain = set()
+        self.written = 0
+        self.elements = []
+        self.base, self.accepted = count, 0
+        self.runs = [(self.read_run(locator), locator) for locator in locators]
+        self.table = {}
+        self.root_counts = {root: 0}
+        self.round = None
+        return count, len(self.live())
+
+    def read_run(self, locator):
+        return dict(self.disk.durable[self.page_of(locator)][1])
+
+    def page_of(self, locator):
+        extent, page, generation = locator
+        assert self.generation[extent] == generation and page < self.pointer[extent]
+        return 2 + extent * self.pages + page
+
+    # ---- the index
+
+    def lookup(self, name):
+        for entries in [self.table] + [run for run, _ in reversed(self.runs)]:
+            if name in entries:
+                return entries[name]
+        return None
+
+    def named(self):
+        return set(self.table).union(*(run for run, _ in self.runs))
+
+    def live(self):
+        return {name: self.lookup(name) for name in self.named() if self.lookup(name)}
+
+    # ---- staging
+
+    def chunk_bytes(self):
+        return PAGE * self.pages - 41
+
+    def stage(self, element):
+        """Stages a version, which needs what the one before it needs too."""
+        before = [e for e in self.elements if e.family == element.family]
+        if before:
+            last = before[-1]
+            element.through = max(element.through, last.through)
+            element.versions = tuple(max(a, b) for a, b in zip(element.versions, last.versions))
+        self.elements.append(element)
+
+    def room(self, sizes, left):
+        """The extents that frames of so many pages go to, or None where one is refused."""
+        pointer, extent, places = list(self.pointer), self.open_extent, []
+        for size in sizes:
+            if extent is None or pointer[extent] + size > self.pages:
+                empty = [e for e in range(self.extents) if pointer[e] == 0]
+                if len(empty) - 1 < left:
+                    return None
+                extent = empty[0]
+            places.append((extent, pointer[extent]))
+            pointer[extent] += size
+            if pointer[extent] == self.pages:
+                extent = None
+        return places
+
+    def append(self, payload_bytes, content, left):
+        size = -(-(41 + payload_bytes) // PAGE)
+        places = self.room([size], left)
+        if places is None:
+            raise Refused(*FULL)
+        extent, page = places[0]
+        locator = (extent, page, self.generation[extent])
+        for step in range(size):
+            self.written += 1
+            where = 2 + extent * self.pages + page + step
+            need = self.reset_root[extent]
+            self.elements.append(Element("w", self.written, where, content if step == 0 else None, 0, (0, need)))
+        self.pointer[extent] += size
+        self.open_extent = None if self.pointer[extent] == self.pages else extent
+        self.latest[0] += 1
+        record = (self.latest[0], list(self.pointer), list(self.generation))
+        self.stage(Element("s", self.latest[0], 0, record, self.written, (0, max(self.reset_root))))
+        return locator
+
+    def stage_root(self):
+        self.latest[1] += 1
+        record = (self.latest[1], self.base + self.accepted, [locator for _, locator in self.runs])
+        self.stage(Element("r", self.latest[1], 1, record, 0, (self.latest[0], 0)))
+        self.root_counts[self.latest[1]] = self.accepted
+        return self.latest[1]
+
+    def stage_merged(self, left):
+        entries = {name: list(found) for name, found in self.live().items()}
+        runs = []
+        if entries:
+            runs = [(entries, self.append(4 + ENTRY * len(entries), ("run", dict(entries)), left))]
+        self.runs, self.table = runs, {}
+        return self.stage_root()
+
+    def stage_table(self):
+        if not self.table:
+            return None
+        if len(self.runs) == 4:
+            return self.stage_merged(1)
+        entries = dict(self.table)
+        locator = self.append(4 + ENTRY * len(entries), ("run", entries), 1)
+        self.runs.append((entries, locator))
+        self.table = {}
+        return self.stage_root()
+
+    # ---- commands
+
+    def put(self, name, data):
+        size = self.chunk_bytes()
+        chunks = [data[at:at + size] for at in range(0, len(data), size)] or [b""]
+        if len(chunks) > 8:
+            raise Refused(*TOO_LARGE)
+        if name not in self.named() and len(self.named()) >= (PAGE * self.pages - 45) // ENTRY:
+            raise Refused(*INDEX_FULL)
+        if self.room([-(-(41 + len(chunk)) // PAGE) for chunk in chunks], 2) is None:
+            raise Refused(*FULL)
+        self.table[name] = [self.append(len(chunk), ("chunk", chunk), 2) for chunk in chunks]
+        self.accepted += 1
+        return self.accepted
+
+    def get(self, name):
+        found = self.lookup(name)
+        return None if not found else b"".join(self.read_chunk(locator) for locator in found)
+
+    def read_chunk(self, locator):
+        page = self.page_of(locator)
+        for element in reversed(self.elements):
+            if element.page == page and not self.is_persistent(element):
+                return element.content[1]
+        for where, content in reversed(self.disk.volatile):
+            if where == page:
+                return content[1]
+        return self.disk.durable[page][1]
+
+    def delete(self, name):
+        if not self.lookup(name):
+            return None
+        self.table[name] = []
+        self.accepted += 1
+        return self.accepted
+
+    # ---- plans
+
+    def is_persistent(self, element):
+        if element.family == "w":
+            return element.number in self.persistent_plain
+        return element.number <= self.persistent[FAMILIES.index(element.family)]
+
+    def waiting(self):
+        return [e for e in self.elements if not self.is_persistent(e)]
+
+    def frontier(self):
+        return self.root_counts[self.persistent[1]]
+
+    def plan(self):
+        if self.round is not None:
+            raise Refused(*IN_FLIGHT)
+        waiting = self.waiting()
+        level = {}
+        for element in waiting:
+            level[element] = 1 + max((level[need] for need in waiting if need in level and element.needs(need)), default=0)
+        rounds = []
+        for height in range(1, max(level.values(), default=0) + 1):
+            members = [e for e in waiting if level[e] == height]
+            chosen = [e for e in members if e.family == "w"]
+            for family in FAMILIES:
+                chosen += [e for e in members if e.family == family][-1:]
+            rounds.append(chosen)
+        chain = []
+        if rounds:
+            chain = [pick([e for e in waiting if level[e] == len(rounds)])]
+        while chain and level[chain[0]] > 1:
+            first = chain[0]
+            of = first if first.family == "w" else next(
+                e for e in waiting if e.family == first.family and level[e] == level[first])
+            chain.insert(0, pick([e for e in waiting if level[e] == level[first] - 1 and of.needs(e)]))
+        return rounds, chain
+
+    # ---- writeback
+
+    def begin(self):
+        rounds, _ = self.plan()
+        if not rounds:
+            return None
+        self.round, self.issued = rounds[0], 0
+        return self.round
+
+    def issue(self):
+        element = self.round[self.issued]
+        self.issued += 1
+        self.disk.write(element.page, element.content)
+        return element
+
+    def end(self):
+        self.disk.flush()
+        for element in self.round:
+            if element.family == "w":
+                self.persistent_plain.add(element.number)
+            else:
+                self.persistent[FAMILIES.index(element.family)] = element.number
+        self.round = None
+        return self.frontier()
+
+    # ---- sweeps
+
+    def sweep(self, extent):
+        if extent >= self.extents or extent == self.open_extent or self.pointer[extent] == 0 or extent in self.swept:
+            raise Refused(*NOT_SWEEPABLE)
+        moved = 0
+        while True:
+            live = [(name, place) for name, found in sorted(self.live().items())
+                    for place, locator in enumerate(found) if locator[0] == extent]
+            if not live:
+                break
+            name, place = live[0]
+            found = list(self.lookup(name))
+            data = self.read_chunk(found[place])
+            found[place] = self.append(len(data), ("chunk", data), 0)
+            self.table[name] = found
+            moved += 1
+        root = self.stage_merged(0)
+        self.pointer[extent] = 0
+        self.generation[extent] += 1
+        self.reset_root[extent] = root
+        return moved, root
+
+    # ---- lines
+
+    def answer(self, line):
+        """The lines that one line of a script prints."""
+        printed = []
+        try:
+            for text in self.lines_of(line.split(" ")):
+                printed.append(text)
+        except Refused as refused:
+            printed.append(str(refused))
+        except BadLine:
+            printed.append("bad line")
+        return printed
+
+    def lines_of(self, words):
+        words = [word for word in words if word]
+        if words[0] == "put":
+            yield f"put {self.put(words[1], bytes_of(words[2]))}"
+        elif words[0] == "get":
+            found = self.get(words[1])
+            yield "absent" if found is None else f"value {found.hex() or '-'}"
+        elif words[0] == "del":
+            number = self.delete(words[1])
+            yield "absent" if number is None else f"del {number}"
+        elif words[0] == "sweep":
+            moved, root = self.sweep(int(words[1]))
+            yield f"sweep {words[1]} moved {moved} root r{root}"
+        elif words[0] == "plan":
+            if self.round is not None:
+                raise Refused(*IN_FLIGHT)
+            self.stage_table()
+            rounds, chain = self.plan()
+            yield from (round_line(number, members) for number, members in enumerate(rounds, 1))
+            yield chain_line(chain)
+            yield f"flushes {len(rounds)}"
+        elif words[0] == "sync":
+            yield from self.sync_lines()
+        elif words[0] == "step":
+            if self.round is not None and self.issued < len(self.round):
+                element = self.issue()
+                yield f"issue {element.name} page {element.page}"
+            elif self.round is not None:
+                yield f"end acknowledged {self.end()}"
+            else:
+                members = self.begin()
+                yield "idle" if members is None else "begin: " + names(members)
+        elif words[0] == "crash":
+            bits = "" if words[1] == "-" else words[1]
+            if len(bits) != len(self.disk.volatile):
+                raise BadLine
+            self.disk.crash([bit == "1" for bit in bits])
+            yield f"crash kept {bits.count('1')} of {len(bits)}"
+            count, live = self.open()
+            yield f"open commands {count} shards {live}"
+        elif words[0] == "document":
+            yield self.document()
+        else:
+            raise BadLine
+
+    def sync_lines(self):
+        if self.round is not None:
+            while self.issued < len(self.round):
+                self.issue()
+            yield f"end acknowledged {self.end()}"
+        self.stage_table()
+        rounds, chain = self.plan()
+        number = 0
+        while True:
+            members = self.begin()
+            if members is None:
+                break
+            number += 1
+            for _ in members:
+                self.issue()
+            self.end()
+            yield round_line(number, members)
+        yield chain_line(chain)
+        yield f"flushes {len(rounds)}"
+        yield f"acknowledged {self.frontier()}"
+
+    def document(self):
+        rounds, chain = self.plan()
+        waiting = self.waiting()
+
+        def listed(needs):
+            found = [e.name for e in waiting if e.family == "w" and needs(e)]
+            for family in FAMILIES:
+                found += [e.name for e in waiting if e.family == family and needs(e)][-1:]
+            return found
+
+        return json.dumps({
+            "chain": [e.name for e in chain],
+            "elements": [{"e": e.name, "needs": listed(e.needs)} for e in waiting],
+            "families": list(FAMILIES),
+            "format": 1,
+            "persistent": self.persistent,
+            "rounds": [[e.name for e in members] for members in rounds],
+            "target": listed(lambda e: True),
+        }, separators=(",", ":"))
+
+
+def pick(elements):
+    plain = [e for e in elements if e.family == "w"]
+    if plain:
+        return plain[0]
+    for family in FAMILIES:
+        versions = [e for e in elements if e.family == family]
+        if versions:
+            return versions[-1]
+    raise AssertionError("nothing to pick")
+
+
+def names(elements):
+    return " ".join(e.name for e in elements)
+
+
+def round_line(number, members):
+    return f"round {number}: {names(members)}"
+
+
+def chain_line(chain):
+    return "chain: " + (names(chain) or "-")
+
+
+def bytes_of(text):
+    if text == "-":
+        return b""
+    try:
+        return bytes.fromhex(text)
+    except ValueError:
+        raise BadLine from None
