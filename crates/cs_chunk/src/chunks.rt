@@ -8,16 +8,10 @@ ghost use Rattle.cs_frame.specs.Frames.{spelled_frame};
 ghost use Rattle.cs_model.specs.Extents.{Fits, ForPut};
 
 use crate::cuts::Cut;
-use cs_deps::Graph;
-use cs_extent::{Extents, Purpose};
+use cs_deps::{Graph, LAST_NUMBER};
+use cs_extent::{Extents, Purpose, SUPERBLOCK};
 use cs_frame::{FrameKind, encode_frame, frame_pages};
 use std::alloc::{AllocError, Global};
-
-/// The greatest number of a plain write or of a version.
-const LAST_NUMBER: u64 = 0x7fff_ffff_ffff_ffff;
-
-/// The bytes that a frame's page has before its payload.
-const HEADER: usize = 41;
 
 /// The most chunks of a shard.
 const MOST_CHUNKS: usize = 8;
@@ -27,9 +21,15 @@ fn chunk_bytes(extents: &Extents) -> usize
     ensures bytes { result ≡ (shape extents.now).chunk_bytes }
     ensures whole { IsWhole extents.now }
 {
-    // Its contract tells how many pages an extent may have.
-    extents.extent_count();
-    4096 * extents.extent_pages() - HEADER
+    extents.geometry().payload_bytes()
+}
+
+/// The most bytes of a shard.
+pub fn shard_bytes(extents: &Extents) -> usize
+    ensures bytes { result ≡ (shape extents.now).most_chunks * (shape extents.now).chunk_bytes }
+    ensures whole { IsWhole extents.now }
+{
+    MOST_CHUNKS * chunk_bytes(extents)
 }
 
 impl Cut {
@@ -37,10 +37,10 @@ impl Cut {
     pub fn of(extents: &Extents, length: usize) -> Option<Cut>
         ensures { MatchOption result ((shape extents.now).most_chunks * (shape extents.now).chunk_bytes < length) (IsCut (shape extents.now) length) }
     {
-        let size = chunk_bytes(extents);
-        if MOST_CHUNKS * size < length {
+        if shard_bytes(extents) < length {
             return None;
         }
+        let size = chunk_bytes(extents);
         let count = length.div_ceil(size).max(1);
         Some(Cut {
             size,
@@ -74,7 +74,7 @@ impl Cut {
         ensures { IsTrue result ↔ IsPutWorn graph.now.staging (pages_of self) }
     {
         LAST_NUMBER < graph.last_plain().saturating_add(self.all_pages() as u64)
-            || LAST_NUMBER < graph.last_version(0).saturating_add(self.count as u64)
+            || LAST_NUMBER < graph.last_version(SUPERBLOCK).saturating_add(self.count as u64)
     }
 }
 

@@ -10,6 +10,7 @@ mod reads;
 mod refusals;
 mod shards;
 
+pub use chunks::shard_bytes;
 pub use laws::{pages_have_one_newest, what_was_put_stays};
 pub use puts::{put_chunks, put_fits};
 pub use reads::read_frame;

@@ -83,10 +83,7 @@ fn page_number(extents: &Extents, locator: Locator) -> u64
     ensures small { result < 2 ^ 32 }
     ensures whole { IsWhole extents.now }
 {
-    // Its contract tells how many pages an extent may have.
-    extents.extent_count();
-    let before = usize::from(locator.extent) * extents.extent_pages();
-    (2 + before + usize::from(locator.page)) as u64
+    extents.geometry().device_page(locator.extent, locator.page)
 }
 
 /// The payload of the frame in these pages.

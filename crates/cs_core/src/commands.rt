@@ -10,7 +10,7 @@ ghost use Rattle.cs_core.specs.Stored.{IsWhyWorn, settled_rooms};
 ghost use Rattle.cs_core.specs.Writebacks.{AddsCommand, KeepsRound, KeepsStaging, Stages};
 
 use crate::stores::Store;
-use cs_chunk::{put_chunks, put_fits};
+use cs_chunk::{put_chunks, put_fits, shard_bytes};
 use cs_deps::Refusal;
 use cs_extent::Extents;
 use cs_frame::{Locator, ShardId};
@@ -99,9 +99,7 @@ fn test_put(extents: &Extents, index: &Index, id: ShardId, size: usize) -> Resul
     ensures refusals { IfErr result (λ r. (r ≡ Refusal.TooLarge) ⊎ (r ≡ Refusal.IndexFull)) }
     ensures whole { IsWhole extents.now }
 {
-    // Its contract tells what all extents keep.
-    extents.extent_count();
-    if 8 * (4096 * extents.extent_pages() - 41) < size {
+    if shard_bytes(extents) < size {
         return Err(Refusal::TooLarge);
     }
     if index.lookup(id).is_none() && index.limit() <= index.named_count() {

@@ -10,7 +10,7 @@ ghost use Rattle.cs_deps.specs.Wanted.{AreWanted};
 ghost use Rattle.cs_deps.specs.State.{State, write_of, after, everything, IsNewestOn, IsOut, IsQueue, IsWhole, KeepsBytes, KeepsOthers, AddsNone, AreCounted, NoneOn};
 
 use crate::dependencies::Dependency;
-use crate::elements::Element;
+use crate::elements::{Element, LAST_NUMBER};
 use crate::levels::Levels;
 use crate::pages::{note, noted};
 use crate::records::{Record, clear, give_up, make_room, need_room, record_of};
@@ -67,9 +67,6 @@ impl Model for Graph {
 
     ghost invariant = { λ g. IsHeld (state_of g.persistent.items g.entries.items g.staged g.latest.items (option_map (λ r. r.items) g.round) (writes_of g.records.slots) g.room) g.entries.items (vec_len g.entries) (vec_capacity g.entries) g.records (λ p. get nat_eq g.newest p) (spare g.newest) g.levels };
 }
-
-/// The greatest number that is given.
-const LAST: u64 = 0x7fff_ffff_ffff_ffff;
 
 impl Graph {
     /// A graph of as many families as there are numbers, each with that version persistent, in which nothing waits and
@@ -140,7 +137,7 @@ impl Graph {
         if !self.is_staged(&needs) {
             return Err(Refusal::UnknownNeed);
         }
-        if self.staged >= LAST {
+        if self.staged >= LAST_NUMBER {
             return Err(Refusal::WornOut);
         }
         match need_room(
@@ -204,7 +201,7 @@ impl Graph {
             return Err(Refusal::OwnFamily);
         }
         let before = self.latest[family];
-        if before >= LAST {
+        if before >= LAST_NUMBER {
             return Err(Refusal::WornOut);
         }
         match need_room(

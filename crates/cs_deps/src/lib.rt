@@ -20,7 +20,7 @@ mod wanted;
 mod wanting;
 
 pub use dependencies::Dependency;
-pub use elements::Element;
+pub use elements::{Element, LAST_NUMBER};
 pub use graphs::Graph;
 pub use laws::{
     a_chain_bounds_every_schedule, a_first_round_waits_no_more, a_round_lowers_heights,

@@ -15,8 +15,8 @@ use crate::families::{SUPERBLOCK, on_versions};
 use crate::frames::stage_frame;
 use crate::purposes::Purpose;
 use crate::supplies::Supply;
-use cs_deps::{Dependency, Graph, Refusal};
-use cs_frame::{Locator, Superblock, encode_superblock};
+use cs_deps::{Dependency, Graph, LAST_NUMBER, Refusal};
+use cs_frame::{Geometry, Locator, Superblock, encode_superblock};
 use std::alloc::{AllocError, Global};
 use std::marker::Model;
 
@@ -41,11 +41,8 @@ impl Model for Extents {
     ghost invariant = { λ x. IsWhole (record { pages = x.superblock.pages; written = x.superblock.extents.items; resets = x.resets.items; swept = x.swept.items; open_extent = x.open_extent }) };
 }
 
-/// The greatest number of a plain write or of a version.
-const LAST_NUMBER: u64 = 0x7fff_ffff_ffff_ffff;
-
 /// The greatest generation of an extent.
-const LAST_GENERATION: u32 = 0xffff_ffff;
+pub const LAST_GENERATION: u32 = 0xffff_ffff;
 
 impl Extents {
     /// The extents that a superblock records: none is open, none was reset, and none is being swept. Takes memory for
@@ -67,6 +64,19 @@ impl Extents {
             swept,
             open_extent: None,
         })
+    }
+
+    /// The dimensions of the store.
+    pub fn geometry(&self) -> Geometry
+        ensures extents { result.extents ≡ (shape self.now).extents }
+        ensures pages { result.pages ≡ (shape self.now).pages }
+        ensures whole { IsWhole self.now }
+    {
+        let extents = self.superblock.extents.len() as u64;
+        match Geometry::new(extents, u64::from(self.superblock.pages)) {
+            Ok(geometry) => geometry,
+            Err(_) => unreachable!(),
+        }
     }
 
     /// How many extents there are.
@@ -229,12 +239,13 @@ impl Extents {
 
     /// The page of the device where a frame begins that goes to an extent.
     fn first_page(&self, extent: usize) -> u64
-        requires { extent < (shape self.now).extents }
+        requires exists { extent < (shape self.now).extents }
+        requires room { (extents_of self.now).pointer extent < (shape self.now).pages }
         ensures page { result ≡ (shape self.now).address extent ((extents_of self.now).pointer extent) }
         ensures small { result < 2 ^ 32 }
     {
-        let before = extent * usize::from(self.superblock.pages);
-        (2 + before + self.pointer(extent)) as u64
+        let (page, _) = self.superblock.extents[extent];
+        self.geometry().device_page(extent as u16, page)
     }
 
     /// The version of the root that goes with the last reset of an extent, 0 where there was none.

@@ -11,6 +11,7 @@ mod laws;
 mod purposes;
 mod supplies;
 
-pub use extents::Extents;
+pub use extents::{Extents, LAST_GENERATION};
+pub use families::{ROOT, SUPERBLOCK};
 pub use laws::{joining_adds_nothing, needs_never_fall, one_place, pages_are_given_once};
 pub use purposes::Purpose;

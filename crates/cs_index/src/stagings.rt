@@ -16,19 +16,10 @@ ghost use Rattle.cs_frame.specs.Formats.{place_of};
 ghost use Rattle.cs_index.specs.State.{IsShort, named_entry, newest_first};
 
 use crate::runs::StoredRun;
-use cs_deps::{Dependency, Graph, Refusal};
-use cs_extent::{Extents, Purpose};
+use cs_deps::{Dependency, Graph, LAST_NUMBER, Refusal};
+use cs_extent::{Extents, Purpose, ROOT, SUPERBLOCK};
 use cs_frame::{FrameKind, Locator, Root, Run, encode_frame, encode_root, encode_run, frame_pages};
 use std::alloc::{AllocError, Global};
-
-/// The family of the superblock's versions.
-const SUPERBLOCK: usize = 0;
-
-/// The family of the root's versions.
-const ROOT: usize = 1;
-
-/// The greatest number of a version.
-const LAST_NUMBER: u64 = 0x7fff_ffff_ffff_ffff;
 
 /// Whether the last number of a root is given.
 fn is_last_root(graph: &Graph) -> bool

@@ -25,14 +25,11 @@ use crate::live::{LiveChunk, first_live};
 use cs_chunk::read_frame;
 use cs_deps::{Graph, Refusal};
 use cs_disk::PageDisk;
-use cs_extent::{Extents, Purpose};
+use cs_extent::{Extents, LAST_GENERATION, Purpose};
 use cs_frame::{FrameKind, Locator, ShardId, encode_frame};
 use cs_index::Index;
 use std::alloc::Global;
 use std::marker::Model;
-
-/// The greatest generation of an extent.
-const LAST_GENERATION: u32 = 0xffff_ffff;
 
 /// A sweep of one extent, which is marked as being swept until the sweep is abandoned or has retired it.
 #[derive(Debug, Drop)]

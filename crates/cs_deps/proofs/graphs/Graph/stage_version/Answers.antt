@@ -255,8 +255,8 @@ invariant_of-self-in-Err-2 c =
       indexed = indexed_same (the_view g) g.levels c.self.invariant.indexed c.need_room.new.levels e.levels (writes_of c.need_room.new.records.slots) g.room e.level_room;
     })
 
-pub returns-then-before-ge-LAST-clause-worn : goal.returns-then-before-ge-LAST-clause-worn
-returns-then-before-ge-LAST-clause-worn c =
+pub returns-then-before-ge-LAST_NUMBER-clause-worn : goal.returns-then-before-ge-LAST_NUMBER-clause-worn
+returns-then-before-ge-LAST_NUMBER-clause-worn c =
     let g = c.self.inside in
     let f = c.args.family in
     let says = rw (← c.self.view_is) at c.is_staged.ensures in
@@ -264,12 +264,12 @@ returns-then-before-ge-LAST-clause-worn c =
     let before = c.index-before.result.now in
     let last = sym (get_or_from_slice_get g.latest.items f before 0 (slice_get_read g.latest.items (length g.latest.items) f before refl inside c.index-before.ensures)) in
     rw (← c.self.view_is) (
-      (λ e. (says.0 c.if-not-is_staged.false, (λ n. absurd (cc (c.names_family.ensures.no n.0 n.1, c.if-names_family.false))), omega (arith, last, c.if-before-ge-LAST.true))),
+      (λ e. (says.0 c.if-not-is_staged.false, (λ n. absurd (cc (c.names_family.ensures.no n.0 n.1, c.if-names_family.false))), omega (arith, last, c.if-before-ge-LAST_NUMBER.true))),
       (λ h. refl),
     )
 
-pub returns-then-before-ge-LAST-clause-own : goal.returns-then-before-ge-LAST-clause-own
-returns-then-before-ge-LAST-clause-own c = ((λ e. absurd (cc e)), (λ h. absurd (cc (c.names_family.ensures.no h.1.0 h.1.1, c.if-names_family.false))))
+pub returns-then-before-ge-LAST_NUMBER-clause-own : goal.returns-then-before-ge-LAST_NUMBER-clause-own
+returns-then-before-ge-LAST_NUMBER-clause-own c = ((λ e. absurd (cc e)), (λ h. absurd (cc (c.names_family.ensures.no h.1.0 h.1.1, c.if-names_family.false))))
 
 pub returns-in-Ok-clause-own : goal.returns-in-Ok-clause-own
 returns-in-Ok-clause-own c = ((λ e. absurd (cc e)), (λ h. absurd (cc (c.names_family.ensures.no h.1.0 h.1.1, c.if-names_family.false))))
