@@ -71,11 +71,12 @@ pub record IsSound (s : State) : Type 0 where
   pub out : (x : Element) → IsOut s x → Waits s.staging.pending x
 
 -- What a graph keeps of its fields: its value's laws, and room for as many stagings as it says.
-pub record IsHeld (s : State) (entries : List (Element × Named)) (entry_count entry_capacity : ℕ) (records : Slab Record) (numbers : ℕ → Option ℕ) (spare : ℕ) (l : Levels) : Type 0 where
+pub record IsHeld (s : State) (entries : List (Element × Named)) (entry_count entry_capacity entry_places : ℕ) (records : Slab Record) (numbers : ℕ → Option ℕ) (spare : ℕ) (l : Levels) : Type 0 where
   pub whole : IsSound s
   pub current : AreCurrent s.staging.pending.persistent s.staging.latest entries
   pub filed : AreFiled l records
   pub entries_fit : entry_count + s.room ≤ entry_capacity
+  pub places_fit : s.room ≤ entry_places
   pub records_fit : HasRoomFor records s.room
   pub newest : AreNewest records numbers
   pub newest_fit : s.room ≤ spare

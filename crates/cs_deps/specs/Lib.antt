@@ -8,6 +8,7 @@ pub mod Staging
 pub mod State
 pub mod Refusals
 pub mod Entries
+pub mod Needs
 pub mod Turns
 pub mod Levels
 pub mod Trimmed

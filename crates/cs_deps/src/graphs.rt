@@ -9,6 +9,7 @@ ghost use Rattle.cs_deps.specs.Pending.{Waits, WaitsAt, Needs, IsPersistent};
 ghost use Rattle.cs_deps.specs.Wanted.{AreWanted};
 ghost use Rattle.cs_deps.specs.State.{State, write_of, after, everything, IsNewestOn, IsOut, IsQueue, IsWhole, KeepsBytes, KeepsOthers, AddsNone, AreCounted, NoneOn};
 
+use crate::backlogs::Backlog;
 use crate::dependencies::Dependency;
 use crate::elements::{Element, LAST_NUMBER};
 use crate::levels::Levels;
@@ -41,7 +42,7 @@ pub struct Graph {
     staged: u64,
     /// What waits in the order of staging, each element with the needs that it was staged with. A version that has become
     /// persistent stays while a later one of its family waits, which needs what it needed.
-    entries: Vec<(Element, Dependency)>,
+    entries: Backlog,
     /// The page writes of what stands in the ready queues, under the keys that are kept with the levels.
     records: Slab<Record>,
     /// For each page the number of the newest plain write that has a record.
@@ -63,9 +64,9 @@ impl Model for Graph {
 
     ghost Value = { State };
 
-    ghost view = { λ g. state_of g.persistent.items g.entries.items g.staged g.latest.items (option_map (λ r. r.items) g.round) (writes_of g.records.slots) g.room };
+    ghost view = { λ g. state_of g.persistent.items g.entries.list.items g.staged g.latest.items (option_map (λ r. r.items) g.round) (writes_of g.records.slots) g.room };
 
-    ghost invariant = { λ g. IsHeld (state_of g.persistent.items g.entries.items g.staged g.latest.items (option_map (λ r. r.items) g.round) (writes_of g.records.slots) g.room) g.entries.items (vec_len g.entries) (vec_capacity g.entries) g.records (λ p. get nat_eq g.newest p) (spare g.newest) g.levels };
+    ghost invariant = { λ g. IsHeld (state_of g.persistent.items g.entries.list.items g.staged g.latest.items (option_map (λ r. r.items) g.round) (writes_of g.records.slots) g.room) g.entries.list.items (vec_len g.entries.list) (vec_capacity g.entries.list) (vec_len g.entries.places) g.records (λ p. get nat_eq g.newest p) (spare g.newest) g.levels };
 }
 
 impl Graph {
@@ -83,7 +84,7 @@ impl Graph {
             persistent,
             latest,
             staged: 0,
-            entries: Vec::new(alloc),
+            entries: Backlog::new(alloc),
             records: Slab::new(alloc),
             newest: HashMap::new(alloc),
             round: None,
@@ -158,7 +159,7 @@ impl Graph {
                     bytes: *bytes,
                     older,
                 });
-                self.entries.push_reserved((Element::Plain(number), needs));
+                self.entries.push_reserved(Element::Plain(number), needs);
                 self.levels.push_plain(self.staged, best, key);
                 self.room = made - 1;
                 self.staged = number;
@@ -223,7 +224,7 @@ impl Graph {
                     older: 0,
                 });
                 self.entries
-                    .push_reserved((Element::Version(family, version), needs));
+                    .push_reserved(Element::Version(family, version), needs);
                 self.levels.push_version(family, before, kept, key);
                 self.room = made - 1;
                 self.latest[family] = version;
@@ -239,7 +240,7 @@ impl Graph {
         ensures kept { IsOk result → IsKept self.now.staging }
     {
         let alloc = *self.persistent.allocator();
-        let waiting = copy_all(alloc, &self.entries, &self.persistent)?;
+        let waiting = copy_all(alloc, &self.entries.list, &self.persistent)?;
         let persistent = self.persistent.to_vec(alloc)?;
         Ok(GraphView {
             persistent,
@@ -252,7 +253,7 @@ impl Graph {
         ensures { IfOk result (λ xs. xs.items ≡ map (λ w. w.0) self.now.staging.pending.waiting) }
     {
         let alloc = *self.persistent.allocator();
-        elements_of(alloc, &self.entries, &self.persistent)
+        elements_of(alloc, &self.entries.list, &self.persistent)
     }
 
     /// What a waiting element needs, a version also what the versions before it needed; None where it does not wait. It
@@ -261,7 +262,7 @@ impl Graph {
         ensures { IfOk result (λ found. MatchOption found (¬ Waits self.now.staging.pending element) (λ d. (k : ℕ) × WaitsAt self.now.staging.pending k element d)) }
     {
         let alloc = *self.persistent.allocator();
-        needs_of(alloc, &self.entries, &self.persistent, element)
+        needs_of(alloc, &self.entries.list, &self.persistent, element)
     }
 
     /// What a target needs of what waits: of the waiting elements those that it names, and again and again what they need. What
@@ -272,7 +273,7 @@ impl Graph {
         let alloc = *self.persistent.allocator();
         let count = self.levels.plains.len();
         let target = Wanted::new(alloc, self.levels.dropped, count, target)?;
-        wanted_of(alloc, &self.entries, &self.persistent, target)
+        wanted_of(alloc, &self.entries.list, &self.persistent, target)
     }
 
     /// The bytes of an element's page write, as they were staged. It takes no memory and seeks nothing.
@@ -330,7 +331,8 @@ impl Graph {
     }
 
     /// Puts the round that is out into the persistent set, once its writes have been flushed. Its members and what they
-    /// stand for wait no more, and their bytes go. The work is linear in what waits, and it takes no memory.
+    /// stand for wait no more, and their bytes go. The work is linear in what waits. It takes no memory where no element needs
+    /// versions of more than two families, and else no more than it gives back.
     pub fn settle_round(&mut self)
         requires out { IsSome self.old.round }
         ensures settled { self.new.staging ≡ record { pending = after self.old; staged = self.old.staging.staged; latest = self.old.staging.latest } }
@@ -344,12 +346,12 @@ impl Graph {
             self.levels.settle();
             raise_all(&mut self.persistent, &round);
             keep_entries(
-                &mut self.entries,
+                &mut self.entries.list,
                 &self.levels,
                 &self.persistent,
                 &self.latest,
             );
-            fold_all(&mut self.entries, &self.persistent, &round);
+            fold_all(&mut self.entries.list, &self.persistent, &round);
             self.levels.trim(self.staged, &self.latest);
         }
     }
@@ -446,7 +448,7 @@ impl Graph {
     pub fn has_waiting(&self) -> bool
         ensures { IsTrue result ↔ (self.now.staging.pending.waiting ≢ []) }
     {
-        !self.entries.is_empty()
+        !self.entries.list.is_empty()
     }
 
     /// The members of the round that is out, in its order, None where none is. It takes no memory.
@@ -479,6 +481,6 @@ impl Graph {
     pub fn is_persistent(&self, needs: &Dependency) -> bool
         ensures { IsTrue result ↔ ((x : Item) → Names needs.now x → IsSatisfied self.now.staging x) }
     {
-        self.is_staged(needs) && !names_one(needs, &self.entries, &self.persistent)
+        self.is_staged(needs) && !names_one(needs, &self.entries.list, &self.persistent)
     }
 }

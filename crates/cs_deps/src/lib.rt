@@ -1,12 +1,14 @@
 //! Page writes that wait, what each of them needs, and the rounds in which they become persistent.
 #![tactic(auto)]
 
+mod backlogs;
 mod dependencies;
 mod elements;
 mod graphs;
 mod keeps;
 mod laws;
 mod levels;
+mod needs;
 mod pages;
 mod records;
 mod refusals;

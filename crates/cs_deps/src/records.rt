@@ -8,7 +8,7 @@ ghost use Rattle.cs_deps.specs.declared.levels.Kept.{Kept as KeptOf};
 ghost use Rattle.cs_deps.specs.declared.records.Record.{Record as RecordOf};
 ghost use Rattle.cs_deps.specs.Levels.{kept_by, HasRoom, IsSameBut};
 
-use crate::dependencies::Dependency;
+use crate::backlogs::Backlog;
 use crate::elements::Element;
 use crate::levels::{Kept, Levels};
 use crate::pages::lower;
@@ -111,28 +111,31 @@ pub fn clear(records: &mut Slab<Record>, key: Option<usize>)
 
 /// Makes room for more stagings, where there is less, and tells for how many there is.
 pub fn make_room(
-    entries: &mut Vec<(Element, Dependency)>,
+    entries: &mut Backlog,
     records: &mut Slab<Record>,
     newest: &mut HashMap<u64, u64>,
     levels: &mut Levels,
     room: usize,
     stagings: usize,
 ) -> Result<usize, AllocError>
-    requires entries_fit { vec_len entries.old + room ≤ vec_capacity entries.old }
+    requires entries_fit { vec_len entries.old.list + room ≤ vec_capacity entries.old.list }
+    requires places_fit { room ≤ vec_len entries.old.places }
     requires records_fit { HasRoomFor records.old room }
     requires newest_fit { room ≤ spare newest.old }
     requires levels_fit { HasRoom levels.old room }
-    ensures entries { entries.new.items ≡ entries.old.items }
+    ensures entries { entries.new.list.items ≡ entries.old.list.items }
     ensures records { records.new ≡ record records.old { capacity = records.new.capacity } }
     ensures newest { (p : ℕ) → get_number nat_eq newest.new p ≡ get_number nat_eq newest.old p }
     ensures levels { IsSameBut levels.old levels.new }
-    ensures entry_count { vec_len entries.new ≡ vec_len entries.old }
-    ensures more_entries { vec_capacity entries.old ≤ vec_capacity entries.new }
+    ensures entry_count { vec_len entries.new.list ≡ vec_len entries.old.list }
+    ensures more_entries { vec_capacity entries.old.list ≤ vec_capacity entries.new.list }
+    ensures more_places { vec_len entries.old.places ≤ vec_len entries.new.places }
     ensures more_records { records.old.capacity ≤ records.new.capacity }
     ensures more_newest { spare newest.old ≤ spare newest.new }
     ensures room { IfOk result (λ made. made ≡ max room stagings) }
     ensures memory { stagings ≤ room → IsOk result }
-    ensures entries_fit { IfOk result (λ made. vec_len entries.new + made ≤ vec_capacity entries.new) }
+    ensures entries_fit { IfOk result (λ made. vec_len entries.new.list + made ≤ vec_capacity entries.new.list) }
+    ensures places_fit { IfOk result (λ made. made ≤ vec_len entries.new.places) }
     ensures records_fit { IfOk result (λ made. HasRoomFor records.new made) }
     ensures newest_fit { IfOk result (λ made. made ≤ spare newest.new) }
     ensures levels_fit { IfOk result (λ made. HasRoom levels.new made) }
@@ -146,28 +149,31 @@ pub fn make_room(
 
 /// Makes room for one staging, where there is none, and tells for how many there is.
 pub fn need_room(
-    entries: &mut Vec<(Element, Dependency)>,
+    entries: &mut Backlog,
     records: &mut Slab<Record>,
     newest: &mut HashMap<u64, u64>,
     levels: &mut Levels,
     room: usize,
 ) -> Result<usize, AllocError>
-    requires entries_fit { vec_len entries.old + room ≤ vec_capacity entries.old }
+    requires entries_fit { vec_len entries.old.list + room ≤ vec_capacity entries.old.list }
+    requires places_fit { room ≤ vec_len entries.old.places }
     requires records_fit { HasRoomFor records.old room }
     requires newest_fit { room ≤ spare newest.old }
     requires levels_fit { HasRoom levels.old room }
-    ensures entries { entries.new.items ≡ entries.old.items }
+    ensures entries { entries.new.list.items ≡ entries.old.list.items }
     ensures records { records.new ≡ record records.old { capacity = records.new.capacity } }
     ensures newest { (p : ℕ) → get_number nat_eq newest.new p ≡ get_number nat_eq newest.old p }
     ensures levels { IsSameBut levels.old levels.new }
-    ensures entry_room { vec_len entries.new + room ≤ vec_capacity entries.new }
+    ensures entry_room { vec_len entries.new.list + room ≤ vec_capacity entries.new.list }
+    ensures place_room { room ≤ vec_len entries.new.places }
     ensures record_room { HasRoomFor records.new room }
     ensures newest_room { room ≤ spare newest.new }
     ensures level_room { HasRoom levels.new room }
     ensures some { IfOk result (λ made. 0 < made) }
     ensures room { IfOk result (λ made. room ≤ made) }
     ensures memory { 0 < room → IsOk result }
-    ensures entries_fit { IfOk result (λ made. vec_len entries.new + made ≤ vec_capacity entries.new) }
+    ensures entries_fit { IfOk result (λ made. vec_len entries.new.list + made ≤ vec_capacity entries.new.list) }
+    ensures places_fit { IfOk result (λ made. made ≤ vec_len entries.new.places) }
     ensures records_fit { IfOk result (λ made. HasRoomFor records.new made) }
     ensures newest_fit { IfOk result (λ made. made ≤ spare newest.new) }
     ensures levels_fit { IfOk result (λ made. HasRoom levels.new made) }

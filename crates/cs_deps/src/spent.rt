@@ -7,18 +7,19 @@ ghost use Rattle.cs_deps.specs.Spent.{is_spent, carried_with, IsFolded};
 
 use crate::dependencies::{Dependency, version_at};
 use crate::elements::Element;
+use crate::needs::Needs;
 use crate::rounds::stands;
 use std::alloc::{AllocError, Global};
 
 /// Whether an entry is that of a version of a family up to this one, and its needs take no memory.
-fn is_spent(entry: &(Element, Dependency), family: usize, version: u64) -> bool
+fn is_spent(entry: &(Element, Needs), family: usize, version: u64) -> bool
     ensures { result ≡ is_spent family version entry.now }
 {
     stands(Element::Version(family, version), entry.0) && entry.1.is_small()
 }
 
 /// Whether there is such an entry.
-fn has_spent(entries: &[(Element, Dependency)], family: usize, version: u64) -> bool
+fn has_spent(entries: &[(Element, Needs)], family: usize, version: u64) -> bool
     ensures { IsTrue result → (k : ℕ) × (w : Item × Named) × (slice_get entries.now k ≡ Some w) × (is_spent family version w ≡ true) }
 {
     for k in 0..entries.len() {
@@ -30,27 +31,28 @@ fn has_spent(entries: &[(Element, Dependency)], family: usize, version: u64) -> 
     false
 }
 
-/// What all such entries need. It takes no memory.
+/// What all such entries need. It takes memory only where that names versions of more than two families.
 fn carried(
     alloc: Global,
-    entries: &[(Element, Dependency)],
+    entries: &[(Element, Needs)],
     family: usize,
     version: u64,
-) -> Result<Dependency, AllocError>
+) -> Result<Needs, AllocError>
     ensures { IfOk result (λ all. all ≡ carried_with family version nothing entries.now) }
 {
     let mut all = Dependency::empty(alloc);
     for k in 0..entries.len() {
         let entry = &entries[k];
         if is_spent(entry, family, version) {
-            all.join(&entry.1)?;
+            let own = entry.1.copy(alloc)?;
+            all.join(&own)?;
         }
     }
-    Ok(all)
+    Needs::new(alloc, all)
 }
 
 /// Puts one entry in the place of all such entries.
-fn fold(entries: &mut Vec<(Element, Dependency)>, family: usize, version: u64)
+fn fold(entries: &mut Vec<(Element, Needs)>, family: usize, version: u64)
     ensures items { IsFolded family version entries.old.items entries.new.items }
     ensures count { vec_len entries.new ≤ vec_len entries.old }
     ensures capacity { vec_capacity entries.new ≡ vec_capacity entries.old }
@@ -66,7 +68,7 @@ fn fold(entries: &mut Vec<(Element, Dependency)>, family: usize, version: u64)
 }
 
 /// The same of the family of a member of a round, up to its persistent version.
-fn fold_family(entries: &mut Vec<(Element, Dependency)>, persistent: &[u64], element: Element)
+fn fold_family(entries: &mut Vec<(Element, Needs)>, persistent: &[u64], element: Element)
     ensures waiting { waiting_of persistent.now entries.new.items ≡ waiting_of persistent.now entries.old.items }
     ensures current { (latest : List ℕ) → AreCurrent persistent.now latest entries.old.items → AreCurrent persistent.now latest entries.new.items }
     ensures count { vec_len entries.new ≤ vec_len entries.old }
@@ -78,8 +80,9 @@ fn fold_family(entries: &mut Vec<(Element, Dependency)>, persistent: &[u64], ele
 }
 
 /// Of each family that a round has a version of, puts one entry in the place of those of its persistent versions whose needs
-/// take no memory. What waits and what it needs stays, and no memory is taken. It goes through the entries for each such family.
-pub fn fold_all(entries: &mut Vec<(Element, Dependency)>, persistent: &[u64], round: &[Element])
+/// take no memory. What waits and what it needs stays. Where they need versions of more than two
+/// families, memory is taken for one entry before that of the others is given back. It goes through the entries for each such family.
+pub fn fold_all(entries: &mut Vec<(Element, Needs)>, persistent: &[u64], round: &[Element])
     ensures waiting { waiting_of persistent.now entries.new.items ≡ waiting_of persistent.now entries.old.items }
     ensures current { (latest : List ℕ) → AreCurrent persistent.now latest entries.old.items → AreCurrent persistent.now latest entries.new.items }
     ensures count { vec_len entries.new ≤ vec_len entries.old }

@@ -7,6 +7,7 @@ ghost use Rattle.cs_deps.specs.Wanted.{AreWanted, taken_at};
 
 use crate::dependencies::{Dependency, version_at};
 use crate::elements::Element;
+use crate::needs::Needs;
 use crate::waiting::{is_waiting, needs_in};
 use crate::wanted::Wanted;
 use std::alloc::{AllocError, Global};
@@ -26,16 +27,16 @@ fn is_first(persistent: &[u64], element: Element) -> bool
 /// All that the first version of a family needs that waits, and what any other element needs of its own.
 fn needs_from(
     alloc: Global,
-    entries: &[(Element, Dependency)],
+    entries: &[(Element, Needs)],
     persistent: &[u64],
-    entry: &(Element, Dependency),
+    entry: &(Element, Needs),
 ) -> Result<Dependency, AllocError>
     ensures { IfOk result (λ needs. needs ≡ taken_at persistent.now entries.now entry.now.0 entry.now.1) }
 {
     if is_first(persistent, entry.0) {
         needs_in(alloc, entries, entry)
     } else {
-        entry.1.copy()
+        entry.1.copy(alloc)
     }
 }
 
@@ -50,9 +51,9 @@ fn is_wanted(wanted: &Wanted, persistent: &[u64], element: Element) -> bool
 fn with_needs(
     alloc: Global,
     wanted: Wanted,
-    entries: &[(Element, Dependency)],
+    entries: &[(Element, Needs)],
     persistent: &[u64],
-    entry: &(Element, Dependency),
+    entry: &(Element, Needs),
 ) -> Result<Wanted, AllocError>
     ensures { IfOk result (λ d. ((¬ ((entry_waits persistent.now entry.now.0 ≡ true) × Names wanted entry.now.0)) × (d ≡ wanted)) ⊎ ((entry_waits persistent.now entry.now.0 ≡ true) × Names wanted entry.now.0 × (d ≡ union wanted (taken_at persistent.now entries.now entry.now.0 entry.now.1)))) }
 {
@@ -67,7 +68,7 @@ fn with_needs(
 /// What a target needs of what waits. It goes through the entries once, the last one first, and once more for each family.
 pub fn wanted_of(
     alloc: Global,
-    entries: &[(Element, Dependency)],
+    entries: &[(Element, Needs)],
     persistent: &[u64],
     target: Wanted,
 ) -> Result<Wanted, AllocError>

@@ -14,6 +14,6 @@ some_there (x ∷ xs) n false is count = ((λ t none. absurd (cc none)), (λ som
 pub returns : goal.returns
 returns c =
     let g = c.self.inside in
-    let both = entries_wait g.persistent.items g.entries.items g.staged g.latest.items (option_map (λ r. r.items) g.round) (writes_of g.records.slots) g.room c.self.invariant.whole c.self.invariant.current in
-    let test = some_there g.entries.items _ c.is_empty.result c.is_empty.ensures g.entries.ok.0 in
+    let both = entries_wait g.persistent.items g.entries.list.items g.staged g.latest.items (option_map (λ r. r.items) g.round) (writes_of g.records.slots) g.room c.self.invariant.whole c.self.invariant.current in
+    let test = some_there g.entries.list.items _ c.is_empty.result c.is_empty.ensures g.entries.list.ok.0 in
     rw (← c.self.view_is) ((λ t. both.0 (test.0 t)), (λ some. test.1 (both.1 some)))

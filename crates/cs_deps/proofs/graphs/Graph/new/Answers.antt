@@ -20,6 +20,7 @@ invariant_of-result c =
       current = λ k f v d at. absurd (cc at);
       filed = filed_new ps c.in_ok-levels.levels c.in_ok-levels.ensures c.new-3.result none;
       entries_fit = omega (arith, c.new-2.ensures.len);
+      places_fit = omega arith;
       records_fit = room_new c.new-3.result none;
       newest = newest_new c.new-3.result none (get nat_eq c.new-4.result) (λ p. ap (lookup (nat_eq p)) c.new-4.ensures.empty);
       newest_fit = omega arith;

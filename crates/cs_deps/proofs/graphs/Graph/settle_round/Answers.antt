@@ -27,7 +27,7 @@ trim-requires-clause-plains c =
     let s : State = the_view g in
     let round : List Element = c.in-Some.round.items in
     let out : s.round ≡ Some round = ap (option_map (λ r. r.items)) (sym c.take.ensures.value ∙ c.in-Some.is) in
-    let ready = indexed_left g.persistent.items g.entries.items g.staged g.latest.items s.round (writes_of g.records.slots) g.room c.self.invariant.whole c.self.invariant.current g.levels c.self.invariant.indexed c.settle.new.self c.settle.ensures.none c.settle.ensures.one round out (writes_of c.give_up.new.records.slots) in
+    let ready = indexed_left g.persistent.items g.entries.list.items g.staged g.latest.items s.round (writes_of g.records.slots) g.room c.self.invariant.whole c.self.invariant.current g.levels c.self.invariant.indexed c.settle.new.self c.settle.ensures.none c.settle.ensures.one round out (writes_of c.give_up.new.records.slots) in
     ready.plain_count
 
 pub trim-requires-clause-versions : goal.trim-requires-clause-versions
@@ -36,7 +36,7 @@ trim-requires-clause-versions c f =
     let s : State = the_view g in
     let round : List Element = c.in-Some.round.items in
     let out : s.round ≡ Some round = ap (option_map (λ r. r.items)) (sym c.take.ensures.value ∙ c.in-Some.is) in
-    let ready = indexed_left g.persistent.items g.entries.items g.staged g.latest.items s.round (writes_of g.records.slots) g.room c.self.invariant.whole c.self.invariant.current g.levels c.self.invariant.indexed c.settle.new.self c.settle.ensures.none c.settle.ensures.one round out (writes_of c.give_up.new.records.slots) in
+    let ready = indexed_left g.persistent.items g.entries.list.items g.staged g.latest.items s.round (writes_of g.records.slots) g.room c.self.invariant.whole c.self.invariant.current g.levels c.self.invariant.indexed c.settle.new.self c.settle.ensures.none c.settle.ensures.one round out (writes_of c.give_up.new.records.slots) in
     rw c.deref-in-Some-6.ensures.value (ready.version_count f)
 
 pub invariant_of-self : goal.invariant_of-self
@@ -47,22 +47,23 @@ invariant_of-self c =
     let out : s.round ≡ Some round = ap (option_map (λ r. r.items)) (sym c.take.ensures.value ∙ c.in-Some.is) in
     let ix = c.self.invariant.indexed in
     let persistent : c.raise_all.new.versions.items ≡ raised g.persistent.items round = rw c.deref-in-Some.ensures.value at c.raise_all.ensures in
-    let entries : c.keep_entries.new.entries.items ≡ filter (λ w. entry_stays round (raised g.persistent.items round) g.latest.items w.0) g.entries.items = (rw (c.deref-in-Some-2.ensures.value, persistent, c.deref-in-Some-3.ensures.value) at c.keep_entries.ensures.items) ∙ entries_left g.persistent.items g.entries.items g.staged g.latest.items s.round (writes_of g.records.slots) g.room c.self.invariant.whole g.levels ix c.settle.new.self c.settle.ensures.none c.settle.ensures.one round out (raised g.persistent.items round) in
-    let folded : waiting_of (raised g.persistent.items round) c.fold_all.new.entries.items ≡ waiting_of (raised g.persistent.items round) (filter (λ w. entry_stays round (raised g.persistent.items round) g.latest.items w.0) g.entries.items) = (rw (c.deref-in-Some-4.ensures.value, persistent, entries) at c.fold_all.ensures.waiting) in
+    let entries : c.keep_entries.new.entries.items ≡ filter (λ w. entry_stays round (raised g.persistent.items round) g.latest.items w.0) g.entries.list.items = (rw (c.deref-in-Some-2.ensures.value, persistent, c.deref-in-Some-3.ensures.value) at c.keep_entries.ensures.items) ∙ entries_left g.persistent.items g.entries.list.items g.staged g.latest.items s.round (writes_of g.records.slots) g.room c.self.invariant.whole g.levels ix c.settle.new.self c.settle.ensures.none c.settle.ensures.one round out (raised g.persistent.items round) in
+    let folded : waiting_of (raised g.persistent.items round) c.fold_all.new.entries.items ≡ waiting_of (raised g.persistent.items round) (filter (λ w. entry_stays round (raised g.persistent.items round) g.latest.items w.0) g.entries.list.items) = (rw (c.deref-in-Some-4.ensures.value, persistent, entries) at c.fold_all.ensures.waiting) in
     let given = rw c.deref.ensures.value at c.give_up.ensures in
     let filed = filed_settled s g.levels c.settle.new.self ix g.records c.give_up.new.records c.self.invariant.filed c.settle.ensures.none c.settle.ensures.one round out given.less given.gone given.rest in
     let now = writes_of c.give_up.new.records.slots in
     let l = c.settle.new.self in
     let m = c.trim.new.self in
     let is = c.trim.ensures in
-    let after : State = state_of (raised g.persistent.items round) (filter (λ w. entry_stays round (raised g.persistent.items round) g.latest.items w.0) g.entries.items) g.staged g.latest.items None now g.room in
-    let ready : IsIndexed after l = indexed_left g.persistent.items g.entries.items g.staged g.latest.items s.round (writes_of g.records.slots) g.room c.self.invariant.whole c.self.invariant.current g.levels ix l c.settle.ensures.none c.settle.ensures.one round out now in
+    let after : State = state_of (raised g.persistent.items round) (filter (λ w. entry_stays round (raised g.persistent.items round) g.latest.items w.0) g.entries.list.items) g.staged g.latest.items None now g.room in
+    let ready : IsIndexed after l = indexed_left g.persistent.items g.entries.list.items g.staged g.latest.items s.round (writes_of g.records.slots) g.room c.self.invariant.whole c.self.invariant.current g.levels ix l c.settle.ensures.none c.settle.ensures.one round out now in
     let still = ready.still refl in
     rw (persistent, folded, c.take.ensures.after) (record {
-      whole = whole_left g.persistent.items g.entries.items g.staged g.latest.items s.round (writes_of g.records.slots) g.room round c.self.invariant.whole c.self.invariant.current out now;
-      current = (rw (c.deref-in-Some-4.ensures.value, persistent, entries) at c.fold_all.ensures.current) g.latest.items (current_settled g.persistent.items g.latest.items g.entries.items c.self.invariant.current c.self.invariant.whole.kept.families round);
+      whole = whole_left g.persistent.items g.entries.list.items g.staged g.latest.items s.round (writes_of g.records.slots) g.room round c.self.invariant.whole c.self.invariant.current out now;
+      current = (rw (c.deref-in-Some-4.ensures.value, persistent, entries) at c.fold_all.ensures.current) g.latest.items (current_settled g.persistent.items g.latest.items g.entries.list.items c.self.invariant.current c.self.invariant.whole.kept.families round);
       filed = filed_trimmed after l m is ready still c.give_up.new.records filed;
       entries_fit = omega (arith, c.self.invariant.entries_fit, c.keep_entries.ensures.count, c.keep_entries.ensures.capacity, c.fold_all.ensures.count, c.fold_all.ensures.capacity);
+      places_fit = c.self.invariant.places_fit;
       newest = given.newest c.self.invariant.newest;
       newest_fit = omega (arith, c.self.invariant.newest_fit, given.spare);
       records_fit = omega (arith, c.self.invariant.records_fit, c.give_up.ensures.count, c.give_up.ensures.capacity);
@@ -77,9 +78,9 @@ returns-in-Some-clause-settled c =
     let out : s.round ≡ Some round = ap (option_map (λ r. r.items)) (sym c.take.ensures.value ∙ c.in-Some.is) in
     let ix = c.self.invariant.indexed in
     let persistent : c.raise_all.new.versions.items ≡ raised g.persistent.items round = rw c.deref-in-Some.ensures.value at c.raise_all.ensures in
-    let entries : c.keep_entries.new.entries.items ≡ filter (λ w. entry_stays round (raised g.persistent.items round) g.latest.items w.0) g.entries.items = (rw (c.deref-in-Some-2.ensures.value, persistent, c.deref-in-Some-3.ensures.value) at c.keep_entries.ensures.items) ∙ entries_left g.persistent.items g.entries.items g.staged g.latest.items s.round (writes_of g.records.slots) g.room c.self.invariant.whole g.levels ix c.settle.new.self c.settle.ensures.none c.settle.ensures.one round out (raised g.persistent.items round) in
-    let folded : waiting_of (raised g.persistent.items round) c.fold_all.new.entries.items ≡ waiting_of (raised g.persistent.items round) (filter (λ w. entry_stays round (raised g.persistent.items round) g.latest.items w.0) g.entries.items) = (rw (c.deref-in-Some-4.ensures.value, persistent, entries) at c.fold_all.ensures.waiting) in
-    let left = waiting_settled g.persistent.items g.latest.items g.entries.items c.self.invariant.current c.self.invariant.whole.kept.families round in
+    let entries : c.keep_entries.new.entries.items ≡ filter (λ w. entry_stays round (raised g.persistent.items round) g.latest.items w.0) g.entries.list.items = (rw (c.deref-in-Some-2.ensures.value, persistent, c.deref-in-Some-3.ensures.value) at c.keep_entries.ensures.items) ∙ entries_left g.persistent.items g.entries.list.items g.staged g.latest.items s.round (writes_of g.records.slots) g.room c.self.invariant.whole g.levels ix c.settle.new.self c.settle.ensures.none c.settle.ensures.one round out (raised g.persistent.items round) in
+    let folded : waiting_of (raised g.persistent.items round) c.fold_all.new.entries.items ≡ waiting_of (raised g.persistent.items round) (filter (λ w. entry_stays round (raised g.persistent.items round) g.latest.items w.0) g.entries.list.items) = (rw (c.deref-in-Some-4.ensures.value, persistent, entries) at c.fold_all.ensures.waiting) in
+    let left = waiting_settled g.persistent.items g.latest.items g.entries.list.items c.self.invariant.current c.self.invariant.whole.kept.families round in
     let joined : List (Element × Named) → Staging = λ ws. record { pending = record { persistent = raised g.persistent.items round; waiting = ws }; staged = g.staged; latest = g.latest.items } in
     let then : Pending → Staging = λ p. record { pending = p; staged = g.staged; latest = g.latest.items } in
     rw (← c.self.view_is, persistent, folded) (ap joined left ∙ sym (ap (λ o. then (after_round s.staging.pending o)) out))
@@ -92,9 +93,9 @@ returns-in-Some-clause-adds c =
     let out : s.round ≡ Some round = ap (option_map (λ r. r.items)) (sym c.take.ensures.value ∙ c.in-Some.is) in
     let ix = c.self.invariant.indexed in
     let persistent : c.raise_all.new.versions.items ≡ raised g.persistent.items round = rw c.deref-in-Some.ensures.value at c.raise_all.ensures in
-    let entries : c.keep_entries.new.entries.items ≡ filter (λ w. entry_stays round (raised g.persistent.items round) g.latest.items w.0) g.entries.items = (rw (c.deref-in-Some-2.ensures.value, persistent, c.deref-in-Some-3.ensures.value) at c.keep_entries.ensures.items) ∙ entries_left g.persistent.items g.entries.items g.staged g.latest.items s.round (writes_of g.records.slots) g.room c.self.invariant.whole g.levels ix c.settle.new.self c.settle.ensures.none c.settle.ensures.one round out (raised g.persistent.items round) in
-    let folded : waiting_of (raised g.persistent.items round) c.fold_all.new.entries.items ≡ waiting_of (raised g.persistent.items round) (filter (λ w. entry_stays round (raised g.persistent.items round) g.latest.items w.0) g.entries.items) = (rw (c.deref-in-Some-4.ensures.value, persistent, entries) at c.fold_all.ensures.waiting) in
-    let left = waiting_settled g.persistent.items g.latest.items g.entries.items c.self.invariant.current c.self.invariant.whole.kept.families round in
+    let entries : c.keep_entries.new.entries.items ≡ filter (λ w. entry_stays round (raised g.persistent.items round) g.latest.items w.0) g.entries.list.items = (rw (c.deref-in-Some-2.ensures.value, persistent, c.deref-in-Some-3.ensures.value) at c.keep_entries.ensures.items) ∙ entries_left g.persistent.items g.entries.list.items g.staged g.latest.items s.round (writes_of g.records.slots) g.room c.self.invariant.whole g.levels ix c.settle.new.self c.settle.ensures.none c.settle.ensures.one round out (raised g.persistent.items round) in
+    let folded : waiting_of (raised g.persistent.items round) c.fold_all.new.entries.items ≡ waiting_of (raised g.persistent.items round) (filter (λ w. entry_stays round (raised g.persistent.items round) g.latest.items w.0) g.entries.list.items) = (rw (c.deref-in-Some-4.ensures.value, persistent, entries) at c.fold_all.ensures.waiting) in
+    let left = waiting_settled g.persistent.items g.latest.items g.entries.list.items c.self.invariant.current c.self.invariant.whole.kept.families round in
     rw (← c.self.view_is, persistent, folded, left) (settled_round_adds s c.self.invariant.whole round out)
 
 pub returns-in-Some-clause-writes : goal.returns-in-Some-clause-writes

@@ -31,27 +31,28 @@ invariant_of-self c =
     let r : Record = record { element = Plain (g.staged + 1); page = c.args.page; bytes = c.args.bytes.now; older = c.noted-older.result } in
     let mid = filed_same g.levels c.need_room.new.levels g.records c.need_room.new.records c.self.invariant.filed e.levels (λ key. ap (λ (r : Slab Record). get r key) e.records) in
     let key = c.insert_reserved-key.ensures in
-    let filed = filed_with_plain g.persistent.items g.entries.items g.staged g.latest.items (option_map (λ r. r.items) g.round) (writes_of g.records.slots) g.room c.self.invariant.whole g.levels c.self.invariant.indexed c.need_room.new.levels e.levels c.in-Ok.made e.levels_fit c.args.needs within c.top-best.result.level c.top-best.result.before c.top-best.ensures c.insert_reserved-key.result c.push_plain.new.self c.push_plain.ensures.pushed c.need_room.new.records c.insert_reserved-key.new.self mid key.was_vacant r key.updates refl in
+    let filed = filed_with_plain g.persistent.items g.entries.list.items g.staged g.latest.items (option_map (λ r. r.items) g.round) (writes_of g.records.slots) g.room c.self.invariant.whole g.levels c.self.invariant.indexed c.need_room.new.levels e.levels c.in-Ok.made e.levels_fit c.args.needs within c.top-best.result.level c.top-best.result.before c.top-best.ensures c.insert_reserved-key.result c.push_plain.new.self c.push_plain.ensures.pushed c.need_room.new.records c.insert_reserved-key.new.self mid key.was_vacant r key.updates refl in
     let made = c.in-Ok.made in
     let now = writes_of c.insert_reserved-key.new.self.slots in
     let roomy = newest_same g.records c.need_room.new.records (get_number nat_eq g.newest) (get_number nat_eq c.need_room.new.newest) c.self.invariant.newest e.newest (λ key r n of at. sym (ap (λ (u : Slab Record). get u key) e.records) ∙ at) (λ key r n of at. ap (λ (u : Slab Record). get u key) e.records ∙ at) in
     let fits : HasRoom c.push_plain.new.self (made - 1) = (let n : made - 1 + 1 ≡ made = omega (arith, c.in-Ok.ensures.some) in c.push_plain.ensures.room (made - 1) (subst (HasRoom c.need_room.new.levels) (sym n) c.in-Ok.ensures.levels_fit)) in
     rw (c.push_reserved.ensures.items, c.in-Ok.ensures.entries) (record {
-      whole = whole_plain g.persistent.items g.entries.items g.staged g.latest.items (option_map (λ r. r.items) g.round) (writes_of g.records.slots) g.room (made - 1) c.args.needs now c.self.invariant.whole within;
-      current = current_plain g.persistent.items g.latest.items g.entries.items (g.staged + 1) c.args.needs c.self.invariant.current;
+      whole = whole_plain g.persistent.items g.entries.list.items g.staged g.latest.items (option_map (λ r. r.items) g.round) (writes_of g.records.slots) g.room (made - 1) c.args.needs now c.self.invariant.whole within;
+      current = current_plain g.persistent.items g.latest.items g.entries.list.items (g.staged + 1) c.args.needs c.self.invariant.current;
       filed = filed;
       entries_fit = omega (arith, c.in-Ok.ensures.entries_fit, c.in-Ok.ensures.some, c.push_reserved.ensures.len, c.push_reserved.ensures.capacity);
+      places_fit = omega (arith, c.in-Ok.ensures.places_fit, c.in-Ok.ensures.some, c.push_reserved.ensures.places);
       newest = newest_more c.need_room.new.records c.insert_reserved-key.new.self c.insert_reserved-key.result r (g.staged + 1) (get_number nat_eq c.need_room.new.newest) (get_number nat_eq c.note.new.newest) roomy key.was_vacant key.updates refl (λ p m put. put_low g.levels g.records c.self.invariant.filed g.staged c.self.invariant.indexed.plain_count p m (put.0, put.1, ap (λ (u : Slab Record). get u put.0) (sym e.records) ∙ put.2, put.3, put.4)) c.noted-older.ensures c.note.ensures.numbers;
       newest_fit = omega (arith, c.in-Ok.ensures.newest_fit, c.in-Ok.ensures.some, c.note.ensures.spare);
       records_fit = omega (arith, c.in-Ok.ensures.records_fit, c.in-Ok.ensures.some, c.insert_reserved-key.ensures.len, c.insert_reserved-key.ensures.capacity);
-      indexed = indexed_with_plain g.persistent.items g.entries.items g.staged g.latest.items (option_map (λ r. r.items) g.round) (writes_of g.records.slots) g.room c.self.invariant.whole g.levels c.self.invariant.indexed c.need_room.new.levels c.in-Ok.ensures.levels made c.in-Ok.ensures.levels_fit c.args.needs within c.top-best.result.level c.top-best.result.before c.top-best.ensures c.insert_reserved-key.result c.push_plain.new.self c.push_plain.ensures.pushed now (made - 1) fits;
+      indexed = indexed_with_plain g.persistent.items g.entries.list.items g.staged g.latest.items (option_map (λ r. r.items) g.round) (writes_of g.records.slots) g.room c.self.invariant.whole g.levels c.self.invariant.indexed c.need_room.new.levels c.in-Ok.ensures.levels made c.in-Ok.ensures.levels_fit c.args.needs within c.top-best.result.level c.top-best.result.before c.top-best.ensures c.insert_reserved-key.result c.push_plain.new.self c.push_plain.ensures.pushed now (made - 1) fits;
     })
 
 pub returns-in-Ok-clause-staged : goal.returns-in-Ok-clause-staged
 returns-in-Ok-clause-staged c =
     let g = c.self.inside in
     let now : List (Element × Named) → Staging = λ ws. record { pending = record { persistent = g.persistent.items; waiting = ws }; staged = g.staged + 1; latest = g.latest.items } in
-    rw (← c.self.view_is) (ap now (ap (waiting_of g.persistent.items) (c.push_reserved.ensures.items ∙ ap (λ es. es ++ (Plain (g.staged + 1), c.args.needs) ∷ []) c.in-Ok.ensures.entries) ∙ waiting_plain g.persistent.items g.entries.items (g.staged + 1) c.args.needs))
+    rw (← c.self.view_is) (ap now (ap (waiting_of g.persistent.items) (c.push_reserved.ensures.items ∙ ap (λ es. es ++ (Plain (g.staged + 1), c.args.needs) ∷ []) c.in-Ok.ensures.entries) ∙ waiting_plain g.persistent.items g.entries.list.items (g.staged + 1) c.args.needs))
 
 pub returns-in-Ok-clause-write : goal.returns-in-Ok-clause-write
 returns-in-Ok-clause-write c =
@@ -62,7 +63,7 @@ returns-in-Ok-clause-write c =
     let r : Record = record { element = Plain (g.staged + 1); page = c.args.page; bytes = c.args.bytes.now; older = c.noted-older.result } in
     let mid = filed_same g.levels c.need_room.new.levels g.records c.need_room.new.records c.self.invariant.filed e.levels (λ key. ap (λ (r : Slab Record). get r key) e.records) in
     let key = c.insert_reserved-key.ensures in
-    let filed = filed_with_plain g.persistent.items g.entries.items g.staged g.latest.items (option_map (λ r. r.items) g.round) (writes_of g.records.slots) g.room c.self.invariant.whole g.levels c.self.invariant.indexed c.need_room.new.levels e.levels c.in-Ok.made e.levels_fit c.args.needs within c.top-best.result.level c.top-best.result.before c.top-best.ensures c.insert_reserved-key.result c.push_plain.new.self c.push_plain.ensures.pushed c.need_room.new.records c.insert_reserved-key.new.self mid key.was_vacant r key.updates refl in
+    let filed = filed_with_plain g.persistent.items g.entries.list.items g.staged g.latest.items (option_map (λ r. r.items) g.round) (writes_of g.records.slots) g.room c.self.invariant.whole g.levels c.self.invariant.indexed c.need_room.new.levels e.levels c.in-Ok.made e.levels_fit c.args.needs within c.top-best.result.level c.top-best.result.before c.top-best.ensures c.insert_reserved-key.result c.push_plain.new.self c.push_plain.ensures.pushed c.need_room.new.records c.insert_reserved-key.new.self mid key.was_vacant r key.updates refl in
     record_write c.push_plain.new.self c.insert_reserved-key.new.self filed c.insert_reserved-key.result r key.updates.changed
 
 pub returns-in-Ok-clause-others : goal.returns-in-Ok-clause-others
@@ -74,7 +75,7 @@ returns-in-Ok-clause-others c =
     let r : Record = record { element = Plain (g.staged + 1); page = c.args.page; bytes = c.args.bytes.now; older = c.noted-older.result } in
     let mid = filed_same g.levels c.need_room.new.levels g.records c.need_room.new.records c.self.invariant.filed e.levels (λ key. ap (λ (r : Slab Record). get r key) e.records) in
     let key = c.insert_reserved-key.ensures in
-    let filed = filed_with_plain g.persistent.items g.entries.items g.staged g.latest.items (option_map (λ r. r.items) g.round) (writes_of g.records.slots) g.room c.self.invariant.whole g.levels c.self.invariant.indexed c.need_room.new.levels e.levels c.in-Ok.made e.levels_fit c.args.needs within c.top-best.result.level c.top-best.result.before c.top-best.ensures c.insert_reserved-key.result c.push_plain.new.self c.push_plain.ensures.pushed c.need_room.new.records c.insert_reserved-key.new.self mid key.was_vacant r key.updates refl in
+    let filed = filed_with_plain g.persistent.items g.entries.list.items g.staged g.latest.items (option_map (λ r. r.items) g.round) (writes_of g.records.slots) g.room c.self.invariant.whole g.levels c.self.invariant.indexed c.need_room.new.levels e.levels c.in-Ok.made e.levels_fit c.args.needs within c.top-best.result.level c.top-best.result.before c.top-best.ensures c.insert_reserved-key.result c.push_plain.new.self c.push_plain.ensures.pushed c.need_room.new.records c.insert_reserved-key.new.self mid key.was_vacant r key.updates refl in
     rw (← c.self.view_is) (others_kept g.levels c.push_plain.new.self g.records c.insert_reserved-key.new.self c.self.invariant.filed filed (Plain (g.staged + 1)) (λ other u at. ⊎_elim
     (λ (o : other ≡ c.insert_reserved-key.result). inr (ap (λ (w : Record). w.element) (same_Some u r (sym at ∙ ap (get c.insert_reserved-key.new.self) o ∙ key.updates.changed))))
     (λ (ne : other ≢ c.insert_reserved-key.result). inl (ap (λ (r : Slab Record). get r other) (sym e.records) ∙ sym (key.updates.others other ne) ∙ at))
@@ -85,7 +86,7 @@ push_plain-requires-clause-high c =
     let g = c.self.inside in
     let says = rw (← c.self.view_is) at c.is_staged.ensures in
     let within = says.0 (not_false c.is_staged.result c.if-not-is_staged.false) in
-    high_enough g.persistent.items g.entries.items g.staged g.latest.items (option_map (λ r. r.items) g.round) (writes_of g.records.slots) g.room c.self.invariant.whole g.levels c.self.invariant.indexed c.need_room.new.levels c.in-Ok.ensures.levels c.in-Ok.made c.in-Ok.ensures.levels_fit c.args.needs within c.top-best.result.level c.top-best.result.before c.top-best.ensures
+    high_enough g.persistent.items g.entries.list.items g.staged g.latest.items (option_map (λ r. r.items) g.round) (writes_of g.records.slots) g.room c.self.invariant.whole g.levels c.self.invariant.indexed c.need_room.new.levels c.in-Ok.ensures.levels c.in-Ok.made c.in-Ok.ensures.levels_fit c.args.needs within c.top-best.result.level c.top-best.result.before c.top-best.ensures
 
 pub invariant_of-self-in-Err : goal.invariant_of-self-in-Err
 invariant_of-self-in-Err c =
@@ -96,6 +97,7 @@ invariant_of-self-in-Err c =
       current = c.self.invariant.current;
       filed = filed_same g.levels c.need_room.new.levels g.records c.need_room.new.records c.self.invariant.filed e.levels (λ key. ap (λ (r : Slab Record). get r key) e.records);
       entries_fit = e.entry_room;
+      places_fit = e.place_room;
       records_fit = e.record_room;
       newest = newest_same g.records c.need_room.new.records (get_number nat_eq g.newest) (get_number nat_eq c.need_room.new.newest) c.self.invariant.newest e.newest (λ key r n of at. sym (ap (λ (u : Slab Record). get u key) e.records) ∙ at) (λ key r n of at. ap (λ (u : Slab Record). get u key) e.records ∙ at);
       newest_fit = e.newest_room;
@@ -111,6 +113,7 @@ invariant_of-self-in-Err-2 c =
       current = c.self.invariant.current;
       filed = filed_same g.levels c.need_room.new.levels g.records c.need_room.new.records c.self.invariant.filed e.levels (λ key. ap (λ (r : Slab Record). get r key) e.records);
       entries_fit = e.entry_room;
+      places_fit = e.place_room;
       records_fit = e.record_room;
       newest = newest_same g.records c.need_room.new.records (get_number nat_eq g.newest) (get_number nat_eq c.need_room.new.newest) c.self.invariant.newest e.newest (λ key r n of at. sym (ap (λ (u : Slab Record). get u key) e.records) ∙ at) (λ key r n of at. ap (λ (u : Slab Record). get u key) e.records ∙ at);
       newest_fit = e.newest_room;

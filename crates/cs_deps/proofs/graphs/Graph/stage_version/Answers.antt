@@ -34,8 +34,8 @@ next_of-kept-requires c =
     let last = sym (get_or_from_slice_get g.latest.items f before 0 (slice_get_read g.latest.items (length g.latest.items) f before refl inside c.index-before.ensures)) in
     let made = c.in-Ok.made in
     let m = c.need_room.new.levels in
-    let ix = indexed_roomy g.persistent.items g.entries.items g.staged g.latest.items (option_map (λ r. r.items) g.round) (writes_of g.records.slots) g.room c.self.invariant.whole g.levels c.self.invariant.indexed m c.in-Ok.ensures.levels made c.in-Ok.ensures.levels_fit in
-    let high = high_enough g.persistent.items g.entries.items g.staged g.latest.items (option_map (λ r. r.items) g.round) (writes_of g.records.slots) g.room c.self.invariant.whole g.levels c.self.invariant.indexed m c.in-Ok.ensures.levels made c.in-Ok.ensures.levels_fit c.args.needs within c.top-best.result.level c.top-best.result.before c.top-best.ensures in
+    let ix = indexed_roomy g.persistent.items g.entries.list.items g.staged g.latest.items (option_map (λ r. r.items) g.round) (writes_of g.records.slots) g.room c.self.invariant.whole g.levels c.self.invariant.indexed m c.in-Ok.ensures.levels made c.in-Ok.ensures.levels_fit in
+    let high = high_enough g.persistent.items g.entries.list.items g.staged g.latest.items (option_map (λ r. r.items) g.round) (writes_of g.records.slots) g.room c.self.invariant.whole g.levels c.self.invariant.indexed m c.in-Ok.ensures.levels made c.in-Ok.ensures.levels_fit c.args.needs within c.top-best.result.level c.top-best.result.before c.top-best.ensures in
     omega (arith, high, c.in-Ok.ensures.levels_fit.limit, c.in-Ok.ensures.some)
 
 pub replaced-requires-clause-low : goal.replaced-requires-clause-low
@@ -49,8 +49,8 @@ replaced-requires-clause-low c =
     let last = sym (get_or_from_slice_get g.latest.items f before 0 (slice_get_read g.latest.items (length g.latest.items) f before refl inside c.index-before.ensures)) in
     let made = c.in-Ok.made in
     let m = c.need_room.new.levels in
-    let ix = indexed_roomy g.persistent.items g.entries.items g.staged g.latest.items (option_map (λ r. r.items) g.round) (writes_of g.records.slots) g.room c.self.invariant.whole g.levels c.self.invariant.indexed m c.in-Ok.ensures.levels made c.in-Ok.ensures.levels_fit in
-    let high = high_enough g.persistent.items g.entries.items g.staged g.latest.items (option_map (λ r. r.items) g.round) (writes_of g.records.slots) g.room c.self.invariant.whole g.levels c.self.invariant.indexed m c.in-Ok.ensures.levels made c.in-Ok.ensures.levels_fit c.args.needs within c.top-best.result.level c.top-best.result.before c.top-best.ensures in
+    let ix = indexed_roomy g.persistent.items g.entries.list.items g.staged g.latest.items (option_map (λ r. r.items) g.round) (writes_of g.records.slots) g.room c.self.invariant.whole g.levels c.self.invariant.indexed m c.in-Ok.ensures.levels made c.in-Ok.ensures.levels_fit in
+    let high = high_enough g.persistent.items g.entries.list.items g.staged g.latest.items (option_map (λ r. r.items) g.round) (writes_of g.records.slots) g.room c.self.invariant.whole g.levels c.self.invariant.indexed m c.in-Ok.ensures.levels made c.in-Ok.ensures.levels_fit c.args.needs within c.top-best.result.level c.top-best.result.before c.top-best.ensures in
     let low : m.ended ≤ c.top-best.result.level = omega (arith, c.top-best.ensures.low, ix.low) in
     let k = next_version (kept_by m (Version f before)) m.base (c.top-best.result.level + 1) c.top-best.result.before in
     let range = next_range (kept_by m (Version f before)) m.base (c.top-best.result.level + 1) m.ended (m.ended + length m.rows.items) c.top-best.result.before (ix.within (Version f before)) ix.low (omega (arith, low)) (omega (arith, high)) in
@@ -68,8 +68,8 @@ push_version-requires-clause-low c =
     let last = sym (get_or_from_slice_get g.latest.items f before 0 (slice_get_read g.latest.items (length g.latest.items) f before refl inside c.index-before.ensures)) in
     let made = c.in-Ok.made in
     let m = c.need_room.new.levels in
-    let ix = indexed_roomy g.persistent.items g.entries.items g.staged g.latest.items (option_map (λ r. r.items) g.round) (writes_of g.records.slots) g.room c.self.invariant.whole g.levels c.self.invariant.indexed m c.in-Ok.ensures.levels made c.in-Ok.ensures.levels_fit in
-    let high = high_enough g.persistent.items g.entries.items g.staged g.latest.items (option_map (λ r. r.items) g.round) (writes_of g.records.slots) g.room c.self.invariant.whole g.levels c.self.invariant.indexed m c.in-Ok.ensures.levels made c.in-Ok.ensures.levels_fit c.args.needs within c.top-best.result.level c.top-best.result.before c.top-best.ensures in
+    let ix = indexed_roomy g.persistent.items g.entries.list.items g.staged g.latest.items (option_map (λ r. r.items) g.round) (writes_of g.records.slots) g.room c.self.invariant.whole g.levels c.self.invariant.indexed m c.in-Ok.ensures.levels made c.in-Ok.ensures.levels_fit in
+    let high = high_enough g.persistent.items g.entries.list.items g.staged g.latest.items (option_map (λ r. r.items) g.round) (writes_of g.records.slots) g.room c.self.invariant.whole g.levels c.self.invariant.indexed m c.in-Ok.ensures.levels made c.in-Ok.ensures.levels_fit c.args.needs within c.top-best.result.level c.top-best.result.before c.top-best.ensures in
     let low : m.ended ≤ c.top-best.result.level = omega (arith, c.top-best.ensures.low, ix.low) in
     let k = next_version (kept_by m (Version f before)) m.base (c.top-best.result.level + 1) c.top-best.result.before in
     let range = next_range (kept_by m (Version f before)) m.base (c.top-best.result.level + 1) m.ended (m.ended + length m.rows.items) c.top-best.result.before (ix.within (Version f before)) ix.low (omega (arith, low)) (omega (arith, high)) in
@@ -87,8 +87,8 @@ push_version-requires-clause-high c =
     let last = sym (get_or_from_slice_get g.latest.items f before 0 (slice_get_read g.latest.items (length g.latest.items) f before refl inside c.index-before.ensures)) in
     let made = c.in-Ok.made in
     let m = c.need_room.new.levels in
-    let ix = indexed_roomy g.persistent.items g.entries.items g.staged g.latest.items (option_map (λ r. r.items) g.round) (writes_of g.records.slots) g.room c.self.invariant.whole g.levels c.self.invariant.indexed m c.in-Ok.ensures.levels made c.in-Ok.ensures.levels_fit in
-    let high = high_enough g.persistent.items g.entries.items g.staged g.latest.items (option_map (λ r. r.items) g.round) (writes_of g.records.slots) g.room c.self.invariant.whole g.levels c.self.invariant.indexed m c.in-Ok.ensures.levels made c.in-Ok.ensures.levels_fit c.args.needs within c.top-best.result.level c.top-best.result.before c.top-best.ensures in
+    let ix = indexed_roomy g.persistent.items g.entries.list.items g.staged g.latest.items (option_map (λ r. r.items) g.round) (writes_of g.records.slots) g.room c.self.invariant.whole g.levels c.self.invariant.indexed m c.in-Ok.ensures.levels made c.in-Ok.ensures.levels_fit in
+    let high = high_enough g.persistent.items g.entries.list.items g.staged g.latest.items (option_map (λ r. r.items) g.round) (writes_of g.records.slots) g.room c.self.invariant.whole g.levels c.self.invariant.indexed m c.in-Ok.ensures.levels made c.in-Ok.ensures.levels_fit c.args.needs within c.top-best.result.level c.top-best.result.before c.top-best.ensures in
     let low : m.ended ≤ c.top-best.result.level = omega (arith, c.top-best.ensures.low, ix.low) in
     let k = next_version (kept_by m (Version f before)) m.base (c.top-best.result.level + 1) c.top-best.result.before in
     let range = next_range (kept_by m (Version f before)) m.base (c.top-best.result.level + 1) m.ended (m.ended + length m.rows.items) c.top-best.result.before (ix.within (Version f before)) ix.low (omega (arith, low)) (omega (arith, high)) in
@@ -106,8 +106,8 @@ invariant_of-self c =
     let last = sym (get_or_from_slice_get g.latest.items f before 0 (slice_get_read g.latest.items (length g.latest.items) f before refl inside c.index-before.ensures)) in
     let made = c.in-Ok.made in
     let m = c.need_room.new.levels in
-    let ix = indexed_roomy g.persistent.items g.entries.items g.staged g.latest.items (option_map (λ r. r.items) g.round) (writes_of g.records.slots) g.room c.self.invariant.whole g.levels c.self.invariant.indexed m c.in-Ok.ensures.levels made c.in-Ok.ensures.levels_fit in
-    let high = high_enough g.persistent.items g.entries.items g.staged g.latest.items (option_map (λ r. r.items) g.round) (writes_of g.records.slots) g.room c.self.invariant.whole g.levels c.self.invariant.indexed m c.in-Ok.ensures.levels made c.in-Ok.ensures.levels_fit c.args.needs within c.top-best.result.level c.top-best.result.before c.top-best.ensures in
+    let ix = indexed_roomy g.persistent.items g.entries.list.items g.staged g.latest.items (option_map (λ r. r.items) g.round) (writes_of g.records.slots) g.room c.self.invariant.whole g.levels c.self.invariant.indexed m c.in-Ok.ensures.levels made c.in-Ok.ensures.levels_fit in
+    let high = high_enough g.persistent.items g.entries.list.items g.staged g.latest.items (option_map (λ r. r.items) g.round) (writes_of g.records.slots) g.room c.self.invariant.whole g.levels c.self.invariant.indexed m c.in-Ok.ensures.levels made c.in-Ok.ensures.levels_fit c.args.needs within c.top-best.result.level c.top-best.result.before c.top-best.ensures in
     let low : m.ended ≤ c.top-best.result.level = omega (arith, c.top-best.ensures.low, ix.low) in
     let k = next_version (kept_by m (Version f before)) m.base (c.top-best.result.level + 1) c.top-best.result.before in
     let range = next_range (kept_by m (Version f before)) m.base (c.top-best.result.level + 1) m.ended (m.ended + length m.rows.items) c.top-best.result.before (ix.within (Version f before)) ix.low (omega (arith, low)) (omega (arith, high)) in
@@ -119,7 +119,7 @@ invariant_of-self c =
     let there : m.ended + (k.level - m.ended - 1) + 1 ≡ c.next_of-kept.result.level = place ∙ sym level in
     let old = filed_same g.levels m g.records c.need_room.new.records c.self.invariant.filed c.in-Ok.ensures.levels (λ key. ap (λ (r : Slab Record). get r key) c.in-Ok.ensures.records) in
     let pushed = subst (λ (u : Kept). IsVersionPushed m c.push_version.new.self f before (k.level - m.ended - 1) (keyed c.insert_reserved-key.result u)) c.next_of-kept.ensures (c.push_version.ensures.pushed (k.level - m.ended - 1) there) in
-    let filed = filed_with_version g.persistent.items g.entries.items g.staged g.latest.items (option_map (λ r. r.items) g.round) (writes_of g.records.slots) g.room c.self.invariant.whole g.levels c.self.invariant.indexed m c.in-Ok.ensures.levels made c.in-Ok.ensures.levels_fit c.args.needs within c.top-best.result.level c.top-best.result.before c.top-best.ensures f inside own before last c.self.invariant.current c.insert_reserved-key.result c.push_version.new.self (k.level - m.ended - 1) pushed c.need_room.new.records c.clear.new.records c.insert_reserved-key.new.self old
+    let filed = filed_with_version g.persistent.items g.entries.list.items g.staged g.latest.items (option_map (λ r. r.items) g.round) (writes_of g.records.slots) g.room c.self.invariant.whole g.levels c.self.invariant.indexed m c.in-Ok.ensures.levels made c.in-Ok.ensures.levels_fit c.args.needs within c.top-best.result.level c.top-best.result.before c.top-best.ensures f inside own before last c.self.invariant.current c.insert_reserved-key.result c.push_version.new.self (k.level - m.ended - 1) pushed c.need_room.new.records c.clear.new.records c.insert_reserved-key.new.self old
     (left_of m f (k.level - m.ended - 1) c.need_room.new.records c.clear.new.records old c.replaced.result (c.replaced.ensures.some (k.level - m.ended - 1) there) (c.replaced.ensures.none (k.level - m.ended - 1) there) c.clear.ensures.none c.clear.ensures.gone c.clear.ensures.others)
     (came_of m f (k.level - m.ended - 1) c.need_room.new.records c.clear.new.records old c.replaced.result (c.replaced.ensures.some (k.level - m.ended - 1) there) (c.replaced.ensures.none (k.level - m.ended - 1) there) c.clear.ensures.none c.clear.ensures.gone c.clear.ensures.others)
     key.was_vacant r key.updates refl in
@@ -128,10 +128,11 @@ invariant_of-self c =
     let came = came_of m f (k.level - m.ended - 1) c.need_room.new.records c.clear.new.records old c.replaced.result (c.replaced.ensures.some (k.level - m.ended - 1) there) (c.replaced.ensures.none (k.level - m.ended - 1) there) c.clear.ensures.none c.clear.ensures.gone c.clear.ensures.others in
     let fits : HasRoom c.push_version.new.self (made - 1) = (let n : made - 1 + 1 ≡ made = omega (arith, c.in-Ok.ensures.some) in c.push_version.ensures.room (made - 1) (subst (HasRoom m) (sym n) c.in-Ok.ensures.levels_fit)) in
     rw (c.push_reserved.ensures.items, c.in-Ok.ensures.entries) (record {
-      whole = whole_version g.persistent.items g.entries.items g.staged g.latest.items (option_map (λ r. r.items) g.round) (writes_of g.records.slots) g.room c.self.invariant.whole c.self.invariant.current f inside before last c.args.needs (made - 1) now within own;
-      current = current_version g.persistent.items g.entries.items g.staged g.latest.items (option_map (λ r. r.items) g.round) (writes_of g.records.slots) g.room c.self.invariant.whole c.self.invariant.current f inside before last c.args.needs;
+      whole = whole_version g.persistent.items g.entries.list.items g.staged g.latest.items (option_map (λ r. r.items) g.round) (writes_of g.records.slots) g.room c.self.invariant.whole c.self.invariant.current f inside before last c.args.needs (made - 1) now within own;
+      current = current_version g.persistent.items g.entries.list.items g.staged g.latest.items (option_map (λ r. r.items) g.round) (writes_of g.records.slots) g.room c.self.invariant.whole c.self.invariant.current f inside before last c.args.needs;
       filed = filed;
       entries_fit = omega (arith, c.in-Ok.ensures.entries_fit, c.in-Ok.ensures.some, c.push_reserved.ensures.len, c.push_reserved.ensures.capacity);
+      places_fit = omega (arith, c.in-Ok.ensures.places_fit, c.in-Ok.ensures.some, c.push_reserved.ensures.places);
       newest = newest_same g.records c.insert_reserved-key.new.self (get_number nat_eq g.newest) (get_number nat_eq c.need_room.new.newest) c.self.invariant.newest c.need_room.ensures.newest
           (λ other u n of at. ⊎_elim
           (λ (o : other ≡ c.insert_reserved-key.result). absurd (cc (sym of ∙ ap (λ (w : Record). w.element) (same_Some u r (sym at ∙ ap (get c.insert_reserved-key.new.self) o ∙ key.updates.changed)))))
@@ -142,7 +143,7 @@ invariant_of-self c =
           key.updates.others other (λ e. absurd (cc (sym here ∙ ap (get c.clear.new.records) e ∙ key.was_vacant))) ∙ here);
       newest_fit = omega (arith, c.in-Ok.ensures.newest_fit);
       records_fit = omega (arith, c.in-Ok.ensures.records_fit, c.in-Ok.ensures.some, c.clear.ensures.count, c.clear.ensures.capacity, key.len, key.capacity);
-      indexed = indexed_with_version g.persistent.items g.entries.items g.staged g.latest.items (option_map (λ r. r.items) g.round) (writes_of g.records.slots) g.room c.self.invariant.whole g.levels c.self.invariant.indexed m c.in-Ok.ensures.levels made c.in-Ok.ensures.levels_fit c.args.needs within c.top-best.result.level c.top-best.result.before c.top-best.ensures f inside own before last c.self.invariant.current c.insert_reserved-key.result c.push_version.new.self (k.level - m.ended - 1) pushed now (made - 1) fits;
+      indexed = indexed_with_version g.persistent.items g.entries.list.items g.staged g.latest.items (option_map (λ r. r.items) g.round) (writes_of g.records.slots) g.room c.self.invariant.whole g.levels c.self.invariant.indexed m c.in-Ok.ensures.levels made c.in-Ok.ensures.levels_fit c.args.needs within c.top-best.result.level c.top-best.result.before c.top-best.ensures f inside own before last c.self.invariant.current c.insert_reserved-key.result c.push_version.new.self (k.level - m.ended - 1) pushed now (made - 1) fits;
     })
 
 pub returns-in-Ok-clause-staged : goal.returns-in-Ok-clause-staged
@@ -154,11 +155,11 @@ returns-in-Ok-clause-staged c =
     let inside = rw (← c.self.view_is) at c.requires in
     let before = c.index-before.result.now in
     let last = sym (get_or_from_slice_get g.latest.items f before 0 (slice_get_read g.latest.items (length g.latest.items) f before refl inside c.index-before.ensures)) in
-    let joined = joined_next g.persistent.items g.entries.items g.staged g.latest.items (option_map (λ r. r.items) g.round) (writes_of g.records.slots) g.room c.self.invariant.whole c.self.invariant.current f inside before last c.args.needs in
-    let waits = waiting_next g.persistent.items g.entries.items g.staged g.latest.items (option_map (λ r. r.items) g.round) (writes_of g.records.slots) g.room c.self.invariant.whole c.self.invariant.current f inside before last c.args.needs in
+    let joined = joined_next g.persistent.items g.entries.list.items g.staged g.latest.items (option_map (λ r. r.items) g.round) (writes_of g.records.slots) g.room c.self.invariant.whole c.self.invariant.current f inside before last c.args.needs in
+    let waits = waiting_next g.persistent.items g.entries.list.items g.staged g.latest.items (option_map (λ r. r.items) g.round) (writes_of g.records.slots) g.room c.self.invariant.whole c.self.invariant.current f inside before last c.args.needs in
     let now : List (Element × Named) → Staging = λ ws. record { pending = record { persistent = g.persistent.items; waiting = ws }; staged = g.staged; latest = set g.latest.items f (before + 1) } in
     let all = c.push_reserved.ensures.items ∙ ap (λ es. es ++ (Version f (before + 1), c.args.needs) ∷ []) c.in-Ok.ensures.entries in
-    rw (← c.self.view_is) (before, next_needs g.entries.items f before c.args.needs, last, refl, joined, ap now (ap (waiting_of g.persistent.items) all ∙ waits))
+    rw (← c.self.view_is) (before, next_needs g.entries.list.items f before c.args.needs, last, refl, joined, ap now (ap (waiting_of g.persistent.items) all ∙ waits))
 
 pub returns-in-Ok-clause-write : goal.returns-in-Ok-clause-write
 returns-in-Ok-clause-write c =
@@ -171,8 +172,8 @@ returns-in-Ok-clause-write c =
     let last = sym (get_or_from_slice_get g.latest.items f before 0 (slice_get_read g.latest.items (length g.latest.items) f before refl inside c.index-before.ensures)) in
     let made = c.in-Ok.made in
     let m = c.need_room.new.levels in
-    let ix = indexed_roomy g.persistent.items g.entries.items g.staged g.latest.items (option_map (λ r. r.items) g.round) (writes_of g.records.slots) g.room c.self.invariant.whole g.levels c.self.invariant.indexed m c.in-Ok.ensures.levels made c.in-Ok.ensures.levels_fit in
-    let high = high_enough g.persistent.items g.entries.items g.staged g.latest.items (option_map (λ r. r.items) g.round) (writes_of g.records.slots) g.room c.self.invariant.whole g.levels c.self.invariant.indexed m c.in-Ok.ensures.levels made c.in-Ok.ensures.levels_fit c.args.needs within c.top-best.result.level c.top-best.result.before c.top-best.ensures in
+    let ix = indexed_roomy g.persistent.items g.entries.list.items g.staged g.latest.items (option_map (λ r. r.items) g.round) (writes_of g.records.slots) g.room c.self.invariant.whole g.levels c.self.invariant.indexed m c.in-Ok.ensures.levels made c.in-Ok.ensures.levels_fit in
+    let high = high_enough g.persistent.items g.entries.list.items g.staged g.latest.items (option_map (λ r. r.items) g.round) (writes_of g.records.slots) g.room c.self.invariant.whole g.levels c.self.invariant.indexed m c.in-Ok.ensures.levels made c.in-Ok.ensures.levels_fit c.args.needs within c.top-best.result.level c.top-best.result.before c.top-best.ensures in
     let low : m.ended ≤ c.top-best.result.level = omega (arith, c.top-best.ensures.low, ix.low) in
     let k = next_version (kept_by m (Version f before)) m.base (c.top-best.result.level + 1) c.top-best.result.before in
     let range = next_range (kept_by m (Version f before)) m.base (c.top-best.result.level + 1) m.ended (m.ended + length m.rows.items) c.top-best.result.before (ix.within (Version f before)) ix.low (omega (arith, low)) (omega (arith, high)) in
@@ -184,7 +185,7 @@ returns-in-Ok-clause-write c =
     let there : m.ended + (k.level - m.ended - 1) + 1 ≡ c.next_of-kept.result.level = place ∙ sym level in
     let old = filed_same g.levels m g.records c.need_room.new.records c.self.invariant.filed c.in-Ok.ensures.levels (λ key. ap (λ (r : Slab Record). get r key) c.in-Ok.ensures.records) in
     let pushed = subst (λ (u : Kept). IsVersionPushed m c.push_version.new.self f before (k.level - m.ended - 1) (keyed c.insert_reserved-key.result u)) c.next_of-kept.ensures (c.push_version.ensures.pushed (k.level - m.ended - 1) there) in
-    let filed = filed_with_version g.persistent.items g.entries.items g.staged g.latest.items (option_map (λ r. r.items) g.round) (writes_of g.records.slots) g.room c.self.invariant.whole g.levels c.self.invariant.indexed m c.in-Ok.ensures.levels made c.in-Ok.ensures.levels_fit c.args.needs within c.top-best.result.level c.top-best.result.before c.top-best.ensures f inside own before last c.self.invariant.current c.insert_reserved-key.result c.push_version.new.self (k.level - m.ended - 1) pushed c.need_room.new.records c.clear.new.records c.insert_reserved-key.new.self old
+    let filed = filed_with_version g.persistent.items g.entries.list.items g.staged g.latest.items (option_map (λ r. r.items) g.round) (writes_of g.records.slots) g.room c.self.invariant.whole g.levels c.self.invariant.indexed m c.in-Ok.ensures.levels made c.in-Ok.ensures.levels_fit c.args.needs within c.top-best.result.level c.top-best.result.before c.top-best.ensures f inside own before last c.self.invariant.current c.insert_reserved-key.result c.push_version.new.self (k.level - m.ended - 1) pushed c.need_room.new.records c.clear.new.records c.insert_reserved-key.new.self old
     (left_of m f (k.level - m.ended - 1) c.need_room.new.records c.clear.new.records old c.replaced.result (c.replaced.ensures.some (k.level - m.ended - 1) there) (c.replaced.ensures.none (k.level - m.ended - 1) there) c.clear.ensures.none c.clear.ensures.gone c.clear.ensures.others)
     (came_of m f (k.level - m.ended - 1) c.need_room.new.records c.clear.new.records old c.replaced.result (c.replaced.ensures.some (k.level - m.ended - 1) there) (c.replaced.ensures.none (k.level - m.ended - 1) there) c.clear.ensures.none c.clear.ensures.gone c.clear.ensures.others)
     key.was_vacant r key.updates refl in
@@ -201,8 +202,8 @@ returns-in-Ok-clause-others c =
     let last = sym (get_or_from_slice_get g.latest.items f before 0 (slice_get_read g.latest.items (length g.latest.items) f before refl inside c.index-before.ensures)) in
     let made = c.in-Ok.made in
     let m = c.need_room.new.levels in
-    let ix = indexed_roomy g.persistent.items g.entries.items g.staged g.latest.items (option_map (λ r. r.items) g.round) (writes_of g.records.slots) g.room c.self.invariant.whole g.levels c.self.invariant.indexed m c.in-Ok.ensures.levels made c.in-Ok.ensures.levels_fit in
-    let high = high_enough g.persistent.items g.entries.items g.staged g.latest.items (option_map (λ r. r.items) g.round) (writes_of g.records.slots) g.room c.self.invariant.whole g.levels c.self.invariant.indexed m c.in-Ok.ensures.levels made c.in-Ok.ensures.levels_fit c.args.needs within c.top-best.result.level c.top-best.result.before c.top-best.ensures in
+    let ix = indexed_roomy g.persistent.items g.entries.list.items g.staged g.latest.items (option_map (λ r. r.items) g.round) (writes_of g.records.slots) g.room c.self.invariant.whole g.levels c.self.invariant.indexed m c.in-Ok.ensures.levels made c.in-Ok.ensures.levels_fit in
+    let high = high_enough g.persistent.items g.entries.list.items g.staged g.latest.items (option_map (λ r. r.items) g.round) (writes_of g.records.slots) g.room c.self.invariant.whole g.levels c.self.invariant.indexed m c.in-Ok.ensures.levels made c.in-Ok.ensures.levels_fit c.args.needs within c.top-best.result.level c.top-best.result.before c.top-best.ensures in
     let low : m.ended ≤ c.top-best.result.level = omega (arith, c.top-best.ensures.low, ix.low) in
     let k = next_version (kept_by m (Version f before)) m.base (c.top-best.result.level + 1) c.top-best.result.before in
     let range = next_range (kept_by m (Version f before)) m.base (c.top-best.result.level + 1) m.ended (m.ended + length m.rows.items) c.top-best.result.before (ix.within (Version f before)) ix.low (omega (arith, low)) (omega (arith, high)) in
@@ -214,7 +215,7 @@ returns-in-Ok-clause-others c =
     let there : m.ended + (k.level - m.ended - 1) + 1 ≡ c.next_of-kept.result.level = place ∙ sym level in
     let old = filed_same g.levels m g.records c.need_room.new.records c.self.invariant.filed c.in-Ok.ensures.levels (λ key. ap (λ (r : Slab Record). get r key) c.in-Ok.ensures.records) in
     let pushed = subst (λ (u : Kept). IsVersionPushed m c.push_version.new.self f before (k.level - m.ended - 1) (keyed c.insert_reserved-key.result u)) c.next_of-kept.ensures (c.push_version.ensures.pushed (k.level - m.ended - 1) there) in
-    let filed = filed_with_version g.persistent.items g.entries.items g.staged g.latest.items (option_map (λ r. r.items) g.round) (writes_of g.records.slots) g.room c.self.invariant.whole g.levels c.self.invariant.indexed m c.in-Ok.ensures.levels made c.in-Ok.ensures.levels_fit c.args.needs within c.top-best.result.level c.top-best.result.before c.top-best.ensures f inside own before last c.self.invariant.current c.insert_reserved-key.result c.push_version.new.self (k.level - m.ended - 1) pushed c.need_room.new.records c.clear.new.records c.insert_reserved-key.new.self old
+    let filed = filed_with_version g.persistent.items g.entries.list.items g.staged g.latest.items (option_map (λ r. r.items) g.round) (writes_of g.records.slots) g.room c.self.invariant.whole g.levels c.self.invariant.indexed m c.in-Ok.ensures.levels made c.in-Ok.ensures.levels_fit c.args.needs within c.top-best.result.level c.top-best.result.before c.top-best.ensures f inside own before last c.self.invariant.current c.insert_reserved-key.result c.push_version.new.self (k.level - m.ended - 1) pushed c.need_room.new.records c.clear.new.records c.insert_reserved-key.new.self old
     (left_of m f (k.level - m.ended - 1) c.need_room.new.records c.clear.new.records old c.replaced.result (c.replaced.ensures.some (k.level - m.ended - 1) there) (c.replaced.ensures.none (k.level - m.ended - 1) there) c.clear.ensures.none c.clear.ensures.gone c.clear.ensures.others)
     (came_of m f (k.level - m.ended - 1) c.need_room.new.records c.clear.new.records old c.replaced.result (c.replaced.ensures.some (k.level - m.ended - 1) there) (c.replaced.ensures.none (k.level - m.ended - 1) there) c.clear.ensures.none c.clear.ensures.gone c.clear.ensures.others)
     key.was_vacant r key.updates refl in
@@ -234,6 +235,7 @@ invariant_of-self-in-Err c =
       current = c.self.invariant.current;
       filed = filed_same g.levels c.need_room.new.levels g.records c.need_room.new.records c.self.invariant.filed e.levels (λ key. ap (λ (r : Slab Record). get r key) e.records);
       entries_fit = e.entry_room;
+      places_fit = e.place_room;
       records_fit = e.record_room;
       newest = newest_same g.records c.need_room.new.records (get_number nat_eq g.newest) (get_number nat_eq c.need_room.new.newest) c.self.invariant.newest e.newest (λ key r n of at. sym (ap (λ (u : Slab Record). get u key) e.records) ∙ at) (λ key r n of at. ap (λ (u : Slab Record). get u key) e.records ∙ at);
       newest_fit = e.newest_room;
@@ -249,6 +251,7 @@ invariant_of-self-in-Err-2 c =
       current = c.self.invariant.current;
       filed = filed_same g.levels c.need_room.new.levels g.records c.need_room.new.records c.self.invariant.filed e.levels (λ key. ap (λ (r : Slab Record). get r key) e.records);
       entries_fit = e.entry_room;
+      places_fit = e.place_room;
       records_fit = e.record_room;
       newest = newest_same g.records c.need_room.new.records (get_number nat_eq g.newest) (get_number nat_eq c.need_room.new.newest) c.self.invariant.newest e.newest (λ key r n of at. sym (ap (λ (u : Slab Record). get u key) e.records) ∙ at) (λ key r n of at. ap (λ (u : Slab Record). get u key) e.records ∙ at);
       newest_fit = e.newest_room;

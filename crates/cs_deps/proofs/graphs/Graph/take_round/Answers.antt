@@ -20,6 +20,7 @@ invariant_of-self c =
       current = c.self.invariant.current;
       filed = filed_taken s g.levels c.take.new.self g.records c.self.invariant.filed c.take.ensures.empty c.take.ensures.one;
       entries_fit = c.self.invariant.entries_fit;
+      places_fit = c.self.invariant.places_fit;
       records_fit = c.self.invariant.records_fit;
       newest = c.self.invariant.newest;
       newest_fit = c.self.invariant.newest_fit;

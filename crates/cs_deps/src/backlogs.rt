@@ -1,0 +1,96 @@
+//! What was staged, as far as it is of use.
+ghost use Rattle.std.specs.Prelude.{◌≡◌, [], ◌∷◌, ◌++◌, ℕ, ◌+◌, ◌≤◌, ◌<◌, MatchOption, OnOk, IsOk, Some, slice_get, vec_len, vec_capacity};
+ghost use Rattle.cs_deps.specs.Named.{Named};
+ghost use Rattle.cs_deps.specs.State.{IsListed};
+
+use crate::dependencies::Dependency;
+use crate::elements::Element;
+use crate::needs::Needs;
+use std::alloc::{AllocError, Global};
+
+/// Elements with their own needs, and memory for those of more.
+#[derive(Drop)]
+pub struct Backlog {
+    /// In the order of staging.
+    pub list: Vec<(Element, Needs)>,
+    /// A place for the needs of each element that there is room for, should they be many.
+    pub places: Vec<Box<Dependency>>,
+}
+
+/// Adds a place.
+fn add_place(places: &mut Vec<Box<Dependency>>) -> Result<(), AllocError>
+    ensures fewer { vec_len places.old ≤ vec_len places.new }
+    ensures more { OnOk result (vec_len places.new ≡ vec_len places.old + 1) }
+{
+    let alloc = *places.allocator();
+    let place = Box::new(alloc, Dependency::empty(alloc))?;
+    places.push(place)?;
+    Ok(())
+}
+
+/// Adds places until there are so many.
+fn fill(places: &mut Vec<Box<Dependency>>, count: usize) -> Result<(), AllocError>
+    ensures fewer { vec_len places.old ≤ vec_len places.new }
+    ensures enough { OnOk result (count ≤ vec_len places.new) }
+    ensures memory { count ≤ vec_len places.old → IsOk result }
+{
+    for _ in places.len()..count {
+        add_place(places)?;
+    }
+    Ok(())
+}
+
+/// The place of the first entry of an element.
+pub fn place_of(entries: &[(Element, Needs)], element: Element) -> Option<usize>
+    ensures { MatchOption result (¬ IsListed entries.now element) (λ k. (d : Named) × (slice_get entries.now k ≡ Some (element, d))) }
+{
+    for k in 0..entries.len() {
+        let entry = &entries[k];
+        if entry.0.is_same(element) {
+            return Some(k);
+        }
+    }
+    None
+}
+
+impl Backlog {
+    /// None, and room for none.
+    pub fn new(alloc: Global) -> Self
+        ensures items { result.list.items ≡ [] }
+        ensures len { vec_len result.list ≡ 0 }
+    {
+        Backlog {
+            list: Vec::new(alloc),
+            places: Vec::new(alloc),
+        }
+    }
+
+    /// Makes room for so many more.
+    pub fn reserve(&mut self, stagings: usize) -> Result<(), AllocError>
+        ensures items { self.new.list.items ≡ self.old.list.items }
+        ensures len { vec_len self.new.list ≡ vec_len self.old.list }
+        ensures capacity { vec_capacity self.old.list ≤ vec_capacity self.new.list }
+        ensures places { vec_len self.old.places ≤ vec_len self.new.places }
+        ensures room { OnOk result (vec_len self.new.list + stagings ≤ vec_capacity self.new.list) }
+        ensures place_room { OnOk result (stagings ≤ vec_len self.new.places) }
+        ensures memory { vec_len self.old.list + stagings ≤ vec_capacity self.old.list → stagings ≤ vec_len self.old.places → IsOk result }
+    {
+        self.list.reserve(stagings)?;
+        fill(&mut self.places, stagings)
+    }
+
+    /// Adds an element with what it needs.
+    pub fn push_reserved(&mut self, element: Element, needs: Dependency)
+        requires list { vec_len self.old.list < vec_capacity self.old.list }
+        requires places { 0 < vec_len self.old.places }
+        ensures items { self.new.list.items ≡ self.old.list.items ++ (element, needs) ∷ [] }
+        ensures len { vec_len self.new.list ≡ vec_len self.old.list + 1 }
+        ensures capacity { vec_capacity self.new.list ≡ vec_capacity self.old.list }
+        ensures places { vec_len self.new.places + 1 ≡ vec_len self.old.places }
+    {
+        if let Some(place) = self.places.pop() {
+            self.list
+                .push_reserved((element, Needs::within(needs, place)));
+        }
+    }
+}
