@@ -36,7 +36,7 @@ use Rattle.cs_bridge.proofs.ShardsRead.{live_damaged, live_payload, live_whole}
 use Rattle.cs_bridge.proofs.Shapes.{store_format, store_shape}
 use Rattle.cs_bridge.specs.Devices.{IsDiskOf, pages_now, read_by}
 use Rattle.cs_bridge.specs.Parts.{ArePartsOf}
-use Rattle.cs_reclaim.proofs.Living.{nth_in}
+use Rattle.cs_index.proofs.Living.{nth_in}
 use Rattle.cs_reclaim.specs.Moves.{AnswersMove, AnswersPlace, IsMoved, chunk_frame}
 use Rattle.cs_frame.specs.declared.identifiers.ShardId.{ShardId}
 use Rattle.cs_core.specs.Reads.{DeclinesOn, MoveAnswers, StepsOn}

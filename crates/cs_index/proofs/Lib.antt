@@ -7,5 +7,6 @@ pub mod Whole
 pub mod Spelled
 pub mod Rooted
 pub mod Merged
+pub mod Living
 pub mod Staging
 pub mod Exact

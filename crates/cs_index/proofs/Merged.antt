@@ -1,5 +1,5 @@
 -- Merging, identifier by identifier.
-use Rattle.std.proofs.Common.{◌≡◌, ◌≢◌, ◌⊎◌, inl, inr, ⊎_elim, ℕ, ◌+◌, ◌-◌, ◌^◌, ◌<◌, ◌≤◌, true, List, [], ◌∷◌, ◌++◌, length, Option, Some, None, refl, sym, ap, subst, ◌∙◌, arith, append-nil}
+use Rattle.std.proofs.Common.{◌≡◌, ◌≢◌, inl, inr, ⊎_elim, ℕ, ◌+◌, ◌-◌, ◌^◌, ◌<◌, ◌≤◌, true, List, [], ◌∷◌, ◌++◌, length, Option, Some, None, refl, sym, ap, subst, ◌∙◌, arith, append-nil}
 use Rattle.std.specs.Prelude.{is_some}
 use Rattle.std.specs.List.{AllByRecursion}
 use Rattle.std.proofs.lemmas.Bool.{cases_eq, cases_lt}
@@ -9,7 +9,7 @@ use Rattle.cs_model.specs.Element.{Entry, Locator as Place}
 use Rattle.cs_model.specs.Index.{Ascending, IsMergedRun, if_live, live, live_at, lookup, names}
 use Rattle.cs_index.specs.Sorted.{IsMergedTo, live_entry}
 use Rattle.cs_index.specs.State.{IsAfter, IsNext, IsShort}
-use Rattle.cs_index.proofs.Merging.{before_next}
+use Rattle.cs_index.proofs.Merging.{after_or_not, before_next}
 use Rattle.cs_index.proofs.Newest.{lookup_second}
 use Rattle.cs_index.proofs.Sorted.{all_append, all_map}
 
@@ -25,11 +25,6 @@ ids_left (Some id) = 2 ^ 128 - id
 pub fewer_left : (after : Option ℕ) (id : ℕ) → IsAfter after id → id < 2 ^ 128 → ids_left (Some id) < ids_left after
 fewer_left None id later small = omega arith
 fewer_left (Some a) id later small = let lt : a < id = later in omega arith
-
--- an identifier comes after one, or it doesn't
-after_or_not : (after : Option ℕ) (d : ℕ) → (IsAfter after d) ⊎ (IsAfter after d → ⊥)
-after_or_not None d = inl tt
-after_or_not (Some a) d = elim (cases_lt a d) [ inl lt ↦ inl lt | inr ge ↦ inr (λ lt. omega arith) ]
 
 pub merged_start : (index : List Entry) → IsMergedTo index None []
 merged_start index = record { ascending = tt; none_after = tt; lookups = λ d not. absurd (not tt) }

@@ -1,5 +1,5 @@
 -- The next entry, over several lists.
-use Rattle.std.proofs.Common.{◌≡◌, ◌≢◌, inl, inr, ℕ, zero, suc, ◌+◌, add-one, ◌<◌, ◌≤◌, nat_lt, true, false, List, [], ◌∷◌, ◌++◌, length, take, drop, map, Option, Some, None, get_or, Vec, if◌then◌else◌, refl, sym, ap, subst, ◌∙◌, arith, append_assoc, take-append-drop}
+use Rattle.std.proofs.Common.{◌≡◌, ◌≢◌, ◌⊎◌, inl, inr, ℕ, zero, suc, ◌+◌, add-one, ◌<◌, ◌≤◌, nat_lt, true, false, List, [], ◌∷◌, ◌++◌, length, take, drop, map, Option, Some, None, get_or, Vec, if◌then◌else◌, refl, sym, ap, subst, ◌∙◌, arith, append_assoc, take-append-drop}
 use Rattle.std.specs.Prelude.{slice_get, slice_index, slice_set}
 use Rattle.std.specs.List.{AllByRecursion}
 use Rattle.std.specs.declared.alloc.Global.{Global}
@@ -104,6 +104,11 @@ next_run runs k d entries after a b c lt is was new first =
     (next_join (map named_entry entries) (entries_of (newest_first (take k runs))) after a b new was))
 
 -- ---- from one identifier to the next
+
+-- an identifier comes after one, or it doesn't
+pub after_or_not : (after : Option ℕ) (d : ℕ) → (IsAfter after d) ⊎ (IsAfter after d → ⊥)
+after_or_not None d = inl tt
+after_or_not (Some a) d = elim (cases_lt a d) [ inl lt ↦ inl lt | inr ge ↦ inr (λ lt. omega arith) ]
 
 pub later_still : (after : Option ℕ) (n d : ℕ) → IsAfter after n → n ≤ d → IsAfter after d
 later_still None n d a le = tt

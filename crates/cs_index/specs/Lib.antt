@@ -1,3 +1,5 @@
+pub mod Held
+pub mod Live
 pub mod Read
 pub mod Sorted
 pub mod Staged

@@ -1,5 +1,5 @@
 -- What an index is, in the words of the store's machine.
-use Rattle.std.specs.Prelude.{◌≡◌, ◌≢◌, ℕ, ◌+◌, ◌<◌, ◌≤◌, ◌==◌, List, [], ◌∷◌, ◌++◌, Option, Some, None, length, map, Vec, if◌then◌else◌}
+use Rattle.std.specs.Prelude.{◌≡◌, ◌≢◌, ℕ, ◌<◌, ◌≤◌, ◌==◌, List, [], ◌∷◌, ◌++◌, Option, Some, None, length, map, Vec, if◌then◌else◌}
 use Rattle.std.specs.List.{AllByRecursion}
 use Rattle.std.specs.declared.alloc.Global.{Global}
 use Rattle.byteorder.specs.Endian.{big_number}
@@ -86,10 +86,3 @@ IsNext index after (Some x) =
 abbrev pub state_of : List (ShardId × Vec Locator Global) → List StoredRun → (limit room : ℕ) → State
 state_of table runs limit room =
     record { table = map named_entry table; runs = newest_first runs; limit = limit; room = room }
-
--- What an index keeps of its fields: its value's laws, the table's identifiers, how many are named, and room in the table.
-pub record IsHeld (s : State) (entries : List (ShardId × Vec Locator Global)) (named table_length table_capacity : ℕ) : Type 0 where
-  pub whole : IsWhole s
-  pub ids : AllByRecursion (λ entry. IsId entry.0) entries
-  pub count : named ≡ names (index_of s)
-  pub fits : table_length + s.room ≤ table_capacity

@@ -8,7 +8,7 @@ ghost use Rattle.cs_index.specs.Sorted.{IsPlace, IsStart, first_of};
 ghost use Rattle.cs_index.specs.State.{IsNext, IsStored, id_number, named_entry, newest_first};
 
 use crate::runs::StoredRun;
-use crate::tables::{is_at, is_before};
+use crate::tables::{is_at, is_before, place};
 use cs_frame::{Locator, ShardId};
 use std::marker::Model;
 
@@ -67,6 +67,49 @@ pub fn entries_from<'a>(table: &'a [(ShardId, Vec<Locator>)], runs: &'a [StoredR
         table_place: 0,
         run_places: [0; 4],
     }
+}
+
+/// The entries behind an identifier, where there is one. Searches for it in the table and in each run.
+pub fn entries_after<'a>(
+    table: &'a [(ShardId, Vec<Locator>)],
+    runs: &'a [StoredRun],
+    after: Option<ShardId>,
+) -> Entries<'a>
+    requires { IsReadable table.now runs.now }
+    ensures { result ≡ record { index = map named_entry table.now ++ entries_of (newest_first runs.now); after = option_map id_number after } }
+{
+    match after {
+        Some(id) => Entries {
+            table,
+            runs,
+            after,
+            table_place: start_behind(table, id),
+            run_places: starts_behind(runs, id),
+        },
+        None => entries_from(table, runs),
+    }
+}
+
+/// Where the entries behind an identifier begin.
+fn start_behind(entries: &[(ShardId, Vec<Locator>)], id: ShardId) -> usize
+    requires { Ascending (map named_entry entries.now) }
+    ensures { IsStart (Some (id_number id)) result (map named_entry entries.now) }
+{
+    skip(entries, place(entries, id), id)
+}
+
+/// Where they begin in each run.
+fn starts_behind(runs: &[StoredRun], id: ShardId) -> [usize; 4]
+    requires few { length runs.now ≤ 4 }
+    requires stored { AllByRecursion IsStored (newest_first runs.now) }
+    ensures { AreStarts (Some (id_number id)) runs.now result }
+{
+    let mut starts = [0; 4];
+    for k in 0..runs.len() {
+        let run = &runs[k];
+        starts[k] = start_behind(&run.entries, id);
+    }
+    starts
 }
 
 /// The entry at a place, if there is one.

@@ -7,14 +7,15 @@ ghost use Rattle.cs_extent.specs.State.{extents_of, shape};
 ghost use Rattle.cs_frame.specs.Runs.{IsRun};
 ghost use Rattle.cs_model.specs.Element.{Locator as Place};
 ghost use Rattle.cs_model.specs.Extents.{ForRun, NoPlace};
-ghost use Rattle.cs_model.specs.Index.{Ascending, entries_of, live_at, lookup, names};
+ghost use Rattle.cs_model.specs.Index.{Ascending, FirstLive, NothingLive, entries_of, live_at, lookup, names};
 ghost use Rattle.cs_index.specs.Staged.{IsExact, IsFull, IsMergeStaged, IsRootWorn, IsRunStaged, IsStageWorn, IsTableStaged, WritesMerged, WritesRun, run_frame};
 ghost use Rattle.cs_frame.specs.Formats.{place_of};
 ghost use Rattle.cs_index.specs.State.{IsId, IsSet, IsShort, IsStored, IsWhole, id_number, index_of, named_entry, newest_first};
 
-use crate::entries::{Entries, entries_from};
+use crate::entries::{Entries, entries_after, entries_from};
+use crate::live::{Cleared, LiveChunk, NONE_KNOWN, known_up_to, search, still_cleared};
 use crate::mergers::merged;
-use crate::runs::{StoredRun, check_ids, count_names, find_in_runs};
+use crate::runs::{StoredRun, check_ids, count_after, count_names, find_in_runs};
 use crate::stagings::{run_fits, stage_empty, stage_run};
 use crate::tables::{find, put};
 use cs_deps::{Graph, Refusal};
@@ -37,17 +38,20 @@ pub struct Index {
     limit: usize,
     /// So many more entries of the table have their place already.
     room: usize,
+    /// What the last search of an extent found out.
+    cleared: Cleared,
 }
 
 impl Model for Index {
     ghost use Rattle.std.specs.Prelude.{vec_capacity, vec_len};
-    ghost use Rattle.cs_index.specs.State.{State, IsHeld, state_of};
+    ghost use Rattle.cs_index.specs.Held.{IsHeld};
+    ghost use Rattle.cs_index.specs.State.{State, state_of};
 
     ghost Value = { State };
 
     ghost view = { λ x. state_of x.table.entries.items x.runs.items x.limit x.room };
 
-    ghost invariant = { λ x. IsHeld (state_of x.table.entries.items x.runs.items x.limit x.room) x.table.entries.items x.named (vec_len x.table.entries) (vec_capacity x.table.entries) };
+    ghost invariant = { λ x. IsHeld (state_of x.table.entries.items x.runs.items x.limit x.room) x.table.entries.items x.named (vec_len x.table.entries) (vec_capacity x.table.entries) x.cleared };
 }
 
 impl Index {
@@ -75,6 +79,7 @@ impl Index {
             named,
             limit,
             room: 0,
+            cleared: NONE_KNOWN,
         })
     }
 
@@ -96,6 +101,20 @@ impl Index {
         ensures { result ≡ record { index = index_of self.now; after = None } }
     {
         entries_from(&self.table.entries, &self.runs)
+    }
+
+    /// Of the live chunks on an extent, that of the least identifier, and of its shard's the lowest. Where the last search was of
+    /// the same extent it reads on from there, unless a shard that it had passed was given a locator there since, or all
+    /// entries became one run: so searching an extent again and again, while its chunks are moved, reads each entry once.
+    pub fn first_live(&mut self, extent: usize) -> Option<LiveChunk>
+        ensures found { MatchOption result (NothingLive (index_of self.old) extent) (λ found. FirstLive (index_of self.old) extent (id_number found.id) found.chunk (place_of found.place)) }
+        ensures same { self.new ≡ self.old }
+    {
+        let passed = known_up_to(self.cleared, extent);
+        let entries = entries_after(&self.table.entries, &self.runs, passed);
+        let (found, up_to) = search(entries, passed, extent);
+        self.cleared = Cleared { extent, up_to };
+        found
     }
 
     /// How many identifiers have an entry, deletions included. It costs no search.
@@ -169,8 +188,10 @@ impl Index {
         ensures err { OnErr result (self.new ≡ self.old) }
     {
         let known = self.is_known(id);
+        let cleared = still_cleared(self.cleared, id, &locators);
         let left = put(&mut self.table.entries, self.room, id, locators)?;
         self.room = left;
+        self.cleared = cleared;
         self.named = count_after(self.named, known);
         Ok(())
     }
@@ -471,13 +492,6 @@ impl Index {
         self.runs = runs;
         self.named = named;
         self.room = 0;
+        self.cleared = NONE_KNOWN;
     }
-}
-
-/// How many identifiers have an entry once another call entered one that was known or not.
-fn count_after(named: usize, known: bool) -> usize
-    requires { known ≡ false → named + 1 < 2 ^ 64 }
-    ensures { result ≡ (if known then named else named + 1) }
-{
-    if known { named } else { named + 1 }
 }

@@ -7,6 +7,7 @@
 
 mod entries;
 mod indexes;
+mod live;
 mod mergers;
 mod runs;
 mod stagings;
@@ -14,4 +15,5 @@ mod tables;
 
 pub use entries::Entries;
 pub use indexes::Index;
+pub use live::LiveChunk;
 pub use runs::StoredRun;

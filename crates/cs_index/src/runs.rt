@@ -1,5 +1,5 @@
 //! Runs of the index.
-ghost use Rattle.std.specs.Prelude.{◌≡◌, ◌+◌, ◌<◌, ◌≤◌, ◌^◌, ◌++◌, is_some, length, map, option_copied, option_map};
+ghost use Rattle.std.specs.Prelude.{◌≡◌, ◌+◌, ◌<◌, ◌≤◌, ◌^◌, ◌++◌, false, if◌then◌else◌, is_some, length, map, option_copied, option_map};
 ghost use Rattle.std.specs.List.{AllByRecursion};
 ghost use Rattle.cs_model.specs.Index.{Ascending, entries_of, lookup, names};
 ghost use Rattle.cs_frame.specs.Formats.{place_of};
@@ -71,6 +71,14 @@ pub fn count_names(runs: &[StoredRun]) -> usize
         count += count_new(&run.entries, &runs[..k]);
     }
     count
+}
+
+/// How many identifiers have an entry once another call entered one that was known or not.
+pub fn count_after(named: usize, known: bool) -> usize
+    requires { known ≡ false → named + 1 < 2 ^ 64 }
+    ensures { result ≡ (if known then named else named + 1) }
+{
+    if known { named } else { named + 1 }
 }
 
 /// Reads each identifier of these entries.

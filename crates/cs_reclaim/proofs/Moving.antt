@@ -20,7 +20,7 @@ use Rattle.cs_model.specs.Element.{Entry}
 use Rattle.cs_model.specs.Extents.{ForMove, NoPlace}
 use Rattle.cs_model.specs.Index.{FirstLive, live_at}
 use Rattle.cs_model.specs.Lists.{replaced}
-use Rattle.cs_reclaim.specs.declared.live.LiveChunk.{LiveChunk}
+use Rattle.cs_index.specs.declared.live.LiveChunk.{LiveChunk}
 use Rattle.cs_reclaim.specs.Moves.{AnswersPlace, IsMoveFull, IsMoveWorn, IsMoved, chunk_frame}
 
 -- what lies in an extent is short

@@ -5,7 +5,6 @@
 #![tactic(auto)]
 
 mod laws;
-mod live;
 mod sweeps;
 
 pub use laws::{a_sweep_keeps_every_shard, a_swept_extent_stays};

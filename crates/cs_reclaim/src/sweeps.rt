@@ -21,13 +21,12 @@ ghost use Rattle.cs_reclaim.specs.Moves.{AnswersMove, AnswersPlace, IsMoveFull, 
 ghost use Rattle.cs_reclaim.specs.Retired.{IsRetireFull, IsRetireWorn, IsRetired};
 ghost use Rattle.cs_reclaim.specs.Sweeps.{IsNotSweepable, IsSwept};
 
-use crate::live::{LiveChunk, first_live};
 use cs_chunk::read_frame;
 use cs_deps::{Graph, Refusal};
 use cs_disk::PageDisk;
 use cs_extent::{Extents, LAST_GENERATION, Purpose};
 use cs_frame::{FrameKind, Locator, ShardId, encode_frame};
-use cs_index::Index;
+use cs_index::{Index, LiveChunk};
 use std::alloc::Global;
 use std::marker::Model;
 
@@ -84,8 +83,8 @@ impl Sweep {
 
     /// Moves a live chunk off the extent, that of the least identifier and there the lowest: appends a frame of the same
     /// bytes with `Purpose::Move`, and points the shard at it. Answers the identifier and the number of the chunk,
-    /// counted from 0, or None where nothing is live there. Frames of other extents aren't read; the index is gone
-    /// through.
+    /// counted from 0, or None where nothing is live there. Frames of other extents aren't read. The search goes on in the
+    /// index from where the last one on this extent ended, as `Index::first_live` does.
     ///
     /// 1 `DeviceFault` and 20 to 24 as `read_frame`, then 30 `Full`, then 35 `WornOut`; 9 `OutOfMemory` may come instead of
     /// any. After a refusal nothing has changed but room for more.
@@ -140,7 +139,7 @@ impl Sweep {
         ensures pages { D.page_count disk.new ≡ D.page_count disk.old }
         ensures cause { IsCaused (D.failure_count disk.old) (D.failure_count disk.new) result }
     {
-        let Some(live) = first_live(index, self.extent) else {
+        let Some(live) = index.first_live(self.extent) else {
             return Ok(None);
         };
         match move_live(alloc, index, extents, graph, disk, &live) {
@@ -356,7 +355,7 @@ fn retire_extent(
     ensures shape { shape extents.new ≡ shape extents.old }
     ensures limit { index.new.limit ≡ index.old.limit }
 {
-    if first_live(index, extent).is_some() {
+    if index.first_live(extent).is_some() {
         return Err(Refusal::StillLive);
     }
     if extents.generation(extent) == LAST_GENERATION {

@@ -8,7 +8,8 @@ use Rattle.cs_index.specs.State.{IsAfter, IsNext}
 use Rattle.cs_model.specs.Element.{Entry, Locator as Place}
 use Rattle.cs_model.specs.Index.{live, live_at, lookup}
 use Rattle.cs_model.specs.Lists.{◌∈◌, nth}
-use Rattle.cs_reclaim.proofs.Living.{after_or_not, in_nth, no_places, nth_inside, nth_map}
+use Rattle.cs_index.proofs.Living.{in_nth, no_places, nth_inside, nth_map}
+use Rattle.cs_index.proofs.Merging.{after_or_not}
 
 -- an extent and a page that are there
 abbrev pub IsThere : (extents pages : ℕ) → Place → Type 0

@@ -1,10 +1,12 @@
-use Rattle.std.proofs.Common.{◌∙◌, ap, arith, false, refl, sym, Err}
+use Rattle.std.proofs.Common.{◌∙◌, ap, arith, false, inl, refl, sym, Err}
+use Rattle.std.proofs.lemmas.Result.{err_from_is_err_and}
 use Rattle.cs_extent.specs.State.{extents_of}
 use Rattle.cs_frame.specs.Formats.{place_of}
+use Rattle.cs_index.proofs.Exact.{why_same}
 use Rattle.cs_index.specs.State.{id_number, index_of}
 use Rattle.cs_model.specs.Extents.{ForMove}
 use Rattle.cs_model.specs.Index.{NothingLive}
-use Rattle.cs_reclaim.specs.declared.live.LiveChunk.{LiveChunk}
+use Rattle.cs_index.specs.declared.live.LiveChunk.{LiveChunk}
 use Rattle.cs_reclaim.proofs.Living.{alive, dead}
 use Rattle.cs_reclaim.proofs.Sweeping.{merge_generation, merge_root, merge_stays, resets_emptied}
 use Rattle.cs_reclaim.proofs.sweeps.retire_extent.Goals as goal
@@ -13,7 +15,7 @@ use Rattle.cs_reclaim.proofs.sweeps.retire_extent.Goals.{Then-is_some}
 still_live : (c : Then-is_some) → NothingLive (index_of c.args.index.now) c.args.extent → ⊥
 still_live c none =
     alive c.first_live.result (index_of c.args.index.now) c.args.extent (λ (f : LiveChunk). id_number f.id) (λ (f : LiveChunk). f.chunk) (λ (f : LiveChunk). place_of f.place)
-    c.first_live.ensures (sym c.is_some.ensures ∙ c.if-is_some.true) none
+    c.first_live.ensures.found (sym c.is_some.ensures ∙ c.if-is_some.true) none
 
 pub returns-then-is_some-clause-alive : goal.returns-then-is_some-clause-alive
 returns-then-is_some-clause-alive c = ((λ is none. still_live c none), (λ some. refl))
@@ -22,17 +24,17 @@ pub returns-then-is_some-clause-why : goal.returns-then-is_some-clause-why
 returns-then-is_some-clause-why c = still_live c
 
 pub returns-clause-nothing : goal.returns-clause-nothing
-returns-clause-nothing c = dead c.first_live.result _ _ c.first_live.ensures (sym c.is_some.ensures ∙ c.if-is_some.false)
+returns-clause-nothing c = dead c.first_live.result _ _ c.first_live.ensures.found (sym c.is_some.ensures ∙ c.if-is_some.false)
 
 pub reset-requires-clause-written : goal.reset-requires-clause-written
 reset-requires-clause-written c =
-    (merge_stays c.args.index.now c.args.extents.now c.args.graph.now ForMove c.in_ok-root.root c.args.commands c.stage_merged.new.self c.stage_merged.new.extents c.stage_merged.new.graph c.args.extent
+    (merge_stays c.first_live.new.self c.args.extents.now c.args.graph.now ForMove c.in_ok-root.root c.args.commands c.stage_merged.new.self c.stage_merged.new.extents c.stage_merged.new.graph c.args.extent
     c.in_ok-root.ensures.staged c.requires.swept).written
 
 pub unreachable-requires : goal.unreachable-requires
 unreachable-requires c =
     c.if-generation.false (c.generation.ensures
-    ∙ sym (merge_generation c.args.index.now c.args.extents.now c.args.graph.now ForMove c.in_ok-root.root c.args.commands c.stage_merged.new.self c.stage_merged.new.extents c.stage_merged.new.graph c.args.extent
+    ∙ sym (merge_generation c.first_live.new.self c.args.extents.now c.args.graph.now ForMove c.in_ok-root.root c.args.commands c.stage_merged.new.self c.stage_merged.new.extents c.stage_merged.new.graph c.args.extent
     c.in_ok-root.ensures.staged c.requires.swept)
     ∙ c.reset.ensures.worn.0 (c.in-Err.is ∙ ap Err c.in-Err.ensures.refusals))
 
@@ -40,6 +42,12 @@ pub returns-clause-resets : goal.returns-clause-resets
 returns-clause-resets c =
     resets_emptied (extents_of c.stage_merged.new.extents) (extents_of c.reset.new.self) (extents_of c.set_swept.new.self) c.stage_merged.new.graph.staging c.args.extent c.in_ok-root.root false
     c.in-Ok.ensures.extents c.set_swept.ensures.extents
-    (merge_root c.args.index.now c.args.extents.now c.args.graph.now ForMove c.in_ok-root.root c.args.commands c.stage_merged.new.self c.stage_merged.new.extents c.stage_merged.new.graph c.args.extent
+    (merge_root c.first_live.new.self c.args.extents.now c.args.graph.now ForMove c.in_ok-root.root c.args.commands c.stage_merged.new.self c.stage_merged.new.extents c.stage_merged.new.graph c.args.extent
     c.in_ok-root.ensures.staged (omega (arith, c.in_ok-root.ensures.families, c.requires.families)))
     c.in_ok-root.ensures.resets
+
+pub returns-in_err-root-clause-why : goal.returns-in_err-root-clause-why
+returns-in_err-root-clause-why c =
+    let why = rw (c.first_live.ensures.same) at c.in_err-root.ensures.why in
+    let p = err_from_is_err_and c.from_residual-in_err-root.result c.from_residual-in_err-root.ensures.1 in
+    rw (p.1, p.2) (λ none. why_same c.in_err-root.field-0.0 _ _ _ _ (λ full. full) (λ full. full) (λ worn. inl worn) why)

@@ -5,7 +5,7 @@ use Rattle.cs_model.specs.Index.{live_at}
 use Rattle.cs_model.specs.Lists.{◌∈◌}
 use Rattle.cs_index.specs.State.{id_number}
 use Rattle.cs_index.proofs.Numbers.{small_number}
-use Rattle.cs_reclaim.proofs.Living.{is_id}
+use Rattle.cs_index.proofs.Living.{is_id}
 use Rattle.cs_reclaim.proofs.TestPlaces.{IsThere, all_have, have_up}
 use Rattle.cs_reclaim.proofs.tests.all_inside.Goals as goal
 

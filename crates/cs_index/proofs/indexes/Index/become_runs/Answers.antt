@@ -1,4 +1,6 @@
 use Rattle.std.proofs.Common.{arith}
+use Rattle.cs_index.specs.State.{index_of, state_of}
+use Rattle.cs_index.proofs.Living.{none_at_first}
 use Rattle.cs_index.proofs.Whole.{empty_whole, no_ids}
 use Rattle.cs_index.proofs.indexes.Index.become_runs.Goals as goal
 
@@ -11,4 +13,5 @@ invariant_of-self c =
       ids = no_ids c.new.result.items c.new.ensures.items;
       count = all.1;
       fits = omega (arith, c.new.ensures.len);
+      clear = none_at_first (index_of (state_of c.new.result.items c.args.runs.items c.self.inside.limit 0)) 0;
     }

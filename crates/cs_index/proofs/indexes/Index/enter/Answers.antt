@@ -1,8 +1,12 @@
-use Rattle.std.proofs.Common.{◌≡◌, ◌≢◌, ◌<◌, arith, map, sym, subst, MatchBool, None}
+use Rattle.std.proofs.Common.{◌≡◌, ◌≢◌, ◌⊎◌, ◌<◌, List, arith, map, sym, subst, MatchBool, None}
+use Rattle.std.specs.Prelude.{option_map}
 use Rattle.std.proofs.lemmas.List.{length-map}
 use Rattle.cs_model.specs.Index.{lookup, names}
 use Rattle.cs_frame.specs.Formats.{place_of}
-use Rattle.cs_index.specs.State.{State, id_number, index_of}
+use Rattle.cs_frame.specs.declared.locators.Locator.{Locator}
+use Rattle.cs_index.specs.Live.{NoneOn}
+use Rattle.cs_index.specs.State.{IsAfter, State, id_number, index_of, state_of}
+use Rattle.cs_index.proofs.Living.{still_clear}
 use Rattle.cs_index.proofs.Whole.{enter_count, enter_set, enter_whole}
 use Rattle.cs_index.proofs.indexes.Index.enter.Goals as goal
 
@@ -18,6 +22,12 @@ invariant_of-self-2 c =
       count = enter_count i.table.entries.items c.put.new.entries.items i.runs.items i.limit i.room c.in_ok-left.left (id_number c.args.id) i.named c.count_after-self-inside.result (map place_of c.args.locators.items) c.is_known-known.result
           c.in_ok-left.ensures.put c.self.invariant.count known c.count_after-self-inside.ensures;
       fits = c.in_ok-left.ensures.fits;
+      clear = still_clear (index_of (state_of i.table.entries.items i.runs.items i.limit i.room)) (index_of (state_of c.put.new.entries.items i.runs.items i.limit c.in_ok-left.left)) (id_number c.args.id) (map place_of c.args.locators.items)
+          (enter_set i.table.entries.items c.put.new.entries.items i.runs.items i.limit i.room c.in_ok-left.left (id_number c.args.id) (map place_of c.args.locators.items) c.in_ok-left.ensures.put).index
+          i.cleared c.still_cleared-cleared.result
+          (subst (λ (ls : List Locator). ((c.still_cleared-cleared.result ≡ i.cleared) × (IsAfter (option_map id_number i.cleared.up_to) (id_number c.args.id) ⊎ NoneOn (map place_of ls) i.cleared.extent)) ⊎ (c.still_cleared-cleared.result.up_to ≡ None))
+          c.deref.ensures.value c.still_cleared-cleared.ensures)
+          c.self.invariant.clear;
     }
 
 pub returns-clause-entered : goal.returns-clause-entered

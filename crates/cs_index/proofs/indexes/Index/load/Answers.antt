@@ -2,7 +2,8 @@ use Rattle.std.proofs.Common.{◌∙◌, ◌<◌, ◌^◌, ap, arith, length, su
 use Rattle.std.specs.List.{AllByRecursion}
 use Rattle.cs_index.specs.declared.runs.StoredRun.{StoredRun}
 use Rattle.cs_model.specs.Index.{entries_of, names}
-use Rattle.cs_index.specs.State.{IsId, IsStored, newest_first}
+use Rattle.cs_index.specs.State.{IsId, IsStored, index_of, newest_first, state_of}
+use Rattle.cs_index.proofs.Living.{none_at_first}
 use Rattle.cs_index.proofs.Whole.{empty_whole, lengths_of, no_ids, stored_runs}
 use Rattle.cs_index.proofs.indexes.Index.load.Goals as goal
 use Rattle.cs_index.proofs.indexes.Index.load.Goals.{After-deref-2}
@@ -28,4 +29,5 @@ invariant_of-result c =
       ids = no_ids c.new.result.items c.new.ensures.items;
       count = all.1;
       fits = omega (arith, c.new.ensures.len);
+      clear = none_at_first (index_of (state_of c.new.result.items c.args.runs.items c.args.limit 0)) 0;
     }

@@ -1,4 +1,4 @@
-use Rattle.std.proofs.Common.{◌∙◌, ◌≡◌, ◌≢◌, ◌<◌, ◌≤◌, [], ◌∷◌, arith, ap, length, map, sym, List, refl, Vec, vec_len}
+use Rattle.std.proofs.Common.{◌∙◌, ◌≡◌, ◌≢◌, ◌<◌, ◌≤◌, [], ◌∷◌, arith, ap, length, map, subst, sym, List, refl, Vec, vec_len}
 use Rattle.std.specs.declared.alloc.Global.{Global}
 use Rattle.cs_frame.specs.declared.identifiers.ShardId.{ShardId}
 use Rattle.cs_frame.specs.declared.locators.Locator.{Locator}
@@ -6,6 +6,7 @@ use Rattle.cs_model.specs.Element.{Entry}
 use Rattle.cs_model.specs.Index.{names}
 use Rattle.cs_index.specs.contracts.indexes.Index.{the_view}
 use Rattle.cs_frame.specs.Formats.{place_of}
+use Rattle.cs_index.specs.Live.{IsClear}
 use Rattle.cs_index.specs.State.{index_of, named_entry, newest_first, state_of}
 use Rattle.cs_index.proofs.Exact.{table_staged}
 use Rattle.cs_index.proofs.Staging.{is_run, pushed_index, pushed_runs, pushed_whole, table_few}
@@ -67,6 +68,7 @@ invariant_of-self-in-Ok c =
       ids = no_ids c.replace-entries.new.dest.items (none_left at);
       count = c.self.invariant.count ∙ ap (λ (es : List Entry). names es) (sym (index_is at));
       fits = (let e : vec_len c.replace-entries.new.dest ≡ 0 = ap (λ (v : Vec (ShardId × Vec Locator Global) Global). vec_len v) c.replace-entries.ensures.after ∙ c.new.ensures.len in omega (arith, e));
+      clear = subst (λ (es : List Entry). IsClear es i.cleared) (sym (index_is at)) c.self.invariant.clear;
     }
 
 pub returns-in-Ok-clause-staged : goal.returns-in-Ok-clause-staged

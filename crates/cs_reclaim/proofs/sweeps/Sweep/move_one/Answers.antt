@@ -8,13 +8,14 @@ use Rattle.cs_extent.specs.State.{shape}
 use Rattle.cs_frame.specs.declared.frames.FrameKind.TheVariants.{Chunk}
 use Rattle.cs_frame.specs.declared.locators.Locator.{Locator}
 use Rattle.cs_frame.specs.Formats.{as_locator, place_of}
+use Rattle.cs_index.proofs.Living.{nth_in}
 use Rattle.cs_index.specs.State.{id_number, index_of}
 use Rattle.cs_model.specs.Element.{Locator as Place}
 use Rattle.cs_model.specs.Extents.{ForMove}
 use Rattle.cs_model.specs.Formats.{ChunkFrame}
 use Rattle.cs_model.specs.Index.{NothingLive, live_at}
 use Rattle.cs_reclaim.specs.Moves.{chunk_frame}
-use Rattle.cs_reclaim.proofs.Living.{live_there, nth_in, one_place}
+use Rattle.cs_reclaim.proofs.Living.{live_there, one_place}
 use Rattle.cs_reclaim.proofs.Moving.{first_here, move_made, not_none, same_answer}
 use Rattle.cs_reclaim.proofs.Sweeping.{append_swept}
 use Rattle.cs_reclaim.proofs.sweeps.Sweep.move_one.Given.{Over}
@@ -24,7 +25,7 @@ use Rattle.cs_reclaim.proofs.sweeps.Sweep.move_one.Goals.{In_default}
 -- ---- where nothing is live
 
 nothing : (g : Over) (c : In_default g) → NothingLive (index_of c.args.index.now) c.args.self.now
-nothing g c = subst (λ (e : ℕ). NothingLive (index_of c.args.index.now) e) c.self.view_is c.in_default.ensures
+nothing g c = subst (λ (e : ℕ). NothingLive (index_of c.args.index.now) e) c.self.view_is c.in_default.ensures.found
 
 pub returns-in_default-clause-none : goal.returns-in_default-clause-none
 returns-in_default-clause-none g c = ((λ is. nothing g (goal.at.returns-in_default-clause-none g c).In_default), (λ none. refl))
@@ -41,28 +42,28 @@ returns-in_default-clause-why g c = λ h view are id chunk from payload first th
 
 pub move_live-requires-clause-page : goal.move_live-requires-clause-page
 move_live-requires-clause-page g c =
-    (c.requires.there (id_number c.in-Some.live.id) (place_of c.in-Some.live.place) (nth_in (live_at (index_of c.args.index.now) (id_number c.in-Some.live.id)) c.in-Some.live.chunk (place_of c.in-Some.live.place) c.in-Some.ensures.there)).1
+    (c.requires.there (id_number c.in-Some.live.id) (place_of c.in-Some.live.place) (nth_in (live_at (index_of c.args.index.now) (id_number c.in-Some.live.id)) c.in-Some.live.chunk (place_of c.in-Some.live.place) c.in-Some.ensures.found.there)).1
 
 pub returns-in-Ok-clause-none : goal.returns-in-Ok-clause-none
 returns-in-Ok-clause-none g c = (
   (λ is. absurd (not_none (c.in-Some.live.id, c.in-Some.live.chunk) is)),
-  (λ none. absurd (live_there (index_of c.args.index.now) c.args.self.now (id_number c.in-Some.live.id) c.in-Some.live.chunk (place_of c.in-Some.live.place) (first_here (index_of c.args.index.now) c.self.inside.extent c.args.self.now c.in-Some.live c.self.view_is c.in-Some.ensures) none)),
+  (λ none. absurd (live_there (index_of c.args.index.now) c.args.self.now (id_number c.in-Some.live.id) c.in-Some.live.chunk (place_of c.in-Some.live.place) (first_here (index_of c.args.index.now) c.self.inside.extent c.args.self.now c.in-Some.live c.self.view_is c.in-Some.ensures.found) none)),
 )
 
 pub returns-in-Ok-clause-moved : goal.returns-in-Ok-clause-moved
 returns-in-Ok-clause-moved g c = λ id chunk is.
     move_made c.args.index.now c.move_live.new.index c.args.extents.now c.move_live.new.extents c.args.graph.now c.move_live.new.graph c.args.self.now c.in-Some.live
     (λ (from : Locator) (payload : List ℕ). g.D.PageDisk.honest c.args.disk.now → (view : ℕ → List ℕ) → AreNewest c.args.graph.now (seen (g.D.PageDisk.state c.args.disk.now)) view → IsFrameAt (shape c.args.extents.now) view ChunkFrame from payload)
-    (first_here (index_of c.args.index.now) c.self.inside.extent c.args.self.now c.in-Some.live c.self.view_is c.in-Some.ensures)
-    c.in-Ok.ensures.moved id chunk (same_answer (c.in-Some.live.id, c.in-Some.live.chunk) (id, chunk) is)
+    (first_here (index_of c.args.index.now) c.self.inside.extent c.args.self.now c.in-Some.live c.self.view_is c.in-Some.ensures.found)
+    (rw (c.first_live.ensures.same) at c.in-Ok.ensures.moved) id chunk (same_answer (c.in-Some.live.id, c.in-Some.live.chunk) (id, chunk) is)
 
 pub returns-in-Ok-clause-damaged : goal.returns-in-Ok-clause-damaged
 returns-in-Ok-clause-damaged g c = λ h view are id chunk from first.
-    subst (λ (p : Place). fault_at (shape c.args.extents.now) view Chunk (as_locator p) ≡ None) (one_place (index_of c.args.index.now) c.args.self.now (id_number c.in-Some.live.id) c.in-Some.live.chunk (place_of c.in-Some.live.place) (first_here (index_of c.args.index.now) c.self.inside.extent c.args.self.now c.in-Some.live c.self.view_is c.in-Some.ensures) id chunk from first) (c.in-Ok.ensures.damaged h view are)
+    subst (λ (p : Place). fault_at (shape c.args.extents.now) view Chunk (as_locator p) ≡ None) (one_place (index_of c.args.index.now) c.args.self.now (id_number c.in-Some.live.id) c.in-Some.live.chunk (place_of c.in-Some.live.place) (first_here (index_of c.args.index.now) c.self.inside.extent c.args.self.now c.in-Some.live c.self.view_is c.in-Some.ensures.found) id chunk from first) (c.in-Ok.ensures.damaged h view are)
 
 pub returns-in-Ok-clause-why : goal.returns-in-Ok-clause-why
 returns-in-Ok-clause-why g c = λ h view are id chunk from payload first there.
-    c.in-Ok.ensures.why h view payload are (subst (λ (p : Place). IsFrameAt (shape c.args.extents.now) view ChunkFrame (as_locator p) payload) (sym (one_place (index_of c.args.index.now) c.args.self.now (id_number c.in-Some.live.id) c.in-Some.live.chunk (place_of c.in-Some.live.place) (first_here (index_of c.args.index.now) c.self.inside.extent c.args.self.now c.in-Some.live c.self.view_is c.in-Some.ensures) id chunk from first)) there)
+    c.in-Ok.ensures.why h view payload are (subst (λ (p : Place). IsFrameAt (shape c.args.extents.now) view ChunkFrame (as_locator p) payload) (sym (one_place (index_of c.args.index.now) c.args.self.now (id_number c.in-Some.live.id) c.in-Some.live.chunk (place_of c.in-Some.live.place) (first_here (index_of c.args.index.now) c.self.inside.extent c.args.self.now c.in-Some.live c.self.view_is c.in-Some.ensures.found) id chunk from first)) there)
 
 pub returns-in-Ok-clause-still : goal.returns-in-Ok-clause-still
 returns-in-Ok-clause-still g c =
@@ -72,15 +73,15 @@ returns-in-Ok-clause-still g c =
 pub returns-in-Err-clause-none : goal.returns-in-Err-clause-none
 returns-in-Err-clause-none g c = (
   (λ is. absurd (cc is)),
-  (λ none. absurd (live_there (index_of c.args.index.now) c.args.self.now (id_number c.in-Some.live.id) c.in-Some.live.chunk (place_of c.in-Some.live.place) (first_here (index_of c.args.index.now) c.self.inside.extent c.args.self.now c.in-Some.live c.self.view_is c.in-Some.ensures) none)),
+  (λ none. absurd (live_there (index_of c.args.index.now) c.args.self.now (id_number c.in-Some.live.id) c.in-Some.live.chunk (place_of c.in-Some.live.place) (first_here (index_of c.args.index.now) c.self.inside.extent c.args.self.now c.in-Some.live c.self.view_is c.in-Some.ensures.found) none)),
 )
 
 pub returns-in-Err-clause-damaged : goal.returns-in-Err-clause-damaged
 returns-in-Err-clause-damaged g c = λ h view are id chunk from first.
     subst (λ (p : Place). IsNoAnswer c.in-Err.refusal ⊎ IsOfFault (fault_at (shape c.args.extents.now) view Chunk (as_locator p)) c.in-Err.refusal
     ⊎ ((fault_at (shape c.args.extents.now) view Chunk (as_locator p) ≡ None) × ((c.in-Err.refusal ≡ Full) ⊎ (c.in-Err.refusal ≡ WornOut))))
-    (one_place (index_of c.args.index.now) c.args.self.now (id_number c.in-Some.live.id) c.in-Some.live.chunk (place_of c.in-Some.live.place) (first_here (index_of c.args.index.now) c.self.inside.extent c.args.self.now c.in-Some.live c.self.view_is c.in-Some.ensures) id chunk from first) (c.in-Err.ensures.damaged h view are)
+    (one_place (index_of c.args.index.now) c.args.self.now (id_number c.in-Some.live.id) c.in-Some.live.chunk (place_of c.in-Some.live.place) (first_here (index_of c.args.index.now) c.self.inside.extent c.args.self.now c.in-Some.live c.self.view_is c.in-Some.ensures.found) id chunk from first) (c.in-Err.ensures.damaged h view are)
 
 pub returns-in-Err-clause-why : goal.returns-in-Err-clause-why
 returns-in-Err-clause-why g c = λ h view are id chunk from payload first there.
-    c.in-Err.ensures.why h view payload are (subst (λ (p : Place). IsFrameAt (shape c.args.extents.now) view ChunkFrame (as_locator p) payload) (sym (one_place (index_of c.args.index.now) c.args.self.now (id_number c.in-Some.live.id) c.in-Some.live.chunk (place_of c.in-Some.live.place) (first_here (index_of c.args.index.now) c.self.inside.extent c.args.self.now c.in-Some.live c.self.view_is c.in-Some.ensures) id chunk from first)) there)
+    c.in-Err.ensures.why h view payload are (subst (λ (p : Place). IsFrameAt (shape c.args.extents.now) view ChunkFrame (as_locator p) payload) (sym (one_place (index_of c.args.index.now) c.args.self.now (id_number c.in-Some.live.id) c.in-Some.live.chunk (place_of c.in-Some.live.place) (first_here (index_of c.args.index.now) c.self.inside.extent c.args.self.now c.in-Some.live c.self.view_is c.in-Some.ensures.found) id chunk from first)) there)

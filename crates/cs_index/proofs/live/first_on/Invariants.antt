@@ -1,5 +1,5 @@
-use Rattle.cs_reclaim.proofs.Living.{NoneBefore}
-use Rattle.cs_reclaim.proofs.live.first_on.Given as goal
+use Rattle.cs_index.proofs.Living.{NoneBefore}
+use Rattle.cs_index.proofs.live.first_on.Given as goal
 
 abbrev pub invariant-loop-k : goal.invariant-loop-k
 invariant-loop-k l = NoneBefore l.places l.k l.extent

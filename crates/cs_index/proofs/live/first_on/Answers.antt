@@ -1,7 +1,7 @@
 use Rattle.std.proofs.Common.{◌∙◌, sym}
 use Rattle.cs_frame.specs.declared.locators.Locator.{Locator}
-use Rattle.cs_reclaim.proofs.Living.{first_found, none_more, none_on}
-use Rattle.cs_reclaim.proofs.live.first_on.Goals as goal
+use Rattle.cs_index.proofs.Living.{first_found, none_more, none_on}
+use Rattle.cs_index.proofs.live.first_on.Goals as goal
 
 -- a place that stands for none
 abbrev nowhere : Locator

@@ -1,6 +1,7 @@
--- What lives on an extent, place by place.
-use Rattle.std.specs.Prelude.{◌≡◌, ◌≢◌, ◌≤◌, ℕ, List, Option, Some}
-use Rattle.cs_index.specs.State.{IsAfter}
+-- What lives on an extent, place by place and identifier by identifier.
+use Rattle.std.specs.Prelude.{◌≡◌, ◌≢◌, ◌≤◌, ℕ, List, Option, Some, option_map}
+use Rattle.cs_index.specs.declared.live.Cleared.{Cleared}
+use Rattle.cs_index.specs.State.{IsAfter, id_number}
 use Rattle.cs_model.specs.Element.{Entry, Locator as Place}
 use Rattle.cs_model.specs.Index.{live_at}
 use Rattle.cs_model.specs.Lists.{nth}
@@ -19,3 +20,7 @@ pub record IsFirstOn (ls : List Place) (e k : ℕ) : Type 0 where
 -- nothing of the identifiers up to this one is on the extent
 abbrev pub NoneUpTo : (index : List Entry) → Option ℕ → ℕ → Type 0
 NoneUpTo index after e = (d : ℕ) → (IsAfter after d → ⊥) → NoneOn (live_at index d) e
+
+-- an extent is as clear as was noted
+abbrev pub IsClear : (index : List Entry) → Cleared → Type 0
+IsClear index cleared = NoneUpTo index (option_map id_number cleared.up_to) cleared.extent

@@ -1,0 +1,119 @@
+//! What lives on an extent.
+ghost use Rattle.std.specs.Prelude.{◌≡◌, ◌⊎◌, IfSome, List, MatchBool, MatchOption, None, map, option_map};
+ghost use Rattle.cs_frame.specs.Formats.{place_of};
+ghost use Rattle.cs_index.specs.Live.{IsFirstOn, NoneOn, NoneUpTo};
+ghost use Rattle.cs_index.specs.State.{IsAfter, IsId, id_number};
+ghost use Rattle.cs_model.specs.Index.{FirstLive, NothingLive};
+
+use crate::entries::Entries;
+use crate::tables::is_before;
+use cs_frame::{Locator, ShardId};
+
+/// A chunk of a shard, and where its frame begins.
+#[derive(Clone, Copy, Debug)]
+pub struct LiveChunk {
+    pub id: ShardId,
+    pub chunk: usize,
+    pub place: Locator,
+}
+
+/// An extent, and up to which identifier nothing lives there; None where that isn't known of any.
+#[derive(Clone, Copy, Debug)]
+pub struct Cleared {
+    pub extent: usize,
+    pub up_to: Option<ShardId>,
+}
+
+/// Nothing is known of any extent.
+pub const NONE_KNOWN: Cleared = Cleared {
+    extent: 0,
+    up_to: None,
+};
+
+/// Up to which identifier nothing lives on the extent, as far as is known.
+pub fn known_up_to(cleared: Cleared, extent: usize) -> Option<ShardId>
+    ensures { ((result ≡ cleared.up_to) × (cleared.extent ≡ extent)) ⊎ (result ≡ None) }
+{
+    if cleared.extent == extent {
+        cleared.up_to
+    } else {
+        None
+    }
+}
+
+/// What is known still once an identifier has these locators.
+pub fn still_cleared(cleared: Cleared, id: ShardId, locators: &[Locator]) -> Cleared
+    ensures { ((result ≡ cleared) × (IsAfter (option_map id_number cleared.up_to) (id_number id) ⊎ NoneOn (map place_of locators.now) cleared.extent)) ⊎ (result.up_to ≡ None) }
+{
+    if is_after(cleared.up_to, id) {
+        return cleared;
+    }
+    match first_on(locators, cleared.extent) {
+        None => cleared,
+        Some(_) => Cleared {
+            extent: cleared.extent,
+            up_to: None,
+        },
+    }
+}
+
+/// Whether an identifier comes after another.
+fn is_after(last: Option<ShardId>, id: ShardId) -> bool
+    ensures { MatchBool result (IsAfter (option_map id_number last) (id_number id)) (IsAfter (option_map id_number last) (id_number id) → ⊥) }
+{
+    match last {
+        Some(before) => is_before(before, id),
+        None => true,
+    }
+}
+
+/// The first of these places that is on the extent.
+fn first_on(places: &[Locator], extent: usize) -> Option<usize>
+    ensures { MatchOption result (NoneOn (map place_of places.now) extent) (IsFirstOn (map place_of places.now) extent) }
+{
+    for k in 0..places.len() {
+        if usize::from(places[k].extent) == extent {
+            return Some(k);
+        }
+    }
+    None
+}
+
+/// Reads the identifier, where there is one.
+fn check_id(id: Option<ShardId>)
+    ensures { IfSome id IsId }
+{
+    if let Some(some) = id {
+        let _bytes = some.bytes();
+    }
+}
+
+/// Of the live chunks on the extent, that of the least identifier, and of its shard's the lowest; and the last identifier before
+/// it, or of all where nothing is live there. Reads on behind the identifier that is passed already.
+pub fn search(
+    entries: Entries<'_>,
+    passed: Option<ShardId>,
+    extent: usize,
+) -> (Option<LiveChunk>, Option<ShardId>)
+    requires passed { entries.after ≡ option_map id_number passed }
+    requires none { NoneUpTo entries.index entries.after extent }
+    ensures found { MatchOption result.0 (NothingLive entries.entry.index extent) (λ found. FirstLive entries.entry.index extent (id_number found.id) found.chunk (place_of found.place)) }
+    ensures none { NoneUpTo entries.entry.index (option_map id_number result.1) extent }
+{
+    check_id(passed);
+    let mut read = entries;
+    let mut last = passed;
+    while let Some((id, places)) = read.next_entry() {
+        let _bytes = id.bytes();
+        if let Some(chunk) = first_on(places, extent) {
+            let found = LiveChunk {
+                id,
+                chunk,
+                place: places[chunk],
+            };
+            return (Some(found), last);
+        }
+        last = Some(id);
+    }
+    (None, last)
+}
