@@ -1,0 +1,64 @@
+//! How much was written.
+
+use crate::loads::SHARDS;
+use cs_deps::Element;
+
+/// How many runs stand at most; with one more all are merged.
+const RUNS: u64 = 4;
+
+/// What was put and written so far.
+#[derive(Clone, Copy, Debug)]
+pub struct Counts {
+    pub puts: u64,
+    pub plain: u64,
+    pub superblocks: u64,
+    pub roots: u64,
+    pub runs: u64,
+    pub entries: u64,
+}
+
+impl Counts {
+    /// Of a new store.
+    pub fn new() -> Self {
+        Counts {
+            puts: 0,
+            plain: 0,
+            superblocks: 0,
+            roots: 0,
+            runs: 0,
+            entries: 0,
+        }
+    }
+
+    /// With one more member of a round.
+    pub fn with_member(self, member: Element) -> Self {
+        match member {
+            Element::Plain(_) => Counts {
+                plain: self.plain.saturating_add(1),
+                ..self
+            },
+            Element::Version(0, _) => Counts {
+                superblocks: self.superblocks.saturating_add(1),
+                ..self
+            },
+            Element::Version(_, _) => Counts {
+                roots: self.roots.saturating_add(1),
+                ..self
+            },
+        }
+    }
+
+    /// With a batch of puts that was staged: its run has what the batch put, or all that was put so far where it is merged of all
+    /// that stand.
+    pub fn with_batch(self, puts: u64) -> Self {
+        let all = self.puts.saturating_add(puts);
+        let is_merged = self.runs > 0 && self.runs % RUNS == 0;
+        let entries = if is_merged { all } else { puts };
+        Counts {
+            puts: all,
+            runs: self.runs.saturating_add(1),
+            entries: self.entries.saturating_add(entries.min(SHARDS)),
+            ..self
+        }
+    }
+}

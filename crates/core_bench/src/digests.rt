@@ -1,0 +1,43 @@
+//! Digests alone, of as many bytes as a store's pages have.
+
+use crate::counts::Counts;
+use crate::{Fault, Task};
+use sha2::{Digest, Sha256};
+use std::alloc::Global;
+
+/// How many bytes of a root its digest is made of, at most.
+const ROOT: usize = 53;
+
+/// The digests of these texts, each of so many bytes, one of them after another. Gives how many.
+pub fn digest_texts(alloc: Global, count: u64, bytes: usize) -> Result<u64, Fault> {
+    let mut text = Vec::new(alloc);
+    text.resize(bytes, 0x61)?;
+    let mut done: u64 = 0;
+    for _ in 0..count {
+        let digest = Sha256::digest(&text);
+        // What was digested goes into the next text, so that no digest can be left out.
+        if let Some(first) = text.first_mut() {
+            *first = digest[0];
+        }
+        done = done.saturating_add(1);
+    }
+    Ok(done)
+}
+
+/// The digests of all that these puts wrote. Gives how many there are.
+pub fn digest_puts(alloc: Global, counts: Counts, task: Task) -> Result<u64, Fault> {
+    let chunks = digest_texts(alloc, counts.puts, task.bytes)?;
+    let superblock = (task.extents as usize).saturating_mul(6).saturating_add(16);
+    let superblocks = digest_texts(alloc, counts.superblocks, superblock)?;
+    let run = (counts.entries / counts.runs.max(1))
+        .saturating_mul(81)
+        .saturating_add(4);
+    let runs = digest_texts(alloc, counts.runs, run as usize)?;
+    let roots = digest_texts(alloc, counts.roots, ROOT)?;
+    Ok(
+        chunks
+            .saturating_add(superblocks)
+            .saturating_add(runs)
+            .saturating_add(roots),
+    )
+}

@@ -1,0 +1,127 @@
+//! Times a core, with no text around it, beside the digests alone of what it writes or reads. The first argument says what is
+//! timed, the second how often it is done, the third how many bytes a shard has, the fourth how many puts a batch has, the fifth
+//! how many extents of 256 pages the store has:
+//!
+//! - `puts`: each batch is put, staged and written back, round by round;
+//! - `gets`: so many puts are written back, and so many gets are timed.
+//!
+//! Where no argument is given, a few puts are done, and what they wrote is counted and not timed.
+#![tactic(auto)]
+
+mod counts;
+mod digests;
+mod events;
+mod loads;
+mod timings;
+
+use cs_core::{Core, Limits};
+use cs_deps::Refusal;
+use cs_disk::{DiskFault, MemoryDisk};
+use cs_frame::{FormatFault, Geometry};
+use std::alloc::{AllocError, Global};
+use std::num::ParseIntError;
+use std::rt::Env;
+use std::time::Clock;
+use std::{env, io};
+use thiserror::Error;
+use timings::{print_puts, time_gets, time_puts};
+
+/// How many events the core may record.
+const HISTORY: usize = 65_536;
+
+/// How many pages an extent has.
+const PAGES: u64 = 256;
+
+/// Why the program stops.
+#[derive(Debug, Drop, Error)]
+pub enum Fault {
+    #[error("no number")]
+    Number(#[from] ParseIntError),
+    #[error("out of memory")]
+    Memory(#[from(alloc)] AllocError),
+    #[error("the core refused")]
+    Refused(#[from] Refusal),
+    #[error("no geometry")]
+    Geometry(#[from] FormatFault),
+    #[error("no disk")]
+    Disk(#[from] DiskFault),
+    #[error(transparent)]
+    Output(#[from] io::Error),
+}
+
+/// What is timed.
+#[derive(Clone, Copy, Debug, PartialEq, Eq)]
+enum Work {
+    Nothing,
+    Puts,
+    Gets,
+}
+
+/// How often it is done, with how many bytes a shard, how many puts a batch, and how many extents.
+#[derive(Clone, Copy, Debug)]
+pub struct Task {
+    pub count: u64,
+    pub bytes: usize,
+    pub batch: u64,
+    pub extents: u64,
+}
+
+fn main(rt: HostRuntime) -> Result<(), Fault> {
+    let work = work_wanted(&rt)?;
+    let task = Task {
+        count: number_wanted(&rt, 2, 6)?,
+        bytes: number_wanted(&rt, 3, 1024)? as usize,
+        batch: number_wanted(&rt, 4, 2)?,
+        extents: number_wanted(&rt, 5, 64)?,
+    };
+    let mut core = new_core(rt.alloc(), task.extents)?;
+    run(&rt, rt.alloc(), &mut core, work, task)
+}
+
+/// Does the work, and prints what was counted and how long it took.
+fn run<R: Print + Clock>(
+    rt: &R,
+    alloc: Global,
+    core: &mut Core<MemoryDisk>,
+    work: Work,
+    task: Task,
+) -> Result<(), Fault> {
+    match work {
+        Work::Nothing => print_puts(rt, alloc, core, task),
+        Work::Puts => time_puts(rt, alloc, core, task),
+        Work::Gets => time_gets(rt, alloc, core, task),
+    }
+}
+
+/// The work that the command line asks for.
+fn work_wanted(rt: &(impl Env + AllocGlobal)) -> Result<Work, Fault> {
+    match env::args(rt)?.nth(1) {
+        Some(text) => match text.as_str() {
+            "gets" => Ok(Work::Gets),
+            _ => Ok(Work::Puts),
+        },
+        None => Ok(Work::Nothing),
+    }
+}
+
+/// The number at this place of the command line, this one where there is none.
+fn number_wanted(
+    rt: &(impl Env + AllocGlobal),
+    place: usize,
+    otherwise: u64,
+) -> Result<u64, Fault> {
+    match env::args(rt)?.nth(place) {
+        Some(text) => Ok(text.parse::<u64>()?),
+        None => Ok(otherwise),
+    }
+}
+
+/// A core over a new store of so many extents.
+fn new_core(alloc: Global, extents: u64) -> Result<Core<MemoryDisk>, Fault> {
+    let geometry = Geometry::new(extents, PAGES)?;
+    let disk = MemoryDisk::new(alloc, geometry.device_pages())?;
+    match Core::format(alloc, disk, geometry, Limits { history: HISTORY }) {
+        Ok(core) => Ok(core),
+        Err((refusal, _)) => Err(Fault::Refused(refusal)),
+    }
+}

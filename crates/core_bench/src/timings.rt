@@ -1,0 +1,101 @@
+//! What is printed: how much was done, and how long it took.
+
+use crate::counts::Counts;
+use crate::digests::{digest_puts, digest_texts};
+use crate::loads::{get_all, put_all};
+use crate::{Fault, Task};
+use cs_core::Core;
+use cs_disk::MemoryDisk;
+use std::alloc::Global;
+use std::io;
+use std::time::{Clock, Instant};
+
+/// How many microseconds have gone by.
+fn micros_since<R: Clock>(rt: &R, start: Instant) -> Result<u128, Fault> {
+    Ok(start.elapsed(rt)?.as_micros())
+}
+
+/// Prints what was written.
+fn print_counts<R: Print>(rt: &R, counts: Counts, persistent: u64) -> Result<(), Fault> {
+    let Counts {
+        puts,
+        plain,
+        superblocks,
+        roots,
+        runs,
+        entries,
+    } = counts;
+    println!(rt;
+        "puts {puts} persistent {persistent} pages {plain} superblocks {superblocks} roots {roots} runs {runs} of {entries} entries"
+    )?;
+    Ok(())
+}
+
+/// Prints how long something took, and how long its digests did.
+fn print_times<R: Print>(rt: &R, took: u128, digests: u64, alone: u128) -> Result<(), Fault> {
+    println!(rt; "in {took} us, its {digests} digests alone in {alone} us")?;
+    Ok(())
+}
+
+/// Puts, and prints what was written.
+pub fn print_puts<R: Print>(
+    rt: &R,
+    alloc: Global,
+    core: &mut Core<MemoryDisk>,
+    task: Task,
+) -> Result<(), Fault> {
+    let counts = put_all(alloc, core, task)?;
+    print_counts(rt, counts, core.frontier())
+}
+
+/// Puts, and gives how much was written and how long it took.
+fn timed_puts<R: Clock>(
+    rt: &R,
+    alloc: Global,
+    core: &mut Core<MemoryDisk>,
+    task: Task,
+) -> Result<(Counts, u128), Fault> {
+    let start = Instant::now(rt)?;
+    let counts = put_all(alloc, core, task)?;
+    Ok((counts, micros_since(rt, start)?))
+}
+
+/// Times the puts, and the digests of what they wrote.
+pub fn time_puts<R: Print + Clock>(
+    rt: &R,
+    alloc: Global,
+    core: &mut Core<MemoryDisk>,
+    task: Task,
+) -> Result<(), Fault> {
+    let (counts, took) = timed_puts(rt, alloc, core, task)?;
+    print_counts(rt, counts, core.frontier())?;
+    let start = Instant::now(rt)?;
+    let digests = digest_puts(alloc, counts, task)?;
+    print_times(rt, took, digests, micros_since(rt, start)?)
+}
+
+/// Gets, and gives how many shards were found and how long it took.
+fn timed_gets<R: Clock>(
+    rt: &R,
+    core: &mut Core<MemoryDisk>,
+    count: u64,
+) -> Result<(u64, u128), Fault> {
+    let start = Instant::now(rt)?;
+    let found = get_all(core, count)?;
+    Ok((found, micros_since(rt, start)?))
+}
+
+/// Times the gets of what was put before, and the digests of what they read.
+pub fn time_gets<R: Print + Clock>(
+    rt: &R,
+    alloc: Global,
+    core: &mut Core<MemoryDisk>,
+    task: Task,
+) -> Result<(), Fault> {
+    put_all(alloc, core, task)?;
+    let (found, took) = timed_gets(rt, core, task.count)?;
+    println!(rt; "gets {} found {found}", task.count)?;
+    let start = Instant::now(rt)?;
+    let digests = digest_texts(alloc, found, task.bytes)?;
+    print_times(rt, took, digests, micros_since(rt, start)?)
+}
