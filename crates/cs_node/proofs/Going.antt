@@ -1,5 +1,5 @@
 -- What an event leaves of a core.
-use Rattle.std.proofs.Common.{◌≡◌, ◌≢◌, ◌≤◌, Bool, Err, IfErr, IsErrAnd, Ok, Result, false, length, ap, ⊎_elim, refl, subst, sym}
+use Rattle.std.proofs.Common.{◌≡◌, ◌≢◌, Err, IfErr, IsErrAnd, Ok, Result, false, ap, ⊎_elim, refl, subst, sym}
 use Rattle.cs_deps.specs.declared.refusals.Refusal.{Refusal}
 use Rattle.cs_deps.specs.declared.refusals.Refusal.TheVariants.{HistoryFull, OutOfMemory}
 use Rattle.cs_disk.specs.Disk.{State as DiskState}

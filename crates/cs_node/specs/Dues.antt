@@ -1,12 +1,10 @@
 -- Which event of writeback is due.
-use Rattle.std.specs.Prelude.{◌≡◌, ◌≢◌, ◌⊎◌, ◌<◌, ◌≤◌, ℕ, ◌+◌, [], None, Ok, Option, Result, Some, length, MatchOption, MatchResult}
+use Rattle.std.specs.Prelude.{◌≡◌, ◌≢◌, ◌⊎◌, ◌<◌, ◌≤◌, ℕ, [], None, Ok, Option, Result, length, MatchOption, MatchResult}
 use Rattle.cs_deps.specs.declared.refusals.Refusal.{Refusal}
 use Rattle.cs_disk.specs.Disk.{State as DiskState}
 use Rattle.cs_core.specs.declared.events.Event.{Event}
 use Rattle.cs_core.specs.declared.events.Event.TheVariants as asked
 use Rattle.cs_core.specs.declared.events.Reply.{Reply}
-use Rattle.cs_extent.specs.State.{extents_of, shape as shape_of}
-use Rattle.cs_reclaim.specs.Sweeps.{IsNotSweepable}
 use Rattle.cs_core.specs.Stored.{Stored, members_of}
 use Rattle.cs_core.specs.Views.{IsStep, View}
 use Rattle.cs_node.specs.Locks.{IsRefused, WhileLocked}
@@ -74,35 +72,3 @@ Syncs honest state start frontier = (target : ℕ) × (target ≤ frontier)
 -- the event of a sync that was refused: its Stage, or one that was due then
 abbrev pub IsSyncRefused : {D : Type 0} → (honest : D → Type 0) → (state : D → DiskState) → (old : View D) → Refusal → (new : View D) → Type 0
 IsSyncRefused honest state old r new = IsRefused honest state old asked.Stage r new ⊎ IsTurnRefused honest state old r new
-
--- an event of a sweep. One that begins is of an extent that may be swept
-abbrev pub IsOfSweep : Stored → Event → Type 0
-IsOfSweep s (asked.BeginSweep e) = ¬ IsNotSweepable (shape_of s.extents) (extents_of s.extents) e
-IsOfSweep s (asked.MoveOne e) = Unit {0}
-IsOfSweep s (asked.Retire e) = Unit {0}
-IsOfSweep s (asked.Abandon e) = Unit {0}
-IsOfSweep s event = ⊥
-
--- one event of a sweep was done, which this step names, or none
-abbrev pub Sweeps : {D : Type 0} → (honest : D → Type 0) → (state : D → DiskState) → (old : View D) → Step → (new : View D) → Type 0
-Sweeps honest state old step new = ((step ≡ Idle) × (new ≡ old))
-    ⊎ ((event : Event) × (reply : Reply) × (step ≡ step_of event) × IsOfSweep old.store event × IsStep honest state old event reply new)
-
--- at most one event of a sweep: it was done, or it was refused
-abbrev pub IsSweepTurn : {D : Type 0} → (honest : D → Type 0) → (state : D → DiskState) → (old : View D) → Result Step Refusal → (new : View D) → Type 0
-IsSweepTurn honest state old result new = MatchResult result (λ step. Sweeps honest state old step new) (λ r. (event : Event) × IsOfSweep old.store event × IsRefused honest state old event r new)
-
--- the least extent from this one on that may be swept
-pub record IsLeastFrom (s : Stored) (from e : ℕ) : Type 0 where
-  pub from_there : from ≤ e
-  pub may : ¬ IsNotSweepable (shape_of s.extents) (extents_of s.extents) e
-  pub least : (k : ℕ) → from ≤ k → k < e → IsNotSweepable (shape_of s.extents) (extents_of s.extents) k
-
--- none from this one on may be swept
-abbrev pub NoneFrom : Stored → ℕ → Type 0
-NoneFrom s from = (k : ℕ) → from ≤ k → k < (shape_of s.extents).extents → IsNotSweepable (shape_of s.extents) (extents_of s.extents) k
-
--- the extent whose sweep begins next: the least above the one that was begun last that may be swept, else the least of all
-abbrev pub IsNextAfter : Stored → (last : Option ℕ) → ℕ → Type 0
-IsNextAfter s None e = IsLeastFrom s 0 e
-IsNextAfter s (Some last) e = IsLeastFrom s (last + 1) e ⊎ (NoneFrom s (last + 1) × IsLeastFrom s 0 e)

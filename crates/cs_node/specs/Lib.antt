@@ -6,5 +6,6 @@ pub mod Locks
 pub mod Mirror
 pub mod Starts
 pub mod Streams
+pub mod Sweeps
 pub mod Told
 pub mod Under

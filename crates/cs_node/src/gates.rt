@@ -1,5 +1,5 @@
 //! What may be done between events, and in the midst of one.
-ghost use Rattle.std.specs.Prelude.{◌≡◌};
+ghost use Rattle.std.specs.Prelude.{◌≡◌, false};
 ghost use Rattle.cs_node.specs.Dues.{step_of};
 
 use cs_core::Event;
@@ -25,8 +25,12 @@ pub enum Step {
 
 /// What goes on beside the events of a worker or of a put. It may wait for nobody.
 pub trait Gate {
+    // what is known of a gate that ends a worker: nothing, where an impl says nothing else
+    ghost ended: { Self → Type 0 } = { λ _. Unit {0} };
+
     /// Ahead of each turn of a worker, without the lock. With false the worker ends.
-    fn before(&self) -> bool;
+    fn before(&self) -> bool
+        ensures { result ≡ false → ended self.now };
 
     /// Under the lock, after each event that was recorded.
     fn within(&self, step: Step);
@@ -37,6 +41,8 @@ pub trait Gate {
 pub struct Open;
 
 impl Gate for Open {
+    ghost ended = { λ _. ⊥ };
+
     fn before(&self) -> bool {
         true
     }

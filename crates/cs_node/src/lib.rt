@@ -29,7 +29,7 @@ pub use nodes::{Node, Settled, Why};
 pub use pilots::Pilot;
 pub use polls::Polled;
 pub use purses::{Purse, the_floor_rises};
-pub use reclaimers::Reclaimer;
+pub use reclaimers::{Next, Reclaimer};
 pub use rests::{Closed, NotClosed, Rest, Unclosed};
 pub use streams::Stream;
 pub use tickets::{Ack, Ticket};

@@ -45,7 +45,8 @@ impl<K: Naming> Pilot<K> {
         node: &Node<D, K>,
         gate: &G,
     ) -> Result<(), Refusal>
-        ensures { IfErr result (λ r. WhileLocked D.honest D.state K.start (λ old new. IsTurnRefused D.honest D.state old r new)) }
+        ensures ok { IfOk result (λ _. G.ended gate.now) }
+        ensures err { IfErr result (λ r. WhileLocked D.honest D.state K.start (λ old new. IsTurnRefused D.honest D.state old r new)) }
     {
         for _ in rt.forever() {
             if !gate.before() {

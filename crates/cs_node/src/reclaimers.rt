@@ -1,40 +1,50 @@
 //! Who sweeps extents.
-ghost use Rattle.std.specs.Prelude.{◌≡◌, ◌⊎◌, ◌^◌, ◌-◌, ◌<◌, IfErr, IfSome, MatchOption};
-ghost use Rattle.cs_node.specs.Dues.{IsLeastFrom, IsNextAfter, IsSweepTurn, NoneFrom};
+ghost use Rattle.std.specs.Prelude.{◌≡◌, ◌⊎◌, ◌^◌, ◌-◌, ◌<◌, ◌≤◌, IfErr, IfOk, IfSome, IsTrue, MatchOption};
 ghost use Rattle.cs_node.specs.Locks.{IsBehind, WhileLocked};
+ghost use Rattle.cs_node.specs.Sweeps.{HasSwept, IsIdle, IsLeastFrom, IsNextAfter, IsNextEvent, IsSweepRefused, IsSweepTurn, NoneFrom, Reclaiming, after_event, after_refusal, unbegun};
 
 use crate::boards::{Naming, Shown};
-use crate::gates::{Gate, Step};
+use crate::gates::{Gate, Step, step_of};
 use crate::locked::Locked;
 use crate::nodes::Node;
 use cs_core::{Core, Event, Reply};
 use cs_deps::Refusal;
 use cs_disk::PageDisk;
+use std::marker::Model;
 use std::sync::Wait;
 use std::thread;
 
-/// What comes next of a sweep.
+/// What comes next of a sweep, and of which extent.
 #[derive(Clone, Copy, Debug)]
-enum Next {
+pub enum Next {
     Begin,
     Move(usize),
     Retire(usize),
     Abandon(usize),
 }
 
-/// Sweeps extents, one after another.
+/// Sweeps extents, one after another. Contracts see how many sweeps it may begin yet, the extent that it began last, and what comes
+/// next.
 #[derive(Debug, Drop)]
 pub struct Reclaimer {
-    // how many sweeps it may begin yet
     sweeps: u32,
-    // the extent that it began last
     last: Option<usize>,
     next: Next,
 }
 
+impl Model for Reclaimer {
+    ghost use Rattle.cs_node.specs.Sweeps.{Reclaiming};
+
+    ghost Value = { Reclaiming };
+
+    ghost view = { λ r. record { left = r.sweeps; begun = r.last; next = r.next } };
+}
+
 impl Reclaimer {
     /// One that begins at most so many sweeps.
-    pub fn new(sweeps: u32) -> Self {
+    pub fn new(sweeps: u32) -> Self
+        ensures { result ≡ unbegun sweeps }
+    {
         Reclaimer {
             sweeps,
             last: None,
@@ -53,7 +63,7 @@ impl Reclaimer {
         node: &Node<D, K>,
         gate: &G,
     ) -> Result<Step, Refusal>
-        ensures { WhileLocked D.honest D.state K.start (λ old new. IsSweepTurn D.honest D.state old result new) }
+        ensures { WhileLocked D.honest D.state K.start (λ old new. IsSweepTurn D.honest D.state old self.old result new self.new) }
     {
         node.state.lock(rt).sweep(&node.words.shared, self, gate)
     }
@@ -66,10 +76,13 @@ impl Reclaimer {
         node: &Node<D, K>,
         gate: &G,
     ) -> Result<(), Refusal>
-        ensures { IfErr result (λ r. (r ≡ Refusal.Halted) ⊎ (r ≡ Refusal.HistoryFull)) }
+        ensures ok { IfOk result (λ _. HasSwept self.new ⊎ G.ended gate.now) }
+        ensures err { IfErr result (λ r. (r ≡ Refusal.Halted) ⊎ (r ≡ Refusal.HistoryFull)) }
+        ensures refused { IfErr result (λ r. WhileLocked D.honest D.state K.start (λ old new. (was : Reclaiming) × IsSweepRefused D.honest D.state old was r new self.new)) }
+        ensures left { self.new.left ≤ self.old.left }
     {
         for _ in rt.forever() {
-            if self.is_done() || !gate.before() {
+            if self.has_swept() || !gate.before() {
                 return Ok(());
             }
             match self.turn(rt, node, gate) {
@@ -84,13 +97,64 @@ impl Reclaimer {
     }
 
     /// Whether no sweep is going on and none may be begun.
-    fn is_done(&self) -> bool {
+    fn has_swept(&self) -> bool
+        ensures { IsTrue result → HasSwept self.now }
+    {
         self.sweeps == 0 && matches!(self.next, Next::Begin)
+    }
+
+    /// The event that comes next, None where none may be done.
+    fn next_event<D: PageDisk>(&self, core: &Core<D>) -> Option<Event>
+        ensures { MatchOption result (IsIdle core.now.store self.now) (λ event. IsNextEvent core.now.store self.now event) }
+    {
+        match self.next {
+            Next::Begin => {
+                if self.sweeps == 0 {
+                    return None;
+                }
+                match next_extent(core, self.last) {
+                    Some(extent) => Some(Event::BeginSweep(extent)),
+                    None => None,
+                }
+            }
+            Next::Move(extent) => Some(Event::MoveOne(extent)),
+            Next::Retire(extent) => Some(Event::Retire(extent)),
+            Next::Abandon(extent) => Some(Event::Abandon(extent)),
+        }
+    }
+
+    /// Goes on after an event that was done.
+    fn go_on(&mut self, event: &Event, reply: &Reply)
+        ensures { self.new ≡ after_event self.old event.now reply.now }
+    {
+        match event {
+            Event::BeginSweep(extent) => {
+                self.sweeps = self.sweeps.saturating_sub(1);
+                self.last = Some(*extent);
+                self.next = Next::Move(*extent);
+            }
+            Event::MoveOne(extent) => {
+                if let Reply::NoneLive = reply {
+                    self.next = Next::Retire(*extent);
+                }
+            }
+            Event::Retire(_) | Event::Abandon(_) => self.next = Next::Begin,
+            _ => {}
+        }
+    }
+
+    /// Gives a sweep up whose event was refused.
+    fn give_up(&mut self, event: &Event)
+        ensures { self.new ≡ after_refusal self.old event.now }
+    {
+        if let Event::MoveOne(extent) | Event::Retire(extent) = event {
+            self.next = Next::Abandon(*extent);
+        }
     }
 }
 
 impl<D: PageDisk, K: Naming> Locked<D, K> {
-    /// Does the next event of a sweep.
+    /// Does the next event of a sweep. Refused as the event is, 9 OutOfMemory and 41 HistoryFull.
     fn sweep<G: Gate>(
         &mut self,
         board: &Shown,
@@ -98,63 +162,23 @@ impl<D: PageDisk, K: Naming> Locked<D, K> {
         gate: &G,
     ) -> Result<Step, Refusal>
         requires { (board.now.table_id ≡ K.table) × (board.now.table_id.words ≡ 1) }
-        ensures turn { IsSweepTurn D.honest D.state self.old.core result self.new.core }
+        ensures turn { IsSweepTurn D.honest D.state self.old.core reclaimer.old result self.new.core reclaimer.new }
+        ensures given { (self.new.given ≡ self.old.given) × (self.new.piloted ≡ self.old.piloted) }
         ensures behind { IsBehind D.honest D.state K.start self.old.core }
     {
-        match reclaimer.next {
-            Next::Begin => self.begin_sweep(board, reclaimer, gate),
-            Next::Move(extent) => match self.work(board, &Event::MoveOne(extent), gate) {
-                Ok(Reply::NoneLive) => {
-                    reclaimer.next = Next::Retire(extent);
-                    Ok(Step::MoveOne)
-                }
-                Ok(_) => Ok(Step::MoveOne),
-                Err(refusal) => {
-                    reclaimer.next = Next::Abandon(extent);
-                    Err(refusal)
-                }
-            },
-            Next::Retire(extent) => match self.work(board, &Event::Retire(extent), gate) {
-                Ok(_) => {
-                    reclaimer.next = Next::Begin;
-                    Ok(Step::Retire)
-                }
-                Err(refusal) => {
-                    reclaimer.next = Next::Abandon(extent);
-                    Err(refusal)
-                }
-            },
-            Next::Abandon(extent) => {
-                self.work(board, &Event::Abandon(extent), gate)?;
-                reclaimer.next = Next::Begin;
-                Ok(Step::Abandon)
-            }
-        }
-    }
-
-    /// Begins a sweep, if one may be begun.
-    fn begin_sweep<G: Gate>(
-        &mut self,
-        board: &Shown,
-        reclaimer: &mut Reclaimer,
-        gate: &G,
-    ) -> Result<Step, Refusal>
-        requires { (board.now.table_id ≡ K.table) × (board.now.table_id.words ≡ 1) }
-        ensures turn { IsSweepTurn D.honest D.state self.old.core result self.new.core }
-        ensures behind { IsBehind D.honest D.state K.start self.old.core }
-    {
-        let chosen = next_extent(self.core(), reclaimer.last);
-        if reclaimer.sweeps == 0 {
-            return Ok(Step::Idle);
-        }
-        let Some(extent) = chosen else {
+        let Some(event) = reclaimer.next_event(self.core()) else {
             return Ok(Step::Idle);
         };
-        self.work(board, &Event::BeginSweep(extent), gate)?;
-        reclaimer.sweeps -= 1;
-        reclaimer.last = Some(extent);
-        reclaimer.next = Next::Move(extent);
-        Ok(Step::BeginSweep)
+        match self.work(board, &event, gate) {
+            Ok(reply) => {
+                reclaimer.go_on(&event, &reply);
+                Ok(step_of(&event))
+            }
+            Err(refusal) => {
+                reclaimer.give_up(&event);
+                Err(refusal)
+            }
+        }
     }
 }
 

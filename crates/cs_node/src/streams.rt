@@ -1,5 +1,5 @@
 //! Who writes back under steady load.
-ghost use Rattle.std.specs.Prelude.{◌≡◌, IfErr, MatchOption};
+ghost use Rattle.std.specs.Prelude.{◌≡◌, IfErr, IfOk, MatchOption};
 ghost use Rattle.cs_node.specs.Dues.{IsAtRest};
 ghost use Rattle.cs_node.specs.Locks.{IsBehind, WhileLocked};
 ghost use Rattle.cs_node.specs.Streams.{IsNext, IsStreamRefused, IsStreamTurn};
@@ -57,7 +57,8 @@ impl<K: Naming> Stream<K> {
         node: &Node<D, K>,
         gate: &G,
     ) -> Result<(), Refusal>
-        ensures { IfErr result (λ r. WhileLocked D.honest D.state K.start (λ old new. IsStreamRefused D.honest D.state old r new)) }
+        ensures ok { IfOk result (λ _. G.ended gate.now) }
+        ensures err { IfErr result (λ r. WhileLocked D.honest D.state K.start (λ old new. IsStreamRefused D.honest D.state old r new)) }
     {
         for _ in rt.forever() {
             if !gate.before() {

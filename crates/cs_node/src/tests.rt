@@ -2,13 +2,15 @@
 ghost use Rattle.std.specs.Prelude.{◌≡◌, [], IfOk};
 ghost use Rattle.cs_node.specs.Starts.{start_of};
 
+mod losses;
+mod sweeps;
 mod threads;
 mod workers;
 
 use super::*;
 use cs_core::{Bytes, Core, Limits};
 use cs_deps::Refusal;
-use cs_disk::MemoryDisk;
+use cs_disk::{MemoryDisk, PageDisk};
 use cs_frame::{Geometry, ShardId};
 use std::alloc::Global;
 use std::marker::Brand;
@@ -39,6 +41,25 @@ fn one_byte(alloc: Global, byte: u8) -> Result<Bytes, Fail> {
     let mut bytes = Vec::new(alloc);
     bytes.push(byte)?;
     Ok(Bytes::new(alloc, bytes)?)
+}
+
+/// One byte, None where there is no memory.
+fn bytes_of(alloc: Global, byte: u8) -> Option<Bytes> {
+    let mut bytes = Vec::new(alloc);
+    bytes.push(byte).ok()?;
+    Bytes::new(alloc, bytes).ok()
+}
+
+/// Puts a shard under the identifier that ends with this byte, which is its content too. None where that was refused.
+fn put<D: PageDisk, K: Naming, R: Wait>(
+    rt: &R,
+    alloc: Global,
+    node: &Node<D, K>,
+    purse: &mut Purse<K>,
+    last: u8,
+) -> Option<Ticket<K>> {
+    let bytes = bytes_of(alloc, last)?;
+    node.put(rt, purse, id(last), bytes).ok()
 }
 
 #[test]
@@ -90,7 +111,7 @@ fn settles_and_polls<K: Naming, R: Wait + Abort>(
 }
 
 #[test]
-fn a_poll_after_a_sync_acknowledges(rt: HostRuntime) -> Result<(), Fail> {
+fn a_poll_before_and_after_a_sync(rt: HostRuntime) -> Result<(), Fail> {
     let board = Board::new(rt.alloc())?;
     let core = new_core(rt.alloc(), 64)?;
     polls_alone::<Brand, _>(&rt, rt.alloc(), board, core)
@@ -111,11 +132,16 @@ fn polls_alone<K: Naming, R: Wait + Abort>(
     let Ok(ticket) = node.put(rt, &mut purse, id(10), bytes) else {
         panic!(rt; "a put")
     };
+    assert_eq!(rt; ticket.number(), 1);
+    let Polled::Back(ticket, 0) = purse.poll(&node, ticket) else {
+        panic!(rt; "a poll before")
+    };
     let mut pilot = node.pilot(rt).expect(rt, "the pilot");
     assert!(rt; matches!(node.sync(rt, &mut pilot), Ok(1)));
     let Polled::Done(ack) = purse.poll(&node, ticket) else {
         panic!(rt; "a poll after")
     };
+    assert_eq!(rt; ack.number(), 1);
     assert_eq!(rt; purse.places(alloc)?.as_slice(), [0].as_slice());
     assert!(rt; purse.keep_ack(ack).is_ok());
     let mut purses = Vec::new(alloc);
@@ -123,6 +149,7 @@ fn polls_alone<K: Naming, R: Wait + Abort>(
     let Ok(closed) = node.rest().close(alloc, purses) else {
         panic!(rt; "a close")
     };
+    assert_eq!(rt; closed.accepted, 1);
     assert_eq!(rt; closed.acknowledged, 1);
     Ok(())
 }
@@ -216,7 +243,10 @@ fn gets_and_deletes<K: Naming, R: Wait + Abort>(
     assert!(rt; matches!(node.delete(rt, &mut purse, id(10)), Ok(None)));
     assert!(rt; matches!(node.get(rt, &mut purse, id(10)), Ok(None)));
     let bytes = one_byte(alloc, 6)?;
-    assert!(rt; node.put(rt, &mut purse, id(10), bytes).is_ok());
+    let Ok(first) = node.put(rt, &mut purse, id(10), bytes) else {
+        panic!(rt; "a put")
+    };
+    assert_eq!(rt; first.number(), 1);
     let Ok(Some(found)) = node.get(rt, &mut purse, id(10)) else {
         panic!(rt; "a get")
     };

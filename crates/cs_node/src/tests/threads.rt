@@ -2,7 +2,7 @@
 ghost use Rattle.std.specs.Prelude.{◌≡◌, [], IfOk};
 ghost use Rattle.cs_node.specs.Starts.{start_of};
 
-use super::{id, new_core, one_byte};
+use super::{id, new_core, one_byte, put};
 use crate::*;
 use cs_core::{Bytes, Core};
 use cs_disk::{MemoryDisk, PageDisk};
@@ -184,12 +184,15 @@ struct KeepsPilot {
 
 impl Gate for KeepsPilot {
     fn before(&self) -> bool {
+        if self.ended.load(Ordering::SeqCst) == 1 {
+            return false;
+        }
         if self.began.load(Ordering::SeqCst) == 1
             && self.signals.reached.load(Ordering::SeqCst) == 0
         {
             self.signals.keep();
         }
-        self.ended.load(Ordering::SeqCst) == 0
+        true
     }
 
     fn within(&self, step: Step) {
@@ -315,20 +318,11 @@ fn sends<D: PageDisk, K: Naming, R: Wait>(
     last: u8,
 ) -> Purse<K> {
     for byte in [last, last | 1] {
-        if let Some(bytes) = bytes_of(alloc, byte)
-            && let Ok(ticket) = node.put(rt, &mut purse, id(byte), bytes)
-        {
+        if let Some(ticket) = put(rt, alloc, node, &mut purse, byte) {
             let _ = ramp.carry(rt, ticket);
         }
     }
     purse
-}
-
-/// One byte, None where there is no memory.
-fn bytes_of(alloc: Global, byte: u8) -> Option<Bytes> {
-    let mut bytes = Vec::new(alloc);
-    bytes.push(byte).ok()?;
-    Bytes::new(alloc, bytes).ok()
 }
 
 /// Keeps all tickets that come.

@@ -2,7 +2,7 @@
 ghost use Rattle.std.specs.Prelude.{◌≡◌, [], IfOk};
 ghost use Rattle.cs_node.specs.Starts.{start_of};
 
-use super::{id, new_core, one_byte};
+use super::{id, new_core, one_byte, put};
 use crate::*;
 use cs_core::{Core, Limits};
 use cs_deps::Refusal;
@@ -17,13 +17,13 @@ use std::test::*;
 
 /// A gate that lets through so many turns, and counts events.
 #[derive(Drop)]
-struct Counts {
-    turns: AtomicU64,
-    events: AtomicU64,
+pub struct Counts {
+    pub turns: AtomicU64,
+    pub events: AtomicU64,
 }
 
 impl Counts {
-    fn new(turns: u64) -> Self {
+    pub fn new(turns: u64) -> Self {
         Counts {
             turns: AtomicU64::new(turns),
             events: AtomicU64::new(0),
@@ -107,6 +107,38 @@ fn streams<K: Naming, R: Wait + Abort>(
     assert_eq!(rt; stream.turn(rt, &node, &Open), Ok(Step::Begin));
     let mut pilot = stream.into_pilot();
     assert!(rt; matches!(node.sync(rt, &mut pilot), Ok(2)));
+    Ok(())
+}
+
+#[test]
+fn a_stream_runs_until_its_gate_ends_it(rt: HostRuntime) -> Result<(), Fail> {
+    let board = Board::new(rt.alloc())?;
+    let core = new_core(rt.alloc(), 64)?;
+    streams_to_its_end::<Brand, _>(&rt, rt.alloc(), board, core)
+}
+
+fn streams_to_its_end<K: Naming, R: Wait + Abort>(
+    rt: &R,
+    alloc: Global,
+    board: Board,
+    core: Core<MemoryDisk>,
+) -> Result<(), Fail>
+    requires named { (board ≡ K.table) × (start_of core ≡ K.start) }
+    requires new { (core.history ≡ []) × (core.store.accepted ≡ 0) × (core.store.frontier ≡ 0) }
+{
+    let node = Node::<MemoryDisk, K>::new(board, core);
+    let mut purse = node.purse(rt, alloc).expect(rt, "a purse");
+    let ticket = put(rt, alloc, &node, &mut purse, 10).expect(rt, "a put");
+    let pilot = node.pilot(rt).expect(rt, "the pilot");
+    let mut stream = Stream::new(pilot);
+    let gate = Counts::new(64);
+    assert!(rt; stream.run(rt, &node, &gate).is_ok());
+    assert_eq!(rt; gate.turns.load(Ordering::SeqCst), 0);
+    assert_eq!(rt; gate.events.load(Ordering::SeqCst), 11);
+    let Polled::Done(ack) = purse.poll(&node, ticket) else {
+        panic!(rt; "a poll after")
+    };
+    assert_eq!(rt; ack.number(), 1);
     Ok(())
 }
 
