@@ -6,7 +6,7 @@ ghost use Rattle.cs_deps.specs.Pending.{IsStaged, IsPersistent, Needs, Waits};
 ghost use Rattle.cs_deps.specs.Schedule.{IsSchedule, Respects, Covers, IsFewest};
 ghost use Rattle.cs_deps.specs.Chain.{IsChain, IsChainOf, IsHeight, LastIs};
 ghost use Rattle.cs_deps.specs.Staging.{IsKept};
-ghost use Rattle.cs_deps.specs.State.{everything, IsQueue, IsReady};
+ghost use Rattle.cs_deps.specs.State.{everything, IsQueue, IsReady, IsWhole};
 ghost use Rattle.cs_plan.specs.Queues.{AreListed, backwards};
 ghost use Rattle.std.specs.Global.{Global as Heap};
 ghost use Rattle.cs_deps.specs.Rounds.{AreRounds};
@@ -52,6 +52,13 @@ pub fn plan_view(alloc: Global, view: &GraphView, target: &Dependency) -> Result
     Ok(Plan { rounds, chain })
 }
 
+/// What each graph keeps, which `families` tells beside its answer. It is called for its contract alone.
+fn each_graph_is_whole(graph: &Graph)
+    ensures { IsWhole graph.now }
+{
+    graph.families();
+}
+
 /// The plan of a target that was staged: the queues of what waits one after another, less what the target doesn't need.
 fn plan_staged(alloc: Global, graph: &Graph, target: &Dependency) -> Result<Plan, AllocError>
     requires none { graph.now.round ≡ None }
@@ -65,7 +72,7 @@ fn plan_staged(alloc: Global, graph: &Graph, target: &Dependency) -> Result<Plan
     ensures no_empty { IfOk result (λ plan. All (λ round. 0 < length round) (rounds_of plan)) }
     ensures rounds { IfOk result (λ plan. AreRounds graph.now.staging.pending target.now (rounds_of plan)) }
 {
-    let _families = graph.families();
+    each_graph_is_whole(graph);
     let wanted = graph.wanted(target)?;
     let rounds = wanted_rounds(alloc, graph, &wanted, graph.depth())?;
     let chain = shown_last(alloc, graph, &rounds)?;
@@ -130,7 +137,7 @@ fn plan_queues(alloc: Global, graph: &Graph) -> Result<Plan, AllocError>
     ensures no_empty { IfOk result (λ plan. All (λ round. 0 < length round) (rounds_of plan)) }
     ensures rounds { IfOk result (λ plan. AreRounds graph.now.staging.pending (everything graph.now.staging) (rounds_of plan)) }
 {
-    let _families = graph.families();
+    each_graph_is_whole(graph);
     let depth = graph.depth();
     let rounds = queues(alloc, graph, depth)?;
     let chain = shown(alloc, graph, &rounds)?;
@@ -196,8 +203,7 @@ pub fn follow(
 {
     let mut made = Vec::new(alloc);
     let mut element = end;
-    for i in 0..height {
-        let _turn = i;
+    for _ in 0..height {
         made.push(element)?;
         element = earlier(graph, element);
     }
@@ -241,7 +247,7 @@ pub fn next_round(alloc: Global, graph: &Graph) -> Result<Vec<Element>, Refusal>
     if graph.is_out() {
         return Err(Refusal::InFlight);
     }
-    let _families = graph.families();
+    each_graph_is_whole(graph);
     let queue = graph.queue(1)?;
     Ok(queue)
 }
