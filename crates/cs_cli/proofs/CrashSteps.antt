@@ -1,5 +1,5 @@
 -- What a crash leaves, and what is printed of it.
-use Rattle.std.proofs.Common.{◌≡◌, ◌∙◌, ◌⊎◌, ℕ, Bool, List, ◌++◌, length, None, sym, subst, refl, inl, inr}
+use Rattle.std.proofs.Common.{◌≡◌, ◌⊎◌, ℕ, Bool, List, ◌++◌, length, None, sym, subst, refl, inl, inr}
 use Rattle.std.specs.Prelude.{Option, ◌↔◌}
 use Rattle.std.specs.Io.KnownBytes.{Appends}
 use Rattle.cs_deps.specs.declared.refusals.Refusal.{Refusal}

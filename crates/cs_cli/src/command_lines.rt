@@ -2,16 +2,17 @@
 ghost use Rattle.std.specs.Prelude.{◌≤◌};
 
 use crate::checks::run_check;
+use crate::options::{command, geometry_of, race_of};
 use crate::outputs::print_no_store;
-use crate::races::{new_core as new_race_core, race_command, race_of, run_race};
+use crate::progress::{takes_time, tell_ended, tell_making};
+use crate::races::{new_core as new_race_core, run_race};
 use crate::statuses;
 use crate::stores::{new_in_file, new_in_memory, open_in_file, run_over};
-use clap::{Arg, ArgAction, ArgMatches, Command};
+use clap::ArgMatches;
 use cs_core::Core;
 use cs_deps::Refusal;
 use cs_disk::{FileDisk, MemoryDisk};
-use cs_frame::Geometry;
-use std::alloc::{AllocError, Global};
+use std::alloc::Global;
 use std::fs::File;
 use std::io::BufWriter;
 use std::rt::{Env, Files};
@@ -19,10 +20,10 @@ use std::sync::Wait;
 use std::thread::Threads;
 use std::{env, io};
 
-/// Does what the command line asks for, and gives the exit status.
+/// Does what the command line asks for, and gives the exit status. It is told whether standard error is a terminal.
 pub fn run<
     R: Env + AllocGlobal + Files<File = File> + Input + Print + Eprint + Threads + Wait + Sync,
->(rt: &R) -> u8
+>(rt: &R, terminal: bool) -> u8
 where
     R::Reader: Drop,
     ensures { result ≤ 4 }
@@ -41,7 +42,7 @@ where
     match command.try_get_matches_from(words.as_slice()) {
         // A subcommand is required, and there are but three.
         Ok(matches) => match matches.subcommand_matches("run") {
-            Some(options) => run_standard_input(rt, options),
+            Some(options) => run_standard_input(rt, options, terminal),
             None => match matches.subcommand_matches("race") {
                 Some(options) => race_threads(rt, options),
                 None => check_standard_input(rt),
@@ -64,81 +65,11 @@ fn words_given<R: Env + AllocGlobal>(rt: &R) -> io::Result<Vec<String>> {
     Ok(words)
 }
 
-/// The command line that is understood.
-fn command<'a>(alloc: Global) -> Result<Command<'a>, AllocError> {
-    let check = Command::new(alloc, "check").about("Checks a plan document from standard input");
-    Command::new(alloc, "cs_cli")
-        .about("A chunk store that writes back with the fewest flushes")
-        .subcommand_required(true)
-        .subcommand(run_command(alloc)?)?
-        .subcommand(race_command(alloc)?)?
-        .subcommand(check)
-}
-
-/// The command that runs a script.
-fn run_command<'a>(alloc: Global) -> Result<Command<'a>, AllocError> {
-    Command::new(alloc, "run")
-        .about("Runs a script from standard input over a store in memory, or in a file")
-        .after_help(RUN_EXAMPLES)
-        .arg(number(
-            alloc,
-            "extents",
-            "6",
-            "How many extents a new store has, 4 to 512",
-        ))?
-        .arg(number(
-            alloc,
-            "pages",
-            "2",
-            "How many pages of 4,096 bytes an extent of a new store has, 2 to 256",
-        ))?
-        .arg(
-            Arg::new(alloc, "file")
-                .long("file")
-                .value_name("PATH")
-                .action(ArgAction::Set)
-                .help("The file that the store is in; without it the store is in memory"),
-        )?
-        .arg(
-            Arg::new(alloc, "new")
-                .long("new")
-                .action(ArgAction::SetTrue)
-                .help("Makes a new store in the file, and loses what is in it"),
-        )
-}
-
-/// What help says after the options of `run`.
-const RUN_EXAMPLES: &str = "Examples:
-  cs_cli run --extents 64 --pages 8 < script             a store in memory, gone at the end
-  cs_cli run --file s.store --new --extents 64 < script  a new store of 130 pages in a file
-  cs_cli run --file s.store < script                     the store that is there, as it is there
-
-With --file alone the geometry is the store's own. Without --file, --new has no effect.";
-
-/// An option that takes a number.
-fn number<'a>(alloc: Global, name: &'a str, default: &'a str, help: &'a str) -> Arg<'a> {
-    Arg::new(alloc, name)
-        .long(name)
-        .action(ArgAction::Set)
-        .value_parser(clap::value_parser!(u64))
-        .default_value(default)
-        .help(help)
-}
-
-/// The geometry that the options ask for. Refused 7 BadGeometry.
-fn geometry_of(options: &ArgMatches) -> Result<Geometry, Refusal> {
-    let extents = options.get_one::<u64>("extents").unwrap_or(6);
-    let pages = options.get_one::<u64>("pages").unwrap_or(2);
-    match Geometry::new(extents, pages) {
-        Ok(geometry) => Ok(geometry),
-        Err(_) => Err(Refusal::BadGeometry),
-    }
-}
-
 /// Runs the script on standard input over the store that the options name.
-fn run_standard_input<R: AllocGlobal + Files<File = File> + Input + Print>(
+fn run_standard_input<R: AllocGlobal + Files<File = File> + Input + Print + Eprint>(
     rt: &R,
     options: &ArgMatches,
+    terminal: bool,
 ) -> u8
 where
     R::Reader: Drop,
@@ -150,7 +81,10 @@ where
     };
     match options.get_str("file") {
         None => run_over(alloc, in_memory(alloc, options), rt.reader(), &mut writer),
-        Some(path) => run_over(alloc, in_file(rt, path, options), rt.reader(), &mut writer),
+        Some(path) => {
+            let store = in_file(rt, path, options, terminal);
+            run_over(alloc, store, rt.reader(), &mut writer)
+        }
     }
 }
 
@@ -160,18 +94,26 @@ fn in_memory(alloc: Global, options: &ArgMatches) -> Result<Core<MemoryDisk>, Re
 }
 
 /// The store in a file: a new one of the geometry that the options ask for, where they do, else the one that is there. Refused
-/// 7 BadGeometry before the file is touched.
-fn in_file<R: AllocGlobal + Files<File = File>>(
+/// 7 BadGeometry before the file is touched. On a terminal it is told of a large one that it is made.
+fn in_file<R: AllocGlobal + Files<File = File> + Eprint>(
     rt: &R,
     path: &str,
     options: &ArgMatches,
+    terminal: bool,
 ) -> Result<Core<FileDisk>, Refusal> {
-    if options.get_flag("new") {
-        let geometry = geometry_of(options)?;
-        new_in_file(rt, rt.alloc(), path, geometry)
-    } else {
-        open_in_file(rt, rt.alloc(), path)
+    if !options.get_flag("new") {
+        return open_in_file(rt, rt.alloc(), path);
     }
+    let geometry = geometry_of(options)?;
+    let tells = terminal && takes_time(geometry.device_pages());
+    if tells {
+        tell_making(rt, path, geometry.device_pages());
+    }
+    let store = new_in_file(rt, rt.alloc(), path, geometry);
+    if tells {
+        tell_ended(rt, path, store.is_ok());
+    }
+    store
 }
 
 /// Checks the plan document on standard input.

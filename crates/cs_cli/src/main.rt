@@ -9,8 +9,10 @@ mod command_lines;
 mod crashes;
 mod documents;
 mod lines;
+mod options;
 mod outputs;
 mod plans;
+mod progress;
 mod racers;
 mod races;
 mod scripts;
@@ -21,10 +23,12 @@ mod sweeps;
 mod syncs;
 #[cfg(test)]
 mod tests;
+mod traffic;
 mod turns;
 
+use std::io::IsTerminal;
 use std::process::ExitCode;
 
 fn main(rt: HostRuntime) -> ExitCode {
-    ExitCode::from(command_lines::run(&rt))
+    ExitCode::from(command_lines::run(&rt, rt.stderr().is_terminal()))
 }

@@ -1,8 +1,9 @@
 //! What the threads of a race do.
-ghost use Rattle.std.specs.Prelude.{◌≤◌, ◌<◌, ◌+◌, IfErr};
+ghost use Rattle.std.specs.Prelude.{◌≤◌, ◌<◌, IfErr};
 ghost use Rattle.cs_cli.specs.Races.{IsNoRace};
 
 use crate::races::Race;
+use crate::traffic::Traffic;
 use cs_core::Bytes;
 use cs_deps::Refusal;
 use cs_disk::PageDisk;
@@ -12,7 +13,6 @@ use cs_node::{
     Ticket, ferry,
 };
 use std::alloc::{AllocError, Global};
-use std::sync::atomic::{AtomicU64, Ordering};
 use std::sync::{Arc, Wait};
 
 /// How many tickets may be under way.
@@ -20,9 +20,6 @@ const PLACES: usize = 1024;
 
 /// How many sweeps the reclaimer begins at most.
 const SWEEPS: u32 = 8;
-
-/// Whether all tickets were polled for the last time.
-type Ended = Arc<AtomicU64, Global>;
 
 /// What one thread does.
 #[derive(Drop)]
@@ -35,7 +32,7 @@ pub enum Racer<K: Naming> {
 
 /// What one thread hands back.
 #[derive(Drop)]
-pub enum Ran<K: Naming> {
+pub enum Returned<K: Naming> {
     /// A purse, and how many shards were read back.
     Called(Purse<K>, u64),
     WroteBack(Pilot<K>),
@@ -50,6 +47,7 @@ pub struct Putter<K: Naming> {
     thread: u64,
     purse: Purse<K>,
     ramp: Ramp<K>,
+    traffic: Arc<Traffic, Global>,
     ghost among: { thread < 64 },
 }
 
@@ -59,7 +57,7 @@ pub struct Acknowledger<K: Naming> {
     purse: Purse<K>,
     dock: Dock<K>,
     waiting: Vec<Ticket<K>>,
-    ended: Ended,
+    finish: Finish,
 }
 
 /// Writes back until all tickets were polled.
@@ -80,18 +78,31 @@ pub struct Sweeper {
 /// The gate of the workers.
 #[derive(Drop)]
 struct Until {
-    ended: Ended,
+    traffic: Arc<Traffic, Global>,
 }
 
 impl Gate for Until {
     fn before(&self) -> bool {
-        self.ended.load(Ordering::SeqCst) == 0
+        !self.traffic.has_ended()
     }
 
     fn within(&self, _step: Step) {}
 }
 
-/// All that run in a race. Refused 9 OutOfMemory, and 35 WornOut where the node has no purse left.
+/// Ends the traffic once it is let go, also where no ticket was ever polled since memory for the threads was refused.
+struct Finish {
+    traffic: Arc<Traffic, Global>,
+}
+
+impl Drop for Finish {
+    fn drop(self) {
+        let Finish { traffic } = self;
+        traffic.end();
+    }
+}
+
+/// All that run in a race, each behind those that it waits for: so they end too where no thread can be made and they run one after
+/// another. Refused 9 OutOfMemory, and 35 WornOut where the node has no purse left.
 pub fn racers<D: PageDisk, K: Naming, R: Wait>(
     rt: &R,
     alloc: Global,
@@ -101,8 +112,44 @@ pub fn racers<D: PageDisk, K: Naming, R: Wait>(
 ) -> Result<Vec<Racer<K>>, Refusal>
     ensures { IfErr result IsNoRace }
 {
-    let ended = Arc::new(alloc, AtomicU64::new(0))?;
+    let traffic = Arc::new(alloc, Traffic::new())?;
     let (ramp, dock) = ferry(alloc, PLACES)?;
+    let mut racers = putters(rt, alloc, node, race, &ramp, &traffic)?;
+    let purse = node.purse(rt, alloc)?;
+    racers.reserve(3)?;
+    racers.push_reserved(Racer::Acknowledge(Acknowledger {
+        purse,
+        dock,
+        waiting: Vec::new(alloc),
+        finish: Finish {
+            traffic: Arc::try_clone(&traffic)?,
+        },
+    }));
+    racers.push_reserved(Racer::WriteBack(Writer {
+        pilot,
+        streams: race.streams(),
+        until: Until {
+            traffic: Arc::try_clone(&traffic)?,
+        },
+    }));
+    racers.push_reserved(Racer::Sweep(Sweeper {
+        reclaimer: Reclaimer::new(SWEEPS),
+        until: Until { traffic },
+    }));
+    Ok(racers)
+}
+
+/// Those that put, each with a ramp of its own. Refused as `racers`.
+fn putters<D: PageDisk, K: Naming, R: Wait>(
+    rt: &R,
+    alloc: Global,
+    node: &Node<D, K>,
+    race: Race,
+    ramp: &Ramp<K>,
+    traffic: &Arc<Traffic, Global>,
+) -> Result<Vec<Racer<K>>, Refusal>
+    ensures { IfErr result IsNoRace }
+{
     let mut racers = Vec::new(alloc);
     for thread in 0..race.threads() {
         racers.reserve(1)?;
@@ -112,43 +159,23 @@ pub fn racers<D: PageDisk, K: Naming, R: Wait>(
             thread,
             purse: node.purse(rt, alloc)?,
             ramp: ramp.another()?,
+            traffic: Arc::try_clone(traffic)?,
         }));
     }
-    let purse = node.purse(rt, alloc)?;
-    racers.reserve(3)?;
-    racers.push_reserved(Racer::WriteBack(Writer {
-        pilot,
-        streams: race.streams(),
-        until: Until {
-            ended: Arc::try_clone(&ended)?,
-        },
-    }));
-    racers.push_reserved(Racer::Sweep(Sweeper {
-        reclaimer: Reclaimer::new(SWEEPS),
-        until: Until {
-            ended: Arc::try_clone(&ended)?,
-        },
-    }));
-    racers.push_reserved(Racer::Acknowledge(Acknowledger {
-        purse,
-        dock,
-        waiting: Vec::new(alloc),
-        ended,
-    }));
     Ok(racers)
 }
 
 impl<D: PageDisk + Send, K: Naming + Send + Sync> Job<Node<D, K>> for Racer<K> {
-    type Out = Ran<K>;
+    type Out = Returned<K>;
 
-    fn run<R: Wait>(self, rt: &R, node: &Node<D, K>) -> Ran<K> {
+    fn run<R: Wait>(self, rt: &R, node: &Node<D, K>) -> Returned<K> {
         match self {
             Racer::Put(putter) => putter.run(rt, node),
             Racer::Acknowledge(acknowledger) => acknowledger.run(rt, node),
             Racer::WriteBack(writer) => writer.run(rt, node),
             Racer::Sweep(mut sweeper) => {
                 let _ = sweeper.reclaimer.run(rt, node, &sweeper.until);
-                Ran::Swept
+                Returned::Swept
             }
         }
     }
@@ -156,13 +183,14 @@ impl<D: PageDisk + Send, K: Naming + Send + Sync> Job<Node<D, K>> for Racer<K> {
 
 impl<K: Naming> Putter<K> {
     /// Puts all its shards. A refused put isn't tried again.
-    fn run<D: PageDisk, R: Wait>(self, rt: &R, node: &Node<D, K>) -> Ran<K> {
+    fn run<D: PageDisk, R: Wait>(self, rt: &R, node: &Node<D, K>) -> Returned<K> {
         let Putter {
             alloc,
             race,
             thread,
             mut purse,
             ramp,
+            traffic,
         } = self;
         let mut dropped = if thread == 0 { race.dropped() } else { 0 };
         let mut read_back = 0u64;
@@ -176,11 +204,25 @@ impl<K: Naming> Putter<K> {
             }
             if dropped > 0 {
                 dropped -= 1;
-            } else if let Err(ticket) = ramp.carry(rt, ticket) {
+            } else if let Err(ticket) = send(rt, &traffic, &ramp, ticket) {
                 let _ = purse.keep_ticket(ticket);
             }
         }
-        Ran::Called(purse, read_back)
+        Returned::Called(purse, read_back)
+    }
+}
+
+/// Sends a ticket off. It comes back where nobody takes it.
+fn send<K: Naming, R: Wait>(
+    rt: &R,
+    traffic: &Traffic,
+    ramp: &Ramp<K>,
+    ticket: Ticket<K>,
+) -> Result<(), Ticket<K>> {
+    if traffic.has_room(PLACES) {
+        ramp.carry(rt, ticket)
+    } else {
+        Err(ticket)
     }
 }
 
@@ -224,13 +266,14 @@ fn reads_back<D: PageDisk, K: Naming, R: Wait>(
 
 impl<K: Naming> Acknowledger<K> {
     /// Polls the tickets. What isn't acknowledged at last it keeps as a ticket.
-    fn run<D: PageDisk, R: Wait>(self, rt: &R, node: &Node<D, K>) -> Ran<K> {
+    fn run<D: PageDisk, R: Wait>(self, rt: &R, node: &Node<D, K>) -> Returned<K> {
         let Acknowledger {
             mut purse,
             dock,
             mut waiting,
-            ended,
+            finish,
         } = self;
+        finish.traffic.attend();
         for _ in rt.forever() {
             let Some(ticket) = dock.next(rt) else {
                 break;
@@ -246,8 +289,8 @@ impl<K: Naming> Acknowledger<K> {
                 let _ = purse.keep_ticket(ticket);
             }
         }
-        ended.store(1, Ordering::SeqCst);
-        Ran::Called(purse, 0)
+        drop(finish);
+        Returned::Called(purse, 0)
     }
 }
 
@@ -268,7 +311,7 @@ fn poll<D: PageDisk, K: Naming>(
 
 impl<K: Naming> Writer<K> {
     /// Writes back until the gate ends it or a turn is refused, and gives the pilot back.
-    fn run<D: PageDisk, R: Wait>(self, rt: &R, node: &Node<D, K>) -> Ran<K> {
+    fn run<D: PageDisk, R: Wait>(self, rt: &R, node: &Node<D, K>) -> Returned<K> {
         let Writer {
             mut pilot,
             streams,
@@ -276,10 +319,10 @@ impl<K: Naming> Writer<K> {
         } = self;
         if !streams {
             let _ = pilot.run(rt, node, &until);
-            return Ran::WroteBack(pilot);
+            return Returned::WroteBack(pilot);
         }
         let mut stream = Stream::new(pilot);
         let _ = stream.run(rt, node, &until);
-        Ran::WroteBack(stream.into_pilot())
+        Returned::WroteBack(stream.into_pilot())
     }
 }

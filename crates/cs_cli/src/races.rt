@@ -7,10 +7,10 @@ ghost use Rattle.cs_cli.specs.Outputs.{refusal_line};
 ghost use Rattle.cs_cli.specs.Races.{IsAnswer, IsNoRace, Races, answer_line, answer_status, counts_lines, missing_line};
 
 use crate::outputs::{print_acknowledged, print_no_store, print_refusal};
-use crate::racers::{Ran, racers};
+use crate::racers::{Returned, racers};
 use crate::statuses;
-use clap::{Arg, ArgAction, ArgMatches, Command};
-use cs_core::{Core, Limits};
+use crate::stores::new_in_memory;
+use cs_core::Core;
 use cs_deps::Refusal;
 use cs_disk::{MemoryDisk, PageDisk};
 use cs_frame::Geometry;
@@ -27,9 +27,6 @@ const EXTENTS: u64 = 64;
 
 /// How many pages an extent has.
 const PAGES: u64 = 4;
-
-/// How many events a race's core may record.
-const HISTORY: usize = 65_536;
 
 /// What a race is run with.
 #[derive(Clone, Copy, Debug)]
@@ -116,13 +113,7 @@ pub fn new_core(alloc: Global) -> Result<Core<MemoryDisk>, Refusal>
     let Ok(geometry) = Geometry::new(EXTENTS, PAGES) else {
         return Err(Refusal::BadGeometry);
     };
-    let Ok(disk) = MemoryDisk::new(alloc, geometry.device_pages()) else {
-        return Err(Refusal::OutOfMemory);
-    };
-    match Core::format(alloc, disk, geometry, Limits { history: HISTORY }) {
-        Ok(core) => Ok(core),
-        Err((refusal, _)) => Err(refusal),
-    }
+    new_in_memory(alloc, geometry)
 }
 
 /// Runs a race on a node of this board and this core.
@@ -179,19 +170,19 @@ fn run_on<D: PageDisk + Send + Drop, K: Naming + Send + Sync, R: Threads + Wait 
 /// The purses, how many shards were read back, and the pilot.
 fn gather<K: Naming>(
     alloc: Global,
-    all: Vec<Ran<K>>,
+    all: Vec<Returned<K>>,
 ) -> Result<(Vec<Purse<K>>, u64, Option<Pilot<K>>), AllocError> {
     let mut purses = Vec::new(alloc);
     let mut read_back = 0u64;
     let mut last = None;
     for ran in all {
         match ran {
-            Ran::Called(purse, count) => {
+            Returned::Called(purse, count) => {
                 purses.push(purse)?;
                 read_back = read_back.saturating_add(count);
             }
-            Ran::WroteBack(pilot) => last = Some(pilot),
-            Ran::Swept => {}
+            Returned::WroteBack(pilot) => last = Some(pilot),
+            Returned::Swept => {}
         }
     }
     Ok((purses, read_back, last))
@@ -266,47 +257,4 @@ fn print_missing<W: Write>(writer: &mut W, number: u64) -> io::Result<()>
     ensures { OnOk result (Appends (W.contents writer.old) (W.contents writer.new) (missing_line number)) }
 {
     writeln!(writer, "refused 50 Missing {number}")
-}
-
-/// The command that runs a race.
-pub fn race_command<'a>(alloc: Global) -> Result<Command<'a>, AllocError> {
-    Command::new(alloc, "race")
-        .about("Runs threads that put, get back and poll on one store in memory, and closes it")
-        .arg(option(alloc, "threads", "4", "How many threads put, 1 to 64"))?
-        .arg(option(
-            alloc,
-            "puts",
-            "10",
-            "How many shards each of them puts, 0 to 1,000",
-        ))?
-        .arg(option(
-            alloc,
-            "drop",
-            "0",
-            "How many of its first tickets the first thread drops, at most as many as it puts",
-        ))?
-        .arg(
-            Arg::new(alloc, "stream")
-                .long("stream")
-                .action(ArgAction::SetTrue)
-                .help("Stages ahead of each round, so that rounds of several syncs overlap"),
-        )
-}
-
-/// An option that takes a number.
-fn option<'a>(alloc: Global, name: &'a str, default: &'a str, help: &'a str) -> Arg<'a> {
-    Arg::new(alloc, name)
-        .long(name)
-        .action(ArgAction::Set)
-        .value_parser(clap::value_parser!(u64))
-        .default_value(default)
-        .help(help)
-}
-
-/// The race that the options ask for, None where a number is out of its range.
-pub fn race_of(options: &ArgMatches) -> Option<Race> {
-    let threads = options.get_one::<u64>("threads").unwrap_or(4);
-    let puts = options.get_one::<u64>("puts").unwrap_or(10);
-    let dropped = options.get_one::<u64>("drop").unwrap_or(0);
-    Race::new(threads, puts, dropped, options.get_flag("stream"))
 }

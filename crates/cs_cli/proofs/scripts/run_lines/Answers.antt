@@ -1,7 +1,6 @@
 use Rattle.std.proofs.Common.{◌≡◌, ◌∙◌, ◌++◌, ◌<◌, ℕ, List, length, ap, subst, arith}
 use Rattle.std.specs.Io.BufRead.{take_through}
 use Rattle.std.specs.Io.KnownBytes.{Appends}
-use Rattle.cs_cli.specs.Crashes.{CrashesForGood}
 use Rattle.cs_cli.specs.Lines.{said_of}
 use Rattle.cs_cli.specs.Scripts.{GoesOn}
 use Rattle.cs_cli.proofs.LineSteps.{Ended, one_line_more, all_lines, ended_by, if_some_map}
