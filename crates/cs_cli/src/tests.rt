@@ -1,11 +1,13 @@
 //! What scripts and documents print and leave behind, by worked rows.
 mod crashes;
+mod cuts;
 mod damage;
 mod documents;
 mod failures;
 mod files;
 mod images;
 mod moments;
+mod options;
 mod plans;
 mod puts;
 mod races;

@@ -1,5 +1,5 @@
 //! Images of which the lowest bit of one byte is turned.
-use super::{core_of, run_on, script_text};
+use super::{core_of, printed, run_on, script_text};
 use crate::scripts::run_script;
 use cs_core::{Core, Limits};
 use cs_deps::Refusal;
@@ -53,24 +53,43 @@ fn opened(rt: &(impl Abort + AllocGlobal), disk: MemoryDisk) -> Result<Core<Memo
     }
 }
 
-/// What a `get` prints on a disk that is opened.
-fn got(rt: &(impl Abort + AllocGlobal), disk: MemoryDisk) -> Result<Vec<u8>, Fail> {
+/// Asserts what a script prints on a disk whose shard is damaged in its first byte.
+fn prints_over_a_damaged_shard(
+    rt: &(impl Abort + AllocGlobal),
+    script: &str,
+    lines: &str,
+) -> Result<(), Fail> {
     let alloc = rt.alloc();
-    let core = opened(rt, disk)?;
+    let image = image(rt)?;
+    let core = opened(rt, damaged(rt, &image, 2 * 4096 + 41)?)?;
     let mut output = Vec::new(alloc);
-    let text = script_text(alloc, "get @a")?;
+    let text = script_text(alloc, script)?;
     let ran = run_script(alloc, core, text.as_bytes(), &mut output);
-    assert_eq!(rt; ran.status, 0);
-    Ok(output)
+    let wanted = printed(alloc, lines)?;
+    assert_eq!(rt; output.as_slice(), wanted.as_bytes(), "{script}");
+    assert_eq!(rt; ran.status, 0, "{script}");
+    Ok(())
 }
 
 /// The bytes of a shard are read when it is asked for.
 #[test]
 fn a_damaged_shard(rt: HostRuntime) -> Result<(), Fail> {
-    let image = image(&rt)?;
-    let printed = got(&rt, damaged(&rt, &image, 2 * 4096 + 41)?)?;
-    assert_eq!(rt; printed.as_slice(), b"refused 21 BadDigest\n".as_slice());
-    Ok(())
+    prints_over_a_damaged_shard(&rt, "get @a", "refused 21 BadDigest")
+}
+
+/// A sweep that can't move a shard is abandoned, and the store goes on: also on another extent.
+#[test]
+fn a_sweep_over_a_damaged_shard(rt: HostRuntime) -> Result<(), Fail> {
+    prints_over_a_damaged_shard(
+        &rt,
+        "sweep 0 / put @b 62 / get @b",
+        "refused 21 BadDigest / put 1 / value 62",
+    )?;
+    prints_over_a_damaged_shard(
+        &rt,
+        "sweep 0 / put @a 63 / sweep 0 / sync / crash - / get @a",
+        "refused 21 BadDigest / put 1 / sweep 0 moved 0 root [r3] / round 1: [w1, w2] / round 2: [s5] / round 3: [r3] / chain: [w1, s5, r3] / flushes 3 / acknowledged 1 / crash kept 0 of 0 / open commands 2 shards 1 / value 63",
+    )
 }
 
 /// A disk of which the last page is cut off.

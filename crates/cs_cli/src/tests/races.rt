@@ -1,8 +1,19 @@
 //! Races, of which each ends with all numbers equal, or with what is missing.
+ghost use Rattle.std.specs.Prelude.{◌≡◌, [], IfOk};
+ghost use Rattle.cs_node.specs.Starts.{start_of};
+
+use crate::racers::{Returned, racers};
 use crate::races::{Race, new_core, run_race};
+use crate::stores::new_in_memory;
+use cs_core::Core;
+use cs_disk::MemoryDisk;
+use cs_frame::Geometry;
+use cs_node::{Board, Job, Naming, Node};
+use std::alloc::Global;
+use std::marker::Brand;
 use std::process::Abort;
 use std::sync::Wait;
-use std::test::Fail;
+use std::test::{Fail, *};
 use std::thread::Threads;
 
 /// Asserts what a race prints, and its exit status.
@@ -59,4 +70,48 @@ fn numbers_have_ranges(rt: HostRuntime) {
     assert!(&rt; Race::new(4, 1001, 0, false).is_none());
     assert!(&rt; Race::new(4, 10, 11, false).is_none());
     assert!(&rt; Race::new(64, 1000, 1000, false).is_some());
+}
+
+/// A core that did nothing yet, over a new store with room for more shards than tickets may be under way.
+fn large_core(alloc: Global) -> Result<Core<MemoryDisk>, Fail>
+    ensures { IfOk result (λ core. (core.history ≡ []) × (core.store.accepted ≡ 0) × (core.store.frontier ≡ 0)) }
+{
+    let geometry = Geometry::new(64, 32)?;
+    match new_in_memory(alloc, geometry) {
+        Ok(core) => Ok(core),
+        Err(_) => Err(Fail::from("no core")),
+    }
+}
+
+/// Where no thread can be made a race's racers run one after another, and all of them end.
+#[test]
+fn racers_run_one_after_another(rt: HostRuntime) -> Result<(), Fail> {
+    let board = Board::new(rt.alloc())?;
+    let core = large_core(rt.alloc())?;
+    one_after_another::<Brand, _>(&rt, rt.alloc(), board, core)
+}
+
+fn one_after_another<K: Naming + Send + Sync, R: Wait + Abort>(
+    rt: &R,
+    alloc: Global,
+    board: Board,
+    core: Core<MemoryDisk>,
+) -> Result<(), Fail>
+    requires named { (board ≡ K.table) × (start_of core ≡ K.start) }
+    requires new { (core.history ≡ []) × (core.store.accepted ≡ 0) × (core.store.frontier ≡ 0) }
+{
+    let node = Node::<MemoryDisk, K>::new(board, core);
+    let pilot = node.pilot(rt).expect(rt, "the pilot");
+    let race = Race::new(2, 600, 0, false).expect(rt, "a race");
+    let Ok(all) = racers(rt, alloc, &node, race, pilot) else {
+        panic!(rt; "racers")
+    };
+    let mut read_back = 0u64;
+    for racer in all {
+        if let Returned::Called(_, count) = racer.run(rt, &node) {
+            read_back = read_back.saturating_add(count);
+        }
+    }
+    assert_eq!(rt; read_back, 1200);
+    Ok(())
 }
