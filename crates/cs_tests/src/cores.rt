@@ -11,66 +11,80 @@ use std::test::Fail;
 #[test]
 fn three_rounds(rt: HostRuntime) -> Result<(), Fail> {
     let mut core = new_core(&rt, 1000)?;
-    says(&rt, &mut core, Event::Begin, "Nothing")?;
-    says(&rt, &mut core, Event::Stage, "Unchanged")?;
-    says(&rt, &mut core, Event::Issue, "Refused(NoRound)")?;
-    says(&rt, &mut core, Event::End, "Refused(NoRound)")?;
-    put(&rt, &mut core, 10, 0x61, "Accepted(1)")?;
-    says(&rt, &mut core, Event::Stage, "Staged(2)")?;
+    three_rounds_in(&rt, &mut core)
+}
+
+fn three_rounds_in<D: PageDisk>(
+    rt: &(impl Abort + AllocGlobal),
+    core: &mut Core<D>,
+) -> Result<(), Fail> {
+    says(rt, core, Event::Begin, "Nothing")?;
+    says(rt, core, Event::Stage, "Unchanged")?;
+    says(rt, core, Event::Issue, "Refused(NoRound)")?;
+    says(rt, core, Event::End, "Refused(NoRound)")?;
+    put(rt, core, 10, 0x61, "Accepted(1)")?;
+    says(rt, core, Event::Stage, "Staged(2)")?;
     says(
-        &rt,
-        &mut core,
+        rt,
+        core,
         Event::Begin,
         "Begun(Elements { elements: [Plain(1), Plain(2)] })",
     )?;
-    says(&rt, &mut core, Event::Begin, "Refused(InFlight)")?;
-    says(&rt, &mut core, Event::Issue, "Issued(Plain(1), 2)")?;
-    says(&rt, &mut core, Event::End, "Refused(NoRound)")?;
-    says(&rt, &mut core, Event::Issue, "Issued(Plain(2), 3)")?;
-    says(&rt, &mut core, Event::Issue, "Refused(NoRound)")?;
-    says(&rt, &mut core, Event::End, "Ended(0)")?;
+    says(rt, core, Event::Begin, "Refused(InFlight)")?;
+    says(rt, core, Event::Issue, "Issued(Plain(1), 2)")?;
+    says(rt, core, Event::End, "Refused(NoRound)")?;
+    says(rt, core, Event::Issue, "Issued(Plain(2), 3)")?;
+    says(rt, core, Event::Issue, "Refused(NoRound)")?;
+    says(rt, core, Event::End, "Ended(0)")?;
     says(
-        &rt,
-        &mut core,
+        rt,
+        core,
         Event::Begin,
         "Begun(Elements { elements: [Version(0, 3)] })",
     )?;
-    says(&rt, &mut core, Event::Issue, "Issued(Version(0, 3), 0)")?;
-    says(&rt, &mut core, Event::End, "Ended(0)")?;
+    says(rt, core, Event::Issue, "Issued(Version(0, 3), 0)")?;
+    says(rt, core, Event::End, "Ended(0)")?;
     says(
-        &rt,
-        &mut core,
+        rt,
+        core,
         Event::Begin,
         "Begun(Elements { elements: [Version(1, 2)] })",
     )?;
-    says(&rt, &mut core, Event::Issue, "Issued(Version(1, 2), 1)")?;
-    says(&rt, &mut core, Event::Settle(1), "NotYet(0)")?;
-    says(&rt, &mut core, Event::End, "Ended(1)")?;
-    says(&rt, &mut core, Event::Settle(0), "NotYet(1)")?;
-    says(&rt, &mut core, Event::Settle(1), "Persistent")?;
-    says(&rt, &mut core, Event::Settle(2), "NotYet(1)")?;
-    plans(&rt, &core, "[] []")
+    says(rt, core, Event::Issue, "Issued(Version(1, 2), 1)")?;
+    says(rt, core, Event::Settle(1), "NotYet(0)")?;
+    says(rt, core, Event::End, "Ended(1)")?;
+    says(rt, core, Event::Settle(0), "NotYet(1)")?;
+    says(rt, core, Event::Settle(1), "Persistent")?;
+    says(rt, core, Event::Settle(2), "NotYet(1)")?;
+    plans(rt, core, "[] []")
 }
 
 /// What is put while a round is out waits for the next one.
 #[test]
 fn a_put_beside_a_round(rt: HostRuntime) -> Result<(), Fail> {
     let mut core = new_core(&rt, 1000)?;
-    put(&rt, &mut core, 10, 0x61, "Accepted(1)")?;
+    a_put_beside_a_round_in(&rt, &mut core)
+}
+
+fn a_put_beside_a_round_in<D: PageDisk>(
+    rt: &(impl Abort + AllocGlobal),
+    core: &mut Core<D>,
+) -> Result<(), Fail> {
+    put(rt, core, 10, 0x61, "Accepted(1)")?;
     says(
-        &rt,
-        &mut core,
+        rt,
+        core,
         Event::Begin,
         "Begun(Elements { elements: [Plain(1)] })",
     )?;
-    put(&rt, &mut core, 11, 0x62, "Accepted(2)")?;
+    put(rt, core, 11, 0x62, "Accepted(2)")?;
     assert_eq!(rt; core.plan().err(), Some(Refusal::InFlight));
-    says(&rt, &mut core, Event::Issue, "Issued(Plain(1), 2)")?;
-    says(&rt, &mut core, Event::End, "Ended(0)")?;
-    says(&rt, &mut core, Event::Stage, "Staged(2)")?;
+    says(rt, core, Event::Issue, "Issued(Plain(1), 2)")?;
+    says(rt, core, Event::End, "Ended(0)")?;
+    says(rt, core, Event::Stage, "Staged(2)")?;
     plans(
-        &rt,
-        &core,
+        rt,
+        core,
         "[[Plain(2), Plain(3), Version(0, 2)], [Version(0, 4)], [Version(1, 2)]] [Plain(2), Version(0, 4), Version(1, 2)]",
     )
 }
@@ -79,19 +93,26 @@ fn a_put_beside_a_round(rt: HostRuntime) -> Result<(), Fail> {
 #[test]
 fn a_root_beside_a_round(rt: HostRuntime) -> Result<(), Fail> {
     let mut core = new_core(&rt, 1000)?;
-    put(&rt, &mut core, 10, 0x61, "Accepted(1)")?;
+    a_root_beside_a_round_in(&rt, &mut core)
+}
+
+fn a_root_beside_a_round_in<D: PageDisk>(
+    rt: &(impl Abort + AllocGlobal),
+    core: &mut Core<D>,
+) -> Result<(), Fail> {
+    put(rt, core, 10, 0x61, "Accepted(1)")?;
     says(
-        &rt,
-        &mut core,
+        rt,
+        core,
         Event::Begin,
         "Begun(Elements { elements: [Plain(1)] })",
     )?;
-    says(&rt, &mut core, Event::Stage, "Staged(2)")?;
-    says(&rt, &mut core, Event::Issue, "Issued(Plain(1), 2)")?;
-    says(&rt, &mut core, Event::End, "Ended(0)")?;
+    says(rt, core, Event::Stage, "Staged(2)")?;
+    says(rt, core, Event::Issue, "Issued(Plain(1), 2)")?;
+    says(rt, core, Event::End, "Ended(0)")?;
     plans(
-        &rt,
-        &core,
+        rt,
+        core,
         "[[Plain(2), Version(0, 2)], [Version(0, 3)], [Version(1, 2)]] [Plain(2), Version(0, 3), Version(1, 2)]",
     )
 }
@@ -99,15 +120,17 @@ fn a_root_beside_a_round(rt: HostRuntime) -> Result<(), Fail> {
 #[test]
 fn a_history_at_its_limit(rt: HostRuntime) -> Result<(), Fail> {
     let mut core = new_core(&rt, 2)?;
-    put(&rt, &mut core, 10, 0x61, "Accepted(1)")?;
-    says(
-        &rt,
-        &mut core,
-        Event::Get(id(10)),
-        "Found(Bytes { block: [97] })",
-    )?;
-    says(&rt, &mut core, Event::Get(id(10)), "Refused(HistoryFull)")?;
-    put(&rt, &mut core, 10, 0x62, "Refused(HistoryFull)")?;
+    a_history_at_its_limit_in(&rt, &mut core)
+}
+
+fn a_history_at_its_limit_in<D: PageDisk>(
+    rt: &(impl Abort + AllocGlobal),
+    core: &mut Core<D>,
+) -> Result<(), Fail> {
+    put(rt, core, 10, 0x61, "Accepted(1)")?;
+    says(rt, core, Event::Get(id(10)), "Found(Bytes { block: [97] })")?;
+    says(rt, core, Event::Get(id(10)), "Refused(HistoryFull)")?;
+    put(rt, core, 10, 0x62, "Refused(HistoryFull)")?;
     assert_eq!(rt; core.history().len(), 2);
     assert_eq!(rt; core.accepted(), 1);
     Ok(())
@@ -135,48 +158,69 @@ fn is_halted<D: PageDisk>(rt: &(impl Abort + AllocGlobal), core: &mut Core<D>) -
 #[test]
 fn a_write_that_fails(rt: HostRuntime) -> Result<(), Fail> {
     let mut core = core_that_fails(&rt, 4, 1000)?;
-    put(&rt, &mut core, 10, 0x61, "Accepted(1)")?;
+    a_write_that_fails_in(&rt, &mut core)
+}
+
+fn a_write_that_fails_in<D: PageDisk>(
+    rt: &(impl Abort + AllocGlobal),
+    core: &mut Core<D>,
+) -> Result<(), Fail> {
+    put(rt, core, 10, 0x61, "Accepted(1)")?;
     says(
-        &rt,
-        &mut core,
+        rt,
+        core,
         Event::Begin,
         "Begun(Elements { elements: [Plain(1)] })",
     )?;
-    says(&rt, &mut core, Event::Issue, "Refused(DeviceFault)")?;
-    is_halted(&rt, &mut core)
+    says(rt, core, Event::Issue, "Refused(DeviceFault)")?;
+    is_halted(rt, core)
 }
 
 #[test]
 fn a_flush_that_fails(rt: HostRuntime) -> Result<(), Fail> {
     let mut core = core_that_fails(&rt, 5, 1000)?;
-    put(&rt, &mut core, 10, 0x61, "Accepted(1)")?;
+    a_flush_that_fails_in(&rt, &mut core)
+}
+
+fn a_flush_that_fails_in<D: PageDisk>(
+    rt: &(impl Abort + AllocGlobal),
+    core: &mut Core<D>,
+) -> Result<(), Fail> {
+    put(rt, core, 10, 0x61, "Accepted(1)")?;
     says(
-        &rt,
-        &mut core,
+        rt,
+        core,
         Event::Begin,
         "Begun(Elements { elements: [Plain(1)] })",
     )?;
-    says(&rt, &mut core, Event::Issue, "Issued(Plain(1), 2)")?;
-    says(&rt, &mut core, Event::End, "Refused(DeviceFault)")?;
-    is_halted(&rt, &mut core)
+    says(rt, core, Event::Issue, "Issued(Plain(1), 2)")?;
+    says(rt, core, Event::End, "Refused(DeviceFault)")?;
+    is_halted(rt, core)
 }
 
 /// A full history is told before a halt.
 #[test]
 fn a_halt_at_the_limit(rt: HostRuntime) -> Result<(), Fail> {
     let mut core = core_that_fails(&rt, 4, 4)?;
-    put(&rt, &mut core, 10, 0x61, "Accepted(1)")?;
+    a_halt_at_the_limit_in(&rt, &mut core)
+}
+
+fn a_halt_at_the_limit_in<D: PageDisk>(
+    rt: &(impl Abort + AllocGlobal),
+    core: &mut Core<D>,
+) -> Result<(), Fail> {
+    put(rt, core, 10, 0x61, "Accepted(1)")?;
     says(
-        &rt,
-        &mut core,
+        rt,
+        core,
         Event::Begin,
         "Begun(Elements { elements: [Plain(1)] })",
     )?;
-    says(&rt, &mut core, Event::Issue, "Refused(DeviceFault)")?;
-    says(&rt, &mut core, Event::Issue, "Refused(Halted)")?;
-    says(&rt, &mut core, Event::Issue, "Refused(HistoryFull)")?;
-    says(&rt, &mut core, Event::Get(id(10)), "Refused(HistoryFull)")?;
-    says(&rt, &mut core, Event::Settle(1), "Refused(HistoryFull)")?;
+    says(rt, core, Event::Issue, "Refused(DeviceFault)")?;
+    says(rt, core, Event::Issue, "Refused(Halted)")?;
+    says(rt, core, Event::Issue, "Refused(HistoryFull)")?;
+    says(rt, core, Event::Get(id(10)), "Refused(HistoryFull)")?;
+    says(rt, core, Event::Settle(1), "Refused(HistoryFull)")?;
     assert_eq!(rt; core.history().len(), 4);
     Ok(())
 }

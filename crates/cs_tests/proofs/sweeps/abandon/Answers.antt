@@ -1,6 +1,6 @@
 use Rattle.std.proofs.Common.{false, get_or, refl, Ok}
-use Rattle.cs_reclaim.proofs.TestPlaces.{resets_marked}
-use Rattle.cs_reclaim.proofs.tests.abandon.Goals as goal
+use Rattle.cs_tests.proofs.Resets.{resets_marked}
+use Rattle.cs_tests.proofs.sweeps.abandon.Goals as goal
 
 pub invariant_of-store : goal.invariant_of-store
 invariant_of-store g c = record {

@@ -6,8 +6,8 @@ use Rattle.cs_model.specs.Lists.{◌∈◌}
 use Rattle.cs_index.specs.State.{id_number}
 use Rattle.cs_index.proofs.Numbers.{small_number}
 use Rattle.cs_index.proofs.Living.{is_id}
-use Rattle.cs_reclaim.proofs.TestPlaces.{IsThere, all_have, have_up}
-use Rattle.cs_reclaim.proofs.tests.all_inside.Goals as goal
+use Rattle.cs_tests.proofs.Places.{IsThere, all_have, have_up}
+use Rattle.cs_tests.proofs.sweeps.all_inside.Goals as goal
 
 pub loop-id-preserved : goal.loop-id-preserved
 loop-id-preserved c = rw (c.in-Some.ensures.read) (record {

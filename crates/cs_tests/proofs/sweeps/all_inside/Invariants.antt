@@ -1,8 +1,8 @@
 use Rattle.std.proofs.Common.{◌≡◌}
 use Rattle.cs_index.specs.State.{index_of}
 use Rattle.cs_index.proofs.Merged.{IsSmall, ids_left}
-use Rattle.cs_reclaim.proofs.TestPlaces.{HaveUpTo, IsThere}
-use Rattle.cs_reclaim.proofs.tests.all_inside.Given as goal
+use Rattle.cs_tests.proofs.Places.{HaveUpTo, IsThere}
+use Rattle.cs_tests.proofs.sweeps.all_inside.Given as goal
 
 abbrev pub invariant-loop-id : goal.invariant-loop-id
 invariant-loop-id l = record {

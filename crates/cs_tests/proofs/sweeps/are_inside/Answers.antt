@@ -2,8 +2,8 @@ use Rattle.std.proofs.Common.{◌≡◌, ap, arith, length, map}
 use Rattle.std.proofs.lemmas.List.{length-map}
 use Rattle.cs_frame.specs.declared.locators.Locator.{Locator}
 use Rattle.cs_frame.specs.Formats.{place_of}
-use Rattle.cs_reclaim.proofs.TestPlaces.{IsThere, have_all, have_more}
-use Rattle.cs_reclaim.proofs.tests.are_inside.Goals as goal
+use Rattle.cs_tests.proofs.Places.{IsThere, have_all, have_more}
+use Rattle.cs_tests.proofs.sweeps.are_inside.Goals as goal
 
 -- a place that stands for none
 abbrev nowhere : Locator

@@ -1,6 +1,6 @@
 use Rattle.std.proofs.Common.{true, get_or}
-use Rattle.cs_reclaim.proofs.TestPlaces.{resets_begun}
-use Rattle.cs_reclaim.proofs.tests.begin.Goals as goal
+use Rattle.cs_tests.proofs.Resets.{resets_begun}
+use Rattle.cs_tests.proofs.sweeps.begin.Goals as goal
 
 pub invariant_of-store : goal.invariant_of-store
 invariant_of-store c = record {

@@ -1,5 +1,5 @@
 use Rattle.std.proofs.Common.{arith}
-use Rattle.cs_reclaim.proofs.tests.move_one.Goals as goal
+use Rattle.cs_tests.proofs.sweeps.move_one.Goals as goal
 
 pub move_one-requires-clause-there : goal.move_one-requires-clause-there
 move_one-requires-clause-there g c = λ id l has.
