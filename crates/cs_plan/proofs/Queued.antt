@@ -19,7 +19,8 @@ use Rattle.cs_deps.proofs.LowerBound.{waiting_not_persistent}
 use Rattle.cs_deps.proofs.Ready.{satisfied_is_first}
 use Rattle.cs_deps.proofs.Sets.{no_element}
 use Rattle.cs_plan.specs.Queues.{AreListed, IsFollowed, backwards}
-use Rattle.cs_plan.proofs.Whole.{due_somewhere}
+use Rattle.cs_plan.specs.Targets.{IsInLast}
+use Rattle.cs_plan.proofs.AlongChain.{due_somewhere}
 
 -- THE CHAIN
 pub followed_none : (g : Pending) (end : Element) (height : ℕ) → IsHeight g end height → IsFollowed g end height 0 end []
@@ -158,5 +159,14 @@ none_left (r ∷ rs) full none =
     let some = full (length (r ∷ rs) - 1) (get_or (r ∷ rs) (length (r ∷ rs) - 1) r) at in
     absurd (omega (arith, some, ap length (none lt r)))
 
-pub end_named : (s : Staging) → IsKept s → (end : Element) (n : ℕ) (xs : List Element) → IsHeight s.pending end n → IsChain s.pending xs → LastIs (λ y. y ≡ end) xs → IsChainOf s.pending (everything s) xs
-end_named s kept end n xs h chain last = (chain, last_named (everything s) end xs ((everything_is_all s kept).all end (chain_ends_waiting s.pending end n h.reached)) last)
+-- a chain that ends in the last round ends in what was staged
+pub chain_of_all : (s : Staging) → IsKept s → (rounds : List (Vec Element Global)) → AreListed s.pending rounds → (xs : List Element) → IsChain s.pending xs → LastIs (IsInLast rounds) xs → IsChainOf s.pending (everything s) xs
+chain_of_all s kept rounds listed xs chain last = (chain, each xs last)
+  where
+    named : (x : Element) → IsInLast rounds x → Names (everything s) x
+    named x is = (everything_is_all s kept).all x (chain_ends_waiting s.pending x (length rounds) (last_height s.pending rounds listed x is.0 is.1).reached)
+
+    each : (ys : List Element) → LastIs (IsInLast rounds) ys → LastIs (Names (everything s)) ys
+    each [] is = tt
+    each (y ∷ []) is = named y is
+    each (y ∷ z ∷ zs) is = each (z ∷ zs) is

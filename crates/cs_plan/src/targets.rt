@@ -1,11 +1,8 @@
 //! Rounds of what a target needs, taken from the queues of what waits.
-ghost use Rattle.std.specs.Prelude.{◌≡◌, ℕ, ◌+◌, ◌∷◌, ◌++◌, ◌≤◌, ◌<◌, ◌⊎◌, ◌↔◌, [], IfOk, OnOk, IsTrue, None, Vec, Contains, Some, slice_get, length, vec_len};
-ghost use Rattle.std.specs.Global.{Global as Heap};
-ghost use Rattle.cs_deps.specs.declared.elements.Element.{Element as Item};
-ghost use Rattle.cs_deps.specs.Chain.{IsChain, IsHeight, LastIs};
-ghost use Rattle.cs_plan.specs.Targets.{lowered, IsNamedAt, AreLowered, IsLoweredQueue, AreLoweredQueues, IsInLast};
+ghost use Rattle.std.specs.Prelude.{◌≡◌, ◌+◌, ◌∷◌, ◌++◌, ◌≤◌, ◌<◌, ◌⊎◌, ◌↔◌, [], IfOk, OnOk, IsTrue, None, Vec, length};
+ghost use Rattle.cs_deps.specs.Chain.{IsHeight};
+ghost use Rattle.cs_plan.specs.Targets.{lowered, IsNamedAt, AreLowered, IsLoweredQueue, AreLoweredQueues};
 
-use crate::planning::{first_of_last, follow};
 use cs_deps::{Element, Graph, Wanted};
 use std::alloc::{AllocError, Global};
 
@@ -104,23 +101,4 @@ pub fn wanted_rounds(
         rounds.push(round)?;
     }
     Ok(rounds)
-}
-
-/// A chain that ends in the last round, with as many elements as there are rounds.
-pub fn shown_last(
-    alloc: Global,
-    graph: &Graph,
-    rounds: &[Vec<Element>],
-) -> Result<Vec<Element>, AllocError>
-    requires none { graph.now.round ≡ None }
-    requires last { (x : Item) → IsInLast rounds.now x → IsHeight graph.now.staging.pending x (length rounds.now) }
-    requires full { (i : ℕ) (round : Vec Item Heap) → slice_get rounds.now i ≡ Some round → 0 < length round.items }
-    ensures chain { IfOk result (λ chain. IsChain graph.now.staging.pending chain.items) }
-    ensures last { IfOk result (λ chain. LastIs (IsInLast rounds.now) chain.items) }
-    ensures count { IfOk result (λ chain. length chain.items ≡ length rounds.now) }
-{
-    match first_of_last(rounds) {
-        Some(end) => follow(alloc, graph, end, rounds.len()),
-        None => Ok(Vec::new(alloc)),
-    }
 }
