@@ -5,6 +5,8 @@
 #[cfg(test)]
 mod chunks;
 #[cfg(test)]
+mod core_sweeps;
+#[cfg(test)]
 mod cores;
 #[cfg(test)]
 mod damage;
@@ -28,3 +30,5 @@ mod stores;
 mod sweeps;
 #[cfg(test)]
 mod tables;
+#[cfg(test)]
+mod targets;
