@@ -2,6 +2,7 @@
 ghost use Rattle.std.specs.Prelude.{◌≡◌, [], IfOk};
 ghost use Rattle.cs_node.specs.Starts.{start_of};
 
+mod failures;
 mod losses;
 mod sweeps;
 mod threads;
