@@ -213,7 +213,7 @@ fn answer<D: PageDisk, W: Write>(
         Line::Plan => plan(core, writer)?,
         Line::Document => document(alloc, core, writer)?,
         Line::Nothing => {}
-        // The mask of a readable one is told from these before.
+        // A `crash` that fits was taken by `run_line`.
         Line::Crash { mask: _ } | Line::Bad => {
             print_bad_line(writer)?;
             return Ok(statuses::BAD_LINE);
