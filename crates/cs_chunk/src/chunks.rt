@@ -74,7 +74,10 @@ impl Cut {
         ensures { IsTrue result ↔ IsPutWorn graph.now.staging (pages_of self) }
     {
         LAST_NUMBER < graph.last_plain().saturating_add(self.all_pages() as u64)
-            || LAST_NUMBER < graph.last_version(SUPERBLOCK).saturating_add(self.count as u64)
+            || LAST_NUMBER
+                < graph
+                    .last_version(SUPERBLOCK)
+                    .saturating_add(self.count as u64)
     }
 }
 

@@ -19,7 +19,7 @@ pub fn pages_have_one_newest()
 
 /// A frame below the pointer of its extent, of the generation that the extent has, stands as it stood, whatever is appended,
 /// and stays below the pointer, whatever other extent is reset. That a round that goes out leaves what pages read as rests on
-/// the order in which a page's writes may go, which `cs_bridge::pages_are_read` knows.
+/// the order in which a page's writes may go, which `cs_refine::pages_are_read` knows.
 pub fn what_was_put_stays()
     ensures append { (x y : State) (g h : GraphState) (reason : Purpose) (frame old : List (List ℕ)) (l k : Place) (image : Image) (view now : ℕ → List ℕ)
         → IsWhole x → IsAppended x g reason frame l y h → IsWholeGraph h → AreNewest g image view → AreNewest h image now

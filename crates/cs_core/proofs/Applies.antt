@@ -8,7 +8,7 @@ use Rattle.cs_model.specs.Formats.{Formats}
 use Rattle.cs_model.specs.Open.{opened_state}
 use Rattle.cs_model.specs.State.{Event, Reply, State}
 use Rattle.cs_model.specs.Step.{History, Step}
-use Rattle.cs_bridge.specs.Devices.{IsDiskOf}
+use Rattle.cs_refine.specs.Devices.{IsDiskOf}
 use Rattle.cs_core.specs.declared.events.Event.{Event as Asked}
 use Rattle.cs_core.specs.declared.events.Reply.{Reply as Told}
 use Rattle.cs_core.specs.Meanings.{Says, event_of}

@@ -6,9 +6,9 @@ use Rattle.cs_extent.specs.State.{shape}
 use Rattle.cs_frame.specs.Formats.{formats_of}
 use Rattle.cs_model.specs.Device.{Shape}
 use Rattle.cs_model.specs.State.{Command, State}
-use Rattle.cs_bridge.proofs.CrashesLeft.{prefix_later, prefix_wider}
-use Rattle.cs_bridge.specs.Crashes.{IsPrefix}
-use Rattle.cs_bridge.specs.Devices.{IsDiskOf}
+use Rattle.cs_refine.proofs.CrashesLeft.{prefix_later, prefix_wider}
+use Rattle.cs_refine.specs.Crashes.{IsPrefix}
+use Rattle.cs_refine.specs.Devices.{IsDiskOf}
 use Rattle.cs_core.specs.declared.events.Event.{Event}
 use Rattle.cs_core.specs.declared.events.Reply.{Reply}
 use Rattle.cs_core.specs.Meanings.{command_said, commands_said}

@@ -16,9 +16,9 @@ use Rattle.cs_model.specs.Recovery.{Recovers}
 use Rattle.cs_model.specs.Sound.{Sound}
 use Rattle.cs_model.specs.State as model
 use Rattle.cs_model.specs.State.{Command, State, command_of, commands_of}
-use Rattle.cs_bridge.proofs.CrashesLeft.{leaves_from, prefix_wider}
-use Rattle.cs_bridge.specs.Crashes.{IsPrefix}
-use Rattle.cs_bridge.specs.Devices.{IsDiskOf}
+use Rattle.cs_refine.proofs.CrashesLeft.{leaves_from, prefix_wider}
+use Rattle.cs_refine.specs.Crashes.{IsPrefix}
+use Rattle.cs_refine.specs.Devices.{IsDiskOf}
 use Rattle.cs_core.specs.declared.events.Event.{Event}
 use Rattle.cs_core.specs.declared.events.Event.TheVariants.{Delete, End, Issue, Put}
 use Rattle.cs_core.specs.declared.events.Reply.{Reply}

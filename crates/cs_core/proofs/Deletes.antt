@@ -10,10 +10,10 @@ use Rattle.cs_model.specs.Index.{live_at}
 use Rattle.cs_model.specs.Refusal.{Halted, Refusal, WornOut}
 use Rattle.cs_model.specs.State.{Absent, Accepted, Delete, Refused, State, map_now}
 use Rattle.cs_model.specs.Step.{Step}
-use Rattle.cs_bridge.proofs.Calls.{delete}
-use Rattle.cs_bridge.proofs.Indexes.{absent}
-use Rattle.cs_bridge.proofs.RefusedPuts.{delete_worn}
-use Rattle.cs_bridge.specs.Parts.{ArePartsOf}
+use Rattle.cs_refine.proofs.Calls.{delete}
+use Rattle.cs_refine.proofs.Indexes.{absent}
+use Rattle.cs_refine.proofs.RefusedPuts.{delete_worn}
+use Rattle.cs_refine.specs.Parts.{ArePartsOf}
 use Rattle.cs_core.specs.States.{IsStateOf}
 use Rattle.cs_core.specs.Stored.{Stored}
 use Rattle.cs_core.proofs.Going.{Beside, beside_is, frontier_same, goes_on, going, no_more, pass, roots_same}

@@ -18,11 +18,11 @@ use Rattle.cs_model.specs.Element.{Bytes, Damaged}
 use Rattle.cs_model.specs.Index.{joined, live_at}
 use Rattle.cs_model.specs.Refusal.{DeviceFault, Refusal as Ground}
 use Rattle.cs_model.specs.State.{Get, State, map_now}
-use Rattle.cs_bridge.proofs.Disks.{reads}
-use Rattle.cs_bridge.proofs.Indexes.{absent}
-use Rattle.cs_bridge.proofs.PagesRead.{pages_read}
-use Rattle.cs_bridge.proofs.ShardsRead.{get_damaged, get_found}
-use Rattle.cs_bridge.specs.Devices.{IsDiskOf, pages_now}
+use Rattle.cs_refine.proofs.Disks.{reads}
+use Rattle.cs_refine.proofs.Indexes.{absent}
+use Rattle.cs_refine.proofs.PagesRead.{pages_read}
+use Rattle.cs_refine.proofs.ShardsRead.{get_damaged, get_found}
+use Rattle.cs_refine.specs.Devices.{IsDiskOf, pages_now}
 use Rattle.cs_core.specs.Reads.{DeclinesOn, GetAnswers}
 use Rattle.cs_core.specs.States.{IsStateOf}
 use Rattle.cs_core.specs.Stored.{Stored, page_total}

@@ -17,9 +17,9 @@ use Rattle.cs_model.specs.Sound.{Bounded, Sound}
 use Rattle.cs_model.specs.State.{Event, Reply, State}
 use Rattle.cs_model.specs.Step.{Step}
 use Rattle.cs_model.proofs.Keeps.{steps}
-use Rattle.cs_bridge.specs.Bridge.{name}
-use Rattle.cs_bridge.specs.Parts.{ArePartsOf}
-use Rattle.cs_bridge.proofs.Shapes.{store_format, store_shape}
+use Rattle.cs_refine.specs.Bridge.{name}
+use Rattle.cs_refine.specs.Parts.{ArePartsOf}
+use Rattle.cs_refine.proofs.Shapes.{store_format, store_shape}
 use Rattle.cs_core.specs.declared.roots.Root.{Root as Noted}
 use Rattle.cs_core.specs.States.{AreRootsOf, IsStateOf}
 use Rattle.cs_core.specs.Stored.{Stored, members_of, settled_rooms}

@@ -13,7 +13,7 @@ use Rattle.cs_model.specs.Lists.{◌∈◌}
 use Rattle.cs_model.specs.Machine.{World}
 use Rattle.cs_model.specs.Round.{IsMember}
 use Rattle.cs_model.proofs.Waiting.{Listed, root_in, superblock_in, write_in}
-use Rattle.cs_bridge.specs.Bridge.{AreNames, IsWaiting, name}
+use Rattle.cs_refine.specs.Bridge.{AreNames, IsWaiting, name}
 
 -- a member is staged and waits
 pub member_listed : (S : Shape) (w : World) (m : Element) → IsMember S w m → Listed w.elements m

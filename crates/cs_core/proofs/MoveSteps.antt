@@ -29,13 +29,13 @@ use Rattle.cs_model.specs.Lists.{replaced, ◌∈◌}
 use Rattle.cs_model.specs.Refusal.{DeviceFault, Full, Halted, NotSweepable, Refusal as Ground, WornOut}
 use Rattle.cs_model.specs.State.{MoveOne, Moved, NoneLive, Refused, Reply, State, index_now}
 use Rattle.cs_model.specs.Step.{Step}
-use Rattle.cs_bridge.proofs.Calls.{move}
-use Rattle.cs_bridge.proofs.Indexes.{first_live, looked_up, nothing_live}
-use Rattle.cs_bridge.proofs.RefusedMoves.{move_full, move_worn}
-use Rattle.cs_bridge.proofs.ShardsRead.{live_damaged, live_payload, live_whole}
-use Rattle.cs_bridge.proofs.Shapes.{store_format, store_shape}
-use Rattle.cs_bridge.specs.Devices.{IsDiskOf, pages_now, read_by}
-use Rattle.cs_bridge.specs.Parts.{ArePartsOf}
+use Rattle.cs_refine.proofs.Calls.{move}
+use Rattle.cs_refine.proofs.Indexes.{first_live, looked_up, nothing_live}
+use Rattle.cs_refine.proofs.RefusedMoves.{move_full, move_worn}
+use Rattle.cs_refine.proofs.ShardsRead.{live_damaged, live_payload, live_whole}
+use Rattle.cs_refine.proofs.Shapes.{store_format, store_shape}
+use Rattle.cs_refine.specs.Devices.{IsDiskOf, pages_now, read_by}
+use Rattle.cs_refine.specs.Parts.{ArePartsOf}
 use Rattle.cs_index.proofs.Living.{nth_in}
 use Rattle.cs_reclaim.specs.Moves.{AnswersMove, AnswersPlace, IsMoved, chunk_frame}
 use Rattle.cs_frame.specs.declared.identifiers.ShardId.{ShardId}

@@ -1,8 +1,8 @@
 -- A core over what was opened.
 use Rattle.std.proofs.Common.{◌≡◌, ◌≢◌, ◌⊎◌, inl, inr, ⊎_elim, ◌∙◌, ℕ, zero, suc, ◌+◌, ◌*◌, ◌<◌, List, [], ◌∷◌, None, length, le_of_eq, refl, sym, ap, subst, arith}
 use Rattle.std.specs.Prelude.{Contains}
-use Rattle.cs_bridge.proofs.Started.{read_started, seen_pages}
-use Rattle.cs_bridge.specs.Devices.{IsDiskOf}
+use Rattle.cs_refine.proofs.Started.{read_started, seen_pages}
+use Rattle.cs_refine.specs.Devices.{IsDiskOf}
 use Rattle.cs_chunk.specs.Reads.{IsNoAnswer}
 use Rattle.cs_deps.specs.declared.refusals.Refusal.{Refusal}
 use Rattle.cs_disk.specs.Disk.{Image, IsWhole as IsWholeDisk, State as DiskState, flushed, page, seen}

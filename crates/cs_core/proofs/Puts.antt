@@ -20,10 +20,10 @@ use Rattle.cs_model.specs.Index.{lookup, names}
 use Rattle.cs_model.specs.Refusal.{Full, Halted, IndexFull, Refusal, TooLarge, WornOut}
 use Rattle.cs_model.specs.State.{Accepted, Put, Refused, State, index_now}
 use Rattle.cs_model.specs.Step.{Step}
-use Rattle.cs_bridge.proofs.Calls.{put}
-use Rattle.cs_bridge.proofs.Indexes.{as_many_named, looked_up}
-use Rattle.cs_bridge.proofs.RefusedPuts.{put_full, put_worn}
-use Rattle.cs_bridge.specs.Parts.{ArePartsOf}
+use Rattle.cs_refine.proofs.Calls.{put}
+use Rattle.cs_refine.proofs.Indexes.{as_many_named, looked_up}
+use Rattle.cs_refine.proofs.RefusedPuts.{put_full, put_worn}
+use Rattle.cs_refine.specs.Parts.{ArePartsOf}
 use Rattle.cs_core.specs.States.{IsStateOf}
 use Rattle.cs_core.specs.Stored.{IsWhyWorn, Stored, settled_rooms}
 use Rattle.cs_core.specs.Steps.{Declines}

@@ -13,8 +13,8 @@ use Rattle.cs_model.specs.Element.{Root, roots_of}
 use Rattle.cs_model.specs.Lists.{◌∈◌}
 use Rattle.cs_model.specs.State.{End, Ended, State}
 use Rattle.cs_model.specs.Step.{Step}
-use Rattle.cs_bridge.specs.Devices.{IsDiskOf}
-use Rattle.cs_bridge.specs.Parts.{ArePartsOf}
+use Rattle.cs_refine.specs.Devices.{IsDiskOf}
+use Rattle.cs_refine.specs.Parts.{ArePartsOf}
 use Rattle.cs_core.specs.Frontiers.{IsReached, IsRootPersistent}
 use Rattle.cs_core.specs.Rounds.{EndAnswers}
 use Rattle.cs_core.specs.States.{IsStateOf}

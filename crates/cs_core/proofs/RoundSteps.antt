@@ -24,15 +24,15 @@ use Rattle.cs_model.specs.Sound.{Sound}
 use Rattle.cs_model.specs.State.{Begin, Begun, End, Ended, Issue, Issued, Nothing, Refused, State}
 use Rattle.cs_model.specs.Step.{Step}
 use Rattle.cs_model.proofs.Keeps.{steps}
-use Rattle.cs_bridge.specs.Bridge.{AreNames, name}
-use Rattle.cs_bridge.specs.Devices.{IsDiskOf}
+use Rattle.cs_refine.specs.Bridge.{AreNames, name}
+use Rattle.cs_refine.specs.Devices.{IsDiskOf}
 use Rattle.std.proofs.lemmas.List.{map-append, take-append-drop}
-use Rattle.cs_bridge.specs.Parts.{ArePartsOf}
-use Rattle.cs_bridge.specs.Rounds.{IsRoundOf}
-use Rattle.cs_bridge.proofs.Disks as disks
-use Rattle.cs_bridge.proofs.Keeping.{ended as keeps_ended, members_named}
-use Rattle.cs_bridge.proofs.RoundsOut.{begin, nothing}
-use Rattle.cs_bridge.proofs.Shapes.{store_format, store_shape}
+use Rattle.cs_refine.specs.Parts.{ArePartsOf}
+use Rattle.cs_refine.specs.Rounds.{IsRoundOf}
+use Rattle.cs_refine.proofs.Disks as disks
+use Rattle.cs_refine.proofs.Keeping.{ended as keeps_ended, members_named}
+use Rattle.cs_refine.proofs.RoundsOut.{begin, nothing}
+use Rattle.cs_refine.proofs.Shapes.{store_format, store_shape}
 use Rattle.cs_core.specs.declared.roots.Root.{Root as Noted}
 use Rattle.cs_core.specs.Frontiers.{IsReached, IsRootPersistent}
 use Rattle.cs_core.specs.States.{AreRootsOf, IsStateOf}

@@ -11,8 +11,8 @@ use Rattle.cs_model.specs.Formats.{Formats}
 use Rattle.cs_model.specs.Refusal.{Halted, Refusal}
 use Rattle.cs_model.specs.State.{Absent, Begin, Begun, End, Ended, Event, Found, Issue, Issued, Moved, NoneLive, NotYet, Nothing, Persistent, Reply, Refused, State}
 use Rattle.cs_model.specs.Step.{Step}
-use Rattle.cs_bridge.specs.Devices.{IsDiskOf}
-use Rattle.cs_bridge.proofs.Disks.{step_stays}
+use Rattle.cs_refine.specs.Devices.{IsDiskOf}
+use Rattle.cs_refine.proofs.Disks.{step_stays}
 use Rattle.cs_core.specs.declared.events.Event.{Event as Asked}
 use Rattle.cs_core.specs.declared.events.OutOfMemory.{OutOfMemory}
 use Rattle.cs_core.specs.declared.events.Reply.{Reply as Told}

@@ -22,10 +22,10 @@ use Rattle.cs_model.specs.Refusal.{Full, Halted, NotSweepable, Refusal, StillLiv
 use Rattle.cs_model.specs.Lists.{◌∈◌}
 use Rattle.cs_model.specs.State.{Event, Reply, Refused, Retire, Retired, Stage, Staged, State, Unchanged, index_now, map_now}
 use Rattle.cs_model.specs.Step.{Step}
-use Rattle.cs_bridge.proofs.Calls.{merge_staged, retire, table_staged}
-use Rattle.cs_bridge.proofs.Indexes.{looked_up, none_too, nothing_live}
-use Rattle.cs_bridge.proofs.RefusedStages.{retire_full, retire_worn, stage_full, stage_worn}
-use Rattle.cs_bridge.specs.Parts.{ArePartsOf}
+use Rattle.cs_refine.proofs.Calls.{merge_staged, retire, table_staged}
+use Rattle.cs_refine.proofs.Indexes.{looked_up, none_too, nothing_live}
+use Rattle.cs_refine.proofs.RefusedStages.{retire_full, retire_worn, stage_full, stage_worn}
+use Rattle.cs_refine.specs.Parts.{ArePartsOf}
 use Rattle.cs_reclaim.specs.Retired.{IsRetireFull, IsRetireWorn, IsRetired}
 use Rattle.cs_core.specs.declared.roots.Root.{Root as Noted}
 use Rattle.cs_core.specs.States.{AreRootsOf, IsStateOf}

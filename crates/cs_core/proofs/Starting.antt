@@ -16,8 +16,8 @@ use Rattle.cs_model.specs.Lists.{◌∈◌}
 use Rattle.cs_model.specs.Open.{opened_state, root_read}
 use Rattle.cs_model.specs.Recovery.{Recovers}
 use Rattle.cs_model.specs.State.{State}
-use Rattle.cs_bridge.proofs.Started.{new_started}
-use Rattle.cs_bridge.specs.Devices.{IsDiskOf}
+use Rattle.cs_refine.proofs.Started.{new_started}
+use Rattle.cs_refine.specs.Devices.{IsDiskOf}
 use Rattle.cs_core.specs.declared.roots.Root.{Root as Noted}
 use Rattle.cs_core.specs.Started.{IsNewStore, new_stored}
 use Rattle.cs_core.specs.States.{AreRootsOf, IsStateOf}

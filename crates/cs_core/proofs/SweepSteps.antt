@@ -10,7 +10,7 @@ use Rattle.cs_model.specs.Grounds.{Refuses}
 use Rattle.cs_model.specs.Refusal.{Halted, NotSweepable, Refusal}
 use Rattle.cs_model.specs.State.{Abandon, Abandoned, BeginSweep, MoveOne, Refused, Retire, State, Sweeping}
 use Rattle.cs_model.specs.Step.{Step}
-use Rattle.cs_bridge.proofs.Calls.{abandon, sweep}
+use Rattle.cs_refine.proofs.Calls.{abandon, sweep}
 use Rattle.cs_reclaim.specs.Sweeps.{IsNotSweepable}
 use Rattle.cs_core.specs.States.{IsStateOf}
 use Rattle.cs_core.specs.Steps.{Declines, Steps}

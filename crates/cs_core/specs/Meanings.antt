@@ -10,7 +10,7 @@ use Rattle.cs_model.specs.Formats.{Formats}
 use Rattle.cs_model.specs.Refusal.{BadDigest, BadLength, BadMagic, BadPadding, BadVersion, DeviceFault, Full, Halted, InFlight, IndexFull, NoRound, NotSweepable, Refusal as Ground, StillLive, TooLarge, WornOut}
 use Rattle.cs_model.specs.State as model
 use Rattle.cs_model.specs.State.{Command}
-use Rattle.cs_bridge.specs.Bridge.{name}
+use Rattle.cs_refine.specs.Bridge.{name}
 use Rattle.cs_core.specs.declared.events.Event.{Event}
 use Rattle.cs_core.specs.declared.events.Event.TheVariants.{Abandon, Begin, BeginSweep, Delete, End, Get, Issue, MoveOne, Put, Retire, Settle, Stage}
 use Rattle.cs_core.specs.declared.events.Reply.{Reply}

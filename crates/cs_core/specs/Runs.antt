@@ -4,7 +4,7 @@ use Rattle.std.specs.List.{AllByRecursion}
 use Rattle.cs_deps.specs.declared.elements.Element.{Element as Name}
 use Rattle.cs_disk.specs.Disk.{Image, LeavesOnly, State as DiskState, page}
 use Rattle.cs_extent.specs.State.{shape}
-use Rattle.cs_bridge.specs.Crashes.{IsPrefix}
+use Rattle.cs_refine.specs.Crashes.{IsPrefix}
 use Rattle.cs_core.specs.declared.events.Event.{Event}
 use Rattle.cs_core.specs.declared.events.Event.TheVariants.{Begin, End}
 use Rattle.cs_core.specs.declared.events.Reply.{Reply}

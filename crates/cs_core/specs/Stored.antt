@@ -18,7 +18,7 @@ use Rattle.cs_model.specs.Append.{chunk_frames, page_counts}
 use Rattle.cs_model.specs.Events.{Chunked}
 use Rattle.cs_model.specs.Extents.{Fits, ForPut}
 use Rattle.cs_reclaim.specs.Sweeps.{IsSwept}
-use Rattle.cs_bridge.specs.Rounds.{members_of as members}
+use Rattle.cs_refine.specs.Rounds.{members_of as members}
 use Rattle.cs_core.specs.declared.roots.Root.{Root}
 
 -- What a core has in memory besides its disk and its history.

@@ -7,7 +7,7 @@
 //! a one say the clauses `crash` and `left` of `Core::apply`, of many calls one after another `a_crash_of_a_run_leaves_a_prefix`; that
 //! it is opened as that says `recovers` of `Core::open`.
 ghost use Rattle.std.specs.Prelude.{All, IfErr, IfOk, IsOk, IsSome, IsTrue, MatchOption, MatchResult, None, OnErr, OnOk, Some, [], length, take, ℕ, ◌*◌, ◌+◌, ◌<◌, ◌^◌, ◌↔◌, ◌≡◌, ◌≢◌, ◌≤◌, ◌⊎◌};
-ghost use Rattle.cs_bridge.specs.Crashes.{IsPrefix};
+ghost use Rattle.cs_refine.specs.Crashes.{IsPrefix};
 ghost use Rattle.cs_chunk.specs.Reads.{IsNoAnswer};
 ghost use Rattle.cs_deps.specs.Chain.{IsChainOf};
 ghost use Rattle.cs_deps.specs.Named.{IsWithin};

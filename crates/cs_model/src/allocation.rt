@@ -20,7 +20,7 @@ pub fn a_frame_goes_to_one_extent()
 {}
 
 /// An append gives one locator and one world.
-pub fn an_append_has_one_outcome()
+pub fn appends_are_deterministic()
     ensures { (S : Shape) (w v u : World) (purpose : Purpose) (bs : List Page) (l k : Locator)
         → Append S w purpose bs l v → Append S w purpose bs k u → (l ≡ k) × (v ≡ u) }
 {}

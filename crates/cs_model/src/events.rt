@@ -16,7 +16,7 @@ ghost use Rattle.cs_model.specs.Step.{DependsOn, History, Step};
 ghost use Rattle.std.specs.Prelude.{◌≡◌, ◌≢◌, ◌↔◌, ◌≤◌, ◌++◌, [], ℕ, List, length};
 
 /// In every sound state every event has an answer: it is refused, or does what it does. So the refusals are exact.
-pub fn every_event_has_an_answer()
+pub fn events_are_total()
     ensures { (S : Shape) (F : Formats) (s : State) (event : Event)
         → IsShape S → IsFormat S F → Sound S F s → Bounded S F s → (reply : Reply) × (t : State)
         × Step S F s event reply t }
@@ -60,7 +60,7 @@ pub fn there_is_a_round()
 {}
 
 /// What a put, a delete, a Stage, a move or a Retire does leads to one state, and every Begin takes the same members.
-pub fn what_an_event_does_is_one_thing()
+pub fn events_are_deterministic()
     ensures put { (S : Shape) (F : Formats) (s t u : State) (id : ℕ) (bytes : List ℕ) (r q : Reply)
         → IsShape S → IsFormat S F
         → Does S F s (Put id bytes) r t → Does S F s (Put id bytes) q u → u ≡ t }

@@ -11,9 +11,8 @@ mod sets;
 mod writeback;
 
 pub use allocation::{
-    a_frame_goes_to_one_extent, a_frame_is_appended_or_the_extents_are_full,
-    an_append_has_one_outcome, an_append_takes_pages, frames_fit_where_they_can_be_appended,
-    what_is_appended_is_read,
+    a_frame_goes_to_one_extent, a_frame_is_appended_or_the_extents_are_full, an_append_takes_pages,
+    appends_are_deterministic, frames_fit_where_they_can_be_appended, what_is_appended_is_read,
 };
 pub use crashes::{
     a_crash_leaves_a_prefix, any_moment_of_an_event, checkpoints_are_safe, every_event_keeps,
@@ -21,10 +20,10 @@ pub use crashes::{
 };
 pub use events::{
     all_is_persistent_at_rest, commands_go_on, each_member_is_issued_once,
-    every_event_has_an_answer, the_frontier_is_exact, the_frontier_rises, there_is_a_frontier,
-    there_is_a_round, what_an_event_does_is_one_thing, what_an_event_leaves,
+    events_are_deterministic, events_are_total, the_frontier_is_exact, the_frontier_rises,
+    there_is_a_frontier, there_is_a_round, what_an_event_leaves,
 };
-pub use premises::{a_format_can_be, geometries_are_shapes};
+pub use premises::{formats_exist, geometries_are_shapes};
 pub use recovery::{
     a_new_store_is_empty, an_image_gives_one_map, frames_tell_their_payload,
     recovery_looks_at_the_pages_of_the_store, what_was_there_at_open_stays,

@@ -12,6 +12,6 @@ pub fn geometries_are_shapes()
 {}
 
 /// The laws that are asked of a format hold together.
-pub fn a_format_can_be()
+pub fn formats_exist()
     ensures { (S : Shape) → IsFormat S example_format }
 {}

@@ -6,9 +6,9 @@ use Rattle.cs_core.specs.declared.events.Reply.{Reply as Told}
 use Rattle.cs_core.specs.Stored.{Stored, page_total, settled_rooms}
 use Rattle.cs_core.specs.Views.{IsFound, IsIn, IsReached, View}
 use Rattle.cs_core.specs.States.{IsStateOf}
-use Rattle.cs_bridge.specs.Devices.{IsDiskOf}
+use Rattle.cs_refine.specs.Devices.{IsDiskOf}
 use Rattle.cs_model.specs.Device.{Shape}
-use Rattle.cs_bridge.specs.Crashes.{IsPrefix}
+use Rattle.cs_refine.specs.Crashes.{IsPrefix}
 use Rattle.cs_disk.specs.Disk.{Leaves, State as DiskState, page}
 use Rattle.cs_core.specs.Meanings.{commands_said}
 use Rattle.cs_core.proofs.Answering.{answered_shape, answered_writes, full_shape, full_writes}

@@ -1,5 +1,0 @@
-use Rattle.cs_bridge.proofs.events.puts_are_puts.Goals as goal
-use Rattle.cs_bridge.proofs.Calls.{put}
-
-pub returns : goal.returns
-returns c = λ x y g h i j s id bytes cs ls whole are cut all set. put x g i s are y h j id bytes cs ls whole cut all set

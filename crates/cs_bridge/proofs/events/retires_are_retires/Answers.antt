@@ -1,5 +1,0 @@
-use Rattle.cs_bridge.proofs.events.retires_are_retires.Goals as goal
-use Rattle.cs_bridge.proofs.Calls.{retire}
-
-pub returns : goal.returns
-returns c = λ x y g h i j s e v whole are swept inside same nothing done. retire x g i s whole are y h j e v swept inside same nothing done

@@ -1,8 +1,0 @@
-use Rattle.cs_bridge.proofs.events.stages_are_stages.Goals as goal
-use Rattle.cs_bridge.proofs.Calls.{merge_staged, table_staged}
-
-pub returns : goal.returns
-returns c = record {
-  table = λ x y g h i j s v whole are some few done. table_staged x g i s whole are y h j v some few done;
-  merged = λ x y g h i j s v whole are some many done. merge_staged x g i s whole are y h j v some many done;
-}

@@ -1,8 +1,0 @@
-use Rattle.cs_bridge.proofs.events.sweeps_are_sweeps.Goals as goal
-use Rattle.cs_bridge.proofs.Calls.{abandon, sweep}
-
-pub returns : goal.returns
-returns c = record {
-  begun = λ x y g i s e are may same extents. sweep x y g i s e are same may extents;
-  abandoned = λ x y g i s e are swept same extents. abandon x y g i s e are same swept extents;
-}

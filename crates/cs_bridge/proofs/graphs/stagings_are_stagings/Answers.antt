@@ -1,9 +1,0 @@
-use Rattle.cs_bridge.proofs.graphs.stagings_are_stagings.Goals as goal
-use Rattle.cs_bridge.proofs.Stagings.{page_staged, version_staged, root_staged}
-
-pub returns : goal.returns
-returns c = record {
-  page = λ S F s g p b d sound is needs. page_staged S s.world g sound.safe.staged (λ v has. (sound.safe.superblocks_below v has).1) is p b d needs;
-  superblock = λ S F s g u d next sound is version els same needs. version_staged S s.world g sound.safe.staged (λ v has. (sound.safe.superblocks_below v has).1) is u d next version els same needs;
-  root = λ S F s g r d next sound is version els same needs. root_staged S s.world g sound.safe.staged (λ v has. (sound.safe.superblocks_below v has).1) is r d next version els same needs;
-}

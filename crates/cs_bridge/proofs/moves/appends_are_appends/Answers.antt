@@ -1,6 +1,0 @@
-use Rattle.cs_bridge.proofs.moves.appends_are_appends.Goals as goal
-use Rattle.cs_bridge.proofs.Appending.{after_append}
-use Rattle.cs_bridge.proofs.Shapes.{store_shape}
-
-pub returns : goal.returns
-returns c = λ x y g h w reason frame l whole is a. after_append x g w (store_shape x whole) is reason frame l y h a

@@ -1,6 +1,0 @@
-use Rattle.cs_bridge.proofs.moves.many_appends_are_appends.Goals as goal
-use Rattle.cs_bridge.proofs.Keeping.{after_appends}
-use Rattle.cs_bridge.proofs.Shapes.{store_shape}
-
-pub returns : goal.returns
-returns c = λ x y g h w reason frames ls whole is all. after_appends x y g h w reason frames ls (store_shape x whole) is all

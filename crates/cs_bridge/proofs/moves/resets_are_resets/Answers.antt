@@ -1,8 +1,0 @@
-use Rattle.std.proofs.Common.{refl, sym, ap, ◌∙◌}
-use Rattle.cs_model.specs.Extents.{Extents, emptied}
-use Rattle.cs_bridge.proofs.moves.resets_are_resets.Goals as goal
-use Rattle.cs_bridge.proofs.Resetting.{after_reset}
-
-pub returns : goal.returns
-returns c = λ x y g w e is inside same extents.
-    after_reset x y g w e is inside same (emptied w.extents e w.root) refl (extents ∙ ap (λ (z : Extents). emptied z e w.root) (sym is.extents))

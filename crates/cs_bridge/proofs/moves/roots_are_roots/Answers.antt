@@ -1,5 +1,0 @@
-use Rattle.cs_bridge.proofs.moves.roots_are_roots.Goals as goal
-use Rattle.cs_bridge.proofs.Rooting.{after_root}
-
-pub returns : goal.returns
-returns c = λ x g h w v needs n runs m pointers is staged names kept others. after_root x g h w is v needs staged names n runs m pointers kept others

@@ -1,8 +1,0 @@
-use Rattle.cs_bridge.proofs.refusals.puts_are_refused_alike.Goals as goal
-use Rattle.cs_bridge.proofs.RefusedPuts.{put_full, put_worn}
-
-pub returns : goal.returns
-returns c = record {
-  full = λ x g i s bytes whole are. put_full x g i s whole are bytes;
-  worn = λ x g i s id bytes whole are sound bounded. put_worn x g i s whole are sound bounded id bytes;
-}

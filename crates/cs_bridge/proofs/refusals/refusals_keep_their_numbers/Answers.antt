@@ -1,8 +1,0 @@
-use Rattle.cs_bridge.proofs.refusals.refusals_keep_their_numbers.Goals as goal
-use Rattle.cs_bridge.proofs.Numbered.{one_refusal, same_number}
-
-pub returns : goal.returns
-returns c = record {
-  number = λ f. same_number f;
-  frames = λ S view kind l f at. one_refusal S view kind l f at;
-}

@@ -1,8 +1,0 @@
-use Rattle.cs_bridge.proofs.refusals.stages_are_refused_alike.Goals as goal
-use Rattle.cs_bridge.proofs.RefusedStages.{stage_full, stage_worn}
-
-pub returns : goal.returns
-returns c = record {
-  full = λ x g i s whole are. stage_full x g i s whole are;
-  worn = λ x g i s whole are sound bounded room. stage_worn x g i s whole are sound bounded room;
-}

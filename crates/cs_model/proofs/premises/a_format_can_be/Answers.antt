@@ -1,5 +1,0 @@
-use Rattle.cs_model.proofs.premises.a_format_can_be.Goals as goal
-use Rattle.cs_model.proofs.Examples.{example_is_format}
-
-pub returns : goal.returns
-returns c = example_is_format

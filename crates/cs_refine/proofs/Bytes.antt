@@ -1,0 +1,144 @@
+-- What is kept for a frame's elements is what the machine writes for them.
+use Rattle.std.proofs.Common.{◌≡◌, inl, inr, ⊎_elim, ◌⊎◌, ℕ, suc, ◌+◌, ◌<◌, ◌≤◌, List, [], ◌∷◌, length, Some, get_or, if◌then◌else◌, false, eq-eqb, refl, sym, ap, ◌∙◌, subst, arith}
+use Rattle.std.specs.Prelude.{slice_index_or}
+use Rattle.std.proofs.lemmas.Option.{same_Some}
+use Rattle.cs_deps.specs.declared.elements.Element.TheVariants.{Plain, Version}
+use Rattle.cs_deps.specs.Staging.{Staging}
+use Rattle.cs_deps.specs.State.{State as GraphState, Write as PageWrite, write_of}
+use Rattle.cs_model.specs.Append.{appended, stage_pages}
+use Rattle.cs_model.specs.Cut.{Cut, satisfied}
+use Rattle.cs_model.specs.Device.{Page, Shape}
+use Rattle.cs_model.specs.Disk.{page_write}
+use Rattle.cs_model.specs.Element.{A_root, A_superblock, A_write, Element, Write}
+use Rattle.cs_model.specs.Extents.{Extents, Purpose as Reason}
+use Rattle.cs_model.specs.Lists.{◌∈◌}
+use Rattle.cs_model.specs.Machine.{StagePage, World, happens, superblock_now, write_now}
+use Rattle.cs_model.proofs.Appends.{pages_superblocks}
+use Rattle.cs_model.proofs.Waiting.{listed}
+use Rattle.cs_frame.specs.Formats.{extents_of as listed_extents, formats_of}
+use Rattle.cs_frame.specs.Superblocks.{spelled_superblock}
+use Rattle.cs_frame.specs.declared.locators.Locator.{Locator}
+use Rattle.cs_extent.specs.Appended.{IsAppended}
+use Rattle.cs_extent.specs.Frames.{IsOfFrame, next_superblock, superblock_family}
+use Rattle.cs_extent.specs.State.{State, extents_of, need_of, shape}
+use Rattle.cs_refine.specs.Bridge.{family_of, name}
+use Rattle.cs_refine.specs.Stores.{AreWritesOf, IsStagingOf, IsWorldOf}
+
+-- the list of extents that one section speaks of
+pub all_listed : (speaks pointers generations : ℕ → ℕ) (first : ℕ) (rows : List (ℕ × ℕ)) → ((e : ℕ) → speaks e ≡ 0)
+    → ((k : ℕ) → (pointers (first + k), generations (first + k)) ≡ slice_index_or rows k (0, 0))
+    → listed_extents speaks pointers generations 0 first (length rows) ≡ rows
+all_listed speaks pointers generations first [] one each = refl
+all_listed speaks pointers generations first (row ∷ rows) one each =
+    ap (λ b. if b then (pointers first, generations first) ∷ listed_extents speaks pointers generations 0 (suc first) (length rows)
+    else listed_extents speaks pointers generations 0 (suc first) (length rows))
+    (eq-eqb (speaks first) 0 (one first))
+    ∙ ap (λ (r : ℕ × ℕ). r ∷ listed_extents speaks pointers generations 0 (suc first) (length rows))
+    (ap (λ (n : ℕ). (pointers n, generations n)) (let n : first ≡ first + 0 = omega arith in n) ∙ each 0)
+    ∙ ap (λ (l : List (ℕ × ℕ)). row ∷ l) (all_listed speaks pointers generations (suc first) rows one
+    (λ k. ap (λ (n : ℕ). (pointers n, generations n)) (let n : suc first + k ≡ first + suc k = omega arith in n) ∙ each (suc k)))
+
+-- page k of those that are staged from page i of e on, after n plain writes
+pub record IsPage (S : Shape) (e i n : ℕ) (bs : List Page) (m : Element) : Type 0 where
+  pub place : ℕ
+  pub inside : place < length bs
+  pub write : Write
+  pub is : m ≡ A_write write
+  pub number : write.number ≡ n + 1 + place
+  pub page : write.page ≡ S.address e (i + place)
+  pub bytes : write.bytes ≡ slice_index_or bs place []
+
+pub pages_staged : (S : Shape) (e i : ℕ) (bs : List Page) (w : World) (m : Element) → m ∈ (stage_pages S w e i bs).elements → (m ∈ w.elements) ⊎ IsPage S e i w.written bs m
+pages_staged S e i [] w m has = inl has
+pages_staged S e i (b ∷ bs) w m has = ⊎_elim
+    (λ (first : m ∈ (A_write (write_now S w (S.address e i) b) ∷ w.elements)). ⊎_elim
+    (λ (is : m ≡ A_write (write_now S w (S.address e i) b)). inr (record {
+      place = 0;
+      inside = omega arith;
+      write = write_now S w (S.address e i) b;
+      is = is;
+      number = (let n : suc w.written ≡ w.written + 1 + 0 = omega arith in n);
+      page = ap (S.address e) (let n : i ≡ i + 0 = omega arith in n);
+      bytes = refl;
+    }))
+    (λ (old : m ∈ w.elements). inl old) first)
+    (λ (later : IsPage S e (suc i) (suc w.written) bs m). inr (record {
+      place = suc later.place;
+      inside = (let lt : later.place < length bs = later.inside in omega arith);
+      write = later.write;
+      is = later.is;
+      number = later.number ∙ (let n : suc w.written + 1 + later.place ≡ w.written + 1 + suc later.place = omega arith in n);
+      page = later.page ∙ ap (S.address e) (let n : suc i + later.place ≡ i + suc later.place = omega arith in n);
+      bytes = later.bytes;
+    }))
+    (pages_staged S e (suc i) bs (happens S w (StagePage (S.address e i) b)) m has)
+
+-- what was staged before is not of the next frame
+pub not_of_frame : (S : Shape) (need : ℕ) (w : World) (s : Staging) (count : ℕ) (m : Element) → IsStagingOf S need w s → m ∈ w.elements → IsOfFrame s count (name m) → ⊥
+not_of_frame S need w s count (A_write x) is has of =
+    let low = (is.numbers x.number).1 (x, listed w.elements (A_write x) has, refl) in
+    let le : x.number ≤ w.written = low.1 in let e : w.written ≡ s.staged = is.written in let lt : s.staged < x.number = of.0 in absurd (omega arith)
+not_of_frame S need w s count (A_superblock u) is has of =
+    let le : u.version ≤ w.superblocks 0 = (is.superblocks u (listed w.elements (A_superblock u) has)).1 in
+    let e : w.superblocks 0 ≡ get_or s.latest superblock_family 0 = is.superblock in let n : u.version ≡ get_or s.latest superblock_family 0 + 1 = of.1 in absurd (omega arith)
+not_of_frame S need w s count (A_root r) is has of = absurd (let other : 1 ≡ 0 = of.0 in omega (arith, other))
+
+module _ (x : State) (g : GraphState) (w : World) (one : (e : ℕ) → (shape x).section e ≡ 0) (is : IsWorldOf x g w)
+    (reason : Reason) (frame : List (List ℕ)) (l : Locator) (y : State) (h : GraphState) (a : IsAppended x g reason frame l y h) where
+  abbrev after_pages : World
+  after_pages = stage_pages (shape x) w l.extent (w.extents.pointer l.extent) frame
+
+  abbrev next : World
+  next = appended (shape x) w l.extent (need_of x) frame
+
+  module _ (same_extents : next.extents ≡ extents_of y) (persistent : next.persistent ≡ w.persistent) where
+    version : suc (after_pages.superblocks 0) ≡ get_or g.staging.latest superblock_family 0 + 1
+    version = let n : after_pages.superblocks 0 ≡ w.superblocks 0 = ap (λ (f : ℕ → ℕ). f 0) (pages_superblocks (shape x) w l.extent (w.extents.pointer l.extent) frame) in
+        let e : w.superblocks 0 ≡ get_or g.staging.latest superblock_family 0 = is.staging.superblock in omega arith
+
+    rows : listed_extents (shape x).section after_pages.extents.pointer after_pages.extents.generation 0 0 (shape x).extents ≡ y.written
+    rows = ap (λ (n : ℕ). listed_extents (shape x).section after_pages.extents.pointer after_pages.extents.generation 0 0 n) (ap (λ (S : Shape). S.extents) (sym a.same_shape))
+        ∙ all_listed (shape x).section after_pages.extents.pointer after_pages.extents.generation 0 y.written one
+        (λ k. ap (λ (n : ℕ). (after_pages.extents.pointer n, after_pages.extents.generation n)) (let n : 0 + k ≡ k = omega arith in n)
+        ∙ ap (λ (z : Extents). (z.pointer k, z.generation k)) same_extents)
+
+    superblock_is : page_write (shape x) (formats_of (shape x)) (A_superblock (superblock_now (shape x) after_pages 0 (need_of x))) ≡ ((shape x).section_page 0, a.superblock.0)
+    superblock_is = ap (λ (b : List ℕ). ((shape x).section_page 0, b))
+        (ap (λ (n : ℕ). spelled_superblock n (shape x).pages (listed_extents (shape x).section after_pages.extents.pointer after_pages.extents.generation 0 0 (shape x).extents)) version
+        ∙ ap (λ (q : List (ℕ × ℕ)). spelled_superblock (get_or g.staging.latest superblock_family 0 + 1) (shape x).pages q) rows
+        ∙ ap (λ (S : Shape). spelled_superblock (get_or g.staging.latest superblock_family 0 + 1) S.pages y.written) (sym a.same_shape)
+        ∙ sym a.superblock.2.spelled)
+
+    superblock_kept : (j : ℕ) → j ≡ 0 → (p : PageWrite) → write_of h (Version (family_of j) (suc (after_pages.superblocks j))) ≡ Some p
+        → p ≡ page_write (shape x) (formats_of (shape x)) (A_superblock (superblock_now (shape x) after_pages j (need_of x)))
+    superblock_kept j first p kept =
+        let there : write_of h (next_superblock g.staging) ≡ Some p = ap (λ (n : ℕ). write_of h (Version superblock_family n)) (sym version)
+        ∙ subst (λ (i : ℕ). write_of h (Version (family_of i) (suc (after_pages.superblocks i))) ≡ Some p) first kept in
+        same_Some p ((shape x).section_page 0, a.superblock.0) (sym there ∙ a.superblock.1)
+        ∙ sym superblock_is ∙ ap (λ (i : ℕ). page_write (shape x) (formats_of (shape x)) (A_superblock (superblock_now (shape x) after_pages i (need_of x)))) (sym first)
+
+    page_kept : (m : Element) (p : PageWrite) → IsPage (shape x) l.extent (w.extents.pointer l.extent) w.written frame m → write_of h (name m) ≡ Some p
+        → p ≡ page_write (shape x) (formats_of (shape x)) m
+    page_kept m p of kept =
+        let number : of.write.number ≡ g.staging.staged + 1 + of.place = of.number ∙ ap (λ (n : ℕ). n + 1 + of.place) is.staging.written in
+        let begins : l.page ≡ w.extents.pointer l.extent = ap (λ (k : Locator). k.page) a.place ∙ ap (λ (z : Extents). z.pointer l.extent) (sym is.extents) in
+        a.writes of.place p of.inside (ap (λ (n : ℕ). write_of h (Plain n)) (sym number) ∙ ap (λ (k : Element). write_of h (name k)) (sym of.is) ∙ kept)
+        ∙ ap (λ (n : ℕ). ((shape x).address l.extent (n + of.place), slice_index_or frame of.place [])) begins
+        ∙ (λ j. ((sym of.page) j, (sym of.bytes) j))
+        ∙ ap (page_write (shape x) (formats_of (shape x))) (sym of.is)
+
+    old_kept : (m : Element) (p : PageWrite) → m ∈ w.elements → satisfied next.persistent m ≡ false → write_of h (name m) ≡ Some p → p ≡ page_write (shape x) (formats_of (shape x)) m
+    old_kept m p has waits kept = ⊎_elim
+        (λ (before : write_of g (name m) ≡ Some p). is.writes m p (has, ap (λ (X : Cut). satisfied X m) (sym persistent) ∙ waits) before)
+        (λ (of : IsOfFrame g.staging (length frame) (name m)). absurd (not_of_frame (shape x) (need_of x) w g.staging (length frame) m is.staging has of))
+        (a.others (name m) p kept)
+
+    pub append_writes : AreWritesOf (shape x) next h
+    append_writes m p waits kept = ⊎_elim
+        (λ (new : m ≡ A_superblock (superblock_now (shape x) after_pages ((shape x).section l.extent) (need_of x))).
+        superblock_kept ((shape x).section l.extent) (one l.extent) p (ap (λ (k : Element). write_of h (name k)) (sym new) ∙ kept) ∙ ap (page_write (shape x) (formats_of (shape x))) (sym new))
+        (λ (there : m ∈ after_pages.elements). ⊎_elim
+        (λ (old : m ∈ w.elements). old_kept m p old waits.1 kept)
+        (λ (page : IsPage (shape x) l.extent (w.extents.pointer l.extent) w.written frame m). page_kept m p page kept)
+        (pages_staged (shape x) l.extent (w.extents.pointer l.extent) frame w m there))
+        waits.0

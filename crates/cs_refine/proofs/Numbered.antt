@@ -1,0 +1,48 @@
+-- The refusals of frames, by the machine and by the store's calls.
+use Rattle.std.proofs.Common.{◌≡◌, ℕ, ◌≤◌, arith, List, Some, refl}
+use Rattle.cs_chunk.proofs.FrameFaults.{in_range}
+use Rattle.cs_chunk.specs.Reads.{fault_at, pages_at, refusal_for as refusal_of_fault}
+use Rattle.cs_deps.specs.Refusals.{number_of}
+use Rattle.cs_frame.specs.declared.faults.FormatFault.{FormatFault}
+use Rattle.cs_frame.specs.declared.faults.FormatFault.TheVariants as fault
+use Rattle.cs_frame.specs.declared.frames.FrameKind.{FrameKind}
+use Rattle.cs_frame.specs.declared.locators.Locator.{Locator}
+use Rattle.cs_frame.specs.Faults.{fault_number}
+use Rattle.cs_frame.specs.Formats.{refusal_of}
+use Rattle.cs_frame.specs.Frames.{kind_byte}
+use Rattle.cs_model.specs.Device.{Shape}
+use Rattle.cs_model.specs.Numbers.{number_of as number_in_machine}
+use Rattle.cs_model.specs.Refusal.{BadDigest, BadLength, BadMagic, BadPadding, BadVersion, DeviceFault, Full, Halted, InFlight, IndexFull, NoRound, NotSweepable, Refusal as Ground, StillLive, TooLarge, WornOut}
+use Rattle.cs_refine.specs.Refusals.{refusal_for}
+
+pub same_number : (f : Ground) → number_of (refusal_for f) ≡ number_in_machine f
+same_number DeviceFault = refl
+same_number InFlight = refl
+same_number BadMagic = refl
+same_number BadDigest = refl
+same_number BadLength = refl
+same_number BadPadding = refl
+same_number BadVersion = refl
+same_number Full = refl
+same_number TooLarge = refl
+same_number IndexFull = refl
+same_number NotSweepable = refl
+same_number StillLive = refl
+same_number WornOut = refl
+same_number Halted = refl
+same_number NoRound = refl
+
+-- a fault that a frame may have is one refusal by both
+in_range_one : (f : FormatFault) → 20 ≤ fault_number f → fault_number f ≤ 24 → refusal_of_fault f ≡ refusal_for (refusal_of f)
+in_range_one fault.BadGeometry low high = absurd (let le : 20 ≤ 7 = low in omega arith)
+in_range_one fault.OutOfMemory low high = absurd (let le : 20 ≤ 9 = low in omega arith)
+in_range_one fault.OutOfOrder low high = absurd (let le : 25 ≤ 24 = high in omega arith)
+in_range_one fault.BadMagic low high = refl
+in_range_one fault.BadDigest low high = refl
+in_range_one fault.BadLength low high = refl
+in_range_one fault.BadPadding low high = refl
+in_range_one fault.BadVersion low high = refl
+
+pub one_refusal : (S : Shape) (view : ℕ → List ℕ) (kind : FrameKind) (l : Locator) (f : FormatFault) → fault_at S view kind l ≡ Some f
+    → refusal_of_fault f ≡ refusal_for (refusal_of f)
+one_refusal S view kind l f at = let range = in_range (kind_byte kind) (pages_at S view l) f at in in_range_one f range.0 range.1

@@ -1,0 +1,123 @@
+-- Why a MoveOne is refused.
+use Rattle.std.proofs.Common.{◌≡◌, ◌↔◌, inl, inr, ⊎_elim, ℕ, ◌+◌, ◌≤◌, true, List, ◌∷◌, None, length, refl, sym, ap, ◌∙◌, subst, le_of_eq, le_trans, arith}
+use Rattle.std.specs.Prelude.{slice_index}
+use Rattle.cs_deps.specs.State.{State as GraphState}
+use Rattle.cs_extent.specs.Frames.{IsWorn, superblock_family}
+use Rattle.cs_extent.specs.State.{IsWhole, State as ExtentsState, extents_of, shape}
+use Rattle.cs_frame.specs.Formats.{formats_of}
+use Rattle.cs_index.specs.State.{State as IndexState, index_of}
+use Rattle.cs_model.proofs.Needs.{append_there}
+use Rattle.cs_model.proofs.Outcomes.{first_one, frame_generations, not_nothing}
+use Rattle.cs_model.proofs.Places.{placed_or_full}
+use Rattle.cs_model.specs.Append.{Append}
+use Rattle.cs_model.specs.Element.{Locator as Place}
+use Rattle.cs_model.specs.Events.{Does, ReadsNow, newest_page}
+use Rattle.cs_model.specs.Extents.{Extents, ForMove, NoPlace, Placed}
+use Rattle.cs_model.specs.Formats.{ChunkFrame}
+use Rattle.cs_model.specs.Grounds.{NoRoomToMove, PastLimit, WouldPass}
+use Rattle.cs_model.specs.Index.{FirstLive, live_at}
+use Rattle.cs_model.specs.Lists.{replaced}
+use Rattle.cs_model.specs.Machine.{World}
+use Rattle.cs_model.specs.Sound.{Bounded, Sound}
+use Rattle.cs_model.specs.State.{MoveOne, Moved, NoneLive, Reply, State, index_now}
+use Rattle.cs_reclaim.specs.Moves.{chunk_frame}
+use Rattle.cs_refine.proofs.Indexes.{first_live, looked_up}
+use Rattle.cs_refine.proofs.Numbers.{IsPast, append_numbers, past, past_too}
+use Rattle.cs_refine.proofs.RefusedPuts.{no_command, no_root, young}
+use Rattle.cs_refine.proofs.Shapes.{one_section, store_format, store_shape}
+use Rattle.cs_refine.specs.Parts.{ArePartsOf}
+
+module _ (x : ExtentsState) (g : GraphState) (i : IndexState) (s : State) (whole : IsWhole x) (are : ArePartsOf x g i s)
+    (e id chunk : ℕ) (l : Place) (payload : List ℕ) (live : FirstLive (index_of i) e id chunk l) (reads : ReadsNow (shape x) (formats_of (shape x)) s l ChunkFrame payload) where
+  first : FirstLive (index_now s) e id chunk l
+  first = first_live (index_of i) (index_now s) (looked_up i s.table s.runs are.index) e id chunk l live
+
+  -- whatever is first on the extent is this chunk, and has this payload
+  same_payload : (d k : ℕ) (m : Place) (bytes : List ℕ) → FirstLive (index_now s) e d k m → ReadsNow (shape x) (formats_of (shape x)) s m ChunkFrame bytes → bytes ≡ payload
+  same_payload d k m bytes other there =
+      let one = first_one (shape x) (formats_of (shape x)) (store_shape x whole) (store_format x whole) s e d id k chunk m l other first in
+      let read = subst (λ (z : Place). ReadsNow (shape x) (formats_of (shape x)) s z ChunkFrame bytes) one.2 there in
+      (store_format x whole).one_payload (newest_page s) l.extent l.page ChunkFrame bytes payload
+      (let inside = read.inside in omega arith) (let inside = reads.inside in omega arith) read.stand reads.stand
+
+  placed_there : (d : ℕ) → Placed (shape x) (extents_of x) ForMove (length (chunk_frame x payload)) d → Placed (shape x) s.world.extents ForMove (length (chunk_frame x payload)) d
+  placed_there d placed = subst (λ (z : Extents). Placed (shape x) z ForMove (length (chunk_frame x payload)) d) (sym are.world.extents) placed
+
+  -- a chunk that is moved in the machine shows that there is a place
+  has_place : (bytes : List ℕ) (new : Place) (v : World) → bytes ≡ payload → Append (shape x) s.world ForMove ((formats_of (shape x)).frame ChunkFrame bytes) new v
+      → NoPlace (shape x) (extents_of x) ForMove (length (chunk_frame x payload)) → ⊥
+  has_place bytes new v same a none = none a.extent
+      (subst (λ (b : List ℕ). Placed (shape x) (extents_of x) ForMove (length (chunk_frame x b)) a.extent) same
+      (subst (λ (z : Extents). Placed (shape x) z ForMove (length (chunk_frame x bytes)) a.extent) are.world.extents a.placed))
+
+  pub move_full : NoRoomToMove (shape x) (formats_of (shape x)) s e ↔ NoPlace (shape x) (extents_of x) ForMove (length (chunk_frame x payload))
+  move_full = (
+    (λ none d placed. let a = append_there (shape x) s.world ForMove (chunk_frame x payload) d (placed_there d placed) in
+        none id chunk l a.0 payload (record s { world = a.1 }) first reads (a.1, a.2, refl)),
+    (λ none d k m new bytes mid other there a. has_place bytes new a.0 (same_payload d k m bytes other there) a.1 none),
+  )
+
+  module _ (sound : Sound (shape x) (formats_of (shape x)) s) (bounded : Bounded (shape x) (formats_of (shape x)) s) where
+    abbrev after_move : Place → World → State
+    after_move new v = record s { world = v; table = record { id = id; locators = replaced (live_at (index_now s) id) chunk new } ∷ s.table }
+
+    module _ (new : Place) (v : World) (a : Append (shape x) s.world ForMove (chunk_frame x payload) new v) where
+      numbers : (v.written ≡ s.world.written + length (chunk_frame x payload)) × (v.superblocks 0 ≡ s.world.superblocks 0 + 1) × (v.root ≡ s.world.root)
+      numbers = append_numbers (shape x) (store_shape x whole) (one_section x (store_shape x whole)) s.world v ForMove (chunk_frame x payload) new a
+
+      root_stays : v.root ≡ s.world.root + 0
+      root_stays = let same : v.root ≡ s.world.root = numbers.2 in omega arith
+
+      commands_stay : s.count + length s.commands ≡ s.count + length s.commands + 0
+      commands_stay = omega arith
+
+      move_young : (d : ℕ) → v.extents.generation d ≤ (shape x).greatest_generation
+      move_young d = le_trans
+          (le_of_eq (ap (λ (f : ℕ → ℕ). f d)
+          (frame_generations (shape x) (formats_of (shape x)) (store_shape x whole) (store_format x whole) s (record s { world = v }) ForMove ChunkFrame payload new (v, a, refl))))
+          (young x s sound bounded d)
+
+      worn : IsPast s (length (chunk_frame x payload)) 1 0 0 → IsWorn g.staging (length (chunk_frame x payload))
+      worn (inl over) = inl (let same : s.world.written ≡ g.staging.staged = are.world.staging.written in omega arith)
+      worn (inr (inl over)) = inr (let same : s.world.superblocks 0 ≡ slice_index g.staging.latest superblock_family = are.world.staging.superblock in omega arith)
+      worn (inr (inr (inl over))) = absurd (no_root x s sound bounded over)
+      worn (inr (inr (inr over))) = absurd (no_command x s sound bounded over)
+
+      worn_back : IsWorn g.staging (length (chunk_frame x payload)) → IsPast s (length (chunk_frame x payload)) 1 0 0
+      worn_back (inl over) = inl (let same : s.world.written ≡ g.staging.staged = are.world.staging.written in omega arith)
+      worn_back (inr over) = inr (inl (let same : s.world.superblocks 0 ≡ slice_index g.staging.latest superblock_family = are.world.staging.superblock in omega arith))
+
+      move_past : PastLimit (shape x) (formats_of (shape x)) (after_move new v) → IsWorn g.staging (length (chunk_frame x payload))
+      move_past over = worn (past x (formats_of (shape x)) s (after_move new v) (length (chunk_frame x payload)) 1 0 0 numbers.0 numbers.1 root_stays commands_stay move_young over)
+
+      move_past_back : IsWorn g.staging (length (chunk_frame x payload)) → PastLimit (shape x) (formats_of (shape x)) (after_move new v)
+      move_past_back over = past_too x (formats_of (shape x)) s (after_move new v) (length (chunk_frame x payload)) 1 0 0 numbers.0 numbers.1 root_stays commands_stay (worn_back over)
+
+    -- the numbers of a state don't hang on its table
+    would : (reply : Reply) (t : State) → Does (shape x) (formats_of (shape x)) s (MoveOne e) reply t → PastLimit (shape x) (formats_of (shape x)) t → IsWorn g.staging (length (chunk_frame x payload))
+    would NoneLive t (swept, nothing, same) over = absurd (not_nothing (shape x) (formats_of (shape x)) (store_shape x whole) (store_format x whole) s e id chunk l first nothing)
+    would (Moved d k) t (m, new, bytes, mid, swept, other, undamaged, there, (v, a, same), is) over =
+        move_past new v (subst (λ (b : List ℕ). Append (shape x) s.world ForMove (chunk_frame x b) new v) (same_payload d k m bytes other there) a)
+        (of_table (subst (λ (u : State). PastLimit (shape x) (formats_of (shape x)) u)
+        (is ∙ ap (λ (u : State). record u { table = record { id = d; locators = replaced (live_at (index_now s) d) k new } ∷ u.table }) same) over))
+      where
+        of_table : PastLimit (shape x) (formats_of (shape x)) (record s { world = v; table = record { id = d; locators = replaced (live_at (index_now s) d) k new } ∷ s.table })
+            → PastLimit (shape x) (formats_of (shape x)) (after_move new v)
+        of_table over = over
+    would reply t d over = absurd d
+
+    pub move_worn : s.world.extents.swept e ≡ true → s.opening.damage l ≡ None → ¬ NoPlace (shape x) (extents_of x) ForMove (length (chunk_frame x payload))
+        → WouldPass (shape x) (formats_of (shape x)) s (MoveOne e) ↔ IsWorn g.staging (length (chunk_frame x payload))
+    move_worn swept undamaged room = (
+      (λ passes. would passes.0 passes.1 passes.2 passes.3),
+      (λ over. ⊎_elim
+          (λ (at : (d : ℕ) × Placed (shape x) (extents_of x) ForMove (length (chunk_frame x payload)) d).
+          let a = append_there (shape x) s.world ForMove (chunk_frame x payload) at.0 (placed_there at.0 at.1) in (
+            Moved id chunk,
+            after_move a.0 a.1,
+            (l, a.0, payload, record s { world = a.1 }, swept, first, undamaged, reads, (a.1, a.2, refl), refl),
+            move_past_back a.0 a.1 a.2 over,
+          ))
+          (λ (none : NoPlace (shape x) (extents_of x) ForMove (length (chunk_frame x payload))). absurd (room none))
+          (placed_or_full (shape x) (extents_of x) ForMove (length (chunk_frame x payload)))),
+    )

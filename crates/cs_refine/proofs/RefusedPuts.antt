@@ -1,0 +1,160 @@
+-- Why a put and a delete are refused.
+use Rattle.std.proofs.Common.{◌≡◌, ◌≢◌, ◌⊎◌, ◌↔◌, inl, inr, ℕ, suc, ◌+◌, ◌^◌, ◌≤◌, List, [], ◌∷◌, Some, None, length, refl, sym, ap, ◌∙◌, subst, le_of_eq, le_trans, arith}
+use Rattle.std.specs.Prelude.{slice_index, sum}
+use Rattle.cs_chunk.specs.Chunks.{IsPutWorn}
+use Rattle.cs_deps.specs.State.{State as GraphState}
+use Rattle.cs_extent.specs.Frames.{superblock_family}
+use Rattle.cs_extent.specs.State.{IsWhole, State as ExtentsState, extents_of, shape}
+use Rattle.cs_frame.specs.Formats.{formats_of}
+use Rattle.cs_index.specs.State.{State as IndexState}
+use Rattle.cs_model.proofs.Limits.{not_past}
+use Rattle.cs_model.proofs.Needs.{appends_fit, fits_appends}
+use Rattle.cs_model.proofs.Outcomes.{all_generations}
+use Rattle.cs_model.specs.Append.{AppendAll, chunk_frames, page_counts}
+use Rattle.cs_model.specs.Element.{Locator}
+use Rattle.cs_model.specs.Events.{Chunked, Does}
+use Rattle.cs_model.specs.Extents.{Extents, Fits, ForPut}
+use Rattle.cs_model.specs.Grounds.{NoRoomToPut, PastLimit, WouldPass}
+use Rattle.cs_model.specs.Machine.{World}
+use Rattle.cs_model.specs.Sound.{Bounded, Sound}
+use Rattle.cs_model.specs.State.{Absent, Accepted, Delete, Put, Reply, State, map_now}
+use Rattle.cs_refine.proofs.Numbers.{IsPast, all_numbers, past, past_too}
+use Rattle.cs_refine.proofs.Shapes.{one_section, store_format, store_shape}
+use Rattle.cs_refine.specs.Parts.{ArePartsOf}
+
+module _ (x : ExtentsState) (s : State) (sound : Sound (shape x) (formats_of (shape x)) s) (bounded : Bounded (shape x) (formats_of (shape x)) s) where
+  -- a sound state has passed none, so what is past its greatest is one that grew
+  pub no_command : 2 ^ 63 ≤ s.count + length s.commands + 0 → ⊥
+  no_command over = let le : s.count + length s.commands ≤ 9223372036854775807 = bounded.bounds.commands_fit in omega arith
+
+  pub no_root : 2 ^ 63 ≤ s.world.root + 0 → ⊥
+  no_root over = let le : s.world.root ≤ 9223372036854775807 = bounded.bounds.version_fits in omega arith
+
+  pub no_write : 2 ^ 63 ≤ s.world.written + 0 → ⊥
+  no_write over = let le : s.world.written ≤ 9223372036854775807 = bounded.written_fits in omega arith
+
+  pub no_superblock : 2 ^ 63 ≤ s.world.superblocks 0 + 0 → ⊥
+  no_superblock over = not_past (shape x) (formats_of (shape x)) s sound bounded (inl (inr (inl (0, omega arith, omega arith))))
+
+  -- ---- deletes
+
+  abbrev after_delete : ℕ → State
+  after_delete id = record s { table = record { id = id; locators = [] } ∷ s.table; commands = (id, None) ∷ s.commands }
+
+  pub young : (e : ℕ) → s.world.extents.generation e ≤ (shape x).greatest_generation
+  young e = (sound.safe.extents_fit e).1
+
+  one_more : s.count + suc (length s.commands) ≡ s.count + length s.commands + 1
+  one_more = omega arith
+
+  command_alone : IsPast s 0 0 0 1 → 2 ^ 63 ≤ s.count + length s.commands + 1
+  command_alone (inl over) = absurd (no_write over)
+  command_alone (inr (inl over)) = absurd (no_superblock over)
+  command_alone (inr (inr (inl over))) = absurd (no_root over)
+  command_alone (inr (inr (inr over))) = over
+
+  delete_past : (id : ℕ) (reply : Reply) (t : State) → Does (shape x) (formats_of (shape x)) s (Delete id) reply t → PastLimit (shape x) (formats_of (shape x)) t
+      → (map_now s id ≢ None) × (2 ^ 63 ≤ s.count + length s.commands + 1)
+  delete_past id (Accepted n) t d over = (
+    d.0,
+    command_alone (past x (formats_of (shape x)) s (after_delete id) 0 0 0 1 (omega arith) (omega arith) (omega arith) one_more young
+        (subst (λ (u : State). PastLimit (shape x) (formats_of (shape x)) u) d.2 over)),
+  )
+  delete_past id Absent t d over = absurd (not_past (shape x) (formats_of (shape x)) s sound bounded (subst (λ (u : State). PastLimit (shape x) (formats_of (shape x)) u) d.1 over))
+  delete_past id reply t d over = absurd d
+
+  pub delete_worn : (id : ℕ) → WouldPass (shape x) (formats_of (shape x)) s (Delete id) ↔ ((map_now s id ≢ None) × (2 ^ 63 ≤ s.count + length s.commands + 1))
+  delete_worn id = (
+    (λ would. delete_past id would.0 would.1 would.2 would.3),
+    (λ both. (
+      Accepted (suc (length s.commands)),
+      after_delete id,
+      (both.0, refl, refl),
+      past_too x (formats_of (shape x)) s (after_delete id) 0 0 0 1 (omega arith) (omega arith) (omega arith) one_more (inr (inr (inr both.1))),
+    )),
+  )
+
+-- ---- puts
+
+module _ (x : ExtentsState) (g : GraphState) (i : IndexState) (s : State) (whole : IsWhole x) (are : ArePartsOf x g i s) where
+  abbrev frames : List (List ℕ) → List (List (List ℕ))
+  frames cs = chunk_frames (shape x) (formats_of (shape x)) cs
+
+  here : (cs : List (List ℕ)) → Fits (shape x) s.world.extents ForPut (page_counts (frames cs)) → Fits (shape x) (extents_of x) ForPut (page_counts (frames cs))
+  here cs fits = subst (λ (z : Extents). Fits (shape x) z ForPut (page_counts (frames cs))) are.world.extents fits
+
+  there : (cs : List (List ℕ)) → Fits (shape x) (extents_of x) ForPut (page_counts (frames cs)) → Fits (shape x) s.world.extents ForPut (page_counts (frames cs))
+  there cs fits = subst (λ (z : Extents). Fits (shape x) z ForPut (page_counts (frames cs))) (sym are.world.extents) fits
+
+  pub put_full : (bytes : List ℕ) → NoRoomToPut (shape x) (formats_of (shape x)) s bytes
+      ↔ ((cs : List (List ℕ)) → Chunked (shape x).chunk_bytes bytes cs → Fits (shape x) (extents_of x) ForPut (page_counts (frames cs)) → ⊥)
+  put_full bytes = (
+    (λ none cs cut fits. let all = fits_appends (shape x) (store_shape x whole) s.world ForPut (frames cs) (there cs fits) in
+        none cs all.0 (record s { world = all.1 }) cut (all.1, all.2, refl)),
+    (λ none cs ls mid cut appends. none cs cut (here cs (appends_fit (shape x) (store_shape x whole) s.world appends.0 ForPut (frames cs) ls appends.1))),
+  )
+
+  module _ (sound : Sound (shape x) (formats_of (shape x)) s) (bounded : Bounded (shape x) (formats_of (shape x)) s) where
+    abbrev after_put : (id : ℕ) → List ℕ → List Locator → World → State
+    after_put id bytes ls v = record s { world = v; table = record { id = id; locators = ls } ∷ s.table; commands = (id, Some bytes) ∷ s.commands }
+
+    abbrev Over : List (List ℕ) → Type 0
+    Over cs = IsPutWorn g.staging (page_counts (frames cs)) ⊎ (2 ^ 63 ≤ s.count + length s.commands + 1)
+
+    is_over : (cs : List (List ℕ)) → IsPast s (sum (page_counts (frames cs))) (length (page_counts (frames cs))) 0 1 → Over cs
+    is_over cs (inl over) = inl (inl (let same : s.world.written ≡ g.staging.staged = are.world.staging.written in omega arith))
+    is_over cs (inr (inl over)) = inl (inr (let same : s.world.superblocks 0 ≡ slice_index g.staging.latest superblock_family = are.world.staging.superblock in omega arith))
+    is_over cs (inr (inr (inl over))) = absurd (no_root x s sound bounded over)
+    is_over cs (inr (inr (inr over))) = inr over
+
+    over_too : (cs : List (List ℕ)) → Over cs → IsPast s (sum (page_counts (frames cs))) (length (page_counts (frames cs))) 0 1
+    over_too cs (inl (inl over)) = inl (let same : s.world.written ≡ g.staging.staged = are.world.staging.written in omega arith)
+    over_too cs (inl (inr over)) = inr (inl (let same : s.world.superblocks 0 ≡ slice_index g.staging.latest superblock_family = are.world.staging.superblock in omega arith))
+    over_too cs (inr over) = inr (inr (inr over))
+
+    module _ (id : ℕ) (bytes : List ℕ) (cs : List (List ℕ)) (ls : List Locator) (v : World) (all : AppendAll (shape x) s.world ForPut (frames cs) ls v) where
+      numbers : (v.written ≡ s.world.written + sum (page_counts (frames cs))) × (v.superblocks 0 ≡ s.world.superblocks 0 + length (page_counts (frames cs))) × (v.root ≡ s.world.root)
+      numbers = all_numbers (shape x) (store_shape x whole) (one_section x (store_shape x whole)) s.world v ForPut (frames cs) ls all
+
+      root_stays : v.root ≡ s.world.root + 0
+      root_stays = let same : v.root ≡ s.world.root = numbers.2 in omega arith
+
+      commands_rise : s.count + suc (length s.commands) ≡ s.count + length s.commands + 1
+      commands_rise = omega arith
+
+      put_young : (e : ℕ) → v.extents.generation e ≤ (shape x).greatest_generation
+      put_young e = le_trans
+          (le_of_eq (ap (λ (f : ℕ → ℕ). f e) (all_generations (shape x) (formats_of (shape x)) (store_shape x whole) (store_format x whole) s.world v ForPut (frames cs) ls all)))
+          (sound.safe.extents_fit e).1
+
+      put_over : PastLimit (shape x) (formats_of (shape x)) (after_put id bytes ls v) → Over cs
+      put_over over = is_over cs (past x (formats_of (shape x)) s (after_put id bytes ls v) (sum (page_counts (frames cs))) (length (page_counts (frames cs))) 0 1
+          numbers.0 numbers.1 root_stays commands_rise put_young over)
+
+      put_over_too : Over cs → PastLimit (shape x) (formats_of (shape x)) (after_put id bytes ls v)
+      put_over_too over = past_too x (formats_of (shape x)) s (after_put id bytes ls v) (sum (page_counts (frames cs))) (length (page_counts (frames cs))) 0 1
+          numbers.0 numbers.1 root_stays commands_rise (over_too cs over)
+
+    put_past : (id : ℕ) (bytes : List ℕ) (reply : Reply) (t : State) → Does (shape x) (formats_of (shape x)) s (Put id bytes) reply t
+        → PastLimit (shape x) (formats_of (shape x)) t
+        → (cs : List (List ℕ)) × Chunked (shape x).chunk_bytes bytes cs × Fits (shape x) (extents_of x) ForPut (page_counts (frames cs)) × Over cs
+    put_past id bytes (Accepted n) t (cs, ls, mid, cut, (v, all, same), number, is) over = (
+      cs,
+      cut,
+      here cs (appends_fit (shape x) (store_shape x whole) s.world v ForPut (frames cs) ls all),
+      put_over id bytes cs ls v all (subst (λ (u : State). PastLimit (shape x) (formats_of (shape x)) u)
+          (is ∙ ap (λ (m : State). record m { table = record { id = id; locators = ls } ∷ m.table; commands = (id, Some bytes) ∷ m.commands }) same) over),
+    )
+    put_past id bytes reply t d over = absurd d
+
+    pub put_worn : (id : ℕ) (bytes : List ℕ) → WouldPass (shape x) (formats_of (shape x)) s (Put id bytes)
+        ↔ ((cs : List (List ℕ)) × Chunked (shape x).chunk_bytes bytes cs × Fits (shape x) (extents_of x) ForPut (page_counts (frames cs)) × Over cs)
+    put_worn id bytes = (
+      (λ would. put_past id bytes would.0 would.1 would.2 would.3),
+      (λ found. let all = fits_appends (shape x) (store_shape x whole) s.world ForPut (frames found.0) (there found.0 found.2) in (
+        Accepted (suc (length s.commands)),
+        after_put id bytes all.0 all.1,
+        (found.0, all.0, record s { world = all.1 }, found.1, (all.1, all.2, refl), refl, refl),
+        put_over_too id bytes found.0 all.0 all.1 all.2 found.3,
+      )),
+    )

@@ -1,0 +1,8 @@
+use Rattle.std.proofs.Common.{refl, sym, ap, ◌∙◌}
+use Rattle.cs_model.specs.Extents.{Extents, emptied}
+use Rattle.cs_refine.proofs.moves.reset_refines_reset.Goals as goal
+use Rattle.cs_refine.proofs.Resetting.{after_reset}
+
+pub returns : goal.returns
+returns c = λ x y g w e is inside same extents.
+    after_reset x y g w e is inside same (emptied w.extents e w.root) refl (extents ∙ ap (λ (z : Extents). emptied z e w.root) (sym is.extents))

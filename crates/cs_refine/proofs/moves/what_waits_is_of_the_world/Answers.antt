@@ -1,0 +1,10 @@
+use Rattle.cs_refine.proofs.moves.what_waits_is_of_the_world.Goals as goal
+use Rattle.cs_refine.proofs.Keeping.{kept_writes}
+use Rattle.cs_refine.proofs.Worlds.{needs_within}
+use Rattle.cs_extent.specs.State.{need_of, shape}
+
+pub returns : goal.returns
+returns c = record {
+  writes = λ x g w m is whole waits keeps. kept_writes x g w m is whole waits keeps;
+  needs = λ x g w is. needs_within (shape x) (need_of x) w g.staging is.staging;
+}

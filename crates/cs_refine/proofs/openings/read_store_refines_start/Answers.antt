@@ -1,0 +1,5 @@
+use Rattle.cs_refine.proofs.openings.read_store_refines_start.Goals as goal
+use Rattle.cs_refine.proofs.Started.{read_started}
+
+pub returns : goal.returns
+returns c = λ image version pages written root commands limit runs are read. read_started image version pages written root commands limit runs are read

@@ -1,0 +1,8 @@
+use Rattle.cs_refine.proofs.refusals.stage_refusals_agree.Goals as goal
+use Rattle.cs_refine.proofs.RefusedStages.{stage_full, stage_worn}
+
+pub returns : goal.returns
+returns c = record {
+  full = λ x g i s whole are. stage_full x g i s whole are;
+  worn = λ x g i s whole are sound bounded room. stage_worn x g i s whole are sound bounded room;
+}

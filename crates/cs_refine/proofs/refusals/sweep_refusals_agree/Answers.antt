@@ -1,0 +1,10 @@
+use Rattle.cs_refine.proofs.refusals.sweep_refusals_agree.Goals as goal
+use Rattle.cs_refine.proofs.RefusedRounds.{abandon_refused, begin_sweep_refused, move_refused, retire_refused}
+
+pub returns : goal.returns
+returns c = record {
+  begin_sweep = λ F x g i s e f are runs. begin_sweep_refused F x g i s e f are runs;
+  move_one = λ F x g i s e f are runs unmarked. move_refused F x g i s e f are runs unmarked;
+  retire = λ F x g i s e f are runs unmarked. retire_refused F x g i s e f are runs unmarked;
+  abandon = λ F x g i s e f are runs. abandon_refused F x g i s e f are runs;
+}

@@ -1,0 +1,37 @@
+//! What a crash leaves of a store's disk.
+ghost use Rattle.std.specs.Prelude.{◌≡◌, ◌+◌, ◌*◌, ◌≤◌, ◌++◌, ℕ, List, length};
+ghost use Rattle.cs_refine.specs.Crashes.{IsPrefix, LeavesPrefixOn};
+ghost use Rattle.cs_refine.specs.Devices.{IsDiskOf};
+ghost use Rattle.cs_disk.specs.Disk.{Image, MayLeave, State as DiskState};
+ghost use Rattle.cs_extent.specs.State.{IsWhole, State as ExtentsState, shape};
+ghost use Rattle.cs_frame.specs.Formats.{formats_of};
+ghost use Rattle.cs_model.specs.Device.{Page, Shape};
+ghost use Rattle.cs_model.specs.Events.{IsFrontier};
+ghost use Rattle.cs_model.specs.Recovery.{Recovers};
+ghost use Rattle.cs_model.specs.Sound.{Sound};
+ghost use Rattle.cs_model.specs.State.{Command, State};
+
+/// What a crash leaves of a store's disk has as many pages, and recovers the map after some of the commands since the
+/// store was opened, no fewer than the frontier's.
+pub fn what_a_crash_leaves_recovers()
+    ensures size { (disk : DiskState) (left : Image) → MayLeave disk left → length left ≡ length disk.durable }
+    ensures left { (x : ExtentsState) (s : State) (disk : DiskState) (left : Image)
+        → IsWhole x → Sound (shape x) (formats_of (shape x)) s → IsDiskOf (shape x) (formats_of (shape x)) s disk
+        → length disk.durable ≡ 2 + (shape x).extents * (shape x).pages → MayLeave disk left
+        → LeavesPrefixOn (shape x) (formats_of (shape x)) s left }
+    // In the words of the image at open, where what that recovers is the start of the state.
+    ensures prefix { (x : ExtentsState) (s : State) (disk : DiskState) (left : Image) (f : ℕ)
+        → IsWhole x → Sound (shape x) (formats_of (shape x)) s → IsDiskOf (shape x) (formats_of (shape x)) s disk
+        → length disk.durable ≡ 2 + (shape x).extents * (shape x).pages → MayLeave disk left
+        → Recovers (shape x) (formats_of (shape x)) s.opened s.count s.start
+        → IsFrontier (shape x) (formats_of (shape x)) s f
+        → IsPrefix (shape x) s.opened s.commands f (length s.commands) left }
+    // What lies between two numbers of commands lies between two that are further apart, and it stays one of these maps
+    // as commands are added.
+    ensures wider { (S : Shape) (opened : ℕ → Page) (commands : List Command) (least most low high : ℕ) (left : Image)
+        → low ≤ least → most ≤ high → IsPrefix S opened commands least most left
+        → IsPrefix S opened commands low high left }
+    ensures later { (S : Shape) (opened : ℕ → Page) (more commands : List Command) (least most : ℕ) (left : Image)
+        → most ≤ length commands → IsPrefix S opened commands least most left
+        → IsPrefix S opened (more ++ commands) least most left }
+{}

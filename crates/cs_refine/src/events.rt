@@ -1,0 +1,101 @@
+//! What the calls of a store's parts do, as what the machine's events do.
+ghost use Rattle.std.specs.Prelude.{◌≡◌, ◌≢◌, ◌↔◌, ◌+◌, ◌<◌, ◌≤◌, ◌∷◌, ◌++◌, ℕ, suc, true, false, List, [], None, length, map};
+ghost use Rattle.cs_deps.specs.State.{State as GraphState};
+ghost use Rattle.cs_extent.specs.Appended.{AreAppended};
+ghost use Rattle.cs_extent.specs.State.{IsWhole, State as ExtentsState, extents_of, shape};
+ghost use Rattle.cs_frame.specs.declared.locators.Locator.{Locator};
+ghost use Rattle.cs_frame.specs.Formats.{formats_of, place_of};
+ghost use Rattle.cs_index.specs.Staged.{IsMergeStaged, IsTableStaged};
+ghost use Rattle.cs_index.specs.State.{IsSet, State as IndexState, index_of};
+ghost use Rattle.cs_model.specs.Append.{chunk_frames};
+ghost use Rattle.cs_model.specs.Device.{Shape};
+ghost use Rattle.cs_model.specs.Element.{Entry, Locator as Place, Run};
+ghost use Rattle.cs_model.specs.Events.{Chunked, Does, ReadsNow, mark};
+ghost use Rattle.cs_model.specs.Extents.{ForPut, ForRun, marked};
+ghost use Rattle.cs_model.specs.Formats.{ChunkFrame, Formats};
+ghost use Rattle.cs_model.specs.Index.{FirstLive, IsMergedRun, IsTableRun, NothingLive, entries_of, live_at, lookup, names};
+ghost use Rattle.cs_model.specs.Sound.{Sound};
+ghost use Rattle.cs_model.specs.State.{Abandon, Abandoned, Accepted, BeginSweep, Delete, MoveOne, Moved, Put, Retire, Retired, Stage, Staged, State, Sweeping, map_now};
+ghost use Rattle.cs_reclaim.specs.Moves.{IsMoved};
+ghost use Rattle.cs_reclaim.specs.Retired.{IsRetired};
+ghost use Rattle.cs_reclaim.specs.Sweeps.{IsNotSweepable};
+ghost use Rattle.cs_refine.specs.Parts.{ArePartsOf, IsIndexOf};
+
+/// What is asked of an index is asked of the machine's: what each identifier has, how many are named, what its runs would
+/// be, and what lives on an extent.
+pub fn index_queries_agree()
+    ensures lookups { (i : IndexState) (table : List Entry) (runs : List Run) → IsIndexOf i table runs
+        → (id : ℕ) → lookup id (index_of i) ≡ lookup id (table ++ entries_of runs) }
+    ensures named { (i : IndexState) (table : List Entry) (runs : List Run) → IsIndexOf i table runs
+        → names (index_of i) ≡ names (table ++ entries_of runs) }
+    ensures empty { (i : IndexState) (table : List Entry) (runs : List Run) → IsIndexOf i table runs
+        → (i.table ≡ []) ↔ (table ≡ []) }
+    ensures table_run { (i : IndexState) (table : List Entry) (runs : List Run) (entries : List Entry) → IsIndexOf i table runs
+        → IsTableRun i.table entries ↔ IsTableRun table entries }
+    ensures merged_run { (i : IndexState) (table : List Entry) (runs : List Run) (entries : List Entry) → IsIndexOf i table runs
+        → IsMergedRun (index_of i) entries ↔ IsMergedRun (table ++ entries_of runs) entries }
+    ensures first { (i : IndexState) (table : List Entry) (runs : List Run) (e id chunk : ℕ) (l : Place) → IsIndexOf i table runs
+        → FirstLive (index_of i) e id chunk l ↔ FirstLive (table ++ entries_of runs) e id chunk l }
+    ensures nothing { (i : IndexState) (table : List Entry) (runs : List Run) (e : ℕ) → IsIndexOf i table runs
+        → NothingLive (index_of i) e ↔ NothingLive (table ++ entries_of runs) e }
+{}
+
+/// The frames of a put and its entry are the machine's Put.
+pub fn put_refines_put()
+    ensures { (x y : ExtentsState) (g h : GraphState) (i j : IndexState) (s : State) (id : ℕ) (bytes : List ℕ)
+        (chunks : List (List ℕ)) (ls : List Locator)
+        → IsWhole x → ArePartsOf x g i s → Chunked (shape x).chunk_bytes bytes chunks
+        → AreAppended x g ForPut (chunk_frames (shape x) (formats_of (shape x)) chunks) ls y h
+        → IsSet i id (map place_of ls) j
+        → (t : State) × Does (shape x) (formats_of (shape x)) s (Put id bytes) (Accepted (suc (length s.commands))) t
+        × ArePartsOf y h j t }
+{}
+
+/// An entry without locators is the machine's Delete, and an identifier has locators exactly where the map has it.
+pub fn delete_refines_delete()
+    ensures deleted { (x : ExtentsState) (g : GraphState) (i j : IndexState) (s : State) (id : ℕ)
+        → ArePartsOf x g i s → map_now s id ≢ None → IsSet i id [] j
+        → (t : State) × Does (shape x) (formats_of (shape x)) s (Delete id) (Accepted (suc (length s.commands))) t
+        × ArePartsOf x g j t }
+    ensures absent { (S : Shape) (F : Formats) (i : IndexState) (s : State) (id : ℕ)
+        → Sound S F s → IsIndexOf i s.table s.runs → (live_at (index_of i) id ≡ []) ↔ (map_now s id ≡ None) }
+{}
+
+/// The run and the root that an index stages are the machine's Stage.
+pub fn stage_refines_stage()
+    ensures table { (x y : ExtentsState) (g h : GraphState) (i j : IndexState) (s : State) (v : ℕ)
+        → IsWhole x → ArePartsOf x g i s → i.table ≢ [] → length i.runs < 4
+        → IsTableStaged i x g v (s.count + length s.commands) j y h
+        → (t : State) × Does (shape x) (formats_of (shape x)) s Stage (Staged v) t × ArePartsOf y h j t }
+    ensures merged { (x y : ExtentsState) (g h : GraphState) (i j : IndexState) (s : State) (v : ℕ)
+        → IsWhole x → ArePartsOf x g i s → i.table ≢ [] → 4 ≤ length i.runs
+        → IsMergeStaged i x g ForRun v (s.count + length s.commands) j y h
+        → (t : State) × Does (shape x) (formats_of (shape x)) s Stage (Staged v) t × ArePartsOf y h j t }
+{}
+
+/// A chunk that a sweep moves is the machine's MoveOne, where what lay there could be read.
+pub fn move_refines_move()
+    ensures { (x y : ExtentsState) (g h : GraphState) (i j : IndexState) (s : State) (e id chunk : ℕ) (payload : List ℕ)
+        → IsWhole x → ArePartsOf x g i s → s.world.extents.swept e ≡ true
+        → (moved : IsMoved i x g e id chunk payload j y h)
+        → s.opening.damage moved.from ≡ None → ReadsNow (shape x) (formats_of (shape x)) s moved.from ChunkFrame payload
+        → (t : State) × Does (shape x) (formats_of (shape x)) s (MoveOne e) (Moved id chunk) t × ArePartsOf y h j t }
+{}
+
+/// A retired extent is the machine's Retire.
+pub fn retire_refines_retire()
+    ensures { (x y : ExtentsState) (g h : GraphState) (i j : IndexState) (s : State) (e v : ℕ)
+        → IsWhole x → ArePartsOf x g i s → s.world.extents.swept e ≡ true → e < (shape x).extents → shape y ≡ shape x
+        → NothingLive (index_of i) e → IsRetired i x g e v (s.count + length s.commands) j y h
+        → (t : State) × Does (shape x) (formats_of (shape x)) s (Retire e) (Retired v) t × ArePartsOf y h j t }
+{}
+
+/// A mark that is set where an extent may be swept is the machine's BeginSweep, and one that is taken off its Abandon.
+pub fn marks_refine_sweeps()
+    ensures begun { (x y : ExtentsState) (g : GraphState) (i : IndexState) (s : State) (e : ℕ)
+        → ArePartsOf x g i s → ¬ IsNotSweepable (shape x) (extents_of x) e → shape y ≡ shape x → extents_of y ≡ marked (extents_of x) e true
+        → Does (shape x) (formats_of (shape x)) s (BeginSweep e) Sweeping (mark s e true) × ArePartsOf y g i (mark s e true) }
+    ensures abandoned { (x y : ExtentsState) (g : GraphState) (i : IndexState) (s : State) (e : ℕ)
+        → ArePartsOf x g i s → s.world.extents.swept e ≡ true → shape y ≡ shape x → extents_of y ≡ marked (extents_of x) e false
+        → Does (shape x) (formats_of (shape x)) s (Abandon e) Abandoned (mark s e false) × ArePartsOf y g i (mark s e false) }
+{}

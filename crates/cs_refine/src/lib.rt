@@ -1,0 +1,41 @@
+//! The store's machine and the parts that a store has, its extents, its graph of what waits, its index and its disk: the same
+//! moves, rounds, events, refusals and pages. No code, but laws.
+#![tactic(auto)]
+
+mod crashes;
+mod events;
+mod frontiers;
+mod graphs;
+mod moves;
+mod openings;
+mod reads;
+mod refusals;
+mod rounds;
+mod writebacks;
+
+pub use crashes::what_a_crash_leaves_recovers;
+pub use events::{
+    delete_refines_delete, index_queries_agree, marks_refine_sweeps, move_refines_move,
+    put_refines_put, retire_refines_retire, stage_refines_stage,
+};
+pub use frontiers::{roots_are_counted, roots_are_noted, settle_refines_settle};
+pub use graphs::{
+    closed_sets_agree, rounds_are_first_rounds, rounds_are_settled, staging_refines_staging,
+};
+pub use moves::{
+    append_refines_append, appends_refine_appends, opened_stores_have_worlds, reset_refines_reset,
+    root_refines_root, stores_keep_their_worlds, what_waits_is_of_the_world,
+};
+pub use openings::{
+    new_store_refines_start, read_store_refines_start, what_is_found_is_the_start,
+    whole_disks_have_pages,
+};
+pub use reads::{get_refines_get, live_chunks_are_read, pages_are_read};
+pub use refusals::{
+    delete_refusals_agree, move_refusals_agree, put_refusals_agree, refusals_keep_their_numbers,
+    retire_refusals_agree, stage_refusals_agree, sweep_refusals_agree,
+};
+pub use rounds::{round_refusals_agree, rounds_stay};
+pub use writebacks::{
+    begin_refines_begin, disk_refines_device, end_refines_end, issue_refines_issue,
+};

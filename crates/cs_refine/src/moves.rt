@@ -1,0 +1,80 @@
+//! The machine's world, and the extents and the graph that a store has: the same appends, resets, roots and rounds.
+ghost use Rattle.std.specs.Prelude.{◌≡◌, ◌↔◌, ◌<◌, ◌∷◌, ◌++◌, ℕ, Bool, true, List, [], map, Some, slice_index};
+ghost use Rattle.cs_deps.specs.declared.elements.Element.{Element as Name};
+ghost use Rattle.cs_deps.specs.Named.{Named, Names};
+ghost use Rattle.cs_deps.specs.declared.elements.Element.TheVariants.{Version};
+ghost use Rattle.cs_deps.specs.Staging.{IsVersionStaged, settled};
+ghost use Rattle.cs_model.specs.Machine.{World, BeginRound, EndRound, ResetExtent, StageRoot, happens, root_now};
+ghost use Rattle.cs_model.specs.Element.{Element, A_root, Map, Run};
+ghost use Rattle.cs_model.specs.Device.{Shape, Page};
+ghost use Rattle.cs_model.specs.Formats.{Formats};
+ghost use Rattle.cs_model.specs.Cut.{Cut};
+ghost use Rattle.cs_model.specs.State.{State};
+ghost use Rattle.cs_model.specs.Sound.{Sound};
+ghost use Rattle.cs_model.specs.Append.{Append, AppendAll};
+ghost use Rattle.cs_model.specs.Extents.{Purpose as Reason, emptied, marked};
+ghost use Rattle.cs_deps.specs.State.{AddsNone, IsWhole as IsWholeGraph, KeepsBytes, KeepsOthers, State as GraphState, write_of};
+ghost use Rattle.cs_frame.specs.declared.locators.Locator.{Locator};
+ghost use Rattle.cs_extent.specs.Appended.{AreAppended, IsAppended};
+ghost use Rattle.cs_extent.specs.Frames.{AreNeedsWithin, IsVersionUpTo, root_family, superblock_family};
+ghost use Rattle.cs_model.specs.Open.{extents_read, opened_world};
+ghost use Rattle.cs_model.specs.Recovery.{Recovers};
+ghost use Rattle.cs_model.specs.Disk.{page_write};
+ghost use Rattle.cs_frame.specs.Formats.{formats_of, place_of};
+ghost use Rattle.cs_extent.specs.State.{State as ExtentsState, IsWhole, extents_of, need_of, shape};
+ghost use Rattle.cs_refine.specs.Stores.{AreMemberNames, IsWorldOf};
+ghost use Rattle.cs_refine.specs.Bridge.{name, AreNames, IsWaiting};
+
+/// What an append does to the extents and the graph of a store is what the machine's append does to its world.
+pub fn append_refines_append()
+    ensures { (x y : ExtentsState) (g h : GraphState) (w : World) (reason : Reason) (frame : List (List ℕ)) (l : Locator)
+        → IsWhole x → IsWorldOf x g w → IsAppended x g reason frame l y h
+        → (v : World) × Append (shape x) w reason frame (place_of l) v × IsWorldOf y h v }
+{}
+
+/// What a reset does to the extents of a store, under the last version of the root, the machine's reset does to its world.
+pub fn reset_refines_reset()
+    ensures { (x y : ExtentsState) (g : GraphState) (w : World) (e : ℕ) → IsWorldOf x g w → e < (shape x).extents → shape y ≡ shape x → extents_of y ≡ emptied (extents_of x) e w.root
+        → IsWorldOf y g (happens (shape x) w (ResetExtent e)) }
+{}
+
+/// A version of the root that is staged in the graph, and needs the versions of the superblock so far, is the machine's root.
+pub fn root_refines_root()
+    ensures { (x : ExtentsState) (g h : GraphState) (w : World) (v : ℕ) (needs : Named) (n : ℕ) (runs : List Run) (m : Map) (pointers : ℕ → ℕ)
+        → IsWorldOf x g w → IsVersionStaged g.staging root_family v needs h.staging
+        → ((z : Name) → Names needs z ↔ IsVersionUpTo superblock_family (slice_index g.staging.latest superblock_family) z)
+        → write_of h (Version root_family v) ≡ Some (page_write (shape x) (formats_of (shape x)) (A_root (root_now w n runs m pointers))) → KeepsOthers g h (Version root_family v)
+        → IsWorldOf x h (happens (shape x) w (StageRoot n runs m pointers)) }
+{}
+
+/// Frames that are appended one after another are appended one after another in the machine.
+pub fn appends_refine_appends()
+    ensures { (x y : ExtentsState) (g h : GraphState) (w : World) (reason : Reason) (frames : List (List (List ℕ))) (ls : List Locator)
+        → IsWhole x → IsWorldOf x g w → AreAppended x g reason frames ls y h
+        → (v : World) × AppendAll (shape x) w reason frames (map place_of ls) v × IsWorldOf y h v }
+{}
+
+/// A store keeps its world as a round goes out and ends, and as an extent is marked.
+pub fn stores_keep_their_worlds()
+    ensures begun { (x : ExtentsState) (g h : GraphState) (w : World) (R : Cut) → IsWorldOf x g w → h.staging ≡ g.staging → AddsNone g h → IsWorldOf x h (happens (shape x) w (BeginRound R)) }
+    ensures ended { (F : Formats) (s : State) (x : ExtentsState) (g h : GraphState) (round : List Name) → Sound (shape x) F s → IsWorldOf x g s.world → AreMemberNames (shape x) s.world round
+        → h.staging ≡ record { pending = settled g.staging.pending round; staged = g.staging.staged; latest = g.staging.latest } → AddsNone g h → IsWorldOf x h (happens (shape x) s.world EndRound) }
+    ensures members { (S : Shape) (F : Formats) (s : State) (round : List Name) → Sound S F s → s.round_out ≡ true → AreNames (s.left ++ s.issued) round → AreMemberNames S s.world round }
+    ensures marked { (x y : ExtentsState) (g : GraphState) (w : World) (e : ℕ) (b : Bool) → IsWorldOf x g w → shape y ≡ shape x → extents_of y ≡ marked (extents_of x) e b
+        → IsWorldOf y g (record w { extents = marked w.extents e b }) }
+{}
+
+/// What is kept for an element that waits and keeps its bytes is what the machine writes for it, and each version of the
+/// superblock that waits needs staged plain writes, and no later version of the root than the next one.
+pub fn what_waits_is_of_the_world()
+    ensures writes { (x : ExtentsState) (g : GraphState) (w : World) (m : Element) → IsWorldOf x g w → IsWholeGraph g → IsWaiting w m → KeepsBytes g (name m)
+        → write_of g (name m) ≡ Some (page_write (shape x) (formats_of (shape x)) m) }
+    ensures needs { (x : ExtentsState) (g : GraphState) (w : World) → IsWorldOf x g w → AreNeedsWithin g.staging (need_of x) }
+{}
+
+/// A store that is opened, where nothing waits and no extent was reset, has the machine's world at open.
+pub fn opened_stores_have_worlds()
+    ensures { (x : ExtentsState) (g : GraphState) (F : Formats) (img : ℕ → Page) (n : ℕ) (m : Map) (found : Recovers (shape x) F img n m) → extents_of x ≡ extents_read (shape x) F img n m found
+        → (let versions : List ℕ = found.versions 0 ∷ found.version ∷ [] in g.staging ≡ record { pending = record { persistent = versions; waiting = [] }; staged = 0; latest = versions })
+        → IsWorldOf x g (opened_world (shape x) F img n m found) }
+{}

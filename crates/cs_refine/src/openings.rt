@@ -1,0 +1,63 @@
+//! A store as it is made, and as it is opened.
+ghost use Rattle.std.specs.Prelude.{◌≡◌, ◌+◌, ◌*◌, ◌≤◌, ℕ, List, [], None, length, replicate};
+ghost use Rattle.cs_refine.specs.Openings.{IsStartOf};
+ghost use Rattle.cs_disk.specs.Disk.{Image, IsWhole as IsWholeDisk, MayLeave, State as DiskState, flushed, page, seen, written};
+ghost use Rattle.cs_extent.specs.State.{IsWhole, State as ExtentsState, shape};
+ghost use Rattle.cs_frame.specs.Formats.{formats_of};
+ghost use Rattle.cs_frame.specs.Roots.{SpellsRoot};
+ghost use Rattle.cs_frame.specs.Superblocks.{SpellsSuperblock};
+ghost use Rattle.cs_image.specs.Openings.{IsFoundAs, graph_at, index_at};
+ghost use Rattle.cs_image.specs.Reads.{ArePages, IsStoreRead, extents_at};
+ghost use Rattle.cs_index.specs.declared.runs.StoredRun.{StoredRun};
+ghost use Rattle.cs_index.specs.State.{newest_first};
+ghost use Rattle.cs_model.specs.Element.{Map, Run};
+ghost use Rattle.cs_model.specs.Open.{opened_state};
+ghost use Rattle.cs_model.specs.Recovery.{Recovers};
+
+/// What is found on an image is the start of the machine: the extents, a graph of the versions that were read, and an index
+/// of the runs are the parts of the state at open, the disk is its disk, and no command is counted.
+pub fn what_is_found_is_the_start()
+    ensures { (x : ExtentsState) (image : Image) (superblock root limit n : ℕ) (runs : List Run) (m : Map)
+        (found : Recovers (shape x) (formats_of (shape x)) (page image) n m)
+        → IsWhole x → IsFoundAs (shape x) (formats_of (shape x)) (page image) n m found x superblock root runs
+        → IsStartOf x (graph_at superblock root) (index_at runs limit) image
+        (opened_state (shape x) (formats_of (shape x)) (page image) n m found) }
+{}
+
+/// A new store is a store of the machine with no command and no shard.
+pub fn new_store_refines_start()
+    // Of pages 0 and 1 that were written and then flushed.
+    ensures written { (old : DiskState) (superblock root : List ℕ) (extents pages limit : ℕ) → 2 ≤ length old.durable
+        → SpellsSuperblock superblock 1 pages (replicate extents (0, 0)) → SpellsRoot root 1 0 []
+        → (let x = extents_at pages (replicate extents (0, 0)) in
+        let image = (flushed (written (written old 0 superblock) 1 root)).durable in
+        (found : Recovers (shape x) (formats_of (shape x)) (page image) 0 (λ id. None))
+        × IsStartOf x (graph_at 1 1) (index_at [] limit) image
+        (opened_state (shape x) (formats_of (shape x)) (page image) 0 (λ id. None) found)) }
+    ensures image { (image : Image) (extents pages limit : ℕ)
+        → SpellsSuperblock (page image 0) 1 pages (replicate extents (0, 0)) → SpellsRoot (page image 1) 1 0 []
+        → (let x = extents_at pages (replicate extents (0, 0)) in
+        (found : Recovers (shape x) (formats_of (shape x)) (page image) 0 (λ id. None))
+        × IsStartOf x (graph_at 1 1) (index_at [] limit) image
+        (opened_state (shape x) (formats_of (shape x)) (page image) 0 (λ id. None) found)) }
+{}
+
+/// A store that was read is a store of the machine, with as many commands as its root says.
+pub fn read_store_refines_start()
+    ensures { (image : Image) (version pages : ℕ) (written : List (ℕ × ℕ)) (root commands limit : ℕ)
+        (runs : List StoredRun)
+        → ArePages (2 + length written * pages) (page image)
+        → IsStoreRead (page image) version pages written root commands runs
+        → (let x = extents_at pages written in
+        (m : Map) × (found : Recovers (shape x) (formats_of (shape x)) (page image) commands m)
+        × IsStartOf x (graph_at version root) (index_at (newest_first runs) limit) image
+        (opened_state (shape x) (formats_of (shape x)) (page image) commands m found)) }
+{}
+
+/// What a disk holds, and what a crash may leave of it, are pages of bytes, where the disk is whole.
+pub fn whole_disks_have_pages()
+    ensures seen { (disk : DiskState) (count : ℕ) → IsWholeDisk disk → count ≤ length disk.durable
+        → ArePages count (page (seen disk)) }
+    ensures left { (disk : DiskState) (image : Image) (count : ℕ) → IsWholeDisk disk → MayLeave disk image
+        → count ≤ length disk.durable → ArePages count (page image) }
+{}

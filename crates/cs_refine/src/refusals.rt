@@ -1,0 +1,120 @@
+//! Why the calls of a store's parts are refused, as why the machine's events are.
+ghost use Rattle.std.specs.Prelude.{◌≡◌, ◌≢◌, ◌⊎◌, ◌↔◌, ◌+◌, ◌^◌, ◌<◌, ◌≤◌, ℕ, suc, true, false, List, [], Some, None, length};
+ghost use Rattle.cs_chunk.specs.Chunks.{IsPutWorn};
+ghost use Rattle.cs_chunk.specs.Reads.{fault_at, refusal_for as refusal_of_fault};
+ghost use Rattle.cs_deps.specs.Refusals.{number_of};
+ghost use Rattle.cs_deps.specs.State.{State as GraphState};
+ghost use Rattle.cs_extent.specs.Frames.{IsWorn};
+ghost use Rattle.cs_extent.specs.State.{IsWhole, State as ExtentsState, extents_of, shape};
+ghost use Rattle.cs_frame.specs.declared.faults.FormatFault.{FormatFault};
+ghost use Rattle.cs_frame.specs.declared.frames.FrameKind.{FrameKind};
+ghost use Rattle.cs_frame.specs.declared.locators.Locator.{Locator};
+ghost use Rattle.cs_frame.specs.Formats.{formats_of, refusal_of};
+ghost use Rattle.cs_index.specs.Staged.{IsFull, IsStageWorn, WritesRun};
+ghost use Rattle.cs_index.specs.State.{State as IndexState, index_of};
+ghost use Rattle.cs_model.specs.Append.{chunk_frames, page_counts};
+ghost use Rattle.cs_model.specs.Element.{Locator as Place};
+ghost use Rattle.cs_model.specs.Device.{Shape};
+ghost use Rattle.cs_model.specs.Events.{Chunked, ReadsNow};
+ghost use Rattle.cs_model.specs.Extents.{Fits, ForMove, ForPut, ForRun, NoPlace};
+ghost use Rattle.cs_model.specs.Formats.{ChunkFrame, Formats};
+ghost use Rattle.cs_model.specs.Grounds.{NoRoomForRun, NoRoomForTable, NoRoomToMove, NoRoomToPut, Refuses, WouldPass};
+ghost use Rattle.cs_model.specs.Index.{FirstLive, NothingLive};
+ghost use Rattle.cs_model.specs.Numbers.{number_of as number_in_machine};
+ghost use Rattle.cs_model.specs.Refusal.{NotSweepable, Refusal as Ground};
+ghost use Rattle.cs_model.specs.Sound.{Bounded, Sound};
+ghost use Rattle.cs_model.specs.State.{Abandon, BeginSweep, Delete, MoveOne, Put, Retire, Stage, State, map_now};
+ghost use Rattle.cs_reclaim.specs.Moves.{chunk_frame};
+ghost use Rattle.cs_reclaim.specs.Retired.{IsRetireFull, IsRetireWorn};
+ghost use Rattle.cs_reclaim.specs.Sweeps.{IsNotSweepable};
+ghost use Rattle.cs_refine.specs.Parts.{ArePartsOf};
+ghost use Rattle.cs_refine.specs.Refusals.{refusal_for};
+
+/// There is no room for a put where its chunks don't fit, and it would take a number past its greatest where its writes, its
+/// versions of the superblock or the commands would.
+pub fn put_refusals_agree()
+    ensures full { (x : ExtentsState) (g : GraphState) (i : IndexState) (s : State) (bytes : List ℕ)
+        → IsWhole x → ArePartsOf x g i s
+        → NoRoomToPut (shape x) (formats_of (shape x)) s bytes
+        ↔ ((cs : List (List ℕ)) → Chunked (shape x).chunk_bytes bytes cs
+        → ¬ Fits (shape x) (extents_of x) ForPut (page_counts (chunk_frames (shape x) (formats_of (shape x)) cs))) }
+    ensures worn { (x : ExtentsState) (g : GraphState) (i : IndexState) (s : State) (id : ℕ) (bytes : List ℕ)
+        → IsWhole x → ArePartsOf x g i s → Sound (shape x) (formats_of (shape x)) s → Bounded (shape x) (formats_of (shape x)) s
+        → WouldPass (shape x) (formats_of (shape x)) s (Put id bytes)
+        ↔ ((cs : List (List ℕ)) × Chunked (shape x).chunk_bytes bytes cs
+        × Fits (shape x) (extents_of x) ForPut (page_counts (chunk_frames (shape x) (formats_of (shape x)) cs))
+        × (IsPutWorn g.staging (page_counts (chunk_frames (shape x) (formats_of (shape x)) cs))
+        ⊎ (2 ^ 63 ≤ s.count + length s.commands + 1))) }
+{}
+
+/// A delete would take a number past its greatest where there is something to delete, and the commands would.
+pub fn delete_refusals_agree()
+    ensures { (x : ExtentsState) (s : State) (id : ℕ)
+        → Sound (shape x) (formats_of (shape x)) s → Bounded (shape x) (formats_of (shape x)) s
+        → WouldPass (shape x) (formats_of (shape x)) s (Delete id)
+        ↔ ((map_now s id ≢ None) × (2 ^ 63 ≤ s.count + length s.commands + 1)) }
+{}
+
+/// There is no room for a Stage where there is no place for the run that it writes. Where there is room, it would take a
+/// number past its greatest where the root would, or what is staged with the run.
+pub fn stage_refusals_agree()
+    ensures full { (x : ExtentsState) (g : GraphState) (i : IndexState) (s : State) → IsWhole x → ArePartsOf x g i s
+        → ((s.table ≢ []) × (((length s.runs < 4) × NoRoomForTable (shape x) (formats_of (shape x)) s)
+        ⊎ ((4 ≤ length s.runs) × NoRoomForRun (shape x) (formats_of (shape x)) s ForRun)))
+        ↔ IsFull (WritesRun i) x ForRun }
+    ensures worn { (x : ExtentsState) (g : GraphState) (i : IndexState) (s : State)
+        → IsWhole x → ArePartsOf x g i s → Sound (shape x) (formats_of (shape x)) s → Bounded (shape x) (formats_of (shape x)) s
+        → ¬ IsFull (WritesRun i) x ForRun
+        → WouldPass (shape x) (formats_of (shape x)) s Stage ↔ ((i.table ≢ []) × IsStageWorn (WritesRun i) x g.staging) }
+{}
+
+/// There is no room for a Retire where there is no place for the run of all that is live. Where there is room, it would take
+/// a number past its greatest where the root would, what is staged with the run, or the generation of the extent.
+pub fn retire_refusals_agree()
+    ensures full { (x : ExtentsState) (g : GraphState) (i : IndexState) (s : State) → IsWhole x → ArePartsOf x g i s
+        → NoRoomForRun (shape x) (formats_of (shape x)) s ForMove ↔ IsRetireFull i x }
+    ensures worn { (x : ExtentsState) (g : GraphState) (i : IndexState) (s : State) (e : ℕ)
+        → IsWhole x → ArePartsOf x g i s → Sound (shape x) (formats_of (shape x)) s → Bounded (shape x) (formats_of (shape x)) s
+        → s.world.extents.swept e ≡ true → NothingLive (index_of i) e → ¬ IsRetireFull i x
+        → WouldPass (shape x) (formats_of (shape x)) s (Retire e) ↔ IsRetireWorn i x g.staging e }
+{}
+
+/// There is no room for a MoveOne where there is no place for the frame of the chunk that is moved. Where there is room, it
+/// would take a number past its greatest where what is staged with the frame would.
+pub fn move_refusals_agree()
+    ensures full { (x : ExtentsState) (g : GraphState) (i : IndexState) (s : State) (e id chunk : ℕ) (l : Place) (payload : List ℕ)
+        → IsWhole x → ArePartsOf x g i s → FirstLive (index_of i) e id chunk l
+        → ReadsNow (shape x) (formats_of (shape x)) s l ChunkFrame payload
+        → NoRoomToMove (shape x) (formats_of (shape x)) s e
+        ↔ NoPlace (shape x) (extents_of x) ForMove (length (chunk_frame x payload)) }
+    ensures worn { (x : ExtentsState) (g : GraphState) (i : IndexState) (s : State) (e id chunk : ℕ) (l : Place) (payload : List ℕ)
+        → IsWhole x → ArePartsOf x g i s → Sound (shape x) (formats_of (shape x)) s → Bounded (shape x) (formats_of (shape x)) s
+        → FirstLive (index_of i) e id chunk l → ReadsNow (shape x) (formats_of (shape x)) s l ChunkFrame payload
+        → s.world.extents.swept e ≡ true → s.opening.damage l ≡ None
+        → ¬ NoPlace (shape x) (extents_of x) ForMove (length (chunk_frame x payload))
+        → WouldPass (shape x) (formats_of (shape x)) s (MoveOne e) ↔ IsWorn g.staging (length (chunk_frame x payload)) }
+{}
+
+/// BeginSweep is refused exactly where the extent can't be swept; MoveOne, Retire and Abandon are where it isn't being swept,
+/// and Abandon for nothing else.
+pub fn sweep_refusals_agree()
+    ensures begin_sweep { (F : Formats) (x : ExtentsState) (g : GraphState) (i : IndexState) (s : State) (e : ℕ) (f : Ground)
+        → ArePartsOf x g i s → s.halted ≡ false
+        → Refuses (shape x) F s (BeginSweep e) f ↔ (IsNotSweepable (shape x) (extents_of x) e × (f ≡ NotSweepable)) }
+    ensures move_one { (F : Formats) (x : ExtentsState) (g : GraphState) (i : IndexState) (s : State) (e : ℕ) (f : Ground)
+        → ArePartsOf x g i s → s.halted ≡ false → (extents_of x).swept e ≡ false
+        → Refuses (shape x) F s (MoveOne e) f ↔ (f ≡ NotSweepable) }
+    ensures retire { (F : Formats) (x : ExtentsState) (g : GraphState) (i : IndexState) (s : State) (e : ℕ) (f : Ground)
+        → ArePartsOf x g i s → s.halted ≡ false → (extents_of x).swept e ≡ false
+        → Refuses (shape x) F s (Retire e) f ↔ (f ≡ NotSweepable) }
+    ensures abandon { (F : Formats) (x : ExtentsState) (g : GraphState) (i : IndexState) (s : State) (e : ℕ) (f : Ground)
+        → ArePartsOf x g i s → s.halted ≡ false
+        → Refuses (shape x) F s (Abandon e) f ↔ (((extents_of x).swept e ≡ false) × (f ≡ NotSweepable)) }
+{}
+
+/// The refusals of the store's calls have the numbers of the machine's, and a frame's fault is one refusal by both.
+pub fn refusals_keep_their_numbers()
+    ensures number { (f : Ground) → number_of (refusal_for f) ≡ number_in_machine f }
+    ensures frames { (S : Shape) (view : ℕ → List ℕ) (kind : FrameKind) (l : Locator) (f : FormatFault)
+        → fault_at S view kind l ≡ Some f → refusal_of_fault f ≡ refusal_for (refusal_of f) }
+{}
