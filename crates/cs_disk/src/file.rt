@@ -1,5 +1,6 @@
 // A disk in a file.
-ghost use Rattle.std.specs.Prelude.{◌≡◌, ◌<◌, ◌^◌, ◌↔◌, [], IsOk, IfOk, IsOkUnless};
+ghost use Rattle.std.specs.Prelude.{◌≡◌, ◌<◌, ◌^◌, ◌↔◌, [], IsOk, IfErr, IfOk, IsOkUnless, OnOk};
+ghost use Rattle.std.specs.List.Sorted.{IsPermutation};
 ghost use Rattle.cs_disk.specs.Disk.{HasCause};
 
 use crate::unflushed::Unflushed;
@@ -88,13 +89,18 @@ impl FileDisk {
 }
 
 impl FileDisk {
-    /// Writes to the file what is kept, and syncs it.
+    /// Writes to the file what is kept, syncs it, and forgets what was kept. Where one of these calls fails, all of it is kept.
     fn write_out(&mut self) -> io::Result<()>
+        ensures kept { IfErr result (λ _. self.new.unflushed.pages.items ≡ self.old.unflushed.pages.items) }
+        ensures same_places { IfErr result (λ _. IsPermutation self.old.unflushed.places.items self.new.unflushed.places.items) }
+        ensures forgotten { OnOk result (self.new.unflushed.places.items ≡ []) }
         ensures pages { self.new.pages ≡ self.old.pages }
         ensures failures { self.new.failures ≡ self.old.failures }
     {
         self.unflushed.write_to(&self.file)?;
-        self.file.sync_data()
+        self.file.sync_data()?;
+        self.unflushed.clear();
+        Ok(())
     }
 }
 
@@ -194,9 +200,6 @@ impl PageDisk for FileDisk {
 
     fn flush(&mut self) -> Result<(), DiskFault> {
         let answer = self.write_out();
-        if answer.is_ok() {
-            self.unflushed.clear();
-        }
         counted(&mut self.failures, answer)
     }
 

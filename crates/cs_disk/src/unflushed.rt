@@ -1,5 +1,6 @@
 // The page writes of a file that wait for the next flush.
 ghost use Rattle.std.specs.Prelude.{◌≡◌, ◌++◌, ◌∷◌, [], None, OnErr, OnOk, length, option_map};
+ghost use Rattle.std.specs.List.Sorted.{IsPermutation};
 ghost use Rattle.cs_disk.specs.Unflushed.{bytes_at, newest_place};
 
 use std::alloc::{AllocError, Global};
@@ -59,7 +60,8 @@ impl Unflushed {
     /// Writes them to the file in the order of their places: those that are side by side and came one after another go out in one
     /// call. They are kept all the same.
     pub fn write_to(&mut self, file: &File) -> io::Result<()>
-        ensures { self.new.pages.items ≡ self.old.pages.items }
+        ensures pages { self.new.pages.items ≡ self.old.pages.items }
+        ensures places { IsPermutation self.old.places.items self.new.places.items }
     {
         self.places.sort_unstable();
         let mut group = Group {
