@@ -10,6 +10,9 @@ use Rattle.cs_deps.specs.declared.elements.Element.TheVariants.{Plain, Version}
 use Rattle.cs_deps.specs.Named.{Named}
 use Rattle.cs_deps.specs.Staging.{stands_for}
 use Rattle.cs_deps.specs.Entries.{nothing, greater_at_each, union, joined_with, full_needs, entry_waits, waiting_of, AreCurrent}
+use Rattle.cs_deps.specs.declared.levels.Levels.{Levels}
+use Rattle.cs_deps.specs.Levels.{entry_live, AreLive}
+use Rattle.std.proofs.lemmas.Bool.{lt-ltb}
 use Rattle.cs_deps.specs.Spent.{is_small, is_spent, carried_with, IsFolded}
 use Rattle.cs_deps.proofs.Entries.{joined_push, map_same}
 use Rattle.cs_deps.proofs.Filtered.{came_from}
@@ -198,3 +201,26 @@ current_kept f v ps last old new is latest current = ⊎_elim
     (λ (e : new ≡ old). subst (AreCurrent ps latest) (sym e) current)
     (λ (t : (k : ℕ) × (w : Element × Named) × (slice_get old k ≡ Some w) × (is_spent f v w ≡ true) × (new ≡ filter (λ u. not (is_spent f v u)) old ++ (Version f v, carried_with f v nothing old) ∷ [])). subst (AreCurrent ps latest) (sym t.4) (current_folded f v ps last old t.0 t.1 t.2 t.3 latest current))
     is
+
+pub live_kept : (f v : ℕ) (old new : List (Element × Named)) → IsFolded f v old new → (l : Levels) (floors : List ℕ) → AreLive l floors old → AreLive l floors new
+live_kept f v old new is l floors live = ⊎_elim
+    (λ (e : new ≡ old). subst (AreLive l floors) (sym e) live)
+    (λ (t : (k : ℕ) × (w : Element × Named) × (slice_get old k ≡ Some w) × (is_spent f v w ≡ true) × (new ≡ filter (λ u. not (is_spent f v u)) old ++ (Version f v, carried_with f v nothing old) ∷ [])). subst (AreLive l floors) (sym t.4) (each t.0 t.1 t.2 t.3))
+    is
+  where
+    past : (x : Element) → stands_for (Version f v) x ≡ true → entry_live l floors x ≡ true → nat_lt (get_or floors f 0) v ≡ true
+    past (Plain n) stands live = absurd (cc stands)
+    past (Version g u) stands live =
+        let b = both (f == g) (nat_le u v) stands in
+        let e : f ≡ g = grind (arith, nat_tests) in
+        let le : u ≤ v = grind (arith, nat_tests) in
+        let lt : get_or floors g 0 < u = grind (arith, nat_tests) in
+        lt-ltb (get_or floors f 0) v (omega (arith, lt, le, ap (λ h. get_or floors h 0) e))
+
+    each : (k : ℕ) (w : Element × Named) → slice_get old k ≡ Some w → is_spent f v w ≡ true → AreLive l floors (filter (λ u. not (is_spent f v u)) old ++ (Version f v, carried_with f v nothing old) ∷ [])
+    each k w at spent j x d there = ⊎_elim
+        (λ (o : slice_get (left f v old) j ≡ Some (x, d)). let c = came_from (λ (u : Element × Named). not (is_spent f v u)) old j (x, d) o in live c.0 x d c.1)
+        (λ (o : (j ≡ length (left f v old)) × ((Version f v, carried_with f v nothing old) ≡ (x, d))).
+        let e : Version f v ≡ x = ap (λ (u : Element × Named). u.0) o.1 in
+        subst (λ y. entry_live l floors y ≡ true) e (past w.0 (both (stands_for (Version f v) w.0) (is_small w.1) spent).0 (live k w.0 w.1 at)))
+        (at_push (left f v old) (Version f v, carried_with f v nothing old) (x, d) j there)

@@ -11,6 +11,7 @@ pub mod HeightSteps
 pub mod StateSteps
 pub mod Extended
 pub mod Ready
+pub mod Ended
 pub mod Entries
 pub mod AllHeights
 pub mod InTurn
@@ -28,6 +29,7 @@ pub mod Noted
 pub mod Folded
 pub mod Queues
 pub mod Held
+pub mod Live
 pub mod LeftOver
 pub mod InRow
 pub mod Filed

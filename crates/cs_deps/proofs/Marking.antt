@@ -3,6 +3,7 @@ use Rattle.std.proofs.Common.{◌≡◌, ◌∙◌, ℕ, zero, suc, ◌+◌, ◌
 use Rattle.std.specs.Prelude.{Contains, ◌↔◌, ◌==◌, ◌&&◌, cond, filter, option_map, nat_le, slice_index_or, if◌then◌else◌}
 use Rattle.std.proofs.lemmas.Bool.{cases_lt, lt-ltb}
 use Rattle.std.proofs.lemmas.Bool.Decides.{nat_tests}
+use Rattle.std.proofs.lemmas.List.{append-nil, length-append}
 use Rattle.std.proofs.lemmas.List.Elements.{Contains-append_left, Contains-append_right, Contains-append_cases}
 use Rattle.std.proofs.lemmas.Option.{some_pair_parts, same_Some, slice_get-map, slice_get_within}
 use Rattle.cs_deps.specs.declared.elements.Element.{Element}
@@ -11,11 +12,14 @@ use Rattle.cs_deps.specs.Named.{Named, Names}
 use Rattle.cs_deps.specs.Pending.{Pending, Waits, WaitsAt, Needs, IsPersistent, IsStaged}
 use Rattle.cs_deps.specs.Chain.{IsChain, LastIs}
 use Rattle.cs_deps.specs.Staging.{Staging, IsKept, stands_for}
+use Rattle.cs_deps.specs.declared.levels.Levels.{Levels}
+use Rattle.cs_deps.specs.Levels.{entry_live, live_of}
 use Rattle.cs_deps.specs.Entries.{nothing, union, joined_with, full_needs, entry_waits, waiting_of}
 use Rattle.cs_deps.specs.Wanted.{AreMarked, AreWanted, taken_at, IsWantedFrom}
 use Rattle.cs_deps.proofs.Chains.{need_is_needed}
-use Rattle.cs_deps.proofs.Entries.{names_of_union, names_nothing, listed_now, listed_was}
+use Rattle.cs_deps.proofs.Entries.{names_of_union, names_nothing, listed_now, listed_was, filtered_more}
 use Rattle.cs_deps.proofs.Filtered.{filter_keeps}
+use Rattle.cs_deps.proofs.Live.{filter_place}
 use Rattle.cs_deps.proofs.LowerBound.{waiting_not_persistent}
 use Rattle.cs_deps.proofs.Plains.{front_more}
 
@@ -256,6 +260,50 @@ module _ (ps : List ℕ) (entries : List (Element × Named)) (staged : IsStaged 
 
     pub all_wanted : AreWanted g target d
     all_wanted x w = ((λ n. was.sound x w n), (λ n. chain_named x n.0 n.1.0 n.1.1))
+
+-- Places among the entries of use, by places among all entries.
+module _ (l : Levels) (floors ps : List ℕ) (es : List (Element × Named)) (staged : IsStaged (record { persistent = ps; waiting = waiting_of ps (live_of l floors es) })) (target : Named) where
+  abbrev live : List (Element × Named)
+  live = live_of l floors es
+
+  abbrev waiting : Pending
+  waiting = record { persistent = ps; waiting = waiting_of ps live }
+
+  -- the entries of use before place k were not gone through yet
+  abbrev pub IsWantedBack : ℕ → Named → Type 0
+  IsWantedBack k d = IsWantedFrom waiting ps live target (length (live_of l floors (take k es))) d
+
+  pub wanted_start : (k : ℕ) → length es ≤ k → IsWantedBack k target
+  wanted_start k le = wanted_none ps live staged target (length (live_of l floors (take k es))) (omega (arith, ap (λ us. length (live_of l floors us)) (take_all k es le)))
+
+  pub wanted_end : (d : Named) → IsWantedBack 0 d → IsWantedFrom waiting ps live target 0 d
+  wanted_end d was = subst (λ k. IsWantedFrom waiting ps live target k d) (none es) was
+    where
+      none : (us : List (Element × Named)) → length (live_of l floors (take 0 us)) ≡ 0
+      none [] = refl
+      none (u ∷ us) = refl
+
+  pub wanted_back : (k : ℕ) (x : Element) (own d e : Named) → slice_get es k ≡ Some (x, own) → (((((entry_live l floors x && entry_waits ps x) ≡ true) × Names d x → ⊥) × (e ≡ d)) ⊎ (((entry_live l floors x && entry_waits ps x) ≡ true) × Names d x × (e ≡ union d (taken_at ps live x own)))) → IsWantedBack (k + 1) d → IsWantedBack k e
+  wanted_back k x own d e at found was = go (entry_live l floors x) refl
+    where
+      go : (b : Bool) → entry_live l floors x ≡ b → IsWantedBack k e
+      go true q =
+          let next : length (live_of l floors (take (k + 1) es)) ≡ length (live_of l floors (take k es)) + 1 = ap length (filtered_more (λ (w : Element × Named). entry_live l floors w.0) es k (x, own) true at q) ∙ length-append (live_of l floors (take k es)) ((x, own) ∷ []) in
+          let same : (entry_live l floors x && entry_waits ps x) ≡ entry_waits ps x = ap (λ b. b && entry_waits ps x) q in
+          wanted_step ps live staged target (length (live_of l floors (take k es))) x own d e (filter_place (λ (w : Element × Named). entry_live l floors w.0) es k (x, own) at q)
+          (⊎_elim
+          (λ (no : (((entry_live l floors x && entry_waits ps x) ≡ true) × Names d x → ⊥) × (e ≡ d)). inl ((λ n. no.0 (same ∙ n.0, n.1)), no.1))
+          (λ (yes : ((entry_live l floors x && entry_waits ps x) ≡ true) × Names d x × (e ≡ union d (taken_at ps live x own))). inr (sym same ∙ yes.0, yes.1, yes.2))
+          found)
+          (subst (λ i. IsWantedFrom waiting ps live target i d) next was)
+      go false q =
+          let next : length (live_of l floors (take (k + 1) es)) ≡ length (live_of l floors (take k es)) = ap length (filtered_more (λ (w : Element × Named). entry_live l floors w.0) es k (x, own) false at q ∙ append-nil (live_of l floors (take k es))) in
+          let out : (entry_live l floors x && entry_waits ps x) ≡ false = ap (λ b. b && entry_waits ps x) q in
+          let same : e ≡ d = ⊎_elim
+          (λ (no : (((entry_live l floors x && entry_waits ps x) ≡ true) × Names d x → ⊥) × (e ≡ d)). no.1)
+          (λ (yes : ((entry_live l floors x && entry_waits ps x) ≡ true) × Names d x × (e ≡ union d (taken_at ps live x own))). absurd (cc (sym out ∙ yes.0)))
+          found in
+          subst (λ (u : Named). IsWantedBack k u) (sym same) (subst (λ i. IsWantedFrom waiting ps live target i d) next was)
 
 -- the first version of a family waits where one does
 pub first_waits_too : (s : Staging) → IsKept s → (f v : ℕ) → Waits s.pending (Version f v) → Waits s.pending (Version f (get_or s.pending.persistent f 0 + 1))

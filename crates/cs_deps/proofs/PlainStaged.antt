@@ -81,8 +81,8 @@ module _ (s : State) (whole : IsSound s) (l : Levels) (ix : IsIndexed s l) (d : 
       (λ y. ⊎_elim (λ (e : y ≡ x). inr (sym e)) (λ (ne : y ≢ x). inl (old_level y ne)) (is_plain (n + 1) y))
       (λ y w. old_level y (λ e. follows.fresh (subst (Waits g) e w))))
 
-  pub tops_new : AreTops (kept_by m) m.base (n + 1)
-  tops_new = subst (λ b. AreTops (kept_by m) b (n + 1)) (sym new.base) (record {
+  pub tops_new : AreTops (kept_by m) m.ended (n + 1)
+  tops_new = subst (λ b. AreTops (kept_by m) b (n + 1)) (sym new.ended) (record {
     above = λ a w k le is up. ⊎_elim
         (λ (e : a ≡ n + 1). newest w k (omega (arith, e, le)) (sym (sym new.itself ∙ ap (λ u. kept_by m (Plain u)) (sym e) ∙ is)) up)
         (λ (ne : a ≢ n + 1).
@@ -114,7 +114,7 @@ module _ (s : State) (whole : IsSound s) (l : Levels) (ix : IsIndexed s l) (d : 
       last = kept_by l (Plain n)
 
       -- the greatest level before
-      so_far : (w : ℕ) → w ≤ n → l.base < level_by l (Plain w) → level_by l (Plain w) ≤ top_of last
+      so_far : (w : ℕ) → w ≤ n → l.ended < level_by l (Plain w) → level_by l (Plain w) ≤ top_of last
       so_far w le up = at last refl
         where
           at : (o : Option Kept) → last ≡ o → level_by l (Plain w) ≤ top_of o
@@ -125,7 +125,7 @@ module _ (s : State) (whole : IsSound s) (l : Levels) (ix : IsIndexed s l) (d : 
       fact true is = (let lt : top_of last < l.ended + i + 1 = grind (arith, nat_tests) in omega (arith, lt), omega arith)
       fact false is = (omega arith, grind (arith, nat_tests))
 
-      newest : (w : ℕ) (k : Kept) → w ≤ n + 1 → Some k ≡ Some (next_plain last (n + 1) (l.ended + i + 1) before key) → l.base < level_by m (Plain w) → level_by m (Plain w) ≤ k.top
+      newest : (w : ℕ) (k : Kept) → w ≤ n + 1 → Some k ≡ Some (next_plain last (n + 1) (l.ended + i + 1) before key) → l.ended < level_by m (Plain w) → level_by m (Plain w) ≤ k.top
       newest w k le is up =
           let e = ap (λ (u : Kept). u.top) (same_Some k (next_plain last (n + 1) (l.ended + i + 1) before key) is) in
           let f = fact (nat_lt (top_of last) (l.ended + i + 1)) refl in
@@ -134,7 +134,7 @@ module _ (s : State) (whole : IsSound s) (l : Levels) (ix : IsIndexed s l) (d : 
           (λ (ne : w ≢ n + 1). let lv = plain_level w (omega (arith, le, ne)) in omega (arith, lv, so_far w (omega (arith, le, ne)) (omega (arith, lv, up)), e, f.0))
           (same_family (n + 1) w)
 
-      first : (a : ℕ) (k : Kept) → a ≡ n + 1 → Some k ≡ Some (next_plain last (n + 1) (l.ended + i + 1) before key) → l.base < k.top → (1 ≤ k.least) × (k.least ≤ a) × (level_by m (Plain k.least) ≡ k.top)
+      first : (a : ℕ) (k : Kept) → a ≡ n + 1 → Some k ≡ Some (next_plain last (n + 1) (l.ended + i + 1) before key) → l.ended < k.top → (1 ≤ k.least) × (k.least ≤ a) × (level_by m (Plain k.least) ≡ k.top)
       first a k is it up =
           let e = same_Some k (next_plain last (n + 1) (l.ended + i + 1) before key) it in
           which (nat_lt (top_of last) (l.ended + i + 1)) refl (ap (λ (u : Kept). u.top) e) (ap (λ (u : Kept). u.least) e)

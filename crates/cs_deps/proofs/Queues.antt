@@ -139,7 +139,7 @@ indexed_same s l ix m is pages room fits = record {
     waiting = λ x n h. same x ∙ ix.levels.waiting x n h;
     gone = λ x hi. ix.levels.gone x (omega (arith, same x, hi));
   });
-  tops = subst (λ b. AreTops (kept_by m) b s.staging.staged) (sym is.base) (record {
+  tops = subst (λ b. AreTops (kept_by m) b s.staging.staged) (sym is.ended) (record {
     above = λ n w k le it hi. omega (arith, same (Plain w), ix.tops.above n w k le (sym (kept (Plain n)) ∙ it) (omega (arith, same (Plain w), hi)));
     least = λ n k it hi. (let r = ix.tops.least n k (sym (kept (Plain n)) ∙ it) hi in (r.0, r.1, same (Plain k.least) ∙ r.2));
     none = λ n w le lower it. omega (arith, same (Plain w), ix.tops.none n w le lower (sym (kept (Plain n)) ∙ it));

@@ -80,11 +80,7 @@ module _ (s : State) (whole : IsSound s) (none : s.round ≡ None) (l : Levels) 
   pub taken_one : 0 < length l.rows.items → IsIndexed (record { staging = s.staging; round = Some round; pages = s.pages; room = s.room }) (record { ended = l.ended; base = l.ended + 1; plains = l.plains; dropped = l.dropped; versions = l.versions; starts = l.starts; rows = l.rows })
   taken_one some = record {
     levels = then_levels;
-    tops = record {
-      above = λ n w k le is hi. ix.tops.above n w k le is (omega (arith, ix.still none, hi));
-      least = λ n k is hi. ix.tops.least n k is (omega (arith, ix.still none, hi));
-      none = λ n w le lower is. omega (arith, ix.tops.none n w le lower is, ix.still none);
-    };
+    tops = ix.tops;
     rows = ix.rows;
     linked = ix.linked;
     before = λ x k is hi.
@@ -143,10 +139,10 @@ module _ (s : State) (whole : IsSound s) (l : Levels) (ix : IsIndexed s l) (page
       waiting = λ x n h. same x ∙ ix.levels.waiting x n h;
       gone = λ x hi. ix.levels.gone x (omega (arith, same x, hi));
     });
-    tops = subst (λ b. AreTops (kept_by m) b s.staging.staged) (sym is.base) (record {
-      above = λ n w k le it hi. omega (arith, same (Plain w), ix.tops.above n w k le (sym (is.kept (Plain n)) ∙ it) (omega (arith, same (Plain w), hi)));
-      least = λ n k it hi. (let r = ix.tops.least n k (sym (is.kept (Plain n)) ∙ it) hi in (r.0, r.1, same (Plain k.least) ∙ r.2));
-      none = λ n w le lower it. omega (arith, same (Plain w), ix.tops.none n w le lower (sym (is.kept (Plain n)) ∙ it));
+    tops = subst (λ b. AreTops (kept_by m) b s.staging.staged) (sym is.ended) (record {
+      above = λ n w k le it hi. omega (arith, same (Plain w), ix.tops.above n w k le (sym (is.kept (Plain n)) ∙ it) (omega (arith, same (Plain w), hi, lt)));
+      least = λ n k it hi. (let r = ix.tops.least n k (sym (is.kept (Plain n)) ∙ it) (omega (arith, hi, lt)) in (r.0, r.1, same (Plain k.least) ∙ r.2));
+      none = λ n w le lower it. omega (arith, same (Plain w), lt, ix.tops.none n w le lower (sym (is.kept (Plain n)) ∙ it));
     });
     rows = record {
       plain = λ j n lv. (let r = ix.rows.plain (j + 1) n (omega (arith, same (Plain n), lv, one, is.ended)) in let e = is.rows j in (omega (arith, ap (λ (r : Row). r.first) e, r.0), omega (arith, ap (λ (r : Row). r.first) e, r.1), omega (arith, ap (λ (r : Row). r.last) e, r.2)));

@@ -62,8 +62,8 @@ module _ (s : State) (whole : IsSound s) (l : Levels) (ix : IsIndexed s l) where
         named
       where
         at : (o : Option Kept) → kept_by l (Plain d.through) ≡ o → n ≤ d.through → d.through ≤ s.staging.staged → level_by l (Plain n) ≤ level
-        at None is le top = omega (arith, ix.tops.none d.through n top le is, up (Plain n) w)
-        at (Some k) is le top = omega (arith, ix.tops.above d.through n k le is (up (Plain n) w), best.through k is)
+        at None is le top = omega (arith, ix.tops.none d.through n top le is, up (Plain n) w, ix.low)
+        at (Some k) is le top = omega (arith, ix.tops.above d.through n k le is (omega (arith, up (Plain n) w, ix.low)), best.through k is)
     above (Version f v) named w =
         let top : get_or d.least f 0 ≤ get_or s.staging.latest f 0 = within (Version f (get_or d.least f 0)) (omega (arith, named.0, named.1), omega arith) in
         omega (arith, later_levels f v (get_or d.least f 0) named.1 top w, best.versions f)
@@ -74,7 +74,7 @@ module _ (s : State) (whole : IsSound s) (l : Levels) (ix : IsIndexed s l) where
         (λ (e : level ≡ l.base). absurd (omega (arith, e, lt)))
         (λ (r : (y : Element) × (before ≡ Some y) × IsCandidate (kept_by l) d y level). ⊎_elim
         (λ (t : (k : Kept) × (kept_by l (Plain d.through) ≡ Some k) × (r.0 ≡ Plain k.least) × (level ≡ k.top)).
-        let p = ix.tops.least d.through t.0 t.1 (omega (arith, t.3, lt)) in
+        let p = ix.tops.least d.through t.0 t.1 (omega (arith, t.3, lt, ix.low)) in
         (Plain t.0.least, r.1 ∙ ap (λ (y : Element). Some y) t.2, inl (p.0, p.1), ix.levels.gone (Plain t.0.least) (omega (arith, p.2, t.3, lt)), p.2 ∙ sym t.3))
         (λ (t : Names d r.0 × (level_of (kept_by l r.0) ≡ level)). (r.0, r.1, t.0, ix.levels.gone r.0 (omega (arith, t.1, lt)), t.1))
         r.2)

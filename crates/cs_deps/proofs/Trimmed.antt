@@ -152,12 +152,12 @@ module _ (s : State) (l m : Levels) (is : IsTrimmed l m) where
         waiting = λ x n h. (let lv = ix.levels.waiting x n h in level_above x (l.base + n) (let p = height_positive (after s) x n h in omega (arith, p)) lv);
         gone = λ x hi. ix.levels.gone x (omega (arith, hi, level_low x));
       });
-      tops = subst (λ b. AreTops (kept_by m) b s.staging.staged) (sym is.base) (record {
+      tops = subst (λ b. AreTops (kept_by m) b s.staging.staged) (sym is.ended) (record {
         above = λ n w k le it hi. (let lv = level_less (Plain w) (level_by m (Plain w)) (omega (arith, hi)) refl in omega (arith, lv, ix.tops.above n w k le (is.kept (Plain n) k it) (omega (arith, lv, hi))));
-        least = λ n k it hi. (let r = ix.tops.least n k (is.kept (Plain n) k it) hi in (r.0, r.1, level_above (Plain k.least) k.top hi r.2));
+        least = λ n k it hi. (let r = ix.tops.least n k (is.kept (Plain n) k it) hi in (r.0, r.1, level_above (Plain k.least) k.top (omega (arith, hi, still)) r.2));
         none = λ n w le lower it. ⊎_elim
             (λ (o : kept_by l (Plain n) ≡ None). omega (arith, level_low (Plain w), ix.tops.none n w le lower o))
-            (λ (o : level_by l (Plain w) ≤ l.base). omega (arith, level_low (Plain w), o))
+            (λ (o : level_by l (Plain w) ≤ l.base). omega (arith, level_low (Plain w), o, still))
             (is.before n w lower it);
       });
       rows = subst (λ rs. AreRows (kept_by m) m.ended rs) (sym is.rows) (subst (λ e. AreRows (kept_by m) e l.rows.items) (sym is.ended) (record {

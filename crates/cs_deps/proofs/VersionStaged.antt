@@ -173,8 +173,8 @@ module _ (s : State) (whole : IsSound s) (l : Levels) (ix : IsIndexed s l) (f : 
   plain : (n : ℕ) → kept_by m (Plain n) ≡ kept_by l (Plain n)
   plain n = new.others (Plain n) (λ q. absurd (cc q))
 
-  pub tops_new : AreTops (kept_by m) m.base s.staging.staged
-  tops_new = subst (λ b. AreTops (kept_by m) b s.staging.staged) (sym new.base) (record {
+  pub tops_new : AreTops (kept_by m) m.ended s.staging.staged
+  tops_new = subst (λ b. AreTops (kept_by m) b s.staging.staged) (sym new.ended) (record {
     above = λ n w u le is hi. (let r = ix.tops.above n w u le (sym (plain n) ∙ is) (omega (arith, ap level_of (plain w), hi)) in omega (arith, ap level_of (plain w), r));
     least = λ n u is hi. (let r = ix.tops.least n u (sym (plain n) ∙ is) hi in (r.0, r.1, ap level_of (plain u.least) ∙ r.2));
     none = λ n w le lower is. (let r = ix.tops.none n w le lower (sym (plain n) ∙ is) in omega (arith, ap level_of (plain w), r));

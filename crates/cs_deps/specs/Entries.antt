@@ -1,5 +1,5 @@
 -- How a graph holds what waits: a list of entries with their own needs, and what each waiting element needs in all.
-use Rattle.std.specs.Prelude.{◌≡◌, ℕ, ◌+◌, ◌≤◌, ◌<◌, List, [], ◌∷◌, ◌++◌, Bool, true, Option, Some, max, map, filter, nat_lt, slice_get, slice_index, if◌then◌else◌}
+use Rattle.std.specs.Prelude.{◌≡◌, ℕ, ◌+◌, ◌≤◌, ◌<◌, List, [], ◌∷◌, ◌++◌, Bool, true, Option, Some, max, map, filter, nat_lt, slice_get, slice_index, length, if◌then◌else◌}
 use Rattle.cs_deps.specs.declared.elements.Element.{Element}
 use Rattle.cs_deps.specs.declared.elements.Element.TheVariants.{Plain, Version}
 use Rattle.cs_deps.specs.declared.levels.Levels.{Levels}
@@ -11,7 +11,7 @@ use Rattle.cs_deps.specs.declared.records.Record.{Record}
 use Rattle.cs_deps.specs.Records.{AreFiled}
 use Rattle.cs_deps.specs.Newest.{AreNewest}
 use Rattle.slab.specs.Slab.{Slab, HasRoomFor}
-use Rattle.cs_deps.specs.State.{State, Write, IsOut, waits_still}
+use Rattle.cs_deps.specs.State.{State, Write, IsListed, IsOut, waits_still}
 
 -- what names nothing
 abbrev pub nothing : Named
@@ -70,10 +70,15 @@ pub record IsSound (s : State) : Type 0 where
   -- a round's members wait
   pub out : (x : Element) → IsOut s x → Waits s.staging.pending x
 
--- What a graph keeps of its fields: its value's laws, and room for as many stagings as it says.
-pub record IsHeld (s : State) (entries : List (Element × Named)) (entry_count entry_capacity entry_places : ℕ) (records : Slab Record) (numbers : ℕ → Option ℕ) (spare : ℕ) (l : Levels) : Type 0 where
+-- What a graph keeps of its fields: its value's laws, and room for as many stagings as it says. Some of its entries may be of no
+-- use any more; `live` are the others.
+pub record IsHeld (s : State) (live entries : List (Element × Named)) (floors : List ℕ) (entry_count entry_capacity entry_places : ℕ) (records : Slab Record) (numbers : ℕ → Option ℕ) (spare : ℕ) (l : Levels) : Type 0 where
   pub whole : IsSound s
-  pub current : AreCurrent s.staging.pending.persistent s.staging.latest entries
+  pub current : AreCurrent s.staging.pending.persistent s.staging.latest live
+  -- what was staged of the entries, in use or not
+  pub plains : (n : ℕ) → IsListed entries (Plain n) → n ≤ s.staging.staged
+  pub floors_count : length floors ≡ length s.staging.latest
+  pub floors_low : (f : ℕ) → slice_index floors f ≤ slice_index s.staging.latest f
   pub filed : AreFiled l records
   pub entries_fit : entry_count + s.room ≤ entry_capacity
   pub places_fit : s.room ≤ entry_places

@@ -1,5 +1,5 @@
 -- Levels that are kept as elements are staged.
-use Rattle.std.specs.Prelude.{AllPairs, ◌≡◌, ◌≢◌, ◌&&◌, nat_le, slice_set, ℕ, zero, suc, ◌+◌, ◌-◌, ◌≤◌, ◌<◌, ◌⊎◌, ◌==◌, ◌^◌, List, [], ◌∷◌, Bool, Option, Some, None, All, Contains, max, nat_lt, if◌then◌else◌, length, slice_get, slice_index, slice_index_or, option_map}
+use Rattle.std.specs.Prelude.{AllPairs, ◌≡◌, ◌≢◌, ◌&&◌, nat_le, slice_set, ℕ, zero, suc, ◌+◌, ◌-◌, ◌≤◌, ◌<◌, ◌⊎◌, ◌==◌, ◌^◌, List, [], ◌∷◌, Bool, true, Option, Some, None, All, Contains, max, nat_lt, if◌then◌else◌, length, slice_get, slice_index, slice_index_or, option_map, filter}
 use Rattle.std.specs.declared.collections.VecDeque.{VecDeque}
 use Rattle.std.specs.VecDeque.{deque_len, deque_capacity}
 use Rattle.std.specs.Global.{Global}
@@ -51,7 +51,7 @@ pub record AreKeptLevels (g : Pending) (base : ℕ) (level : Element → ℕ) : 
   pub waiting : (x : Element) (n : ℕ) → IsHeight g x n → level x ≡ base + n
   pub gone : (x : Element) → base < level x → Waits g x
 
--- the greatest level of what d names and what waits, the base where nothing does
+-- the greatest level of the waiting elements that d names, the base where none of them waits
 pub record Top (g : Pending) (base : ℕ) (level : Element → ℕ) (d : Named) (top : ℕ) : Type 0 where
   pub above : (y : Element) → Names d y → Waits g y → level y ≤ top
   pub reached : (top ≡ base) ⊎ ((y : Element) × Names d y × Waits g y × (level y ≡ top))
@@ -107,7 +107,7 @@ IsQueued l x = (i : ℕ) × IsInRow (kept_by l) l.ended l.rows.items i x
 -- What a graph keeps of the levels of what waits. Where no round is out `base` is `ended`, and a kept level less that is the height.
 pub record IsIndexed (s : State) (l : Levels) : Type 0 where
   pub levels : AreKeptLevels (after s) l.base (level_by l)
-  pub tops : AreTops (kept_by l) l.base s.staging.staged
+  pub tops : AreTops (kept_by l) l.ended s.staging.staged
   pub rows : AreRows (kept_by l) l.ended l.rows.items
   pub linked : AreLinked (kept_by l) l.ended
   -- above height 1 there is a need that is one lower
@@ -145,7 +145,7 @@ abbrev pub relinked : ℕ → ℕ → (Element → Option Kept) → Element → 
 relinked number next kept (Plain n) = if n == number then option_map (with_next next) (kept (Plain n)) else kept (Plain n)
 relinked number next kept (Version f v) = kept (Version f v)
 
--- the greatest level so far, and the least plain write that has it
+-- the greatest level so far, 0 where nothing is kept
 abbrev pub top_of : Option Kept → ℕ
 top_of None = 0
 top_of (Some k) = k.top
@@ -166,7 +166,8 @@ next_plain last number level before key = record {
   key = key;
 }
 
--- what is kept of a version behind the last one of its family, which goes for it where it waits and is no lower
+-- what is kept of a new version: what is kept of the version before it, where that waits at this level or a higher one, since the new one
+-- needs all that that one needs; else an entry of its own
 abbrev pub next_version : Option Kept → ℕ → ℕ → Option Element → Kept
 next_version None base level before = record { level = level; before = before; next = 0; top = 0; least = 0; key = 0 }
 next_version (Some k) base level before = if nat_le level k.level && nat_lt base k.level then k else record { level = level; before = before; next = 0; top = 0; least = 0; key = 0 }
@@ -269,7 +270,19 @@ pub record ArePlainsBefore (kept : Element → Option Kept) (level n : ℕ) (xs 
   pub next : 0 < n → level_of (kept (Plain n)) ≡ level
   pub order : AllPairs IsListedBefore xs
 
--- whether an entry stays: a plain write by its level, a version while its family has one waiting
-abbrev pub entry_left : Levels → List ℕ → List ℕ → Element → Bool
-entry_left l persistent latest (Plain n) = nat_lt l.base (level_by l (Plain n))
-entry_left l persistent latest (Version f v) = nat_lt (slice_index persistent f) (slice_index latest f)
+-- whether an entry is of use: a plain write while its level is above the rounds that ended, a version past its family's floor
+abbrev pub entry_live : Levels → List ℕ → Element → Bool
+entry_live l floors (Plain n) = nat_lt l.ended (level_by l (Plain n))
+entry_live l floors (Version f v) = nat_lt (slice_index floors f) v
+
+-- the entries that are of use
+abbrev pub live_of : Levels → List ℕ → List (Element × Named) → List (Element × Named)
+live_of l floors entries = filter (λ w. entry_live l floors w.0) entries
+
+-- a family's floor: its last version where none waits, and else the one before
+abbrev pub floor_of : ℕ → ℕ → ℕ → ℕ
+floor_of persistent latest floor = if nat_lt persistent latest then floor else latest
+
+-- all entries are of use
+abbrev pub AreLive : Levels → List ℕ → List (Element × Named) → Type 0
+AreLive l floors entries = (k : ℕ) (x : Element) (d : Named) → slice_get entries k ≡ Some (x, d) → entry_live l floors x ≡ true

@@ -11,8 +11,14 @@ use std::alloc::{AllocError, Global};
 /// Elements with their own needs, and memory for those of more.
 #[derive(Drop)]
 pub struct Backlog {
-    /// In the order of staging.
+    /// In the order of staging. Some are of no use any more: those of plain writes that are persistent, and those of versions up to
+    /// their family's floor.
     pub list: Vec<(Element, Needs)>,
+    /// Of each family the last version that was staged when none of it waited; what that and those before it needed no later one
+    /// needs.
+    pub floors: Vec<u64>,
+    /// So many elements have ended since the list was cleaned.
+    pub ended: u64,
     /// A place for the needs of each element that there is room for, should they be many.
     pub places: Vec<Box<Dependency>>,
 }
@@ -54,13 +60,16 @@ pub fn place_of(entries: &[(Element, Needs)], element: Element) -> Option<usize>
 }
 
 impl Backlog {
-    /// None, and room for none.
-    pub fn new(alloc: Global) -> Self
+    /// None, and room for none, with these floors.
+    pub fn new(alloc: Global, floors: Vec<u64>) -> Self
         ensures items { result.list.items ≡ [] }
+        ensures floors { result.floors.items ≡ floors.items }
         ensures len { vec_len result.list ≡ 0 }
     {
         Backlog {
             list: Vec::new(alloc),
+            floors,
+            ended: 0,
             places: Vec::new(alloc),
         }
     }
@@ -68,6 +77,7 @@ impl Backlog {
     /// Makes room for so many more.
     pub fn reserve(&mut self, stagings: usize) -> Result<(), AllocError>
         ensures items { self.new.list.items ≡ self.old.list.items }
+        ensures floors { self.new.floors.items ≡ self.old.floors.items }
         ensures len { vec_len self.new.list ≡ vec_len self.old.list }
         ensures capacity { vec_capacity self.old.list ≤ vec_capacity self.new.list }
         ensures places { vec_len self.old.places ≤ vec_len self.new.places }
@@ -84,6 +94,7 @@ impl Backlog {
         requires list { vec_len self.old.list < vec_capacity self.old.list }
         requires places { 0 < vec_len self.old.places }
         ensures items { self.new.list.items ≡ self.old.list.items ++ (element, needs) ∷ [] }
+        ensures floors { self.new.floors.items ≡ self.old.floors.items }
         ensures len { vec_len self.new.list ≡ vec_len self.old.list + 1 }
         ensures capacity { vec_capacity self.new.list ≡ vec_capacity self.old.list }
         ensures places { vec_len self.new.places + 1 ≡ vec_len self.old.places }

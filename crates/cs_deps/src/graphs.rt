@@ -10,6 +10,7 @@ ghost use Rattle.cs_deps.specs.Wanted.{AreWanted};
 ghost use Rattle.cs_deps.specs.State.{State, write_of, after, everything, IsNewestOn, IsOut, IsQueue, IsWhole, KeepsBytes, KeepsOthers, AddsNone, AreCounted, NoneOn};
 
 use crate::backlogs::Backlog;
+use crate::cleaning::{clean, count_ended, raise_floors};
 use crate::dependencies::Dependency;
 use crate::elements::{Element, LAST_NUMBER};
 use crate::levels::Levels;
@@ -18,9 +19,8 @@ use crate::records::{Record, clear, give_up, make_room, need_room, record_of};
 use crate::refusals::Refusal;
 use crate::rounds::raise_all;
 use crate::rows::{add_plains, add_versions};
-use crate::spent::fold_all;
 use crate::views::GraphView;
-use crate::waiting::{copy_all, elements_of, keep_entries, names_one, needs_of};
+use crate::waiting::{copy_all, elements_of, needs_of};
 use crate::wanted::Wanted;
 use crate::wanting::wanted_of;
 use slab::Slab;
@@ -41,7 +41,7 @@ pub struct Graph {
     /// The last staged plain write.
     staged: u64,
     /// What waits in the order of staging, each element with the needs that it was staged with. A version that has become
-    /// persistent stays while a later one of its family waits, which needs what it needed.
+    /// persistent stays while a later one of its family waits, which needs what it needed; and some stay that are of no use.
     entries: Backlog,
     /// The page writes of what stands in the ready queues, under the keys that are kept with the levels.
     records: Slab<Record>,
@@ -60,13 +60,14 @@ impl Model for Graph {
     ghost use Rattle.std.specs.HashMap.{get, spare};
     ghost use Rattle.cs_deps.specs.State.{State};
     ghost use Rattle.cs_deps.specs.Entries.{state_of, IsHeld};
+    ghost use Rattle.cs_deps.specs.Levels.{live_of};
     ghost use Rattle.cs_deps.specs.Records.{writes_of};
 
     ghost Value = { State };
 
-    ghost view = { λ g. state_of g.persistent.items g.entries.list.items g.staged g.latest.items (option_map (λ r. r.items) g.round) (writes_of g.records.slots) g.room };
+    ghost view = { λ g. state_of g.persistent.items (live_of g.levels g.entries.floors.items g.entries.list.items) g.staged g.latest.items (option_map (λ r. r.items) g.round) (writes_of g.records.slots) g.room };
 
-    ghost invariant = { λ g. IsHeld (state_of g.persistent.items g.entries.list.items g.staged g.latest.items (option_map (λ r. r.items) g.round) (writes_of g.records.slots) g.room) g.entries.list.items (vec_len g.entries.list) (vec_capacity g.entries.list) (vec_len g.entries.places) g.records (λ p. get nat_eq g.newest p) (spare g.newest) g.levels };
+    ghost invariant = { λ g. IsHeld (state_of g.persistent.items (live_of g.levels g.entries.floors.items g.entries.list.items) g.staged g.latest.items (option_map (λ r. r.items) g.round) (writes_of g.records.slots) g.room) (live_of g.levels g.entries.floors.items g.entries.list.items) g.entries.list.items g.entries.floors.items (vec_len g.entries.list) (vec_capacity g.entries.list) (vec_len g.entries.places) g.records (λ p. get nat_eq g.newest p) (spare g.newest) g.levels };
 }
 
 impl Graph {
@@ -79,12 +80,13 @@ impl Graph {
     {
         let latest = persistent.to_vec(alloc)?;
         let levels = Levels::new(alloc, persistent)?;
+        let floors = persistent.to_vec(alloc)?;
         let persistent = persistent.to_vec(alloc)?;
         Ok(Graph {
             persistent,
             latest,
             staged: 0,
-            entries: Backlog::new(alloc),
+            entries: Backlog::new(alloc, floors),
             records: Slab::new(alloc),
             newest: HashMap::new(alloc),
             round: None,
@@ -240,7 +242,13 @@ impl Graph {
         ensures kept { IsOk result → IsKept self.now.staging }
     {
         let alloc = *self.persistent.allocator();
-        let waiting = copy_all(alloc, &self.entries.list, &self.persistent)?;
+        let waiting = copy_all(
+            alloc,
+            &self.entries.list,
+            &self.levels,
+            &self.entries.floors,
+            &self.persistent,
+        )?;
         let persistent = self.persistent.to_vec(alloc)?;
         Ok(GraphView {
             persistent,
@@ -253,7 +261,13 @@ impl Graph {
         ensures { IfOk result (λ xs. xs.items ≡ map (λ w. w.0) self.now.staging.pending.waiting) }
     {
         let alloc = *self.persistent.allocator();
-        elements_of(alloc, &self.entries.list, &self.persistent)
+        elements_of(
+            alloc,
+            &self.entries.list,
+            &self.levels,
+            &self.entries.floors,
+            &self.persistent,
+        )
     }
 
     /// What a waiting element needs, a version also what the versions before it needed; None where it does not wait. It
@@ -262,7 +276,14 @@ impl Graph {
         ensures { IfOk result (λ found. MatchOption found (¬ Waits self.now.staging.pending element) (λ d. (k : ℕ) × WaitsAt self.now.staging.pending k element d)) }
     {
         let alloc = *self.persistent.allocator();
-        needs_of(alloc, &self.entries.list, &self.persistent, element)
+        needs_of(
+            alloc,
+            &self.entries.list,
+            &self.levels,
+            &self.entries.floors,
+            &self.persistent,
+            element,
+        )
     }
 
     /// What a target needs of what waits: of the waiting elements those that it names, and again and again what they need. What
@@ -273,7 +294,14 @@ impl Graph {
         let alloc = *self.persistent.allocator();
         let count = self.levels.plains.len();
         let target = Wanted::new(alloc, self.levels.dropped, count, target)?;
-        wanted_of(alloc, &self.entries.list, &self.persistent, target)
+        wanted_of(
+            alloc,
+            &self.entries.list,
+            &self.levels,
+            &self.entries.floors,
+            &self.persistent,
+            target,
+        )
     }
 
     /// The bytes of an element's page write, as they were staged. It takes no memory and seeks nothing.
@@ -331,8 +359,10 @@ impl Graph {
     }
 
     /// Puts the round that is out into the persistent set, once its writes have been flushed. Its members and what they
-    /// stand for wait no more, and their bytes go. The work is linear in what waits. It takes no memory where no element needs
-    /// versions of more than two families, and else no more than it gives back.
+    /// stand for wait no more, and their bytes go. Over all calls the work is linear in the members and in what ends with them, and
+    /// in the families for each call: what is of no use any more is taken away when it is half of all that is kept. So what is kept
+    /// is at most twice what waits, and what the waiting versions take over from persistent ones. It takes no memory where no element
+    /// needs versions of more than two families, and else no more than it gives back.
     pub fn settle_round(&mut self)
         requires out { IsSome self.old.round }
         ensures settled { self.new.staging ≡ record { pending = after self.old; staged = self.old.staging.staged; latest = self.old.staging.latest } }
@@ -342,17 +372,13 @@ impl Graph {
         ensures room { self.new.room ≡ self.old.room }
     {
         if let Some(round) = self.round.take() {
+            let ended = count_ended(&round, &self.persistent);
             give_up(&mut self.records, &mut self.newest, &self.levels, &round);
             self.levels.settle();
             raise_all(&mut self.persistent, &round);
-            keep_entries(
-                &mut self.entries.list,
-                &self.levels,
-                &self.persistent,
-                &self.latest,
-            );
-            fold_all(&mut self.entries.list, &self.persistent, &round);
             self.levels.trim(self.staged, &self.latest);
+            raise_floors(&mut self.entries.floors, &self.persistent, &self.latest);
+            clean(&mut self.entries, ended, &self.levels, &self.persistent);
         }
     }
 
@@ -448,7 +474,7 @@ impl Graph {
     pub fn has_waiting(&self) -> bool
         ensures { IsTrue result ↔ (self.now.staging.pending.waiting ≢ []) }
     {
-        !self.entries.list.is_empty()
+        !self.levels.rows.is_empty()
     }
 
     /// The members of the round that is out, in its order, None where none is. It takes no memory.
@@ -476,11 +502,15 @@ impl Graph {
         needs.is_within(self.staged, &self.latest)
     }
 
-    /// Whether all that a dependency names is staged and persistent. It seeks each waiting element among what is named, and
-    /// takes no memory.
+    /// Whether all that a dependency names is staged and persistent. The work is one look at what is kept for each plain write
+    /// that is listed, for all those up to a number together, and for each family; what waits is not gone through. It takes no
+    /// memory.
     pub fn is_persistent(&self, needs: &Dependency) -> bool
         ensures { IsTrue result ↔ ((x : Item) → Names needs.now x → IsSatisfied self.now.staging x) }
     {
-        self.is_staged(needs) && !names_one(needs, &self.entries.list, &self.persistent)
+        if !self.is_staged(needs) {
+            return false;
+        }
+        needs.versions_within(&self.persistent) && self.levels.have_named_ended(needs)
     }
 }

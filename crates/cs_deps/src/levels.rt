@@ -1,10 +1,10 @@
 //! Levels that are kept as elements are staged, and the ready queue of each level.
 
-ghost use Rattle.std.specs.Prelude.{nat_lt, IsTrue, IsOk, IfOk, IfSome, OnOk, None, ◌≡◌, [], ◌^◌, ℕ, ◌+◌, ◌≤◌, ◌<◌, ◌⊎◌, All, Some, Contains, length, slice_index};
+ghost use Rattle.std.specs.Prelude.{nat_lt, IsTrue, IsOk, IfOk, IfSome, OnOk, None, ◌≡◌, [], ◌^◌, ℕ, ◌+◌, ◌≤◌, ◌<◌, ◌⊎◌, ◌↔◌, All, Some, Contains, length, slice_index};
 ghost use Rattle.std.specs.VecDeque.{deque_len, deque_capacity};
 ghost use Rattle.cs_deps.specs.declared.levels.Kept.{Kept as KeptOf};
 ghost use Rattle.cs_deps.specs.Trimmed.{IsTrimmed};
-ghost use Rattle.cs_deps.specs.Levels.{kept_by, family_at, level_by, row_at, IsBest, HasRoom, keyed, next_version, IsPlainPushed, IsVersionPushed, IsNew, IsSameBut, IsLevelsSettled};
+ghost use Rattle.cs_deps.specs.Levels.{kept_by, top_of, family_at, level_by, row_at, IsBest, HasRoom, keyed, next_version, IsPlainPushed, IsVersionPushed, IsNew, IsSameBut, IsLevelsSettled};
 
 use crate::dependencies::{Dependency, version_at};
 use crate::elements::Element;
@@ -170,12 +170,43 @@ impl Levels {
         }
     }
 
-    /// Whether a plain write has a level above the base.
+    /// Whether a plain write waits or is one of the round that is out: its level is above the rounds that ended.
     pub fn is_above(&self, number: u64) -> bool
-        ensures { result ≡ nat_lt self.now.base (level_by self.now (Element.Plain number)) }
+        ensures { result ≡ nat_lt self.now.ended (level_by self.now (Element.Plain number)) }
     {
         let level = level_at(self.kept(Element::Plain(number)));
-        self.base < level
+        self.ended < level
+    }
+
+    /// Whether no plain write up to a number waits, nor is one of the round that is out: the greatest level of them is kept.
+    fn has_ended_through(&self, through: u64) -> bool
+        ensures { IsTrue result ↔ (top_of (kept_by self.now (Element.Plain through)) ≤ self.now.ended) }
+    {
+        match self.kept(Element::Plain(through)) {
+            Some(kept) => kept.top <= self.ended,
+            None => true,
+        }
+    }
+
+    /// Whether a plain write neither waits nor is one of the round that is out.
+    fn has_ended(&self, number: u64) -> bool
+        ensures { IsTrue result ↔ (level_by self.now (Element.Plain number) ≤ self.now.ended) }
+    {
+        !self.is_above(number)
+    }
+
+    /// The same of each of these plain writes.
+    fn have_ended(&self, listed: &[u64]) -> bool
+        ensures { IsTrue result ↔ All (λ n. level_by self.now (Element.Plain n) ≤ self.now.ended) listed.now }
+    {
+        listed.iter().all(|n| self.has_ended(*n))
+    }
+
+    /// The same of each plain write that a dependency names.
+    pub fn have_named_ended(&self, needs: &Dependency) -> bool
+        ensures { IsTrue result ↔ ((top_of (kept_by self.now (Element.Plain needs.now.through)) ≤ self.now.ended) × All (λ n. level_by self.now (Element.Plain n) ≤ self.now.ended) needs.now.plains) }
+    {
+        self.has_ended_through(needs.through_number()) && self.have_ended(needs.listed())
     }
 
     /// With the greatest level of the plain writes up to a number.

@@ -2,6 +2,7 @@
 #![tactic(auto)]
 
 mod backlogs;
+mod cleaning;
 mod dependencies;
 mod elements;
 mod graphs;

@@ -124,6 +124,7 @@ pub fn make_room(
     requires newest_fit { room ≤ spare newest.old }
     requires levels_fit { HasRoom levels.old room }
     ensures entries { entries.new.list.items ≡ entries.old.list.items }
+    ensures floors { entries.new.floors.items ≡ entries.old.floors.items }
     ensures records { records.new ≡ record records.old { capacity = records.new.capacity } }
     ensures newest { (p : ℕ) → get_number nat_eq newest.new p ≡ get_number nat_eq newest.old p }
     ensures levels { IsSameBut levels.old levels.new }
@@ -161,6 +162,7 @@ pub fn need_room(
     requires newest_fit { room ≤ spare newest.old }
     requires levels_fit { HasRoom levels.old room }
     ensures entries { entries.new.list.items ≡ entries.old.list.items }
+    ensures floors { entries.new.floors.items ≡ entries.old.floors.items }
     ensures records { records.new ≡ record records.old { capacity = records.new.capacity } }
     ensures newest { (p : ℕ) → get_number nat_eq newest.new p ≡ get_number nat_eq newest.old p }
     ensures levels { IsSameBut levels.old levels.new }

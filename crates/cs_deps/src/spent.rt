@@ -3,6 +3,8 @@ ghost use Rattle.std.specs.Prelude.{◌≡◌, ℕ, ◌≤◌, List, true, IfOk,
 ghost use Rattle.cs_deps.specs.declared.elements.Element.{Element as Item};
 ghost use Rattle.cs_deps.specs.Named.{Named};
 ghost use Rattle.cs_deps.specs.Entries.{nothing, waiting_of, AreCurrent};
+ghost use Rattle.cs_deps.specs.declared.levels.Levels.{Levels as LevelsOf};
+ghost use Rattle.cs_deps.specs.Levels.{AreLive};
 ghost use Rattle.cs_deps.specs.Spent.{is_spent, carried_with, IsFolded};
 
 use crate::dependencies::{Dependency, version_at};
@@ -67,28 +69,28 @@ fn fold(entries: &mut Vec<(Element, Needs)>, family: usize, version: u64)
     }
 }
 
-/// The same of the family of a member of a round, up to its persistent version.
-fn fold_family(entries: &mut Vec<(Element, Needs)>, persistent: &[u64], element: Element)
+/// The same of one family, up to its persistent version.
+fn fold_family(entries: &mut Vec<(Element, Needs)>, persistent: &[u64], family: usize)
     ensures waiting { waiting_of persistent.now entries.new.items ≡ waiting_of persistent.now entries.old.items }
     ensures current { (latest : List ℕ) → AreCurrent persistent.now latest entries.old.items → AreCurrent persistent.now latest entries.new.items }
+    ensures live { (l : LevelsOf) (floors : List ℕ) → AreLive l floors entries.old.items → AreLive l floors entries.new.items }
     ensures count { vec_len entries.new ≤ vec_len entries.old }
     ensures capacity { vec_capacity entries.new ≡ vec_capacity entries.old }
 {
-    if let Element::Version(family, _) = element {
-        fold(entries, family, version_at(persistent, family));
-    }
+    fold(entries, family, version_at(persistent, family));
 }
 
-/// Of each family that a round has a version of, puts one entry in the place of those of its persistent versions whose needs
-/// take no memory. What waits and what it needs stays. Where they need versions of more than two
-/// families, memory is taken for one entry before that of the others is given back. It goes through the entries for each such family.
-pub fn fold_all(entries: &mut Vec<(Element, Needs)>, persistent: &[u64], round: &[Element])
+/// Of each family puts one entry in the place of those of its persistent versions whose needs take no memory. What waits and what
+/// it needs stays. Where they need versions of more than two families, memory is taken for one entry before that of the others is
+/// given back. It goes through the entries for each family.
+pub fn fold_all(entries: &mut Vec<(Element, Needs)>, persistent: &[u64])
     ensures waiting { waiting_of persistent.now entries.new.items ≡ waiting_of persistent.now entries.old.items }
     ensures current { (latest : List ℕ) → AreCurrent persistent.now latest entries.old.items → AreCurrent persistent.now latest entries.new.items }
+    ensures live { (l : LevelsOf) (floors : List ℕ) → AreLive l floors entries.old.items → AreLive l floors entries.new.items }
     ensures count { vec_len entries.new ≤ vec_len entries.old }
     ensures capacity { vec_capacity entries.new ≡ vec_capacity entries.old }
 {
-    for y in round {
-        fold_family(entries, persistent, *y);
+    for family in 0..persistent.len() {
+        fold_family(entries, persistent, family);
     }
 }

@@ -1,12 +1,14 @@
 //! Marks what a target needs, from the target downwards.
-ghost use Rattle.std.specs.Prelude.{◌≡◌, ℕ, ◌+◌, ◌⊎◌, ◌↔◌, true, IfOk, IsTrue, slice_index};
+ghost use Rattle.std.specs.Prelude.{◌≡◌, ◌&&◌, ℕ, ◌+◌, ◌⊎◌, ◌↔◌, true, IfOk, IsTrue, slice_index};
 ghost use Rattle.cs_deps.specs.Named.{Names};
 ghost use Rattle.cs_deps.specs.Pending.{IsStaged, Waits};
 ghost use Rattle.cs_deps.specs.Entries.{entry_waits, waiting_of, union};
+ghost use Rattle.cs_deps.specs.Levels.{entry_live, live_of};
 ghost use Rattle.cs_deps.specs.Wanted.{AreWanted, taken_at};
 
 use crate::dependencies::{Dependency, version_at};
 use crate::elements::Element;
+use crate::levels::Levels;
 use crate::needs::Needs;
 use crate::waiting::{is_waiting, needs_in};
 use crate::wanted::Wanted;
@@ -28,23 +30,31 @@ fn is_first(persistent: &[u64], element: Element) -> bool
 fn needs_from(
     alloc: Global,
     entries: &[(Element, Needs)],
+    levels: &Levels,
+    floors: &[u64],
     persistent: &[u64],
     entry: &(Element, Needs),
 ) -> Result<Dependency, AllocError>
-    ensures { IfOk result (λ needs. needs ≡ taken_at persistent.now entries.now entry.now.0 entry.now.1) }
+    ensures { IfOk result (λ needs. needs ≡ taken_at persistent.now (live_of levels.now floors.now entries.now) entry.now.0 entry.now.1) }
 {
     if is_first(persistent, entry.0) {
-        needs_in(alloc, entries, entry)
+        needs_in(alloc, entries, levels, floors, entry)
     } else {
         entry.1.copy(alloc)
     }
 }
 
 /// Whether an element waits and is wanted.
-fn is_wanted(wanted: &Wanted, persistent: &[u64], element: Element) -> bool
-    ensures { IsTrue result ↔ ((entry_waits persistent.now element ≡ true) × Names wanted.now element) }
+fn is_wanted(
+    wanted: &Wanted,
+    levels: &Levels,
+    floors: &[u64],
+    persistent: &[u64],
+    element: Element,
+) -> bool
+    ensures { IsTrue result ↔ (((entry_live levels.now floors.now element && entry_waits persistent.now element) ≡ true) × Names wanted.now element) }
 {
-    is_waiting(persistent, element) && wanted.names(element)
+    is_waiting(levels, floors, persistent, element) && wanted.names(element)
 }
 
 /// With what an element needs, where it is wanted.
@@ -52,13 +62,15 @@ fn with_needs(
     alloc: Global,
     wanted: Wanted,
     entries: &[(Element, Needs)],
+    levels: &Levels,
+    floors: &[u64],
     persistent: &[u64],
     entry: &(Element, Needs),
 ) -> Result<Wanted, AllocError>
-    ensures { IfOk result (λ d. ((¬ ((entry_waits persistent.now entry.now.0 ≡ true) × Names wanted entry.now.0)) × (d ≡ wanted)) ⊎ ((entry_waits persistent.now entry.now.0 ≡ true) × Names wanted entry.now.0 × (d ≡ union wanted (taken_at persistent.now entries.now entry.now.0 entry.now.1)))) }
+    ensures { IfOk result (λ d. ((¬ (((entry_live levels.now floors.now entry.now.0 && entry_waits persistent.now entry.now.0) ≡ true) × Names wanted entry.now.0)) × (d ≡ wanted)) ⊎ (((entry_live levels.now floors.now entry.now.0 && entry_waits persistent.now entry.now.0) ≡ true) × Names wanted entry.now.0 × (d ≡ union wanted (taken_at persistent.now (live_of levels.now floors.now entries.now) entry.now.0 entry.now.1)))) }
 {
-    if is_wanted(&wanted, persistent, entry.0) {
-        let needs = needs_from(alloc, entries, persistent, entry)?;
+    if is_wanted(&wanted, levels, floors, persistent, entry.0) {
+        let needs = needs_from(alloc, entries, levels, floors, persistent, entry)?;
         wanted.with(&needs)
     } else {
         Ok(wanted)
@@ -69,17 +81,19 @@ fn with_needs(
 pub fn wanted_of(
     alloc: Global,
     entries: &[(Element, Needs)],
+    levels: &Levels,
+    floors: &[u64],
     persistent: &[u64],
     target: Wanted,
 ) -> Result<Wanted, AllocError>
-    requires staged { IsStaged (record { persistent = persistent.now; waiting = waiting_of persistent.now entries.now }) }
-    requires first { (f v : ℕ) → Waits (record { persistent = persistent.now; waiting = waiting_of persistent.now entries.now }) (Element.Version f v) → Waits (record { persistent = persistent.now; waiting = waiting_of persistent.now entries.now }) (Element.Version f (slice_index persistent.now f + 1)) }
-    ensures { IfOk result (λ d. AreWanted (record { persistent = persistent.now; waiting = waiting_of persistent.now entries.now }) target d) }
+    requires staged { IsStaged (record { persistent = persistent.now; waiting = waiting_of persistent.now (live_of levels.now floors.now entries.now) }) }
+    requires first { (f v : ℕ) → Waits (record { persistent = persistent.now; waiting = waiting_of persistent.now (live_of levels.now floors.now entries.now) }) (Element.Version f v) → Waits (record { persistent = persistent.now; waiting = waiting_of persistent.now (live_of levels.now floors.now entries.now) }) (Element.Version f (slice_index persistent.now f + 1)) }
+    ensures { IfOk result (λ d. AreWanted (record { persistent = persistent.now; waiting = waiting_of persistent.now (live_of levels.now floors.now entries.now) }) target d) }
 {
     let mut wanted = target;
     for k in (0..entries.len()).rev() {
         let entry = &entries[k];
-        wanted = with_needs(alloc, wanted, entries, persistent, entry)?;
+        wanted = with_needs(alloc, wanted, entries, levels, floors, persistent, entry)?;
     }
     Ok(wanted)
 }

@@ -1,4 +1,4 @@
-use Rattle.std.proofs.Common.{ap, arith}
+use Rattle.std.proofs.Common.{◌∙◌, refl, ap, arith}
 use Rattle.std.specs.Prelude.{nat_eq}
 use Rattle.std.specs.HashMap.{get}
 use Rattle.std.specs.Map.{lookup}
@@ -14,10 +14,14 @@ invariant_of-result c =
     let ps = c.args.persistent.now in
     let p = c.in_ok-persistent.ensures.items_if_clones_equal (λ x y e. e) in
     let l = c.in_ok-latest.ensures.items_if_clones_equal (λ x y e. e) in
+    let floors = c.new-2.ensures.floors ∙ c.in_ok-floors.ensures.items_if_clones_equal (λ x y e. e) in
     let none = c.new-3.ensures.empty in
-    rw (p, l, c.new-2.ensures.items) (record {
+    rw (p, l, c.new-2.ensures.items, floors) (record {
       whole = whole_new ps (writes_of c.new-3.result.slots);
       current = λ k f v d at. absurd (cc at);
+      plains = λ n listed. absurd (cc listed.2);
+      floors_count = refl;
+      floors_low = λ f. omega arith;
       filed = filed_new ps c.in_ok-levels.levels c.in_ok-levels.ensures c.new-3.result none;
       entries_fit = omega (arith, c.new-2.ensures.len);
       places_fit = omega arith;

@@ -9,15 +9,19 @@ use Rattle.cs_deps.specs.declared.records.Record.{Record}
 use Rattle.cs_deps.specs.Records.{writes_of}
 use Rattle.cs_deps.proofs.FiledSteps.{filed_same, room_same}
 use Rattle.cs_deps.proofs.Queues.{indexed_same}
+use Rattle.cs_deps.proofs.Live.{live_same}
 use Rattle.cs_deps.proofs.graphs.Graph.reserve.Goals as goal
 
 pub invariant_of-self-2 : goal.invariant_of-self-2
 invariant_of-self-2 c =
     let g = c.self.inside in
     let e = c.make_room.ensures in
-    rw (c.in_ok-room.ensures.entries) (record {
+    rw (e.entries, e.floors, live_same g.levels c.make_room.new.levels e.levels g.entries.floors.items g.entries.list.items) (record {
       whole = record { kept = c.self.invariant.whole.kept; out = c.self.invariant.whole.out };
       current = c.self.invariant.current;
+      plains = c.self.invariant.plains;
+      floors_count = c.self.invariant.floors_count;
+      floors_low = c.self.invariant.floors_low;
       filed = filed_same g.levels c.make_room.new.levels g.records c.make_room.new.records c.self.invariant.filed e.levels (λ key. ap (λ (r : Slab Record). get_record r key) e.records);
       entries_fit = c.in_ok-room.ensures.entries_fit;
       places_fit = c.in_ok-room.ensures.places_fit;
@@ -31,9 +35,12 @@ pub invariant_of-self : goal.invariant_of-self
 invariant_of-self c =
     let g = c.self.inside in
     let e = c.make_room.ensures in
-    rw (e.entries) (record {
+    rw (e.entries, e.floors, live_same g.levels c.make_room.new.levels e.levels g.entries.floors.items g.entries.list.items) (record {
       whole = record { kept = c.self.invariant.whole.kept; out = c.self.invariant.whole.out };
       current = c.self.invariant.current;
+      plains = c.self.invariant.plains;
+      floors_count = c.self.invariant.floors_count;
+      floors_low = c.self.invariant.floors_low;
       filed = filed_same g.levels c.make_room.new.levels g.records c.make_room.new.records c.self.invariant.filed e.levels (λ key. ap (λ (r : Slab Record). get_record r key) e.records);
       entries_fit = omega (arith, c.self.invariant.entries_fit, e.entry_count, e.more_entries);
       places_fit = omega (arith, c.self.invariant.places_fit, e.more_places);

@@ -1,6 +1,7 @@
-use Rattle.std.proofs.Common.{◌∙◌, ◌+◌, ◌++◌, ◌∷◌, ◌≡◌, ◌≢◌, ◌≤◌, [], List, ℕ, set, length, refl, sym, ap, arith, subst, inl, inr, ⊎_elim}
+use Rattle.std.proofs.Common.{◌∙◌, ◌+◌, ◌≡◌, ◌≢◌, ◌≤◌, List, ℕ, set, length, refl, sym, ap, arith, subst, inl, inr, ⊎_elim}
 use Rattle.std.specs.Prelude.{nat_eq, option_map, ◌-◌}
 use Rattle.std.proofs.lemmas.Option.{slice_get_read, get_or_from_slice_get, same_Some}
+use Rattle.std.proofs.lemmas.List.{length-set}
 use Rattle.std.specs.HashMap.{get as get_number}
 use Rattle.cs_deps.proofs.Noted.{newest_same}
 use Rattle.slab.specs.Slab.{Slab, get}
@@ -10,9 +11,10 @@ use Rattle.cs_deps.specs.declared.levels.Kept.{Kept}
 use Rattle.cs_deps.specs.declared.records.Record.{Record}
 use Rattle.cs_deps.specs.Named.{Named, Names}
 use Rattle.cs_deps.specs.Staging.{Staging}
+use Rattle.cs_deps.specs.State.{State}
 use Rattle.cs_deps.specs.Records.{writes_of}
-use Rattle.cs_deps.specs.Entries.{waiting_of}
-use Rattle.cs_deps.specs.Levels.{HasRoom, kept_by, keyed, next_version, IsVersionPushed}
+use Rattle.cs_deps.specs.Entries.{state_of}
+use Rattle.cs_deps.specs.Levels.{HasRoom, live_of, kept_by, keyed, next_version, IsVersionPushed}
 use Rattle.cs_deps.specs.contracts.graphs.Graph.{the_view}
 use Rattle.cs_deps.proofs.Entries.{whole_version, current_version, waiting_next, joined_next, next_needs}
 use Rattle.cs_deps.proofs.Filed.{record_write, others_kept}
@@ -21,6 +23,8 @@ use Rattle.cs_deps.proofs.Pushed.{next_range}
 use Rattle.cs_deps.proofs.Held.{indexed_roomy, indexed_with_version, filed_with_version, high_enough}
 use Rattle.cs_deps.proofs.Queues.{indexed_same}
 use Rattle.cs_deps.proofs.Settled.{same_family}
+use Rattle.cs_deps.proofs.Live.{live_same, live_version, plains_kept, floors_kept}
+use Rattle.cs_deps.proofs.graphs.Graph.stage_version.Goals.{in-Heap-4, in-Inline-4}
 use Rattle.cs_deps.proofs.graphs.Graph.stage_version.Goals as goal
 
 pub next_of-kept-requires : goal.next_of-kept-requires
@@ -34,8 +38,8 @@ next_of-kept-requires c =
     let last = sym (get_or_from_slice_get g.latest.items f before 0 (slice_get_read g.latest.items (length g.latest.items) f before refl inside c.index-before.ensures)) in
     let made = c.in-Ok.made in
     let m = c.need_room.new.levels in
-    let ix = indexed_roomy g.persistent.items g.entries.list.items g.staged g.latest.items (option_map (λ r. r.items) g.round) (writes_of g.records.slots) g.room c.self.invariant.whole g.levels c.self.invariant.indexed m c.in-Ok.ensures.levels made c.in-Ok.ensures.levels_fit in
-    let high = high_enough g.persistent.items g.entries.list.items g.staged g.latest.items (option_map (λ r. r.items) g.round) (writes_of g.records.slots) g.room c.self.invariant.whole g.levels c.self.invariant.indexed m c.in-Ok.ensures.levels made c.in-Ok.ensures.levels_fit c.args.needs within c.top-best.result.level c.top-best.result.before c.top-best.ensures in
+    let ix = indexed_roomy g.persistent.items (live_of g.levels g.entries.floors.items g.entries.list.items) g.staged g.latest.items (option_map (λ r. r.items) g.round) (writes_of g.records.slots) g.room c.self.invariant.whole g.levels c.self.invariant.indexed m c.in-Ok.ensures.levels made c.in-Ok.ensures.levels_fit in
+    let high = high_enough g.persistent.items (live_of g.levels g.entries.floors.items g.entries.list.items) g.staged g.latest.items (option_map (λ r. r.items) g.round) (writes_of g.records.slots) g.room c.self.invariant.whole g.levels c.self.invariant.indexed m c.in-Ok.ensures.levels made c.in-Ok.ensures.levels_fit c.args.needs within c.top-best.result.level c.top-best.result.before c.top-best.ensures in
     omega (arith, high, c.in-Ok.ensures.levels_fit.limit, c.in-Ok.ensures.some)
 
 pub replaced-requires-clause-low : goal.replaced-requires-clause-low
@@ -49,8 +53,8 @@ replaced-requires-clause-low c =
     let last = sym (get_or_from_slice_get g.latest.items f before 0 (slice_get_read g.latest.items (length g.latest.items) f before refl inside c.index-before.ensures)) in
     let made = c.in-Ok.made in
     let m = c.need_room.new.levels in
-    let ix = indexed_roomy g.persistent.items g.entries.list.items g.staged g.latest.items (option_map (λ r. r.items) g.round) (writes_of g.records.slots) g.room c.self.invariant.whole g.levels c.self.invariant.indexed m c.in-Ok.ensures.levels made c.in-Ok.ensures.levels_fit in
-    let high = high_enough g.persistent.items g.entries.list.items g.staged g.latest.items (option_map (λ r. r.items) g.round) (writes_of g.records.slots) g.room c.self.invariant.whole g.levels c.self.invariant.indexed m c.in-Ok.ensures.levels made c.in-Ok.ensures.levels_fit c.args.needs within c.top-best.result.level c.top-best.result.before c.top-best.ensures in
+    let ix = indexed_roomy g.persistent.items (live_of g.levels g.entries.floors.items g.entries.list.items) g.staged g.latest.items (option_map (λ r. r.items) g.round) (writes_of g.records.slots) g.room c.self.invariant.whole g.levels c.self.invariant.indexed m c.in-Ok.ensures.levels made c.in-Ok.ensures.levels_fit in
+    let high = high_enough g.persistent.items (live_of g.levels g.entries.floors.items g.entries.list.items) g.staged g.latest.items (option_map (λ r. r.items) g.round) (writes_of g.records.slots) g.room c.self.invariant.whole g.levels c.self.invariant.indexed m c.in-Ok.ensures.levels made c.in-Ok.ensures.levels_fit c.args.needs within c.top-best.result.level c.top-best.result.before c.top-best.ensures in
     let low : m.ended ≤ c.top-best.result.level = omega (arith, c.top-best.ensures.low, ix.low) in
     let k = next_version (kept_by m (Version f before)) m.base (c.top-best.result.level + 1) c.top-best.result.before in
     let range = next_range (kept_by m (Version f before)) m.base (c.top-best.result.level + 1) m.ended (m.ended + length m.rows.items) c.top-best.result.before (ix.within (Version f before)) ix.low (omega (arith, low)) (omega (arith, high)) in
@@ -68,8 +72,8 @@ push_version-requires-clause-low c =
     let last = sym (get_or_from_slice_get g.latest.items f before 0 (slice_get_read g.latest.items (length g.latest.items) f before refl inside c.index-before.ensures)) in
     let made = c.in-Ok.made in
     let m = c.need_room.new.levels in
-    let ix = indexed_roomy g.persistent.items g.entries.list.items g.staged g.latest.items (option_map (λ r. r.items) g.round) (writes_of g.records.slots) g.room c.self.invariant.whole g.levels c.self.invariant.indexed m c.in-Ok.ensures.levels made c.in-Ok.ensures.levels_fit in
-    let high = high_enough g.persistent.items g.entries.list.items g.staged g.latest.items (option_map (λ r. r.items) g.round) (writes_of g.records.slots) g.room c.self.invariant.whole g.levels c.self.invariant.indexed m c.in-Ok.ensures.levels made c.in-Ok.ensures.levels_fit c.args.needs within c.top-best.result.level c.top-best.result.before c.top-best.ensures in
+    let ix = indexed_roomy g.persistent.items (live_of g.levels g.entries.floors.items g.entries.list.items) g.staged g.latest.items (option_map (λ r. r.items) g.round) (writes_of g.records.slots) g.room c.self.invariant.whole g.levels c.self.invariant.indexed m c.in-Ok.ensures.levels made c.in-Ok.ensures.levels_fit in
+    let high = high_enough g.persistent.items (live_of g.levels g.entries.floors.items g.entries.list.items) g.staged g.latest.items (option_map (λ r. r.items) g.round) (writes_of g.records.slots) g.room c.self.invariant.whole g.levels c.self.invariant.indexed m c.in-Ok.ensures.levels made c.in-Ok.ensures.levels_fit c.args.needs within c.top-best.result.level c.top-best.result.before c.top-best.ensures in
     let low : m.ended ≤ c.top-best.result.level = omega (arith, c.top-best.ensures.low, ix.low) in
     let k = next_version (kept_by m (Version f before)) m.base (c.top-best.result.level + 1) c.top-best.result.before in
     let range = next_range (kept_by m (Version f before)) m.base (c.top-best.result.level + 1) m.ended (m.ended + length m.rows.items) c.top-best.result.before (ix.within (Version f before)) ix.low (omega (arith, low)) (omega (arith, high)) in
@@ -87,8 +91,8 @@ push_version-requires-clause-high c =
     let last = sym (get_or_from_slice_get g.latest.items f before 0 (slice_get_read g.latest.items (length g.latest.items) f before refl inside c.index-before.ensures)) in
     let made = c.in-Ok.made in
     let m = c.need_room.new.levels in
-    let ix = indexed_roomy g.persistent.items g.entries.list.items g.staged g.latest.items (option_map (λ r. r.items) g.round) (writes_of g.records.slots) g.room c.self.invariant.whole g.levels c.self.invariant.indexed m c.in-Ok.ensures.levels made c.in-Ok.ensures.levels_fit in
-    let high = high_enough g.persistent.items g.entries.list.items g.staged g.latest.items (option_map (λ r. r.items) g.round) (writes_of g.records.slots) g.room c.self.invariant.whole g.levels c.self.invariant.indexed m c.in-Ok.ensures.levels made c.in-Ok.ensures.levels_fit c.args.needs within c.top-best.result.level c.top-best.result.before c.top-best.ensures in
+    let ix = indexed_roomy g.persistent.items (live_of g.levels g.entries.floors.items g.entries.list.items) g.staged g.latest.items (option_map (λ r. r.items) g.round) (writes_of g.records.slots) g.room c.self.invariant.whole g.levels c.self.invariant.indexed m c.in-Ok.ensures.levels made c.in-Ok.ensures.levels_fit in
+    let high = high_enough g.persistent.items (live_of g.levels g.entries.floors.items g.entries.list.items) g.staged g.latest.items (option_map (λ r. r.items) g.round) (writes_of g.records.slots) g.room c.self.invariant.whole g.levels c.self.invariant.indexed m c.in-Ok.ensures.levels made c.in-Ok.ensures.levels_fit c.args.needs within c.top-best.result.level c.top-best.result.before c.top-best.ensures in
     let low : m.ended ≤ c.top-best.result.level = omega (arith, c.top-best.ensures.low, ix.low) in
     let k = next_version (kept_by m (Version f before)) m.base (c.top-best.result.level + 1) c.top-best.result.before in
     let range = next_range (kept_by m (Version f before)) m.base (c.top-best.result.level + 1) m.ended (m.ended + length m.rows.items) c.top-best.result.before (ix.within (Version f before)) ix.low (omega (arith, low)) (omega (arith, high)) in
@@ -106,8 +110,8 @@ invariant_of-self c =
     let last = sym (get_or_from_slice_get g.latest.items f before 0 (slice_get_read g.latest.items (length g.latest.items) f before refl inside c.index-before.ensures)) in
     let made = c.in-Ok.made in
     let m = c.need_room.new.levels in
-    let ix = indexed_roomy g.persistent.items g.entries.list.items g.staged g.latest.items (option_map (λ r. r.items) g.round) (writes_of g.records.slots) g.room c.self.invariant.whole g.levels c.self.invariant.indexed m c.in-Ok.ensures.levels made c.in-Ok.ensures.levels_fit in
-    let high = high_enough g.persistent.items g.entries.list.items g.staged g.latest.items (option_map (λ r. r.items) g.round) (writes_of g.records.slots) g.room c.self.invariant.whole g.levels c.self.invariant.indexed m c.in-Ok.ensures.levels made c.in-Ok.ensures.levels_fit c.args.needs within c.top-best.result.level c.top-best.result.before c.top-best.ensures in
+    let ix = indexed_roomy g.persistent.items (live_of g.levels g.entries.floors.items g.entries.list.items) g.staged g.latest.items (option_map (λ r. r.items) g.round) (writes_of g.records.slots) g.room c.self.invariant.whole g.levels c.self.invariant.indexed m c.in-Ok.ensures.levels made c.in-Ok.ensures.levels_fit in
+    let high = high_enough g.persistent.items (live_of g.levels g.entries.floors.items g.entries.list.items) g.staged g.latest.items (option_map (λ r. r.items) g.round) (writes_of g.records.slots) g.room c.self.invariant.whole g.levels c.self.invariant.indexed m c.in-Ok.ensures.levels made c.in-Ok.ensures.levels_fit c.args.needs within c.top-best.result.level c.top-best.result.before c.top-best.ensures in
     let low : m.ended ≤ c.top-best.result.level = omega (arith, c.top-best.ensures.low, ix.low) in
     let k = next_version (kept_by m (Version f before)) m.base (c.top-best.result.level + 1) c.top-best.result.before in
     let range = next_range (kept_by m (Version f before)) m.base (c.top-best.result.level + 1) m.ended (m.ended + length m.rows.items) c.top-best.result.before (ix.within (Version f before)) ix.low (omega (arith, low)) (omega (arith, high)) in
@@ -119,7 +123,7 @@ invariant_of-self c =
     let there : m.ended + (k.level - m.ended - 1) + 1 ≡ c.next_of-kept.result.level = place ∙ sym level in
     let old = filed_same g.levels m g.records c.need_room.new.records c.self.invariant.filed c.in-Ok.ensures.levels (λ key. ap (λ (r : Slab Record). get r key) c.in-Ok.ensures.records) in
     let pushed = subst (λ (u : Kept). IsVersionPushed m c.push_version.new.self f before (k.level - m.ended - 1) (keyed c.insert_reserved-key.result u)) c.next_of-kept.ensures (c.push_version.ensures.pushed (k.level - m.ended - 1) there) in
-    let filed = filed_with_version g.persistent.items g.entries.list.items g.staged g.latest.items (option_map (λ r. r.items) g.round) (writes_of g.records.slots) g.room c.self.invariant.whole g.levels c.self.invariant.indexed m c.in-Ok.ensures.levels made c.in-Ok.ensures.levels_fit c.args.needs within c.top-best.result.level c.top-best.result.before c.top-best.ensures f inside own before last c.self.invariant.current c.insert_reserved-key.result c.push_version.new.self (k.level - m.ended - 1) pushed c.need_room.new.records c.clear.new.records c.insert_reserved-key.new.self old
+    let filed = filed_with_version g.persistent.items (live_of g.levels g.entries.floors.items g.entries.list.items) g.staged g.latest.items (option_map (λ r. r.items) g.round) (writes_of g.records.slots) g.room c.self.invariant.whole g.levels c.self.invariant.indexed m c.in-Ok.ensures.levels made c.in-Ok.ensures.levels_fit c.args.needs within c.top-best.result.level c.top-best.result.before c.top-best.ensures f inside own before last c.self.invariant.current c.insert_reserved-key.result c.push_version.new.self (k.level - m.ended - 1) pushed c.need_room.new.records c.clear.new.records c.insert_reserved-key.new.self old
     (left_of m f (k.level - m.ended - 1) c.need_room.new.records c.clear.new.records old c.replaced.result (c.replaced.ensures.some (k.level - m.ended - 1) there) (c.replaced.ensures.none (k.level - m.ended - 1) there) c.clear.ensures.none c.clear.ensures.gone c.clear.ensures.others)
     (came_of m f (k.level - m.ended - 1) c.need_room.new.records c.clear.new.records old c.replaced.result (c.replaced.ensures.some (k.level - m.ended - 1) there) (c.replaced.ensures.none (k.level - m.ended - 1) there) c.clear.ensures.none c.clear.ensures.gone c.clear.ensures.others)
     key.was_vacant r key.updates refl in
@@ -127,9 +131,13 @@ invariant_of-self c =
     let left = left_of m f (k.level - m.ended - 1) c.need_room.new.records c.clear.new.records old c.replaced.result (c.replaced.ensures.some (k.level - m.ended - 1) there) (c.replaced.ensures.none (k.level - m.ended - 1) there) c.clear.ensures.none c.clear.ensures.gone c.clear.ensures.others in
     let came = came_of m f (k.level - m.ended - 1) c.need_room.new.records c.clear.new.records old c.replaced.result (c.replaced.ensures.some (k.level - m.ended - 1) there) (c.replaced.ensures.none (k.level - m.ended - 1) there) c.clear.ensures.none c.clear.ensures.gone c.clear.ensures.others in
     let fits : HasRoom c.push_version.new.self (made - 1) = (let n : made - 1 + 1 ≡ made = omega (arith, c.in-Ok.ensures.some) in c.push_version.ensures.room (made - 1) (subst (HasRoom m) (sym n) c.in-Ok.ensures.levels_fit)) in
-    rw (c.push_reserved.ensures.items, c.in-Ok.ensures.entries) (record {
-      whole = whole_version g.persistent.items g.entries.list.items g.staged g.latest.items (option_map (λ r. r.items) g.round) (writes_of g.records.slots) g.room c.self.invariant.whole c.self.invariant.current f inside before last c.args.needs (made - 1) now within own;
-      current = current_version g.persistent.items g.entries.list.items g.staged g.latest.items (option_map (λ r. r.items) g.round) (writes_of g.records.slots) g.room c.self.invariant.whole c.self.invariant.current f inside before last c.args.needs;
+    let live = live_version g.levels m c.in-Ok.ensures.levels c.push_version.new.self g.entries.floors.items g.entries.list.items f before (k.level - m.ended - 1) (keyed c.insert_reserved-key.result k) c.args.needs pushed (omega (arith, c.self.invariant.floors_low f, last)) in
+    rw (c.push_reserved.ensures.items, c.push_reserved.ensures.floors, c.in-Ok.ensures.entries, c.in-Ok.ensures.floors, live) (record {
+      whole = whole_version g.persistent.items (live_of g.levels g.entries.floors.items g.entries.list.items) g.staged g.latest.items (option_map (λ r. r.items) g.round) (writes_of g.records.slots) g.room c.self.invariant.whole c.self.invariant.current f inside before last c.args.needs (made - 1) now within own;
+      current = current_version g.persistent.items (live_of g.levels g.entries.floors.items g.entries.list.items) g.staged g.latest.items (option_map (λ r. r.items) g.round) (writes_of g.records.slots) g.room c.self.invariant.whole c.self.invariant.current f inside before last c.args.needs;
+      plains = plains_kept g.entries.list.items f (before + 1) g.staged c.args.needs c.self.invariant.plains;
+      floors_count = c.self.invariant.floors_count ∙ sym (length-set g.latest.items f (before + 1));
+      floors_low = floors_kept g.entries.floors.items g.latest.items f before inside last c.self.invariant.floors_low;
       filed = filed;
       entries_fit = omega (arith, c.in-Ok.ensures.entries_fit, c.in-Ok.ensures.some, c.push_reserved.ensures.len, c.push_reserved.ensures.capacity);
       places_fit = omega (arith, c.in-Ok.ensures.places_fit, c.in-Ok.ensures.some, c.push_reserved.ensures.places);
@@ -143,7 +151,7 @@ invariant_of-self c =
           key.updates.others other (λ e. absurd (cc (sym here ∙ ap (get c.clear.new.records) e ∙ key.was_vacant))) ∙ here);
       newest_fit = omega (arith, c.in-Ok.ensures.newest_fit);
       records_fit = omega (arith, c.in-Ok.ensures.records_fit, c.in-Ok.ensures.some, c.clear.ensures.count, c.clear.ensures.capacity, key.len, key.capacity);
-      indexed = indexed_with_version g.persistent.items g.entries.list.items g.staged g.latest.items (option_map (λ r. r.items) g.round) (writes_of g.records.slots) g.room c.self.invariant.whole g.levels c.self.invariant.indexed m c.in-Ok.ensures.levels made c.in-Ok.ensures.levels_fit c.args.needs within c.top-best.result.level c.top-best.result.before c.top-best.ensures f inside own before last c.self.invariant.current c.insert_reserved-key.result c.push_version.new.self (k.level - m.ended - 1) pushed now (made - 1) fits;
+      indexed = indexed_with_version g.persistent.items (live_of g.levels g.entries.floors.items g.entries.list.items) g.staged g.latest.items (option_map (λ r. r.items) g.round) (writes_of g.records.slots) g.room c.self.invariant.whole g.levels c.self.invariant.indexed m c.in-Ok.ensures.levels made c.in-Ok.ensures.levels_fit c.args.needs within c.top-best.result.level c.top-best.result.before c.top-best.ensures f inside own before last c.self.invariant.current c.insert_reserved-key.result c.push_version.new.self (k.level - m.ended - 1) pushed now (made - 1) fits;
     })
 
 pub returns-in-Ok-clause-staged : goal.returns-in-Ok-clause-staged
@@ -155,11 +163,22 @@ returns-in-Ok-clause-staged c =
     let inside = rw (← c.self.view_is) at c.requires in
     let before = c.index-before.result.now in
     let last = sym (get_or_from_slice_get g.latest.items f before 0 (slice_get_read g.latest.items (length g.latest.items) f before refl inside c.index-before.ensures)) in
-    let joined = joined_next g.persistent.items g.entries.list.items g.staged g.latest.items (option_map (λ r. r.items) g.round) (writes_of g.records.slots) g.room c.self.invariant.whole c.self.invariant.current f inside before last c.args.needs in
-    let waits = waiting_next g.persistent.items g.entries.list.items g.staged g.latest.items (option_map (λ r. r.items) g.round) (writes_of g.records.slots) g.room c.self.invariant.whole c.self.invariant.current f inside before last c.args.needs in
+    let joined = joined_next g.persistent.items (live_of g.levels g.entries.floors.items g.entries.list.items) g.staged g.latest.items (option_map (λ r. r.items) g.round) (writes_of g.records.slots) g.room c.self.invariant.whole c.self.invariant.current f inside before last c.args.needs in
+    let waits = waiting_next g.persistent.items (live_of g.levels g.entries.floors.items g.entries.list.items) g.staged g.latest.items (option_map (λ r. r.items) g.round) (writes_of g.records.slots) g.room c.self.invariant.whole c.self.invariant.current f inside before last c.args.needs in
     let now : List (Element × Named) → Staging = λ ws. record { pending = record { persistent = g.persistent.items; waiting = ws }; staged = g.staged; latest = set g.latest.items f (before + 1) } in
-    let all = c.push_reserved.ensures.items ∙ ap (λ es. es ++ (Version f (before + 1), c.args.needs) ∷ []) c.in-Ok.ensures.entries in
-    rw (← c.self.view_is) (before, next_needs g.entries.list.items f before c.args.needs, last, refl, joined, ap now (ap (waiting_of g.persistent.items) all ∙ waits))
+    let made = c.in-Ok.made in
+    let m = c.need_room.new.levels in
+    let ix = indexed_roomy g.persistent.items (live_of g.levels g.entries.floors.items g.entries.list.items) g.staged g.latest.items (option_map (λ r. r.items) g.round) (writes_of g.records.slots) g.room c.self.invariant.whole g.levels c.self.invariant.indexed m c.in-Ok.ensures.levels made c.in-Ok.ensures.levels_fit in
+    let high = high_enough g.persistent.items (live_of g.levels g.entries.floors.items g.entries.list.items) g.staged g.latest.items (option_map (λ r. r.items) g.round) (writes_of g.records.slots) g.room c.self.invariant.whole g.levels c.self.invariant.indexed m c.in-Ok.ensures.levels made c.in-Ok.ensures.levels_fit c.args.needs within c.top-best.result.level c.top-best.result.before c.top-best.ensures in
+    let low : m.ended ≤ c.top-best.result.level = omega (arith, c.top-best.ensures.low, ix.low) in
+    let k = next_version (kept_by m (Version f before)) m.base (c.top-best.result.level + 1) c.top-best.result.before in
+    let range = next_range (kept_by m (Version f before)) m.base (c.top-best.result.level + 1) m.ended (m.ended + length m.rows.items) c.top-best.result.before (ix.within (Version f before)) ix.low (omega (arith, low)) (omega (arith, high)) in
+    let level : c.next_of-kept.result.level ≡ k.level = ap (λ (u : Kept). u.level) c.next_of-kept.ensures in
+    let place : m.ended + (k.level - m.ended - 1) + 1 ≡ k.level = omega (arith, range.0) in
+    let there : m.ended + (k.level - m.ended - 1) + 1 ≡ c.next_of-kept.result.level = place ∙ sym level in
+    let pushed = subst (λ (u : Kept). IsVersionPushed m c.push_version.new.self f before (k.level - m.ended - 1) (keyed c.insert_reserved-key.result u)) c.next_of-kept.ensures (c.push_version.ensures.pushed (k.level - m.ended - 1) there) in
+    let live = live_version g.levels m c.in-Ok.ensures.levels c.push_version.new.self g.entries.floors.items g.entries.list.items f before (k.level - m.ended - 1) (keyed c.insert_reserved-key.result k) c.args.needs pushed (omega (arith, c.self.invariant.floors_low f, last)) in
+    rw (← c.self.view_is, c.push_reserved.ensures.items, c.push_reserved.ensures.floors, c.in-Ok.ensures.entries, c.in-Ok.ensures.floors, live) (before, next_needs (live_of g.levels g.entries.floors.items g.entries.list.items) f before c.args.needs, last, refl, joined, ap now waits)
 
 pub returns-in-Ok-clause-write : goal.returns-in-Ok-clause-write
 returns-in-Ok-clause-write c =
@@ -172,8 +191,8 @@ returns-in-Ok-clause-write c =
     let last = sym (get_or_from_slice_get g.latest.items f before 0 (slice_get_read g.latest.items (length g.latest.items) f before refl inside c.index-before.ensures)) in
     let made = c.in-Ok.made in
     let m = c.need_room.new.levels in
-    let ix = indexed_roomy g.persistent.items g.entries.list.items g.staged g.latest.items (option_map (λ r. r.items) g.round) (writes_of g.records.slots) g.room c.self.invariant.whole g.levels c.self.invariant.indexed m c.in-Ok.ensures.levels made c.in-Ok.ensures.levels_fit in
-    let high = high_enough g.persistent.items g.entries.list.items g.staged g.latest.items (option_map (λ r. r.items) g.round) (writes_of g.records.slots) g.room c.self.invariant.whole g.levels c.self.invariant.indexed m c.in-Ok.ensures.levels made c.in-Ok.ensures.levels_fit c.args.needs within c.top-best.result.level c.top-best.result.before c.top-best.ensures in
+    let ix = indexed_roomy g.persistent.items (live_of g.levels g.entries.floors.items g.entries.list.items) g.staged g.latest.items (option_map (λ r. r.items) g.round) (writes_of g.records.slots) g.room c.self.invariant.whole g.levels c.self.invariant.indexed m c.in-Ok.ensures.levels made c.in-Ok.ensures.levels_fit in
+    let high = high_enough g.persistent.items (live_of g.levels g.entries.floors.items g.entries.list.items) g.staged g.latest.items (option_map (λ r. r.items) g.round) (writes_of g.records.slots) g.room c.self.invariant.whole g.levels c.self.invariant.indexed m c.in-Ok.ensures.levels made c.in-Ok.ensures.levels_fit c.args.needs within c.top-best.result.level c.top-best.result.before c.top-best.ensures in
     let low : m.ended ≤ c.top-best.result.level = omega (arith, c.top-best.ensures.low, ix.low) in
     let k = next_version (kept_by m (Version f before)) m.base (c.top-best.result.level + 1) c.top-best.result.before in
     let range = next_range (kept_by m (Version f before)) m.base (c.top-best.result.level + 1) m.ended (m.ended + length m.rows.items) c.top-best.result.before (ix.within (Version f before)) ix.low (omega (arith, low)) (omega (arith, high)) in
@@ -185,7 +204,7 @@ returns-in-Ok-clause-write c =
     let there : m.ended + (k.level - m.ended - 1) + 1 ≡ c.next_of-kept.result.level = place ∙ sym level in
     let old = filed_same g.levels m g.records c.need_room.new.records c.self.invariant.filed c.in-Ok.ensures.levels (λ key. ap (λ (r : Slab Record). get r key) c.in-Ok.ensures.records) in
     let pushed = subst (λ (u : Kept). IsVersionPushed m c.push_version.new.self f before (k.level - m.ended - 1) (keyed c.insert_reserved-key.result u)) c.next_of-kept.ensures (c.push_version.ensures.pushed (k.level - m.ended - 1) there) in
-    let filed = filed_with_version g.persistent.items g.entries.list.items g.staged g.latest.items (option_map (λ r. r.items) g.round) (writes_of g.records.slots) g.room c.self.invariant.whole g.levels c.self.invariant.indexed m c.in-Ok.ensures.levels made c.in-Ok.ensures.levels_fit c.args.needs within c.top-best.result.level c.top-best.result.before c.top-best.ensures f inside own before last c.self.invariant.current c.insert_reserved-key.result c.push_version.new.self (k.level - m.ended - 1) pushed c.need_room.new.records c.clear.new.records c.insert_reserved-key.new.self old
+    let filed = filed_with_version g.persistent.items (live_of g.levels g.entries.floors.items g.entries.list.items) g.staged g.latest.items (option_map (λ r. r.items) g.round) (writes_of g.records.slots) g.room c.self.invariant.whole g.levels c.self.invariant.indexed m c.in-Ok.ensures.levels made c.in-Ok.ensures.levels_fit c.args.needs within c.top-best.result.level c.top-best.result.before c.top-best.ensures f inside own before last c.self.invariant.current c.insert_reserved-key.result c.push_version.new.self (k.level - m.ended - 1) pushed c.need_room.new.records c.clear.new.records c.insert_reserved-key.new.self old
     (left_of m f (k.level - m.ended - 1) c.need_room.new.records c.clear.new.records old c.replaced.result (c.replaced.ensures.some (k.level - m.ended - 1) there) (c.replaced.ensures.none (k.level - m.ended - 1) there) c.clear.ensures.none c.clear.ensures.gone c.clear.ensures.others)
     (came_of m f (k.level - m.ended - 1) c.need_room.new.records c.clear.new.records old c.replaced.result (c.replaced.ensures.some (k.level - m.ended - 1) there) (c.replaced.ensures.none (k.level - m.ended - 1) there) c.clear.ensures.none c.clear.ensures.gone c.clear.ensures.others)
     key.was_vacant r key.updates refl in
@@ -202,8 +221,8 @@ returns-in-Ok-clause-others c =
     let last = sym (get_or_from_slice_get g.latest.items f before 0 (slice_get_read g.latest.items (length g.latest.items) f before refl inside c.index-before.ensures)) in
     let made = c.in-Ok.made in
     let m = c.need_room.new.levels in
-    let ix = indexed_roomy g.persistent.items g.entries.list.items g.staged g.latest.items (option_map (λ r. r.items) g.round) (writes_of g.records.slots) g.room c.self.invariant.whole g.levels c.self.invariant.indexed m c.in-Ok.ensures.levels made c.in-Ok.ensures.levels_fit in
-    let high = high_enough g.persistent.items g.entries.list.items g.staged g.latest.items (option_map (λ r. r.items) g.round) (writes_of g.records.slots) g.room c.self.invariant.whole g.levels c.self.invariant.indexed m c.in-Ok.ensures.levels made c.in-Ok.ensures.levels_fit c.args.needs within c.top-best.result.level c.top-best.result.before c.top-best.ensures in
+    let ix = indexed_roomy g.persistent.items (live_of g.levels g.entries.floors.items g.entries.list.items) g.staged g.latest.items (option_map (λ r. r.items) g.round) (writes_of g.records.slots) g.room c.self.invariant.whole g.levels c.self.invariant.indexed m c.in-Ok.ensures.levels made c.in-Ok.ensures.levels_fit in
+    let high = high_enough g.persistent.items (live_of g.levels g.entries.floors.items g.entries.list.items) g.staged g.latest.items (option_map (λ r. r.items) g.round) (writes_of g.records.slots) g.room c.self.invariant.whole g.levels c.self.invariant.indexed m c.in-Ok.ensures.levels made c.in-Ok.ensures.levels_fit c.args.needs within c.top-best.result.level c.top-best.result.before c.top-best.ensures in
     let low : m.ended ≤ c.top-best.result.level = omega (arith, c.top-best.ensures.low, ix.low) in
     let k = next_version (kept_by m (Version f before)) m.base (c.top-best.result.level + 1) c.top-best.result.before in
     let range = next_range (kept_by m (Version f before)) m.base (c.top-best.result.level + 1) m.ended (m.ended + length m.rows.items) c.top-best.result.before (ix.within (Version f before)) ix.low (omega (arith, low)) (omega (arith, high)) in
@@ -215,7 +234,7 @@ returns-in-Ok-clause-others c =
     let there : m.ended + (k.level - m.ended - 1) + 1 ≡ c.next_of-kept.result.level = place ∙ sym level in
     let old = filed_same g.levels m g.records c.need_room.new.records c.self.invariant.filed c.in-Ok.ensures.levels (λ key. ap (λ (r : Slab Record). get r key) c.in-Ok.ensures.records) in
     let pushed = subst (λ (u : Kept). IsVersionPushed m c.push_version.new.self f before (k.level - m.ended - 1) (keyed c.insert_reserved-key.result u)) c.next_of-kept.ensures (c.push_version.ensures.pushed (k.level - m.ended - 1) there) in
-    let filed = filed_with_version g.persistent.items g.entries.list.items g.staged g.latest.items (option_map (λ r. r.items) g.round) (writes_of g.records.slots) g.room c.self.invariant.whole g.levels c.self.invariant.indexed m c.in-Ok.ensures.levels made c.in-Ok.ensures.levels_fit c.args.needs within c.top-best.result.level c.top-best.result.before c.top-best.ensures f inside own before last c.self.invariant.current c.insert_reserved-key.result c.push_version.new.self (k.level - m.ended - 1) pushed c.need_room.new.records c.clear.new.records c.insert_reserved-key.new.self old
+    let filed = filed_with_version g.persistent.items (live_of g.levels g.entries.floors.items g.entries.list.items) g.staged g.latest.items (option_map (λ r. r.items) g.round) (writes_of g.records.slots) g.room c.self.invariant.whole g.levels c.self.invariant.indexed m c.in-Ok.ensures.levels made c.in-Ok.ensures.levels_fit c.args.needs within c.top-best.result.level c.top-best.result.before c.top-best.ensures f inside own before last c.self.invariant.current c.insert_reserved-key.result c.push_version.new.self (k.level - m.ended - 1) pushed c.need_room.new.records c.clear.new.records c.insert_reserved-key.new.self old
     (left_of m f (k.level - m.ended - 1) c.need_room.new.records c.clear.new.records old c.replaced.result (c.replaced.ensures.some (k.level - m.ended - 1) there) (c.replaced.ensures.none (k.level - m.ended - 1) there) c.clear.ensures.none c.clear.ensures.gone c.clear.ensures.others)
     (came_of m f (k.level - m.ended - 1) c.need_room.new.records c.clear.new.records old c.replaced.result (c.replaced.ensures.some (k.level - m.ended - 1) there) (c.replaced.ensures.none (k.level - m.ended - 1) there) c.clear.ensures.none c.clear.ensures.gone c.clear.ensures.others)
     key.was_vacant r key.updates refl in
@@ -230,9 +249,12 @@ pub invariant_of-self-in-Err : goal.invariant_of-self-in-Err
 invariant_of-self-in-Err c =
     let g = c.self.inside in
     let e = c.need_room.ensures in
-    rw (e.entries) (record {
+    rw (e.entries, e.floors, live_same g.levels c.need_room.new.levels e.levels g.entries.floors.items g.entries.list.items) (record {
       whole = record { kept = c.self.invariant.whole.kept; out = c.self.invariant.whole.out };
       current = c.self.invariant.current;
+      plains = c.self.invariant.plains;
+      floors_count = c.self.invariant.floors_count;
+      floors_low = c.self.invariant.floors_low;
       filed = filed_same g.levels c.need_room.new.levels g.records c.need_room.new.records c.self.invariant.filed e.levels (λ key. ap (λ (r : Slab Record). get r key) e.records);
       entries_fit = e.entry_room;
       places_fit = e.place_room;
@@ -246,9 +268,12 @@ pub invariant_of-self-in-Err-2 : goal.invariant_of-self-in-Err-2
 invariant_of-self-in-Err-2 c =
     let g = c.self.inside in
     let e = c.need_room.ensures in
-    rw (e.entries) (record {
+    rw (e.entries, e.floors, live_same g.levels c.need_room.new.levels e.levels g.entries.floors.items g.entries.list.items) (record {
       whole = record { kept = c.self.invariant.whole.kept; out = c.self.invariant.whole.out };
       current = c.self.invariant.current;
+      plains = c.self.invariant.plains;
+      floors_count = c.self.invariant.floors_count;
+      floors_low = c.self.invariant.floors_low;
       filed = filed_same g.levels c.need_room.new.levels g.records c.need_room.new.records c.self.invariant.filed e.levels (λ key. ap (λ (r : Slab Record). get r key) e.records);
       entries_fit = e.entry_room;
       places_fit = e.place_room;
@@ -279,3 +304,12 @@ returns-in-Ok-clause-own c = ((λ e. absurd (cc e)), (λ h. absurd (cc (c.names_
 
 pub returns-in-Err-clause-own : goal.returns-in-Err-clause-own
 returns-in-Err-clause-own c = ((λ e. absurd (cc e)), (λ h. absurd (cc (c.names_family.ensures.no h.1.0 h.1.1, c.if-names_family.false))))
+
+pub returns-in-Err-clause-refused : goal.returns-in-Err-clause-refused
+returns-in-Err-clause-refused c =
+    let g = c.self.inside in
+    let e = c.need_room.ensures in
+    let now : List (Element × Named) → Slab Record → State = λ es r. state_of g.persistent.items es g.staged g.latest.items (option_map (λ r. r.items) g.round) (writes_of r.slots) g.room in
+    let live = ap (live_of c.need_room.new.levels c.need_room.new.entries.floors.items) e.entries ∙ ap (λ fs. live_of c.need_room.new.levels fs g.entries.list.items) e.floors ∙ live_same g.levels c.need_room.new.levels e.levels g.entries.floors.items g.entries.list.items in
+    let same = ap (λ es. now es c.need_room.new.records) live ∙ ap (now (live_of g.levels g.entries.floors.items g.entries.list.items)) e.records in
+    rw (← c.self.view_is) (elim c.match-needs-4.branch [ in-Heap-4 w ↦ w.self-is ∙ same | in-Inline-4 w ↦ w.self-is ∙ same ])
