@@ -1,7 +1,7 @@
 -- Retire and MoveOne have an answer: a refusal, or what they do.
-use Rattle.std.proofs.Common.{◌≡◌, ◌⊎◌, inl, inr, ⊎_elim, ℕ, suc, true, false, List, ◌∷◌, Option, Some, None, refl, sym, ap, ap₂, ◌∙◌, subst, le_of_eq, le_trans, arith}
-use Rattle.std.proofs.lemmas.Bool.{cases_eq, cases_lt, cases_Bool}
-use Rattle.cs_model.proofs.Parts.{with_same, with_other}
+use Rattle.std.proofs.Common.{◌≡◌, ◌⊎◌, inl, inr, ⊎_elim, ℕ, ◌≤◌, suc, true, false, List, ◌∷◌, Option, Some, None, refl, sym, ap, ap₂, ◌∙◌, subst, le_of_eq, le_trans, arith}
+use Rattle.std.proofs.lemmas.Bool.{cases_lt, cases_Bool}
+use Rattle.cs_model.proofs.Parts.{with_same, with_below}
 use Rattle.cs_model.proofs.Limits.{past_decided, worn_or_not, not_past}
 use Rattle.cs_model.proofs.Outcomes.{Answers, not_true, frame_one, frame_generations, frame_or_full, merged_one, merged_or_full, merged_generations, of_nth, live_found, first_one, not_nothing, clears, ends}
 use Rattle.cs_model.specs.Append.{AppendsFrame}
@@ -41,13 +41,9 @@ module _ (S : Shape) (F : Formats) (shape : IsShape S) (format : IsFormat S F) w
                   (le_of_eq (sym (with_same mid.world.extents.generation e
                   (suc (mid.world.extents.generation e)) e refl))),
             )))))
-        | inr fits ↦ past_decided S F (retired S F mid runs e) (λ d. elim (cases_eq d e) [
-          | inl is ↦ le_trans
-              (le_of_eq (with_same mid.world.extents.generation e (suc (mid.world.extents.generation e)) d is)) fits
-          | inr not ↦ le_trans
-              (le_of_eq (with_other mid.world.extents.generation e (suc (mid.world.extents.generation e)) d not
-              ∙ ap (λ (f : ℕ → ℕ). f d) same)) (sound.safe.extents_fit d).1
-        ])
+        | inr fits ↦ past_decided S F (retired S F mid runs e) (λ d. with_below mid.world.extents.generation e
+            (suc (mid.world.extents.generation e)) d S.greatest_generation fits
+            (subst (λ (f : ℕ → ℕ). f d ≤ S.greatest_generation) (sym same) (sound.safe.extents_fit d).1))
       ]
 
   pub answers_retire : (s : State) (e : ℕ) → Sound S F s → Bounded S F s → Answers S F shape format s (Retire e)

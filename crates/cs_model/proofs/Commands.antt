@@ -98,9 +98,9 @@ module _ (S : Shape) (F : Formats) (shape : IsShape S) (format : IsFormat S F) w
             (cases_lt (names (index_now s)) S.most_names)))
       ] in
       both _ t d.6
-      (with_entry S F shape format d.2 id d.1 (id, Some bytes) p.sound
+      (with_entry S F shape format d.2 id d.1 p.sound
       (chunks_pass S F shape format _ _ _ _ d.1 d.0 p.chunks)
-      (chunks_hold S F shape format d.2.opening _ _ _ d.1 d.0 p.chunks)
+      (chunks_hold S F shape format d.2.opening _ _ _ d.1 d.0 p.chunks) (id, Some bytes)
       (put_value d.2.opening _ _ _ d.1 d.0 bytes p.chunks d.3.0 d.3.1) refl)
       (bounded_entry S F shape format d.2 id d.1 ((id, Some bytes) ∷ d.2.commands) mid room small fit_mid)
 
@@ -118,8 +118,8 @@ module _ (S : Shape) (F : Formats) (shape : IsShape S) (format : IsFormat S F) w
       (λ (x : State). x.count + length x.commands) d.2 in
       let fit : s.count + suc (length s.commands) ≤ S.greatest_number = le_trans (le_of_eq (sym total))
       (not_below _ _ (λ lt. worn.0 (Accepted n, t, d, inr lt))) in
-      both _ t d.2 (with_entry S F shape format s id [] (id, None) sound (λ l has. absurd has)
-      (λ l has. absurd has) refl refl)
+      both _ t d.2 (with_entry S F shape format s id [] sound (λ l has. absurd has)
+      (λ l has. absurd has) (id, None) refl refl)
       (bounded_entry S F shape format s id [] ((id, None) ∷ s.commands) b
       (inl (named_there s.opening _ _ _ (lookup id (index_now s)) (map_now s id) d.0 (sound.gives.values id)))
       (omega arith) fit)

@@ -15,6 +15,7 @@ use Rattle.cs_model.specs.Safe.{FitsExtent}
 use Rattle.cs_model.specs.Sound.{Bounded, Sound}
 use Rattle.cs_model.proofs.Tests.{some_pages, not_empty_at, where_damaged}
 use Rattle.cs_model.proofs.Parts.{each}
+use Rattle.cs_model.proofs.RoundMoves.{none_out}
 use Rattle.cs_model.proofs.Carries.{and_true, and_left, and_right}
 
 module _ (S : Shape) (F : Formats) (shape : IsShape S) (img : ℕ → Page) (n : ℕ) (m : Map)
@@ -67,6 +68,11 @@ module _ (S : Shape) (F : Formats) (shape : IsShape S) (img : ℕ → Page) (n :
   no_root : (r : Root) → r ∈ roots_of (superblocks_read S F img n m g S.sections) → ⊥
   no_root r has = subst (λ (rs : List Root). r ∈ rs) (no_roots S.sections) has
 
+  -- the root that was read is the only one
+  only_root : (P : Root → Type 0) → P (root_read S F img n m g) → (r : Root)
+      → r ∈ (root_read S F img n m g ∷ roots_of (superblocks_read S F img n m g S.sections)) → P r
+  only_root P is = each P _ _ is (λ r none. absurd (no_root r none))
+
   as_read : (p : ℕ) → page_in (everything (opened_world S F img n m g)) img
       (writes_of (superblocks_read S F img n m g S.sections)) p ≡ img p
   as_read p = ap (λ (ws : List Write). page_in (everything (opened_world S F img n m g)) img ws p)
@@ -75,111 +81,111 @@ module _ (S : Shape) (F : Formats) (shape : IsShape S) (img : ℕ → Page) (n :
   pub opens_sound : Sound S F (opened_state S F img n m g)
   opens_sound = record {
     safe = record {
-      guarded = each _ _ (roots_of (superblocks_read S F img n m g S.sections))
-          (λ h c. record {
-            kept = λ w none. absurd (no_write w none);
-            recorded = λ u has sec ver. inl
-                (record {
-                  generation = ap (λ (v : Superblock). v.generations (S.extent h.page))
-                      (is_read S.sections u has).0 ∙ c.generation;
-                  below = subst (λ (k : ℕ). S.index h.page < k)
-                      (ap (λ (v : Superblock). v.pointers (S.extent h.page)) (sym (is_read S.sections u has).0))
-                      c.below;
-                });
-          }) (λ r none. absurd (no_root r none));
-      needed = each _ _ (roots_of (superblocks_read S F img n m g S.sections))
-          (λ e. (
-            superblock_read S F img n m g (S.section e),
-            there S.sections (S.section e) (shape.section e),
-            refl,
-            refl,
-            le_refl _,
-          )) (λ r none. absurd (no_root r none));
-      fresh = each _ _ (roots_of (superblocks_read S F img n m g S.sections)) (λ h c. inl c)
-          (λ r none. absurd (no_root r none));
-      same_or_reset = each _ _ (roots_of (superblocks_read S F img n m g S.sections)) (λ e some. inl refl)
-          (λ r none. absurd (no_root r none));
-      written_later = λ r is e fz some x none. absurd (no_write x none);
-      unwritten = λ e fz x none at. absurd (no_write x none);
-      frozen_before = λ e k fz. le_of_eq
-          (sym (eqb-true (g.generations e) k (and_left (g.generations e == k) (nat_lt 0 (g.pointers e)) fz)));
-      written_once = λ x none. absurd (no_write x none);
-      rewritten = λ x y none. absurd (no_write x none);
-      good = each _ _ (roots_of (superblocks_read S F img n m g S.sections))
-          (subst (λ (ws : List Write). RootGives S F (opening_in S F img g.pointers g.generations)
-          (root_read S F img n m g) (page_as_staged S (root_read S F img n m g) img ws))
-          (sym (no_writes S.sections)) (g.gives, g.root_fits, g.runs_fit, g.bounds))
-          (λ r none. absurd (no_root r none));
-      writes_below = λ x none. absurd (no_write x none);
-      superblocks_below = λ u has. (le_of_eq (version_is u has), le_of_eq (writes_zero u has));
-      roots_below = each _ _ (roots_of (superblocks_read S F img n m g S.sections))
-          (le_refl _, (λ j. le_refl _), (λ j. le_refl _)) (λ r none. absurd (no_root r none));
-      behind_below = λ j. le_refl _;
-      frames = λ x none. absurd (no_write x none);
-      writes_order = subst (λ (ws : List Write). Descends WriteBefore ws) (sym (no_writes S.sections)) tt;
-      superblocks_order = in_order S.sections;
-      roots_order = (
-        (λ r none. absurd (no_root r none)),
-        subst (λ (rs : List Root). Descends RootBefore rs) (sym (no_roots S.sections)) tt,
-      );
-      nested_superblocks = λ u v is_u is_v sec ver. (
-        le_of_eq (root_zero u is_u ∙ sym (root_zero v is_v)),
-        le_of_eq (writes_zero u is_u ∙ sym (writes_zero v is_v)),
-      );
-      nested_roots = λ r q is_r is_q ver j. le_of_eq (only r is_r j ∙ sym (only q is_q j));
-      extents_fit = g.extents_fit;
-      resets_there = λ e out. refl;
-      superblocks_fit = λ u has. subst (λ (v : Superblock). (1 ≤ v.version) × (v.version ≤ S.greatest_number)
-          × ((e : ℕ) → FitsExtent S (v.pointers e) (v.generations e))) (sym (is_read S.sections u has).0) (
-            (g.versions_fit u.section (is_read S.sections u has).1).0,
-            (g.versions_fit u.section (is_read S.sections u has).1).1,
-            g.extents_fit,
-          );
-      sections_there = λ u has. (is_read S.sections u has).1;
-      write_roots = λ x none. absurd (no_write x none);
-      superblock_roots = λ u has. subst (λ (k : ℕ). k ≤ g.version) (sym (root_zero u has)) (omega arith);
-      reset_roots = λ e. omega arith;
-      earlier = λ r u is has ver q up. (
-        subst (λ (k : ℕ). k ≤ q) (sym (root_zero u has)) (omega arith),
-        λ x none. absurd (no_write x none),
-      );
-      superblocks_there = λ j n lo hi. absurd (let a : g.versions j < n = lo in let b : n ≤ g.versions j = hi in
-          omega arith);
-      roots_there = λ n lo hi. absurd (let a : g.version < n = lo in let b : n ≤ g.version = hi in omega arith);
-      counts = λ r q is_r is_q ver. le_of_eq (count r is_r ∙ sym (count q is_q));
-      closed = record {
-        write_root = λ w none. absurd (no_write w none);
-        superblock_root = λ u has ver. subst (λ (k : ℕ). k ≤ g.version) (sym (root_zero u has)) (omega arith);
-        superblock_writes = λ u w has none. absurd (no_write w none);
-        root_superblocks = λ r has ver j. le_of_eq (only r has j);
+      guards = record {
+        guarded = only_root _
+            (λ h c. record {
+              kept = λ w none. absurd (no_write w none);
+              recorded = λ u has sec ver. inl
+                  (record {
+                    generation = ap (λ (v : Superblock). v.generations (S.extent h.page))
+                        (is_read S.sections u has).0 ∙ c.generation;
+                    below = subst (λ (k : ℕ). S.index h.page < k)
+                        (ap (λ (v : Superblock). v.pointers (S.extent h.page)) (sym (is_read S.sections u has).0))
+                        c.below;
+                  });
+            });
+        needed = only_root _
+            (λ e. (
+              superblock_read S F img n m g (S.section e),
+              there S.sections (S.section e) (shape.section e),
+              refl,
+              refl,
+              le_refl _,
+            ));
+        earlier = λ r u is has ver q up. (
+          subst (λ (k : ℕ). k ≤ q) (sym (root_zero u has)) (omega arith),
+          λ x none. absurd (no_write x none),
+        );
       };
-      exact = record {
-        superblock = superblock_read S F img n m g;
-        superblocks = λ j lt. (there S.sections j lt, refl, refl);
-        root = (root_read S F img n m g, inl refl, refl);
+      reads = record {
+        good = only_root _
+            (subst (λ (ws : List Write). RootGives S F (opening_in S F img g.pointers g.generations)
+            (root_read S F img n m g) (page_as_staged S (root_read S F img n m g) img ws))
+            (sym (no_writes S.sections)) (g.gives, g.root_fits, g.runs_fit, g.bounds));
+        rewritten = λ x y none. absurd (no_write x none);
+        written_later = λ r is e fz some x none. absurd (no_write x none);
       };
-      round_exact = record {
-        superblock = superblock_read S F img n m g;
-        superblocks = λ j lt. (there S.sections j lt, refl, refl);
-        root = (root_read S F img n m g, inl refl, refl);
+      since_resets = record {
+        fresh = only_root _ (λ h c. inl c);
+        same_or_reset = only_root _ (λ e some. inl refl);
+        written_once = λ x none. absurd (no_write x none);
+        unwritten = λ e fz x none at. absurd (no_write x none);
       };
-      staged = record {
-        writes = λ k wrong. absurd (true≢false (sym wrong));
-        superblocks = λ j. le_refl _;
-        root = le_refl _;
+      extents = record {
+        extents_fit = g.extents_fit;
+        resets_there = λ e out. refl;
+        frozen_before = λ e k fz. le_of_eq
+            (sym (eqb-true (g.generations e) k (and_left (g.generations e == k) (nat_lt 0 (g.pointers e)) fz)));
       };
-      round_staged = record {
-        writes = λ k wrong. absurd (true≢false (sym wrong));
-        superblocks = λ j. le_refl _;
-        root = le_refl _;
+      writes_rise = record {
+        writes_order = subst (λ (ws : List Write). Descends WriteBefore ws) (sym (no_writes S.sections)) tt;
+        writes_below = λ x none. absurd (no_write x none);
+        frames = λ x none. absurd (no_write x none);
       };
-      within = record { writes = λ k has. has; superblocks = λ j. le_refl _; root = le_refl _ };
-      ready = record {
-        writes = λ x none. absurd (no_write x none);
-        superblock_root = λ u has ver. inl ver;
-        superblock_writes = λ u x has none. absurd (no_write x none);
-        roots = λ r has ver. inl ver;
+      superblocks_rise = record {
+        superblocks_order = in_order S.sections;
+        nested_superblocks = λ u v is_u is_v sec ver. (
+          le_of_eq (root_zero u is_u ∙ sym (root_zero v is_v)),
+          le_of_eq (writes_zero u is_u ∙ sym (writes_zero v is_v)),
+        );
+        sections_there = λ u has. (is_read S.sections u has).1;
+        superblocks_fit = λ u has. subst (λ (v : Superblock). (1 ≤ v.version) × (v.version ≤ S.greatest_number)
+            × ((e : ℕ) → FitsExtent S (v.pointers e) (v.generations e))) (sym (is_read S.sections u has).0) (
+              (g.versions_fit u.section (is_read S.sections u has).1).0,
+              (g.versions_fit u.section (is_read S.sections u has).1).1,
+              g.extents_fit,
+            );
       };
+      roots_rise = record {
+        roots_order = (
+          (λ r none. absurd (no_root r none)),
+          subst (λ (rs : List Root). Descends RootBefore rs) (sym (no_roots S.sections)) tt,
+        );
+        nested_roots = λ r q is_r is_q ver j. le_of_eq (only r is_r j ∙ sym (only q is_q j));
+        counts = λ r q is_r is_q ver. le_of_eq (count r is_r ∙ sym (count q is_q));
+      };
+      below = record {
+        superblocks_below = λ u has. (le_of_eq (version_is u has), le_of_eq (writes_zero u has));
+        roots_below = only_root _ (le_refl _, (λ j. le_refl _), (λ j. le_refl _));
+        behind_below = λ j. le_refl _;
+      };
+      needs = record {
+        write_roots = λ x none. absurd (no_write x none);
+        superblock_roots = λ u has. subst (λ (k : ℕ). k ≤ g.version) (sym (root_zero u has)) (omega arith);
+        reset_roots = λ e. omega arith;
+      };
+      there = record {
+        superblocks_there = λ j n lo hi. absurd (let a : g.versions j < n = lo in let b : n ≤ g.versions j = hi in
+            omega arith);
+        roots_there = λ n lo hi. absurd (let a : g.version < n = lo in let b : n ≤ g.version = hi in omega arith);
+      };
+      round = none_out S
+          (record {
+            write_root = λ w none. absurd (no_write w none);
+            superblock_root = λ u has ver. subst (λ (k : ℕ). k ≤ g.version) (sym (root_zero u has)) (omega arith);
+            superblock_writes = λ u w has none. absurd (no_write w none);
+            root_superblocks = only_root _ (λ ver j. le_refl _);
+          })
+          (record {
+            superblock = superblock_read S F img n m g;
+            superblocks = λ j lt. (there S.sections j lt, refl, refl);
+            root = (root_read S F img n m g, inl refl, refl);
+          })
+          (record {
+            writes = λ k wrong. absurd (true≢false (sym wrong));
+            superblocks = λ j. le_refl _;
+            root = le_refl _;
+          });
     };
     settled = λ e. record {
       last = (
@@ -198,8 +204,7 @@ module _ (S : Shape) (F : Formats) (shape : IsShape S) (img : ℕ → Page) (n :
     gives = subst (λ (ws : List Write). Gives S F (opening_in S F img g.pointers g.generations)
         (page_in (everything (opened_world S F img n m g)) img ws) g.pointers g.generations [] g.runs m)
         (sym (no_writes S.sections)) g.gives;
-    maps = each _ _ (roots_of (superblocks_read S F img n m g S.sections))
-        (0, le_refl _, (let e : n ≡ n + 0 = omega arith in e), refl) (λ r none. absurd (no_root r none));
+    maps = only_root _ (0, le_refl _, (let e : n ≡ n + 0 = omega arith in e), refl);
     caught_up = λ none r is ver. (let e : n ≡ n + 0 = omega arith in count r is ∙ e);
     left = λ x none. absurd none;
     issued = λ x none. absurd none;
@@ -224,13 +229,11 @@ module _ (S : Shape) (F : Formats) (shape : IsShape S) (img : ℕ → Page) (n :
     where
       only : (r : Root) → r ∈ (root_read S F img n m g ∷ roots_of (superblocks_read S F img n m g S.sections))
           → (j : ℕ) → r.superblocks j ≡ g.versions j
-      only r (inl is) j = ap (λ (q : Root). q.superblocks j) is
-      only r (inr none) j = absurd (no_root r none)
+      only = only_root _ (λ j. refl)
 
       count : (r : Root) → r ∈ (root_read S F img n m g ∷ roots_of (superblocks_read S F img n m g S.sections))
           → r.commands ≡ n
-      count r (inl is) = ap (λ (q : Root). q.commands) is
-      count r (inr none) = absurd (no_root r none)
+      count = only_root _ refl
 
   pub opens_bounded : Bounded S F (opened_state S F img n m g)
   opens_bounded = record {

@@ -1,7 +1,7 @@
 -- An entry and a root keep a state sound.
 use Rattle.std.proofs.Common.{◌≡◌, ◌⊎◌, inl, inr, ⊎_elim, ℕ, suc, ◌+◌, ◌≤◌, true, false, nat_le, List, [], ◌∷◌, length, Some, ◌==◌, le_refl, le-leb, eq-eqb, ne_eqb, refl, sym, ap, ◌∙◌, arith}
 use Rattle.cs_model.specs.Device.{IsShape, Shape}
-use Rattle.cs_model.specs.Element.{A_root, A_superblock, A_write, Element, Locator, Map, Root, Run, roots_of}
+use Rattle.cs_model.specs.Element.{A_root, A_superblock, A_write, Element, Entry, Locator, Map, Root, Run, roots_of}
 use Rattle.cs_model.specs.Events.{newest_page, rooted}
 use Rattle.cs_model.specs.Formats.{Formats, places}
 use Rattle.cs_model.specs.Frames.{IsFormat}
@@ -35,61 +35,57 @@ pub map_after_more : (start : Map) (c : Command) (cs : List Command) (n : ℕ) �
 map_after_more start c cs n le = let test : nat_le n (length cs) ≡ true = le-leb n (length cs) le in rw test
 
 module _ (S : Shape) (F : Formats) (shape : IsShape S) (format : IsFormat S F) where
-  -- the table and the commands of a state change, and its world doesn't
-  pub with_entry : (s : State) (id : ℕ) (ls : List Locator) (c : Command) → Sound S F s
-      → ((l : Locator) → l ∈ ls → Passes S F (newest_page s) s.world.extents.pointer s.world.extents.generation l)
-      → ((l : Locator) → l ∈ ls
-      → Holds S F s.opening (newest_page s) s.world.extents.pointer s.world.extents.generation l)
-      → Value S F s.opening (newest_page s) s.world.extents.pointer s.world.extents.generation (Some ls)
-      (content_of c.1) → id ≡ c.0
-      → Sound S F (record s { table = record { id = id; locators = ls } ∷ s.table; commands = c ∷ s.commands })
-  with_entry s id ls c sound passes hold value same = record {
-    frozen = sound.frozen;
-    damaged = sound.damaged;
+  -- an entry is put on the table, and commands may be, and the world stays
+  entered : (s : State) (entry : Entry) (commands : List Command) → Sound S F s
+      → ((r : Root) → r ∈ roots_of s.world.elements → (n : ℕ) × (n ≤ length commands)
+      × (r.commands ≡ s.count + n) × (r.map ≡ map_after s.start commands n))
+      → Gives S F s.opening (newest_page s) s.world.extents.pointer s.world.extents.generation (entry ∷ s.table) s.runs
+      (after_all s.start commands)
+      → Sound S F (record s { table = entry ∷ s.table; commands = commands })
+  entered s entry commands sound maps gives = record {
     safe = sound.safe;
     settled = sound.settled;
+    gives = gives;
+    maps = maps;
+    caught_up = λ none. absurd (let e : entry ∷ s.table ≡ [] = none in cc);
     left = sound.left;
     issued = sound.issued;
     complete = sound.complete;
     once = sound.once;
     idle = sound.idle;
     swept = sound.swept;
-    caught_up = λ none. absurd (let e : record { id = id; locators = ls } ∷ s.table ≡ [] = none in cc);
-    maps = λ r is. (let old = sound.maps r is in (
-      old.0,
-      (let le : old.0 ≤ length s.commands = old.1 in omega arith),
-      old.2,
-      old.3
-          ∙ sym (map_after_more s.start c s.commands old.0 old.1),
-    ));
-    gives = gives_set S F shape format s.opening (newest_page s) _ _ s.table s.runs (map_now s)
-        (changed (map_now s) c) id ls sound.gives passes hold
-        (let test : (id == c.0) ≡ true = eq-eqb id c.0 same in rw test value)
-        (λ x not. let test : (x == c.0) ≡ false = ne_eqb x c.0 (λ is. not (is ∙ sym same)) in rw test);
+    frozen = sound.frozen;
+    damaged = sound.damaged;
   }
 
-  pub moved_entry : (s : State) (id : ℕ) (ls : List Locator) → Sound S F s
-      → ((l : Locator) → l ∈ ls → Passes S F (newest_page s) s.world.extents.pointer s.world.extents.generation l)
-      → ((l : Locator) → l ∈ ls
-      → Holds S F s.opening (newest_page s) s.world.extents.pointer s.world.extents.generation l)
-      → Value S F s.opening (newest_page s) s.world.extents.pointer s.world.extents.generation (Some ls) (map_now s id)
-      → Sound S F (record s { table = record { id = id; locators = ls } ∷ s.table })
-  moved_entry s id ls sound passes hold value = record {
-    frozen = sound.frozen;
-    damaged = sound.damaged;
-    safe = sound.safe;
-    settled = sound.settled;
-    left = sound.left;
-    issued = sound.issued;
-    complete = sound.complete;
-    once = sound.once;
-    idle = sound.idle;
-    swept = sound.swept;
-    maps = sound.maps;
-    caught_up = λ none. absurd (let e : record { id = id; locators = ls } ∷ s.table ≡ [] = none in cc);
-    gives = gives_set S F shape format s.opening (newest_page s) _ _ s.table s.runs (map_now s)
-        (map_now s) id ls sound.gives passes hold value (λ x not. refl);
-  }
+  -- where each locator passes and holds what its id then has
+  module _ (s : State) (id : ℕ) (ls : List Locator) (sound : Sound S F s)
+      (passes : (l : Locator) → l ∈ ls
+      → Passes S F (newest_page s) s.world.extents.pointer s.world.extents.generation l)
+      (hold : (l : Locator) → l ∈ ls
+      → Holds S F s.opening (newest_page s) s.world.extents.pointer s.world.extents.generation l) where
+    pub with_entry : (c : Command)
+        → Value S F s.opening (newest_page s) s.world.extents.pointer s.world.extents.generation (Some ls)
+        (content_of c.1) → id ≡ c.0
+        → Sound S F (record s { table = record { id = id; locators = ls } ∷ s.table; commands = c ∷ s.commands })
+    with_entry c value same = entered s (record { id = id; locators = ls }) (c ∷ s.commands) sound
+        (λ r is. (let old = sound.maps r is in (
+          old.0,
+          (let le : old.0 ≤ length s.commands = old.1 in omega arith),
+          old.2,
+          old.3 ∙ sym (map_after_more s.start c s.commands old.0 old.1),
+        )))
+        (gives_set S F shape format s.opening (newest_page s) _ _ s.table s.runs (map_now s)
+        (changed (map_now s) c) id ls sound.gives passes hold
+        (let test : (id == c.0) ≡ true = eq-eqb id c.0 same in rw test value)
+        (λ x not. let test : (x == c.0) ≡ false = ne_eqb x c.0 (λ is. not (is ∙ sym same)) in rw test))
+
+    pub moved_entry :
+        Value S F s.opening (newest_page s) s.world.extents.pointer s.world.extents.generation (Some ls) (map_now s id)
+        → Sound S F (record s { table = record { id = id; locators = ls } ∷ s.table })
+    moved_entry value = entered s (record { id = id; locators = ls }) s.commands sound sound.maps
+        (gives_set S F shape format s.opening (newest_page s) _ _ s.table s.runs (map_now s)
+        (map_now s) id ls sound.gives passes hold value (λ x not. refl))
 
   -- a root is staged
   pub root_staged : (s : State) (runs : List Run) (pointers : ℕ → ℕ) → Sound S F s

@@ -1,11 +1,32 @@
 -- A round, and a mark on an extent, keep what makes a crash safe.
 use Rattle.std.proofs.Common.{Bool, Option, ◌≡◌, inl, ⊎_elim, ℕ, suc, ◌<◌, ◌≤◌, true, le_trans, le_refl, arith}
-use Rattle.cs_model.specs.Cut.{Closed, Cut, Within}
+use Rattle.cs_model.specs.Cut.{Closed, Cut, Exact, Within}
 use Rattle.cs_model.specs.Device.{Inside, Page, Place, Shape}
-use Rattle.cs_model.specs.Element.{Root, log_of}
+use Rattle.cs_model.specs.Element.{Log, Root, log_of, roots_of, superblocks_of}
 use Rattle.cs_model.specs.Guard.{Covers}
 use Rattle.cs_model.specs.Machine.{BeginRound, EndRound, World, happens}
-use Rattle.cs_model.specs.Safe.{Allowed, Safe}
+use Rattle.cs_model.specs.Safe.{Allowed, AreThere, ClosesRound, IsNoLater, Safe}
+
+same : (X : Cut) → Within X X
+same X = record { writes = λ n has. has; superblocks = λ j. le_refl _; root = le_refl _ }
+
+-- where no round is out there is none between
+pub none_out : (S : Shape) {log : Log} {written last : ℕ} {versions : ℕ → ℕ} {X : Cut} → Closed S log X
+    → Exact S.sections log X → IsNoLater written versions last X → ClosesRound S log written versions last X X
+none_out S closed exact staged = record {
+  closed = closed;
+  exact = exact;
+  round_exact = exact;
+  staged = staged;
+  round_staged = staged;
+  within = same _;
+  ready = record {
+    writes = λ x is has. inl has;
+    superblock_root = λ u is ver. inl ver;
+    superblock_writes = λ u x is has ver sec bound. inl ver;
+    roots = λ r is ver. inl ver;
+  };
+}
 
 module _ (S : Shape) (Good : Root → (ℕ → Page) → Type 0) (frozen : ℕ → ℕ → Bool) (opened : ℕ → Page)
     (local : (r : Root) (a b : ℕ → Page) → ((h : Place) → Covers S r h → b h.page ≡ a h.page)
@@ -35,151 +56,50 @@ module _ (S : Shape) (Good : Root → (ℕ → Page) → Type 0) (frozen : ℕ �
   suc_le : {a b : ℕ} → a ≤ b → suc a ≤ suc b
   suc_le h = omega arith
 
-  same : (X : Cut) → Within X X
-  same X = record { writes = λ n has. has; superblocks = λ j. le_refl _; root = le_refl _ }
+  -- which extent is open, and which are being swept, matters to no element; nor does what is persistent, but to what
+  -- isn't yet
+  turned : (w : World) (o : Option ℕ) (swept : ℕ → Bool) (P R : Cut) → Safe S Good frozen opened w
+      → AreThere (superblocks_of w.elements) (roots_of w.elements) w.superblocks w.root P
+      → ClosesRound S (log_of w.elements) w.written w.superblocks w.root P R
+      → Safe S Good frozen opened (record w {
+        extents = record w.extents { open_extent = o; swept = swept };
+        persistent = P;
+        round = R;
+      })
+  turned w o swept P R s there round = record {
+    guards = s.guards;
+    reads = s.reads;
+    since_resets = s.since_resets;
+    extents = s.extents;
+    writes_rise = s.writes_rise;
+    superblocks_rise = s.superblocks_rise;
+    roots_rise = s.roots_rise;
+    below = s.below;
+    needs = s.needs;
+    there = there;
+    round = round;
+  }
 
-  -- which extent is open, and which are being swept, matters to no element
   pub keeps_marks : (w : World) (o : Option ℕ) (swept : ℕ → Bool) → Safe S Good frozen opened w
       → Safe S Good frozen opened (record w { extents = record w.extents { open_extent = o; swept = swept } })
-  keeps_marks w o swept s = record {
-    guarded = s.guarded;
-    needed = s.needed;
-    same_or_reset = s.same_or_reset;
-    written_later = s.written_later;
-    unwritten = s.unwritten;
-    frozen_before = s.frozen_before;
-    fresh = s.fresh;
-    written_once = s.written_once;
-    rewritten = s.rewritten;
-    good = s.good;
-    writes_below = s.writes_below;
-    superblocks_below = s.superblocks_below;
-    roots_below = s.roots_below;
-    behind_below = s.behind_below;
-    extents_fit = s.extents_fit;
-    resets_there = s.resets_there;
-    superblocks_fit = s.superblocks_fit;
-    sections_there = s.sections_there;
-    write_roots = s.write_roots;
-    superblock_roots = s.superblock_roots;
-    reset_roots = s.reset_roots;
-    earlier = s.earlier;
-    superblocks_there = s.superblocks_there;
-    roots_there = s.roots_there;
-    counts = s.counts;
-    nested_superblocks = s.nested_superblocks;
-    nested_roots = s.nested_roots;
-    frames = s.frames;
-    writes_order = s.writes_order;
-    superblocks_order = s.superblocks_order;
-    roots_order = s.roots_order;
-    exact = s.exact;
-    round_exact = s.round_exact;
-    closed = s.closed;
-    staged = record { writes = s.staged.writes; superblocks = s.staged.superblocks; root = s.staged.root };
-    round_staged = record {
-      writes = s.round_staged.writes;
-      superblocks = s.round_staged.superblocks;
-      root = s.round_staged.root;
-    };
-    within = s.within;
-    ready = s.ready;
-  }
+  keeps_marks w o swept s = turned w o swept w.persistent w.round s s.there s.round
 
   pub keeps_begin : (w : World) (R : Cut) → Allowed S Good frozen opened w (BeginRound R)
       → Safe S Good frozen opened w → Safe S Good frozen opened (happens S w (BeginRound R))
-  keeps_begin w R next s = record {
-    guarded = s.guarded;
-    needed = s.needed;
-    same_or_reset = s.same_or_reset;
-    written_later = s.written_later;
-    unwritten = s.unwritten;
-    frozen_before = s.frozen_before;
-    fresh = s.fresh;
-    written_once = s.written_once;
-    rewritten = s.rewritten;
-    good = s.good;
-    writes_below = s.writes_below;
-    superblocks_below = s.superblocks_below;
-    roots_below = s.roots_below;
-    behind_below = s.behind_below;
-    extents_fit = s.extents_fit;
-    resets_there = s.resets_there;
-    superblocks_fit = s.superblocks_fit;
-    sections_there = s.sections_there;
-    write_roots = s.write_roots;
-    superblock_roots = s.superblock_roots;
-    reset_roots = s.reset_roots;
-    earlier = s.earlier;
-    superblocks_there = s.superblocks_there;
-    roots_there = s.roots_there;
-    counts = s.counts;
-    nested_superblocks = s.nested_superblocks;
-    nested_roots = s.nested_roots;
-    frames = s.frames;
-    writes_order = s.writes_order;
-    superblocks_order = s.superblocks_order;
-    roots_order = s.roots_order;
+  keeps_begin w R next s = turned w w.extents.open_extent w.extents.swept w.persistent R s s.there (record {
+    closed = s.closed;
     exact = s.exact;
     round_exact = next.0;
-    closed = s.closed;
-    staged = record { writes = s.staged.writes; superblocks = s.staged.superblocks; root = s.staged.root };
-    round_staged = record { writes = next.2.writes; superblocks = next.2.superblocks; root = next.2.root };
+    staged = s.staged;
+    round_staged = next.2;
     within = next.1;
     ready = next.3;
-  }
+  })
 
   pub keeps_end : (w : World) → Safe S Good frozen opened w → Safe S Good frozen opened (happens S w EndRound)
-  keeps_end w s = record {
-    guarded = s.guarded;
-    needed = s.needed;
-    same_or_reset = s.same_or_reset;
-    written_later = s.written_later;
-    unwritten = s.unwritten;
-    frozen_before = s.frozen_before;
-    fresh = s.fresh;
-    written_once = s.written_once;
-    rewritten = s.rewritten;
-    good = s.good;
-    writes_below = s.writes_below;
-    superblocks_below = s.superblocks_below;
-    roots_below = s.roots_below;
-    behind_below = s.behind_below;
-    extents_fit = s.extents_fit;
-    resets_there = s.resets_there;
-    superblocks_fit = s.superblocks_fit;
-    sections_there = s.sections_there;
-    write_roots = s.write_roots;
-    superblock_roots = s.superblock_roots;
-    reset_roots = s.reset_roots;
-    earlier = s.earlier;
-    superblocks_there = λ j n lo hi. s.superblocks_there j n (le_trans (suc_le (s.within.superblocks j)) lo) hi;
-    roots_there = λ n lo hi. s.roots_there n (le_trans (suc_le s.within.root) lo) hi;
-    counts = s.counts;
-    nested_superblocks = s.nested_superblocks;
-    nested_roots = s.nested_roots;
-    frames = s.frames;
-    writes_order = s.writes_order;
-    superblocks_order = s.superblocks_order;
-    roots_order = s.roots_order;
-    exact = s.round_exact;
-    round_exact = s.round_exact;
-    closed = between w w.round s s.within (same w.round);
-    staged = record {
-      writes = s.round_staged.writes;
-      superblocks = s.round_staged.superblocks;
-      root = s.round_staged.root;
-    };
-    round_staged = record {
-      writes = s.round_staged.writes;
-      superblocks = s.round_staged.superblocks;
-      root = s.round_staged.root;
-    };
-    within = same w.round;
-    ready = record {
-      writes = λ x is has. inl has;
-      superblock_root = λ u is ver. inl ver;
-      superblock_writes = λ u x is has ver sec bound. inl ver;
-      roots = λ r is ver. inl ver;
-    };
-  }
+  keeps_end w s = turned w w.extents.open_extent w.extents.swept w.round w.round s
+      (record {
+        superblocks_there = λ j n lo hi. s.superblocks_there j n (le_trans (suc_le (s.within.superblocks j)) lo) hi;
+        roots_there = λ n lo hi. s.roots_there n (le_trans (suc_le s.within.root) lo) hi;
+      })
+      (none_out S (between w w.round s s.within (same w.round)) s.round_exact s.round_staged)

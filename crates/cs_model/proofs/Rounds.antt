@@ -13,7 +13,7 @@ use Rattle.cs_model.specs.Recovery.{RootGives}
 use Rattle.cs_model.specs.Round.{IsMember}
 use Rattle.cs_model.specs.Safe.{Safe}
 use Rattle.cs_model.proofs.ClosedSets.{page_same}
-use Rattle.cs_model.proofs.Parts.{with_same, with_other}
+use Rattle.cs_model.proofs.Parts.{with_case, with_same, with_other}
 use Rattle.cs_model.proofs.Carries.{found, no_later, and_true, and_left, and_right}
 
 pub one_of_a_number : (ws : List Write) (x y : Write) → Descends WriteBefore ws → x ∈ ws → y ∈ ws
@@ -173,25 +173,16 @@ module _ (S : Shape) (F : Formats) {opening : Opening} (shape : IsShape S) (open
   join_between X (A_superblock u) is b = record {
     low = record {
       writes = b.low.writes;
-      superblocks = λ j. elim (cases_eq j u.section) [
-        | inl same ↦ subst (λ (n : ℕ). w.persistent.superblocks j ≤ n)
-            (sym (with_same X.superblocks u.section u.version j same))
-            (let lt : w.persistent.superblocks j < u.version = subst
-            (λ (i : ℕ). w.persistent.superblocks i < u.version) (sym same) is.2 in omega arith)
-        | inr not ↦ subst (λ (n : ℕ). w.persistent.superblocks j ≤ n)
-            (sym (with_other X.superblocks u.section u.version j not)) (b.low.superblocks j)
-      ];
+      superblocks = λ j. with_case (λ n. w.persistent.superblocks j ≤ n) X.superblocks u.section u.version j
+          (λ same. let lt : w.persistent.superblocks j < u.version = subst
+          (λ (i : ℕ). w.persistent.superblocks i < u.version) (sym same) is.2 in omega arith)
+          (λ not. b.low.superblocks j);
       root = b.low.root;
     };
     high = record {
       writes = b.high.writes;
-      superblocks = λ j. elim (cases_eq j u.section) [
-        | inl same ↦ subst (λ (n : ℕ). n ≤ w.round.superblocks j)
-            (sym (with_same X.superblocks u.section u.version j same))
-            (le_of_eq (is.1 ∙ ap w.round.superblocks (sym same)))
-        | inr not ↦ subst (λ (n : ℕ). n ≤ w.round.superblocks j)
-            (sym (with_other X.superblocks u.section u.version j not)) (b.high.superblocks j)
-      ];
+      superblocks = λ j. with_case (λ n. n ≤ w.round.superblocks j) X.superblocks u.section u.version j
+          (λ same. le_of_eq (is.1 ∙ ap w.round.superblocks (sym same))) (λ not. b.high.superblocks j);
       root = b.high.root;
     };
     exact = record {

@@ -1,11 +1,47 @@
 -- When a move may come, and what every move keeps.
-use Rattle.std.specs.Prelude.{◌≡◌, ◌⊎◌, ◌<◌, ◌≤◌, ℕ, suc, Bool, true, false}
+use Rattle.std.specs.Prelude.{◌≡◌, ◌⊎◌, ◌<◌, ◌≤◌, ℕ, suc, Bool, true, false, List}
 use Rattle.cs_model.specs.Cut.{Closed, Cut, Exact, Within, page_in, section_of}
 use Rattle.cs_model.specs.Device.{FramePage, Page, Place, Shape}
 use Rattle.cs_model.specs.Element.{Log, Root, RootBefore, Superblock, SuperblockBefore, Write, WriteBefore, log_of, roots_of, superblocks_of, writes_of}
 use Rattle.cs_model.specs.Guard.{Covers, Guarded, Needed, Records, page_as_staged}
 use Rattle.cs_model.specs.Lists.{Descends, ◌∈◌}
 use Rattle.cs_model.specs.Machine.{BeginRound, EndRound, Move, ResetExtent, StagePage, StageRoot, StageSuperblock, World, everything, root_now}
+
+-- X has no plain write past this number, and no version past these
+pub record IsNoLater (written : ℕ) (versions : ℕ → ℕ) (last : ℕ) (X : Cut) : Type 0 where
+  pub writes : (n : ℕ) → X.writes n ≡ true → n ≤ written
+  pub superblocks : (j : ℕ) → X.superblocks j ≤ versions j
+  pub root : X.root ≤ last
+
+-- roots come in order, newest first, and each has no less than those before it
+pub record RootsRise (roots : List Root) : Type 0 where
+  pub roots_order : Descends RootBefore roots
+  -- it needs what an earlier one needs
+  pub nested_roots : (r q : Root) → r ∈ roots → q ∈ roots → r.version ≤ q.version
+      → (j : ℕ) → r.superblocks j ≤ q.superblocks j
+  -- it has no fewer commands
+  pub counts : (r q : Root) → r ∈ roots → q ∈ roots → r.version ≤ q.version → r.commands ≤ q.commands
+
+-- versions and what they need keep to the last numbers
+pub record KeepBelow (superblocks : List Superblock) (roots : List Root) (written : ℕ) (versions behind : ℕ → ℕ)
+    (last : ℕ) : Type 0 where
+  pub superblocks_below : (u : Superblock) → u ∈ superblocks → (u.version ≤ versions u.section) × (u.writes ≤ written)
+  pub roots_below : (r : Root) → r ∈ roots
+      → (r.version ≤ last) × ((j : ℕ) → r.superblocks j ≤ versions j) × ((j : ℕ) → r.writes j ≤ written)
+  pub behind_below : (j : ℕ) → behind j ≤ written
+
+-- no element, and no extent, needs a root that isn't staged
+pub record NeedStagedRoots (log : Log) (reset : ℕ → ℕ) (last : ℕ) : Type 0 where
+  pub write_roots : (x : Write) → x ∈ log.writes → x.root ≤ last
+  pub superblock_roots : (u : Superblock) → u ∈ log.superblocks → u.root ≤ last
+  pub reset_roots : (e : ℕ) → reset e ≤ last
+
+-- each version that isn't persistent is staged
+pub record AreThere (superblocks : List Superblock) (roots : List Root) (versions : ℕ → ℕ) (last : ℕ) (persistent : Cut)
+    : Type 0 where
+  pub superblocks_there : (j n : ℕ) → persistent.superblocks j < n → n ≤ versions j
+      → (u : Superblock) × (u ∈ superblocks) × (u.section ≡ j) × (u.version ≡ n)
+  pub roots_there : (n : ℕ) → persistent.root < n → n ≤ last → (r : Root) × (r ∈ roots) × (r.version ≡ n)
 
 module _ (S : Shape) where
   -- the last version of the extent's section has all its pages, but where it was reset since
@@ -31,18 +67,90 @@ module _ (S : Shape) where
         → (r.version ≤ P.root) ⊎ ((j : ℕ) → r.superblocks j ≤ P.superblocks j)
 
   -- X names nothing that isn't staged
-  pub record IsStaged (w : World) (X : Cut) : Type 0 where
-    pub writes : (n : ℕ) → X.writes n ≡ true → n ≤ w.written
-    pub superblocks : (j : ℕ) → X.superblocks j ≤ w.superblocks j
-    pub root : X.root ≤ w.root
+  abbrev pub IsStaged : World → Cut → Type 0
+  IsStaged w X = IsNoLater w.written w.superblocks w.root X
 
   -- an extent's pointer and generation keep to their bounds
   abbrev pub FitsExtent : (pointer generation : ℕ) → Type 0
   FitsExtent pointer generation = (pointer ≤ S.pages) × (generation ≤ S.greatest_generation)
 
+  -- plain writes come in order, newest first, numbered up to the last, and go to pages of frames
+  pub record WritesRise (writes : List Write) (written : ℕ) : Type 0 where
+    pub writes_order : Descends WriteBefore writes
+    pub writes_below : (x : Write) → x ∈ writes → x.number ≤ written
+    pub frames : (x : Write) → x ∈ writes → S.kind x.page ≡ FramePage
+
+  -- superblock versions come in order, newest first, and each can be spelled
+  pub record SuperblocksRise (superblocks : List Superblock) : Type 0 where
+    pub superblocks_order : Descends SuperblockBefore superblocks
+    -- a later version needs what an earlier one needs
+    pub nested_superblocks : (u v : Superblock) → u ∈ superblocks → v ∈ superblocks
+        → u.section ≡ v.section → u.version ≤ v.version → (u.root ≤ v.root) × (u.writes ≤ v.writes)
+    -- its section is there
+    pub sections_there : (u : Superblock) → u ∈ superblocks → u.section < S.sections
+    -- its pointers, its generations and its version keep to their bounds
+    pub superblocks_fit : (u : Superblock) → u ∈ superblocks
+        → (1 ≤ u.version) × (u.version ≤ S.greatest_number) × ((e : ℕ) → FitsExtent (u.pointers e) (u.generations e))
+
+  -- what a root locates is guarded, and what it needs was staged before it
+  pub record Guards (log : Log) : Type 0 where
+    -- each root is guarded at each place that it covers
+    pub guarded : (r : Root) → r ∈ log.roots → (h : Place) → Covers S r h → Guarded S log r h
+    pub needed : (r : Root) → r ∈ log.roots → (e : ℕ) → Needed S log r e
+    -- so it needs earlier roots alone
+    pub earlier : (r : Root) (u : Superblock) → r ∈ log.roots → u ∈ log.superblocks
+        → u.version ≤ r.superblocks u.section → (q : ℕ) → r.version ≤ suc q
+        → (u.root ≤ q) × ((x : Write) → x ∈ log.writes → x.number ≤ u.writes → x.root ≤ q)
+
+  -- what is persistent is closed; so is all between it and the round
+  pub record ClosesRound (log : Log) (written : ℕ) (versions : ℕ → ℕ) (last : ℕ) (persistent round : Cut) : Type 0 where
+    pub closed : Closed S log persistent
+    pub exact : Exact S.sections log persistent
+    pub round_exact : Exact S.sections log round
+    pub staged : IsNoLater written versions last persistent
+    pub round_staged : IsNoLater written versions last round
+    pub within : Within persistent round
+    pub ready : Ready log persistent round
+
   -- Good: what a root must be able to read of an image. frozen: the extents that weren't empty at open, with their
   -- generations. opened: the image at open
   module _ (Good : Root → (ℕ → Page) → Type 0) (frozen : ℕ → ℕ → Bool) (opened : ℕ → Page) where
+    -- what a root reads is as it was staged
+    pub record ReadsAsStaged (writes : List Write) (roots : List Root) : Type 0 where
+      -- what it locates was right as it was staged
+      pub good : (r : Root) → r ∈ roots → Good r (page_as_staged S r opened writes)
+      -- a page is written again only behind a root that counts on the write before
+      pub rewritten : (x y : Write) → x ∈ writes → y ∈ writes → x.page ≡ y.page → x.number < y.number
+          → (r : Root) × (r ∈ roots) × (r.version ≡ y.root) × (x.number ≤ r.writes (section_of S x.page))
+      -- where a root found an extent frozen, what was written there since needs a later root
+      pub written_later : (r : Root) → r ∈ roots → (e : ℕ) → frozen e (r.generations e) ≡ true → 0 < r.pointers e
+          → (x : Write) → x ∈ writes → S.extent x.page ≡ e
+          → (r.version < x.root) × (r.writes (S.section e) < x.number)
+
+    -- each extent is as roots and writes found it, but where it was reset since
+    pub record SinceResets (writes : List Write) (roots : List Root) (pointer generation reset : ℕ → ℕ) : Type 0 where
+      -- at each place that a root covers the extent is still what it was, or was reset under a later root
+      pub fresh : (r : Root) → r ∈ roots → (h : Place) → Covers S r h
+          → Records S pointer generation h ⊎ (r.version < reset (S.extent h.page))
+      -- an extent that a root found in use has the generation that it had, or was reset under a later root
+      pub same_or_reset : (r : Root) → r ∈ roots → (e : ℕ) → 0 < r.pointers e
+          → (r.generations e ≡ generation e) ⊎ (r.version < reset e)
+      -- a page that was written lies below the pointer, or was written before the root of the extent's last reset
+      pub written_once : (x : Write) → x ∈ writes → (S.index x.page < pointer (S.extent x.page))
+          ⊎ ((r : Root) × (r ∈ roots) × (r.version ≡ reset (S.extent x.page))
+          × (x.number ≤ r.writes (section_of S x.page)))
+      -- nothing was written to an extent that is frozen now
+      pub unwritten : (e : ℕ) → frozen e (generation e) ≡ true → (x : Write) → x ∈ writes → S.extent x.page ≡ e → ⊥
+
+    -- extents keep to their bounds
+    pub record ExtentsInBounds (pointer generation reset : ℕ → ℕ) : Type 0 where
+      -- so that each can be spelled in a superblock
+      pub extents_fit : (e : ℕ) → FitsExtent (pointer e) (generation e)
+      -- only an extent that is there was ever reset
+      pub resets_there : (e : ℕ) → S.extents ≤ e → reset e ≡ 0
+      -- a frozen generation isn't a later one
+      pub frozen_before : (e g : ℕ) → frozen e g ≡ true → g ≤ generation e
+
     -- when a move may come
     abbrev pub Allowed : World → Move → Type 0
     -- the next page of its extent, which isn't frozen
@@ -67,83 +175,32 @@ module _ (S : Shape) where
         × Ready (log_of w.elements) w.persistent R
     Allowed w EndRound = Unit {0}
 
-    -- what every move keeps
+    -- what every move keeps, in groups, whose fields are its own too
     pub record Safe (w : World) : Type 0 where
-      -- each root is guarded at each place that it covers
-      pub guarded : (r : Root) → r ∈ roots_of w.elements → (h : Place) → Covers S r h
-          → Guarded S (log_of w.elements) r h
-      pub needed : (r : Root) → r ∈ roots_of w.elements → (e : ℕ) → Needed S (log_of w.elements) r e
-      -- and there the extent is still what it was, or was reset under a later root
-      pub fresh : (r : Root) → r ∈ roots_of w.elements → (h : Place) → Covers S r h
-          → Records S w.extents.pointer w.extents.generation h ⊎ (r.version < w.extents.reset (S.extent h.page))
-      -- a page that was written lies below the pointer, or was written before the root of the extent's last reset
-      pub written_once : (x : Write) → x ∈ writes_of w.elements
-          → (S.index x.page < w.extents.pointer (S.extent x.page))
-          ⊎ ((r : Root) × (r ∈ roots_of w.elements) × (r.version ≡ w.extents.reset (S.extent x.page))
-          × (x.number ≤ r.writes (section_of S x.page)))
-      -- a page is written again only behind a root that counts on the write before
-      pub rewritten : (x y : Write) → x ∈ writes_of w.elements → y ∈ writes_of w.elements
-          → x.page ≡ y.page → x.number < y.number
-          → (r : Root) × (r ∈ roots_of w.elements) × (r.version ≡ y.root) × (x.number ≤ r.writes (section_of S x.page))
-      -- an extent that a root found in use has the generation that it had, or was reset under a later root
-      pub same_or_reset : (r : Root) → r ∈ roots_of w.elements → (e : ℕ) → 0 < r.pointers e
-          → (r.generations e ≡ w.extents.generation e) ⊎ (r.version < w.extents.reset e)
-      -- where a root found an extent frozen, what was written there since needs a later root
-      pub written_later : (r : Root) → r ∈ roots_of w.elements → (e : ℕ) → frozen e (r.generations e) ≡ true
-          → 0 < r.pointers e → (x : Write) → x ∈ writes_of w.elements → S.extent x.page ≡ e
-          → (r.version < x.root) × (r.writes (S.section e) < x.number)
-      -- nothing was written to an extent that is frozen now, and a frozen generation isn't a later one
-      pub unwritten : (e : ℕ) → frozen e (w.extents.generation e) ≡ true
-          → (x : Write) → x ∈ writes_of w.elements → S.extent x.page ≡ e → ⊥
-      pub frozen_before : (e g : ℕ) → frozen e g ≡ true → g ≤ w.extents.generation e
-      -- what it locates was right as it was staged
-      pub good : (r : Root) → r ∈ roots_of w.elements → Good r (page_as_staged S r opened (writes_of w.elements))
-      -- numbers and versions rise
-      pub writes_below : (x : Write) → x ∈ writes_of w.elements → x.number ≤ w.written
-      pub superblocks_below : (u : Superblock) → u ∈ superblocks_of w.elements
-          → (u.version ≤ w.superblocks u.section) × (u.writes ≤ w.written)
-      pub roots_below : (r : Root) → r ∈ roots_of w.elements
-          → (r.version ≤ w.root) × ((j : ℕ) → r.superblocks j ≤ w.superblocks j) × ((j : ℕ) → r.writes j ≤ w.written)
-      pub behind_below : (j : ℕ) → w.behind j ≤ w.written
-      -- pointers, generations and versions keep to their bounds, so that each superblock can be spelled
-      pub extents_fit : (e : ℕ) → FitsExtent (w.extents.pointer e) (w.extents.generation e)
-      pub superblocks_fit : (u : Superblock) → u ∈ superblocks_of w.elements
-          → (1 ≤ u.version) × (u.version ≤ S.greatest_number) × ((e : ℕ) → FitsExtent (u.pointers e) (u.generations e))
-      -- sections are there, and no element needs a root that isn't staged
-      pub sections_there : (u : Superblock) → u ∈ superblocks_of w.elements → u.section < S.sections
-      pub write_roots : (x : Write) → x ∈ writes_of w.elements → x.root ≤ w.root
-      pub superblock_roots : (u : Superblock) → u ∈ superblocks_of w.elements → u.root ≤ w.root
-      pub reset_roots : (e : ℕ) → w.extents.reset e ≤ w.root
-      -- only an extent that is there was ever reset
-      pub resets_there : (e : ℕ) → S.extents ≤ e → w.extents.reset e ≡ 0
-      -- what a root needs was staged before it, so it needs earlier roots alone
-      pub earlier : (r : Root) (u : Superblock) → r ∈ roots_of w.elements → u ∈ superblocks_of w.elements
-          → u.version ≤ r.superblocks u.section → (q : ℕ) → r.version ≤ suc q
-          → (u.root ≤ q) × ((x : Write) → x ∈ writes_of w.elements → x.number ≤ u.writes → x.root ≤ q)
-      -- each version that isn't persistent is staged
-      pub superblocks_there : (j n : ℕ) → w.persistent.superblocks j < n → n ≤ w.superblocks j
-          → (u : Superblock) × (u ∈ superblocks_of w.elements) × (u.section ≡ j) × (u.version ≡ n)
-      pub roots_there : (n : ℕ) → w.persistent.root < n → n ≤ w.root
-          → (r : Root) × (r ∈ roots_of w.elements) × (r.version ≡ n)
-      -- plain writes go to pages of frames
-      pub frames : (x : Write) → x ∈ writes_of w.elements → S.kind x.page ≡ FramePage
-      -- the newest stands first
-      pub writes_order : Descends WriteBefore (writes_of w.elements)
-      pub superblocks_order : Descends SuperblockBefore (superblocks_of w.elements)
-      pub roots_order : Descends RootBefore (roots_of w.elements)
-      -- a later version needs what an earlier one needs
-      pub nested_superblocks : (u v : Superblock) → u ∈ superblocks_of w.elements → v ∈ superblocks_of w.elements
-          → u.section ≡ v.section → u.version ≤ v.version → (u.root ≤ v.root) × (u.writes ≤ v.writes)
-      pub nested_roots : (r q : Root) → r ∈ roots_of w.elements → q ∈ roots_of w.elements
-          → r.version ≤ q.version → (j : ℕ) → r.superblocks j ≤ q.superblocks j
-      -- a later root has no fewer commands
-      pub counts : (r q : Root) → r ∈ roots_of w.elements → q ∈ roots_of w.elements
-          → r.version ≤ q.version → r.commands ≤ q.commands
-      -- what is persistent is closed; so is all between it and the round
-      pub closed : Closed S (log_of w.elements) w.persistent
-      pub exact : Exact S.sections (log_of w.elements) w.persistent
-      pub round_exact : Exact S.sections (log_of w.elements) w.round
-      pub staged : IsStaged w w.persistent
-      pub round_staged : IsStaged w w.round
-      pub within : Within w.persistent w.round
-      pub ready : Ready (log_of w.elements) w.persistent w.round
+      -- what roots locate
+      pub guards : Guards (log_of w.elements)
+      pub open guards use *
+      pub reads : ReadsAsStaged (writes_of w.elements) (roots_of w.elements)
+      pub open reads use *
+      -- the extents
+      pub since_resets : SinceResets (writes_of w.elements) (roots_of w.elements) w.extents.pointer w.extents.generation
+          w.extents.reset
+      pub open since_resets use *
+      pub extents : ExtentsInBounds w.extents.pointer w.extents.generation w.extents.reset
+      pub open extents use *
+      -- numbers and versions
+      pub writes_rise : WritesRise (writes_of w.elements) w.written
+      pub open writes_rise use *
+      pub superblocks_rise : SuperblocksRise (superblocks_of w.elements)
+      pub open superblocks_rise use *
+      pub roots_rise : RootsRise (roots_of w.elements)
+      pub open roots_rise use *
+      pub below : KeepBelow (superblocks_of w.elements) (roots_of w.elements) w.written w.superblocks w.behind w.root
+      pub open below use *
+      pub needs : NeedStagedRoots (log_of w.elements) w.extents.reset w.root
+      pub open needs use *
+      -- what isn't persistent yet
+      pub there : AreThere (superblocks_of w.elements) (roots_of w.elements) w.superblocks w.root w.persistent
+      pub open there use *
+      pub round : ClosesRound (log_of w.elements) w.written w.superblocks w.root w.persistent w.round
+      pub open round use *

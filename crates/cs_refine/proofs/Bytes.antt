@@ -1,5 +1,5 @@
 -- What is kept for a frame's elements is what the machine writes for them.
-use Rattle.std.proofs.Common.{◌≡◌, inl, inr, ⊎_elim, ◌⊎◌, ℕ, suc, ◌+◌, ◌<◌, ◌≤◌, List, [], ◌∷◌, length, Some, get_or, if◌then◌else◌, false, eq-eqb, refl, sym, ap, ◌∙◌, subst, arith}
+use Rattle.std.proofs.Common.{◌≡◌, inl, inr, ⊎_elim, ◌⊎◌, ℕ, suc, ◌+◌, ◌<◌, ◌≤◌, List, [], ◌∷◌, length, Some, get_or, false, refl, sym, ap, ◌∙◌, subst, arith}
 use Rattle.std.specs.Prelude.{slice_index_or}
 use Rattle.std.proofs.lemmas.Option.{same_Some}
 use Rattle.cs_deps.specs.declared.elements.Element.TheVariants.{Plain, Version}
@@ -21,22 +21,9 @@ use Rattle.cs_frame.specs.declared.locators.Locator.{Locator}
 use Rattle.cs_extent.specs.Appended.{IsAppended}
 use Rattle.cs_extent.specs.Frames.{IsOfFrame, next_superblock, superblock_family}
 use Rattle.cs_extent.specs.State.{State, extents_of, need_of, shape}
+use Rattle.cs_image.proofs.Superblocks.{all_listed}
 use Rattle.cs_refine.specs.Bridge.{family_of, name}
 use Rattle.cs_refine.specs.Stores.{AreWritesOf, IsStagingOf, IsWorldOf}
-
--- the list of extents that one section speaks of
-pub all_listed : (speaks pointers generations : ℕ → ℕ) (first : ℕ) (rows : List (ℕ × ℕ)) → ((e : ℕ) → speaks e ≡ 0)
-    → ((k : ℕ) → (pointers (first + k), generations (first + k)) ≡ slice_index_or rows k (0, 0))
-    → listed_extents speaks pointers generations 0 first (length rows) ≡ rows
-all_listed speaks pointers generations first [] one each = refl
-all_listed speaks pointers generations first (row ∷ rows) one each =
-    ap (λ b. if b then (pointers first, generations first) ∷ listed_extents speaks pointers generations 0 (suc first) (length rows)
-    else listed_extents speaks pointers generations 0 (suc first) (length rows))
-    (eq-eqb (speaks first) 0 (one first))
-    ∙ ap (λ (r : ℕ × ℕ). r ∷ listed_extents speaks pointers generations 0 (suc first) (length rows))
-    (ap (λ (n : ℕ). (pointers n, generations n)) (let n : first ≡ first + 0 = omega arith in n) ∙ each 0)
-    ∙ ap (λ (l : List (ℕ × ℕ)). row ∷ l) (all_listed speaks pointers generations (suc first) rows one
-    (λ k. ap (λ (n : ℕ). (pointers n, generations n)) (let n : suc first + k ≡ first + suc k = omega arith in n) ∙ each (suc k)))
 
 -- page k of those that are staged from page i of e on, after n plain writes
 pub record IsPage (S : Shape) (e i n : ℕ) (bs : List Page) (m : Element) : Type 0 where

@@ -107,11 +107,7 @@ module _ (S : Shape) (F : Formats) (s : State) (disk : DiskState) (is : IsDiskOf
 
   other_extents : (v : World) → Stays S F s.world.persistent s.opened s.world v → (extents : Extents)
       → Stays S F s.world.persistent s.opened s.world (record v { extents = extents })
-  other_extents v stays extents = record {
-    same = stays.same;
-    staged = record { writes = stays.staged.writes; superblocks = stays.staged.superblocks; root = stays.staged.root };
-    persistent = stays.persistent;
-  }
+  other_extents v stays extents = record { same = stays.same; staged = stays.staged; persistent = stays.persistent }
 
   here : (t u : State) → t ≡ u → IsDiskOf S F u disk → IsDiskOf S F t disk
   here t u same was = subst (λ (z : State). IsDiskOf S F z disk) (sym same) was

@@ -1,16 +1,15 @@
 -- What is staged changes nothing of the image of what is persistent.
-use Rattle.std.proofs.Common.{◌≡◌, inl, inr, ℕ, suc, ◌<◌, ◌≤◌, Bool, true, false, ◌&&◌, ◌==◌, nat_le, List, [], ◌∷◌, refl, sym, ◌∙◌, subst, arith}
+use Rattle.std.proofs.Common.{◌≡◌, inl, inr, ℕ, suc, ◌<◌, ◌≤◌, le_refl, Bool, true, false, ◌&&◌, ◌==◌, nat_le, List, [], ◌∷◌, refl, sym, ◌∙◌, subst, arith}
 use Rattle.std.proofs.lemmas.Bool.{cases_eq, false_from_ne_true}
 use Rattle.std.proofs.lemmas.Bool.Decides.{nat_tests}
 use Rattle.cs_model.proofs.ClosedSets.{gt-leb}
-use Rattle.cs_model.proofs.Parts.{with_other, with_same}
+use Rattle.cs_model.proofs.Parts.{grows, still_staged}
 use Rattle.cs_model.specs.Append.{Append, AppendAll, MergesTo, stage_pages}
 use Rattle.cs_model.specs.Cut.{Cut}
 use Rattle.cs_model.specs.Device.{FramePage, Page, PageKind, RootPage, SectionPage, Shape}
 use Rattle.cs_model.specs.Element.{A_root, A_superblock, A_write, Element, Entry, Locator, Map, Root, Run, Superblock, Write, log_of}
 use Rattle.cs_model.specs.Extents.{Purpose}
 use Rattle.cs_model.specs.Formats.{Formats, image, image_at}
-use Rattle.cs_model.specs.Lists.{with}
 use Rattle.cs_model.specs.Machine.{StagePage, StageRoot, StageSuperblock, World, happens, root_now, superblock_now, write_now}
 use Rattle.cs_model.specs.Safe.{IsStaged}
 
@@ -67,29 +66,21 @@ module _ (S : Shape) (F : Formats) (P : Cut) (opened : ℕ → Page) where
   page_stays w p b staged = record {
     same = λ q. write_outside (write_now S w p b) w.elements q
         (false_from_ne_true (P.writes (suc w.written)) (λ is. let le : suc w.written ≤ w.written = staged.writes (suc w.written) is in omega arith));
-    staged = record { writes = λ n is. (let le : n ≤ w.written = staged.writes n is in omega arith); superblocks = staged.superblocks; root = staged.root };
+    staged = still_staged staged (omega arith) (λ j. le_refl _) (le_refl _);
     persistent = refl;
   }
 
   superblock_stays : (w : World) (j need : ℕ) → IsStaged S w P → Stays w (happens S w (StageSuperblock j need))
   superblock_stays w j need staged = record {
     same = λ q. superblock_outside (superblock_now S w j need) w.elements q (let le : P.superblocks j ≤ w.superblocks j = staged.superblocks j in omega arith);
-    staged = record {
-      writes = staged.writes;
-      superblocks = λ i. (let le : P.superblocks i ≤ w.superblocks i = staged.superblocks i in elim (cases_eq i j) [
-        | inl is ↦ (let up : with w.superblocks j (suc (w.superblocks j)) i ≡ suc (w.superblocks j) = with_same w.superblocks j (suc (w.superblocks j)) i is in
-            let low : P.superblocks i ≤ w.superblocks j = subst (λ (k : ℕ). P.superblocks i ≤ w.superblocks k) is le in omega arith)
-        | inr not ↦ (let up : with w.superblocks j (suc (w.superblocks j)) i ≡ w.superblocks i = with_other w.superblocks j (suc (w.superblocks j)) i not in omega arith)
-      ]);
-      root = staged.root;
-    };
+    staged = still_staged staged (le_refl _) (λ i. grows w.superblocks j (suc (w.superblocks j)) i (omega arith)) (le_refl _);
     persistent = refl;
   }
 
   pub root_stays : (w : World) (n : ℕ) (runs : List Run) (m : Map) (pointers : ℕ → ℕ) → IsStaged S w P → Stays w (happens S w (StageRoot n runs m pointers))
   root_stays w n runs m pointers staged = record {
     same = λ q. root_outside (root_now w n runs m pointers) w.elements q (let le : P.root ≤ w.root = staged.root in omega arith);
-    staged = record { writes = staged.writes; superblocks = staged.superblocks; root = (let le : P.root ≤ w.root = staged.root in omega arith) };
+    staged = still_staged staged (le_refl _) (λ j. le_refl _) (omega arith);
     persistent = refl;
   }
 
@@ -106,7 +97,7 @@ module _ (S : Shape) (F : Formats) (P : Cut) (opened : ℕ → Page) where
       let pages = pages_stay bs w a.extent (w.extents.pointer a.extent) staged in
       let last = superblock_stays mid (S.section a.extent) a.need pages.staged in
       let all = stays_more w mid (happens S mid (StageSuperblock (S.section a.extent) a.need)) pages last in
-      record { same = all.same; staged = record { writes = all.staged.writes; superblocks = all.staged.superblocks; root = all.staged.root }; persistent = all.persistent })
+      record { same = all.same; staged = all.staged; persistent = all.persistent })
 
   pub appends_stay : (w v : World) (purpose : Purpose) (frames : List (List Page)) (ls : List Locator) → IsStaged S w P → AppendAll S w purpose frames ls v → Stays w v
   appends_stay w v purpose [] [] staged is = subst (λ (u : World). Stays w u) (sym is) (stays_still w staged)

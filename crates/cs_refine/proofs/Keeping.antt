@@ -55,7 +55,7 @@ module _ (F : Formats) (s : State) (x : ExtentsState) (g h : GraphState) (round 
     families = is.staging.families;
     superblock = is.staging.superblock;
     root = is.staging.root;
-    persistent = record { writes = sound.safe.round_staged.writes; superblocks = sound.safe.round_staged.superblocks; root = sound.safe.round_staged.root };
+    persistent = sound.safe.round_staged;
     numbers = is.staging.numbers;
     superblocks = is.staging.superblocks;
     roots = is.staging.roots;
