@@ -1,13 +1,24 @@
--- Which events don't answer that the disk failed.
-use Rattle.std.proofs.Common.{◌≢◌, ℕ}
+-- Which events don't answer that the disk failed, and what a write that failed leaves.
+use Rattle.std.proofs.Common.{◌≡◌, ◌≢◌, ◌⊎◌, inl, inr, ℕ, List, Some}
+use Rattle.std.specs.Prelude.{slice_get}
+use Rattle.cs_deps.specs.declared.elements.Element.{Element as Name}
 use Rattle.cs_deps.specs.declared.refusals.Refusal.TheVariants as code
+use Rattle.cs_deps.specs.State.{write_of}
+use Rattle.cs_disk.specs.Disk.{State as DiskState, written}
 use Rattle.cs_core.specs.declared.events.Event.TheVariants.{Settle}
 use Rattle.cs_core.specs.declared.events.Reply.{Reply}
 use Rattle.cs_core.specs.declared.events.Reply.TheVariants.{Refused}
 use Rattle.cs_core.specs.Answered.{IsAnswered}
-use Rattle.cs_core.specs.Stored.{Stored}
+use Rattle.cs_core.specs.Asked.{IsMemberWritten}
+use Rattle.cs_core.specs.Stored.{Stored, members_of, settled_rooms}
 
 pub settle_never : (v w : Stored) (n : ℕ) (r : Reply) → IsAnswered v (Settle n) r w → r ≢ Refused code.DeviceFault
 unfolding IsAnswered
 settle_never v w n (Refused f) is = λ fault. let a = is.0 in cc (a, fault)
 settle_never v w n r is = λ fault. cc fault
+
+-- the member of a write that failed may be there or not
+pub fault_asks : (v : Stored) (x : Name) → slice_get (members_of v.out) v.issued ≡ Some x → (p : ℕ) (bytes : List ℕ) → write_of v.graph x ≡ Some (p, bytes)
+    → (disk after : DiskState) → (after ≡ disk) ⊎ (after ≡ written disk p bytes) → (after ≡ disk) ⊎ ((y : Name) × (q : ℕ) × IsMemberWritten (settled_rooms v) disk y q after)
+fault_asks v x next p bytes kept disk after (inl same) = inl same
+fault_asks v x next p bytes kept disk after (inr done) = inr (x, p, record { next = next; bytes = bytes; kept = kept; write = done })

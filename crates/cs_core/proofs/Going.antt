@@ -1,7 +1,8 @@
 -- How a store goes on from one state of the machine to the next.
 use Rattle.std.proofs.Common.{◌≡◌, ◌⊎◌, inl, inr, ⊎_elim, ℕ, suc, ◌+◌, Bool, true, false, List, [], ◌∷◌, ◌++◌, length, map, take, drop, refl, sym, ap, ◌∙◌, subst}
-use Rattle.std.specs.Prelude.{Contains, is_some}
+use Rattle.std.specs.Prelude.{Contains, Option, is_some}
 use Rattle.std.proofs.lemmas.List.Elements.{Contains-append_left, Contains-push, Contains-push_cases}
+use Rattle.cs_deps.specs.declared.elements.Element.{Element as Name}
 use Rattle.cs_deps.specs.State.{State as GraphState}
 use Rattle.cs_extent.specs.State.{IsWhole, State as ExtentsState, shape}
 use Rattle.cs_frame.specs.Formats.{formats_of}
@@ -114,6 +115,12 @@ goes_on v w s t event reply whole is step same parts beside out issued halted ba
       frontier = subst (λ (S : Shape). IsFrontier S (formats_of S) t w.frontier) (sym same) frontier;
       roots = roots;
     }
+
+-- ---- the round that is out
+
+-- what is so of a store is so where its graph tells the round that is out
+pub round_told : (P : Stored → Type 0) (w : Stored) → w.graph.round ≡ w.out → P w → P (record w { out = w.graph.round })
+round_told P w same is = subst (λ (out : Option (List Name)). P (record w { out = out })) (sym same) is
 
 -- ---- room
 

@@ -1,5 +1,5 @@
 -- What a move of a chunk keeps.
-use Rattle.std.proofs.Common.{◌≡◌, ◌⊎◌, inl, inr, ⊎_elim, ℕ, zero, suc, List, [], ◌∷◌, Some, None, Ok, Err, length, refl, sym, subst}
+use Rattle.std.proofs.Common.{◌≡◌, ◌⊎◌, inl, inr, ⊎_elim, ℕ, zero, suc, List, [], ◌∷◌, Some, None, Ok, Err, ap, length, refl, sym, subst}
 use Rattle.std.specs.Prelude.{OnErr, OnOk, Option, Result}
 use Rattle.cs_deps.specs.declared.refusals.Refusal.{Refusal as Code}
 use Rattle.cs_deps.specs.State.{State as GraphState}
@@ -50,6 +50,16 @@ module _ (v : Stored) (kept : IsKept v) (e : ℕ) (y : ExtentsState) (h : GraphS
       (moves_refused v.extents v.graph y h unwritten unstaged) resets families limit
       (inside_live (shape v.extents) v.index j kept.places (same_live v.index j refused)) refl refl kept.numbers
       (subst (λ (x : ExtentsState). AreSwept x) (sym unwritten) kept.swept)
+
+-- the round that is out stays
+pub move_round : (i : IndexState) (x : ExtentsState) (g : GraphState) (e : ℕ) (j : IndexState) (y : ExtentsState) (h : GraphState) (result : Result (Option (ShardId × ℕ)) Code)
+    → (result ≡ Ok None → (j ≡ i) × (y ≡ x) × (h ≡ g))
+    → ((id : ShardId) (k : ℕ) → result ≡ Ok (Some (id, k)) → (payload : List ℕ) × IsMoved i x g e (id_number id) k payload j y h)
+    → OnErr result (h ≡ record g { room = h.room }) → h.round ≡ g.round
+move_round i x g e j y h (Ok None) unchanged moved unstaged = ap (λ (k : GraphState). k.round) (unchanged refl).2
+move_round i x g e j y h (Ok (Some (id, k))) unchanged moved unstaged =
+    let m = moved id k refl in (moves_appended x g ForMove (chunk_frame x m.0) m.1.to y h m.1.appended).round
+move_round i x g e j y h (Err r) unchanged moved unstaged = ap (λ (k : GraphState). k.round) unstaged
 
 -- what a move stages
 pub move_behind : (i : IndexState) (x : ExtentsState) (g : GraphState) (e : ℕ) (j : IndexState) (y : ExtentsState) (h : GraphState) (result : Result (Option (ShardId × ℕ)) Code)

@@ -140,9 +140,9 @@ no_runs x view places runs k place r older many at why =
 -- a store that is made of its parts
 pub opened_is : (version pages : ℕ) (written : List (ℕ × ℕ)) (root commands limit : ℕ) (runs : List StoredRun) (g : GraphState) (x : ExtentsState) (i : IndexState) (roots : List Noted)
     → g ≡ graph_at version root → x ≡ extents_at pages written → limit ≡ (4096 * pages - 45) / 81 → i ≡ index_at (newest_first runs) limit → roots ≡ record { version = root; commands = 0 } ∷ []
-    → record { graph = g; extents = x; index = i; roots = roots; out = None; issued = 0; base = commands; accepted = 0; frontier = 0; halted = false } ≡ opened_stored version pages written root commands runs
+    → record { graph = g; extents = x; index = i; roots = roots; out = g.round; issued = 0; base = commands; accepted = 0; frontier = 0; halted = false } ≡ opened_stored version pages written root commands runs
 opened_is version pages written root commands limit runs g x i roots graph extents most index noted =
-    ap (λ (k : GraphState). record { graph = k; extents = x; index = i; roots = roots; out = None; issued = 0; base = commands; accepted = 0; frontier = 0; halted = false }) graph
+    ap (λ (k : GraphState). record { graph = k; extents = x; index = i; roots = roots; out = k.round; issued = 0; base = commands; accepted = 0; frontier = 0; halted = false }) graph
     ∙ ap (λ (k : ExtentsState). record { graph = graph_at version root; extents = k; index = i; roots = roots; out = None; issued = 0; base = commands; accepted = 0; frontier = 0; halted = false }) extents
     ∙ ap (λ (k : IndexState). record { graph = graph_at version root; extents = extents_at pages written; index = k; roots = roots; out = None; issued = 0; base = commands; accepted = 0; frontier = 0; halted = false }) (index ∙ ap (λ (n : ℕ). index_at (newest_first runs) n) most)
     ∙ ap (λ (rs : List Noted). record { graph = graph_at version root; extents = extents_at pages written; index = index_at (newest_first runs) ((4096 * pages - 45) / 81); roots = rs; out = None; issued = 0; base = commands; accepted = 0; frontier = 0; halted = false }) noted

@@ -1,9 +1,10 @@
 -- The members of a round, in the order in which the code has them.
 use Rattle.std.proofs.Common.{◌≡◌, inl, inr, ⊎_elim, ℕ, zero, suc, ◌<◌, List, [], ◌∷◌, ◌++◌, Some, None, length, map, take, drop, refl, sym, ap, ◌∙◌, subst, arith}
-use Rattle.std.specs.Prelude.{Contains, Option, option_map, slice_get}
+use Rattle.std.specs.Prelude.{◌↔◌, Contains, Err, IsSome, Ok, Option, option_map, slice_get}
 use Rattle.std.proofs.lemmas.Bool.Decides.{nat_tests}
 use Rattle.cs_deps.specs.declared.elements.Element.{Element as Name}
 use Rattle.cs_deps.specs.declared.elements.Element.TheVariants.{Plain, Version}
+use Rattle.cs_deps.specs.declared.refusals.Refusal.TheVariants.{InFlight}
 use Rattle.cs_deps.specs.Staging.{settled}
 use Rattle.cs_deps.specs.State.{IsWhole as IsWholeGraph, KeepsBytes, State as GraphState, after, after_round}
 use Rattle.cs_core.specs.Stored.{members_of}
@@ -109,6 +110,11 @@ none_of (x ∷ xs) none = absurd (omega (arith, none))
 
 pub some_of : {A : Type 0} (xs : List A) → (length xs ≡ 0 → ⊥) → xs ≡ [] → ⊥
 some_of xs some none = some (ap length none)
+
+-- no round is out where that wasn't the refusal
+pub not_out : {T : Type 0} (x : T) (out : Option (List Name)) → (Ok x ≡ Err InFlight) ↔ IsSome out → out ≡ None
+not_out x None flies = refl
+not_out x (Some round) flies = let clash : Ok x ≡ Err InFlight = flies.1 refl in absurd (cc clash)
 
 -- the page and the bytes of a write that is kept
 pub write_parts : (kept : Option (ℕ × List ℕ)) (p : ℕ) (bytes : List ℕ) → option_map (λ w. w.0) kept ≡ Some p → option_map (λ w. w.1) kept ≡ Some bytes → kept ≡ Some (p, bytes)

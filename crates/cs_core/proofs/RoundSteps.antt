@@ -3,6 +3,7 @@ use Rattle.std.proofs.Common.{◌≡◌, ◌≢◌, ◌⊎◌, inl, inr, ⊎_eli
 use Rattle.std.specs.Prelude.{Contains, Option, is_some, slice_get, slice_index}
 use Rattle.cs_deps.specs.declared.elements.Element.{Element as Name}
 use Rattle.cs_deps.specs.declared.elements.Element.TheVariants.{Plain, Version}
+use Rattle.cs_deps.specs.declared.refusals.Refusal.{Refusal as Code}
 use Rattle.cs_deps.specs.declared.refusals.Refusal.TheVariants as code
 use Rattle.cs_deps.specs.Staging.{settled}
 use Rattle.cs_deps.specs.State.{AddsNone, IsQueue, IsWhole as IsWholeGraph, State as GraphState, write_of}
@@ -37,6 +38,7 @@ use Rattle.cs_core.specs.declared.roots.Root.{Root as Noted}
 use Rattle.cs_core.specs.Frontiers.{IsReached, IsRootPersistent}
 use Rattle.cs_core.specs.States.{AreRootsOf, IsStateOf}
 use Rattle.cs_core.specs.Rounds.{EndAnswers, IssueAnswers}
+use Rattle.cs_core.specs.Steps.{Declines}
 use Rattle.cs_core.specs.Stored.{Stored, members_of}
 use Rattle.cs_core.proofs.Going.{going, no_more, pass}
 use Rattle.cs_core.proofs.Members.{are_names, drop_all, drop_left, drop_none, drop_some, map_next, map_none, map_push, member_waits, take_all_of, take_more}
@@ -171,15 +173,15 @@ module _ (v : Stored) (s : State) (whole : IsWhole v.extents) (is : IsStateOf v 
             },
           )
 
-  -- the same, where the round was copied twice
-  pub begin_copied : v.out ≡ None → v.out ≡ v.graph.round → IsWholeGraph v.graph → (h : GraphState) (round asked noted held : List Name) → IsQueue v.graph.staging.pending 1 round → round ≢ [] → h.staging ≡ v.graph.staging → AddsNone v.graph h → h.round ≡ Some round
-      → asked ≡ round → noted ≡ round → held ≡ round
+  -- the same, where the round was copied twice, and the graph tells it
+  pub begin_copied : v.out ≡ None → v.out ≡ v.graph.round → IsWholeGraph v.graph → (h : GraphState) (round asked noted : List Name) → IsQueue v.graph.staging.pending 1 round → round ≢ [] → h.staging ≡ v.graph.staging → AddsNone v.graph h → h.round ≡ Some round
+      → asked ≡ round → noted ≡ round
       → (members : List Element) × (t : State) × (map name members ≡ asked) × (map name members ≡ noted)
       × Step (shape v.extents) (formats_of (shape v.extents)) s Begin (Begun members) t
-      × IsStateOf (record v { graph = h; out = Some held; issued = 0 }) t
-  begin_copied none same_round graph h round asked noted held queue some same adds out a n b =
+      × IsStateOf (record v { graph = h; out = h.round; issued = 0 }) t
+  begin_copied none same_round graph h round asked noted queue some same adds out a n =
       let done = begin_done none same_round graph h round queue some same adds out in
-      (done.0, done.1, done.2 ∙ sym a, done.2 ∙ sym n, done.3, subst (λ (xs : List Name). IsStateOf (record v { graph = h; out = Some xs; issued = 0 }) done.1) (sym b) done.4)
+      (done.0, done.1, done.2 ∙ sym a, done.2 ∙ sym n, done.3, subst (λ (o : Option (List Name)). IsStateOf (record v { graph = h; out = o; issued = 0 }) done.1) (sym out) done.4)
 
   -- ---- Issue
 
@@ -427,6 +429,10 @@ module _ (v : Stored) (s : State) (whole : IsWhole v.extents) (is : IsStateOf v 
                 frontier_counted v.extents h v.index s z k f v.roots is.sound is.roots parts front same count reached
 
 -- ---- the answers of the calls
+pub begin_declines : (v : Stored) (whole : IsWhole v.extents) (runs : v.halted ≡ false) (r : Code) → (r ≡ code.InFlight → is_some v.out ≡ true) → (r ≡ code.InFlight) ⊎ (r ≡ code.OutOfMemory) → Declines v Begin r v
+begin_declines v whole runs r out (inl e) = inr (InFlight, e, λ s is. (s, begin_out v s whole is runs (out e), is))
+begin_declines v whole runs r out (inr e) = inl e
+
 pub issue_answers : (v : Stored) (whole : IsWhole v.extents) (runs : v.halted ≡ false) (graph : IsWholeGraph v.graph) (x : Name) (next : slice_get (members_of v.out) v.issued ≡ Some x) (p : ℕ) (bytes : List ℕ)
     → write_of v.graph x ≡ Some (p, bytes) → (disk after : DiskState) → after ≡ written disk p bytes → IssueAnswers v disk (Ok (x, p)) (record v { issued = v.issued + 1 }) after
 unfolding IssueAnswers

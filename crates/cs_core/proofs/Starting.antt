@@ -138,9 +138,9 @@ new_index_is extents pages limit runs i same none is = is
 -- a new store, from its parts
 pub new_is : (extents pages : ℕ) (g : GraphState) (x : ExtentsState) (i : IndexState) (roots : List Noted) → g ≡ (new_stored extents pages).graph → x ≡ (new_stored extents pages).extents → i ≡ (new_stored extents pages).index
     → roots ≡ record { version = 1; commands = 0 } ∷ []
-    → record { graph = g; extents = x; index = i; roots = roots; out = None; issued = 0; base = 0; accepted = 0; frontier = 0; halted = false } ≡ new_stored extents pages
+    → record { graph = g; extents = x; index = i; roots = roots; out = g.round; issued = 0; base = 0; accepted = 0; frontier = 0; halted = false } ≡ new_stored extents pages
 new_is extents pages g x i roots graph extents_are index noted =
-    ap (λ (k : GraphState). record { graph = k; extents = x; index = i; roots = roots; out = None; issued = 0; base = 0; accepted = 0; frontier = 0; halted = false }) graph
+    ap (λ (k : GraphState). record { graph = k; extents = x; index = i; roots = roots; out = k.round; issued = 0; base = 0; accepted = 0; frontier = 0; halted = false }) graph
     ∙ ap (λ (k : ExtentsState). record { graph = (new_stored extents pages).graph; extents = k; index = i; roots = roots; out = None; issued = 0; base = 0; accepted = 0; frontier = 0; halted = false }) extents_are
     ∙ ap (λ (k : IndexState). record { graph = (new_stored extents pages).graph; extents = (new_stored extents pages).extents; index = k; roots = roots; out = None; issued = 0; base = 0; accepted = 0; frontier = 0; halted = false }) index
     ∙ ap (λ (rs : List Noted). record { graph = (new_stored extents pages).graph; extents = (new_stored extents pages).extents; index = (new_stored extents pages).index; roots = rs; out = None; issued = 0; base = 0; accepted = 0; frontier = 0; halted = false }) noted

@@ -79,4 +79,5 @@ WritesBack old End (Ended n) new = IsRoundEnded n old new
 WritesBack old (MoveOne e) (Moved id chunk) new = KeepsRound old new × Stages old new
 WritesBack old (MoveOne e) NoneLive new = new ≡ old
 WritesBack old (Retire e) (Retired v) new = (new.index.table ≡ []) × KeepsRound old new × Stages old new
+-- BeginSweep and Abandon; the other pairs that are left are no answers
 WritesBack old event reply new = KeepsRound old new × KeepsStaging old new

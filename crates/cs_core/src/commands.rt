@@ -1,9 +1,9 @@
 //! Puts and deletes.
-ghost use Rattle.std.specs.Prelude.{◌≡◌, ◌≢◌, ◌+◌, ◌*◌, ◌^◌, ◌<◌, ◌≤◌, ◌⊎◌, ◌↔◌, [], IfErr, IfOk, IsTrue, MatchBool, MatchOption, OnErr, OnOk, None, false, length, map, vec_len};
+ghost use Rattle.std.specs.Prelude.{◌≡◌, ◌≢◌, ◌+◌, ◌*◌, ◌^◌, ◌<◌, ◌≤◌, ◌⊎◌, ◌↔◌, [], IfErr, IfOk, IsTrue, MatchOption, OnErr, OnOk, None, false, length, map, vec_len};
 ghost use Rattle.cs_extent.specs.State.{IsWhole, shape};
 ghost use Rattle.cs_frame.specs.Formats.{place_of};
 ghost use Rattle.cs_index.specs.State.{IsSet, id_number, index_of};
-ghost use Rattle.cs_model.specs.Index.{live_at, lookup, names};
+ghost use Rattle.cs_model.specs.Index.{lookup, names};
 ghost use Rattle.cs_model.specs.State.{Accepted, Delete, Put};
 ghost use Rattle.cs_core.specs.Steps.{Answers, deleted_or_not};
 ghost use Rattle.cs_core.specs.Stored.{IsWhyWorn, settled_rooms};
@@ -64,7 +64,7 @@ impl Store {
     {
         // Its contract tells what all extents keep.
         self.extents.extent_count();
-        if !is_live(&self.index, id) {
+        if !self.index.is_live(id) {
             return Ok(None);
         }
         if self.is_worn() {
@@ -78,16 +78,6 @@ impl Store {
             Ok(false) => unreachable!(),
             Err(_) => Err(Refusal::OutOfMemory),
         }
-    }
-}
-
-/// Whether an identifier has locators.
-fn is_live(index: &Index, id: ShardId) -> bool
-    ensures { MatchBool result (live_at (index_of index.now) (id_number id) ≢ []) (live_at (index_of index.now) (id_number id) ≡ []) }
-{
-    match index.lookup(id) {
-        Some(places) => !places.is_empty(),
-        None => false,
     }
 }
 

@@ -3,9 +3,9 @@
 //! **What a crash leaves.** Take a core on an honest disk that was opened on an image in which no shard is damaged, and any events.
 //! Whenever it stops, in the middle of an event or after one, what the crash leaves on the disk can be opened again, unless memory
 //! or the device refuses. It is then the map after the first n of the commands accepted since, and counts n more than the image did:
-//! n isn't below the frontier, which no acknowledged number exceeds, nor above the number of commands accepted. That the image is such
-//! a one say the clauses `crash` and `left` of `Core::apply`, of many calls one after another `a_crash_of_a_run_leaves_a_prefix`; that
-//! it is opened as that says `recovers` of `Core::open`.
+//! n isn't below the frontier, which no acknowledged number exceeds, nor above the number of commands accepted. The clauses `crash` and
+//! `left` of `Core::apply` say that the image is such a one; `a_crash_of_a_run_leaves_a_prefix` says it of many calls in a row;
+//! `recovers` of `Core::open` says that such an image is opened so.
 ghost use Rattle.std.specs.Prelude.{All, IfErr, IfOk, IsOk, IsSome, IsTrue, MatchOption, MatchResult, None, OnErr, OnOk, Some, [], length, take, ℕ, ◌*◌, ◌+◌, ◌<◌, ◌^◌, ◌↔◌, ◌≡◌, ◌≢◌, ◌≤◌, ◌⊎◌};
 ghost use Rattle.cs_refine.specs.Crashes.{IsPrefix};
 ghost use Rattle.cs_chunk.specs.Reads.{IsNoAnswer};
@@ -44,6 +44,7 @@ use crate::stores::Store;
 use cs_deps::{Dependency, Element, GraphView, Plan, Refusal};
 use cs_disk::{DiskFault, PageDisk};
 use cs_frame::{Geometry, ShardId};
+use cs_reclaim::is_sweepable;
 use std::alloc::{AllocError, Global};
 use std::marker::Model;
 use std::snapshot::Snapshot;
@@ -136,7 +137,8 @@ impl<D: PageDisk> Core<D> {
     /// pages, before the disk is asked for anything; 20 to 24 for page 0; 43 where the disk hasn't the superblock's pages;
     /// 20 to 24 for page 1; for each run, the oldest first, 43 where its locator is of no frame, and 20 to 25 for its
     /// pages; 43 where a locator of an entry is of no frame, or where more identifiers are named than one run may name.
-    /// 1 DeviceFault and 9 OutOfMemory may come in place of any but the first. The index is all that is kept in memory.
+    /// 1 DeviceFault and 9 OutOfMemory may come in place of any but the first. Of what was read the superblock's
+    /// pointers, the root's numbers and the index are kept in memory.
     pub fn open(alloc: Global, disk: D, limits: Limits) -> Result<Self, (Refusal, D)>
         ensures new { IfOk result (λ core. (core.history ≡ []) × (core.limit ≡ limits.history)) }
         ensures image { IfOk result (λ core. D.honest disk → (core.opened ≡ seen (D.state disk)) × (D.state core.disk ≡ flushed (D.state disk))) }
@@ -384,11 +386,7 @@ impl<D: PageDisk> Core<D> {
         ensures may { IsTrue result → ¬ IsNotSweepable (shape self.now.store.extents) (extents_of self.now.store.extents) extent }
         ensures not { ¬ (IsTrue result) → IsNotSweepable (shape self.now.store.extents) (extents_of self.now.store.extents) extent }
     {
-        let extents = &self.store.extents;
-        extent < extents.extent_count()
-            && extents.pointer(extent) > 0
-            && !extents.is_open(extent)
-            && !extents.is_swept(extent)
+        is_sweepable(&self.store.extents, extent)
     }
 
     /// How many page writes are kept in memory; where no round is out, one for each plain write that waits, and at each height

@@ -53,7 +53,8 @@ pub enum Event {
 }
 
 impl Event {
-    /// Whether the disk is read, written or flushed for it, of the events that a halted core refuses.
+    /// Whether it is Issue, End or MoveOne: those that use the disk, of the events that a halted core refuses. Get uses it too, and
+    /// isn't refused then.
     pub fn is_for_device(&self) -> bool
         ensures { MatchBool result (IsForDevice self.now) (¬ IsForDevice self.now) }
     {
@@ -119,6 +120,7 @@ pub enum Reply {
     Persistent,
     /// It isn't; commands up to this one are.
     NotYet(u64),
-    /// The event was refused, and nothing has changed.
+    /// The event was refused, and nothing has changed; but after 1 DeviceFault an Issue or End has halted the core, and the write that
+    /// failed may be among the volatile ones.
     Refused(Refusal),
 }

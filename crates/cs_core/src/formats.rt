@@ -51,7 +51,6 @@ pub fn new_store(alloc: Global, geometry: Geometry) -> Result<NewStore, AllocErr
         extents,
         index,
         roots,
-        out: None,
         issued: 0,
         base: 0,
         accepted: 0,

@@ -79,7 +79,7 @@ pub fn load_store(
     if !are_located(&extents, &runs) {
         return Err(Refusal::NotAStore);
     }
-    let limit = (4096 * extents.extent_pages() - 45) / 81;
+    let limit = extents.geometry().named_limit();
     let index = match Index::load(alloc, limit, runs) {
         Ok(index) => index,
         Err(refusal) => return Err(refusal),
@@ -97,7 +97,6 @@ pub fn load_store(
             extents,
             index,
             roots,
-            out: None,
             issued: 0,
             base: root.commands,
             accepted: 0,

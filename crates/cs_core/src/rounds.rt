@@ -1,5 +1,5 @@
 //! Rounds of writeback.
-ghost use Rattle.std.specs.Prelude.{◌≡◌, ◌≢◌, ◌+◌, ◌<◌, ◌≤◌, ◌⊎◌, ◌↔◌, [], IfOk, IfErr, IfSome, MatchBool, MatchOption, MatchResult, OnErr, OnOk, IsErrOf, None, Some, false, true, length, slice_get, option_map};
+ghost use Rattle.std.specs.Prelude.{◌≡◌, ◌≢◌, ◌+◌, ◌^◌, ◌<◌, ◌≤◌, ◌⊎◌, ◌↔◌, [], IfOk, IfErr, IfSome, MatchBool, MatchOption, MatchResult, OnErr, OnOk, IsErrOf, None, Some, false, true, length, slice_get, option_map};
 ghost use Rattle.cs_chunk.specs.Reads.{IsCaused};
 ghost use Rattle.cs_deps.specs.State.{IsQueue};
 ghost use Rattle.cs_disk.specs.Disk.{Elapses, flushed, written};
@@ -33,9 +33,6 @@ impl Store {
         // Their contracts tell what all extents and every graph keep.
         self.extents.extent_count();
         self.graph.families();
-        if self.out.is_some() {
-            return Err(Refusal::InFlight);
-        }
         let round = match next_round(self.alloc, &self.graph) {
             Ok(round) => round,
             Err(refusal) => return Err(refusal),
@@ -43,11 +40,9 @@ impl Store {
         if round.is_empty() {
             return Ok(None);
         }
-        let members = Vec::from_slice(self.alloc, &round)?;
         let told = Vec::from_slice(self.alloc, &round)?;
         let noted = Vec::from_slice(self.alloc, &round)?;
         self.graph.take_round(round);
-        self.out = Some(members);
         self.issued = 0;
         Ok(Some((told, noted)))
     }
@@ -92,9 +87,10 @@ impl Store {
 
     /// The member of the round that is written next.
     fn next_member(&self) -> Option<Element>
-        ensures { result ≡ slice_get (members_of self.now.out) self.now.issued }
+        ensures member { result ≡ slice_get (members_of self.now.out) self.now.issued }
+        ensures fits { IfSome result (λ _. self.now.issued + 1 < 2 ^ 64) }
     {
-        match &self.out {
+        match self.graph.round() {
             Some(round) => {
                 if self.issued < round.len() {
                     Some(round[self.issued])
@@ -133,7 +129,6 @@ impl Store {
         match disk.flush() {
             Ok(()) => {
                 self.graph.settle_round();
-                self.out = None;
                 self.issued = 0;
                 let counted = frontier_of(self.alloc, &self.graph, &self.roots);
                 self.frontier = self.frontier.max(counted);
@@ -151,7 +146,7 @@ impl Store {
     fn is_issued(&self) -> bool
         ensures { MatchBool result ((self.now.out ≢ None) × (self.now.issued ≡ length (members_of self.now.out))) ((self.now.out ≡ None) ⊎ (self.now.issued < length (members_of self.now.out))) }
     {
-        match &self.out {
+        match self.graph.round() {
             Some(round) => self.issued == round.len(),
             None => false,
         }

@@ -7,41 +7,42 @@ ghost use Rattle.cs_model.specs.Index.{live_at, lookup, names};
 ghost use Rattle.cs_core.specs.Stored.{IsKept, Stored, members_of};
 
 use crate::roots::Root;
-use cs_deps::{Element, Graph};
+use cs_deps::{Element, Graph, LAST_NUMBER};
 use cs_extent::Extents;
 use cs_frame::ShardId;
 use cs_index::Index;
 use std::alloc::Global;
 use std::marker::Model;
 
-/// The greatest number of commands.
-pub const LAST: u64 = 0x7fff_ffff_ffff_ffff;
-
-/// A store without its disk.
+/// A store without its disk. The round that is out is the one of its graph.
 #[derive(Drop)]
 pub struct Store {
     pub alloc: Global,
     pub graph: Graph,
     pub extents: Extents,
     pub index: Index,
+    /// The roots that were staged, and before them the one that was read at open.
     pub roots: Vec<Root>,
-    pub out: Option<Vec<Element>>,
+    /// How many members of the round that is out were written.
     pub issued: usize,
+    /// The commands of the root that was read at open.
     pub base: u64,
+    /// The commands that were accepted since.
     pub accepted: u64,
+    /// How many of these are persistent.
     pub frontier: u64,
+    /// Whether a write or a flush failed.
     pub halted: bool,
 }
 
 impl Model for Store {
-    ghost use Rattle.std.specs.Prelude.{option_map};
     ghost use Rattle.cs_core.specs.Stored.{IsKept, Stored};
 
     ghost Value = { Stored };
 
-    ghost view = { λ s. record { graph = s.graph; extents = s.extents; index = s.index; roots = s.roots.items; out = option_map (λ r. r.items) s.out; issued = s.issued; base = s.base; accepted = s.accepted; frontier = s.frontier; halted = s.halted } };
+    ghost view = { λ s. record { graph = s.graph; extents = s.extents; index = s.index; roots = s.roots.items; out = s.graph.round; issued = s.issued; base = s.base; accepted = s.accepted; frontier = s.frontier; halted = s.halted } };
 
-    ghost invariant = { λ s. IsKept (record { graph = s.graph; extents = s.extents; index = s.index; roots = s.roots.items; out = option_map (λ r. r.items) s.out; issued = s.issued; base = s.base; accepted = s.accepted; frontier = s.frontier; halted = s.halted }) };
+    ghost invariant = { λ s. IsKept (record { graph = s.graph; extents = s.extents; index = s.index; roots = s.roots.items; out = s.graph.round; issued = s.issued; base = s.base; accepted = s.accepted; frontier = s.frontier; halted = s.halted }) };
 }
 
 impl Store {
@@ -71,8 +72,8 @@ impl Store {
     pub fn round(&self) -> Option<(&[Element], usize)>
         ensures { MatchOption result (self.now.out ≡ None) (λ r. (self.now.out ≡ Some r.0.now) × (self.now.issued ≡ r.1)) }
     {
-        match &self.out {
-            Some(round) => Some((round.as_slice(), self.issued)),
+        match self.graph.round() {
+            Some(round) => Some((round, self.issued)),
             None => None,
         }
     }
@@ -96,6 +97,6 @@ impl Store {
     pub fn is_worn(&self) -> bool
         ensures { MatchBool result (2 ^ 63 ≤ self.now.base + self.now.accepted + 1) (self.now.base + self.now.accepted + 1 < 2 ^ 63) }
     {
-        LAST <= self.base + self.accepted
+        LAST_NUMBER <= self.base + self.accepted
     }
 }

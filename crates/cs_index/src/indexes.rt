@@ -217,8 +217,8 @@ impl Index {
         }
     }
 
-    /// Whether an identifier has locators.
-    fn is_live(&self, id: ShardId) -> bool
+    /// Whether an identifier has locators. It asks for no memory.
+    pub fn is_live(&self, id: ShardId) -> bool
         ensures { MatchBool result (live_at (index_of self.now) (id_number id) ≢ []) (live_at (index_of self.now) (id_number id) ≡ []) }
     {
         match self.lookup(id) {

@@ -8,4 +8,4 @@ mod laws;
 mod sweeps;
 
 pub use laws::{a_sweep_keeps_every_shard, a_swept_extent_stays};
-pub use sweeps::Sweep;
+pub use sweeps::{Sweep, is_sweepable};

@@ -205,9 +205,9 @@ impl Sweep {
     }
 }
 
-/// Whether an extent can be swept.
-fn is_sweepable(extents: &Extents, extent: usize) -> bool
-    ensures refused { IsTrue result → ¬ IsNotSweepable (shape extents.now) (extents_of extents.now) extent }
+/// Whether an extent may be swept: it is there, and neither open, empty nor being swept.
+pub fn is_sweepable(extents: &Extents, extent: usize) -> bool
+    ensures may { IsTrue result → ¬ IsNotSweepable (shape extents.now) (extents_of extents.now) extent }
     ensures not { ¬ (IsTrue result) → IsNotSweepable (shape extents.now) (extents_of extents.now) extent }
 {
     extent < extents.extent_count()

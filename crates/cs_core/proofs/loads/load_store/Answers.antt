@@ -11,7 +11,7 @@ pub invariant_of-result : goal.invariant_of-result
 invariant_of-result c =
     let x : ExtentsState = c.args.extents in
     let is = opened_is c.requires.graph.0 x.pages x.written c.args.root.now.version c.args.root.now.commands _ c.args.runs.items c.args.graph c.args.extents c.in-Ok.index c.push.new.self.items
-    c.requires.graph.1 c.requires.extents (ap (λ (p : ℕ). (4096 * p - 45) / 81) c.extent_pages.ensures) c.in-Ok.ensures.loaded
+    c.requires.graph.1 c.requires.extents (c.named_limit-limit.ensures ∙ ap (λ (p : ℕ). (4096 * p - 45) / 81) c.geometry.ensures.pages) c.in-Ok.ensures.loaded
     (c.in_ok-push.ensures.items ∙ ap (λ (rs : List Noted). rs ++ record { version = c.args.root.now.version; commands = 0 } ∷ []) c.new-roots.ensures.items) in
     subst IsKept (sym is)
     (kept_opened c.requires.some.0 x.pages x.written c.requires.some.1 c.requires.some.2 c.requires.graph.0 c.args.root.now.version c.args.root.now.commands c.args.runs.items c.requires.commands

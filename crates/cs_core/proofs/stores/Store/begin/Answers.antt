@@ -1,15 +1,16 @@
-use Rattle.std.proofs.Common.{rules, inr, refl}
-use Rattle.cs_model.specs.Refusal.{InFlight}
+use Rattle.std.proofs.Common.{rules, Err, ap}
 use Rattle.cs_core.specs.contracts.stores.Store.{the_view}
-use Rattle.cs_core.proofs.Members.{none_of, some_of}
-use Rattle.cs_core.proofs.RoundSteps.{begin_copied, begin_nothing, begin_out}
+use Rattle.cs_core.proofs.Members.{none_of, not_out, some_of}
+use Rattle.cs_core.proofs.RoundSteps.{begin_copied, begin_declines, begin_nothing}
 use Rattle.cs_core.proofs.stores.Store.begin.Goals as goal
 
-pub returns-then-is_some-clause-step : goal.returns-then-is_some-clause-step
-returns-then-is_some-clause-step c = rw (← c.self.view_is) (λ runs. inr (InFlight, refl, λ s is. (s, begin_out (the_view c.self.inside) s c.extent_count.ensures.whole is runs (search rules), is)))
+pub returns-in-Err-clause-step : goal.returns-in-Err-clause-step
+returns-in-Err-clause-step c = rw (← c.self.view_is) (λ runs.
+    let e = c.in-Err.ensures in
+    begin_declines (the_view c.self.inside) c.extent_count.ensures.whole runs c.in-Err.refusal (λ r. e.in_flight.0 (ap Err r)) e.refusals)
 
 pub returns-then-is_empty-clause-step : goal.returns-then-is_empty-clause-step
-returns-then-is_empty-clause-step c = rw (← c.self.view_is) (λ runs s is. (s, begin_nothing (the_view c.self.inside) s c.extent_count.ensures.whole is runs (search rules) (c.in-Ok.ensures.empty (none_of c.in-Ok.round.items (search rules))), is))
+returns-then-is_empty-clause-step c = rw (← c.self.view_is) (λ runs s is. (s, begin_nothing (the_view c.self.inside) s c.extent_count.ensures.whole is runs (not_out c.in-Ok.round c.self.inside.graph.round c.in-Ok.ensures.in_flight) (c.in-Ok.ensures.empty (none_of c.in-Ok.round.items (search rules))), is))
 
 pub returns-clause-step : goal.returns-clause-step
-returns-clause-step c = rw (← c.self.view_is) (λ runs s is. begin_copied (the_view c.self.inside) s c.extent_count.ensures.whole is runs (search rules) c.self.invariant.round c.families.ensures.whole c.take_round.new.self c.in-Ok.round.items _ _ _ c.in-Ok.ensures.first (some_of c.in-Ok.round.items (search rules)) c.take_round.ensures.staging c.take_round.ensures.writes c.take_round.ensures.round (search rules) (search rules) (search rules))
+returns-clause-step c = rw (← c.self.view_is) (λ runs s is. begin_copied (the_view c.self.inside) s c.extent_count.ensures.whole is runs (not_out c.in-Ok.round c.self.inside.graph.round c.in-Ok.ensures.in_flight) c.self.invariant.round c.families.ensures.whole c.take_round.new.self c.in-Ok.round.items _ _ c.in-Ok.ensures.first (some_of c.in-Ok.round.items (search rules)) c.take_round.ensures.staging c.take_round.ensures.writes c.take_round.ensures.round (search rules) (search rules))

@@ -1,9 +1,10 @@
-use Rattle.std.proofs.Common.{◌≡◌, ◌∙◌, ℕ, ap, le_of_eq, sym, subst, true}
+use Rattle.std.proofs.Common.{◌≡◌, ◌∙◌, ℕ, ap, le_of_eq, refl, sym, subst, true}
 use Rattle.cs_extent.specs.State.{extents_of, shape}
 use Rattle.cs_core.specs.contracts.stores.Store.{the_view}
 use Rattle.cs_core.specs.Reads.{MoveAnswers}
-use Rattle.cs_core.specs.Stored.{Stored, page_total}
-use Rattle.cs_core.proofs.KeptMoves.{kept_moved, move_behind}
+use Rattle.cs_core.specs.Stored.{IsKept, Stored, page_total}
+use Rattle.cs_core.proofs.Going.{round_told}
+use Rattle.cs_core.proofs.KeptMoves.{kept_moved, move_behind, move_round}
 use Rattle.cs_core.proofs.MoveSteps.{move_answers, move_unswept}
 use Rattle.cs_core.proofs.SweepSteps.{unswept}
 use Rattle.cs_core.proofs.stores.Store.move_one.Goals as goal
@@ -14,9 +15,12 @@ returns-in_default-clause-step g c = rw (← c.self.view_is) (λ runs honest.
 
 pub invariant_of-self : goal.invariant_of-self
 invariant_of-self g c =
+    let v : Stored = the_view c.self.inside in
     let d = c.move_one.ensures in
-    kept_moved (the_view c.self.inside) c.self.invariant c.in-Some.sweep c.move_one.new.extents c.move_one.new.graph c.move_one.new.index d.resets d.families d.shape d.limit c.move_one.result
-    (λ is. let u = d.unchanged is in (u.0, u.1, u.2)) (λ id k is. let m = d.moved id k is in (m.0, m.1)) d.refused d.unwritten d.unstaged
+    let same = move_round v.index v.extents v.graph c.in-Some.sweep c.move_one.new.index c.move_one.new.extents c.move_one.new.graph c.move_one.result
+    (λ is. let u = d.unchanged is in (u.0, u.1, u.2)) (λ id k is. let m = d.moved id k is in (m.0, m.1)) d.unstaged in
+    round_told (λ (w : Stored). IsKept w) (record v { extents = c.move_one.new.extents; graph = c.move_one.new.graph; index = c.move_one.new.index }) same (kept_moved v c.self.invariant c.in-Some.sweep c.move_one.new.extents c.move_one.new.graph c.move_one.new.index d.resets d.families d.shape d.limit c.move_one.result
+    (λ is. let u = d.unchanged is in (u.0, u.1, u.2)) (λ id k is. let m = d.moved id k is in (m.0, m.1)) d.refused d.unwritten d.unstaged)
 
 pub returns-clause-step : goal.returns-clause-step
 returns-clause-step g c = rw (← c.self.view_is) (λ runs honest.
@@ -29,7 +33,9 @@ returns-clause-step g c = rw (← c.self.view_is) (λ runs honest.
     (le_of_eq (ap (λ (u : Stored). page_total (shape u.extents)) c.self.view_is ∙ c.requires.device ∙ sym (g.met.D.PageDisk.sized c.args.disk.now honest)))
     c.in-Some.sweep marks c.move_one.result c.move_one.new.extents c.move_one.new.graph c.move_one.new.index d.none (λ is. let u = d.unchanged is in (u.0, u.1, u.2))
     (λ id k is. let m = d.moved id k is in (m.0, m.1, m.2 honest)) (d.damaged honest) (d.why honest) d.refusals d.refused d.unwritten d.unstaged d.shape in
-    subst (λ (k : ℕ). MoveAnswers v (g.D.PageDisk.state c.args.disk.now) k c.move_one.result w) at.0 answer)
+    let same = move_round v.index v.extents v.graph c.in-Some.sweep c.move_one.new.index c.move_one.new.extents c.move_one.new.graph c.move_one.result
+    (λ is. let u = d.unchanged is in (u.0, u.1, u.2)) (λ id k is. let m = d.moved id k is in (m.0, m.1)) d.unstaged in
+    round_told (λ (u : Stored). MoveAnswers v (g.D.PageDisk.state c.args.disk.now) c.args.extent c.move_one.result u) w same (subst (λ (k : ℕ). MoveAnswers v (g.D.PageDisk.state c.args.disk.now) k c.move_one.result w) at.0 answer))
 
 pub returns-clause-behind : goal.returns-clause-behind
 returns-clause-behind g c = rw (← c.self.view_is) (
@@ -37,3 +43,12 @@ returns-clause-behind g c = rw (← c.self.view_is) (
     let d = c.move_one.ensures in
     move_behind v.index v.extents v.graph c.in-Some.sweep c.move_one.new.index c.move_one.new.extents c.move_one.new.graph c.move_one.result
     (λ is. let u = d.unchanged is in (u.0, u.1, u.2)) (λ id k is. let m = d.moved id k is in (m.0, m.1)))
+
+pub returns-clause-round : goal.returns-clause-round
+returns-clause-round g c = rw (← c.self.view_is) (
+    let v : Stored = the_view c.self.inside in
+    let d = c.move_one.ensures in (
+      move_round v.index v.extents v.graph c.in-Some.sweep c.move_one.new.index c.move_one.new.extents c.move_one.new.graph c.move_one.result
+          (λ is. let u = d.unchanged is in (u.0, u.1, u.2)) (λ id k is. let m = d.moved id k is in (m.0, m.1)) d.unstaged,
+      refl,
+    ))

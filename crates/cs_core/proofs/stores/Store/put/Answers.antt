@@ -1,13 +1,16 @@
 use Rattle.std.proofs.Common.{◌∙◌, ◌+◌, ◌^◌, ◌≤◌, ◌<◌, Err, ap, arith, refl, sym, subst}
 use Rattle.std.specs.Prelude.{map}
 use Rattle.cs_deps.specs.declared.refusals.Refusal.TheVariants as code
+use Rattle.cs_deps.specs.State.{State as GraphState}
 use Rattle.cs_extent.specs.State.{shape}
 use Rattle.cs_frame.specs.Formats.{place_of}
 use Rattle.cs_index.specs.State.{id_number}
 use Rattle.cs_model.specs.Extents.{ForPut}
+use Rattle.cs_model.specs.State.{Accepted, Put}
 use Rattle.cs_core.specs.contracts.stores.Store.{the_view}
+use Rattle.cs_core.specs.Steps.{Declines, Steps}
 use Rattle.cs_core.specs.Stored.{AreSwept, Stored}
-use Rattle.cs_core.proofs.Going.{roomed}
+use Rattle.cs_core.proofs.Going.{round_told, roomed}
 use Rattle.cs_core.proofs.Kept.{inside_live, inside_set, kept_on, places_there, same_limit, same_live, swept_all}
 use Rattle.cs_core.proofs.Moves.{moves_all, moves_none, moves_refused}
 use Rattle.cs_core.proofs.Puts.{chunks_decline, last_declines, ok_not, put_done, set_from, test_declines}
@@ -41,9 +44,10 @@ invariant_of-self-in-Err-put_chunks c =
     let i = c.reserve.new.self in
     let room = c.reserve.ensures.rest in
     let e = c.in-Err-put_chunks.ensures in
-    kept_on s (record s { index = i; extents = c.put_chunks.new.extents; graph = c.put_chunks.new.graph }) c.self.invariant (moves_refused s.extents s.graph c.put_chunks.new.extents c.put_chunks.new.graph e.refused e.unstaged)
+    let m = moves_refused s.extents s.graph c.put_chunks.new.extents c.put_chunks.new.graph e.refused e.unstaged in
+    kept_on s (record s { index = i; extents = c.put_chunks.new.extents; graph = c.put_chunks.new.graph; out = c.put_chunks.new.graph.round }) c.self.invariant m
     c.put_chunks.ensures.resets c.put_chunks.ensures.families (same_limit s.index i room)
-    (inside_live (shape s.extents) s.index i c.self.invariant.places (same_live s.index i room)) refl refl c.self.invariant.numbers (subst (λ x. AreSwept x) (sym e.refused) c.self.invariant.swept)
+    (inside_live (shape s.extents) s.index i c.self.invariant.places (same_live s.index i room)) m.round refl c.self.invariant.numbers (subst (λ x. AreSwept x) (sym e.refused) c.self.invariant.swept)
 
 pub invariant_of-self-in-Ok-put_chunks : goal.invariant_of-self-in-Ok-put_chunks
 invariant_of-self-in-Ok-put_chunks c =
@@ -55,10 +59,11 @@ invariant_of-self-in-Ok-put_chunks c =
     let g = c.put_chunks.new.graph in
     let ls = c.in-Ok-put_chunks.places.items in
     let young : s.base + (s.accepted + 1) < 2 ^ 63 = (let few : s.base + s.accepted + 1 < 2 ^ 63 = subst (λ (u : Stored). u.base + u.accepted + 1 < 2 ^ 63) (sym c.self.view_is) c.if-is_worn.ensures in omega arith) in
-    kept_on s (record s { index = c.enter.new.index; extents = x; graph = g; accepted = s.accepted + 1 }) c.self.invariant (moves_all s.extents s.graph ForPut _ ls x g chunks.2)
+    let m = moves_all s.extents s.graph ForPut _ ls x g chunks.2 in
+    kept_on s (record s { index = c.enter.new.index; extents = x; graph = g; out = g.round; accepted = s.accepted + 1 }) c.self.invariant m
     c.put_chunks.ensures.resets c.put_chunks.ensures.families (c.enter.ensures.limit ∙ same_limit s.index i room)
     (inside_set (shape s.extents) i (id_number c.args.id) (map place_of ls) c.enter.new.index (inside_live (shape s.extents) s.index i c.self.invariant.places (same_live s.index i room)) c.enter.ensures
-    (λ p among. places_there s.extents s.graph ForPut (shape s.extents) chunks.0 ls x g refl chunks.2 p among)) refl refl young (swept_all s.extents x s.graph g ForPut _ ls chunks.2 c.self.invariant.swept)
+    (λ p among. places_there s.extents s.graph ForPut (shape s.extents) chunks.0 ls x g refl chunks.2 p among)) m.round refl young (swept_all s.extents x s.graph g ForPut _ ls chunks.2 c.self.invariant.swept)
 
 pub returns-in-Err-put_chunks-clause-step : goal.returns-in-Err-put_chunks-clause-step
 returns-in-Err-put_chunks-clause-step c = rw (← c.self.view_is) (λ runs.
@@ -69,22 +74,29 @@ returns-in-Err-put_chunks-clause-step c = rw (← c.self.view_is) (λ runs.
     let e = c.in-Ok.ensures in
     let d = c.in-Err-put_chunks.ensures in
     let small = ok_not tt code.TooLarge e.too_large in
-    chunks_decline v (record v { extents = x; graph = g; index = i }) c.test_put.ensures.whole c.self.invariant.limit runs (roomed v x g i d.refused d.unstaged c.reserve.ensures.rest) (id_number c.args.id) c.args.bytes.now c.in-Err-put_chunks.refusal
-    small (λ h. ok_not tt code.IndexFull e.index_full (small, h.0, h.1)) d.refusals (λ q. d.too_large.0 (ap Err q)) (λ q. d.full.0 (ap Err q)) (λ q. d.worn.0 (ap Err q)))
+    let w : Stored = record v { extents = x; graph = g; index = i } in
+    round_told (λ (u : Stored). Declines v (Put (id_number c.args.id) c.args.bytes.now) c.in-Err-put_chunks.refusal u) w (ap (λ (k : GraphState). k.round) d.unstaged) (chunks_decline v w c.test_put.ensures.whole c.self.invariant.limit runs (roomed v x g i d.refused d.unstaged c.reserve.ensures.rest) (id_number c.args.id) c.args.bytes.now c.in-Err-put_chunks.refusal
+    small (λ h. ok_not tt code.IndexFull e.index_full (small, h.0, h.1)) d.refusals (λ q. d.too_large.0 (ap Err q)) (λ q. d.full.0 (ap Err q)) (λ q. d.worn.0 (ap Err q))))
 
 pub returns-in-Ok-put_chunks-clause-step : goal.returns-in-Ok-put_chunks-clause-step
-returns-in-Ok-put_chunks-clause-step c = rw (← c.self.view_is) (λ runs s is.
+returns-in-Ok-put_chunks-clause-step c = rw (← c.self.view_is) (λ runs.
     let v : Stored = the_view c.self.inside in
     let e = c.in-Ok.ensures in
     let d = c.in-Ok-put_chunks.ensures in
     let small = ok_not tt code.TooLarge e.too_large in
     let young : 2 ^ 63 ≤ v.base + v.accepted + 1 → ⊥ = (let few : v.base + v.accepted + 1 < 2 ^ 63 = subst (λ (u : Stored). u.base + u.accepted + 1 < 2 ^ 63) (sym c.self.view_is) c.if-is_worn.ensures in λ (last : 2 ^ 63 ≤ v.base + v.accepted + 1). omega arith) in
-    put_done v s c.test_put.ensures.whole is (id_number c.args.id) c.args.bytes.now c.self.invariant.limit runs small (λ h. ok_not tt code.IndexFull e.index_full (small, h.0, h.1))
+    let m = moves_all v.extents v.graph ForPut _ c.in-Ok-put_chunks.places.items c.put_chunks.new.extents c.put_chunks.new.graph d.chunks.2 in
+    round_told (λ (u : Stored). Steps v (Put (id_number c.args.id) c.args.bytes.now) (Accepted (v.accepted + 1)) u) (record v { graph = c.put_chunks.new.graph; extents = c.put_chunks.new.extents; index = c.enter.new.index; accepted = v.accepted + 1 }) m.round (λ s is. put_done v s c.test_put.ensures.whole is (id_number c.args.id) c.args.bytes.now c.self.invariant.limit runs small (λ h. ok_not tt code.IndexFull e.index_full (small, h.0, h.1))
     (λ none. ok_not c.in-Ok-put_chunks.places code.Full d.full (small, none)) (λ out. ok_not c.in-Ok-put_chunks.places code.WornOut d.worn (small, out)) young
     c.put_chunks.new.extents c.put_chunks.new.graph c.enter.new.index d.chunks.0 c.in-Ok-put_chunks.places.items d.chunks.1 d.chunks.2
-    (set_from (id_number c.args.id) v.index c.reserve.new.self c.enter.new.index _ c.reserve.ensures.rest c.enter.ensures) c.put_chunks.ensures.shape)
+    (set_from (id_number c.args.id) v.index c.reserve.new.self c.enter.new.index _ c.reserve.ensures.rest c.enter.ensures) c.put_chunks.ensures.shape))
 
 pub returns-in-Ok-put_chunks-clause-behind : goal.returns-in-Ok-put_chunks-clause-behind
 returns-in-Ok-put_chunks-clause-behind c = rw (← c.self.view_is) (
     let s : Stored = the_view c.self.inside in
     (moves_all s.extents s.graph ForPut _ c.in-Ok-put_chunks.places.items c.put_chunks.new.extents c.put_chunks.new.graph c.in-Ok-put_chunks.ensures.chunks.2).behind)
+
+pub returns-in-Ok-put_chunks-clause-round : goal.returns-in-Ok-put_chunks-clause-round
+returns-in-Ok-put_chunks-clause-round c = rw (← c.self.view_is) (
+    let s : Stored = the_view c.self.inside in
+    ((moves_all s.extents s.graph ForPut _ c.in-Ok-put_chunks.places.items c.put_chunks.new.extents c.put_chunks.new.graph c.in-Ok-put_chunks.ensures.chunks.2).round, refl))

@@ -1,10 +1,11 @@
 use Rattle.std.proofs.Common.{◌≡◌, ◌∙◌, ◌<◌, ◌++◌, ◌∷◌, ℕ, List, [], ap, refl, sym, subst, true}
 use Rattle.cs_extent.specs.State.{State as ExtentsState, extents_of, shape}
 use Rattle.cs_deps.specs.declared.refusals.Refusal.TheVariants as code
+use Rattle.cs_deps.specs.State.{State as GraphState}
 use Rattle.cs_core.specs.contracts.stores.Store.{the_view}
 use Rattle.cs_core.specs.declared.roots.Root.{Root}
 use Rattle.cs_core.specs.Stored.{AreSwept, Stored}
-use Rattle.cs_core.proofs.Going.{roomed_roots, same_index}
+use Rattle.cs_core.proofs.Going.{round_told, roomed_roots, same_index}
 use Rattle.cs_core.proofs.Kept.{inside_live, kept_on, moves_retired, swept_retired}
 use Rattle.cs_core.proofs.Moves.{moves_refused}
 use Rattle.cs_model.specs.State.{Retire, Retired}
@@ -23,9 +24,9 @@ invariant_of-self-in-Ok c =
     let s : Stored = the_view c.self.inside in
     let e = c.retire.ensures in
     let done = c.in-Ok.ensures.retired in
-    kept_on s (record s { extents = c.retire.new.extents; graph = c.retire.new.graph; index = c.retire.new.index; roots = c.push_reserved.new.self.items }) c.self.invariant
-    (moves_retired s.index s.extents s.graph c.in-Some.sweep c.in-Ok.version _ c.retire.new.index c.retire.new.extents c.retire.new.graph done e.shape) e.resets e.families e.limit
-    (inside_live (shape s.extents) s.index c.retire.new.index c.self.invariant.places e.map) refl refl c.self.invariant.numbers
+    let m = moves_retired s.index s.extents s.graph c.in-Some.sweep c.in-Ok.version _ c.retire.new.index c.retire.new.extents c.retire.new.graph done e.shape in
+    kept_on s (record s { extents = c.retire.new.extents; graph = c.retire.new.graph; out = c.retire.new.graph.round; index = c.retire.new.index; roots = c.push_reserved.new.self.items }) c.self.invariant m e.resets e.families e.limit
+    (inside_live (shape s.extents) s.index c.retire.new.index c.self.invariant.places e.map) m.round refl c.self.invariant.numbers
     (swept_retired s.index s.extents s.graph c.in-Some.sweep c.in-Ok.version _ c.retire.new.index c.retire.new.extents c.retire.new.graph done e.shape c.self.invariant.swept)
 
 pub invariant_of-self-in-Err : goal.invariant_of-self-in-Err
@@ -33,9 +34,9 @@ invariant_of-self-in-Err c =
     let s : Stored = the_view c.self.inside in
     let e = c.retire.ensures in
     let d = c.in-Err.ensures in
-    kept_on s (record s { extents = c.retire.new.extents; graph = c.retire.new.graph; index = c.retire.new.index; roots = c.reserve.new.self.items }) c.self.invariant
-    (moves_refused s.extents s.graph c.retire.new.extents c.retire.new.graph d.unwritten d.unstaged) e.resets e.families e.limit
-    (inside_live (shape s.extents) s.index c.retire.new.index c.self.invariant.places e.map) refl refl c.self.invariant.numbers
+    let m = moves_refused s.extents s.graph c.retire.new.extents c.retire.new.graph d.unwritten d.unstaged in
+    kept_on s (record s { extents = c.retire.new.extents; graph = c.retire.new.graph; out = c.retire.new.graph.round; index = c.retire.new.index; roots = c.reserve.new.self.items }) c.self.invariant m e.resets e.families e.limit
+    (inside_live (shape s.extents) s.index c.retire.new.index c.self.invariant.places e.map) m.round refl c.self.invariant.numbers
     (subst (λ (x : ExtentsState). AreSwept x) (sym d.unwritten) c.self.invariant.swept)
 
 pub returns-in-Ok-clause-step : goal.returns-in-Ok-clause-step
@@ -50,7 +51,9 @@ returns-in-Ok-clause-step c = rw (← c.self.view_is) (λ runs.
     let inside : c.in-Some.sweep < (shape v.extents).extents = subst (λ (k : ℕ). k < (shape v.extents).extents) (sym at.0) at.1 in
     let roots : c.push_reserved.new.self.items ≡ v.roots ++ record { version = c.in-Ok.version; commands = v.accepted } ∷ [] = c.push_reserved.ensures.items ∙ ap (λ (rs : List Root). rs ++ record { version = c.in-Ok.version; commands = v.accepted } ∷ []) c.reserve.ensures.items in
     let steps = retire_steps v c.extent_count.ensures.whole runs c.in-Some.sweep marks none c.in-Ok.version c.retire.new.extents c.retire.new.graph c.retire.new.index c.push_reserved.new.self.items why.0 why.1 inside d.retired e.shape roots in
-    subst (λ (k : ℕ). Steps v (Retire k) (Retired c.in-Ok.version) (record v { extents = c.retire.new.extents; graph = c.retire.new.graph; index = c.retire.new.index; roots = c.push_reserved.new.self.items })) at.0 steps)
+    let w : Stored = record v { extents = c.retire.new.extents; graph = c.retire.new.graph; index = c.retire.new.index; roots = c.push_reserved.new.self.items } in
+    let m = moves_retired v.index v.extents v.graph c.in-Some.sweep c.in-Ok.version _ c.retire.new.index c.retire.new.extents c.retire.new.graph d.retired e.shape in
+    round_told (λ (u : Stored). Steps v (Retire c.args.extent) (Retired c.in-Ok.version) u) w m.round (subst (λ (k : ℕ). Steps v (Retire k) (Retired c.in-Ok.version) w) at.0 steps))
 
 pub returns-in-Err-clause-step : goal.returns-in-Err-clause-step
 returns-in-Err-clause-step c = rw (← c.self.view_is) (λ runs.
@@ -61,9 +64,14 @@ returns-in-Err-clause-step c = rw (← c.self.view_is) (λ runs.
     let marks : (extents_of v.extents).swept c.in-Some.sweep ≡ true = subst (λ (k : ℕ). (extents_of v.extents).swept k ≡ true) (sym at.0) at.2 in
     let same : settled_rooms w ≡ settled_rooms v = roomed_roots v c.retire.new.extents c.retire.new.graph c.retire.new.index c.reserve.new.self.items d.unwritten d.unstaged (same_index v.index c.retire.new.index d.refused) c.reserve.ensures.items in
     let answer : Declines v (Retire c.in-Some.sweep) c.in-Err.refusal w = retire_refused v w c.extent_count.ensures.whole runs same c.in-Some.sweep marks c.in-Err.refusal c.in-Err._sweep d.back d.alive d.why d.refusals in
-    subst (λ (k : ℕ). Declines v (Retire k) c.in-Err.refusal w) at.0 answer)
+    round_told (λ (u : Stored). Declines v (Retire c.args.extent) c.in-Err.refusal u) w (ap (λ (k : GraphState). k.round) d.unstaged) (subst (λ (k : ℕ). Declines v (Retire k) c.in-Err.refusal w) at.0 answer))
 
 pub returns-in-Ok-clause-behind : goal.returns-in-Ok-clause-behind
 returns-in-Ok-clause-behind c = rw (← c.self.view_is) (
     let s : Stored = the_view c.self.inside in
     (moves_retired s.index s.extents s.graph c.in-Some.sweep c.in-Ok.version _ c.retire.new.index c.retire.new.extents c.retire.new.graph c.in-Ok.ensures.retired c.retire.ensures.shape).behind)
+
+pub returns-in-Ok-clause-round : goal.returns-in-Ok-clause-round
+returns-in-Ok-clause-round c = rw (← c.self.view_is) (
+    let s : Stored = the_view c.self.inside in
+    ((moves_retired s.index s.extents s.graph c.in-Some.sweep c.in-Ok.version _ c.retire.new.index c.retire.new.extents c.retire.new.graph c.in-Ok.ensures.retired c.retire.ensures.shape).round, refl))

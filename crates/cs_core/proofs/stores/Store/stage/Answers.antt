@@ -1,11 +1,14 @@
 use Rattle.std.proofs.Common.{rules, ◌≡◌, ◌∙◌, ◌++◌, ◌∷◌, List, Some, None, Ok, [], ap, refl, subst}
+use Rattle.cs_deps.specs.State.{State as GraphState}
 use Rattle.cs_extent.specs.State.{shape}
 use Rattle.cs_index.specs.Staged.{IsExact, IsFull, IsStageWorn, WritesRun}
 use Rattle.cs_model.specs.Extents.{ForRun}
+use Rattle.cs_model.specs.State.{Stage, Staged, Unchanged}
 use Rattle.cs_core.specs.contracts.stores.Store.{the_view}
 use Rattle.cs_core.specs.declared.roots.Root.{Root}
+use Rattle.cs_core.specs.Steps.{Declines, Steps}
 use Rattle.cs_core.specs.Stored.{Stored}
-use Rattle.cs_core.proofs.Going.{roomed_roots, same_graph, same_index}
+use Rattle.cs_core.proofs.Going.{round_told, roomed_roots, same_graph, same_index}
 use Rattle.cs_core.proofs.Kept.{inside_live, kept_on, swept_staged}
 use Rattle.cs_core.proofs.Moves.{stage_empties, stage_moves}
 use Rattle.cs_core.proofs.StageSteps.{stage_declines, stage_none, stage_steps, staged_none, staged_some}
@@ -16,23 +19,25 @@ returns-in-Ok-None-clause-step c = rw (← c.self.view_is) (λ runs.
     let v : Stored = the_view c.self.inside in
     let none : c.stage.result ≡ Ok None = search rules in
     let e = c.stage.ensures.unchanged none in
-    stage_none v (record v { extents = c.stage.new.extents; graph = c.stage.new.graph; index = c.stage.new.self; roots = c.reserve.new.self.items }) c.extent_count.ensures.whole runs
-    (roomed_roots v c.stage.new.extents c.stage.new.graph c.stage.new.self c.reserve.new.self.items e.1 (same_graph v.graph c.stage.new.graph e.2) (same_index v.index c.stage.new.self e.0) c.reserve.ensures.items) (staged_none c.stage.result (v.index.table ≡ []) c.stage.ensures.none none))
+    let w : Stored = record v { extents = c.stage.new.extents; graph = c.stage.new.graph; index = c.stage.new.self; roots = c.reserve.new.self.items } in
+    round_told (λ (u : Stored). Steps v Stage Unchanged u) w (ap (λ (k : GraphState). k.round) e.2) (stage_none v w c.extent_count.ensures.whole runs
+    (roomed_roots v c.stage.new.extents c.stage.new.graph c.stage.new.self c.reserve.new.self.items e.1 (same_graph v.graph c.stage.new.graph e.2) (same_index v.index c.stage.new.self e.0) c.reserve.ensures.items) (staged_none c.stage.result (v.index.table ≡ []) c.stage.ensures.none none)))
 
 pub returns-in-Err-clause-step : goal.returns-in-Err-clause-step
 returns-in-Err-clause-step c = rw (← c.self.view_is) (λ runs.
     let v : Stored = the_view c.self.inside in
     let e = c.in-Err.ensures in
-    stage_declines v (record v { extents = c.stage.new.extents; graph = c.stage.new.graph; index = c.stage.new.self; roots = c.reserve.new.self.items }) c.extent_count.ensures.whole runs
-    (roomed_roots v c.stage.new.extents c.stage.new.graph c.stage.new.self c.reserve.new.self.items e.unwritten e.unstaged (same_index v.index c.stage.new.self e.refused) c.reserve.ensures.items) c.in-Err.refusal e.why)
+    let w : Stored = record v { extents = c.stage.new.extents; graph = c.stage.new.graph; index = c.stage.new.self; roots = c.reserve.new.self.items } in
+    round_told (λ (u : Stored). Declines v Stage c.in-Err.refusal u) w (ap (λ (k : GraphState). k.round) e.unstaged) (stage_declines v w c.extent_count.ensures.whole runs
+    (roomed_roots v c.stage.new.extents c.stage.new.graph c.stage.new.self c.reserve.new.self.items e.unwritten e.unstaged (same_index v.index c.stage.new.self e.refused) c.reserve.ensures.items) c.in-Err.refusal e.why))
 
 pub invariant_of-self-in-Err : goal.invariant_of-self-in-Err
 invariant_of-self-in-Err c =
     let s : Stored = the_view c.self.inside in
     let e = c.stage.ensures in
     let m = stage_moves c.stage.result _ s.index s.extents s.graph c.stage.new.self c.stage.new.extents c.stage.new.graph e.unchanged e.staged e.merged e.refused e.unwritten e.unstaged in
-    kept_on s (record s { extents = c.stage.new.extents; graph = c.stage.new.graph; index = c.stage.new.self; roots = c.reserve.new.self.items }) c.self.invariant m.0 e.resets e.families m.1
-    (inside_live (shape s.extents) s.index c.stage.new.self c.self.invariant.places e.map) refl refl c.self.invariant.numbers
+    kept_on s (record s { extents = c.stage.new.extents; graph = c.stage.new.graph; out = c.stage.new.graph.round; index = c.stage.new.self; roots = c.reserve.new.self.items }) c.self.invariant m.0 e.resets e.families m.1
+    (inside_live (shape s.extents) s.index c.stage.new.self c.self.invariant.places e.map) m.0.round refl c.self.invariant.numbers
     (swept_staged c.stage.result _ s.index s.extents s.graph c.stage.new.self c.stage.new.extents c.stage.new.graph e.unchanged e.staged e.merged e.unwritten c.self.invariant.swept)
 
 pub invariant_of-self-in-Ok-Some : goal.invariant_of-self-in-Ok-Some
@@ -40,8 +45,8 @@ invariant_of-self-in-Ok-Some c =
     let s : Stored = the_view c.self.inside in
     let e = c.stage.ensures in
     let m = stage_moves c.stage.result _ s.index s.extents s.graph c.stage.new.self c.stage.new.extents c.stage.new.graph e.unchanged e.staged e.merged e.refused e.unwritten e.unstaged in
-    kept_on s (record s { extents = c.stage.new.extents; graph = c.stage.new.graph; index = c.stage.new.self; roots = c.push_reserved.new.self.items }) c.self.invariant m.0 e.resets e.families m.1
-    (inside_live (shape s.extents) s.index c.stage.new.self c.self.invariant.places e.map) refl refl c.self.invariant.numbers
+    kept_on s (record s { extents = c.stage.new.extents; graph = c.stage.new.graph; out = c.stage.new.graph.round; index = c.stage.new.self; roots = c.push_reserved.new.self.items }) c.self.invariant m.0 e.resets e.families m.1
+    (inside_live (shape s.extents) s.index c.stage.new.self c.self.invariant.places e.map) m.0.round refl c.self.invariant.numbers
     (swept_staged c.stage.result _ s.index s.extents s.graph c.stage.new.self c.stage.new.extents c.stage.new.graph e.unchanged e.staged e.merged e.unwritten c.self.invariant.swept)
 
 pub returns-in-Ok-Some-clause-shape : goal.returns-in-Ok-Some-clause-shape
@@ -57,9 +62,9 @@ returns-in-Ok-Some-clause-step c = rw (← c.self.view_is) (λ runs.
     let done : c.stage.result ≡ Ok (Some c.in-Ok-Some.version) = search rules in
     let why = subst (λ r. IsExact r (IsFull (WritesRun v.index) v.extents ForRun) ((v.index.table ≡ [] → ⊥) × IsStageWorn (WritesRun v.index) v.extents v.graph.staging)) done e.why in
     let m = stage_moves c.stage.result _ v.index v.extents v.graph c.stage.new.self c.stage.new.extents c.stage.new.graph e.unchanged e.staged e.merged e.refused e.unwritten e.unstaged in
-    stage_steps v c.extent_count.ensures.whole runs c.in-Ok-Some.version c.stage.new.extents c.stage.new.graph c.stage.new.self c.push_reserved.new.self.items why.0 why.1 (staged_some c.stage.result (v.index.table ≡ []) c.in-Ok-Some.version e.none done)
+    round_told (λ (u : Stored). Steps v Stage (Staged c.in-Ok-Some.version) u) (record v { graph = c.stage.new.graph; extents = c.stage.new.extents; index = c.stage.new.self; roots = c.push_reserved.new.self.items }) m.0.round (stage_steps v c.extent_count.ensures.whole runs c.in-Ok-Some.version c.stage.new.extents c.stage.new.graph c.stage.new.self c.push_reserved.new.self.items why.0 why.1 (staged_some c.stage.result (v.index.table ≡ []) c.in-Ok-Some.version e.none done)
     (λ few. e.staged c.in-Ok-Some.version done few) (λ many. e.merged c.in-Ok-Some.version done many) m.0.same_shape
-    (c.push_reserved.ensures.items ∙ ap (λ (rs : List Root). rs ++ record { version = c.in-Ok-Some.version; commands = v.accepted } ∷ []) c.reserve.ensures.items))
+    (c.push_reserved.ensures.items ∙ ap (λ (rs : List Root). rs ++ record { version = c.in-Ok-Some.version; commands = v.accepted } ∷ []) c.reserve.ensures.items)))
 
 pub returns-in-Ok-Some-clause-staged : goal.returns-in-Ok-Some-clause-staged
 returns-in-Ok-Some-clause-staged c =
@@ -72,3 +77,9 @@ returns-in-Ok-Some-clause-behind c = rw (← c.self.view_is) (
     let s : Stored = the_view c.self.inside in
     let e = c.stage.ensures in
     (stage_moves c.stage.result _ s.index s.extents s.graph c.stage.new.self c.stage.new.extents c.stage.new.graph e.unchanged e.staged e.merged e.refused e.unwritten e.unstaged).0.behind)
+
+pub returns-in-Ok-Some-clause-round : goal.returns-in-Ok-Some-clause-round
+returns-in-Ok-Some-clause-round c = rw (← c.self.view_is) (
+    let s : Stored = the_view c.self.inside in
+    let e = c.stage.ensures in
+    ((stage_moves c.stage.result _ s.index s.extents s.graph c.stage.new.self c.stage.new.extents c.stage.new.graph e.unchanged e.staged e.merged e.refused e.unwritten e.unstaged).0.round, refl))

@@ -10,4 +10,4 @@ pub returns-clause-swept : goal.returns-clause-swept
 returns-clause-swept c =
     subst (λ (S : Shape). IsSwept S (extents_of c.set_swept.new.self) c.args.extent) (sym c.set_swept.ensures.shape)
     (subst (λ (x : Extents). IsSwept (shape c.args.extents.now) x c.args.extent) (sym c.set_swept.ensures.extents)
-    (begun (shape c.args.extents.now) (extents_of c.args.extents.now) c.args.extent (c.if-not-is_sweepable.ensures.refused refl)))
+    (begun (shape c.args.extents.now) (extents_of c.args.extents.now) c.args.extent (c.if-not-is_sweepable.ensures.may refl)))

@@ -1,4 +1,4 @@
-//! Events that a halted store refuses.
+//! Events of a store that runs: a halted one refuses them.
 ghost use Rattle.std.specs.Prelude.{◌≡◌, ◌≢◌, ◌≤◌, ◌⊎◌, ◌↔◌, IfOk, OnErr, false};
 ghost use Rattle.cs_disk.specs.Disk.{Elapses, Rises, State as DiskState};
 ghost use Rattle.cs_extent.specs.State.{shape};
