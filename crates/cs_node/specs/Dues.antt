@@ -27,14 +27,18 @@ step_of (asked.Retire e) = Retire
 step_of (asked.Abandon e) = Abandon
 step_of (asked.Settle n) = Settle
 
+-- what is left of the round that is out: its next member is issued, or it ends where all are
+abbrev pub IsOfRound : Stored → Event → Type 0
+IsOfRound s asked.Issue = s.issued < length (members_of s.out)
+IsOfRound s asked.End = (s.out ≢ None) × (length (members_of s.out) ≤ s.issued)
+IsOfRound s event = ⊥
+
 -- the event of writeback that is due: what is left of the round that is out, else a new round where something waits, else to stage what
 -- has changed
 abbrev pub IsDue : Stored → Event → Type 0
-IsDue s asked.Issue = s.issued < length (members_of s.out)
-IsDue s asked.End = (s.out ≢ None) × (length (members_of s.out) ≤ s.issued)
 IsDue s asked.Begin = (s.out ≡ None) × (s.graph.staging.pending.waiting ≢ [])
 IsDue s asked.Stage = (s.out ≡ None) × (s.graph.staging.pending.waiting ≡ []) × (s.index.table ≢ [])
-IsDue s event = ⊥
+IsDue s event = IsOfRound s event
 
 -- none is due: no round is out, nothing waits, and nothing has changed
 abbrev pub IsAtRest : Stored → Type 0

@@ -1,24 +1,22 @@
 -- Which event of writeback is due where rounds of several syncs overlap.
-use Rattle.std.specs.Prelude.{◌≡◌, ◌≢◌, ◌⊎◌, ◌<◌, ◌≤◌, [], None, Result, length, MatchResult}
+use Rattle.std.specs.Prelude.{◌≡◌, ◌≢◌, ◌⊎◌, [], None, Result, MatchResult}
 use Rattle.cs_deps.specs.declared.refusals.Refusal.{Refusal}
 use Rattle.cs_disk.specs.Disk.{State as DiskState}
 use Rattle.cs_core.specs.declared.events.Event.{Event}
-use Rattle.cs_core.specs.declared.events.Event.TheVariants.{Begin, End, Issue, Stage}
+use Rattle.cs_core.specs.declared.events.Event.TheVariants.{Begin, Stage}
 use Rattle.cs_core.specs.declared.events.Reply.{Reply}
-use Rattle.cs_core.specs.Stored.{Stored, members_of}
+use Rattle.cs_core.specs.Stored.{Stored}
 use Rattle.cs_core.specs.Views.{IsStep, View}
 use Rattle.cs_node.specs.declared.gates.Step.{Step}
 use Rattle.cs_node.specs.declared.gates.Step.TheVariants.{Idle}
-use Rattle.cs_node.specs.Dues.{IsAtRest, step_of}
+use Rattle.cs_node.specs.Dues.{IsAtRest, IsOfRound, step_of}
 use Rattle.cs_node.specs.Locks.{IsRefused}
 
 -- the event that is due: what is left of the round that is out, else to stage what has changed, else a new round where something waits
 abbrev pub IsNext : Stored → Event → Type 0
-IsNext s Issue = s.issued < length (members_of s.out)
-IsNext s End = (s.out ≢ None) × (length (members_of s.out) ≤ s.issued)
 IsNext s Stage = (s.out ≡ None) × (s.index.table ≢ [])
 IsNext s Begin = (s.out ≡ None) × (s.index.table ≡ []) × (s.graph.staging.pending.waiting ≢ [])
-IsNext s event = ⊥
+IsNext s event = IsOfRound s event
 
 -- one event was done, which this step names and which was due; or none was due
 abbrev pub Streams : {D : Type 0} → (honest : D → Type 0) → (state : D → DiskState) → (old : View D) → Step → (new : View D) → Type 0

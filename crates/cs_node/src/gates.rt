@@ -32,7 +32,7 @@ pub trait Gate {
     fn before(&self) -> bool
         ensures { result ≡ false → ended self.now };
 
-    /// Under the lock, after each event that was recorded.
+    /// Is told of each event that was recorded, while the lock is held.
     fn within(&self, step: Step);
 }
 

@@ -4,6 +4,7 @@
 
 mod alike;
 mod boards;
+mod calls;
 mod ferries;
 mod gates;
 mod jobs;

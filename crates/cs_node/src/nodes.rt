@@ -7,7 +7,7 @@ ghost use Rattle.cs_node.specs.Told.{Adds, Refuses};
 
 use crate::boards::{Board, Naming, Words};
 use crate::gates::{Gate, Open};
-use crate::locked::Locked;
+use crate::locked::{Lock, Locked};
 use crate::purses::Purse;
 use crate::tickets::{Ack, Ticket};
 use cs_core::{Bytes, Core, Event, Reply};
@@ -15,13 +15,13 @@ use cs_deps::Refusal;
 use cs_disk::PageDisk;
 use cs_frame::ShardId;
 use std::alloc::Global;
-use std::marker::PhantomData;
-use std::sync::{Mutex, Wait};
+use std::sync::Wait;
 
-/// A core under its lock, and its board. Each call takes the lock at most once at a time, for at most one event.
+/// A core under its lock, and its board. Each call takes the lock at most once at a time, for at most one event: an event wants that none
+/// was done since the lock was taken, so under one lock a second one isn't proved.
 #[derive(Drop)]
 pub struct Node<D: PageDisk, K: Naming> {
-    pub(crate) state: Mutex<Locked<D, K>>,
+    pub(crate) lock: Lock<D, K>,
     pub(crate) words: Words,
     ghost named: { words.shared.table_id ≡ K.table },
     ghost one_word: { words.shared.table_id.words ≡ 1 },
@@ -56,13 +56,7 @@ impl<D: PageDisk, K: Naming> Node<D, K> {
     {
         let Board { words, keeper } = board;
         Node {
-            state: Mutex::new(Locked {
-                core,
-                keeper,
-                given: 0,
-                piloted: false,
-                of: PhantomData,
-            }),
+            lock: Lock::new(Locked::new(core, keeper)),
             words,
         }
     }
@@ -72,7 +66,7 @@ impl<D: PageDisk, K: Naming> Node<D, K> {
         ensures ok { IfOk result (λ purse. (purse.calls ≡ []) × (purse.tickets ≡ []) × (purse.acks ≡ [])) }
         ensures err { IfErr result (λ r. r ≡ Refusal.WornOut) }
     {
-        self.state.lock(rt).give(&self.words.shared, alloc)
+        self.lock.take(rt).give(&self.words.shared, alloc)
     }
 
     /// Keeps bytes under an identifier. The ticket has the command's number.
@@ -106,8 +100,8 @@ impl<D: PageDisk, K: Naming> Node<D, K> {
         ensures err { IfErr result (λ r. Refuses purse.old (Event.Put id bytes) r purse.new) }
         ensures step { WhileLocked D.honest D.state K.start (λ old new. IsAnswered D.honest D.state old purse.old (Event.Put id bytes) (λ n. Reply.Accepted n) result new purse.new) }
     {
-        self.state
-            .lock(rt)
+        self.lock
+            .take(rt)
             .put(&self.words.shared, purse, id, bytes, gate)
     }
 
@@ -126,8 +120,8 @@ impl<D: PageDisk, K: Naming> Node<D, K> {
         ensures step { WhileLocked D.honest D.state K.start (λ old new. IsAnswered D.honest D.state old purse.old (Event.Get id) got result new purse.new) }
     {
         let there = self
-            .state
-            .lock(rt)
+            .lock
+            .take(rt)
             .get(&self.words.shared, purse, id, &Open)?;
         if !there {
             return Ok(None);
@@ -151,8 +145,8 @@ impl<D: PageDisk, K: Naming> Node<D, K> {
         ensures err { IfErr result (λ r. Refuses purse.old (Event.Delete id) r purse.new) }
         ensures step { WhileLocked D.honest D.state K.start (λ old new. IsAnswered D.honest D.state old purse.old (Event.Delete id) deleted result new purse.new) }
     {
-        self.state
-            .lock(rt)
+        self.lock
+            .take(rt)
             .delete(&self.words.shared, purse, id, &Open)
     }
 
@@ -161,8 +155,8 @@ impl<D: PageDisk, K: Naming> Node<D, K> {
         ensures told { Settles purse.old ticket result purse.new }
         ensures step { WhileLocked D.honest D.state K.start (λ old new. IsSettledBy D.honest D.state old purse.old ticket result new purse.new) }
     {
-        self.state
-            .lock(rt)
+        self.lock
+            .take(rt)
             .settle(&self.words.shared, purse, ticket, &Open)
     }
 }

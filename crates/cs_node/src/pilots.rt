@@ -35,7 +35,7 @@ impl<K: Naming> Pilot<K> {
     ) -> Result<Step, Refusal>
         ensures { WhileLocked D.honest D.state K.start (λ old new. IsTurn D.honest D.state old result new) }
     {
-        node.state.lock(rt).turn(&node.words.shared, gate)
+        node.lock.take(rt).turn(&node.words.shared, gate)
     }
 
     /// Takes turns until the gate ends it or a turn is refused. It yields where there is nothing to do.
@@ -63,7 +63,7 @@ impl<K: Naming> Pilot<K> {
 impl<D: PageDisk, K: Naming> Node<D, K> {
     /// The pilot, None once it was given.
     pub fn pilot<R: Wait>(&self, rt: &R) -> Option<Pilot<K>> {
-        self.state.lock(rt).hire()
+        self.lock.take(rt).hire()
     }
 
     /// Stages what has changed, and writes back until all commands that were accepted by then are persistent: what is left of the round
@@ -74,9 +74,9 @@ impl<D: PageDisk, K: Naming> Node<D, K> {
         ensures ok { IfOk result (λ frontier. Syncs D.honest D.state K.start frontier) }
         ensures err { IfErr result (λ r. WhileLocked D.honest D.state K.start (λ old new. IsSyncRefused D.honest D.state old r new)) }
     {
-        let target = self.state.lock(rt).stage(&self.words.shared)?;
+        let target = self.lock.take(rt).stage(&self.words.shared)?;
         for _ in rt.forever() {
-            let reached = self.state.lock(rt).advance(&self.words.shared, target)?;
+            let reached = self.lock.take(rt).advance(&self.words.shared, target)?;
             if let Some(frontier) = reached {
                 return Ok(frontier);
             }

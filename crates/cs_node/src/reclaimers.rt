@@ -1,5 +1,5 @@
 //! Who sweeps extents.
-ghost use Rattle.std.specs.Prelude.{◌≡◌, ◌⊎◌, ◌^◌, ◌-◌, ◌<◌, ◌≤◌, IfErr, IfOk, IfSome, IsTrue, MatchOption};
+ghost use Rattle.std.specs.Prelude.{◌≡◌, ◌⊎◌, ◌^◌, ◌-◌, ◌<◌, ◌≤◌, IfErr, IfOk, IfSome, IsTrue, MatchOption, true};
 ghost use Rattle.cs_node.specs.Locks.{IsBehind, WhileLocked};
 ghost use Rattle.cs_node.specs.Sweeps.{HasSwept, IsIdle, IsLeastFrom, IsNextAfter, IsNextEvent, IsSweepRefused, IsSweepTurn, NoneFrom, Reclaiming, after_event, after_refusal, unbegun};
 
@@ -65,7 +65,7 @@ impl Reclaimer {
     ) -> Result<Step, Refusal>
         ensures { WhileLocked D.honest D.state K.start (λ old new. IsSweepTurn D.honest D.state old self.old result new self.new) }
     {
-        node.state.lock(rt).sweep(&node.words.shared, self, gate)
+        node.lock.take(rt).sweep(&node.words.shared, self, gate)
     }
 
     /// Takes turns until the gate ends it, its sweeps are used up, or a turn is refused 40 Halted or 41 HistoryFull. It yields where
@@ -161,7 +161,8 @@ impl<D: PageDisk, K: Naming> Locked<D, K> {
         reclaimer: &mut Reclaimer,
         gate: &G,
     ) -> Result<Step, Refusal>
-        requires { (board.now.table_id ≡ K.table) × (board.now.table_id.words ≡ 1) }
+        requires board { (board.now.table_id ≡ K.table) × (board.now.table_id.words ≡ 1) }
+        requires fresh { self.old.fresh ≡ true }
         ensures turn { IsSweepTurn D.honest D.state self.old.core reclaimer.old result self.new.core reclaimer.new }
         ensures given { (self.new.given ≡ self.old.given) × (self.new.piloted ≡ self.old.piloted) }
         ensures behind { IsBehind D.honest D.state K.start self.old.core }

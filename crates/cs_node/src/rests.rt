@@ -8,7 +8,7 @@ ghost use Rattle.cs_node.specs.Locks.{IsBehind};
 ghost use Rattle.cs_node.specs.Starts.{start_of};
 
 use crate::boards::{Naming, Words};
-use crate::locked::Locked;
+use crate::locked::{Lock, Locked};
 use crate::nodes::Node;
 use crate::purses::Purse;
 use crate::tallies::judge;
@@ -16,7 +16,6 @@ use cs_core::{Core, Event, Reply};
 use cs_disk::PageDisk;
 use std::alloc::Global;
 use std::marker::Model;
-use std::sync::Mutex;
 
 /// A node whose lock is open. Contracts see its core, and what it gave.
 #[derive(Drop)]
@@ -68,8 +67,8 @@ impl<D: PageDisk, K: Naming> Node<D, K> {
     pub fn rest(self) -> Rest<D, K>
         ensures { IsBehind D.honest D.state K.start result.core }
     {
-        let Node { state, words } = self;
-        let locked = state.into_inner();
+        let Node { lock, words } = self;
+        let locked = lock.into_inner();
         // Its contract tells what a core behind the lock keeps.
         locked.core();
         Rest { locked, words }
@@ -97,7 +96,7 @@ impl<D: PageDisk, K: Naming> Rest<D, K> {
     pub fn resume(self) -> Node<D, K> {
         let Rest { locked, words } = self;
         Node {
-            state: Mutex::new(locked),
+            lock: Lock::new(locked),
             words,
         }
     }

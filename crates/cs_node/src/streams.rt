@@ -1,5 +1,5 @@
 //! Who writes back under steady load.
-ghost use Rattle.std.specs.Prelude.{◌≡◌, IfErr, IfOk, MatchOption};
+ghost use Rattle.std.specs.Prelude.{◌≡◌, IfErr, IfOk, MatchOption, true};
 ghost use Rattle.cs_node.specs.Dues.{IsAtRest};
 ghost use Rattle.cs_node.specs.Locks.{IsBehind, WhileLocked};
 ghost use Rattle.cs_node.specs.Streams.{IsNext, IsStreamRefused, IsStreamTurn};
@@ -9,6 +9,7 @@ use crate::gates::{Gate, Step, step_of};
 use crate::locked::Locked;
 use crate::nodes::Node;
 use crate::pilots::Pilot;
+use crate::writebacks::round_event;
 use cs_core::{Core, Event};
 use cs_deps::Refusal;
 use cs_disk::PageDisk;
@@ -47,7 +48,7 @@ impl<K: Naming> Stream<K> {
     ) -> Result<Step, Refusal>
         ensures { WhileLocked D.honest D.state K.start (λ old new. IsStreamTurn D.honest D.state old result new) }
     {
-        node.state.lock(rt).stream(&node.words.shared, gate)
+        node.lock.take(rt).stream(&node.words.shared, gate)
     }
 
     /// Takes turns until the gate ends it or a turn is refused. It yields where there is nothing to do.
@@ -76,11 +77,8 @@ impl<K: Naming> Stream<K> {
 fn next_event<D: PageDisk>(core: &Core<D>) -> Option<Event>
     ensures { MatchOption result (IsAtRest core.now.store) (λ event. IsNext core.now.store event) }
 {
-    if let Some((members, issued)) = core.round() {
-        if issued < members.len() {
-            return Some(Event::Issue);
-        }
-        return Some(Event::End);
+    if let Some(event) = round_event(core) {
+        return Some(event);
     }
     if core.has_changes() {
         return Some(Event::Stage);
@@ -94,7 +92,8 @@ fn next_event<D: PageDisk>(core: &Core<D>) -> Option<Event>
 impl<D: PageDisk, K: Naming> Locked<D, K> {
     /// Does the event of writeback that is due in a stream. Refused as the event is, 9 OutOfMemory and 41 HistoryFull.
     pub fn stream<G: Gate>(&mut self, board: &Shown, gate: &G) -> Result<Step, Refusal>
-        requires { (board.now.table_id ≡ K.table) × (board.now.table_id.words ≡ 1) }
+        requires board { (board.now.table_id ≡ K.table) × (board.now.table_id.words ≡ 1) }
+        requires fresh { self.old.fresh ≡ true }
         ensures turn { IsStreamTurn D.honest D.state self.old.core result self.new.core }
         ensures given { (self.new.given ≡ self.old.given) × (self.new.piloted ≡ self.old.piloted) }
         ensures behind { IsBehind D.honest D.state K.start self.old.core }

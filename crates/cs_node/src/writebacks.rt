@@ -1,27 +1,35 @@
 //! Events of writeback, under the lock.
-ghost use Rattle.std.specs.Prelude.{◌≡◌, IfErr, IfOk, MatchOption, false, true};
+ghost use Rattle.std.specs.Prelude.{◌≡◌, IfErr, IfOk, MatchOption, None, true};
 ghost use Rattle.cs_core.specs.Shapes.{MayAnswer};
 ghost use Rattle.cs_core.specs.Views.{IsStep};
-ghost use Rattle.cs_node.specs.Dues.{IsAdvance, IsAtRest, IsDue, IsStaged, IsTurn};
+ghost use Rattle.cs_node.specs.Dues.{IsAdvance, IsAtRest, IsDue, IsOfRound, IsStaged, IsTurn};
 ghost use Rattle.cs_node.specs.Locks.{IsBehind, IsRefused};
 
 use crate::boards::{Naming, Shown};
 use crate::gates::{Gate, Open, Step, step_of};
 use crate::locked::Locked;
-use crate::pilots::Pilot;
 use cs_core::{Core, Event, Reply};
 use cs_deps::Refusal;
 use cs_disk::PageDisk;
+
+/// What is left of the round that is out, None where none is.
+pub fn round_event<D: PageDisk>(core: &Core<D>) -> Option<Event>
+    ensures { MatchOption result (core.now.store.out ≡ None) (λ event. IsOfRound core.now.store event) }
+{
+    let (members, issued) = core.round()?;
+    if issued < members.len() {
+        Some(Event::Issue)
+    } else {
+        Some(Event::End)
+    }
+}
 
 /// Which event of writeback is due, None where nothing waits and nothing has changed.
 pub fn due<D: PageDisk>(core: &Core<D>) -> Option<Event>
     ensures { MatchOption result (IsAtRest core.now.store) (λ event. IsDue core.now.store event) }
 {
-    if let Some((members, issued)) = core.round() {
-        if issued < members.len() {
-            return Some(Event::Issue);
-        }
-        return Some(Event::End);
+    if let Some(event) = round_event(core) {
+        return Some(event);
     }
     if core.has_waiting() {
         return Some(Event::Begin);
@@ -41,7 +49,8 @@ impl<D: PageDisk, K: Naming> Locked<D, K> {
         event: &Event,
         gate: &G,
     ) -> Result<Reply, Refusal>
-        requires { (board.now.table_id ≡ K.table) × (board.now.table_id.words ≡ 1) }
+        requires board { (board.now.table_id ≡ K.table) × (board.now.table_id.words ≡ 1) }
+        requires fresh { self.old.fresh ≡ true }
         ensures step { IfOk result (λ reply. IsStep D.honest D.state self.old.core event.now reply self.new.core) }
         ensures shape { IfOk result (λ reply. MayAnswer event.now reply) }
         ensures refused { IfErr result (λ r. IsRefused D.honest D.state self.old.core event.now r self.new.core) }
@@ -56,7 +65,8 @@ impl<D: PageDisk, K: Naming> Locked<D, K> {
 
     /// Does the event of writeback that is due. Refused as the event is, 9 OutOfMemory and 41 HistoryFull.
     pub fn turn<G: Gate>(&mut self, board: &Shown, gate: &G) -> Result<Step, Refusal>
-        requires { (board.now.table_id ≡ K.table) × (board.now.table_id.words ≡ 1) }
+        requires board { (board.now.table_id ≡ K.table) × (board.now.table_id.words ≡ 1) }
+        requires fresh { self.old.fresh ≡ true }
         ensures turn { IsTurn D.honest D.state self.old.core result self.new.core }
         ensures given { (self.new.given ≡ self.old.given) × (self.new.piloted ≡ self.old.piloted) }
         ensures behind { IsBehind D.honest D.state K.start self.old.core }
@@ -72,18 +82,20 @@ impl<D: PageDisk, K: Naming> Locked<D, K> {
 
     /// Stages what has changed, and gives how many commands were accepted then.
     pub fn stage(&mut self, board: &Shown) -> Result<u64, Refusal>
-        requires { (board.now.table_id ≡ K.table) × (board.now.table_id.words ≡ 1) }
+        requires board { (board.now.table_id ≡ K.table) × (board.now.table_id.words ≡ 1) }
+        requires fresh { self.old.fresh ≡ true }
         ensures staged { IsStaged D.honest D.state self.old.core result self.new.core }
         ensures given { (self.new.given ≡ self.old.given) × (self.new.piloted ≡ self.old.piloted) }
         ensures behind { IsBehind D.honest D.state K.start self.old.core }
     {
         self.work(board, &Event::Stage, &Open)?;
-        Ok(self.core.accepted())
+        Ok(self.core().accepted())
     }
 
     /// Gives how many commands are persistent where as many are, else does the event of writeback that is due.
     pub fn advance(&mut self, board: &Shown, target: u64) -> Result<Option<u64>, Refusal>
-        requires { (board.now.table_id ≡ K.table) × (board.now.table_id.words ≡ 1) }
+        requires board { (board.now.table_id ≡ K.table) × (board.now.table_id.words ≡ 1) }
+        requires fresh { self.old.fresh ≡ true }
         ensures advance { IsAdvance D.honest D.state self.old.core target result self.new.core }
         ensures given { (self.new.given ≡ self.old.given) × (self.new.piloted ≡ self.old.piloted) }
         ensures behind { IsBehind D.honest D.state K.start self.old.core }
@@ -94,16 +106,5 @@ impl<D: PageDisk, K: Naming> Locked<D, K> {
         }
         self.turn(board, &Open)?;
         Ok(None)
-    }
-
-    /// The pilot, None once it was given.
-    pub fn hire(&mut self) -> Option<Pilot<K>>
-        ensures { MatchOption result ((self.old.piloted ≡ true) × (self.new ≡ self.old)) (λ _. (self.old.piloted ≡ false) × (self.new ≡ record self.old { piloted = true })) }
-    {
-        if self.piloted {
-            return None;
-        }
-        self.piloted = true;
-        Some(Pilot::new())
     }
 }

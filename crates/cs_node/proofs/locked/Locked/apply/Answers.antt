@@ -6,4 +6,4 @@ pub store-requires : goal.store-requires
 store-requires g c =
     let i = c.self.invariant in
     let shown = ap (λ m. m.0) i.3 in
-    (i.1 ∙ sym c.requires.0, search rules, raise_keeps_as _ _ _ _ i.2 (omega (arith, shown, c.frontier-before.ensures, c.if-before-frontier.true)))
+    (i.1 ∙ sym c.requires.board.0, search rules, raise_keeps_as _ _ _ _ i.2 (omega (arith, shown, c.frontier-before.ensures, c.if-before-frontier.true)))
