@@ -1,5 +1,5 @@
--- What a race prints at its end.
-use Rattle.std.specs.Prelude.{◌≡◌, ◌⊎◌, ◌++◌, ℕ, List, Result, Ok, Err, codes, decimal}
+-- What a race is run with, and what it prints at its end.
+use Rattle.std.specs.Prelude.{◌≡◌, ◌⊎◌, ◌≤◌, ◌++◌, ℕ, Bool, List, Result, Ok, Err, codes, decimal}
 use Rattle.cs_deps.specs.declared.refusals.Refusal.{Refusal}
 use Rattle.cs_deps.specs.declared.refusals.Refusal.TheVariants.{OutOfMemory, WornOut}
 use Rattle.cs_disk.specs.Disk.{State as DiskState}
@@ -14,6 +14,21 @@ use Rattle.cs_node.specs.Starts.{Start, start_of}
 use Rattle.cs_node.specs.Told.{Holdings}
 use Rattle.cs_node.specs.Under.{Under}
 use Rattle.cs_cli.specs.Outputs.{acknowledged_line, line_of, refusal_line}
+
+-- So many threads put so many shards each; the first of them drops so many of its first tickets; and rounds of several syncs overlap, or
+-- don't.
+pub record Racing : Type 0 where
+  pub threads : ℕ
+  pub puts : ℕ
+  pub dropped : ℕ
+  pub streams : Bool
+
+-- numbers with which a race may be run
+pub record IsRaceable (threads puts dropped : ℕ) : Type 0 where
+  pub some : 1 ≤ threads
+  pub threads_fit : threads ≤ 64
+  pub puts_fit : puts ≤ 1000
+  pub drops_fit : dropped ≤ puts
 
 -- how many commands were accepted, and how many shards were read back
 abbrev pub counts_lines : ℕ → ℕ → List ℕ

@@ -9,7 +9,7 @@ use std::alloc::{AllocError, Global};
 pub fn command<'a>(alloc: Global) -> Result<Command<'a>, AllocError> {
     let check = Command::new(alloc, "check").about("Checks a plan document from standard input");
     Command::new(alloc, "cs_cli")
-        .about("A chunk store that writes back with the fewest flushes")
+        .about("A shard store that writes back with the fewest flushes")
         .subcommand_required(true)
         .subcommand(run_command(alloc)?)?
         .subcommand(race_command(alloc)?)?

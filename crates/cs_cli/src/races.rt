@@ -1,10 +1,10 @@
 //! Races: threads put, get back and poll, beside a pilot and a reclaimer, on one node, which is closed then.
-ghost use Rattle.std.specs.Prelude.{◌≡◌, ◌⊎◌, ◌≤◌, ◌<◌, ℕ, List, [], IfErr, IfOk, OnOk};
+ghost use Rattle.std.specs.Prelude.{◌≡◌, ◌⊎◌, ◌≤◌, ◌<◌, ℕ, List, [], IfErr, IfOk, MatchOption, OnOk};
 ghost use Rattle.std.specs.Io.KnownBytes.{Appends};
 ghost use Rattle.cs_node.specs.Starts.{start_of};
 ghost use Rattle.cs_deps.specs.declared.refusals.Refusal.{Refusal as Why};
 ghost use Rattle.cs_cli.specs.Outputs.{refusal_line};
-ghost use Rattle.cs_cli.specs.Races.{IsAnswer, IsNoRace, Races, answer_line, answer_status, counts_lines, missing_line};
+ghost use Rattle.cs_cli.specs.Races.{IsAnswer, IsNoRace, IsRaceable, Races, answer_line, answer_status, counts_lines, missing_line};
 
 use crate::outputs::{print_acknowledged, print_no_store, print_refusal};
 use crate::racers::{Returned, racers};
@@ -18,7 +18,7 @@ use cs_node::{Board, Naming, Node, Pilot, Purse, Rest, Unclosed};
 use std::alloc::{AllocError, Global};
 use std::io;
 use std::io::Write;
-use std::marker::Brand;
+use std::marker::{Brand, Model};
 use std::sync::Wait;
 use std::thread::Threads;
 
@@ -28,21 +28,33 @@ const EXTENTS: u64 = 64;
 /// How many pages an extent has.
 const PAGES: u64 = 4;
 
-/// What a race is run with.
+/// What a race is run with. Contracts see its numbers.
 #[derive(Clone, Copy, Debug)]
 pub struct Race {
     threads: u64,
     puts: u64,
     dropped: u64,
     streams: bool,
-    ghost threads_fit: { threads ≤ 64 },
-    ghost puts_fit: { puts ≤ 1000 },
+}
+
+impl Model for Race {
+    ghost use Rattle.cs_cli.specs.Races.{IsRaceable, Racing};
+
+    ghost Value = { Racing };
+
+    ghost view = { λ r. record { threads = r.threads; puts = r.puts; dropped = r.dropped; streams = r.streams } };
+
+    ghost invariant = { λ r. IsRaceable r.threads r.puts r.dropped };
+
+    ghost inverse = { λ d. record { threads = d.threads; puts = d.puts; dropped = d.dropped; streams = d.streams } };
 }
 
 impl Race {
     /// A race of 1 to 64 threads that put up to 1,000 shards each, the first of which drops so many of its first tickets, at most as
     /// many as it puts, and in which rounds of several syncs overlap or don't. None for other numbers.
-    pub fn new(threads: u64, puts: u64, dropped: u64, streams: bool) -> Option<Race> {
+    pub fn new(threads: u64, puts: u64, dropped: u64, streams: bool) -> Option<Race>
+        ensures { MatchOption result (¬ IsRaceable threads puts dropped) (λ r. r ≡ record { threads = threads; puts = puts; dropped = dropped; streams = streams }) }
+    {
         if threads < 1 || threads > 64 || puts > 1000 || dropped > puts {
             return None;
         }
@@ -56,25 +68,31 @@ impl Race {
 
     /// How many threads put.
     pub fn threads(&self) -> u64
-        ensures { result ≤ 64 }
+        ensures count { result ≡ self.now.threads }
+        ensures fits { result ≤ 64 }
     {
         self.threads
     }
 
     /// How many shards each of them puts.
     pub fn puts(&self) -> u64
-        ensures { result ≤ 1000 }
+        ensures count { result ≡ self.now.puts }
+        ensures fits { result ≤ 1000 }
     {
         self.puts
     }
 
     /// How many of its first tickets the first thread drops.
-    pub fn dropped(&self) -> u64 {
+    pub fn dropped(&self) -> u64
+        ensures { result ≡ self.now.dropped }
+    {
         self.dropped
     }
 
     /// Whether rounds of several syncs overlap.
-    pub fn streams(&self) -> bool {
+    pub fn streams(&self) -> bool
+        ensures { result ≡ self.now.streams }
+    {
         self.streams
     }
 }

@@ -5,9 +5,10 @@ use std::alloc::Global;
 use std::process::Abort;
 use std::test::Fail;
 
-/// What is put and deleted, swept and synced.
+/// What is put and deleted, swept twice and synced twice. The second sync writes nine rounds back, since the pages of both extents are
+/// used again behind the root of their sweep.
 const SCRIPT: &str =
-    "put @a 61 / put @b 62 / sync / put @a 63 / sweep 0 / put @c 64 / del @b / put @a 65 / sync";
+    "put @a 61 / put @b 62 / sync / put @a 63 / sweep 0 / put @c 64 / sweep 1 / del @b / put @a 65 / sync";
 
 /// The commands of the script: the last digit of the identifier, and the digits that are put, or none.
 const COMMANDS: [(char, Option<u8>); 6] = [
@@ -19,13 +20,13 @@ const COMMANDS: [(char, Option<u8>); 6] = [
     ('a', Some(65)),
 ];
 
-/// The script, with each sync made step by step. Steps that are left over are idle.
+/// The script, with each sync made step by step: 33 steps at most. Those that are left over are idle.
 fn steps(alloc: Global) -> Result<String, Fail> {
     let mut text = String::new(alloc);
     for line in script_text(alloc, SCRIPT)?.lines() {
         if line == "sync" {
             text.push_str("plan\n")?;
-            for _ in 0..26 {
+            for _ in 0..33 {
                 text.push_str("step\n")?;
             }
         } else {
