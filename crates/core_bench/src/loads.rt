@@ -10,11 +10,16 @@ use std::alloc::Global;
 /// How many shards there are at most: the puts go round over their identifiers.
 pub const SHARDS: u64 = 1_000;
 
-/// Puts so often, and writes back after each batch and at the end.
-pub fn put_all(alloc: Global, core: &mut Core<MemoryDisk>, task: Task) -> Result<Counts, Fault> {
+/// The bytes of each shard.
+fn payload(alloc: Global, task: Task) -> Result<Bytes, Fault> {
     let mut bytes = Vec::new(alloc);
     bytes.resize(task.bytes, 0x61)?;
-    let bytes = Bytes::new(alloc, bytes)?;
+    Ok(Bytes::new(alloc, bytes)?)
+}
+
+/// Puts so often, and writes back after each batch and at the end.
+pub fn put_all(alloc: Global, core: &mut Core<MemoryDisk>, task: Task) -> Result<Counts, Fault> {
+    let bytes = payload(alloc, task)?;
     let mut counts = Counts::new();
     let mut waiting: u64 = 0;
     for number in 0..task.count {
@@ -31,11 +36,20 @@ pub fn put_all(alloc: Global, core: &mut Core<MemoryDisk>, task: Task) -> Result
     Ok(counts)
 }
 
-/// Gets so often what was put, in turn, and gives how often something was there.
-pub fn get_all(core: &mut Core<MemoryDisk>, count: u64) -> Result<u64, Fault> {
+/// Puts so often under as many other identifiers, and writes nothing back.
+pub fn put_waiting(alloc: Global, core: &mut Core<MemoryDisk>, task: Task) -> Result<(), Fault> {
+    let bytes = payload(alloc, task)?;
+    for number in 0..task.count {
+        put(core, SHARDS.saturating_add(number % SHARDS), bytes.share()?)?;
+    }
+    Ok(())
+}
+
+/// Gets so often what was put, in turn from this identifier on, and gives how often something was there.
+pub fn get_all(core: &mut Core<MemoryDisk>, first: u64, count: u64) -> Result<u64, Fault> {
     let mut found: u64 = 0;
     for number in 0..count {
-        if get(core, number % SHARDS)? {
+        if get(core, first.saturating_add(number % SHARDS))? {
             found = found.saturating_add(1);
         }
     }

@@ -3,7 +3,8 @@
 //! how many extents of 256 pages the store has:
 //!
 //! - `puts`: each batch is put, staged and written back, round by round;
-//! - `gets`: so many puts are written back, and so many gets are timed.
+//! - `gets`: so many puts are written back, and so many gets are timed;
+//! - `beside`: so many puts wait, and 1,000 gets of what was written back before are timed, then as many of what waits.
 //!
 //! Where no argument is given, a few puts are done, and what they wrote is counted and not timed.
 #![tactic(auto)]
@@ -24,7 +25,7 @@ use std::rt::Env;
 use std::time::Clock;
 use std::{env, io};
 use thiserror::Error;
-use timings::{print_puts, time_gets, time_puts};
+use timings::{print_puts, time_beside, time_gets, time_puts};
 
 /// How many events the core may record.
 const HISTORY: usize = 65_536;
@@ -55,6 +56,7 @@ enum Work {
     Nothing,
     Puts,
     Gets,
+    Beside,
 }
 
 /// How often it is done, with how many bytes a shard, how many puts a batch, and how many extents.
@@ -90,6 +92,7 @@ fn run<R: Print + Clock>(
         Work::Nothing => print_puts(rt, alloc, core, task),
         Work::Puts => time_puts(rt, alloc, core, task),
         Work::Gets => time_gets(rt, alloc, core, task),
+        Work::Beside => time_beside(rt, alloc, core, task),
     }
 }
 
@@ -98,6 +101,7 @@ fn work_wanted(rt: &(impl Env + AllocGlobal)) -> Result<Work, Fault> {
     match env::args(rt)?.nth(1) {
         Some(text) => match text.as_str() {
             "gets" => Ok(Work::Gets),
+            "beside" => Ok(Work::Beside),
             _ => Ok(Work::Puts),
         },
         None => Ok(Work::Nothing),

@@ -2,7 +2,7 @@
 
 use crate::counts::Counts;
 use crate::digests::{digest_puts, digest_texts};
-use crate::loads::{get_all, put_all};
+use crate::loads::{SHARDS, get_all, put_all, put_waiting};
 use crate::{Fault, Task};
 use cs_core::Core;
 use cs_disk::MemoryDisk;
@@ -78,10 +78,11 @@ pub fn time_puts<R: Print + Clock>(
 fn timed_gets<R: Clock>(
     rt: &R,
     core: &mut Core<MemoryDisk>,
+    first: u64,
     count: u64,
 ) -> Result<(u64, u128), Fault> {
     let start = Instant::now(rt)?;
-    let found = get_all(core, count)?;
+    let found = get_all(core, first, count)?;
     Ok((found, micros_since(rt, start)?))
 }
 
@@ -93,9 +94,33 @@ pub fn time_gets<R: Print + Clock>(
     task: Task,
 ) -> Result<(), Fault> {
     put_all(alloc, core, task)?;
-    let (found, took) = timed_gets(rt, core, task.count)?;
+    let (found, took) = timed_gets(rt, core, 0, task.count)?;
     println!(rt; "gets {} found {found}", task.count)?;
     let start = Instant::now(rt)?;
     let digests = digest_texts(alloc, found, task.bytes)?;
     print_times(rt, took, digests, micros_since(rt, start)?)
+}
+
+/// Times as many gets as there are shards, of what was written back and of what waits, beside so many puts that wait.
+pub fn time_beside<R: Print + Clock>(
+    rt: &R,
+    alloc: Global,
+    core: &mut Core<MemoryDisk>,
+    task: Task,
+) -> Result<(), Fault> {
+    let written = Task {
+        count: SHARDS,
+        bytes: task.bytes,
+        batch: task.batch,
+        extents: task.extents,
+    };
+    put_all(alloc, core, written)?;
+    put_waiting(alloc, core, task)?;
+    let (there, settled) = timed_gets(rt, core, 0, SHARDS)?;
+    let (waiting, waits) = timed_gets(rt, core, SHARDS, SHARDS)?;
+    println!(rt;
+        "beside {} waiting puts: {there} gets of what was written back in {settled} us, {waiting} of what waits in {waits} us",
+        task.count
+    )?;
+    Ok(())
 }

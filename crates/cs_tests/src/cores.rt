@@ -1,5 +1,5 @@
 //! Worked rows of the event machine, event by event.
-use crate::machines::{core_that_fails, new_core, plans, put, says};
+use crate::machines::{begins_with_a_put, core_that_fails, new_core, plans, put, says};
 use crate::stores::id;
 use cs_core::{Core, Event};
 use cs_deps::Refusal;
@@ -70,13 +70,7 @@ fn a_put_beside_a_round_in<D: PageDisk>(
     rt: &(impl Abort + AllocGlobal),
     core: &mut Core<D>,
 ) -> Result<(), Fail> {
-    put(rt, core, 10, 0x61, "Accepted(1)")?;
-    says(
-        rt,
-        core,
-        Event::Begin,
-        "Begun(Elements { elements: [Plain(1)] })",
-    )?;
+    begins_with_a_put(rt, core)?;
     put(rt, core, 11, 0x62, "Accepted(2)")?;
     assert_eq!(rt; core.plan().err(), Some(Refusal::InFlight));
     says(rt, core, Event::Issue, "Issued(Plain(1), 2)")?;
@@ -100,13 +94,7 @@ fn a_root_beside_a_round_in<D: PageDisk>(
     rt: &(impl Abort + AllocGlobal),
     core: &mut Core<D>,
 ) -> Result<(), Fail> {
-    put(rt, core, 10, 0x61, "Accepted(1)")?;
-    says(
-        rt,
-        core,
-        Event::Begin,
-        "Begun(Elements { elements: [Plain(1)] })",
-    )?;
+    begins_with_a_put(rt, core)?;
     says(rt, core, Event::Stage, "Staged(2)")?;
     says(rt, core, Event::Issue, "Issued(Plain(1), 2)")?;
     says(rt, core, Event::End, "Ended(0)")?;
@@ -154,7 +142,7 @@ fn is_halted<D: PageDisk>(rt: &(impl Abort + AllocGlobal), core: &mut Core<D>) -
     says(rt, core, Event::Settle(1), "NotYet(0)")
 }
 
-/// The three calls of opening are the flush and the reads of superblock and root.
+/// Opening makes three calls, the flush and the reads of superblock and root, so the fourth is the write of Issue.
 #[test]
 fn a_write_that_fails(rt: HostRuntime) -> Result<(), Fail> {
     let mut core = core_that_fails(&rt, 4, 1000)?;
@@ -165,13 +153,7 @@ fn a_write_that_fails_in<D: PageDisk>(
     rt: &(impl Abort + AllocGlobal),
     core: &mut Core<D>,
 ) -> Result<(), Fail> {
-    put(rt, core, 10, 0x61, "Accepted(1)")?;
-    says(
-        rt,
-        core,
-        Event::Begin,
-        "Begun(Elements { elements: [Plain(1)] })",
-    )?;
+    begins_with_a_put(rt, core)?;
     says(rt, core, Event::Issue, "Refused(DeviceFault)")?;
     is_halted(rt, core)
 }
@@ -186,13 +168,7 @@ fn a_flush_that_fails_in<D: PageDisk>(
     rt: &(impl Abort + AllocGlobal),
     core: &mut Core<D>,
 ) -> Result<(), Fail> {
-    put(rt, core, 10, 0x61, "Accepted(1)")?;
-    says(
-        rt,
-        core,
-        Event::Begin,
-        "Begun(Elements { elements: [Plain(1)] })",
-    )?;
+    begins_with_a_put(rt, core)?;
     says(rt, core, Event::Issue, "Issued(Plain(1), 2)")?;
     says(rt, core, Event::End, "Refused(DeviceFault)")?;
     is_halted(rt, core)
@@ -209,13 +185,7 @@ fn a_halt_at_the_limit_in<D: PageDisk>(
     rt: &(impl Abort + AllocGlobal),
     core: &mut Core<D>,
 ) -> Result<(), Fail> {
-    put(rt, core, 10, 0x61, "Accepted(1)")?;
-    says(
-        rt,
-        core,
-        Event::Begin,
-        "Begun(Elements { elements: [Plain(1)] })",
-    )?;
+    begins_with_a_put(rt, core)?;
     says(rt, core, Event::Issue, "Refused(DeviceFault)")?;
     says(rt, core, Event::Issue, "Refused(Halted)")?;
     says(rt, core, Event::Issue, "Refused(HistoryFull)")?;

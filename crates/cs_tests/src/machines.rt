@@ -72,6 +72,20 @@ pub fn put<D: PageDisk>(
     says(rt, core, Event::Put(id(last), bytes), wanted)
 }
 
+/// Puts the first shard into a new store, and begins the round of its page.
+pub fn begins_with_a_put<D: PageDisk>(
+    rt: &(impl Abort + AllocGlobal),
+    core: &mut Core<D>,
+) -> Result<(), Fail> {
+    put(rt, core, 10, 0x61, "Accepted(1)")?;
+    says(
+        rt,
+        core,
+        Event::Begin,
+        "Begun(Elements { elements: [Plain(1)] })",
+    )
+}
+
 /// Asserts how the rounds and the chain of all that waits print.
 pub fn plans<D: PageDisk>(
     rt: &(impl Abort + AllocGlobal),

@@ -1,5 +1,5 @@
 //! What a core plans for a target, replays and keeps in memory, event by event.
-use crate::machines::{new_core, plans, put, says, writes_back};
+use crate::machines::{begins_with_a_put, new_core, plans, put, says, writes_back};
 use cs_core::{Core, Event};
 use cs_deps::{Dependency, Refusal};
 use cs_disk::{MemoryDisk, PageDisk};
@@ -179,13 +179,7 @@ fn put_beside_a_round<D: PageDisk>(
     rt: &(impl Abort + AllocGlobal),
     core: &mut Core<D>,
 ) -> Result<(), Fail> {
-    put(rt, core, 10, 0x61, "Accepted(1)")?;
-    says(
-        rt,
-        core,
-        Event::Begin,
-        "Begun(Elements { elements: [Plain(1)] })",
-    )?;
+    begins_with_a_put(rt, core)?;
     put(rt, core, 11, 0x62, "Accepted(2)")?;
     says(rt, core, Event::Issue, "Issued(Plain(1), 2)")?;
     says(rt, core, Event::End, "Ended(0)")
