@@ -97,8 +97,8 @@ fn target(
 fn is_format(value: &Value) -> bool
     ensures { IsTrue result ↔ HasMember (view value.now) (codes "format") (number (unsigned 1)) }
 {
-    match value.get("format").and_then(Value::as_u64) {
-        Some(format) => format == 1,
+    match value.get("format") {
+        Some(format) => format.as_u64() == Some(1),
         None => false,
     }
 }

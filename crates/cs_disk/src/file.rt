@@ -127,13 +127,13 @@ fn file_of_zeros<R: Files<File = File>>(rt: &R, path: &str, pages: u64) -> io::R
     Ok(file)
 }
 
-/// Writes so many pages of zeros, 64 in a call.
+/// Writes so many pages of zeros, 16 in a call.
 fn fill(file: &File, pages: u64) -> io::Result<()> {
-    let zeros = [0; 64 * 4096];
-    for group in 0..pages / 64 {
-        file.write_all_at(&zeros, group.saturating_mul(64 * 4096))?;
+    let zeros = [0; 16 * 4096];
+    for group in 0..pages / 16 {
+        file.write_all_at(&zeros, group.saturating_mul(16 * 4096))?;
     }
-    for page in pages - pages % 64..pages {
+    for page in pages - pages % 16..pages {
         file.write_all_at(&zeros[..4096], page.saturating_mul(4096))?;
     }
     Ok(())
