@@ -19,6 +19,3 @@ pub use memory::MemoryDisk;
 
 /// The bytes of a page.
 pub const PAGE_BYTES: usize = 4096;
-
-#[cfg(test)]
-mod tests;

@@ -34,6 +34,3 @@ pub use reclaimers::{Next, Reclaimer};
 pub use rests::{Closed, NotClosed, Rest, Unclosed};
 pub use streams::Stream;
 pub use tickets::{Ack, Ticket};
-
-#[cfg(test)]
-mod tests;

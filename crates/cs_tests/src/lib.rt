@@ -11,6 +11,8 @@ mod cores;
 #[cfg(test)]
 mod damage;
 #[cfg(test)]
+mod disks;
+#[cfg(test)]
 mod documents;
 #[cfg(test)]
 mod extents;
