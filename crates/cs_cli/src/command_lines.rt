@@ -1,17 +1,16 @@
 //! The command line.
 ghost use Rattle.std.specs.Prelude.{◌≤◌};
 
-use crate::checks::run_check;
-use crate::options::{command, geometry_of, race_of};
-use crate::outputs::print_no_store;
 use crate::progress::{takes_time, tell_ended, tell_making};
-use crate::races::{new_core as new_race_core, run_race};
-use crate::statuses;
-use crate::stores::{new_in_file, new_in_memory, open_in_file, run_over};
 use clap::ArgMatches;
 use cs_core::Core;
 use cs_deps::Refusal;
 use cs_disk::{FileDisk, MemoryDisk};
+use cs_options::{command, geometry_of, race_of};
+use cs_script::{
+    new_core as new_race_core, new_in_file, new_in_memory, open_in_file, print_no_store, run_check,
+    run_over, run_race, statuses,
+};
 use std::alloc::Global;
 use std::fs::File;
 use std::io::BufWriter;

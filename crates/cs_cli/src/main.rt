@@ -1,30 +1,8 @@
-//! The program: runs races of threads on one node, and scripts, whose lines are `put`, `get`, `del`, `sweep`, `sync`, `step`, `plan`, `document` and
-//! `crash`, and checks plan documents.
+//! The program: its command line, by which it runs a script, checks a plan document, or runs a race.
 #![tactic(auto)]
 
-mod asks;
-mod bounded_readers;
-mod checks;
 mod command_lines;
-mod crashes;
-mod documents;
-mod lines;
-mod options;
-mod outputs;
-mod plans;
 mod progress;
-mod racers;
-mod races;
-mod scripts;
-mod statuses;
-mod steps;
-mod stores;
-mod sweeps;
-mod syncs;
-#[cfg(test)]
-mod tests;
-mod traffic;
-mod turns;
 
 use std::io::IsTerminal;
 use std::process::ExitCode;

@@ -1,7 +1,0 @@
-use Rattle.cs_cli.proofs.SweepSteps.{abandons}
-use Rattle.cs_cli.proofs.sweeps.abandon.Goals as goal
-
-pub returns-in-Ok : goal.returns-in-Ok
-returns-in-Ok g c =
-    let e = c.in-Ok.ensures in
-    abandons g.D.PageDisk.honest g.D.PageDisk.state c.args.extent c.args.core.now c.ask.new.core c.in-Ok.field-0 c.args.refusal e.done e.shape e.no_refusal

@@ -1,6 +1,0 @@
-use Rattle.cs_cli.specs.Histories.{Went}
-use Rattle.cs_cli.specs.Rounds.{Members, issues}
-use Rattle.cs_cli.proofs.turns.issue_rest.Given as goal
-
-abbrev pub invariant-loop : goal.invariant-loop
-invariant-loop g l = (members : Members) × Went g.D.PageDisk.honest g.D.PageDisk.state l.initial.core (issues members) l.core

@@ -1,0 +1,180 @@
+-- What rounds do to the graph and the index.
+use Rattle.std.proofs.Common.{take_all, ◌≡◌, ◌≢◌, ◌∙◌, ℕ, ◌<◌, List, [], ◌∷◌, ◌++◌, None, length, map, take, sym, ap, subst, refl, inr, arith, append_assoc}
+use Rattle.std.specs.Prelude.{IfErr, IfOk, Option, Result, Ok, Err}
+use Rattle.std.proofs.lemmas.List.{append-nil, map-append}
+use Rattle.cs_deps.specs.declared.elements.Element.{Element}
+use Rattle.cs_deps.specs.declared.refusals.Refusal.{Refusal}
+use Rattle.cs_deps.specs.Pending.{Pending}
+use Rattle.cs_deps.specs.Staging.{Staging, settled}
+use Rattle.cs_deps.specs.State.{IsQueue}
+use Rattle.cs_deps.specs.Turns.{LeadTo}
+use Rattle.cs_disk.specs.Disk.{State as DiskState}
+use Rattle.cs_index.proofs.Sorted.{take_at_get}
+use Rattle.cs_core.specs.declared.events.Event.{Event}
+use Rattle.cs_core.specs.declared.events.Event.TheVariants.{Begin, End, Issue}
+use Rattle.cs_core.specs.declared.events.Reply.{Reply}
+use Rattle.cs_core.specs.declared.events.Reply.TheVariants.{Begun, Ended, Issued}
+use Rattle.cs_core.specs.Shapes.{MayAnswer}
+use Rattle.cs_core.specs.Stored.{Stored, members_of}
+use Rattle.cs_core.specs.Views.{View}
+use Rattle.cs_core.specs.Writebacks.{IsRoundBegun, IsMemberIssued, IsRoundEnded}
+use Rattle.cs_script.specs.Histories.{Goes, IsNoRefusal, IsStopped, Went}
+use Rattle.cs_script.specs.Rounds.{IsOfRound, IsPart, Members, Turn, elements_of, events_of, events_of_all, issues, rest_of_round, rounds_of}
+use Rattle.cs_script.proofs.Asked.{issued_of}
+use Rattle.cs_script.proofs.Histories.{stays_same, stopped_later, stopped_next, went_one, went_parts, went_then}
+
+-- so many members were issued, and nothing else has changed
+pub record AreIssued (old new : Stored) (xs : List Element) : Type 0 where
+  pub out : new.out ≡ old.out
+  pub taken : take new.issued (members_of old.out) ≡ take old.issued (members_of old.out) ++ xs
+  pub pending : new.graph.staging.pending ≡ old.graph.staging.pending
+  pub same_index : new.index ≡ old.index
+
+-- a round went out and was ended
+pub record IsTurned (old new : Stored) (round : List Element) : Type 0 where
+  pub none : old.out ≡ None
+  pub first : IsQueue old.graph.staging.pending 1 round
+  pub some : 0 < length round
+  pub out : new.out ≡ None
+  pub pending : new.graph.staging.pending ≡ settled old.graph.staging.pending round
+  pub same_index : new.index ≡ old.index
+
+issued_none : (old : Stored) → AreIssued old old []
+issued_none old = record { out = refl; taken = sym (append-nil (take old.issued (members_of old.out))); pending = refl; same_index = refl }
+
+issued_more : (old mid new : Stored) (x : Element) (xs : List Element) → IsMemberIssued x old mid → AreIssued mid new xs → AreIssued old new (x ∷ xs)
+issued_more old mid new x xs one rest =
+    let one_taken : take mid.issued (members_of old.out) ≡ take old.issued (members_of old.out) ++ x ∷ [] =
+    ap (λ n. take n (members_of old.out)) one.issued ∙ take_at_get (members_of old.out) old.issued x one.next in
+    let rest_taken : take new.issued (members_of old.out) ≡ take mid.issued (members_of old.out) ++ xs =
+    subst (λ (o : Option (List Element)). take new.issued (members_of o) ≡ take mid.issued (members_of o) ++ xs) one.out rest.taken in record {
+      out = rest.out ∙ one.out;
+      taken = rest_taken ∙ ap (λ l. l ++ xs) one_taken ∙ append_assoc (take old.issued (members_of old.out)) (x ∷ []) xs;
+      pending = rest.pending ∙ ap (λ (s : Staging). s.pending) one.staging;
+      same_index = rest.same_index ∙ one.same_index;
+    }
+
+take_whole : {A : Type 0} (n : ℕ) (xs : List A) → n ≡ length xs → take n xs ≡ xs
+take_whole n xs e = take_all n xs (omega (arith, e))
+
+some_length : (round : List Element) → round ≢ [] → 0 < length round
+some_length [] some = absurd (some refl)
+some_length (x ∷ xs) some = omega arith
+
+-- a round that began, was issued and ended
+turned : (v0 v1 v2 v3 : Stored) (round xs : List Element) (frontier : ℕ) → IsRoundBegun round v0 v1 → AreIssued v1 v2 xs → IsRoundEnded frontier v2 v3 → (xs ≡ round) × IsTurned v0 v3 round
+turned v0 v1 v2 v3 round xs frontier begun issued ended =
+    let members : members_of v1.out ≡ round = ap members_of begun.out in
+    let members_then : members_of v2.out ≡ round = ap members_of issued.out ∙ members in
+    let all : take v2.issued round ≡ round = take_whole v2.issued round (ended.complete ∙ ap length members_then) in
+    let none : take v1.issued round ≡ [] = ap (λ n. take n round) begun.issued in
+    let taken : take v2.issued round ≡ take v1.issued round ++ xs = subst (λ (l : List Element). take v2.issued l ≡ take v1.issued l ++ xs) members issued.taken in
+    let same : xs ≡ round = sym (ap (λ l. l ++ xs) none) ∙ sym taken ∙ all in
+    let before : v2.graph.staging.pending ≡ v0.graph.staging.pending = issued.pending ∙ ap (λ (s : Staging). s.pending) begun.staging in (
+      same,
+      record {
+        none = begun.none;
+        first = begun.first;
+        some = some_length round begun.some;
+        out = ended.out;
+        pending = ap (λ (s : Staging). s.pending) ended.settles ∙ ap (λ (p : Pending). settled p (members_of v2.out)) before ∙ ap (settled v0.graph.staging.pending) members_then;
+        same_index = ended.same_index ∙ issued.same_index ∙ begun.same_index;
+      },
+    )
+
+module _ {D : Type 0} (honest : D → Type 0) (state : D → DiskState) where
+  went_issues : (members : Members) (a b : View D) → Went honest state a (issues members) b → AreIssued a.store b.store (map (λ m. m.0) members)
+  went_issues [] a b s = subst (λ (v : Stored). AreIssued a.store v []) (sym s.0.store) (issued_none a.store)
+  went_issues (m ∷ members) a b (before, after, s, g, w) =
+      let one : IsMemberIssued m.0 a.store after.store = subst (λ (v : Stored). IsMemberIssued m.0 v after.store) s.0.store g.writeback in
+      issued_more a.store after.store b.store m.0 (map (λ m. m.0) members) one (went_issues members after b w)
+
+  went_rest : (round : List Element) (members : Members) (frontier : ℕ) (v0 : Stored) (a b : View D) → IsRoundBegun round v0 a.store → Went honest state a (rest_of_round members frontier) b
+      → (map (λ m. m.0) members ≡ round) × IsTurned v0 b.store round
+  went_rest round members frontier v0 a b begun w =
+      let r = went_parts honest state (issues members) ((End, Ended frontier) ∷ []) a b w in
+      let mid : View D = r.0 in
+      let issued : AreIssued a.store mid.store (map (λ m. m.0) members) = went_issues members a mid r.1 in
+      let last = r.2 in
+      let ended : IsRoundEnded frontier mid.store last.1.store = subst (λ (v : Stored). IsRoundEnded frontier v last.1.store) last.2.0.store last.3.writeback in
+      let ended_then : IsRoundEnded frontier mid.store b.store = subst (λ (v : Stored). IsRoundEnded frontier mid.store v) (sym last.4.0.store) ended in
+      turned v0 a.store mid.store b.store round (map (λ m. m.0) members) frontier begun issued ended_then
+
+  -- a turn does to the store what its round does
+  pub went_turn : (turn : Turn) (a b : View D) → Went honest state a (events_of turn) b → IsTurned a.store b.store (elements_of turn)
+  went_turn turn a b (before, after, s, g, w) =
+      let begun : IsRoundBegun (elements_of turn) a.store after.store = subst (λ (v : Stored). IsRoundBegun (elements_of turn) v after.store) s.0.store g.writeback in
+      (went_rest (elements_of turn) turn.members turn.frontier a.store after b begun w).1
+
+  -- a round that began and was then finished is a turn of its members
+  pub turn_of : (round : List Element) (a b c : View D) → Goes honest state a Begin (Begun round) b → (frontier : ℕ) → (members : Members) × Went honest state b (rest_of_round members frontier) c
+      → (turn : Turn) × (elements_of turn ≡ round) × Went honest state a (events_of turn) c
+  turn_of round a b c g frontier (members, w) =
+      let same : map (λ m. m.0) members ≡ round = (went_rest round members frontier a.store b c g.writeback w).0 in
+      let begin : Went honest state a ((Begin, Begun round) ∷ rest_of_round members frontier) c = (a, b, stays_same honest state a, g, w) in (
+        record { members = members; frontier = frontier },
+        same,
+        subst (λ (l : List Element). Went honest state a ((Begin, Begun l) ∷ rest_of_round members frontier) c) (sym same) begin,
+      )
+
+  -- turns one after another lead from what waited to what waits
+  pub went_turns : (turns : List Turn) (a b : View D) → Went honest state a (events_of_all turns) b
+      → LeadTo a.store.graph.staging.pending (rounds_of turns) b.store.graph.staging.pending × (a.store.out ≡ None → b.store.out ≡ None) × (b.store.index ≡ a.store.index)
+  went_turns [] a b s = (ap (λ (v : Stored). v.graph.staging.pending) s.0.store, λ none. ap (λ (v : Stored). v.out) s.0.store ∙ none, ap (λ (v : Stored). v.index) s.0.store)
+  went_turns (turn ∷ turns) a c w =
+      let parts = went_parts honest state (events_of turn) (events_of_all turns) a c w in
+      let b : View D = parts.0 in
+      let t : IsTurned a.store b.store (elements_of turn) = went_turn turn a b parts.1 in
+      let rest = went_turns turns b c parts.2 in (
+        (t.first, t.some, subst (λ (p : Pending). LeadTo p (rounds_of turns) c.store.graph.staging.pending) t.pending rest.0),
+        λ none. rest.1 t.out,
+        rest.2 ∙ t.same_index,
+      )
+
+  -- one member more was issued
+  pub one_issue_more : (a b c : View D) (reply : Reply) → (members : Members) × Went honest state a (issues members) b → Goes honest state b Issue reply c
+      → MayAnswer Issue reply → IsNoRefusal reply → (members : Members) × Went honest state a (issues members) c
+  one_issue_more a b c reply (members, w) g may none =
+      let r = issued_of reply may none in
+      let last : Went honest state b ((Issue, Issued r.0 r.1) ∷ []) c = subst (λ (x : Reply). Went honest state b ((Issue, x) ∷ []) c) r.2 (went_one honest state b c Issue reply g) in
+      let all = went_then honest state (issues members) ((Issue, Issued r.0 r.1) ∷ []) a b c w last in
+      let more : issues (members ++ (r.0, r.1) ∷ []) ≡ issues members ++ (Issue, Issued r.0 r.1) ∷ [] = map-append (λ (m : Element × ℕ). (Issue, Issued m.0 m.1)) members ((r.0, r.1) ∷ []) in
+      (members ++ (r.0, r.1) ∷ [], subst (λ (l : List (Event × Reply)). Went honest state a l c) (sym more) all)
+
+  -- the round has ended
+  pub finished : (a b c : View D) (reply : Reply) (frontier : ℕ) → reply ≡ Ended frontier → (members : Members) × Went honest state a (issues members) b
+      → Goes honest state b End reply c → (members : Members) × Went honest state a (rest_of_round members frontier) c
+  finished a b c reply frontier is (members, w) g =
+      let last : Went honest state b ((End, Ended frontier) ∷ []) c = subst (λ (x : Reply). Went honest state b ((End, x) ∷ []) c) is (went_one honest state b c End reply g) in
+      (members, went_then honest state (issues members) ((End, Ended frontier) ∷ []) a b c w last)
+
+  -- an event of the round is refused
+  pub rest_refused : (a b c : View D) (event : Event) (r : Refusal) → IsOfRound event → (members : Members) × Went honest state a (issues members) b
+      → IsStopped honest state b [] event r c → (members : Members) × (event : Event) × IsOfRound event × IsStopped honest state a (issues members) event r c
+  rest_refused a b c event r is (members, w) s = (members, event, is, stopped_next honest state (issues members) a b c event r w s)
+
+  -- the round ends where the End isn't refused
+  pub finished_if : (a b c : View D) (r : Result ℕ Refusal) → (members : Members) × Went honest state a (issues members) b
+      → IfOk r (λ frontier. Goes honest state b End (Ended frontier) c) → IfOk r (λ frontier. (members : Members) × Went honest state a (rest_of_round members frontier) c)
+  finished_if a b c (Ok frontier) so g = finished a b c (Ended frontier) frontier refl so g
+  finished_if a b c (Err r) so g = tt
+
+  -- and else it doesn't
+  pub end_refused_if : (a b c : View D) (r : Result ℕ Refusal) → (members : Members) × Went honest state a (issues members) b
+      → IfErr r (λ refusal. IsStopped honest state b [] End refusal c) → IfErr r (λ refusal. (members : Members) × (event : Event) × IsOfRound event × IsStopped honest state a (issues members) event refusal c)
+  end_refused_if a b c (Ok frontier) so s = tt
+  end_refused_if a b c (Err r) so s = rest_refused a b c End r (inr refl) so s
+
+  -- the same, with the reply to the Begin
+  pub turn_from : (round : List Element) (a b c : View D) (reply : Reply) → reply ≡ Begun round → Goes honest state a Begin reply b → (frontier : ℕ) → (members : Members) × Went honest state b (rest_of_round members frontier) c
+      → (turn : Turn) × (elements_of turn ≡ round) × Went honest state a (events_of turn) c
+  turn_from round a b c reply is g frontier rest = turn_of round a b c (subst (λ (x : Reply). Goes honest state a Begin x b) is g) frontier rest
+
+  -- an event of the round that began is refused
+  pub part_refused : (round : List Element) (a b c : View D) (reply : Reply) (r : Refusal) → reply ≡ Begun round → Goes honest state a Begin reply b
+      → (members : Members) × (event : Event) × IsOfRound event × IsStopped honest state b (issues members) event r c
+      → (part : List (Event × Reply)) × (event : Event) × IsPart part event × IsStopped honest state a part event r c
+  part_refused round a b c reply r is g (members, event, of_round, s) =
+      let begun : Went honest state a ((Begin, Begun round) ∷ []) b = subst (λ (x : Reply). Went honest state a ((Begin, x) ∷ []) b) is (went_one honest state a b Begin reply g) in
+      let all : IsStopped honest state a ((Begin, Begun round) ∷ issues members) event r c = stopped_later honest state ((Begin, Begun round) ∷ []) (issues members) a b c event r begun s in
+      ((Begin, Begun round) ∷ issues members, event, inr (round, members, refl, of_round), all)

@@ -1,0 +1,65 @@
+-- What a line `crash` does, and what it prints.
+use Rattle.std.specs.Prelude.{◌≡◌, ◌⊎◌, ◌++◌, ◌↔◌, ℕ, Bool, List, [], count_by, length}
+use Rattle.cs_chunk.specs.Reads.{IsNoAnswer}
+use Rattle.cs_deps.specs.declared.refusals.Refusal.{Refusal}
+use Rattle.cs_deps.specs.declared.refusals.Refusal.TheVariants.{DeviceFault}
+use Rattle.cs_disk.specs.Disk.{Rises, State as DiskState, crashed, flushed, page, seen}
+use Rattle.cs_extent.specs.State.{shape}
+use Rattle.cs_core.specs.Openings.{IsOpened, IsOpeningRefusal, IsWhyNotOpened}
+use Rattle.cs_core.specs.Views.{IsFound, View}
+use Rattle.cs_script.specs.Lines.{Said, says_crash}
+use Rattle.cs_script.specs.Outputs.{crash_line, open_line, refusal_line}
+
+-- for how many a mask says true
+abbrev pub kept_count : List Bool → ℕ
+kept_count mask = count_by (λ b. b) mask
+
+module _ {D : Type 0} (honest : D → Type 0) (state : D → DiskState) (page_count : D → ℕ) (can_crash : D → Type 0) (volatile_count : D → ℕ) (failure_count : D → ℕ) where
+  -- a readable line `crash`: it has one digit for each volatile write of a disk that can crash
+  abbrev pub IsCrash : Said → View D → List Bool → Type 0
+  IsCrash said v mask = (said ≡ says_crash mask) × can_crash v.disk × (length mask ≡ volatile_count v.disk)
+
+  -- The disk crashed, and kept those of its volatile writes for which the mask says true.
+  pub record IsCrashed (mask : List Bool) (before after : D) : Type 0 where
+    pub image : honest before → state after ≡ crashed (state before) mask
+    pub stays_honest : honest before ↔ honest after
+    pub pages : page_count after ≡ page_count before
+    pub failures : failure_count after ≡ failure_count before
+
+  -- The store on a disk is opened: a core with an empty history and the same limit, and with the numbers of the image.
+  pub record IsReopened (disk : D) (limit : ℕ) (new : View D) : Type 0 where
+    pub history : new.history ≡ []
+    pub limit_is : new.limit ≡ limit
+    pub image : honest disk → (new.opened ≡ seen (state disk)) × (state new.disk ≡ flushed (state disk))
+    pub store : IsOpened (honest disk) new.opened new.found new.store
+    pub found : honest disk → IsFound (shape new.store.extents) new.opened new.found
+    pub stays_honest : honest disk ↔ honest new.disk
+
+  -- the core that goes on after a crash
+  abbrev pub Reopens : List Bool → (old new : View D) → Type 0
+  Reopens mask old new = (disk : D) × IsCrashed mask old.disk disk × IsReopened disk old.limit new
+
+  -- Opening a store on a disk answers this refusal. The disk was flushed or left as it was, and 1 is answered only where it
+  -- failed.
+  pub record IsOpeningRefused (disk : D) (r : Refusal) : Type 0 where
+    pub after : D
+    pub number : IsOpeningRefusal r
+    pub why : honest disk → IsNoAnswer r ⊎ IsWhyNotOpened (page_count disk) (page (seen (state disk))) r
+    pub kept : honest disk → (state after ≡ state disk) ⊎ (state after ≡ flushed (state disk))
+    pub stays_honest : honest disk ↔ honest after
+    pub pages : page_count after ≡ page_count disk
+    pub cause : r ≡ DeviceFault → Rises (failure_count disk) (failure_count after)
+
+  -- no store is opened after a crash
+  abbrev pub IsNotReopened : List Bool → View D → Refusal → Type 0
+  IsNotReopened mask old r = (disk : D) × IsCrashed mask old.disk disk × IsOpeningRefused disk r
+
+  -- the disk crashes, and the store that is left is opened: it is printed how many of the volatile writes were kept, and the
+  -- numbers with which the core was opened
+  abbrev pub Crashes : List Bool → (old new : View D) → List ℕ → Type 0
+  Crashes mask old new out = Reopens mask old new × (out ≡ crash_line (kept_count mask) (length mask) ++ open_line new.found.0 new.found.1)
+
+  -- the disk crashes, and the store that is left isn't opened: that is printed
+  abbrev pub CrashesForGood : Said → View D → List ℕ → Type 0
+  CrashesForGood said old out = (mask : List Bool) × IsCrash said old mask × (r : Refusal) × IsNotReopened mask old r
+      × (out ≡ crash_line (kept_count mask) (length mask) ++ refusal_line r)

@@ -1,0 +1,71 @@
+-- What a race is run with, and what it prints at its end.
+use Rattle.std.specs.Prelude.{◌≡◌, ◌⊎◌, ◌≤◌, ◌++◌, ℕ, Bool, List, Result, Ok, Err, codes, decimal}
+use Rattle.cs_deps.specs.declared.refusals.Refusal.{Refusal}
+use Rattle.cs_deps.specs.declared.refusals.Refusal.TheVariants.{OutOfMemory, WornOut}
+use Rattle.cs_disk.specs.Disk.{State as DiskState}
+use Rattle.cs_model.specs.State.{State}
+use Rattle.cs_core.specs.Views.{IsIn}
+use Rattle.cs_node.specs.declared.rests.Unclosed.{Unclosed}
+use Rattle.cs_node.specs.declared.rests.Unclosed.TheVariants.{Missing}
+use Rattle.cs_node.specs.declared.rests.Unclosed.TheVariants as why
+use Rattle.cs_node.specs.Accounts.{Accounted}
+use Rattle.cs_node.specs.Closes.{Fails}
+use Rattle.cs_node.specs.Starts.{Start, start_of}
+use Rattle.cs_node.specs.Told.{Holdings}
+use Rattle.cs_node.specs.Under.{Under}
+use Rattle.cs_script.specs.Outputs.{acknowledged_line, line_of, refusal_line}
+
+-- So many threads put so many shards each; the first of them drops so many of its first tickets; and rounds of several syncs overlap, or
+-- don't.
+pub record Racing : Type 0 where
+  pub threads : ℕ
+  pub puts : ℕ
+  pub dropped : ℕ
+  pub streams : Bool
+
+-- numbers with which a race may be run
+pub record IsRaceable (threads puts dropped : ℕ) : Type 0 where
+  pub some : 1 ≤ threads
+  pub threads_fit : threads ≤ 64
+  pub puts_fit : puts ≤ 1000
+  pub drops_fit : dropped ≤ puts
+
+-- how many commands were accepted, and how many shards were read back
+abbrev pub counts_lines : ℕ → ℕ → List ℕ
+counts_lines accepted read = line_of (codes "accepted " ++ decimal accepted) ++ line_of (codes "read back " ++ decimal read)
+
+-- so many numbers have neither ticket nor ack
+abbrev pub missing_line : ℕ → List ℕ
+missing_line n = line_of (codes "refused 50 Missing " ++ decimal n)
+
+-- how many commands are acknowledged, or why the node wasn't closed
+abbrev pub answer_line : Result ℕ Unclosed → List ℕ
+answer_line (Ok n) = acknowledged_line n
+answer_line (Err (Missing n)) = missing_line n
+answer_line (Err why.OutOfMemory) = refusal_line OutOfMemory
+
+-- 0 where the node was closed
+abbrev pub answer_status : Result ℕ Unclosed → ℕ
+answer_status (Ok n) = 0
+answer_status (Err why) = 1
+
+-- why a race isn't run: there is no memory, or the node has no pilot or no purse left
+abbrev pub IsNoRace : Refusal → Type 0
+IsNoRace r = (r ≡ OutOfMemory) ⊎ (r ≡ WornOut)
+
+-- a close over these purses answers so: they account for the core, of whose commands so many are persistent, or they don't
+abbrev pub CloseAnswers : {D : Type 0} → Under D → List Holdings → Result ℕ Unclosed → Type 0
+CloseAnswers under purses (Ok n) = Accounted under.core under.given purses × (n ≡ under.core.store.frontier)
+CloseAnswers under purses (Err why) = Fails under purses why
+
+-- a core with this start, whose history is a run of the store's machine where the disk is honest, was closed so
+pub record IsAnswer {D : Type 0} (honest : D → Type 0) (state : D → DiskState) (start : Start) (under : Under D) (purses : List Holdings) (answer : Result ℕ Unclosed) : Type 0 where
+  pub begun : start_of under.core ≡ start
+  pub legal : honest under.core.disk → (s : State) × IsIn state under.core s
+  pub closed : CloseAnswers under purses answer
+
+-- a node on a core with this start was closed over some purses, and what that answered was printed, below the counts
+abbrev pub Races : {D : Type 0} → (honest : D → Type 0) → (state : D → DiskState) → Start → ℕ → List ℕ → Type 0
+Races {D} honest state start status out = (under : Under D) × (purses : List Holdings) × (read : ℕ) × (answer : Result ℕ Unclosed)
+    × IsAnswer honest state start under purses answer × (status ≡ answer_status answer)
+    × (out ≡ counts_lines under.core.store.accepted read ++ answer_line answer)

@@ -1,0 +1,23 @@
+//! Events that lines ask of the core.
+ghost use Rattle.std.specs.Prelude.{[], IfErr, IfOk};
+ghost use Rattle.cs_core.specs.Shapes.{MayAnswer};
+ghost use Rattle.cs_script.specs.Histories.{Goes, IsNoRefusal, IsStopped};
+
+use cs_core::{Core, Event, OutOfMemory, Reply};
+use cs_deps::Refusal;
+use cs_disk::PageDisk;
+
+/// Has the core do one event, and gives its reply. Refused as the event is, 41 HistoryFull where the history stands at its
+/// limit, and 9 OutOfMemory; these two aren't recorded.
+pub fn ask<D: PageDisk>(core: &mut Core<D>, event: &Event) -> Result<Reply, Refusal>
+    ensures done { IfOk result (λ reply. Goes D.honest D.state core.old event.now reply core.new) }
+    ensures shape { IfOk result (λ reply. MayAnswer event.now reply) }
+    ensures no_refusal { IfOk result (λ reply. IsNoRefusal reply) }
+    ensures refused { IfErr result (λ refusal. IsStopped D.honest D.state core.old [] event.now refusal core.new) }
+{
+    match core.apply(event) {
+        Ok(Reply::Refused(refusal)) => Err(refusal),
+        Ok(reply) => Ok(reply),
+        Err(OutOfMemory) => Err(Refusal::OutOfMemory),
+    }
+}

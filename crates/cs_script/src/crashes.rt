@@ -1,0 +1,126 @@
+//! The line `crash`. Where the writer fails, the script ends.
+ghost use Rattle.std.specs.Prelude.{◌≡◌, ◌⊎◌, ℕ, Bool, List, None, IfErr, IfOk, MatchOption, OnOk, length};
+ghost use Rattle.std.specs.Io.KnownBytes.{Appends};
+ghost use Rattle.cs_script.specs.Crashes.{Crashes, CrashesForGood, IsCrash, IsCrashed, IsNotReopened, Reopens, kept_count};
+ghost use Rattle.cs_script.specs.Lines.{said_by, says_crash};
+ghost use Rattle.cs_script.specs.Outputs.{open_line};
+
+use crate::lines::Line;
+use crate::outputs::{print_crash, print_no_store, print_open};
+use crate::scripts::Ran;
+use crate::statuses;
+use cs_core::{Core, Limits};
+use cs_deps::Refusal;
+use cs_disk::CrashDisk;
+use std::alloc::Global;
+use std::io;
+use std::io::Write;
+
+/// The mask of a line `crash`, where it is readable.
+pub fn mask_of<'a, D: CrashDisk>(core: &Core<D>, line: &'a Line) -> Option<&'a [bool]>
+    ensures { MatchOption result ((mask : List Bool) → ¬ IsCrash D.honest D.state D.page_count D.can_crash D.volatile_count D.failure_count (said_by line.now) core.now mask)
+        (λ mask. IsCrash D.honest D.state D.page_count D.can_crash D.volatile_count D.failure_count (said_by line.now) core.now mask.now) }
+{
+    match line {
+        Line::Crash { mask } => fitting(core.disk(), mask),
+        _ => None,
+    }
+}
+
+/// The mask, where the disk can crash and has as many volatile writes.
+fn fitting<'a, D: CrashDisk>(disk: &D, mask: &'a [bool]) -> Option<&'a [bool]>
+    ensures { MatchOption result (¬ (D.can_crash disk.now × (length mask.now ≡ D.volatile_count disk.now)))
+        (λ found. (found.now ≡ mask.now) × D.can_crash disk.now × (length mask.now ≡ D.volatile_count disk.now)) }
+{
+    if disk.crashable() && mask.len() == disk.volatile() {
+        Some(mask)
+    } else {
+        None
+    }
+}
+
+/// Crashes the disk, opens the store that is left, and prints what was kept and what was found. It gives the core and the
+/// status with which the script goes on, or what it left behind.
+pub fn crash<D: CrashDisk + Drop, W: Write>(
+    alloc: Global,
+    core: Core<D>,
+    mask: &[bool],
+    status: u8,
+    writer: &mut W,
+) -> Result<(Core<D>, u8), Ran<D>>
+    requires { IsCrash D.honest D.state D.page_count D.can_crash D.volatile_count D.failure_count (says_crash mask.now) core mask.now }
+    ensures on { IfOk result (λ on. (on.1 ≡ status) × ((out : List ℕ) × Crashes D.honest D.state D.page_count D.can_crash D.volatile_count D.failure_count mask.now core on.0 out
+        × Appends (W.contents writer.old) (W.contents writer.new) out)) }
+    ensures ended { IfErr result (λ ran. ((ran.status ≡ 3) × (ran.core ≡ None)
+        × ((out : List ℕ) × CrashesForGood D.honest D.state D.page_count D.can_crash D.volatile_count D.failure_count (says_crash mask.now) core out × Appends (W.contents writer.old) (W.contents writer.new) out))
+        ⊎ (ran.status ≡ 4)) }
+{
+    match print_crash(writer, count_kept(mask), mask.len()) {
+        Ok(()) => {}
+        Err(_) => return Err(Ran {
+            status: statuses::STREAM,
+            core: Some(core),
+        }),
+    }
+    match reopen(alloc, core, mask) {
+        Ok(core) => match print_found(writer, &core) {
+            Ok(()) => Ok((core, status)),
+            Err(_) => Err(Ran {
+                status: statuses::STREAM,
+                core: Some(core),
+            }),
+        },
+        Err(refusal) => Err(Ran {
+            status: print_no_store(writer, refusal),
+            core: None,
+        }),
+    }
+}
+
+/// For how many the mask says true.
+fn count_kept(mask: &[bool]) -> usize
+    ensures { result ≡ kept_count mask.now }
+{
+    mask.iter().filter(|kept| **kept).count()
+}
+
+/// Crashes the disk, and opens the store that is left.
+fn reopen<D: CrashDisk + Drop>(
+    alloc: Global,
+    core: Core<D>,
+    mask: &[bool],
+) -> Result<Core<D>, Refusal>
+    requires { IsCrash D.honest D.state D.page_count D.can_crash D.volatile_count D.failure_count (says_crash mask.now) core mask.now }
+    ensures opened { IfOk result (λ new. Reopens D.honest D.state D.page_count D.can_crash D.volatile_count D.failure_count mask.now core new) }
+    ensures refused { IfErr result (λ refusal. IsNotReopened D.honest D.state D.page_count D.can_crash D.volatile_count D.failure_count mask.now core refusal) }
+{
+    let limits = Limits {
+        history: core.limit(),
+    };
+    let disk = crashed_disk(core, mask);
+    match Core::open(alloc, disk, limits) {
+        Ok(core) => {
+            // Its contract tells what every core was opened on.
+            core.opened();
+            Ok(core)
+        }
+        Err((refusal, _)) => Err(refusal),
+    }
+}
+
+/// The core's disk, after a crash that kept of its volatile writes what the mask says.
+fn crashed_disk<D: CrashDisk>(core: Core<D>, mask: &[bool]) -> D
+    requires { D.can_crash core.disk × (length mask.now ≡ D.volatile_count core.disk) }
+    ensures { IsCrashed D.honest D.state D.page_count D.can_crash D.volatile_count D.failure_count mask.now core.disk result }
+{
+    core.into_disk().crash(mask)
+}
+
+/// Prints how many commands and how many shards a core was opened with, as the last line of its script's line.
+fn print_found<D: CrashDisk, W: Write>(writer: &mut W, core: &Core<D>) -> io::Result<()>
+    ensures { OnOk result (Appends (W.contents writer.old) (W.contents writer.new) (open_line core.now.found.0 core.now.found.1)) }
+{
+    let (commands, shards) = core.opened();
+    print_open(writer, commands, shards)?;
+    writer.flush()
+}

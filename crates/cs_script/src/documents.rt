@@ -1,0 +1,51 @@
+//! The line `document`. Where the writer fails, it ends with that error.
+ghost use Rattle.std.specs.Prelude.{◌≡◌, ℕ, List, IfErr, IfOk, OnOk, string_bytes};
+ghost use Rattle.std.specs.Io.KnownBytes.{Appends};
+ghost use Rattle.cs_script.specs.Lines.{says_document};
+ghost use Rattle.cs_script.specs.Outputs.{line_of};
+ghost use Rattle.cs_script.specs.Scripts.{Answers, Documents, IsDocumentRefused};
+
+use crate::outputs::print_refusal;
+use crate::plans::plan_all;
+use cs_check::to_document;
+use cs_core::Core;
+use cs_deps::Refusal;
+use cs_disk::PageDisk;
+use std::alloc::Global;
+use std::io;
+use std::io::Write;
+
+/// The letters of superblock and root in a document.
+const LETTERS: [char; 2] = ['s', 'r'];
+
+/// Prints the plan document of all that waits as one line. It stages nothing.
+pub fn document<D: PageDisk, W: Write>(
+    alloc: Global,
+    core: &Core<D>,
+    writer: &mut W,
+) -> io::Result<()>
+    ensures { OnOk result ((out : List ℕ) × Answers D.honest D.state says_document core.now core.now out × Appends (W.contents writer.old) (W.contents writer.new) out) }
+{
+    match document_of(alloc, core) {
+        Ok(text) => writeln!(writer, "{text}"),
+        Err(refusal) => print_refusal(writer, refusal),
+    }
+}
+
+/// The text of the plan document of all that waits. Refused 5 InFlight where a round is out, 9 OutOfMemory, and 10
+/// BadDocument where what waits can't be written.
+fn document_of<D: PageDisk>(alloc: Global, core: &Core<D>) -> Result<String, Refusal>
+    ensures text { IfOk result (λ text. Documents core.now.store (line_of (string_bytes text))) }
+    ensures refused { IfErr result (λ refusal. IsDocumentRefused core.now.store refusal) }
+{
+    if core.round().is_some() {
+        return Err(Refusal::InFlight);
+    }
+    let plan = plan_all(core)?;
+    let view = core.view()?;
+    let target = core.everything()?;
+    match to_document(alloc, &view, &target, &plan, &LETTERS) {
+        Ok(text) => Ok(text),
+        Err(fault) => Err(Refusal::from(fault)),
+    }
+}

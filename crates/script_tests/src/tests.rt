@@ -1,0 +1,186 @@
+//! What scripts and documents print and leave behind, by worked rows.
+mod crashes;
+mod cuts;
+mod damage;
+mod documents;
+mod failures;
+mod files;
+mod images;
+mod moments;
+mod options;
+mod plans;
+mod puts;
+mod races;
+mod rounds;
+mod stops;
+mod streams;
+mod sweeps;
+
+use cs_core::{Core, Limits};
+use cs_disk::{CrashDisk, MemoryDisk};
+use cs_frame::Geometry;
+use cs_script::{Ran, run_script};
+use std::alloc::Global;
+use std::process::Abort;
+use std::test::Fail;
+
+/// A new store in memory with so many extents of 2 pages.
+fn new_core(rt: &(impl Abort + AllocGlobal), extents: u64) -> Result<Core<MemoryDisk>, Fail> {
+    new_core_of(rt, extents, 1000)
+}
+
+/// A new store in memory with so many extents of 2 pages, whose history may have so many events.
+fn new_core_of(
+    rt: &(impl Abort + AllocGlobal),
+    extents: u64,
+    history: usize,
+) -> Result<Core<MemoryDisk>, Fail> {
+    let alloc = rt.alloc();
+    let geometry = Geometry::new(extents, 2)?;
+    let disk = MemoryDisk::new(alloc, geometry.device_pages())?;
+    match Core::format(alloc, disk, geometry, Limits { history }) {
+        Ok(core) => Ok(core),
+        Err((refusal, _)) => {
+            assert!(rt; false, "{}", refusal.name());
+            unreachable!()
+        }
+    }
+}
+
+/// The core that a script left behind.
+fn core_of<D: CrashDisk>(rt: &impl Abort, ran: Ran<D>) -> Core<D> {
+    match ran.core {
+        Some(core) => core,
+        None => {
+            assert!(rt; false, "no core is left");
+            unreachable!()
+        }
+    }
+}
+
+/// The text of a script whose lines are parted by strokes, and in which @ stands for the first 31 digits of an identifier.
+fn script_text(alloc: Global, script: &str) -> Result<String, Fail> {
+    let mut text = script
+        .replace(alloc, "@", "0000000000000000000000000000000")?
+        .replace(alloc, " / ", "\n")?;
+    text.push('\n')?;
+    Ok(text)
+}
+
+/// Lines that are printed, parted by strokes. Elements stand in brackets, with commas.
+fn printed(alloc: Global, lines: &str) -> Result<String, Fail> {
+    let mut text = lines
+        .replace(alloc, "[", "")?
+        .replace(alloc, "]", "")?
+        .replace(alloc, ", ", " ")?
+        .replace(alloc, " / ", "\n")?;
+    text.push('\n')?;
+    Ok(text)
+}
+
+/// What a script's text left behind and printed, with so many extents of 2 pages.
+fn run_on(
+    rt: &(impl Abort + AllocGlobal),
+    extents: u64,
+    text: &str,
+) -> Result<(Ran<MemoryDisk>, Vec<u8>), Fail> {
+    let core = new_core(rt, extents)?;
+    let mut output = Vec::new(rt.alloc());
+    let ran = run_script(rt.alloc(), core, text.as_bytes(), &mut output);
+    Ok((ran, output))
+}
+
+/// Asserts the output of a script's text, its exit status and how many commands are acknowledged, with 6 extents of 2 pages.
+fn prints_text(
+    rt: &(impl Abort + AllocGlobal),
+    text: &str,
+    wanted: &str,
+    status: u8,
+    persistent: u64,
+) -> Result<(), Fail> {
+    let (ran, output) = run_on(rt, 6, text)?;
+    assert_eq!(rt; output.as_slice(), wanted.as_bytes(), "{text}");
+    assert_eq!(rt; ran.status, status, "{text}");
+    assert_eq!(rt; core_of(rt, ran).frontier(), persistent, "{text}");
+    Ok(())
+}
+
+/// The same for a script and lines that are written as rows are.
+fn prints(
+    rt: &(impl Abort + AllocGlobal),
+    script: &str,
+    lines: &str,
+    status: u8,
+    persistent: u64,
+) -> Result<(), Fail> {
+    let text = script_text(rt.alloc(), script)?;
+    let wanted = printed(rt.alloc(), lines)?;
+    prints_text(rt, &text, &wanted, status, persistent)
+}
+
+/// The document of one put and the index changes over it, with its words without their quotes.
+const DOCUMENT: &str =
+    "{chain:[w1,s3,r2],elements:[{e:w1,needs:[]},{e:s2,needs:[w1]},{e:w2,needs:[]},{e:s3,needs:[w1,w2]},{e:r2,needs:[s3]}],families:[s,r],format:1,persistent:[1,1],rounds:[[w1,w2],[s3],[r2]],target:[w1,w2,s3,r2]}";
+
+/// The document, with quotes around each word of letters and digits that a letter begins.
+fn document_text(alloc: Global) -> Result<String, Fail> {
+    let mut text = String::new(alloc);
+    let mut in_word = false;
+    for c in DOCUMENT.chars() {
+        let word = c.is_ascii_alphabetic() || in_word && c.is_ascii_digit();
+        if word != in_word {
+            text.push('"')?;
+        }
+        text.push(c)?;
+        in_word = word;
+    }
+    Ok(text)
+}
+
+#[test]
+fn rows(rt: HostRuntime) -> Result<(), Fail> {
+    prints(
+        &rt,
+        "put @a 61 / sync",
+        "put 1 / round 1: [w1, w2] / round 2: [s3] / round 3: [r2] / chain: [w1, s3, r2] / flushes 3 / acknowledged 1",
+        0,
+        1,
+    )?;
+    prints_text(&rt, "sync", "chain: -\nflushes 0\nacknowledged 0\n", 0, 0)?;
+    prints(
+        &rt,
+        "put @a 61 / put @b 62 / put @c 63 / sync",
+        "put 1 / put 2 / put 3 / round 1: [w1, w2, w3, w4] / round 2: [s5] / round 3: [r2] / chain: [w1, s5, r2] / flushes 3 / acknowledged 3",
+        0,
+        3,
+    )
+}
+
+#[test]
+fn bad_lines(rt: HostRuntime) -> Result<(), Fail> {
+    prints(
+        &rt,
+        "put @a 6 / frob / put @a 61",
+        "bad line / bad line / put 1",
+        1,
+        0,
+    )
+}
+
+#[test]
+fn lines(rt: HostRuntime) -> Result<(), Fail> {
+    prints_text(
+        &rt,
+        "\n# a remark\n  put  {0000000000000000000000000000000a}   -  \n put 0000000000000000000000000000000A aBcD\n   \n # no remark\nsync\r\nsync sync\nput\tsync\nputt\nput 00000000-0000-0000-0000-00000000000a 61 -\n",
+        "bad line\nput 1\nbad line\nbad line\nbad line\nbad line\nbad line\nbad line\nbad line\n",
+        1,
+        0,
+    )?;
+    prints_text(
+        &rt,
+        "put 00000000-0000-0000-0000-00000000000a 61\n",
+        "put 1\n",
+        0,
+        0,
+    )
+}

@@ -1,0 +1,141 @@
+//! Stores in files.
+use super::{printed, script_text};
+use cs_core::Core;
+use cs_deps::Refusal;
+use cs_disk::FileDisk;
+use cs_frame::Geometry;
+use cs_script::{new_in_file, open_in_file, run_over};
+use std::fs::File;
+use std::process::Abort;
+use std::rt::Files;
+use std::test::Fail;
+
+/// Asserts what a script prints over the store in a file, and its exit status.
+fn prints_over(
+    rt: &(impl Abort + AllocGlobal),
+    store: Result<Core<FileDisk>, Refusal>,
+    script: &str,
+    lines: &str,
+    status: u8,
+) -> Result<(), Fail> {
+    let alloc = rt.alloc();
+    let text = script_text(alloc, script)?;
+    let mut output = Vec::new(alloc);
+    let ended = run_over(alloc, store, text.as_bytes(), &mut output);
+    let wanted = printed(alloc, lines)?;
+    assert_eq!(rt; output.as_slice(), wanted.as_bytes(), "{script}");
+    assert_eq!(rt; ended, status, "{script}");
+    Ok(())
+}
+
+/// Makes a store of 6 extents of 2 pages in a file, and puts a shard.
+fn make(rt: &(impl Abort + AllocGlobal + Files<File = File>), path: &str) -> Result<(), Fail> {
+    prints_over(
+        rt,
+        new_in_file(rt, rt.alloc(), path, Geometry::new(6, 2)?),
+        "put @a 61 / sync",
+        "put 1 / round 1: [w1, w2] / round 2: [s3] / round 3: [r2] / chain: [w1, s3, r2] / flushes 3 / acknowledged 1",
+        0,
+    )
+}
+
+/// The same for the store that is in the file.
+fn opens(
+    rt: &(impl Abort + AllocGlobal + Files<File = File>),
+    path: &str,
+    script: &str,
+    lines: &str,
+    status: u8,
+) -> Result<(), Fail> {
+    prints_over(
+        rt,
+        open_in_file(rt, rt.alloc(), path),
+        script,
+        lines,
+        status,
+    )
+}
+
+/// What was synced is there when the file is opened again, and what wasn't isn't.
+#[test]
+fn a_store_in_a_file(rt: HostRuntime) -> Result<(), Fail> {
+    let path = "cs_cli_store";
+    make(&rt, path)?;
+    opens(
+        &rt,
+        path,
+        "get @a / sync",
+        "value 61 / chain: - / flushes 0 / acknowledged 0",
+        0,
+    )?;
+    opens(
+        &rt,
+        path,
+        "put @b 62 / plan",
+        "put 1 / round 1: [w1, w2] / round 2: [s5] / round 3: [r3] / chain: [w1, s5, r3] / flushes 3",
+        0,
+    )?;
+    opens(&rt, path, "get @a / get @b", "value 61 / absent", 0)?;
+    make(&rt, path)?;
+    std::fs::remove_file(&rt, path)?;
+    Ok(())
+}
+
+/// A file can't crash, so these lines aren't readable.
+#[test]
+fn step_and_crash_on_a_file(rt: HostRuntime) -> Result<(), Fail> {
+    let path = "cs_cli_steps";
+    make(&rt, path)?;
+    opens(
+        &rt,
+        path,
+        "put @b 62 / step / crash - / crash 0 / get @b",
+        "put 1 / bad line / bad line / bad line / value 62",
+        1,
+    )?;
+    std::fs::remove_file(&rt, path)?;
+    Ok(())
+}
+
+/// Asserts why a file of so many bytes of a store isn't opened.
+fn refused_of_length(
+    rt: &(impl Abort + AllocGlobal + Files<File = File>),
+    length: usize,
+    line: &str,
+) -> Result<(), Fail> {
+    let path = "cs_cli_cut";
+    make(rt, path)?;
+    let mut bytes = std::fs::read(rt, path)?;
+    bytes.resize(length, 0)?;
+    std::fs::write(rt, path, bytes.as_slice())?;
+    opens(rt, path, "get @a", line, 3)?;
+    std::fs::remove_file(rt, path)?;
+    Ok(())
+}
+
+#[test]
+fn files_that_hold_no_store(rt: HostRuntime) -> Result<(), Fail> {
+    refused_of_length(&rt, 13 * 4096, "refused 43 NotAStore")?;
+    refused_of_length(&rt, 15 * 4096, "refused 43 NotAStore")?;
+    refused_of_length(&rt, 14 * 4096 + 1, "refused 6 OddLength")?;
+    refused_of_length(&rt, 0, "refused 43 NotAStore")?;
+    opens(&rt, "cs_cli_none", "get @a", "refused 1 DeviceFault", 3)?;
+    opens(&rt, ".", "get @a", "refused 1 DeviceFault", 3)
+}
+
+/// A file that can't be made.
+#[test]
+fn no_store_is_made(rt: HostRuntime) -> Result<(), Fail> {
+    prints_over(
+        &rt,
+        new_in_file(
+            &rt,
+            rt.alloc(),
+            "no_such_folder/store",
+            Geometry::new(6, 2)?,
+        ),
+        "get @a",
+        "refused 1 DeviceFault",
+        3,
+    )
+}
