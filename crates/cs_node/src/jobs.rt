@@ -38,7 +38,7 @@ fn all<N: Sync, J: Job<N>, R: Threads + Wait + Sync>(
 
 impl<D: PageDisk + Send, K: Naming + Send + Sync> Node<D, K> {
     /// Does two jobs on the node, each in a thread of its own, and answers once both have ended. Where no thread can be made they are done
-    /// one after the other, so a job that waits for the other one may wait for ever then.
+    /// one after the other, the second first, so a second job that waits for the first one may wait for ever then.
     pub fn beside<A: Job<Node<D, K>>, B: Job<Node<D, K>>, R: Threads + Wait + Sync>(
         &self,
         rt: &R,
@@ -49,8 +49,8 @@ impl<D: PageDisk + Send, K: Naming + Send + Sync> Node<D, K> {
     }
 
     /// Does the jobs on the node, each in a thread of its own, and answers what each gave, in their order, once all have ended. Where
-    /// a growth was refused what they gave is lost, and some may not have been done. Where no threads can be made they are done one
-    /// after another, so a job that waits for a later one may wait for ever then.
+    /// a growth was refused what they gave is lost, and some may not have been done. Where a thread can't be made the jobs
+    /// behind it are done first, one after another, so a job that waits for one ahead of it may wait for ever then.
     pub fn abreast<J: Job<Node<D, K>>, R: Threads + Wait + Sync>(
         &self,
         rt: &R,
