@@ -1,5 +1,5 @@
 use Rattle.cs_node.specs.Starts.{start_of}
-use Rattle.node_bench.proofs.main.Given as goal
+use Rattle.store_bench.proofs.nodes.time_node.Given as goal
 
 -- the board that was just made, and the start of the core behind it
 abbrev pub ghosts-run : goal.ghosts-run

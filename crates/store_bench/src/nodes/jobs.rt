@@ -1,12 +1,13 @@
 //! What threads do, and how long it takes them.
 
-use crate::{Fault, Task, Work};
+use super::{Task, Work};
+use crate::faults::Fault;
 use cs_core::Bytes;
 use cs_deps::Refusal;
 use cs_disk::PageDisk;
 use cs_frame::ShardId;
 use cs_node::{Gate, Job, Naming, Node, Pilot, Polled, Purse, Settled, Step, Ticket, Why};
-use std::alloc::Global;
+use std::alloc::{AllocError, Global};
 use std::io;
 use std::sync::atomic::{AtomicU64, Ordering};
 use std::sync::{Arc, Wait};
@@ -102,7 +103,20 @@ fn puts<D: PageDisk, K: Naming, R: Wait>(
     done
 }
 
-/// Puts 8 bytes under the identifier of a number.
+/// The identifier of a number.
+fn identifier(number: u64) -> ShardId {
+    let mut id = [0; 16];
+    id[8..].copy_from_slice(&number.to_be_bytes());
+    ShardId(id)
+}
+
+/// The eight bytes of a number.
+fn bytes_of(alloc: Global, number: u64) -> Result<Bytes, AllocError> {
+    let bytes = Vec::from_slice(alloc, &number.to_be_bytes())?;
+    Bytes::new(alloc, bytes)
+}
+
+/// Puts the bytes of a number under its identifier.
 pub fn put<D: PageDisk, K: Naming, R: Wait>(
     rt: &R,
     alloc: Global,
@@ -110,11 +124,8 @@ pub fn put<D: PageDisk, K: Naming, R: Wait>(
     purse: &mut Purse<K>,
     number: u64,
 ) -> Result<Ticket<K>, Refusal> {
-    let bytes = Vec::from_slice(alloc, &number.to_be_bytes())?;
-    let bytes = Bytes::new(alloc, bytes)?;
-    let mut id = [0; 16];
-    id[8..].copy_from_slice(&number.to_be_bytes());
-    node.put(rt, purse, ShardId(id), bytes)
+    let bytes = bytes_of(alloc, number)?;
+    node.put(rt, purse, identifier(number), bytes)
 }
 
 /// Polls so often, and puts anew whenever a command is persistent.

@@ -1,6 +1,6 @@
 //! How much was written.
 
-use crate::loads::SHARDS;
+use super::loads::SHARDS;
 use cs_deps::Element;
 
 /// How many runs stand at most; with one more all are merged.

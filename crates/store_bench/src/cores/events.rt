@@ -1,7 +1,7 @@
 //! Events of a core, of which none is to be refused.
 
-use crate::Fault;
-use crate::counts::Counts;
+use super::counts::Counts;
+use crate::faults::Fault;
 use cs_core::{Bytes, Core, Event, OutOfMemory, Reply};
 use cs_deps::Refusal;
 use cs_disk::MemoryDisk;

@@ -1,8 +1,9 @@
 //! Puts in batches, and gets.
 
-use crate::counts::Counts;
-use crate::events::{get, put, write_back};
-use crate::{Fault, Task};
+use super::Task;
+use super::counts::Counts;
+use super::events::{get, put, write_back};
+use crate::faults::Fault;
 use cs_core::{Bytes, Core};
 use cs_disk::MemoryDisk;
 use std::alloc::Global;

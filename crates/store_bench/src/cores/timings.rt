@@ -1,9 +1,10 @@
 //! What is printed: how much was done, and how long it took.
 
-use crate::counts::Counts;
-use crate::digests::{digest_puts, digest_texts};
-use crate::loads::{SHARDS, get_all, put_all, put_waiting};
-use crate::{Fault, Task};
+use super::Task;
+use super::counts::Counts;
+use super::digests::{digest_puts, digest_texts};
+use super::loads::{SHARDS, get_all, put_all, put_waiting};
+use crate::faults::Fault;
 use cs_core::Core;
 use cs_disk::MemoryDisk;
 use std::alloc::Global;

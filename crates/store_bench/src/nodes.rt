@@ -1,54 +1,33 @@
-//! Times a node. The first argument says what is done, the second how often it is done in all, the third with how many threads:
+//! Times a node. The second argument says what is done, the third how often it is done in all, the fourth with how many threads:
 //!
 //! - `stream`, and where none is given: a put between any two flushes, and all is written back by a stream;
 //! - `pilot`: the same, and all is written back by a pilot;
 //! - `puts`: threads put beside a pilot;
 //! - `polls`: threads poll a ticket beside a pilot that ends rounds;
 //! - `settles`: threads settle a ticket beside a pilot that ends rounds.
-#![tactic(auto)]
-
 mod batches;
 mod jobs;
 
 ghost use Rattle.std.specs.Prelude.{◌≡◌, [], IfOk};
 ghost use Rattle.cs_node.specs.Starts.{start_of};
 
+use crate::faults::Fault;
+use crate::words::{number_at, word_at};
 use batches::count_flushes;
 use cs_core::{Core, Limits};
-use cs_deps::Refusal;
-use cs_disk::{DiskFault, MemoryDisk};
-use cs_frame::{FormatFault, Geometry};
+use cs_disk::MemoryDisk;
+use cs_frame::Geometry;
 use cs_node::{Board, Naming, Node};
 use jobs::time_jobs;
-use std::alloc::{AllocError, Global};
+use std::alloc::Global;
 use std::marker::Brand;
-use std::num::ParseIntError;
 use std::rt::Env;
 use std::sync::Wait;
 use std::thread::Threads;
 use std::time::Clock;
-use std::{env, io};
-use thiserror::Error;
 
 /// How many events the core may record.
 const HISTORY: usize = 65_536;
-
-/// Why the program stops.
-#[derive(Debug, Drop, Error)]
-pub enum Fault {
-    #[error("no number")]
-    Number(#[from] ParseIntError),
-    #[error("out of memory")]
-    Memory(#[from(alloc)] AllocError),
-    #[error("the node refused")]
-    Refused(#[from] Refusal),
-    #[error("no geometry")]
-    Geometry(#[from] FormatFault),
-    #[error("no disk")]
-    Disk(#[from] DiskFault),
-    #[error(transparent)]
-    Output(#[from] io::Error),
-}
 
 /// What is to be done.
 #[derive(Clone, Copy, Debug)]
@@ -68,20 +47,23 @@ pub struct Task {
     pub threads: u64,
 }
 
-fn main(rt: HostRuntime) -> Result<(), Fault> {
+/// Does what the command line asks for.
+pub fn time_node<R: Threads + Wait + Sync + Clock + Print + Env + AllocGlobal>(
+    rt: &R,
+) -> Result<(), Fault> {
     let task = Task {
-        work: work_wanted(&rt)?,
-        count: number_wanted(&rt, 2, 50)?,
-        threads: number_wanted(&rt, 3, 1)?.max(1),
+        work: work_wanted(rt)?,
+        count: number_at(rt, 3, 50)?,
+        threads: number_at(rt, 4, 1)?.max(1),
     };
     let board = Board::new(rt.alloc())?;
     let core = new_core(rt.alloc())?;
-    run::<Brand, HostRuntime>(&rt, rt.alloc(), board, core, task)
+    run::<Brand, R>(rt, rt.alloc(), board, core, task)
 }
 
 /// The work that the command line asks for.
 fn work_wanted(rt: &(impl Env + AllocGlobal)) -> Result<Work, Fault> {
-    match env::args(rt)?.nth(1) {
+    match word_at(rt, 2)? {
         Some(text) => match text.as_str() {
             "pilot" => Ok(Work::Pilot),
             "puts" => Ok(Work::Puts),
@@ -90,18 +72,6 @@ fn work_wanted(rt: &(impl Env + AllocGlobal)) -> Result<Work, Fault> {
             _ => Ok(Work::Stream),
         },
         None => Ok(Work::Stream),
-    }
-}
-
-/// The number at this place of the command line, this one where there is none.
-fn number_wanted(
-    rt: &(impl Env + AllocGlobal),
-    place: usize,
-    otherwise: u64,
-) -> Result<u64, Fault> {
-    match env::args(rt)?.nth(place) {
-        Some(text) => Ok(text.parse::<u64>()?),
-        None => Ok(otherwise),
     }
 }
 

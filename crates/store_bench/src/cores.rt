@@ -1,30 +1,26 @@
-//! Times a core, with no text around it, beside the digests alone of what it writes or reads. The first argument says what is
-//! timed, the second how often it is done, the third how many bytes a shard has, the fourth how many puts a batch has, the fifth
+//! Times a core, with no text around it, beside the digests alone of what it writes or reads. The second argument says what is
+//! timed, the third how often it is done, the fourth how many bytes a shard has, the fifth how many puts a batch has, the sixth
 //! how many extents of 256 pages the store has:
 //!
 //! - `puts`: each batch is put, staged and written back, round by round;
 //! - `gets`: so many puts are written back, and so many gets are timed;
 //! - `beside`: so many puts wait, and 1,000 gets of what was written back before are timed, then as many of what waits.
 //!
-//! Where no argument is given, a few puts are done, and what they wrote is counted and not timed.
-#![tactic(auto)]
-
+//! Where none is given, a few puts are done, and what they wrote is counted and not timed.
 mod counts;
 mod digests;
 mod events;
 mod loads;
 mod timings;
 
+use crate::faults::Fault;
+use crate::words::{number_at, word_at};
 use cs_core::{Core, Limits};
-use cs_deps::Refusal;
-use cs_disk::{DiskFault, MemoryDisk};
-use cs_frame::{FormatFault, Geometry};
-use std::alloc::{AllocError, Global};
-use std::num::ParseIntError;
+use cs_disk::MemoryDisk;
+use cs_frame::Geometry;
+use std::alloc::Global;
 use std::rt::Env;
 use std::time::Clock;
-use std::{env, io};
-use thiserror::Error;
 use timings::{print_puts, time_beside, time_gets, time_puts};
 
 /// How many events the core may record.
@@ -32,23 +28,6 @@ const HISTORY: usize = 65_536;
 
 /// How many pages an extent has.
 const PAGES: u64 = 256;
-
-/// Why the program stops.
-#[derive(Debug, Drop, Error)]
-pub enum Fault {
-    #[error("no number")]
-    Number(#[from] ParseIntError),
-    #[error("out of memory")]
-    Memory(#[from(alloc)] AllocError),
-    #[error("the core refused")]
-    Refused(#[from] Refusal),
-    #[error("no geometry")]
-    Geometry(#[from] FormatFault),
-    #[error("no disk")]
-    Disk(#[from] DiskFault),
-    #[error(transparent)]
-    Output(#[from] io::Error),
-}
 
 /// What is timed.
 #[derive(Clone, Copy, Debug, PartialEq, Eq)]
@@ -68,16 +47,17 @@ pub struct Task {
     pub extents: u64,
 }
 
-fn main(rt: HostRuntime) -> Result<(), Fault> {
-    let work = work_wanted(&rt)?;
+/// Does what the command line asks for.
+pub fn time_core<R: Env + AllocGlobal + Print + Clock>(rt: &R) -> Result<(), Fault> {
+    let work = work_wanted(rt)?;
     let task = Task {
-        count: number_wanted(&rt, 2, 6)?,
-        bytes: number_wanted(&rt, 3, 1024)? as usize,
-        batch: number_wanted(&rt, 4, 2)?,
-        extents: number_wanted(&rt, 5, 64)?,
+        count: number_at(rt, 3, 6)?,
+        bytes: number_at(rt, 4, 1024)? as usize,
+        batch: number_at(rt, 5, 2)?,
+        extents: number_at(rt, 6, 64)?,
     };
     let mut core = new_core(rt.alloc(), task.extents)?;
-    run(&rt, rt.alloc(), &mut core, work, task)
+    run(rt, rt.alloc(), &mut core, work, task)
 }
 
 /// Does the work, and prints what was counted and how long it took.
@@ -98,25 +78,13 @@ fn run<R: Print + Clock>(
 
 /// The work that the command line asks for.
 fn work_wanted(rt: &(impl Env + AllocGlobal)) -> Result<Work, Fault> {
-    match env::args(rt)?.nth(1) {
+    match word_at(rt, 2)? {
         Some(text) => match text.as_str() {
             "gets" => Ok(Work::Gets),
             "beside" => Ok(Work::Beside),
             _ => Ok(Work::Puts),
         },
         None => Ok(Work::Nothing),
-    }
-}
-
-/// The number at this place of the command line, this one where there is none.
-fn number_wanted(
-    rt: &(impl Env + AllocGlobal),
-    place: usize,
-    otherwise: u64,
-) -> Result<u64, Fault> {
-    match env::args(rt)?.nth(place) {
-        Some(text) => Ok(text.parse::<u64>()?),
-        None => Ok(otherwise),
     }
 }
 

@@ -1,7 +1,8 @@
 //! Digests alone, of as many bytes as a store's pages have.
 
-use crate::counts::Counts;
-use crate::{Fault, Task};
+use super::Task;
+use super::counts::Counts;
+use crate::faults::Fault;
 use sha2::{Digest, Sha256};
 use std::alloc::Global;
 

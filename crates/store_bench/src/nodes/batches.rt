@@ -1,7 +1,7 @@
 //! How many flushes a batch takes, where a put comes between any two of them.
 
-use crate::Fault;
-use crate::jobs::put;
+use super::jobs::put;
+use crate::faults::Fault;
 use cs_deps::Refusal;
 use cs_disk::PageDisk;
 use cs_node::{Naming, Node, Open, Pilot, Step, Stream};

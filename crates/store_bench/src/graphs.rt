@@ -1,44 +1,21 @@
-//! Times the graph and the planner. The first argument is a number of puts, each a plain write and a superblock version over all
-//! plain writes so far. The second says what is done with them:
+//! Times the graph and the planner. The second argument says what is done with puts, each a plain write and a superblock version over all
+//! plain writes so far, and the third how many there are:
 //!
 //! - `plan`, and where none is given: all wait, with a root over the latest version at the end, and are planned at once;
 //! - `target`: the same, and what is planned is the latest superblock version and what it needs;
 //! - `steady`: a round is out all the time, and after each put it ends and the next is taken;
 //! - `gets`: all wait, and a million times the newest write to a page is looked up.
-#![tactic(auto)]
-
 ghost use Rattle.std.specs.Prelude.{None, ◌≡◌};
 
-use cs_deps::{Dependency, Graph, Refusal};
+use crate::faults::Fault;
+use crate::words::{number_at, word_at};
+use cs_deps::{Dependency, Graph};
 use cs_plan::{next_round, plan, plan_all};
-use std::alloc::{AllocError, Global};
-use std::num::ParseIntError;
+use std::alloc::Global;
+use std::io;
 use std::rt::Env;
-use std::{env, io};
-use thiserror::Error;
 
 const PAGE: [u8; 4096] = [0; 4096];
-
-/// Why the program stops.
-#[derive(Debug, Drop, Error)]
-enum Fault {
-    #[error("the number of puts is no number")]
-    Number(#[from] ParseIntError),
-    #[error("out of memory")]
-    Memory(#[from(alloc)] AllocError),
-    #[error("the graph refused")]
-    Refused(#[from] Refusal),
-    #[error(transparent)]
-    Output(#[from] io::Error),
-}
-
-/// The number of puts that the command line asks for, 250 where it says none.
-fn puts_wanted(rt: &(impl Env + AllocGlobal)) -> Result<u64, Fault> {
-    match env::args(rt)?.nth(1) {
-        Some(text) => Ok(text.parse::<u64>()?),
-        None => Ok(250),
-    }
-}
 
 /// What is to be done with the puts.
 #[derive(Drop)]
@@ -49,9 +26,23 @@ enum Work {
     Gets,
 }
 
+/// Does what the command line asks for, and prints what came of it.
+pub fn time_graph<R: Env + AllocGlobal + Print>(rt: &R) -> Result<(), Fault> {
+    let work = work_wanted(rt)?;
+    let puts = number_at(rt, 3, 250)?;
+    let alloc = rt.alloc();
+    let mut graph = Graph::new(alloc, &[1, 1])?;
+    match work {
+        Work::Plan => plan_puts(rt, alloc, &mut graph, puts),
+        Work::Target => plan_superblock(rt, alloc, &mut graph, puts),
+        Work::Steady => put_steadily(rt, alloc, &mut graph, puts),
+        Work::Gets => get_beside(rt, alloc, &mut graph, puts),
+    }
+}
+
 /// The work that the command line asks for.
 fn work_wanted(rt: &(impl Env + AllocGlobal)) -> Result<Work, Fault> {
-    match env::args(rt)?.nth(2) {
+    match word_at(rt, 2)? {
         Some(text) => match text.as_str() {
             "target" => Ok(Work::Target),
             "steady" => Ok(Work::Steady),
@@ -81,14 +72,13 @@ fn stage_root(alloc: Global, graph: &mut Graph) -> Result<(), Fault> {
 }
 
 /// All puts wait, and are planned.
-fn plan_puts(rt: &HostRuntime, graph: &mut Graph, puts: u64) -> Result<(), Fault> {
-    let alloc = rt.alloc();
+fn plan_puts<R: Print>(rt: &R, alloc: Global, graph: &mut Graph, puts: u64) -> Result<(), Fault> {
     for _ in 0..puts {
         stage_put(alloc, graph, 2)?;
     }
     stage_root(alloc, graph)?;
     let plan = plan_all(alloc, graph)?;
-    println!(*rt;
+    println!(rt;
         "puts {puts} rounds {} chain {}",
         plan.rounds.len(),
         plan.chain.len()
@@ -97,8 +87,12 @@ fn plan_puts(rt: &HostRuntime, graph: &mut Graph, puts: u64) -> Result<(), Fault
 }
 
 /// All puts wait, and what is planned is the latest superblock version and what it needs.
-fn plan_superblock(rt: &HostRuntime, graph: &mut Graph, puts: u64) -> Result<(), Fault> {
-    let alloc = rt.alloc();
+fn plan_superblock<R: Print>(
+    rt: &R,
+    alloc: Global,
+    graph: &mut Graph,
+    puts: u64,
+) -> Result<(), Fault> {
     for _ in 0..puts {
         stage_put(alloc, graph, 2)?;
     }
@@ -106,7 +100,7 @@ fn plan_superblock(rt: &HostRuntime, graph: &mut Graph, puts: u64) -> Result<(),
     if graph.families() == 2 {
         let target = Dependency::on_version(alloc, 0, graph.last_version(0))?;
         let plan = plan(alloc, graph, &target)?;
-        println!(*rt;
+        println!(rt;
             "puts {puts} rounds {} chain {}",
             plan.rounds.len(),
             plan.chain.len()
@@ -133,8 +127,12 @@ fn turn(alloc: Global, graph: &mut Graph) -> Result<(), Fault> {
 }
 
 /// A round is out all the time.
-fn put_steadily(rt: &HostRuntime, graph: &mut Graph, puts: u64) -> Result<(), Fault> {
-    let alloc = rt.alloc();
+fn put_steadily<R: Print>(
+    rt: &R,
+    alloc: Global,
+    graph: &mut Graph,
+    puts: u64,
+) -> Result<(), Fault> {
     for put in 0..puts {
         stage_put(alloc, graph, 2 + put % 1000)?;
         if put % 100 == 0 {
@@ -142,13 +140,12 @@ fn put_steadily(rt: &HostRuntime, graph: &mut Graph, puts: u64) -> Result<(), Fa
         }
         turn(alloc, graph)?;
     }
-    println!(*rt; "puts {puts} pages {}", graph.kept_pages())?;
+    println!(rt; "puts {puts} pages {}", graph.kept_pages())?;
     Ok(())
 }
 
 /// All puts wait, each to a page of its own, and the newest write to a page is looked up.
-fn get_beside(rt: &HostRuntime, graph: &mut Graph, puts: u64) -> Result<(), Fault> {
-    let alloc = rt.alloc();
+fn get_beside<R: Print>(rt: &R, alloc: Global, graph: &mut Graph, puts: u64) -> Result<(), Fault> {
     for put in 0..puts {
         stage_put(alloc, graph, 2 + put % 1_000_000)?;
     }
@@ -158,17 +155,6 @@ fn get_beside(rt: &HostRuntime, graph: &mut Graph, puts: u64) -> Result<(), Faul
             found = found.saturating_add(1);
         }
     }
-    println!(*rt; "puts {puts} found {found}")?;
+    println!(rt; "puts {puts} found {found}")?;
     Ok(())
-}
-
-fn main(rt: HostRuntime) -> Result<(), Fault> {
-    let puts = puts_wanted(&rt)?;
-    let mut graph = Graph::new(rt.alloc(), &[1, 1])?;
-    match work_wanted(&rt)? {
-        Work::Plan => plan_puts(&rt, &mut graph, puts),
-        Work::Target => plan_superblock(&rt, &mut graph, puts),
-        Work::Steady => put_steadily(&rt, &mut graph, puts),
-        Work::Gets => get_beside(&rt, &mut graph, puts),
-    }
 }
