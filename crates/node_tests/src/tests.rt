@@ -67,7 +67,8 @@ fn put<D: PageDisk, K: Naming, R: Wait>(
 fn a_put_is_settled_and_polled(rt: HostRuntime) -> Result<(), Fail> {
     let board = Board::new(rt.alloc())?;
     let core = new_core(rt.alloc(), 64)?;
-    settles_and_polls::<Brand, _>(&rt, rt.alloc(), board, core)
+    settles_and_polls::<Brand, _>(&rt, rt.alloc(), board, core);
+    Ok(())
 }
 
 fn settles_and_polls<K: Naming, R: Wait + Abort>(
@@ -75,13 +76,13 @@ fn settles_and_polls<K: Naming, R: Wait + Abort>(
     alloc: Global,
     board: Board,
     core: Core<MemoryDisk>,
-) -> Result<(), Fail>
+)
     requires named { (board ≡ K.table) × (start_of core ≡ K.start) }
     requires new { (core.history ≡ []) × (core.store.accepted ≡ 0) × (core.store.frontier ≡ 0) }
 {
     let node = Node::<MemoryDisk, K>::new(board, core);
     let mut purse = node.purse(rt, alloc).expect(rt, "a purse");
-    let bytes = one_byte(alloc, 6)?;
+    let bytes = bytes_of(alloc, 6).expect(rt, "bytes");
     let Ok(ticket) = node.put(rt, &mut purse, id(10), bytes) else {
         panic!(rt; "a put")
     };
@@ -99,23 +100,24 @@ fn settles_and_polls<K: Naming, R: Wait + Abort>(
         panic!(rt; "a settle after")
     };
     assert_eq!(rt; ack.number(), 1);
-    assert_eq!(rt; purse.places(alloc)?.as_slice(), [0, 1, 13].as_slice());
+    let places = purse.places(alloc).expect(rt, "places");
+    assert_eq!(rt; places.as_slice(), [0, 1, 13].as_slice());
     assert!(rt; purse.keep_ack(ack).is_ok());
     let mut purses = Vec::new(alloc);
-    purses.push(purse)?;
+    assert!(rt; purses.push(purse).is_ok());
     let Ok(closed) = node.rest().close(alloc, purses) else {
         panic!(rt; "a close")
     };
     assert_eq!(rt; closed.accepted, 1);
     assert_eq!(rt; closed.acknowledged, 1);
-    Ok(())
 }
 
 #[test]
 fn a_poll_before_and_after_a_sync(rt: HostRuntime) -> Result<(), Fail> {
     let board = Board::new(rt.alloc())?;
     let core = new_core(rt.alloc(), 64)?;
-    polls_alone::<Brand, _>(&rt, rt.alloc(), board, core)
+    polls_alone::<Brand, _>(&rt, rt.alloc(), board, core);
+    Ok(())
 }
 
 fn polls_alone<K: Naming, R: Wait + Abort>(
@@ -123,13 +125,13 @@ fn polls_alone<K: Naming, R: Wait + Abort>(
     alloc: Global,
     board: Board,
     core: Core<MemoryDisk>,
-) -> Result<(), Fail>
+)
     requires named { (board ≡ K.table) × (start_of core ≡ K.start) }
     requires new { (core.history ≡ []) × (core.store.accepted ≡ 0) × (core.store.frontier ≡ 0) }
 {
     let node = Node::<MemoryDisk, K>::new(board, core);
     let mut purse = node.purse(rt, alloc).expect(rt, "a purse");
-    let bytes = one_byte(alloc, 6)?;
+    let bytes = bytes_of(alloc, 6).expect(rt, "bytes");
     let Ok(ticket) = node.put(rt, &mut purse, id(10), bytes) else {
         panic!(rt; "a put")
     };
@@ -143,23 +145,24 @@ fn polls_alone<K: Naming, R: Wait + Abort>(
         panic!(rt; "a poll after")
     };
     assert_eq!(rt; ack.number(), 1);
-    assert_eq!(rt; purse.places(alloc)?.as_slice(), [0].as_slice());
+    let places = purse.places(alloc).expect(rt, "places");
+    assert_eq!(rt; places.as_slice(), [0].as_slice());
     assert!(rt; purse.keep_ack(ack).is_ok());
     let mut purses = Vec::new(alloc);
-    purses.push(purse)?;
+    assert!(rt; purses.push(purse).is_ok());
     let Ok(closed) = node.rest().close(alloc, purses) else {
         panic!(rt; "a close")
     };
     assert_eq!(rt; closed.accepted, 1);
     assert_eq!(rt; closed.acknowledged, 1);
-    Ok(())
 }
 
 #[test]
 fn a_lost_ticket_is_missing(rt: HostRuntime) -> Result<(), Fail> {
     let board = Board::new(rt.alloc())?;
     let core = new_core(rt.alloc(), 64)?;
-    loses_a_ticket::<Brand, _>(&rt, rt.alloc(), board, core)
+    loses_a_ticket::<Brand, _>(&rt, rt.alloc(), board, core);
+    Ok(())
 }
 
 fn loses_a_ticket<K: Naming, R: Wait + Abort>(
@@ -167,16 +170,16 @@ fn loses_a_ticket<K: Naming, R: Wait + Abort>(
     alloc: Global,
     board: Board,
     core: Core<MemoryDisk>,
-) -> Result<(), Fail>
+)
     requires named { (board ≡ K.table) × (start_of core ≡ K.start) }
     requires new { (core.history ≡ []) × (core.store.accepted ≡ 0) × (core.store.frontier ≡ 0) }
 {
     let node = Node::<MemoryDisk, K>::new(board, core);
     let mut purse = node.purse(rt, alloc).expect(rt, "a purse");
-    let bytes = one_byte(alloc, 6)?;
+    let bytes = bytes_of(alloc, 6).expect(rt, "bytes");
     assert!(rt; node.put(rt, &mut purse, id(10), bytes).is_ok());
     let mut purses = Vec::new(alloc);
-    purses.push(purse)?;
+    assert!(rt; purses.push(purse).is_ok());
     let Err(not) = node.rest().close(alloc, purses) else {
         panic!(rt; "one is missing")
     };
@@ -184,12 +187,11 @@ fn loses_a_ticket<K: Naming, R: Wait + Abort>(
     let node = not.rest.resume();
     let mut purses = not.purses;
     let mut purse = purses.pop().expect(rt, "the purse");
-    let bytes = one_byte(alloc, 7)?;
+    let bytes = bytes_of(alloc, 7).expect(rt, "bytes");
     let Ok(ticket) = node.put(rt, &mut purse, id(11), bytes) else {
         panic!(rt; "a put")
     };
     assert_eq!(rt; ticket.number(), 2);
-    Ok(())
 }
 
 #[test]
