@@ -1,4 +1,4 @@
--- What a plan says of the chunks of a put.
+-- What a cut that fits says of the chunks of a put.
 use Rattle.std.proofs.Common.{◌≡◌, ◌∙◌, ℕ, ◌*◌, ◌<◌, ◌⊎◌, List, length, refl, sym, ap, subst, ⊎_elim, arith}
 use Rattle.std.specs.Prelude.{◌↔◌, Result, Err}
 use Rattle.cs_chunk.specs.declared.cuts.Cut.{Cut}
@@ -57,24 +57,24 @@ module _ (x : State) (s : Staging) (bytes : List ℕ) (whole : IsWhole x) where
     not_worn_out r never fine = ((λ e. absurd (never e)), (λ h. absurd (fine (subst (λ ks. IsPutWorn s ks) (only h.1.0 h.1.1) h.1.3))))
 
   -- what is refused
-  module _ (plan : Result Cut Refusal) (r : Refusal) (is : plan ≡ Err r) (large : (plan ≡ Err TooLarge) ↔ IsTooLarge)
-      (full : plan ≡ Err Full → (cut : Cut) × IsCut (shape x) (length bytes) cut × (Fits (shape x) (extents_of x) ForPut (pages_of cut) → ⊥))
-      (worn : plan ≡ Err WornOut → (cut : Cut) × IsCut (shape x) (length bytes) cut × Fits (shape x) (extents_of x) ForPut (pages_of cut) × IsPutWorn s (pages_of cut))
+  module _ (fitting : Result Cut Refusal) (r : Refusal) (is : fitting ≡ Err r) (large : (fitting ≡ Err TooLarge) ↔ IsTooLarge)
+      (full : fitting ≡ Err Full → (cut : Cut) × IsCut (shape x) (length bytes) cut × (Fits (shape x) (extents_of x) ForPut (pages_of cut) → ⊥))
+      (worn : fitting ≡ Err WornOut → (cut : Cut) × IsCut (shape x) (length bytes) cut × Fits (shape x) (extents_of x) ForPut (pages_of cut) × IsPutWorn s (pages_of cut))
       (refusals : (r ≡ TooLarge) ⊎ (r ≡ Full) ⊎ (r ≡ WornOut)) where
-    is_err : (q : Refusal) → r ≡ q → plan ≡ Err q
+    is_err : (q : Refusal) → r ≡ q → fitting ≡ Err q
     is_err q e = is ∙ ap (λ (u : Refusal). Err u) e
 
     full_out : r ≡ Full → IsFull
     full_out e =
         let f = full (is_err Full e) in (
-          (λ t. let l : plan ≡ Err TooLarge = large.1 t in absurd (cc (l, is_err Full e))),
+          (λ t. let l : fitting ≡ Err TooLarge = large.1 t in absurd (cc (l, is_err Full e))),
           (λ cs h fits. f.2 (subst (λ ks. Fits (shape x) (extents_of x) ForPut ks) (only f.0 f.1 cs h) fits)),
         )
 
     worn_out : r ≡ WornOut → IsPutOut
     worn_out e =
         let f = worn (is_err WornOut e) in (
-          (λ t. let l : plan ≡ Err TooLarge = large.1 t in absurd (cc (l, is_err WornOut e))),
+          (λ t. let l : fitting ≡ Err TooLarge = large.1 t in absurd (cc (l, is_err WornOut e))),
           (pieces f.0.size f.0.count bytes, chunked f.0 f.1, subst (λ ks. Fits (shape x) (extents_of x) ForPut ks) (sym (pages f.0 f.1)) f.2, subst (λ ks. IsPutWorn s ks) (sym (pages f.0 f.1)) f.3),
         )
 

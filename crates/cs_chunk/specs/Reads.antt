@@ -67,7 +67,8 @@ pub record IsCaused {T : Type 0} (before now : ℕ) (result : Result T Refusal) 
   pub later : before ≤ now
   pub failed : IsErrOf result refusal.DeviceFault → Rises before now
 
--- Nothing but reads was asked of the disk.
+-- The disk is as reads leave it: an honest one holds what it held, and a crash meanwhile leaves nothing that it mightn't have left
+-- before; its size and its honesty stay, and its count of failures doesn't fall.
 pub record OnlyReads {D : Type 0} (honest : D → Type 0) (state : D → State) (page_count failure_count moment : D → ℕ) (left_since : D → ℕ → Image → Type 0) (old new : D) : Type 0 where
   pub same : honest old → state new ≡ state old
   pub time : honest old → Elapses (moment old) (moment new) (left_since old) (left_since new) (state new)

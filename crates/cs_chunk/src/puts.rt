@@ -25,7 +25,7 @@ use std::alloc::{AllocError, Global};
 
 /// How the bytes of a put are cut, where nothing but memory can refuse them: 31 `TooLarge`, then 30 `Full`, then 35
 /// `WornOut`.
-fn plan(extents: &Extents, graph: &Graph, size: usize) -> Result<Cut, Refusal>
+fn fitting_cut(extents: &Extents, graph: &Graph, size: usize) -> Result<Cut, Refusal>
     requires { root_family < length graph.now.staging.latest }
     ensures whole { IsWhole extents.now }
     ensures cut { IfOk result (IsCut (shape extents.now) size) }
@@ -158,7 +158,7 @@ pub fn put_chunks(
     ensures room { (cs : List (List ℕ)) → Chunked (shape extents.old).chunk_bytes bytes.now cs
         → graph.old.room ≤ graph.new.room + (length cs + sum (page_counts (chunk_frames (shape extents.old) (formats_of (shape extents.old)) cs))) }
 {
-    let cut = match plan(extents, graph, bytes.len()) {
+    let cut = match fitting_cut(extents, graph, bytes.len()) {
         Ok(cut) => cut,
         Err(refusal) => return Err(refusal),
     };

@@ -15,7 +15,7 @@ use Rattle.cs_core.specs.Meanings.{command_said, commands_said}
 use Rattle.cs_core.specs.Runs.{AreCalls, IsCall}
 use Rattle.cs_core.specs.States.{IsStateOf}
 use Rattle.cs_core.specs.Stored.{Stored}
-use Rattle.cs_core.specs.Views.{Applies, IsAsked, IsFull, IsIn, IsReached, IsStep, View}
+use Rattle.cs_core.specs.Views.{Applies, IsUntouched, IsFull, IsIn, IsReached, IsStep, View}
 use Rattle.cs_core.proofs.Crashes.{commands_reached}
 
 -- an event adds its command, newest first
@@ -41,7 +41,7 @@ module _ {D : Type 0} (honest : D → Type 0) (state : D → DiskState) (moment 
   count_of v s is = sym is.store.accepted ∙ ap length (commands_reached (shape v.store.extents) (formats_of (shape v.store.extents)) v.opened v.history s is.reached)
 
   -- nothing has changed but rooms
-  asked_in : (old new : View D) (s : State) → honest old.disk → IsAsked honest state old new → IsIn state old s → IsIn state new s
+  asked_in : (old new : View D) (s : State) → honest old.disk → IsUntouched honest state old new → IsIn state old s → IsIn state new s
   asked_in old new s there asked is = record {
     store = subst (λ (v : Stored). IsStateOf v s) (sym asked.store) is.store;
     disk = subst (λ (v : Stored). IsDiskOf (shape v.extents) (formats_of (shape v.extents)) s (state new.disk)) (sym asked.store)
@@ -65,7 +65,7 @@ module _ {D : Type 0} (honest : D → Type 0) (state : D → DiskState) (moment 
     is_in = is;
   }
 
-  asked_follows : (old new : View D) (s : State) → honest old.disk → honest new.disk → IsAsked honest state old new → IsIn state old s → Follows old new
+  asked_follows : (old new : View D) (s : State) → honest old.disk → honest new.disk → IsUntouched honest state old new → IsIn state old s → Follows old new
   asked_follows old new s there then_too asked is = let is_then = asked_in old new s there asked is in record {
     same_shape = ap (λ (v : Stored). shape v.extents) asked.store;
     opened = asked.opened;
@@ -99,7 +99,7 @@ module _ {D : Type 0} (honest : D → Type 0) (state : D → DiskState) (moment 
       (λ (full : IsFull old did.1 new). subst (λ (v : View D). Follows old v) (sym full.same) (same_follows old s there is))
       (λ (step : IsStep honest state old did.0 did.1 new). step_follows old new did.0 did.1 s there (call.stays_honest there) call.rises step is)
       did.2)
-      (λ (asked : IsAsked honest state old new). asked_follows old new s there (call.stays_honest there) asked is)
+      (λ (asked : IsUntouched honest state old new). asked_follows old new s there (call.stays_honest there) asked is)
       call.did
 
   follows_then : (a b c : View D) → Follows a b → Follows b c → Follows a c

@@ -15,14 +15,14 @@ use Rattle.cs_model.specs.State.{End, Ended, State}
 use Rattle.cs_model.specs.Step.{Step}
 use Rattle.cs_refine.specs.Devices.{IsDiskOf}
 use Rattle.cs_refine.specs.Parts.{ArePartsOf}
-use Rattle.cs_core.specs.Frontiers.{IsReached, IsRootPersistent}
+use Rattle.cs_core.specs.Frontiers.{IsRootFrontier, IsRootPersistent}
 use Rattle.cs_core.specs.Rounds.{EndAnswers}
 use Rattle.cs_core.specs.States.{IsStateOf}
 use Rattle.cs_core.specs.Stored.{Stored, members_of}
 use Rattle.cs_core.proofs.RoundSteps.{end_answers, end_done}
 
 -- where more of the root is persistent, no fewer commands are
-frontier_rises : (v : Stored) (h : GraphState) (i : IndexState) (s z : State) (f : ℕ) → IsStateOf v s → ArePartsOf v.extents h i z → s.world.persistent.root ≤ z.world.persistent.root → IsReached h.staging v.roots f → v.frontier ≤ f
+frontier_rises : (v : Stored) (h : GraphState) (i : IndexState) (s z : State) (f : ℕ) → IsStateOf v s → ArePartsOf v.extents h i z → s.world.persistent.root ≤ z.world.persistent.root → IsRootFrontier h.staging v.roots f → v.frontier ≤ f
 frontier_rises v h i s z f is parts more reached = go is.frontier.0 is.frontier.1 is.frontier.2 is.frontier.3
   where
     low : (n : ℕ) → n ≤ z.world.persistent.root → IsRootPersistent h.staging n
@@ -47,7 +47,7 @@ frontier_rises v h i s z f is parts more reached = go is.frontier.0 is.frontier.
 -- the round is persistent, and the frontier is the greater of both
 pub end_answers_most : (v : Stored) (whole : IsWhole v.extents) (runs : v.halted ≡ false) (out : v.out ≢ None) (all : v.issued ≡ length (members_of v.out)) (h : GraphState)
     → h.staging ≡ record { pending = settled v.graph.staging.pending (members_of v.out); staged = v.graph.staging.staged; latest = v.graph.staging.latest } → AddsNone v.graph h
-    → (f : ℕ) → IsReached h.staging v.roots f → (most : ℕ) → most ≡ max v.frontier f → (disk after : DiskState) → after ≡ flushed disk
+    → (f : ℕ) → IsRootFrontier h.staging v.roots f → (most : ℕ) → most ≡ max v.frontier f → (disk after : DiskState) → after ≡ flushed disk
     → EndAnswers v disk (Ok most) (record v { graph = h; out = None; issued = 0; frontier = most }) after
 unfolding EndAnswers
 end_answers_most v whole runs out all h settles adds f reached most most_is disk after is_flushed s is on =

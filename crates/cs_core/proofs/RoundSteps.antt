@@ -35,7 +35,7 @@ use Rattle.cs_refine.proofs.Keeping.{ended as keeps_ended, members_named}
 use Rattle.cs_refine.proofs.RoundsOut.{begin, nothing}
 use Rattle.cs_refine.proofs.Shapes.{store_format, store_shape}
 use Rattle.cs_core.specs.declared.roots.Root.{Root as Noted}
-use Rattle.cs_core.specs.Frontiers.{IsReached, IsRootPersistent}
+use Rattle.cs_core.specs.Frontiers.{IsRootFrontier, IsRootPersistent}
 use Rattle.cs_core.specs.States.{AreRootsOf, IsStateOf}
 use Rattle.cs_core.specs.Rounds.{EndAnswers, IssueAnswers}
 use Rattle.cs_core.specs.Steps.{Declines}
@@ -45,7 +45,7 @@ use Rattle.cs_core.proofs.Members.{are_names, drop_all, drop_left, drop_none, dr
 
 -- what is counted by the roots that were noted is the frontier
 frontier_counted : (x : ExtentsState) (h : GraphState) (i : IndexState) (s z : State) (k f : ℕ) (roots : List Noted) → Sound (shape x) (formats_of (shape x)) s → AreRootsOf roots s → ArePartsOf x h i z
-    → IsFrontier (shape x) (formats_of (shape x)) z k → roots_of z.world.elements ≡ roots_of s.world.elements → z.count ≡ s.count → IsReached h.staging roots f → k ≡ f
+    → IsFrontier (shape x) (formats_of (shape x)) z k → roots_of z.world.elements ≡ roots_of s.world.elements → z.count ≡ s.count → IsRootFrontier h.staging roots f → k ≡ f
 frontier_counted x h i s z k f roots sound are parts (r, has, version, commands) same count reached = omega (arith, up, down)
   where
     old : r ∈ roots_of s.world.elements
@@ -373,7 +373,7 @@ module _ (v : Stored) (s : State) (whole : IsWhole v.extents) (is : IsStateOf v 
 
     -- what the code counts is the frontier
     pub end_done : (h : GraphState) → h.staging ≡ record { pending = settled v.graph.staging.pending (members_of v.out); staged = v.graph.staging.staged; latest = v.graph.staging.latest } → AddsNone v.graph h
-        → (f : ℕ) → IsReached h.staging v.roots f → (disk : DiskState) → IsDiskOf (shape v.extents) (formats_of (shape v.extents)) s disk
+        → (f : ℕ) → IsRootFrontier h.staging v.roots f → (disk : DiskState) → IsDiskOf (shape v.extents) (formats_of (shape v.extents)) s disk
         → (t : State) × Step (shape v.extents) (formats_of (shape v.extents)) s End (Ended f) t
         × IsStateOf (record v { graph = h; out = None; issued = 0; frontier = f }) t
         × IsDiskOf (shape v.extents) (formats_of (shape v.extents)) t (flushed disk)
@@ -470,7 +470,7 @@ issue_declines v whole runs none disk = inr (NoRound, refl, λ s is on. (s, issu
 
 pub end_answers : (v : Stored) (whole : IsWhole v.extents) (runs : v.halted ≡ false) (out : v.out ≢ None) (all : v.issued ≡ length (members_of v.out)) (h : GraphState)
     → h.staging ≡ record { pending = settled v.graph.staging.pending (members_of v.out); staged = v.graph.staging.staged; latest = v.graph.staging.latest } → AddsNone v.graph h
-    → (f : ℕ) → IsReached h.staging v.roots f → (disk after : DiskState) → after ≡ flushed disk → EndAnswers v disk (Ok f) (record v { graph = h; out = None; issued = 0; frontier = f }) after
+    → (f : ℕ) → IsRootFrontier h.staging v.roots f → (disk after : DiskState) → after ≡ flushed disk → EndAnswers v disk (Ok f) (record v { graph = h; out = None; issued = 0; frontier = f }) after
 unfolding EndAnswers
 end_answers v whole runs out all h settles adds f reached disk after is_flushed s is on =
     let d = end_done v s whole is runs out all h settles adds f reached disk on in

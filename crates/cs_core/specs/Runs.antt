@@ -11,7 +11,7 @@ use Rattle.cs_core.specs.declared.events.Reply.{Reply}
 use Rattle.cs_core.specs.declared.events.Reply.TheVariants.{Begun, Ended}
 use Rattle.cs_core.specs.Meanings.{commands_said}
 use Rattle.cs_core.specs.Stored.{Stored}
-use Rattle.cs_core.specs.Views.{Applies, IsAsked, View}
+use Rattle.cs_core.specs.Views.{Applies, IsUntouched, View}
 use Rattle.cs_core.specs.Writebacks.{WritesBack}
 
 -- these events with their replies, one after another, do this to a store
@@ -39,7 +39,7 @@ pub record IsRoundDone (old new : Stored) : Type 0 where
 module _ {D : Type 0} (honest : D → Type 0) (state : D → DiskState) (moment : D → ℕ) (left_since : D → ℕ → Image → Type 0) where
   -- One call of `apply`, by what its contract says of crashes: an event was done, or nothing for want of memory.
   pub record IsCall (old new : View D) : Type 0 where
-    pub did : ((event : Event) × (reply : Reply) × Applies honest state old event reply new) ⊎ IsAsked honest state old new
+    pub did : ((event : Event) × (reply : Reply) × Applies honest state old event reply new) ⊎ IsUntouched honest state old new
     pub rises : old.store.frontier ≤ new.store.frontier
     pub stays_honest : honest old.disk → honest new.disk
     pub crash : honest old.disk → LeavesOnly moment left_since old.disk new.disk (IsPrefix (shape old.store.extents) (page old.opened) (commands_said old.history) old.store.frontier old.store.accepted)

@@ -6,8 +6,8 @@ use Rattle.cs_core.specs.declared.events.Event.TheVariants.{Abandon, Begin, Begi
 use Rattle.cs_core.specs.declared.events.Reply.{Reply}
 use Rattle.cs_core.specs.declared.events.Reply.TheVariants.{Abandoned, Absent, Accepted, Begun, Ended, Found, Issued, Moved, NoneLive, NotYet, Nothing, Persistent, Refused, Retired, Staged, Sweeping, Unchanged}
 
--- The replies to each event. Want of memory is none, Settle is refused for a full history alone, and what it tells of is below
--- the number asked for.
+-- The replies to each event. Want of memory is no reply. Commands are numbered from 1. Settle is refused for a full history alone;
+-- where it answers NotYet, the number that it tells is below the one asked for, unless that was 0.
 abbrev pub MayAnswer : Event → Reply → Type 0
 MayAnswer (Put id bytes) (Accepted n) = 1 ≤ n
 MayAnswer (Get id) (Found bytes) = Unit {0}

@@ -64,7 +64,7 @@ pub record KeepsDevice (x : ExtentsState) (g : GraphState) (y : ExtentsState) (h
   pub round : h.round ≡ g.round
   pub behind : StagesBehind g.staging.pending h.staging.pending
 
--- each extent that is marked may be swept
+-- each extent that is marked as being swept is there, and neither open nor empty
 abbrev pub AreSwept : ExtentsState → Type 0
 AreSwept x = (e : ℕ) → (extents_of x).swept e ≡ true → IsSwept (shape x) (extents_of x) e
 
@@ -84,7 +84,7 @@ pub record IsKept (s : Stored) : Type 0 where
   pub numbers : s.base + s.accepted < 2 ^ 63
   pub swept : AreSwept s.extents
 
--- the store as clauses see it from outside: for how much there is room isn't told
+-- the store with the rooms of graph and index as 0: clauses compare stores so, whatever memory is reserved
 abbrev pub settled_rooms : Stored → Stored
 settled_rooms s = record s { graph = record s.graph { room = 0 }; index = record s.index { room = 0 } }
 

@@ -83,7 +83,7 @@ pub record IsStep {D : Type 0} (honest : D → Type 0) (state : D → DiskState)
       → (m : model.Reply) × (t : model.State) × Says (shape old.store.extents) (formats_of (shape old.store.extents)) reply m
       × Step (shape old.store.extents) (formats_of (shape old.store.extents)) s (event_of event) m t × IsIn state new t
 
--- what one call does that isn't refused for want of memory
+-- what a call does that has memory: the history was full, and nothing has changed; or the event was done or refused by one step, and kept
 abbrev pub Applies : {D : Type 0} → (honest : D → Type 0) → (state : D → DiskState) → (old : View D) → Event → Reply → (new : View D) → Type 0
 Applies honest state old event reply new = IsFull old reply new ⊎ IsStep honest state old event reply new
 
@@ -95,7 +95,7 @@ Serves old disk event reply new after = (s : model.State) → IsStateOf old s �
     × Step (shape old.extents) (formats_of (shape old.extents)) s (event_of event) m t × IsStateOf new t × IsDiskOf (shape old.extents) (formats_of (shape old.extents)) t after
 
 -- nothing but rooms has changed, and nothing of an honest disk
-pub record IsAsked {D : Type 0} (honest : D → Type 0) (state : D → DiskState) (old new : View D) : Type 0 where
+pub record IsUntouched {D : Type 0} (honest : D → Type 0) (state : D → DiskState) (old new : View D) : Type 0 where
   pub opened : new.opened ≡ old.opened
   pub found : new.found ≡ old.found
   pub store : new.store ≡ old.store

@@ -32,7 +32,7 @@ ghost use Rattle.cs_core.specs.Openings.{IsOpened, IsOpeningRefusal, IsWhyNotOpe
 ghost use Rattle.cs_core.specs.Replays.{replayed};
 ghost use Rattle.cs_core.specs.Shapes.{MayAnswer};
 ghost use Rattle.cs_core.specs.Started.{IsFormatted, IsHeadWritten, new_stored};
-ghost use Rattle.cs_core.specs.Views.{Applies, IsAsked, IsFound, IsIn};
+ghost use Rattle.cs_core.specs.Views.{Applies, IsUntouched, IsFound, IsIn};
 ghost use Rattle.cs_core.specs.Writebacks.{WritesBack};
 
 use crate::contents::Bytes;
@@ -52,7 +52,8 @@ use std::snapshot::Snapshot;
 /// What a core may take.
 #[derive(Clone, Copy, Debug, PartialEq, Eq)]
 pub struct Limits {
-    /// How many events its history may have, 1 to 65,536.
+    /// How many events its history may have: with so many, any further one is refused 41 HistoryFull. It bounds the
+    /// memory of the history and of the roots; the program takes 65,536.
     pub history: usize,
 }
 
@@ -177,14 +178,17 @@ impl<D: PageDisk> Core<D> {
         }
     }
 
-    /// Does one event, and keeps it with its reply in the history.
+    /// Does one event, and keeps it with its reply in the history, a refusal too. Two answers are kept nowhere:
+    /// 41 HistoryFull, where the history stands at its limit and nothing changes, and `OutOfMemory`, the only `Err`, after
+    /// which nothing has changed but what memory is reserved.
     ///
-    /// Refused 41 HistoryFull where the history stands at its limit, then 40 Halted where a write or a flush failed (but
-    /// for Get and Settle), then as the event is.
+    /// Refused 41 HistoryFull, then 40 Halted where a write or a flush failed (but for Get and Settle), then as `Event`
+    /// says. `step` says that a core goes by two tables of cs_model: `Does` (specs/Events.antt), what each event does, and
+    /// `Refuses` (specs/Grounds.antt), the grounds of its refusals in their order.
     pub fn apply(&mut self, event: &Event) -> Result<Reply, OutOfMemory>
         ensures step { IfOk result (λ reply. Applies D.honest D.state self.old event.now reply self.new) }
-        ensures memory { OnErr result (IsAsked D.honest D.state self.old self.new) }
-        ensures shape { IfOk result (λ reply. MayAnswer event.now reply) }
+        ensures memory { OnErr result (IsUntouched D.honest D.state self.old self.new) }
+        ensures answers { IfOk result (λ reply. MayAnswer event.now reply) }
         ensures writeback { IfOk result (λ reply. WritesBack self.old.store event.now reply self.new.store) }
         ensures rises { self.old.store.frontier ≤ self.new.store.frontier }
         // What it asks of the disk, by what the disk holds then. A flush that finds nothing to flush shows nowhere there; that
@@ -260,7 +264,8 @@ impl<D: PageDisk> Core<D> {
         &self.history
     }
 
-    /// What the first k events put or deleted, each identifier with its bytes or None, the first of them first.
+    /// What the first k events put or deleted, each identifier with its bytes or None, the first of them first; of all
+    /// events where there are fewer. Goes through k events and takes memory for the list alone, since bytes are shared.
     pub fn replay(&self, k: usize) -> Result<Vec<(ShardId, Option<Bytes>)>, AllocError>
         ensures { IfOk result (λ changes. changes.items ≡ replayed (take k self.now.history)) }
     {
@@ -288,7 +293,7 @@ impl<D: PageDisk> Core<D> {
         self.store.graph.everything()
     }
 
-    /// What is persistent and what waits, as plain data.
+    /// What is persistent and what waits, as plain data. Takes memory for all that waits, and as long as `Graph::view`.
     pub fn view(&self) -> Result<GraphView, AllocError>
         ensures view { IfOk result (λ view. pending_of view ≡ self.now.store.graph.staging.pending) }
         ensures kept { IsOk result → IsKept self.now.store.graph.staging }
@@ -298,7 +303,8 @@ impl<D: PageDisk> Core<D> {
         self.store.graph.view()
     }
 
-    /// The plan of all that waits. Refused 5 InFlight where a round is out, and 9 OutOfMemory.
+    /// The plan of all that waits. Refused 5 InFlight where a round is out, and 9 OutOfMemory. Time and memory grow with
+    /// what waits.
     pub fn plan(&self) -> Result<Plan, Refusal>
         ensures kept { IsKept self.now.store.graph.staging }
         ensures out { self.now.store.out ≡ self.now.store.graph.round }
@@ -318,7 +324,7 @@ impl<D: PageDisk> Core<D> {
     }
 
     /// The plan that makes a dependency persistent. Refused 4 NotStaged, 5 InFlight where a round is out, and 9
-    /// OutOfMemory.
+    /// OutOfMemory. Time and memory grow with what waits.
     pub fn plan_for(&self, target: &Dependency) -> Result<Plan, Refusal>
         ensures schedule { IfOk result (λ plan. IsSchedule self.now.store.graph.staging.pending (rounds_of plan)) }
         ensures covers { IfOk result (λ plan. Covers self.now.store.graph.staging.pending (rounds_of plan) target.now) }

@@ -26,29 +26,39 @@ impl<T: Drop> From<AllocFailed<T>> for OutOfMemory {
 /// What a core is asked. Extents are told by their numbers.
 #[derive(Debug, Drop)]
 pub enum Event {
-    /// To keep these bytes under an identifier.
+    /// To keep these bytes under an identifier: `Accepted`. Refused 31 TooLarge, then 32 IndexFull, then 30 Full, then
+    /// 35 WornOut.
     Put(ShardId, Bytes),
-    /// For the bytes of an identifier.
+    /// For the bytes of an identifier: `Found` or `Absent`. Refused 20 BadMagic, 21 BadDigest, 22 BadLength, 23 BadPadding
+    /// or 24 BadVersion where a chunk is damaged; 1 DeviceFault.
     Get(ShardId),
-    /// To delete an identifier.
+    /// To delete an identifier: `Accepted`, or `Absent` where there is nothing under it. Refused 35 WornOut.
     Delete(ShardId),
-    /// To stage what the index has changed, and a root over it.
+    /// To stage what the index has changed, and a root over it: `Staged`, or `Unchanged`. The device is left alone.
+    /// Refused 30 Full, then 35 WornOut.
     Stage,
-    /// To take a round of what may be written.
+    /// To take a round of what may be written: `Begun`, or `Nothing`. Refused 5 InFlight where a round is out.
     Begin,
-    /// To write the next member of the round to its page.
+    /// To write the next member of the round to its page: `Issued`. Refused 42 NoRound where none is left; 1 DeviceFault
+    /// halts the core.
     Issue,
-    /// To flush, after which the round is persistent.
+    /// To flush, after which the round is persistent: `Ended`. Refused 42 NoRound where no round is out or some of it is left;
+    /// 1 DeviceFault halts the core.
     End,
-    /// To mark an extent as being swept.
+    /// To mark an extent as being swept: `Sweeping`. Refused 33 NotSweepable where it is open, empty, being swept or not
+    /// there.
     BeginSweep(usize),
-    /// To move a live chunk off an extent that is being swept.
+    /// To move the first live chunk, by identifier and then by chunk, off an extent that is being swept: `Moved`, or
+    /// `NoneLive`. Refused 33 NotSweepable where it isn't being swept, 20 to 24 as a Get is, then 30 Full, then 35 WornOut;
+    /// 1 DeviceFault.
     MoveOne(usize),
-    /// To stage what is live and a root over it, and to empty an extent that is being swept.
+    /// To stage what is live and a root over it, and to empty an extent that is being swept: `Retired`. Refused
+    /// 33 NotSweepable where it isn't being swept, then 34 StillLive, then 30 Full, then 35 WornOut.
     Retire(usize),
-    /// To sweep an extent no longer.
+    /// To sweep an extent no longer: `Abandoned`. What was moved stays moved. Refused 33 NotSweepable where it isn't being
+    /// swept.
     Abandon(usize),
-    /// Whether a command is persistent.
+    /// Whether a command, counted from 1 since the core was opened, is persistent: `Persistent`, or `NotYet`, also for 0.
     Settle(u64),
 }
 
@@ -112,7 +122,7 @@ pub enum Reply {
     Moved(ShardId, usize),
     /// No live chunk is on the extent.
     NoneLive,
-    /// The extent is empty once the root of this version is persistent.
+    /// The extent is empty, and frames may go there at once: each of their pages needs the root of this version.
     Retired(u64),
     /// The extent isn't being swept any more.
     Abandoned,

@@ -15,7 +15,8 @@ use cs_disk::PageDisk;
 use cs_frame::ShardId;
 
 impl Store {
-    /// Does one event, and gives its reply twice.
+    /// Does one event, and gives its reply twice: to tell it, and to keep it in the history. A store that is halted refuses
+    /// all but Get and Settle, 40 Halted. After `OutOfMemory` nothing has changed but what memory is reserved.
     pub fn serve<D: PageDisk>(
         &mut self,
         disk: &mut D,
@@ -52,7 +53,7 @@ impl Store {
         }
     }
 
-    /// Tells whether a command is persistent, twice.
+    /// The reply to a Settle, twice. Commands are numbered from 1, so 0 is never persistent.
     fn serve_settle(&self, n: u64) -> (Reply, Reply)
         ensures twice { result.0 ≡ result.1 }
         ensures answered { IsAnswered (settled_rooms self.now) (Event.Settle n) result.0 (settled_rooms self.now) }

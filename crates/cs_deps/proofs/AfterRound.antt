@@ -5,7 +5,7 @@ use Rattle.cs_deps.specs.declared.elements.Element.{Element}
 use Rattle.cs_deps.specs.declared.elements.Element.TheVariants.{Plain, Version}
 use Rattle.cs_deps.specs.Named.{Named, StandsFor}
 use Rattle.cs_deps.specs.Pending.{Pending, WaitsAt, Waits, IsPersistent, IsStaged}
-use Rattle.cs_deps.specs.Staging.{settled, staged_after, still_waits}
+use Rattle.cs_deps.specs.Staging.{settled, staged_after, is_left_waiting}
 use Rattle.cs_deps.specs.State.{State, after, after_round}
 use Rattle.cs_deps.specs.Entries.{IsSound}
 use Rattle.cs_deps.proofs.Filtered.{filter_keeps}
@@ -32,7 +32,7 @@ module _ (g : Pending) (ok : IsStaged g) (x : Element) (d : Named) (may : MayFol
       fresh = λ w. may.fresh (waited g ok round x w);
       known = λ y named. ⊎_elim
           (λ (p : IsPersistent g y). inl (persists g ok round y p))
-          (λ (w : Waits g y). left y w.0 w.1 w.2 (still_waits round (y, w.1)) refl)
+          (λ (w : Waits g y). left y w.0 w.1 w.2 (is_left_waiting round (y, w.1)) refl)
           (may.known y named);
       stays = λ k y z e at named. let c = came g ok round k z e at in may.stays c.0 y z e c.1 named;
       not_itself = may.not_itself;
@@ -44,8 +44,8 @@ module _ (g : Pending) (ok : IsStaged g) (x : Element) (d : Named) (may : MayFol
       not_yet = λ f v is. raised_below round g.persistent f v (may.not_yet f v is) (λ w c. may.later f w v is (out (Version f w) c));
     }
       where
-        left : (y : Element) (k : ℕ) (e : Named) → WaitsAt g k y e → (b : Bool) → still_waits round (y, e) ≡ b → IsPersistent (settled g round) y ⊎ Waits (settled g round) y
-        left y k e at true is = let r = filter_keeps (still_waits round) g.waiting k (y, e) at is in inr (r.0, e, r.1)
+        left : (y : Element) (k : ℕ) (e : Named) → WaitsAt g k y e → (b : Bool) → is_left_waiting round (y, e) ≡ b → IsPersistent (settled g round) y ⊎ Waits (settled g round) y
+        left y k e at true is = let r = filter_keeps (is_left_waiting round) g.waiting k (y, e) at is in inr (r.0, e, r.1)
         left y k e at false is = inl (joins g ok round y (k, e, at) (one_stands round (y, e) is))
 
 module _ (s : State) (whole : IsSound s) (x : Element) (d : Named) (may : MayFollow s.staging.pending x d) where

@@ -13,7 +13,7 @@ use Rattle.cs_deps.specs.declared.records.Record.{Record}
 use Rattle.cs_deps.specs.Pending.{Waits}
 use Rattle.cs_deps.specs.Levels.{kept_by, level_by, IsInRow, IsQueued, IsIndexed}
 use Rattle.cs_deps.specs.Records.{writes_of, AreFiled}
-use Rattle.cs_deps.specs.Staging.{still_waits}
+use Rattle.cs_deps.specs.Staging.{is_left_waiting}
 use Rattle.cs_deps.specs.State.{State, Write, IsOut, IsOfLevel, KeepsBytes, IsWhole, after, after_round, same_element, last_write}
 use Rattle.cs_deps.specs.Entries.{IsSound}
 use Rattle.cs_deps.proofs.AllHeights.{all_have_heights}
@@ -139,10 +139,10 @@ module _ (s : State) (whole : IsSound s) (l : Levels) (ix : IsIndexed s l) where
 
       from : (o : Option (List Element)) → s.round ≡ o → IsQueued l (Plain n)
       from None is = left (subst (λ o. Waits (after_round s.staging.pending o) (Plain n)) (sym is) w)
-      from (Some round) is = choose (still_waits round (Plain n, w.1)) refl
+      from (Some round) is = choose (is_left_waiting round (Plain n, w.1)) refl
         where
-          choose : (b : Bool) → still_waits round (Plain n, w.1) ≡ b → IsQueued l (Plain n)
-          choose true q = let r = filter_keeps (still_waits round) s.staging.pending.waiting w.0 (Plain n, w.1) w.2 q in left (subst (λ o. Waits (after_round s.staging.pending o) (Plain n)) (sym is) (r.0, w.1, r.1))
+          choose : (b : Bool) → is_left_waiting round (Plain n, w.1) ≡ b → IsQueued l (Plain n)
+          choose true q = let r = filter_keeps (is_left_waiting round) s.staging.pending.waiting w.0 (Plain n, w.1) w.2 q in left (subst (λ o. Waits (after_round s.staging.pending o) (Plain n)) (sym is) (r.0, w.1, r.1))
           choose false q = let t = one_stands round (Plain n, w.1) q in member t.0 t.1 t.2
             where
               member : (y : Element) → Contains round y → StandsFor y (Plain n) → IsQueued l (Plain n)

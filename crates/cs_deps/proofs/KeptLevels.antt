@@ -8,7 +8,7 @@ use Rattle.cs_deps.specs.Pending.{Pending, WaitsAt, Waits, IsStaged}
 use Rattle.cs_deps.specs.Chain.{IsHeight, ChainTo}
 use Rattle.cs_deps.specs.Staging.{staged_after, settled, IsJoined}
 use Rattle.cs_deps.specs.State.{IsQueue}
-use Rattle.cs_deps.specs.Levels.{AreKeptLevels, Top}
+use Rattle.cs_deps.specs.Levels.{AreKeptLevels, IsTop}
 use Rattle.cs_deps.proofs.Chains.{chain_of_one, chain_to_next, need_is_lower}
 use Rattle.cs_deps.proofs.ByHeight.{HaveHeights}
 use Rattle.cs_deps.proofs.AllHeights.{all_have_heights}
@@ -62,7 +62,7 @@ heights_rise g ok f v w n m le ww hv hw = hw.greatest n (moved n hv.reached)
         let same : suc k + 1 ≡ suc (suc k) = omega arith in subst (ChainTo g (Version f w)) same longer
 
 -- the level of the new element: one more than the greatest kept level of what it needs, or than the base
-pub level_of_new : (g : Pending) (ok : IsStaged g) (x : Element) (d : Named) (may : MayFollow g x d) (base : ℕ) (level : Element → ℕ) → AreKeptLevels g base level → HaveHeights g → (top : ℕ) → Top g base level d top → (m : ℕ) → top ≡ base + m → IsHeight (staged_after g x d) x (m + 1)
+pub level_of_new : (g : Pending) (ok : IsStaged g) (x : Element) (d : Named) (may : MayFollow g x d) (base : ℕ) (level : Element → ℕ) → AreKeptLevels g base level → HaveHeights g → (top : ℕ) → IsTop g base level d top → (m : ℕ) → top ≡ base + m → IsHeight (staged_after g x d) x (m + 1)
 level_of_new g ok x d may base level are heights top is m same = height_new g ok x d may m
     (⊎_elim
     (λ (e : top ≡ base). let none : m ≡ 0 = omega (arith, e, same) in inl none)
@@ -77,7 +77,7 @@ level_of_new g ok x d may base level are heights top is m same = height_new g ok
     omega (arith, h.1.greatest k c, are.waiting y h.0 h.1, is.above y named w, same))
 
 -- the needs of the version before add only its own level less one
-pub joined_top : (g : Pending) (ok : IsStaged g) (base : ℕ) (level : Element → ℕ) → AreKeptLevels g base level → HaveHeights g → (x : Element) (d e : Named) → IsJoined g.waiting x d e → (top : ℕ) → Top g base level d top → base ≤ top → (k : ℕ) → IsHeight g x (k + 1) → Top g base level e (max top (base + k))
+pub joined_top : (g : Pending) (ok : IsStaged g) (base : ℕ) (level : Element → ℕ) → AreKeptLevels g base level → HaveHeights g → (x : Element) (d e : Named) → IsJoined g.waiting x d e → (top : ℕ) → IsTop g base level d top → base ≤ top → (k : ℕ) → IsHeight g x (k + 1) → IsTop g base level e (max top (base + k))
 joined_top g ok base level are heights x d e joined top is least k hx = record {
   above = λ y named w. ⊎_elim
       (λ (n : Names d y). omega (arith, is.above y n w))

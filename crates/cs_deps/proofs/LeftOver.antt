@@ -8,7 +8,7 @@ use Rattle.cs_deps.specs.declared.elements.Element.TheVariants.{Plain, Version}
 use Rattle.cs_deps.specs.declared.levels.Levels.{Levels}
 use Rattle.cs_deps.specs.Named.{Named}
 use Rattle.cs_deps.specs.Pending.{Waits}
-use Rattle.cs_deps.specs.Staging.{still_waits, raised}
+use Rattle.cs_deps.specs.Staging.{is_left_waiting, raised}
 use Rattle.cs_deps.specs.State.{State, Write, after_round, waits_still}
 use Rattle.cs_deps.specs.Entries.{state_of, entry_stays, AreCurrent, IsSound}
 use Rattle.cs_deps.specs.Levels.{level_by, level_of, entry_live, live_of, floor_of, IsIndexed, IsLevelsSettled}
@@ -28,7 +28,7 @@ module _ (s : State) (whole : IsSound s) (l : Levels) (ix : IsIndexed s l) (roun
     where
       test : (b : Bool) → waits_still round (Plain n) ≡ b → nat_lt l.base (level_by l (Plain n)) ≡ b
       test true q =
-          let r = filter_keeps (still_waits round) s.staging.pending.waiting w.0 (Plain n, w.1) w.2 (waits_still_is round (Plain n) w.1 ∙ q) in
+          let r = filter_keeps (is_left_waiting round) s.staging.pending.waiting w.0 (Plain n, w.1) w.2 (waits_still_is round (Plain n) w.1 ∙ q) in
           lt-ltb l.base (level_by l (Plain n)) (up s whole l ix (Plain n) (subst (λ o. Waits (after_round s.staging.pending o) (Plain n)) (sym is) (r.0, w.1, r.1)))
       test false q = ⊎_elim
           (λ (lt : l.base < level_by l (Plain n)).

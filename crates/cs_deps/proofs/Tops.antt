@@ -8,10 +8,10 @@ use Rattle.cs_deps.specs.declared.levels.Kept.{Kept}
 use Rattle.cs_deps.specs.declared.levels.Levels.{Levels}
 use Rattle.cs_deps.specs.Named.{Named, Names, IsWithin, StandsFor}
 use Rattle.cs_deps.specs.Pending.{Pending, Waits}
-use Rattle.cs_deps.specs.Staging.{IsKept, staged_after, still_waits}
+use Rattle.cs_deps.specs.Staging.{IsKept, staged_after, is_left_waiting}
 use Rattle.cs_deps.specs.State.{State, after, after_round}
 use Rattle.cs_deps.specs.Entries.{IsSound}
-use Rattle.cs_deps.specs.Levels.{kept_by, level_by, level_of, Top, IsCandidate, IsBest, IsIndexed}
+use Rattle.cs_deps.specs.Levels.{kept_by, level_by, level_of, IsTop, IsCandidate, IsBest, IsIndexed}
 use Rattle.cs_deps.proofs.AllHeights.{all_have_heights}
 use Rattle.cs_deps.proofs.HeightSteps.{height_positive, settled_then_staged}
 use Rattle.cs_deps.proofs.KeptLevels.{heights_rise}
@@ -28,9 +28,9 @@ kept_after s whole = from s.round refl
 -- where the round that is out does not stand for what is staged, staging comes before or after it
 pub after_staged : (g : Pending) (o : Option (List Element)) (x : Element) (d : Named) → ((round : List Element) (y : Element) → o ≡ Some round → Contains round y → StandsFor y x → ⊥) → after_round (staged_after g x d) o ≡ staged_after (after_round g o) x d
 after_staged g None x d none = refl
-after_staged g (Some round) x d none = settled_then_staged g round x d (left (still_waits round (x, d)) refl)
+after_staged g (Some round) x d none = settled_then_staged g round x d (left (is_left_waiting round (x, d)) refl)
   where
-    left : (b : Bool) → still_waits round (x, d) ≡ b → still_waits round (x, d) ≡ true
+    left : (b : Bool) → is_left_waiting round (x, d) ≡ b → is_left_waiting round (x, d) ≡ true
     left true is = is
     left false is = let s = one_stands round (x, d) is in absurd (none round s.0 refl s.1 s.2)
 
@@ -80,7 +80,7 @@ module _ (s : State) (whole : IsSound s) (l : Levels) (ix : IsIndexed s l) where
         r.2)
         best.reached
 
-    pub best_top : Top g l.base (level_by l) d level
+    pub best_top : IsTop g l.base (level_by l) d level
     best_top = record {
       above = above;
       reached = ⊎_elim

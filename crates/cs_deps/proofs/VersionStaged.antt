@@ -13,10 +13,10 @@ use Rattle.cs_deps.specs.declared.levels.Levels.{Levels}
 use Rattle.cs_deps.specs.Named.{Named, Names, IsWithin, StandsFor}
 use Rattle.cs_deps.specs.Pending.{Pending, Waits, Needs, IsStaged}
 use Rattle.cs_deps.specs.Chain.{IsHeight}
-use Rattle.cs_deps.specs.Staging.{staged_after, still_waits, IsJoined}
+use Rattle.cs_deps.specs.Staging.{staged_after, is_left_waiting, IsJoined}
 use Rattle.cs_deps.specs.State.{State, Write, after, after_round}
 use Rattle.cs_deps.specs.Entries.{IsSound}
-use Rattle.cs_deps.specs.Levels.{IsInRow, kept_by, level_by, level_of, row_at, family_at, keyed, next_version, with_version, AreKeptLevels, Top, AreTops, AreRows, AreLinked, IsBest, HasRoom, IsIndexed, IsVersionPushed}
+use Rattle.cs_deps.specs.Levels.{IsInRow, kept_by, level_by, level_of, row_at, family_at, keyed, next_version, with_version, AreKeptLevels, IsTop, AreTops, AreRows, AreLinked, IsBest, HasRoom, IsIndexed, IsVersionPushed}
 use Rattle.cs_deps.proofs.AllHeights.{all_have_heights}
 use Rattle.cs_deps.proofs.LowerBound.{waiting_not_persistent}
 use Rattle.cs_deps.proofs.Filtered.{filter_keeps}
@@ -105,10 +105,10 @@ module _ (s : State) (whole : IsSound s) (l : Levels) (ix : IsIndexed s l) (f : 
     where
       from : (o : Option (List Element)) → s.round ≡ o → ⊥
       from None is = none (subst (λ o. Waits (after_round s.staging.pending o) (Version f v)) (sym is) (n.0, n.1, n.2))
-      from (Some round) is = left (still_waits round (Version f v, n.1)) refl
+      from (Some round) is = left (is_left_waiting round (Version f v, n.1)) refl
         where
-          left : (b : Bool) → still_waits round (Version f v, n.1) ≡ b → ⊥
-          left true q = let r = filter_keeps (still_waits round) s.staging.pending.waiting n.0 (Version f v, n.1) n.2 q in none (subst (λ o. Waits (after_round s.staging.pending o) (Version f v)) (sym is) (r.0, n.1, r.1))
+          left : (b : Bool) → is_left_waiting round (Version f v, n.1) ≡ b → ⊥
+          left true q = let r = filter_keeps (is_left_waiting round) s.staging.pending.waiting n.0 (Version f v, n.1) n.2 q in none (subst (λ o. Waits (after_round s.staging.pending o) (Version f v)) (sym is) (r.0, n.1, r.1))
           left false q = let t = one_stands round (Version f v, n.1) q in out t.0 t.1 t.2
             where
               out : (z : Element) → Contains round z → StandsFor z (Version f v) → ⊥
@@ -121,7 +121,7 @@ module _ (s : State) (whole : IsSound s) (l : Levels) (ix : IsIndexed s l) (f : 
                   waiting_not_persistent s.staging.pending whole.kept.staged y (after_waits s.staging.pending whole.kept.staged s.round y w) p
 
   -- the level is one more than the greatest of what is needed
-  new_top : (t : ℕ) × (l.base ≤ t) × (k.level ≡ t + 1) × Top g l.base (level_by l) e t
+  new_top : (t : ℕ) × (l.base ≤ t) × (k.level ≡ t + 1) × IsTop g l.base (level_by l) e t
   new_top = ⊎_elim
       (λ (hi : l.base < level_by l (Version f v)).
       let w = ix.levels.gone (Version f v) hi in

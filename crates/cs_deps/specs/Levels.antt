@@ -52,7 +52,7 @@ pub record AreKeptLevels (g : Pending) (base : ℕ) (level : Element → ℕ) : 
   pub gone : (x : Element) → base < level x → Waits g x
 
 -- the greatest level of the waiting elements that d names, the base where none of them waits
-pub record Top (g : Pending) (base : ℕ) (level : Element → ℕ) (d : Named) (top : ℕ) : Type 0 where
+pub record IsTop (g : Pending) (base : ℕ) (level : Element → ℕ) (d : Named) (top : ℕ) : Type 0 where
   pub above : (y : Element) → Names d y → Waits g y → level y ≤ top
   pub reached : (top ≡ base) ⊎ ((y : Element) × Names d y × Waits g y × (level y ≡ top))
 
@@ -279,7 +279,7 @@ entry_live l floors (Version f v) = nat_lt (slice_index floors f) v
 abbrev pub live_of : Levels → List ℕ → List (Element × Named) → List (Element × Named)
 live_of l floors entries = filter (λ w. entry_live l floors w.0) entries
 
--- a family's floor: its last version where none waits, and else the one before
+-- a family's floor: its last version where none waits, and else the floor that it had
 abbrev pub floor_of : ℕ → ℕ → ℕ → ℕ
 floor_of persistent latest floor = if nat_lt persistent latest then floor else latest
 

@@ -46,7 +46,7 @@ fn fill(places: &mut Vec<Box<Dependency>>, count: usize) -> Result<(), AllocErro
     Ok(())
 }
 
-/// The place of the first entry of an element.
+/// The place of an entry of an element, None where it has none. Goes through the entries.
 pub fn place_of(entries: &[(Element, Needs)], element: Element) -> Option<usize>
     ensures { MatchOption result (¬ IsListed entries.now element) (λ k. (d : Named) × (slice_get entries.now k ≡ Some (element, d))) }
 {

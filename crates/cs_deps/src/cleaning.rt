@@ -32,14 +32,15 @@ pub fn count_ended(round: &[Element], persistent: &[u64]) -> u64 {
     count
 }
 
-/// The floor of a family: its last version where none waits, and else the one before.
+/// The floor of a family: its last version where none waits, and else the floor that it had. Entries of versions up to the
+/// floor are of no use any more: no version that waits needs what they say.
 fn next_floor(persistent: u64, latest: u64, floor: u64) -> u64
     ensures { result ≡ floor_of persistent latest floor }
 {
     if persistent < latest { floor } else { latest }
 }
 
-/// Raises the floor of each family of which nothing waits to its last version.
+/// Raises the floor of each family of which nothing waits to its last version; the others keep theirs.
 pub fn raise_floors(floors: &mut Vec<u64>, persistent: &[u64], latest: &[u64])
     requires count { length floors.old.items ≡ length latest.now }
     ensures each { (f : ℕ) → slice_index floors.new.items f ≡ floor_of (slice_index persistent.now f) (slice_index latest.now f) (slice_index floors.old.items f) }

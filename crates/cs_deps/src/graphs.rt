@@ -345,7 +345,8 @@ impl Graph {
         self.records.len()
     }
 
-    /// Takes a round: its members may be written, and it is out until it is settled. It takes no memory.
+    /// Takes a round, all that waits at height 1 in the order of `queue(1)`: its members may be written, and it is out until it
+    /// is settled. It takes no memory.
     pub fn take_round(&mut self, round: Vec<Element>)
         requires none { self.old.round ≡ None }
         requires first { IsQueue self.old.staging.pending 1 round.items }

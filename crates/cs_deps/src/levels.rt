@@ -20,7 +20,7 @@ const LIMIT: u64 = 0x8000_0000_0000_0000;
 /// What is kept of one element.
 #[derive(Clone, Copy)]
 pub struct Kept {
-    /// Its height over the rounds that were taken before.
+    /// Its height as it was staged and the number of rounds that had been taken by then, added up.
     pub level: u64,
     /// A need that is one level lower, None where nothing that it needed waited.
     pub before: Option<Element>,

@@ -1,7 +1,6 @@
 //! What a round satisfies.
 ghost use Rattle.std.specs.Prelude.{◌≡◌, [], ◌∷◌};
 ghost use Rattle.cs_deps.specs.Staging.{stands_for, raised};
-ghost use Rattle.cs_deps.specs.State.{waits_still};
 
 use crate::elements::Element;
 
@@ -19,18 +18,6 @@ pub fn stands(y: Element, x: Element) -> bool
             Element::Version(g, w) => f == g && w <= v,
         },
     }
-}
-
-/// Whether nothing of the round stands for an element.
-pub fn still_waits(round: &[Element], element: Element) -> bool
-    ensures { result ≡ waits_still round.now element }
-{
-    for y in round {
-        if stands(*y, element) {
-            return false;
-        }
-    }
-    true
 }
 
 /// Raises the version of an element's family.

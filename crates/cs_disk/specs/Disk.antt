@@ -88,7 +88,7 @@ pub record LeavesOnly {D : Type 0} (moment : D → ℕ) (left_since : D → ℕ 
 abbrev pub Rises : ℕ → ℕ → Type 0
 Rises before now = min (before + 1) (2 ^ 64 - 1) ≤ now
 
--- A `DeviceFault` is answered only where the count of failures rose in this call.
+-- A `DeviceFault` is answered only where the count of failures rose in this call, or stands at its greatest.
 pub record HasCause {T : Type 0} (before now : ℕ) (result : Result T DiskFault) : Type 0 where
   pub later : before ≤ now
   pub failed : IsErrOf result DeviceFault → Rises before now

@@ -4,7 +4,7 @@ use Rattle.std.specs.Prelude.{◌↔◌, filter}
 use Rattle.cs_deps.specs.declared.elements.Element.{Element}
 use Rattle.cs_deps.specs.declared.elements.Element.TheVariants.{Plain, Version}
 use Rattle.cs_deps.specs.Named.{Named, Names}
-use Rattle.cs_deps.specs.Staging.{IsVersionStaged, Staging, settled, still_waits}
+use Rattle.cs_deps.specs.Staging.{IsVersionStaged, Staging, settled, is_left_waiting}
 use Rattle.std.proofs.lemmas.Option.{same_Some, slice_get_within}
 use Rattle.cs_extent.proofs.Staged.{frame_latest, get_front, get_last}
 use Rattle.cs_extent.specs.Frames.{ArePagesStaged, AreNeedsWithin, IsFrameBehind, IsFrameStaged, IsSuperblockNeed, IsSuperblockStaged, next_superblock, root_family, superblock_family}
@@ -109,5 +109,5 @@ filtered_from p (y ∷ xs) k x h = split (p y) k (λ i g. filtered_from p xs i x
 
 pub settled_within : (s : Staging) (round : List Element) (need : ℕ) → AreNeedsWithin s need → AreNeedsWithin (record s { pending = settled s.pending round }) need
 settled_within s round need within k v d x at names =
-    let r = filtered_from (still_waits round) s.pending.waiting k (Version superblock_family v, d) at in
+    let r = filtered_from (is_left_waiting round) s.pending.waiting k (Version superblock_family v, d) at in
     within r.0 v d x r.1 names

@@ -7,7 +7,8 @@ use Rattle.cs_extent.specs.Frames.{AreWritten, IsFrameStaged, IsOfFrame, KeepsBu
 use Rattle.cs_extent.specs.State.{SpellsExtents, State, extents_of, need_of, shape}
 
 -- A frame was appended at l: its pages were given and staged behind the pointer of an extent that may take them, and
--- then a version of the superblock that records them. Nothing else was staged, and no other write is kept.
+-- then a version of the superblock that records them. Nothing else was staged, and of all other elements no
+-- write is kept that wasn't kept before.
 pub record IsAppended (x : State) (g : GraphState) (reason : Reason) (frame : List (List ℕ)) (l : Locator) (y : State) (h : GraphState) : Type 0 where
   pub placed : Placed (shape x) (extents_of x) reason (length frame) l.extent
   pub place : l ≡ next_place (extents_of x) l.extent

@@ -9,7 +9,7 @@ use Rattle.cs_deps.specs.State.{State, Write, write_of}
 use Rattle.cs_frame.specs.declared.locators.Locator.{Locator}
 use Rattle.cs_model.specs.Extents.{Extents}
 
--- the families of the superblock's versions, and of the root's
+-- the family of the superblock's versions
 abbrev pub superblock_family : ℕ
 superblock_family = 0
 

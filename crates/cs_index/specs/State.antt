@@ -52,7 +52,7 @@ index_of s = s.table ++ entries_of s.runs
 abbrev pub IsShort : Entry → Type 0
 IsShort x = length x.locators ≤ 8
 
--- the entries of a run: some, by rising identifiers
+-- the entries of a run: some, by rising identifiers, of at most eight locators each
 abbrev pub IsStored : Run → Type 0
 IsStored run = Ascending run.entries × (run.entries ≢ []) × AllByRecursion IsShort run.entries
 

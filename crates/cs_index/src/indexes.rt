@@ -278,7 +278,7 @@ impl Index {
         Ok(true)
     }
 
-    /// Writes the table as a run, with `Purpose::Run`, and stages the root over all runs, after which the table is empty.
+    /// Stages the table as a run, with `Purpose::Run`, and the root over all runs, after which the table is empty.
     /// Where four runs stand, the whole index becomes one run, as by `stage_merged`. `commands` is how many puts and
     /// deletes the root includes. Answers the version of the root, or None where the table is empty: then nothing changes.
     ///
@@ -330,7 +330,7 @@ impl Index {
         }
     }
 
-    /// Writes the table as one run more.
+    /// Stages the table as one run more.
     fn stage_table(
         &mut self,
         extents: &mut Extents,
@@ -375,8 +375,8 @@ impl Index {
         }
     }
 
-    /// Writes all that is live as one run, for this purpose, and stages the root over it, after which there is no other
-    /// entry. Where nothing is live no run is written, and the root has none. Answers the version of the root.
+    /// Stages all that is live as one run, for this purpose, and the root over it, after which there is no other
+    /// entry. Where nothing is live no run is staged, and the root has none. Answers the version of the root.
     ///
     /// 30 `Full` where no extent takes the run, then 35 `WornOut` where a number would pass 2^63 - 1; 9 `OutOfMemory` may
     /// come instead of either. After a refusal nothing has changed but the graph's room. Takes memory for all that is
@@ -436,7 +436,7 @@ impl Index {
         Ok(run_fits(extents, &run, purpose))
     }
 
-    /// Writes a run in place of all entries.
+    /// Stages a run in place of all entries.
     fn stage_one(
         &mut self,
         alloc: Global,

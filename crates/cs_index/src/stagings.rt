@@ -174,7 +174,7 @@ fn write_run(
     }
 }
 
-/// Writes a run behind the older ones, for this purpose, and stages the root over all of them. Answers where the run's
+/// Stages a run behind the older ones, for this purpose, and the root over all of them. Answers where the run's
 /// frame begins, and the version of the root.
 ///
 /// 30 `Full` where no extent takes the frame, then 35 `WornOut` where a number would pass 2^63 - 1; 9 `OutOfMemory` may

@@ -9,7 +9,7 @@ use Rattle.cs_core.specs.declared.events.Event.{Event}
 use Rattle.cs_core.specs.declared.events.Event.TheVariants.{Get, Settle}
 use Rattle.cs_core.specs.declared.events.Reply.{Reply}
 use Rattle.cs_core.specs.declared.events.Reply.TheVariants.{Absent, Found, NotYet, Persistent, Refused}
-use Rattle.cs_core.specs.Views.{IsAsked, IsIn, IsStep, View}
+use Rattle.cs_core.specs.Views.{IsUntouched, IsIn, IsStep, View}
 use Rattle.cs_node.specs.declared.nodes.Settled.{Settled}
 use Rattle.cs_node.specs.declared.nodes.Settled.TheVariants.{Done as SettleDone, Back as SettleBack}
 use Rattle.cs_node.specs.declared.nodes.Why.{Why}
@@ -23,14 +23,15 @@ pub record IsBehind {D : Type 0} (honest : D → Type 0) (state : D → DiskStat
   pub started : start_of v ≡ start
   pub legal : honest v.disk → (s : State) × IsIn state v s
 
--- while the call had the lock, the core went from one view to another that are so
+-- There is a core that lay behind the lock as the call took it, and one that it was as the call let go, of which `goes` holds. Which cores
+-- these were isn't told.
 abbrev pub WhileLocked : {D : Type 0} → (honest : D → Type 0) → (state : D → DiskState) → Start → (View D → View D → Type 0) → Type 0
 WhileLocked {D} honest state start goes = (old new : View D) × IsBehind honest state start old × goes old new
 
 -- An event that no history records: memory was refused, and nothing but rooms has changed; or, where the disk is honest, the history was
 -- at its limit, and nothing has changed.
 abbrev pub Declines : {D : Type 0} → (honest : D → Type 0) → (state : D → DiskState) → (old : View D) → Refusal → (new : View D) → Type 0
-Declines honest state old OutOfMemory new = IsAsked honest state old new
+Declines honest state old OutOfMemory new = IsUntouched honest state old new
 Declines honest state old HistoryFull new = honest old.disk → (old.limit ≤ length old.history) × (new ≡ old)
 Declines honest state old r new = ⊥
 

@@ -32,7 +32,7 @@ impl<D: PageDisk, K: Naming> Locked<D, K> {
         requires fresh { self.old.fresh ≡ true }
         ensures step { IfOk result (λ told. IsStep D.honest D.state self.old.core event.now told.1 self.new.core) }
         ensures place { IfOk result (λ told. told.0 ≡ length self.old.core.history) }
-        ensures shape { IfOk result (λ told. MayAnswer event.now told.1) }
+        ensures answers { IfOk result (λ told. MayAnswer event.now told.1) }
         ensures above { IfOk result (λ told. Below told.0 log.old.calls × (told.0 < 2 ^ 63)) }
         ensures recorded { IfOk result (λ told. told.1 ≢ Reply.Refused Refusal.HistoryFull) }
         ensures room { OnOk result (1 ≤ log.new.room) }

@@ -6,7 +6,7 @@
 ghost use Rattle.std.specs.Prelude.{◌≡◌, ◌≢◌, ◌⊎◌, ◌+◌, [], IfErr, IfOk, MatchOption, OnErr, false, true};
 ghost use Rattle.std.specs.Sync.Mutex.{mutex_guard_value};
 ghost use Rattle.cs_core.specs.Shapes.{MayAnswer};
-ghost use Rattle.cs_core.specs.Views.{Applies, IsAsked, IsStep};
+ghost use Rattle.cs_core.specs.Views.{Applies, IsUntouched, IsStep};
 ghost use Rattle.cs_node.specs.Locks.{Declines, IsBehind};
 ghost use Rattle.cs_node.specs.Starts.{start_of};
 ghost use Rattle.cs_node.specs.Told.{empty};
@@ -101,8 +101,8 @@ impl<D: PageDisk, K: Naming> Locked<D, K> {
         requires board { (board.now.table_id ≡ K.table) × (board.now.table_id.words ≡ 1) }
         requires fresh { self.old.fresh ≡ true }
         ensures step { IfOk result (λ reply. Applies D.honest D.state self.old.core event.now reply self.new.core) }
-        ensures memory { OnErr result (IsAsked D.honest D.state self.old.core self.new.core) }
-        ensures shape { IfOk result (λ reply. MayAnswer event.now reply) }
+        ensures memory { OnErr result (IsUntouched D.honest D.state self.old.core self.new.core) }
+        ensures answers { IfOk result (λ reply. MayAnswer event.now reply) }
         ensures given { (self.new.given ≡ self.old.given) × (self.new.piloted ≡ self.old.piloted) }
         ensures spent { self.new.fresh ≡ false }
     {
@@ -127,7 +127,7 @@ impl<D: PageDisk, K: Naming> Locked<D, K> {
         requires board { (board.now.table_id ≡ K.table) × (board.now.table_id.words ≡ 1) }
         requires fresh { self.old.fresh ≡ true }
         ensures step { IfOk result (λ reply. IsStep D.honest D.state self.old.core event.now reply self.new.core) }
-        ensures shape { IfOk result (λ reply. MayAnswer event.now reply) }
+        ensures answers { IfOk result (λ reply. MayAnswer event.now reply) }
         ensures recorded { IfOk result (λ reply. reply ≢ Reply.Refused Refusal.HistoryFull) }
         ensures err { IfErr result (λ r. (r ≡ Refusal.OutOfMemory) ⊎ (r ≡ Refusal.HistoryFull)) }
         ensures declined { IfErr result (λ r. Declines D.honest D.state self.old.core r self.new.core) }

@@ -52,7 +52,7 @@ impl<D: PageDisk, K: Naming> Locked<D, K> {
         requires board { (board.now.table_id ≡ K.table) × (board.now.table_id.words ≡ 1) }
         requires fresh { self.old.fresh ≡ true }
         ensures step { IfOk result (λ reply. IsStep D.honest D.state self.old.core event.now reply self.new.core) }
-        ensures shape { IfOk result (λ reply. MayAnswer event.now reply) }
+        ensures answers { IfOk result (λ reply. MayAnswer event.now reply) }
         ensures refused { IfErr result (λ r. IsRefused D.honest D.state self.old.core event.now r self.new.core) }
         ensures given { (self.new.given ≡ self.old.given) × (self.new.piloted ≡ self.old.piloted) }
         ensures behind { IsBehind D.honest D.state K.start self.old.core }

@@ -138,7 +138,7 @@ pub fn next_round(alloc: Global, graph: &Graph) -> Result<Vec<Element>, Refusal>
     Ok(queue)
 }
 
-/// The level of an element: 1 where nothing that it needs waits, else one more than the greatest of what it needs.
+/// The height of an element: 1 where nothing that it needs waits, else one more than the greatest of what it needs.
 /// `None` where it doesn't wait.
 ///
 /// Refused 5 InFlight. It takes no memory and seeks nothing.

@@ -7,7 +7,7 @@ use Rattle.cs_deps.specs.declared.elements.Element.{Element as Name}
 use Rattle.cs_deps.specs.declared.elements.Element.TheVariants.{Plain, Version}
 use Rattle.cs_deps.specs.Named.{Named, StandsFor}
 use Rattle.cs_deps.specs.Pending.{Pending, SatisfiedBy}
-use Rattle.cs_deps.specs.Staging.{raised, settled, still_waits}
+use Rattle.cs_deps.specs.Staging.{raised, settled, is_left_waiting}
 use Rattle.cs_deps.proofs.Settled.{none_stands, one_stands, raised_below, raised_count, raised_more, raised_reaches}
 use Rattle.cs_model.specs.Lists.{◌∈◌}
 use Rattle.cs_model.specs.Device.{Shape, Page}
@@ -61,20 +61,20 @@ left_is P R low (x ∷ older) = ap (λ (l : List Element). if satisfied R x then
 
 -- what is satisfied in R waits no more
 abbrev pub Tells : List Name → Cut → Element → Type 0
-Tells round R m = (b : Bool) → satisfied R m ≡ b → (d : Named) → still_waits round (name m, d) ≡ cond b false true
+Tells round R m = (b : Bool) → satisfied R m ≡ b → (d : Named) → is_left_waiting round (name m, d) ≡ cond b false true
 
 matches_left : (S : Shape) (staged : List Element) (round : List Name) (R : Cut) (xs : List Element) (ys : List (Name × Named)) → ((m : Element) → m ∈ xs → Tells round R m) → Matches S staged xs ys
-    → Matches S staged (left_in R xs) (filter (still_waits round) ys)
+    → Matches S staged (left_in R xs) (filter (is_left_waiting round) ys)
 matches_left S staged round R [] [] tells all = tt
 matches_left S staged round R [] (y ∷ ys) tells all = absurd all
 matches_left S staged round R (x ∷ xs) [] tells all = absurd all
 matches_left S staged round R (x ∷ xs) (y ∷ ys) tells all =
-    subst (λ (b : Bool). Matches S staged (left_in R (x ∷ xs)) (cond b (y ∷ filter (still_waits round) ys) (filter (still_waits round) ys)))
-    (sym (ap (λ (z : Name). still_waits round (z, y.1)) all.0.0 ∙ tells x (inl refl) (satisfied R x) refl y.1))
+    subst (λ (b : Bool). Matches S staged (left_in R (x ∷ xs)) (cond b (y ∷ filter (is_left_waiting round) ys) (filter (is_left_waiting round) ys)))
+    (sym (ap (λ (z : Name). is_left_waiting round (z, y.1)) all.0.0 ∙ tells x (inl refl) (satisfied R x) refl y.1))
     (choose (satisfied R x) (matches_left S staged round R xs ys (λ m has. tells m (inr has)) all.1))
   where
-    choose : (b : Bool) → Matches S staged (left_in R xs) (filter (still_waits round) ys)
-        → Matches S staged (if b then left_in R xs else x ∷ left_in R xs) (cond (cond b false true) (y ∷ filter (still_waits round) ys) (filter (still_waits round) ys))
+    choose : (b : Bool) → Matches S staged (left_in R xs) (filter (is_left_waiting round) ys)
+        → Matches S staged (if b then left_in R xs else x ∷ left_in R xs) (cond (cond b false true) (y ∷ filter (is_left_waiting round) ys) (filter (is_left_waiting round) ys))
     choose true rest = rest
     choose false rest = (all.0, rest)
 
@@ -162,11 +162,11 @@ module _ (S : Shape) (F : Formats) {opening : Opening} (opened : ℕ → Page) (
   named_met (A_root r) (Version f v) has stands = le-leb _ _ (le_trans stands.1 (le_of_eq (root_named v (subst (λ (i : ℕ). Contains round (Version i v)) stands.0 has))))
 
   tells : (m : Element) → IsWaiting w m → Tells round w.round m
-  tells m waits true met d = elim (cases_Bool (still_waits round (name m, d))) [
+  tells m waits true met d = elim (cases_Bool (is_left_waiting round (name m, d))) [
     | inl wait ↦ (let by = met_named m waits met in absurd (none_stands round (name m, d) wait by.0 by.1 by.2))
     | inr done ↦ done
   ]
-  tells m waits false unmet d = elim (cases_Bool (still_waits round (name m, d))) [
+  tells m waits false unmet d = elim (cases_Bool (is_left_waiting round (name m, d))) [
     | inl wait ↦ wait
     | inr done ↦ (let by = one_stands round (name m, d) done in absurd (true≢false (sym (named_met m by.0 by.1 by.2) ∙ unmet)))
   ]
@@ -179,7 +179,7 @@ module _ (S : Shape) (F : Formats) {opening : Opening} (opened : ℕ → Page) (
     sections = λ j lt. raised_to (family_of j) (w.round.superblocks j) (le_trans (family_below j S.sections lt) (le_of_eq (sym is.families)))
         (le_trans (le_of_eq (is.sections j lt)) (safe.within.superblocks j)) (superblock_named j)
         (λ low. superblock_in_round j (le_trans (le_of_eq (ap suc (sym (is.sections j lt)))) low));
-    waiting = subst (λ (l : List Element). Matches S w.elements l (filter (still_waits round) g.waiting)) (sym (left_is w.persistent w.round safe.within w.elements))
+    waiting = subst (λ (l : List Element). Matches S w.elements l (filter (is_left_waiting round) g.waiting)) (sym (left_is w.persistent w.round safe.within w.elements))
         (matches_left S w.elements round w.round (waiting_in w.persistent w.elements) g.waiting (λ m has. tells m (from_waiting w.persistent w.elements m has)) is.waiting);
   }
 

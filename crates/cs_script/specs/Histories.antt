@@ -6,7 +6,7 @@ use Rattle.cs_disk.specs.Disk.{State as DiskState}
 use Rattle.cs_core.specs.declared.events.Event.{Event}
 use Rattle.cs_core.specs.declared.events.Reply.{Reply}
 use Rattle.cs_core.specs.declared.events.Reply.TheVariants.{Refused}
-use Rattle.cs_core.specs.Views.{IsAsked, IsStep, View}
+use Rattle.cs_core.specs.Views.{IsUntouched, IsStep, View}
 use Rattle.cs_core.specs.Writebacks.{WritesBack}
 
 -- the event was done
@@ -25,7 +25,7 @@ IsRefused new event r xs = (xs ≡ (event, Refused r) ∷ []) ⊎ ((xs ≡ []) �
 module _ {D : Type 0} (honest : D → Type 0) (state : D → DiskState) where
   -- nothing was recorded, and nothing has changed but for how much there is room
   abbrev pub Stays : (old new : View D) → Type 0
-  Stays old new = IsAsked honest state old new × (honest old.disk ↔ honest new.disk)
+  Stays old new = IsUntouched honest state old new × (honest old.disk ↔ honest new.disk)
 
   -- one event was recorded with this reply: the machine's step, and what it does to the graph
   pub record Goes (old : View D) (event : Event) (reply : Reply) (new : View D) : Type 0 where

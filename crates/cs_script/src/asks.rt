@@ -11,7 +11,7 @@ use cs_disk::PageDisk;
 /// limit, and 9 OutOfMemory; these two aren't recorded.
 pub fn ask<D: PageDisk>(core: &mut Core<D>, event: &Event) -> Result<Reply, Refusal>
     ensures done { IfOk result (λ reply. Goes D.honest D.state core.old event.now reply core.new) }
-    ensures shape { IfOk result (λ reply. MayAnswer event.now reply) }
+    ensures answers { IfOk result (λ reply. MayAnswer event.now reply) }
     ensures no_refusal { IfOk result (λ reply. IsNoRefusal reply) }
     ensures refused { IfErr result (λ refusal. IsStopped D.honest D.state core.old [] event.now refusal core.new) }
 {

@@ -7,11 +7,11 @@ use Rattle.cs_chunk.proofs.puts.put_chunks.Goals as goal
 
 pub returns-in-Err-clause-full : goal.returns-in-Err-clause-full
 returns-in-Err-clause-full c =
-    exit_full c.args.extents.now c.args.graph.now.staging c.args.bytes.now c.plan.ensures.whole c.plan.result c.in-Err.refusal c.in-Err.is c.plan.ensures.too_large c.plan.ensures.full c.plan.ensures.worn c.in-Err.ensures.refusals (Err c.in-Err.refusal) refl
+    exit_full c.args.extents.now c.args.graph.now.staging c.args.bytes.now c.fitting_cut.ensures.whole c.fitting_cut.result c.in-Err.refusal c.in-Err.is c.fitting_cut.ensures.too_large c.fitting_cut.ensures.full c.fitting_cut.ensures.worn c.in-Err.ensures.refusals (Err c.in-Err.refusal) refl
 
 pub returns-in-Err-clause-worn : goal.returns-in-Err-clause-worn
 returns-in-Err-clause-worn c =
-    exit_worn c.args.extents.now c.args.graph.now.staging c.args.bytes.now c.plan.ensures.whole c.plan.result c.in-Err.refusal c.in-Err.is c.plan.ensures.too_large c.plan.ensures.full c.plan.ensures.worn c.in-Err.ensures.refusals (Err c.in-Err.refusal) refl
+    exit_worn c.args.extents.now c.args.graph.now.staging c.args.bytes.now c.fitting_cut.ensures.whole c.fitting_cut.result c.in-Err.refusal c.in-Err.is c.fitting_cut.ensures.too_large c.fitting_cut.ensures.full c.fitting_cut.ensures.worn c.in-Err.ensures.refusals (Err c.in-Err.refusal) refl
 
 pub append_all-requires-clause-may : goal.append_all-requires-clause-may
 append_all-requires-clause-may c =

@@ -12,4 +12,4 @@ returns-in-Err-clause-refused g c =
 pub loop-preserved : goal.loop-preserved
 loop-preserved g c =
     let e = c.in-Ok-Issued.ensures in
-    one_issue_more g.D.PageDisk.honest g.D.PageDisk.state c.args.core.now c.loop.core c.ask.new.core c.in-Ok-Issued.field-0 c.loop.invariant e.done e.shape e.no_refusal
+    one_issue_more g.D.PageDisk.honest g.D.PageDisk.state c.args.core.now c.loop.core c.ask.new.core c.in-Ok-Issued.field-0 c.loop.invariant e.done e.answers e.no_refusal

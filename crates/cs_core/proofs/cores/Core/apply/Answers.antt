@@ -134,14 +134,14 @@ returns-clause-left g c = rw (← c.self.view_is) (λ honest.
     subst (λ (h : List (Asked × Told)). Leaves (g.D.PageDisk.state c.serve.new.disk) (IsPrefix (shape c.serve.new.self.extents) (page (g.D.PageDisk.state c.self.inside.opened.value).durable) (commands_said h) c.serve.new.self.frontier c.serve.new.self.accepted)) (sym hist)
     (left_of c.self.inside.store.extents c.extent_count.ensures.whole (settled_rooms c.serve.new.self) c.serve.ensures.shape (g.D.PageDisk.state c.self.inside.opened.value).durable (c.self.inside.history.items ++ (c.args.event.now, c.in_ok-reply.reply) ∷ []) d.1 (g.D.PageDisk.state c.serve.new.disk) d.4.reached d.4.store d.4.disk size_then))
 
-pub returns-then-self-len-clause-shape : goal.returns-then-self-len-clause-shape
-returns-then-self-len-clause-shape g c = full_shape c.args.event.now
+pub returns-then-self-len-clause-answers : goal.returns-then-self-len-clause-answers
+returns-then-self-len-clause-answers g c = full_shape c.args.event.now
 
 pub returns-then-self-len-clause-writeback : goal.returns-then-self-len-clause-writeback
 returns-then-self-len-clause-writeback g c = rw (← c.self.view_is) (full_writes (settled_rooms c.self.inside.store) c.args.event.now)
 
-pub returns-clause-shape : goal.returns-clause-shape
-returns-clause-shape g c = answered_shape (settled_rooms c.self.inside.store) (settled_rooms c.serve.new.self) c.args.event.now c.in_ok-reply.reply c.in_ok-reply.ensures.answered
+pub returns-clause-answers : goal.returns-clause-answers
+returns-clause-answers g c = answered_shape (settled_rooms c.self.inside.store) (settled_rooms c.serve.new.self) c.args.event.now c.in_ok-reply.reply c.in_ok-reply.ensures.answered
 
 pub returns-clause-writeback : goal.returns-clause-writeback
 returns-clause-writeback g c = rw (← c.self.view_is) (answered_writes (settled_rooms c.self.inside.store) (settled_rooms c.serve.new.self) c.args.event.now c.in_ok-reply.reply c.in_ok-reply.ensures.answered)

@@ -2,7 +2,7 @@ use Rattle.std.proofs.Common.{◌≡◌, ◌≢◌, ◌⊎◌, ◌<◌, List, No
 use Rattle.cs_deps.specs.Staging.{Staging}
 use Rattle.cs_core.specs.contracts.stores.Store.{the_view}
 use Rattle.cs_core.specs.declared.roots.Root.{Root}
-use Rattle.cs_core.specs.Frontiers.{IsReached}
+use Rattle.cs_core.specs.Frontiers.{IsRootFrontier}
 use Rattle.cs_core.specs.Rounds.{EndAnswers}
 use Rattle.cs_core.specs.Stored.{Stored, members_of}
 use Rattle.cs_core.proofs.Going.{round_told}
@@ -26,7 +26,7 @@ returns-in-Ok-clause-step g c = rw (← c.self.view_is) (λ runs honest.
     let all = subst (λ (u : Stored). (u.out ≢ None) × (u.issued ≡ length (members_of u.out))) (sym c.self.view_is) c.if-not-is_issued.ensures in
     round_told (λ (w : Stored). EndAnswers v (g.D.PageDisk.state c.args.disk.now) (Ok c.max-self-inside.result) w (g.D.PageDisk.state c.flush.new.self)) (record v { graph = c.settle_round.new.self; out = None; issued = 0; frontier = c.max-self-inside.result }) c.settle_round.ensures.round (end_answers_most v c.extent_count.ensures.whole runs all.0 all.1 c.settle_round.new.self
     (out_settled c.self.inside.graph c.settle_round.new.self v.out c.self.invariant.round all.0 c.settle_round.ensures.settled) c.settle_round.ensures.writes
-    c.frontier_of-counted.result (subst (λ (rs : List Root). IsReached c.settle_round.new.self.staging rs c.frontier_of-counted.result) c.deref.ensures.value c.frontier_of-counted.ensures)
+    c.frontier_of-counted.result (subst (λ (rs : List Root). IsRootFrontier c.settle_round.new.self.staging rs c.frontier_of-counted.result) c.deref.ensures.value c.frontier_of-counted.ensures)
     c.max-self-inside.result c.max-self-inside.ensures
     (g.D.PageDisk.state c.args.disk.now) (g.D.PageDisk.state c.flush.new.self) (c.in-Ok.ensures.ok honest)))
 

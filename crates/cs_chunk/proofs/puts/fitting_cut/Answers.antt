@@ -1,4 +1,4 @@
-use Rattle.cs_chunk.proofs.puts.plan.Goals as goal
+use Rattle.cs_chunk.proofs.puts.fitting_cut.Goals as goal
 
 pub returns-then-not-fits-clause-full : goal.returns-then-not-fits-clause-full
 returns-then-not-fits-clause-full c = λ e. (c.in-Some.cut, c.in-Some.ensures, λ h. absurd (cc (c.if-not-fits.true, c.fits.ensures.1 h)))
