@@ -14,7 +14,7 @@ use Rattle.cs_deps.specs.Pending.{Waits}
 use Rattle.cs_deps.specs.Levels.{kept_by, level_by, IsInRow, IsQueued, IsIndexed}
 use Rattle.cs_deps.specs.Records.{writes_of, AreFiled}
 use Rattle.cs_deps.specs.Staging.{is_left_waiting}
-use Rattle.cs_deps.specs.State.{State, Write, IsOut, IsOfLevel, KeepsBytes, IsWhole, after, after_round, same_element, last_write}
+use Rattle.cs_deps.specs.State.{State, Write, IsOut, IsOfLevel, KeepsBytes, IsWhole, after, after_round, same_element, last_write, write_of}
 use Rattle.cs_deps.specs.Entries.{IsSound}
 use Rattle.cs_deps.proofs.AllHeights.{all_have_heights}
 use Rattle.cs_deps.proofs.Filtered.{filter_keeps}
@@ -173,6 +173,10 @@ is_whole s whole l ix records filed same = record {
 }
 
 -- the record that was found for an element has its write, and where none was found there is none
+-- what has no write keeps no bytes
+pub not_kept : (s : State) → IsSound s → (l : Levels) → IsIndexed s l → (records : Slab Record) → AreFiled l records → s.pages ≡ writes_of records.slots → (x : Element) → write_of s x ≡ None → KeepsBytes s x → ⊥
+not_kept s whole l ix records filed same x none h = let w = (is_whole s whole l ix records filed same).writes x h in absurd (cc (w.1, none))
+
 pub found_write : (l : Levels) (records : Slab Record) → AreFiled l records → (x : Element) (k : Kept) (r : Record) → get records k.key ≡ Some r → r.element ≡ x → last_write x None (writes_of records.slots) ≡ Some (r.page, r.bytes)
 found_write l records filed x k r at is = ap (λ y. last_write y None (writes_of records.slots)) (sym is) ∙ record_write l records filed k.key r at
 

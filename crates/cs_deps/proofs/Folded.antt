@@ -147,8 +147,8 @@ module _ (f v : ℕ) where
     waiting_folded =
         let last_out : nat_lt (get_or ps f 0) v ≡ false = grind (arith, nat_tests) in
         let lists : filter test folded ≡ filter test es = filter-append test (left es) ((Version f v, carried_with f v nothing es) ∷ []) ∙ ap (λ b. filter test (left es) ++ cond b ((Version f v, carried_with f v nothing es) ∷ []) []) last_out ∙ append-nil (filter test (left es)) ∙ waits_left es in
-        ap (map (λ (w : Element × Named). (w.0, full_needs folded w.0 w.1))) lists
-        ∙ map_same (λ (w : Element × Named). (w.0, full_needs folded w.0 w.1)) (λ (w : Element × Named). (w.0, full_needs es w.0 w.1)) (filter test es) (λ k w at. let c = came_from test es k w at in ap (λ d. (w.0, d)) (same w.0 w.1 c.2))
+        ◌∙◌ {b = map (λ (w : Element × Named). (w.0, full_needs folded w.0 w.1)) (filter test es)} (ap (map (λ (w : Element × Named). (w.0, full_needs folded w.0 w.1))) lists)
+        (map_same (λ (w : Element × Named). (w.0, full_needs folded w.0 w.1)) (λ (w : Element × Named). (w.0, full_needs es w.0 w.1)) (filter test es) (λ k w at. let c = came_from test es k w at in ap (λ d. (w.0, d)) (same w.0 w.1 c.2)))
       where
         same : (x : Element) (d : Named) → entry_waits ps x ≡ true → full_needs folded x d ≡ full_needs es x d
         same (Plain n) d waits = refl

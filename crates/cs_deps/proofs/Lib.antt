@@ -37,3 +37,8 @@ pub mod FiledSteps
 pub mod Newest
 pub mod Counted
 pub mod Marking
+pub mod Roomy
+pub mod Added
+pub mod PlainAdded
+pub mod VersionAdded
+pub mod RoundSettled

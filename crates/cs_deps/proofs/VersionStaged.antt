@@ -285,7 +285,7 @@ module _ (s : State) (whole : IsSound s) (l : Levels) (ix : IsIndexed s l) (f : 
       (λ (q : y ≡ x).
       let it : keyed key k ≡ u = same_Some (keyed key k) u (sym new.itself ∙ ap (kept_by m) (sym q) ∙ is) in
       let r = itself (omega (arith, hi, ap (λ (a : Kept). a.level) it, new.base)) in
-      let lv = old_level r.0 (λ q. follows.fresh (subst (Waits g) q r.3)) in
+      let lv = old_level r.0 (λ q. follows.fresh (subst (Waits g) {x = r.0} q r.3)) in
       (r.0, ap (λ (a : Kept). a.before) (sym it) ∙ r.1, subst (λ a. Needs h a r.0) (sym q) (length g.waiting, e, at_end g.waiting (x, e), r.2), omega (arith, lv, r.4, ap (λ (a : Kept). a.level) it)))
       (λ (ne : y ≢ x).
       let b = ix.before y u (sym (new.others y ne) ∙ is) (omega (arith, hi, new.base)) in

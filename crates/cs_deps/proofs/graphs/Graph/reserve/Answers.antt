@@ -1,51 +1,33 @@
-use Rattle.std.proofs.Common.{ap, arith}
-use Rattle.std.proofs.Common.{◌∙◌, sym}
-use Rattle.std.specs.Prelude.{nat_eq}
-use Rattle.std.specs.HashMap.{get}
-use Rattle.slab.specs.Slab.{Slab, get as get_record}
-use Rattle.cs_deps.proofs.Noted.{newest_same}
-use Rattle.cs_deps.specs.contracts.graphs.Graph.{the_view}
-use Rattle.cs_deps.specs.declared.records.Record.{Record}
-use Rattle.cs_deps.specs.Records.{writes_of}
-use Rattle.cs_deps.proofs.FiledSteps.{filed_same, room_same}
-use Rattle.cs_deps.proofs.Queues.{indexed_same}
-use Rattle.cs_deps.proofs.Live.{live_same}
+use Rattle.std.proofs.Common.{arith}
+use Rattle.cs_deps.specs.declared.graphs.Graph.TheInside.{Inside}
+use Rattle.cs_deps.proofs.FiledSteps.{room_same}
+use Rattle.cs_deps.proofs.Roomy.{IsRoomy, held_roomy}
+use Rattle.cs_deps.proofs.graphs.Graph.reserve.Goals.{After-make_room}
 use Rattle.cs_deps.proofs.graphs.Graph.reserve.Goals as goal
+
+-- the graph with the room that was made
+abbrev with_room : After-make_room → Inside
+with_room c = let m = c.make_room.new in record c.self.inside { entries = m.entries; records = m.records; newest = m.newest; levels = m.levels }
+
+roomy : (c : After-make_room) → IsRoomy c.self.inside (with_room c)
+roomy c = let e = c.make_room.ensures in record { list = e.entries; floors = e.floors; records = e.records; newest = e.newest; levels = e.levels }
 
 pub invariant_of-self-2 : goal.invariant_of-self-2
 invariant_of-self-2 c =
-    let g = c.self.inside in
-    let e = c.make_room.ensures in
-    rw (e.entries, e.floors, live_same g.levels c.make_room.new.levels e.levels g.entries.floors.items g.entries.list.items) (record {
-      whole = record { kept = c.self.invariant.whole.kept; out = c.self.invariant.whole.out };
-      current = c.self.invariant.current;
-      plains = c.self.invariant.plains;
-      floors_count = c.self.invariant.floors_count;
-      floors_low = c.self.invariant.floors_low;
-      filed = filed_same g.levels c.make_room.new.levels g.records c.make_room.new.records c.self.invariant.filed e.levels (λ key. ap (λ (r : Slab Record). get_record r key) e.records);
-      entries_fit = c.in_ok-room.ensures.entries_fit;
-      places_fit = c.in_ok-room.ensures.places_fit;
-      records_fit = c.in_ok-room.ensures.records_fit;
-      newest = newest_same g.records c.make_room.new.records (get nat_eq g.newest) (get nat_eq c.make_room.new.newest) c.self.invariant.newest e.newest (λ key r n of at. sym (ap (λ (u : Slab Record). get_record u key) e.records) ∙ at) (λ key r n of at. ap (λ (u : Slab Record). get_record u key) e.records ∙ at);
-      newest_fit = c.in_ok-room.ensures.newest_fit;
-      indexed = indexed_same (the_view g) g.levels c.self.invariant.indexed c.make_room.new.levels e.levels (writes_of c.make_room.new.records.slots) c.in_ok-room.room c.in_ok-room.ensures.levels_fit;
-    })
+    let at = (goal.at.invariant_of-self-2 c).After-make_room in
+    let e = c.in_ok-room.ensures in
+    held_roomy c.self.inside c.self.invariant (with_room at) (roomy at) c.in_ok-room.room (record { list = e.entries_fit; places = e.places_fit; records = e.records_fit; newest = e.newest_fit; levels = e.levels_fit })
 
 pub invariant_of-self : goal.invariant_of-self
 invariant_of-self c =
+    let at = (goal.at.invariant_of-self c).After-make_room in
     let g = c.self.inside in
+    let was = c.self.invariant in
     let e = c.make_room.ensures in
-    rw (e.entries, e.floors, live_same g.levels c.make_room.new.levels e.levels g.entries.floors.items g.entries.list.items) (record {
-      whole = record { kept = c.self.invariant.whole.kept; out = c.self.invariant.whole.out };
-      current = c.self.invariant.current;
-      plains = c.self.invariant.plains;
-      floors_count = c.self.invariant.floors_count;
-      floors_low = c.self.invariant.floors_low;
-      filed = filed_same g.levels c.make_room.new.levels g.records c.make_room.new.records c.self.invariant.filed e.levels (λ key. ap (λ (r : Slab Record). get_record r key) e.records);
-      entries_fit = omega (arith, c.self.invariant.entries_fit, e.entry_count, e.more_entries);
-      places_fit = omega (arith, c.self.invariant.places_fit, e.more_places);
-      records_fit = room_same g.records c.make_room.new.records e.records e.more_records g.room c.self.invariant.records_fit;
-      newest = newest_same g.records c.make_room.new.records (get nat_eq g.newest) (get nat_eq c.make_room.new.newest) c.self.invariant.newest e.newest (λ key r n of at. sym (ap (λ (u : Slab Record). get_record u key) e.records) ∙ at) (λ key r n of at. ap (λ (u : Slab Record). get_record u key) e.records ∙ at);
-      newest_fit = omega (arith, c.self.invariant.newest_fit, e.more_newest);
-      indexed = indexed_same (the_view g) g.levels c.self.invariant.indexed c.make_room.new.levels e.levels (writes_of c.make_room.new.records.slots) g.room (e.levels.room g.room c.self.invariant.indexed.room);
+    held_roomy g was (with_room at) (roomy at) g.room (record {
+      list = omega (arith, was.entries_fit, e.entry_count, e.more_entries);
+      places = omega (arith, was.places_fit, e.more_places);
+      records = room_same g.records c.make_room.new.records e.records e.more_records g.room was.records_fit;
+      newest = omega (arith, was.newest_fit, e.more_newest);
+      levels = e.levels.room g.room was.indexed.room;
     })
