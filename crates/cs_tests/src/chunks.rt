@@ -1,15 +1,18 @@
 //! Puts and reads of shards, each public function once.
-use crate::stores::{Store, new_store};
+ghost use Rattle.std.specs.Prelude.{◌<◌};
+ghost use Rattle.cs_extent.specs.State.{shape};
+
+use crate::stores::{Store, assert_large, let_go, new_store};
 use cs_chunk::{
     pages_have_one_newest, put_chunks, read_chunks, read_frame, refusal_of_disk, refusal_of_fault,
     what_was_put_stays,
 };
 use cs_deps::Refusal;
 use cs_disk::{DiskFault, FailAt, MemoryDisk, PageDisk};
+use cs_extent::Extents;
 use cs_frame::{FormatFault, FrameKind, Locator};
 use std::alloc::Global;
 use std::process::Abort;
-use std::test::Fail;
 
 /// Puts so many bytes.
 fn put(
@@ -23,6 +26,17 @@ fn put(
     put_chunks(alloc, &mut store.extents, &mut store.graph, bytes)
 }
 
+/// Asserts that a place lies in the extents.
+fn assert_inside(rt: &impl Abort, extents: &Extents, place: Locator)
+    ensures extent { place.extent < (shape extents.now).extents }
+    ensures page { place.page < (shape extents.now).pages }
+{
+    let count = extents.extent_count();
+    assert!(rt; usize::from(place.extent) < count);
+    let pages = extents.extent_pages();
+    assert!(rt; usize::from(place.page) < pages);
+}
+
 /// Reads a shard of one chunk.
 fn get<D: PageDisk>(
     rt: &impl Abort,
@@ -31,101 +45,148 @@ fn get<D: PageDisk>(
     disk: &mut D,
     place: Locator,
 ) -> Result<Vec<u8>, Refusal> {
-    let extents = store.extents.extent_count();
-    let pages = store.extents.extent_pages();
-    assert!(rt; usize::from(place.extent) < extents);
-    assert!(rt; usize::from(place.page) < pages);
-    assert!(rt; 2 + (extents as u64) * (pages as u64) <= disk.pages());
+    assert_inside(rt, &store.extents, place);
+    assert_large(rt, &store.extents, disk);
     read_chunks(alloc, &store.extents, &store.graph, disk, &[place])
 }
 
-#[test]
-fn a_chunk_fills_the_frame_of_an_extent(rt: HostRuntime) -> Result<(), Fail> {
-    let mut store = new_store(&rt, rt.alloc())?;
-    let full = vec![in rt.alloc(); 0; 8151]?;
-    let places = put(&rt, rt.alloc(), &mut store, &full)?;
-    assert_eq!(rt; places.len(), 1);
-    assert_eq!(rt; store.graph.last_plain(), 2);
-    let more = vec![in rt.alloc(); 0; 8152]?;
-    let places = put(&rt, rt.alloc(), &mut store, &more)?;
-    assert_eq!(rt; places.len(), 2);
-    assert_eq!(rt; store.graph.last_plain(), 5);
-    Ok(())
+/// So many bytes.
+fn zeros(rt: &(impl Abort + AllocGlobal), count: usize) -> Vec<u8> {
+    vec![in rt.alloc(); 0; count].expect(rt, "memory")
+}
+
+/// Asserts that so many bytes are put as so many chunks, and which plain write is the last one then.
+fn puts(
+    rt: &(impl Abort + AllocGlobal),
+    store: &mut Store,
+    bytes: usize,
+    chunks: usize,
+    last: u64,
+) {
+    let places = put(rt, rt.alloc(), store, &zeros(rt, bytes)).expect(rt, "places");
+    assert_eq!(rt; places.len(), chunks);
+    assert_eq!(rt; store.graph.last_plain(), last);
 }
 
 #[test]
-fn too_many_bytes_leave_no_trace(rt: HostRuntime) -> Result<(), Fail> {
-    let mut store = new_store(&rt, rt.alloc())?;
-    let bytes = vec![in rt.alloc(); 0; 65209]?;
-    let refused = put(&rt, rt.alloc(), &mut store, &bytes).err();
-    assert_eq!(rt; refused, Some(Refusal::TooLarge));
-    let fewer = vec![in rt.alloc(); 0; 65208]?;
-    let refused = put(&rt, rt.alloc(), &mut store, &fewer).err();
-    assert_eq!(rt; refused, Some(Refusal::Full));
+fn a_chunk_fills_the_frame_of_an_extent(rt: HostRuntime) {
+    let mut store = new_store(&rt, rt.alloc());
+    puts(&rt, &mut store, 8151, 1, 2);
+    puts(&rt, &mut store, 8152, 2, 5);
+    let_go(store);
+}
+
+/// Asserts that so many bytes aren't put.
+fn refuses(rt: &(impl Abort + AllocGlobal), store: &mut Store, bytes: usize, refusal: Refusal) {
+    let refused = put(rt, rt.alloc(), store, &zeros(rt, bytes)).err();
+    assert_eq!(rt; refused, Some(refusal));
+}
+
+#[test]
+fn too_many_bytes_leave_no_trace(rt: HostRuntime) {
+    let mut store = new_store(&rt, rt.alloc());
+    refuses(&rt, &mut store, 65209, Refusal::TooLarge);
+    refuses(&rt, &mut store, 65208, Refusal::Full);
     assert_eq!(rt; store.graph.last_plain(), 0);
-    Ok(())
+    let_go(store);
 }
 
-#[test]
-fn what_waits_is_read_without_the_device(rt: HostRuntime) -> Result<(), Fail> {
-    let mut store = new_store(&rt, rt.alloc())?;
-    let places = put(&rt, rt.alloc(), &mut store, &[7, 8, 9])?;
-    let place = *places.first().ok_or("place")?;
-    let mut disk = FailAt::new(MemoryDisk::new(rt.alloc(), 14)?, 1);
-    let bytes = get(&rt, rt.alloc(), &store, &mut disk, place)?;
+/// The place of the first chunk of three bytes.
+fn put_three(rt: &(impl Abort + AllocGlobal), store: &mut Store) -> Locator {
+    let places = put(rt, rt.alloc(), store, &[7, 8, 9]).expect(rt, "places");
+    *places.first().expect(rt, "a place")
+}
+
+/// An empty disk of which a call fails.
+fn disk_that_fails(rt: &(impl Abort + AllocGlobal), call: u64) -> FailAt<MemoryDisk> {
+    FailAt::new(MemoryDisk::new(rt.alloc(), 14).expect(rt, "a disk"), call)
+}
+
+/// Asserts that three bytes are read at a place.
+fn reads_three<D: PageDisk>(
+    rt: &(impl Abort + AllocGlobal),
+    store: &Store,
+    disk: &mut D,
+    place: Locator,
+) {
+    let bytes = get(rt, rt.alloc(), store, disk, place).expect(rt, "bytes");
     assert_eq!(rt; bytes.as_slice(), [7, 8, 9].as_slice());
+}
+
+#[test]
+fn what_waits_is_read_without_the_device(rt: HostRuntime) {
+    let mut store = new_store(&rt, rt.alloc());
+    let place = put_three(&rt, &mut store);
+    let mut disk = disk_that_fails(&rt, 1);
+    reads_three(&rt, &store, &mut disk, place);
     assert_eq!(rt; disk.failures(), 0);
-    Ok(())
+    let_go(store);
+}
+
+/// The place of the first frame of an extent.
+fn first_of(extent: u16) -> Locator {
+    Locator {
+        extent,
+        page: 0,
+        generation: 0,
+    }
+}
+
+/// Asserts why a shard isn't read.
+fn is_not_read<D: PageDisk>(
+    rt: &(impl Abort + AllocGlobal),
+    store: &Store,
+    disk: &mut D,
+    place: Locator,
+    refusal: Refusal,
+) {
+    let refused = get(rt, rt.alloc(), store, disk, place).err();
+    assert_eq!(rt; refused, Some(refusal));
 }
 
 #[test]
-fn a_header_is_tested_before_the_second_page_is_read(rt: HostRuntime) -> Result<(), Fail> {
-    let store = new_store(&rt, rt.alloc())?;
-    let place = Locator {
-        extent: 1,
-        page: 0,
-        generation: 0,
-    };
-    let mut disk = FailAt::new(MemoryDisk::new(rt.alloc(), 14)?, 2);
-    let refused = get(&rt, rt.alloc(), &store, &mut disk, place).err();
-    assert_eq!(rt; refused, Some(Refusal::BadMagic));
-    let refused = get(&rt, rt.alloc(), &store, &mut disk, place).err();
-    assert_eq!(rt; refused, Some(Refusal::DeviceFault));
-    Ok(())
+fn a_header_is_tested_before_the_second_page_is_read(rt: HostRuntime) {
+    let store = new_store(&rt, rt.alloc());
+    let mut disk = disk_that_fails(&rt, 2);
+    is_not_read(&rt, &store, &mut disk, first_of(1), Refusal::BadMagic);
+    is_not_read(&rt, &store, &mut disk, first_of(1), Refusal::DeviceFault);
+    let_go(store);
 }
 
-#[test]
-fn a_frame_of_another_kind_is_refused(rt: HostRuntime) -> Result<(), Fail> {
-    let mut store = new_store(&rt, rt.alloc())?;
-    put(&rt, rt.alloc(), &mut store, &[])?;
-    let place = Locator {
-        extent: 0,
-        page: 0,
-        generation: 0,
-    };
-    let mut disk = MemoryDisk::new(rt.alloc(), 14)?;
-    let extents = store.extents.extent_count();
-    let pages = store.extents.extent_pages();
-    assert!(rt; 0 < extents);
-    assert!(rt; 0 < pages);
-    assert!(rt; 2 + (extents as u64) * (pages as u64) <= disk.pages());
-    let refused = read_frame(
+/// Why a frame isn't read as that of a run.
+fn why_no_run(
+    rt: &(impl Abort + AllocGlobal),
+    store: &Store,
+    disk: &mut MemoryDisk,
+    place: Locator,
+) -> Option<Refusal> {
+    assert_inside(rt, &store.extents, place);
+    assert_large(rt, &store.extents, disk);
+    read_frame(
         rt.alloc(),
         &store.extents,
         &store.graph,
-        &mut disk,
+        disk,
         FrameKind::Run,
         place,
     )
-    .err();
-    assert_eq!(rt; refused, Some(Refusal::BadVersion));
-    let bytes = get(&rt, rt.alloc(), &store, &mut disk, place)?;
-    assert_eq!(rt; bytes.len(), 0);
-    Ok(())
+    .err()
 }
 
 #[test]
-fn refusals_keep_their_numbers(rt: HostRuntime) -> Result<(), Fail> {
+fn a_frame_of_another_kind_is_refused(rt: HostRuntime) {
+    let mut store = new_store(&rt, rt.alloc());
+    puts(&rt, &mut store, 0, 1, 1);
+    let mut disk = MemoryDisk::new(rt.alloc(), 14).expect(&rt, "a disk");
+    let refused = why_no_run(&rt, &store, &mut disk, first_of(0));
+    assert_eq!(rt; refused, Some(Refusal::BadVersion));
+    let bytes = get(&rt, rt.alloc(), &store, &mut disk, first_of(0)).expect(&rt, "bytes");
+    assert_eq!(rt; bytes.len(), 0);
+    let_go(store);
+}
+
+#[test]
+fn refusals_keep_their_numbers(rt: HostRuntime) {
     assert_eq!(rt;
         refusal_of_fault(FormatFault::BadDigest),
         Refusal::BadDigest
@@ -136,5 +197,4 @@ fn refusals_keep_their_numbers(rt: HostRuntime) -> Result<(), Fail> {
     );
     pages_have_one_newest();
     what_was_put_stays();
-    Ok(())
 }

@@ -4,7 +4,7 @@ use cs_check::{
 };
 use cs_deps::{Dependency, Plan, Refusal};
 use std::alloc::Global;
-use std::test::Fail;
+use std::process::Abort;
 
 /// The waiting writes of one stored piece: two plain writes, two superblock versions, one root version. Words stand
 /// without their quotes, here and in what is put in the place of a part.
@@ -20,8 +20,8 @@ const ROUNDS: &str = "rounds:[[w1,w2],[s3],[r2]]";
 const TARGET: &str = "target:[w1,w2,s3,r2]";
 
 /// The text with quotes around its words: `{target:[s3]}` is `{"target":["s3"]}`. What stands in quotes stays as it is.
-fn json(alloc: Global, text: &str) -> Result<String, Fail> {
-    let mut json = String::new(alloc);
+fn json(rt: &(impl Abort + AllocGlobal), text: &str) -> String {
+    let mut json = String::new(rt.alloc());
     let mut in_quotes = false;
     let mut in_word = false;
     let mut last = ' ';
@@ -31,13 +31,18 @@ fn json(alloc: Global, text: &str) -> Result<String, Fail> {
         }
         let begins = c.is_ascii_alphabetic() && !last.is_ascii_alphanumeric() && !in_quotes;
         if begins || in_word && !c.is_ascii_alphanumeric() {
-            json.push('"')?;
+            json.push('"').expect(rt, "memory");
             in_word = begins;
         }
-        json.push(c)?;
+        json.push(c).expect(rt, "memory");
         last = c;
     }
-    Ok(json)
+    json
+}
+
+/// The text with one part replaced.
+fn replaced(rt: &(impl Abort + AllocGlobal), text: &str, from: &str, to: &str) -> String {
+    text.replace(rt.alloc(), from, to).expect(rt, "memory")
 }
 
 fn outcome(alloc: Global, text: &str) -> Result<Verdict, CheckFault> {
@@ -45,64 +50,58 @@ fn outcome(alloc: Global, text: &str) -> Result<Verdict, CheckFault> {
     check(alloc, &document.view, &document.target, &document.plan)
 }
 
+/// The outcome of a text without quotes.
+fn outcome_of(rt: &(impl Abort + AllocGlobal), text: &str) -> Result<Verdict, CheckFault> {
+    outcome(rt.alloc(), &json(rt, text))
+}
+
 /// The outcome of the plan with one part replaced.
-fn edited(alloc: Global, from: &str, to: &str) -> Result<Result<Verdict, CheckFault>, Fail> {
-    let text = json(alloc, &PLAN.replace(alloc, from, to)?)?;
-    Ok(outcome(alloc, &text))
+fn edited(rt: &(impl Abort + AllocGlobal), from: &str, to: &str) -> Result<Verdict, CheckFault> {
+    outcome_of(rt, &replaced(rt, PLAN, from, to))
 }
 
 fn optimal(flushes: usize) -> Result<Verdict, CheckFault> {
     Ok(Verdict { flushes })
 }
 
+/// Edits that a check refuses, and why.
+const REFUSED: [(&str, &str, CheckFault); 7] = [
+    (CHAIN, "chain:[w1,r2]", CheckFault::ChainBroken),
+    (NEEDS, "needs:[w2]", CheckFault::NotNested),
+    (ROUNDS, "rounds:[[w1,w2,s3],[r2]]", CheckFault::TooEarly),
+    (ROUNDS, "rounds:[[w1,w2],[s3]]", CheckFault::Uncovered),
+    (
+        ROUNDS,
+        "rounds:[[w1,w2],[s2],[s3],[r2]]",
+        CheckFault::ChainShort,
+    ),
+    (
+        ROUNDS,
+        "rounds:[[w1,w2],[],[s3],[r2]]",
+        CheckFault::ChainShort,
+    ),
+    (CHAIN, "chain:[w1,s3]", CheckFault::ChainShort),
+];
+
 #[test]
-fn verdicts(rt: HostRuntime) -> Result<(), Fail> {
-    let alloc = rt.alloc();
-    let edits = [
-        (CHAIN, "chain:[w1,r2]", Err(CheckFault::ChainBroken)),
-        (NEEDS, "needs:[w2]", Err(CheckFault::NotNested)),
-        (
-            ROUNDS,
-            "rounds:[[w1,w2,s3],[r2]]",
-            Err(CheckFault::TooEarly),
-        ),
-        (ROUNDS, "rounds:[[w1,w2],[s3]]", Err(CheckFault::Uncovered)),
-        (
-            ROUNDS,
-            "rounds:[[w1,w2],[s2],[s3],[r2]]",
-            Err(CheckFault::ChainShort),
-        ),
-        (
-            ROUNDS,
-            "rounds:[[w1,w2],[],[s3],[r2]]",
-            Err(CheckFault::ChainShort),
-        ),
-        (CHAIN, "chain:[w1,s3]", Err(CheckFault::ChainShort)),
-    ];
-    for (from, to, want) in edits {
-        assert_eq!(rt; edited(alloc, from, to)?, want, "{to}");
+fn verdicts(rt: HostRuntime) {
+    for (from, to, fault) in REFUSED {
+        assert_eq!(rt; edited(&rt, from, to), Err(fault), "{to}");
     }
-    Ok(())
 }
 
 // The target of one plain write, and none at all.
 #[test]
-fn small_targets(rt: HostRuntime) -> Result<(), Fail> {
-    let alloc = rt.alloc();
-    let short = PLAN
-        .replace(alloc, TARGET, "target:[w1]")?
-        .replace(alloc, ROUNDS, "rounds:[[w1]]")?;
-    let other = short.replace(alloc, CHAIN, "chain:[w2]")?;
-    assert_eq!(rt;
-        outcome(alloc, &json(alloc, &other)?),
-        Err(CheckFault::ChainBroken)
-    );
-    let one = short.replace(alloc, CHAIN, "chain:[w1]")?;
-    assert_eq!(rt; outcome(alloc, &json(alloc, &one)?), optimal(1));
+fn small_targets(rt: HostRuntime) {
+    let short = replaced(&rt, PLAN, TARGET, "target:[w1]");
+    let short = replaced(&rt, &short, ROUNDS, "rounds:[[w1]]");
+    let other = replaced(&rt, &short, CHAIN, "chain:[w2]");
+    assert_eq!(rt; outcome_of(&rt, &other), Err(CheckFault::ChainBroken));
+    let one = replaced(&rt, &short, CHAIN, "chain:[w1]");
+    assert_eq!(rt; outcome_of(&rt, &one), optimal(1));
     let empty =
         "{chain:[],elements:[],families:[s,r],format:1,persistent:[1,1],rounds:[],target:[]}";
-    assert_eq!(rt; outcome(alloc, &json(alloc, empty)?), optimal(0));
-    Ok(())
+    assert_eq!(rt; outcome_of(&rt, empty), optimal(0));
 }
 
 /// Edits that make the document a bad one.
@@ -151,123 +150,136 @@ const BAD: [(&str, &str); 41] = [
 ];
 
 #[test]
-fn bad_documents(rt: HostRuntime) -> Result<(), Fail> {
-    let alloc = rt.alloc();
+fn bad_documents(rt: HostRuntime) {
     for (from, to) in BAD {
-        assert_eq!(rt;
-            edited(alloc, from, to)?,
-            Err(CheckFault::BadDocument),
-            "{to}"
-        );
+        assert_eq!(rt; edited(&rt, from, to), Err(CheckFault::BadDocument), "{to}");
     }
-    Ok(())
 }
 
-// A later version stands for an earlier one, an element may stand in two rounds, what is not listed is passed over,
-// and of a repeated key the last value counts.
-#[test]
-fn optimal_plans(rt: HostRuntime) -> Result<(), Fail> {
-    let alloc = rt.alloc();
-    let edits = [
-        (CHAIN, CHAIN),
-        (CHAIN, "chain:[w1,s2,r2]"),
-        (ROUNDS, "rounds:[[w1,w2],[s3],[s3,r2]]"),
-        ("format:1", "format:2,format:1"),
-        ("format:1", "note:[{}],format:1"),
-        ("e:w1,", "e:w1,page:2,"),
-        (TARGET, "target:[r2,w1,w2,w1,s3,s2]"),
-        (NEEDS, "needs:[w2,w1,w2]"),
-    ];
-    for (from, to) in edits {
-        assert_eq!(rt; edited(alloc, from, to)?, optimal(3), "{to}");
-    }
-    Ok(())
-}
+/// Edits that leave the plan optimal. A later version stands for an earlier one, an element may stand in two rounds, what is
+/// not listed is passed over, and of a repeated key the last value counts.
+const OPTIMAL: [(&str, &str); 8] = [
+    (CHAIN, CHAIN),
+    (CHAIN, "chain:[w1,s2,r2]"),
+    (ROUNDS, "rounds:[[w1,w2],[s3],[s3,r2]]"),
+    ("format:1", "format:2,format:1"),
+    ("format:1", "note:[{}],format:1"),
+    ("e:w1,", "e:w1,page:2,"),
+    (TARGET, "target:[r2,w1,w2,w1,s3,s2]"),
+    (NEEDS, "needs:[w2,w1,w2]"),
+];
 
 #[test]
-fn hostile_texts(rt: HostRuntime) -> Result<(), Fail> {
-    let alloc = rt.alloc();
-    for text in ["", "{", "[]", "null", "{}"] {
-        assert_eq!(rt;
-            outcome(alloc, text),
-            Err(CheckFault::BadDocument),
-            "{text}"
-        );
+fn optimal_plans(rt: HostRuntime) {
+    for (from, to) in OPTIMAL {
+        assert_eq!(rt; edited(&rt, from, to), optimal(3), "{to}");
     }
-    let deep = format!(in alloc;
-        "note:{}{},format:1",
-        "[".repeat(alloc, 200)?,
-        "]".repeat(alloc, 200)?
-    )?;
+}
+
+/// Asserts that a text, given with its quotes, is no document.
+fn is_bad(rt: &(impl Abort + AllocGlobal), text: &str) {
     assert_eq!(rt;
-        edited(alloc, "format:1", &deep)?,
-        Err(CheckFault::BadDocument)
+        outcome(rt.alloc(), text),
+        Err(CheckFault::BadDocument),
+        "{text}"
     );
-    let large = "[".repeat(alloc, 1_000_000)?;
-    assert_eq!(rt; outcome(alloc, &large), Err(CheckFault::BadDocument));
-    let plan = json(alloc, PLAN)?;
+}
+
+/// So many of these.
+fn repeated(rt: &(impl Abort + AllocGlobal), text: &str, count: usize) -> String {
+    text.repeat(rt.alloc(), count).expect(rt, "memory")
+}
+
+/// The plan with so many lists in one another.
+fn nested(rt: &(impl Abort + AllocGlobal), depth: usize) -> String {
+    let opened = repeated(rt, "[", depth);
+    let closed = repeated(rt, "]", depth);
+    let note = format!(in rt.alloc(); "note:{opened}{closed},format:1").expect(rt, "memory");
+    json(rt, &replaced(rt, PLAN, "format:1", &note))
+}
+
+/// Asserts that the plan is no document wherever it is cut.
+fn is_bad_cut(rt: &(impl Abort + AllocGlobal)) {
+    let plan = json(rt, PLAN);
     for end in 0..plan.len() {
         if let Some(cut) = plan.get(..end) {
-            assert_eq!(rt; outcome(alloc, cut), Err(CheckFault::BadDocument), "{end}");
+            is_bad(rt, cut);
         }
     }
-    Ok(())
 }
 
 #[test]
-fn family_counts(rt: HostRuntime) -> Result<(), Fail> {
-    let alloc = rt.alloc();
+fn hostile_texts(rt: HostRuntime) {
+    for text in ["", "{", "[]", "null", "{}"] {
+        is_bad(&rt, text);
+    }
+    is_bad(&rt, &nested(&rt, 200));
+    is_bad(&rt, &repeated(&rt, "[", 1_000_000));
+    is_bad_cut(&rt);
+}
+
+#[test]
+fn family_counts(rt: HostRuntime) {
     let none = "{chain:[],elements:[],families:[],format:1,persistent:[],rounds:[],target:[]}";
-    assert_eq!(rt;
-        outcome(alloc, &json(alloc, none)?),
-        Err(CheckFault::BadDocument)
+    assert_eq!(rt; outcome_of(&rt, none), Err(CheckFault::BadDocument));
+    let many = replaced(
+        &rt,
+        none,
+        "families:[]",
+        "families:[a,b,c,d,e,f,g,h,i,j,k,l,m,n,o,p,q]",
     );
-    let many = none
-        .replace(
-            alloc,
-            "families:[]",
-            "families:[a,b,c,d,e,f,g,h,i,j,k,l,m,n,o,p,q]",
-        )?
-        .replace(
-            alloc,
-            "persistent:[]",
-            "persistent:[0,0,0,0,0,0,0,0,0,0,0,0,0,0,0,0,0]",
-        )?;
-    assert_eq!(rt;
-        outcome(alloc, &json(alloc, &many)?),
-        Err(CheckFault::BadDocument)
+    let many = replaced(
+        &rt,
+        &many,
+        "persistent:[]",
+        "persistent:[0,0,0,0,0,0,0,0,0,0,0,0,0,0,0,0,0]",
     );
-    Ok(())
+    assert_eq!(rt; outcome_of(&rt, &many), Err(CheckFault::BadDocument));
+}
+
+/// The document that a text, given with its quotes, is.
+fn document_of(rt: &(impl Abort + AllocGlobal), text: &str) -> Document {
+    from_document(rt.alloc(), text).expect(rt, "a document")
+}
+
+/// Asserts how a document is written with this target and these letters.
+fn is_written(
+    rt: &(impl Abort + AllocGlobal),
+    document: &Document,
+    target: &Dependency,
+    letters: &[char],
+    wanted: &str,
+) {
+    let text = to_document(rt.alloc(), &document.view, target, &document.plan, letters).expect(
+        rt, "a text",
+    );
+    assert_eq!(rt; text.as_str(), wanted);
+}
+
+/// Names this version of a family.
+fn on_version(rt: &(impl Abort + AllocGlobal), family: usize, version: u64) -> Dependency {
+    Dependency::on_version(rt.alloc(), family, version).expect(rt, "memory")
+}
+
+/// Both of these.
+fn both(rt: &impl Abort, left: &Dependency, right: &Dependency) -> Dependency {
+    left.and(right).expect(rt, "memory")
+}
+
+/// Names all that waits in the plan.
+fn everything(rt: &(impl Abort + AllocGlobal)) -> Dependency {
+    let writes = Dependency::through(rt.alloc(), 2);
+    let superblock = both(rt, &writes, &on_version(rt, 0, 3));
+    both(rt, &superblock, &on_version(rt, 1, 2))
 }
 
 #[test]
-fn written(rt: HostRuntime) -> Result<(), Fail> {
-    let alloc = rt.alloc();
-    let plan = json(alloc, PLAN)?;
-    let document = match from_document(alloc, &plan) {
-        Ok(document) => document,
-        Err(_) => return Err("the plan is no document".into()),
-    };
-    let text = to_document(
-        alloc,
-        &document.view,
-        &document.target,
-        &document.plan,
-        &document.letters,
-    );
-    match text {
-        Ok(text) => assert_eq!(rt; text.as_str(), plan.as_str()),
-        Err(fault) => assert!(rt; false, "{fault}"),
-    }
-    let all = Dependency::through(alloc, 2)
-        .and(&Dependency::on_version(alloc, 0, 3)?)?
-        .and(&Dependency::on_version(alloc, 1, 2)?)?;
-    match to_document(alloc, &document.view, &all, &document.plan, &['s', 'r']) {
-        Ok(text) => assert_eq!(rt; text.as_str(), plan.as_str()),
-        Err(fault) => assert!(rt; false, "{fault}"),
-    }
+fn written(rt: HostRuntime) {
+    let plan = json(&rt, PLAN);
+    let document = document_of(&rt, &plan);
+    is_written(&rt, &document, &document.target, &document.letters, &plan);
+    is_written(&rt, &document, &everything(&rt), &['s', 'r'], &plan);
     reads_as_written();
-    Ok(())
 }
 
 /// Why the document isn't written with this target and these letters.
@@ -280,39 +292,49 @@ fn unwritten(
     to_document(alloc, &document.view, target, &document.plan, letters).err()
 }
 
-#[test]
-fn refused_writes(rt: HostRuntime) -> Result<(), Fail> {
+/// Asserts whether the plan's document isn't written with this target and these letters.
+fn assert_unwritten(
+    rt: &(impl Abort + AllocGlobal),
+    target: &Dependency,
+    letters: &[char],
+    wanted: Option<CheckFault>,
+) {
+    let document = document_of(rt, &json(rt, PLAN));
+    assert_eq!(rt; unwritten(rt.alloc(), &document, target, letters), wanted);
+}
+
+/// Asserts what the check says where the plan's document has another target or another plan.
+fn checks_others(rt: &(impl Abort + AllocGlobal), past: &Dependency, zero: &Dependency) {
     let alloc = rt.alloc();
-    let plan = json(alloc, PLAN)?;
-    let document = match from_document(alloc, &plan) {
-        Ok(document) => document,
-        Err(_) => return Err("the plan is no document".into()),
-    };
-    let none = Dependency::none(alloc);
-    let past = Dependency::on_version(alloc, 0, 4)?;
-    let zero = Dependency::on_write(alloc, 0)?;
-    let bad = Some(CheckFault::BadDocument);
-    assert_eq!(rt; unwritten(alloc, &document, &none, &['s', 'r']), None);
-    assert_eq!(rt; unwritten(alloc, &document, &past, &['s', 'r']), bad);
-    assert_eq!(rt; unwritten(alloc, &document, &zero, &['s', 'r']), None);
-    assert_eq!(rt; unwritten(alloc, &document, &none, &['s', 'w']), bad);
-    assert_eq!(rt; unwritten(alloc, &document, &none, &['s']), bad);
+    let document = document_of(rt, &json(rt, PLAN));
     let empty = Plan {
         rounds: Vec::new(alloc),
         chain: Vec::new(alloc),
     };
-    assert_eq!(rt; check(alloc, &document.view, &zero, &empty), optimal(0));
+    assert_eq!(rt; check(alloc, &document.view, zero, &empty), optimal(0));
     assert_eq!(rt;
-        check(alloc, &document.view, &past, &document.plan),
+        check(alloc, &document.view, past, &document.plan),
         Err(CheckFault::Uncovered)
     );
-    Ok(())
 }
 
 #[test]
-fn refusals(rt: HostRuntime) -> Result<(), Fail> {
+fn refused_writes(rt: HostRuntime) {
+    let none = Dependency::none(rt.alloc());
+    let past = on_version(&rt, 0, 4);
+    let zero = Dependency::on_write(rt.alloc(), 0).expect(&rt, "memory");
+    let bad = Some(CheckFault::BadDocument);
+    assert_unwritten(&rt, &none, &['s', 'r'], None);
+    assert_unwritten(&rt, &past, &['s', 'r'], bad);
+    assert_unwritten(&rt, &zero, &['s', 'r'], None);
+    assert_unwritten(&rt, &none, &['s', 'w'], bad);
+    assert_unwritten(&rt, &none, &['s'], bad);
+    checks_others(&rt, &past, &zero);
+}
+
+#[test]
+fn refusals(rt: HostRuntime) {
     let refusal = Refusal::from(CheckFault::ChainShort);
     assert_eq!(rt; refusal.number(), 15);
     assert_eq!(rt; refusal.name(), "ChainShort");
-    Ok(())
 }

@@ -1,13 +1,12 @@
 //! The worked rows of allocation, and each public function once.
 ghost use Rattle.std.specs.Prelude.{◌+◌, ◌^◌, ◌<◌};
 
-use crate::stores::{Store, new_store};
+use crate::stores::{Store, let_go, new_store};
 use cs_deps::{Dependency, Element, Refusal};
 use cs_extent::Purpose;
-use cs_frame::{Locator, decode_superblock};
+use cs_frame::{Locator, Superblock, decode_superblock};
 use std::alloc::Global;
 use std::process::Abort;
-use std::test::Fail;
 
 /// Appends a frame.
 fn append(
@@ -27,20 +26,23 @@ fn append(
 /// Appends a frame of one page, and tells the page of the device that its plain write goes to.
 fn page_of(rt: &impl Abort, store: &mut Store, purpose: Purpose) -> Result<Option<u64>, Refusal> {
     append(rt, store, &[[7; 4096]], purpose)?;
-    Ok(
-        store
-            .graph
-            .page_of(Element::Plain(store.graph.last_plain())),
-    )
+    Ok(last_page(store))
+}
+
+/// The page of the device that the last plain write goes to.
+fn last_page(store: &Store) -> Option<u64> {
+    store
+        .graph
+        .page_of(Element::Plain(store.graph.last_plain()))
 }
 
 /// Stages the next version of the root.
-fn stage_root(rt: &impl Abort, alloc: Global, store: &mut Store) -> Result<(), Refusal> {
+fn stage_root(rt: &impl Abort, alloc: Global, store: &mut Store) {
     let families = store.graph.families();
     assert!(rt; 1 < families);
     let needs = Dependency::none(alloc);
-    store.graph.stage_version(1, 1, &[0; 4096], needs)?;
-    Ok(())
+    let staged = store.graph.stage_version(1, 1, &[0; 4096], needs);
+    assert!(rt; staged.is_ok());
 }
 
 /// Empties an extent.
@@ -57,11 +59,11 @@ fn reset(rt: &impl Abort, store: &mut Store, extent: usize, root: u64) -> Result
 }
 
 /// Makes room for frames.
-fn reserve(store: &mut Store, frames: usize, pages: usize) -> Result<(), Fail>
+fn reserve(rt: &impl Abort, store: &mut Store, frames: usize, pages: usize)
     requires { frames + pages < 2 ^ 64 }
 {
-    store.extents.reserve(&mut store.graph, frames, pages)?;
-    Ok(())
+    let reserved = store.extents.reserve(&mut store.graph, frames, pages);
+    assert!(rt; reserved.is_ok());
 }
 
 /// The last version of the superblock that was staged.
@@ -72,11 +74,21 @@ fn last_superblock(rt: &impl Abort, store: &Store) -> Element {
 }
 
 /// Whether an element waits and needs another.
-fn needs(store: &Store, element: Element, other: Element) -> Result<bool, Fail> {
-    match store.graph.needs_of(element)? {
-        Some(needs) => Ok(needs.names(other)),
-        None => Ok(false),
+fn needs(rt: &impl Abort, store: &Store, element: Element, other: Element) -> bool {
+    match store.graph.needs_of(element).expect(rt, "memory") {
+        Some(needs) => needs.names(other),
+        None => false,
     }
+}
+
+/// Asserts that a frame of one page goes to this page of the device.
+fn goes_to(rt: &impl Abort, store: &mut Store, purpose: Purpose, page: u64) {
+    assert_eq!(rt; page_of(rt, store, purpose), Ok(Some(page)));
+}
+
+/// Asserts that there is no room for a frame of one page.
+fn is_full(rt: &impl Abort, store: &mut Store, purpose: Purpose) {
+    assert_eq!(rt; page_of(rt, store, purpose), Err(Refusal::Full));
 }
 
 /// Whether a frame of two pages fits for a put.
@@ -87,97 +99,113 @@ fn fits_two(rt: &impl Abort, store: &Store) -> bool {
 }
 
 #[test]
-fn frames_fill_the_extents(rt: HostRuntime) -> Result<(), Fail> {
-    let mut store = new_store(&rt, rt.alloc())?;
+fn frames_fill_the_extents(rt: HostRuntime) {
+    let mut store = new_store(&rt, rt.alloc());
     for page in 2..9 {
-        assert_eq!(rt; page_of(&rt, &mut store, Purpose::Put)?, Some(page));
+        goes_to(&rt, &mut store, Purpose::Put, page);
     }
     assert_eq!(rt; store.extents.extent_pages(), 2);
     assert!(rt; store.extents.fits(&[1], Purpose::Put));
     assert!(rt; !store.extents.fits(&[1, 1], Purpose::Put));
     assert!(rt; !fits_two(&rt, &store));
-    assert_eq!(rt; page_of(&rt, &mut store, Purpose::Put)?, Some(9));
-    assert_eq!(rt; page_of(&rt, &mut store, Purpose::Put), Err(Refusal::Full));
-    assert_eq!(rt; page_of(&rt, &mut store, Purpose::Run)?, Some(10));
-    assert_eq!(rt; page_of(&rt, &mut store, Purpose::Run)?, Some(11));
-    assert_eq!(rt; page_of(&rt, &mut store, Purpose::Run), Err(Refusal::Full));
-    assert_eq!(rt; page_of(&rt, &mut store, Purpose::Move)?, Some(12));
-    assert_eq!(rt; page_of(&rt, &mut store, Purpose::Move)?, Some(13));
-    assert_eq!(rt; page_of(&rt, &mut store, Purpose::Move), Err(Refusal::Full));
-    Ok(())
+    goes_to(&rt, &mut store, Purpose::Put, 9);
+    is_full(&rt, &mut store, Purpose::Put);
+    goes_to(&rt, &mut store, Purpose::Run, 10);
+    goes_to(&rt, &mut store, Purpose::Run, 11);
+    is_full(&rt, &mut store, Purpose::Run);
+    goes_to(&rt, &mut store, Purpose::Move, 12);
+    goes_to(&rt, &mut store, Purpose::Move, 13);
+    is_full(&rt, &mut store, Purpose::Move);
+    let_go(store);
 }
 
-#[test]
-fn a_reset_extent_is_used_again(rt: HostRuntime) -> Result<(), Fail> {
-    let mut store = new_store(&rt, rt.alloc())?;
-    for page in 2..5 {
-        assert_eq!(rt; page_of(&rt, &mut store, Purpose::Put)?, Some(page));
-    }
-    stage_root(&rt, rt.alloc(), &mut store)?;
-    reset(&rt, &mut store, 0, 2)?;
+/// Asserts that the first extent is empty again, in its next generation.
+fn is_emptied(rt: &impl Abort, store: &Store) {
     let count = store.extents.extent_count();
     assert_eq!(rt; count, 6);
     assert_eq!(rt; store.extents.pointer(0), 0);
     assert_eq!(rt; store.extents.generation(0), 1);
     assert_eq!(rt; store.extents.empty_count(), 5);
-    assert_eq!(rt; page_of(&rt, &mut store, Purpose::Put)?, Some(5));
-    let superblock = last_superblock(&rt, &store);
-    assert!(rt; needs(&store, superblock, Element::Version(1, 2))?);
-    assert!(rt; !needs(&store, Element::Plain(4), Element::Version(1, 2))?);
-    let (place, _) = append(&rt, &mut store, &[[7; 4096]], Purpose::Put)?;
-    assert_eq!(rt;
-        place,
-        Locator {
-            extent: 0,
-            page: 0,
-            generation: 1
-        }
-    );
+}
+
+/// Asserts that the next frame lies in the first extent again, and needs the root that emptied it.
+fn appends_again(rt: &impl Abort, store: &mut Store) {
+    let (place, _) = append(rt, store, &[[7; 4096]], Purpose::Put).expect(rt, "a place");
+    assert_eq!(rt; place, first_page(1));
     assert_eq!(rt; store.graph.page_of(Element::Plain(5)), Some(2));
-    assert!(rt; needs(&store, Element::Plain(5), Element::Version(1, 2))?);
-    Ok(())
+    assert!(rt; needs(rt, store, Element::Plain(5), Element::Version(1, 2)));
+}
+
+/// The first page of the first extent.
+fn first_page(generation: u32) -> Locator {
+    Locator {
+        extent: 0,
+        page: 0,
+        generation,
+    }
 }
 
 #[test]
-fn a_frame_of_two_pages_is_recorded(rt: HostRuntime) -> Result<(), Fail> {
-    let mut store = new_store(&rt, rt.alloc())?;
-    reserve(&mut store, 1, 2)?;
-    let (place, superblock) = append(&rt, &mut store, &[[7; 4096], [8; 4096]], Purpose::Put)?;
-    assert_eq!(rt;
-        place,
-        Locator {
-            extent: 0,
-            page: 0,
-            generation: 0
-        }
-    );
-    assert!(rt; superblock.names(Element::Version(0, 2)));
+fn a_reset_extent_is_used_again(rt: HostRuntime) {
+    let mut store = new_store(&rt, rt.alloc());
+    for page in 2..5 {
+        goes_to(&rt, &mut store, Purpose::Put, page);
+    }
+    stage_root(&rt, rt.alloc(), &mut store);
+    reset(&rt, &mut store, 0, 2).expect(&rt, "a reset");
+    is_emptied(&rt, &store);
+    goes_to(&rt, &mut store, Purpose::Put, 5);
+    let superblock = last_superblock(&rt, &store);
+    assert!(rt; needs(&rt, &store, superblock, Element::Version(1, 2)));
+    assert!(rt; !needs(&rt, &store, Element::Plain(4), Element::Version(1, 2)));
+    appends_again(&rt, &mut store);
+    let_go(store);
+}
+
+/// Asserts on which pages of the device a frame of two pages and the superblock lie, and that the superblock needs it.
+fn records_two(rt: &impl Abort, store: &Store) {
     assert_eq!(rt; store.graph.page_of(Element::Plain(1)), Some(2));
     assert_eq!(rt; store.graph.page_of(Element::Plain(2)), Some(3));
     assert_eq!(rt; store.graph.page_of(Element::Version(0, 2)), Some(0));
-    assert!(rt; needs(&store, Element::Version(0, 2), Element::Plain(2))?);
-    let first = store.graph.bytes_of(Element::Plain(1)).ok_or("first")?;
+    assert!(rt; needs(rt, store, Element::Version(0, 2), Element::Plain(2)));
+    let first = store.graph.bytes_of(Element::Plain(1)).expect(rt, "bytes");
     assert_eq!(rt; first[0], 7);
-    let page = store.graph.bytes_of(Element::Version(0, 2)).ok_or("page")?;
-    let spelled = decode_superblock(rt.alloc(), page)
-        .ok()
-        .ok_or("superblock")?;
+}
+
+/// The superblock that waits.
+fn superblock_of(rt: &impl Abort, alloc: Global, store: &Store) -> Superblock {
+    let page = store
+        .graph
+        .bytes_of(Element::Version(0, 2))
+        .expect(rt, "a page");
+    decode_superblock(alloc, page).expect(rt, "a superblock")
+}
+
+#[test]
+fn a_frame_of_two_pages_is_recorded(rt: HostRuntime) {
+    let mut store = new_store(&rt, rt.alloc());
+    reserve(&rt, &mut store, 1, 2);
+    let (place, superblock) = append(&rt, &mut store, &[[7; 4096], [8; 4096]], Purpose::Put).expect(
+        &rt, "a place",
+    );
+    assert_eq!(rt; place, first_page(0));
+    assert!(rt; superblock.names(Element::Version(0, 2)));
+    records_two(&rt, &store);
+    let spelled = superblock_of(&rt, rt.alloc(), &store);
     assert_eq!(rt; spelled.version, 2);
     assert_eq!(rt;
         spelled.extents.as_slice(),
         [(2, 0), (0, 0), (0, 0), (0, 0), (0, 0), (0, 0)].as_slice()
     );
-    Ok(())
+    let_go(store);
 }
 
 #[test]
-fn a_mark_is_that_of_one_extent(rt: HostRuntime) -> Result<(), Fail> {
-    let store = new_store(&rt, rt.alloc())?;
-    let mut extents = store.extents;
+fn a_mark_is_that_of_one_extent(rt: HostRuntime) {
+    let mut extents = new_store(&rt, rt.alloc()).extents;
     let count = extents.extent_count();
     assert_eq!(rt; count, 6);
     extents.set_swept(3, true);
     assert!(rt; extents.is_swept(3));
     assert!(rt; !extents.is_swept(2));
-    Ok(())
 }

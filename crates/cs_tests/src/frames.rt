@@ -7,7 +7,7 @@ use cs_frame::{
     frame_pages, root_has_one_spelling, run_has_one_spelling, superblock_has_one_spelling,
     these_formats_are_formats,
 };
-use std::test::Fail;
+use std::process::Abort;
 
 // The expected pages are from the layouts, with digests by sha256sum.
 
@@ -89,46 +89,65 @@ fn is_page(page: &[u8; 4096], start: &[u8]) -> bool {
         .is_some_and(|rest| rest.iter().all(|byte| *byte == 0))
 }
 
-#[test]
-fn superblocks(rt: HostRuntime) -> Result<(), Fail> {
-    let extents = vec![in rt.alloc(); (0, 0), (0, 0), (0, 0), (0, 0), (0, 0), (0, 0)]?;
-    let first = Superblock {
-        version: 1,
-        pages: 2,
-        extents,
-    };
-    assert!(rt; is_page(&encode_superblock(&first), &FORMAT_SUPERBLOCK));
-    let extents = vec![in rt.alloc(); (2, 0), (0, 0), (0, 0), (0, 0), (0, 0), (0, 0)]?;
-    let later = Superblock {
-        version: 3,
-        pages: 2,
-        extents,
-    };
-    let page = encode_superblock(&later);
-    assert!(rt; is_page(&page, &SUPERBLOCK));
-    let read = decode_superblock(rt.alloc(), &page)?;
-    assert_eq!(rt; (read.version, read.pages, read.extents.len()), (3, 2, 6));
-    Ok(())
+/// Asserts what a page that is a superblock says.
+fn is_superblock(rt: &(impl Abort + AllocGlobal), page: &[u8; 4096], version: u64) {
+    let read = decode_superblock(rt.alloc(), page).expect(rt, "a superblock");
+    assert_eq!(rt;
+        (read.version, read.pages, read.extents.len()),
+        (version, 2, 6)
+    );
 }
 
 #[test]
-fn damaged_superblocks(rt: HostRuntime) -> Result<(), Fail> {
+fn superblocks(rt: HostRuntime) {
+    let extents = vec![in rt.alloc(); (0, 0), (0, 0), (0, 0), (0, 0), (0, 0), (0, 0)];
+    let first = Superblock {
+        version: 1,
+        pages: 2,
+        extents: extents.expect(&rt, "memory"),
+    };
+    assert!(rt; is_page(&encode_superblock(&first), &FORMAT_SUPERBLOCK));
+    let extents = vec![in rt.alloc(); (2, 0), (0, 0), (0, 0), (0, 0), (0, 0), (0, 0)];
+    let later = Superblock {
+        version: 3,
+        pages: 2,
+        extents: extents.expect(&rt, "memory"),
+    };
+    let page = encode_superblock(&later);
+    assert!(rt; is_page(&page, &SUPERBLOCK));
+    is_superblock(&rt, &page, 3);
+}
+
+/// The number of a refusal, 0 for none.
+fn number_of<T: Drop>(read: Result<T, FormatFault>) -> u8 {
+    match read {
+        Ok(_) => 0,
+        Err(fault) => fault.number(),
+    }
+}
+
+#[test]
+fn damaged_superblocks(rt: HostRuntime) {
     let table = [(3, 20), (4, 24), (14, 21), (15, 22), (84, 21), (4096, 23)];
     let mut page = [0; 4096];
     page[..84].copy_from_slice(&SUPERBLOCK);
     for i in 0..4096 {
         page[i] ^= 1;
-        let found = decode_superblock(rt.alloc(), &page)
-            .err()
-            .map_or(0, |fault| fault.number());
+        let found = number_of(decode_superblock(rt.alloc(), &page));
         assert_eq!(rt; found, expected(&table, i), "at {i}");
         page[i] ^= 1;
     }
-    Ok(())
+}
+
+/// Asserts that a page is a root of one run.
+fn is_root_of_one(rt: &(impl Abort + AllocGlobal), page: &[u8; 4096]) {
+    let read = decode_root(rt.alloc(), page).expect(rt, "a root");
+    assert_eq!(rt; (read.version, read.commands), (2, 1));
+    assert_eq!(rt; read.runs.as_slice(), [SECOND].as_slice());
 }
 
 #[test]
-fn roots(rt: HostRuntime) -> Result<(), Fail> {
+fn roots(rt: HostRuntime) {
     let first = Root {
         version: 1,
         commands: 0,
@@ -138,67 +157,64 @@ fn roots(rt: HostRuntime) -> Result<(), Fail> {
     let later = Root {
         version: 2,
         commands: 1,
-        runs: vec![in rt.alloc(); SECOND]?,
+        runs: vec![in rt.alloc(); SECOND].expect(&rt, "memory"),
     };
     let page = encode_root(&later);
     assert!(rt; is_page(&page, &ROOT));
-    let read = decode_root(rt.alloc(), &page)?;
-    assert_eq!(rt; (read.version, read.commands), (2, 1));
-    assert_eq!(rt; read.runs.as_slice(), [SECOND].as_slice());
-    Ok(())
+    is_root_of_one(&rt, &page);
 }
 
 #[test]
-fn damaged_roots(rt: HostRuntime) -> Result<(), Fail> {
+fn damaged_roots(rt: HostRuntime) {
     let table = [(3, 20), (4, 24), (61, 21), (4096, 23)];
     let mut page = [0; 4096];
     page[..61].copy_from_slice(&ROOT);
     for i in 0..4096 {
         page[i] ^= 1;
-        let found = decode_root(rt.alloc(), &page)
-            .err()
-            .map_or(0, |fault| fault.number());
+        let found = number_of(decode_root(rt.alloc(), &page));
         assert_eq!(rt; found, expected(&table, i), "at {i}");
         page[i] ^= 1;
     }
-    Ok(())
+}
+
+/// Asserts how a chunk begins whose frame has one page, and that it is read back.
+fn is_chunk(rt: &(impl Abort + AllocGlobal), payload: &[u8], start: &[u8]) {
+    let alloc = rt.alloc();
+    assert!(rt; payload.len() < 4056);
+    let pages = encode_frame(alloc, FrameKind::Chunk, payload).expect(rt, "a frame");
+    assert_eq!(rt; pages.len(), 1);
+    assert!(rt; is_page(&pages[0], start));
+    let header = decode_frame_header(FrameKind::Chunk, &pages[0], 1).expect(rt, "a header");
+    assert_eq!(rt;
+        (header.payload_len as usize, header.pages()),
+        (payload.len(), 1)
+    );
+    let read = decode_frame(alloc, FrameKind::Chunk, &pages).expect(rt, "bytes");
+    assert_eq!(rt; read.as_slice(), payload);
 }
 
 #[test]
-fn frames(rt: HostRuntime) -> Result<(), Fail> {
-    let alloc = rt.alloc();
-    for (payload, start) in [(b"a".as_slice(), CHUNK.as_slice()), (b"", &EMPTY_CHUNK)] {
-        let pages = encode_frame(alloc, FrameKind::Chunk, payload)?;
-        assert_eq!(rt; pages.len(), 1);
-        assert!(rt; is_page(&pages[0], start));
-        let header = decode_frame_header(FrameKind::Chunk, &pages[0], 1)?;
-        assert_eq!(rt;
-            (header.payload_len as usize, header.pages()),
-            (payload.len(), 1)
-        );
-        let read = decode_frame(alloc, FrameKind::Chunk, &pages)?;
-        assert_eq!(rt; read.as_slice(), payload);
-    }
-    Ok(())
+fn frames(rt: HostRuntime) {
+    is_chunk(&rt, b"a", &CHUNK);
+    is_chunk(&rt, b"", &EMPTY_CHUNK);
 }
 
 #[test]
-fn frames_of_two_pages(rt: HostRuntime) -> Result<(), Fail> {
+fn frames_of_two_pages(rt: HostRuntime) {
     let alloc = rt.alloc();
-    let payload = [7; 4056].to_vec(alloc)?;
+    let payload = vec![in alloc; 7; 4056].expect(&rt, "memory");
     assert_eq!(rt; (frame_pages(4055), frame_pages(4056)), (1, 2));
-    let pages = encode_frame(alloc, FrameKind::Run, &payload)?;
+    let pages = encode_frame(alloc, FrameKind::Run, &payload).expect(&rt, "a frame");
     assert_eq!(rt; pages.len(), 2);
     assert_eq!(rt; (pages[0][4095], pages[1][0], pages[1][1]), (7, 7, 0));
     let header = decode_frame_header(FrameKind::Run, &pages[0], 1);
     assert_eq!(rt; header, Err(FormatFault::BadLength));
-    let read = decode_frame(alloc, FrameKind::Run, &pages)?;
+    let read = decode_frame(alloc, FrameKind::Run, &pages).expect(&rt, "bytes");
     assert_eq!(rt; read.as_slice(), payload.as_slice());
-    Ok(())
 }
 
 #[test]
-fn damaged_frames(rt: HostRuntime) -> Result<(), Fail> {
+fn damaged_frames(rt: HostRuntime) {
     let chunk = [(3, 20), (5, 24), (7, 22), (42, 21), (4096, 23)];
     let run = [(3, 20), (5, 24), (7, 22), (126, 21), (4096, 23)];
     let mut pages = [[0; 4096], [0; 4096]];
@@ -207,44 +223,60 @@ fn damaged_frames(rt: HostRuntime) -> Result<(), Fail> {
     for i in 0..4096 {
         pages[0][i] ^= 1;
         pages[1][i] ^= 1;
-        let found = decode_frame(rt.alloc(), FrameKind::Chunk, &pages)
-            .err()
-            .map_or(0, |fault| fault.number());
+        let found = number_of(decode_frame(rt.alloc(), FrameKind::Chunk, &pages));
         assert_eq!(rt; found, expected(&chunk, i), "chunk at {i}");
-        let found = decode_frame(rt.alloc(), FrameKind::Run, &pages[1..])
-            .err()
-            .map_or(0, |fault| fault.number());
+        let found = number_of(decode_frame(rt.alloc(), FrameKind::Run, &pages[1..]));
         assert_eq!(rt; found, expected(&run, i), "run at {i}");
         pages[0][i] ^= 1;
         pages[1][i] ^= 1;
     }
-    Ok(())
 }
 
-#[test]
-fn runs(rt: HostRuntime) -> Result<(), Fail> {
-    let alloc = rt.alloc();
-    let id = ShardId::parse("00000000-0000-0000-0000-00000000000A")?;
-    assert_eq!(rt;
-        format!(in alloc; "{id}")?.as_str(),
-        "00000000-0000-0000-0000-00000000000a"
-    );
-    let mut entries = Vec::new(alloc);
-    entries.push((id, vec![in alloc; FIRST]?))?;
-    let payload = encode_run(alloc, &Run { entries })?;
-    assert_eq!(rt; payload.as_slice(), &RUN[41..]);
-    let read = decode_run(alloc, &payload)?;
-    assert_eq!(rt; read.entries.len(), 1);
-    for (found, locators) in &read.entries {
+/// The identifier that ends with 0a.
+fn tenth(rt: &impl Abort) -> ShardId {
+    ShardId::parse("00000000-0000-0000-0000-00000000000A").expect(rt, "an identifier")
+}
+
+/// Asserts that a run has one identifier with one locator.
+fn is_one_entry(rt: &impl Abort, run: &Run, id: ShardId) {
+    assert_eq!(rt; run.entries.len(), 1);
+    for (found, locators) in &run.entries {
         assert_eq!(rt; *found, id);
         assert_eq!(rt; locators.as_slice(), [FIRST].as_slice());
     }
-    Ok(())
 }
 
 #[test]
-fn damaged_runs(rt: HostRuntime) -> Result<(), Fail> {
-    // Two entries of one locator each, by the identifiers 0a and 0b.
+fn runs(rt: HostRuntime) {
+    let alloc = rt.alloc();
+    let id = tenth(&rt);
+    let text = format!(in alloc; "{id}").expect(&rt, "memory");
+    assert_eq!(rt; text.as_str(), "00000000-0000-0000-0000-00000000000a");
+    let locators = vec![in alloc; FIRST].expect(&rt, "memory");
+    let mut entries = Vec::with_capacity(alloc, 1).expect(&rt, "memory");
+    entries.push_reserved((id, locators));
+    let payload = encode_run(alloc, &Run { entries }).expect(&rt, "bytes");
+    assert_eq!(rt; payload.as_slice(), &RUN[41..]);
+    let read = decode_run(alloc, &payload).expect(&rt, "a run");
+    is_one_entry(&rt, &read, id);
+}
+
+/// The faults of two entries of one locator each.
+const TWO_ENTRIES: [(usize, u8); 10] = [
+    (4, 22),
+    (20, 25),
+    (21, 23),
+    (29, 0),
+    (85, 23),
+    (100, 0),
+    (101, 25),
+    (102, 23),
+    (110, 0),
+    (166, 23),
+];
+
+/// Two entries of one locator each, by the identifiers 0a and 0b.
+fn two_entries() -> [u8; 166] {
     let mut payload = [0; 166];
     payload[3] = 2;
     payload[19] = 10;
@@ -253,32 +285,23 @@ fn damaged_runs(rt: HostRuntime) -> Result<(), Fail> {
     payload[100] = 11;
     payload[101] = 1;
     payload[105] = 1;
-    let table = [
-        (4, 22),
-        (20, 25),
-        (21, 23),
-        (29, 0),
-        (85, 23),
-        (100, 0),
-        (101, 25),
-        (102, 23),
-        (110, 0),
-        (166, 23),
-    ];
-    for i in 0..166 {
-        payload[i] ^= 1;
-        let found = decode_run(rt.alloc(), &payload)
-            .err()
-            .map_or(0, |fault| fault.number());
-        assert_eq!(rt; found, expected(&table, i), "at {i}");
-        payload[i] ^= 1;
-    }
-    Ok(())
+    payload
 }
 
 #[test]
-fn geometries(rt: HostRuntime) -> Result<(), Fail> {
-    let geometry = Geometry::new(6, 2)?;
+fn damaged_runs(rt: HostRuntime) {
+    let mut payload = two_entries();
+    for i in 0..166 {
+        payload[i] ^= 1;
+        let found = number_of(decode_run(rt.alloc(), &payload));
+        assert_eq!(rt; found, expected(&TWO_ENTRIES, i), "at {i}");
+        payload[i] ^= 1;
+    }
+}
+
+#[test]
+fn geometries(rt: HostRuntime) {
+    let geometry = Geometry::new(6, 2).expect(&rt, "a geometry");
     assert_eq!(rt; (geometry.extents(), geometry.pages()), (6, 2));
     assert_eq!(rt;
         (geometry.device_pages(), geometry.device_page(5, 1)),
@@ -288,10 +311,10 @@ fn geometries(rt: HostRuntime) -> Result<(), Fail> {
         (geometry.payload_bytes(), geometry.named_limit()),
         (8151, 100)
     );
-    assert_eq!(rt; Geometry::new(512, 256)?.named_limit(), 12944);
+    let largest = Geometry::new(512, 256).expect(&rt, "a geometry");
+    assert_eq!(rt; largest.named_limit(), 12944);
     let refused = Geometry::new(3, 2).err().map(|fault| fault.number());
     assert_eq!(rt; refused, Some(7));
-    Ok(())
 }
 
 #[test]

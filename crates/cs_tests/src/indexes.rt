@@ -1,14 +1,13 @@
 //! Worked rows of the index, and each public function once.
 ghost use Rattle.std.specs.Prelude.{◌<◌, ◌^◌};
 
-use crate::stores::{Store, id};
+use crate::stores::{Store, id, let_go};
 use cs_deps::{Element, Graph, Refusal};
 use cs_extent::{Extents, Purpose};
-use cs_frame::{Locator, Superblock, decode_root};
+use cs_frame::{Locator, Root, Superblock, decode_root};
 use cs_index::{Entries, Index};
 use std::alloc::Global;
 use std::process::Abort;
-use std::test::Fail;
 
 /// The place of a chunk.
 fn place(page: u16) -> Locator {
@@ -20,40 +19,60 @@ fn place(page: u16) -> Locator {
 }
 
 /// An empty index of at most so many identifiers.
-fn new_index(alloc: Global, limit: usize) -> Result<Index, Refusal> {
-    Index::load(alloc, limit, Vec::new(alloc))
+fn new_index(rt: &impl Abort, alloc: Global, limit: usize) -> Index {
+    Index::load(alloc, limit, Vec::new(alloc)).expect(rt, "an index")
 }
 
 /// An empty store of 12 extents of 2 pages, which take five runs.
-fn new_store(rt: &impl Abort, alloc: Global) -> Result<Store, Fail> {
+fn new_store(rt: &impl Abort, alloc: Global) -> Store {
     let superblock = Superblock {
         version: 1,
         pages: 2,
-        extents: Vec::from_slice(alloc, &[(0, 0); 12])?,
+        extents: Vec::from_slice(alloc, &[(0, 0); 12]).expect(rt, "memory"),
     };
     assert_eq!(rt; superblock.extents.len(), 12);
-    let extents = Extents::of(alloc, &superblock)?;
-    let graph = Graph::new(alloc, &[1, 1])?;
-    let index = new_index(alloc, 100)?;
-    Ok(Store {
+    let extents = Extents::of(alloc, &superblock).expect(rt, "memory");
+    let graph = Graph::new(alloc, &[1, 1]).expect(rt, "memory");
+    let index = new_index(rt, alloc, 100);
+    Store {
         index,
         extents,
         graph,
-    })
+    }
 }
 
 /// Gives an identifier one locator.
-fn set(alloc: Global, index: &mut Index, last: u8, page: u16) -> Result<(), Refusal> {
-    let mut locators = Vec::with_capacity(alloc, 1)?;
+fn set(
+    rt: &impl Abort,
+    alloc: Global,
+    index: &mut Index,
+    last: u8,
+    page: u16,
+) -> Result<(), Refusal> {
+    let mut locators = Vec::with_capacity(alloc, 1).expect(rt, "memory");
     locators.push_reserved(place(page));
     index.set(id(last), locators)
 }
 
 /// Replaces one locator of an identifier by another.
-fn replace(alloc: Global, index: &mut Index, last: u8, old: u16, new: u16) -> Result<bool, Fail> {
-    let mut locators = Vec::with_capacity(alloc, 1)?;
+fn replace(
+    rt: &impl Abort,
+    alloc: Global,
+    index: &mut Index,
+    last: u8,
+    old: u16,
+    new: u16,
+) -> bool {
+    let mut locators = Vec::with_capacity(alloc, 1).expect(rt, "memory");
     locators.push_reserved(place(new));
-    Ok(index.replace_if(id(last), &[place(old)], locators)?)
+    index
+        .replace_if(id(last), &[place(old)], locators)
+        .expect(rt, "memory")
+}
+
+/// Erases an identifier, and tells whether it was there.
+fn erase(rt: &impl Abort, index: &mut Index, last: u8) -> bool {
+    index.erase(id(last)).expect(rt, "memory")
 }
 
 /// Stages the index, with so many commands.
@@ -105,83 +124,109 @@ fn next(entries: &mut Entries) -> Option<u8> {
     }
 }
 
-#[test]
-fn a_deletion_is_an_entry(rt: HostRuntime) -> Result<(), Fail> {
-    let mut index = new_index(rt.alloc(), 3)?;
-    index.reserve(3)?;
-    assert!(rt; index.is_table_empty());
-    set(rt.alloc(), &mut index, 2, 5)?;
-    set(rt.alloc(), &mut index, 1, 6)?;
-    assert_eq!(rt; index.lookup(id(2)), Some([place(5)].as_slice()));
+/// Asserts where the shard of an identifier is.
+fn lies_on(rt: &impl Abort, index: &Index, last: u8, page: u16) {
+    assert_eq!(rt; index.lookup(id(last)), Some([place(page)].as_slice()));
+}
+
+/// Asserts that the identifiers 1 and 2 are those of an index, in this order.
+fn lists_two(rt: &impl Abort, index: &Index) {
     let mut entries = index.entries();
     assert_eq!(rt; next(&mut entries), Some(1));
     assert_eq!(rt; next(&mut entries), Some(2));
     assert_eq!(rt; next(&mut entries), None);
-    assert!(rt; index.erase(id(2))?);
-    assert!(rt; !index.erase(id(2))?);
-    assert!(rt; !index.erase(id(3))?);
+}
+
+#[test]
+fn a_deletion_is_an_entry(rt: HostRuntime) {
+    let mut index = new_index(&rt, rt.alloc(), 3);
+    assert!(rt; index.reserve(3).is_ok());
+    assert!(rt; index.is_table_empty());
+    assert_eq!(rt; set(&rt, rt.alloc(), &mut index, 2, 5), Ok(()));
+    assert_eq!(rt; set(&rt, rt.alloc(), &mut index, 1, 6), Ok(()));
+    lies_on(&rt, &index, 2, 5);
+    lists_two(&rt, &index);
+    assert!(rt; erase(&rt, &mut index, 2));
+    assert!(rt; !erase(&rt, &mut index, 2));
+    assert!(rt; !erase(&rt, &mut index, 3));
     assert_eq!(rt; count(&index, 2), Some(0));
     assert_eq!(rt; count(&index, 3), None);
     assert_eq!(rt; index.named_count(), 2);
-    Ok(())
 }
 
 #[test]
-fn other_locators_stay(rt: HostRuntime) -> Result<(), Fail> {
-    let mut index = new_index(rt.alloc(), 3)?;
-    set(rt.alloc(), &mut index, 1, 5)?;
-    assert!(rt; !replace(rt.alloc(), &mut index, 1, 4, 6)?);
-    assert_eq!(rt; index.lookup(id(1)), Some([place(5)].as_slice()));
-    assert!(rt; !replace(rt.alloc(), &mut index, 2, 5, 6)?);
-    assert!(rt; replace(rt.alloc(), &mut index, 1, 5, 6)?);
-    assert_eq!(rt; index.lookup(id(1)), Some([place(6)].as_slice()));
-    Ok(())
+fn other_locators_stay(rt: HostRuntime) {
+    let mut index = new_index(&rt, rt.alloc(), 3);
+    assert_eq!(rt; set(&rt, rt.alloc(), &mut index, 1, 5), Ok(()));
+    assert!(rt; !replace(&rt, rt.alloc(), &mut index, 1, 4, 6));
+    lies_on(&rt, &index, 1, 5);
+    assert!(rt; !replace(&rt, rt.alloc(), &mut index, 2, 5, 6));
+    assert!(rt; replace(&rt, rt.alloc(), &mut index, 1, 5, 6));
+    lies_on(&rt, &index, 1, 6);
 }
 
 #[test]
-fn the_limit_is_for_new_identifiers(rt: HostRuntime) -> Result<(), Fail> {
-    let mut index = new_index(rt.alloc(), 2)?;
-    set(rt.alloc(), &mut index, 1, 5)?;
-    set(rt.alloc(), &mut index, 2, 5)?;
-    assert!(rt; index.erase(id(1))?);
-    assert_eq!(rt; set(rt.alloc(), &mut index, 3, 5), Err(Refusal::IndexFull));
-    assert_eq!(rt; set(rt.alloc(), &mut index, 1, 7), Ok(()));
-    Ok(())
+fn the_limit_is_for_new_identifiers(rt: HostRuntime) {
+    let mut index = new_index(&rt, rt.alloc(), 2);
+    assert_eq!(rt; set(&rt, rt.alloc(), &mut index, 1, 5), Ok(()));
+    assert_eq!(rt; set(&rt, rt.alloc(), &mut index, 2, 5), Ok(()));
+    assert!(rt; erase(&rt, &mut index, 1));
+    assert_eq!(rt;
+        set(&rt, rt.alloc(), &mut index, 3, 5),
+        Err(Refusal::IndexFull)
+    );
+    assert_eq!(rt; set(&rt, rt.alloc(), &mut index, 1, 7), Ok(()));
+}
+
+/// Stages an identifier after so many others, each in a run of its own.
+fn stages_one(rt: &impl Abort, alloc: Global, store: &mut Store, last: u8) {
+    assert_eq!(rt; set(rt, alloc, &mut store.index, last, 5), Ok(()));
+    assert!(rt; stage(rt, store, u64::from(last)).is_ok());
+    assert!(rt; store.index.is_table_empty());
+    assert_eq!(rt; store.index.run_count(), usize::from(last));
+}
+
+/// Asserts that the index has one run, of the identifiers 1 to 3.
+fn has_one_run(rt: &impl Abort, index: &Index) {
+    assert_eq!(rt; index.run_count(), 1);
+    assert_eq!(rt; index.named_count(), 3);
+    assert_eq!(rt; count(index, 3), Some(1));
+    assert_eq!(rt; count(index, 4), None);
+}
+
+/// The root that a version is.
+fn root_of(rt: &impl Abort, alloc: Global, graph: &Graph, version: u64) -> Root {
+    let page = graph
+        .bytes_of(Element::Version(1, version))
+        .expect(rt, "a page");
+    decode_root(alloc, page).expect(rt, "a root")
 }
 
 #[test]
-fn five_stages_leave_one_run(rt: HostRuntime) -> Result<(), Fail> {
-    let mut store = new_store(&rt, rt.alloc())?;
-    assert_eq!(rt; stage(&rt, &mut store, 0)?, None);
+fn five_stages_leave_one_run(rt: HostRuntime) {
+    let mut store = new_store(&rt, rt.alloc());
+    assert_eq!(rt; stage(&rt, &mut store, 0), Ok(None));
     for k in 1..5 {
-        set(rt.alloc(), &mut store.index, k, 5)?;
-        stage(&rt, &mut store, u64::from(k))?;
-        assert!(rt; store.index.is_table_empty());
-        assert_eq!(rt; store.index.run_count(), usize::from(k));
+        stages_one(&rt, rt.alloc(), &mut store, k);
     }
-    assert!(rt; store.index.erase(id(4))?);
-    assert_eq!(rt; stage(&rt, &mut store, 5)?, Some(6));
-    assert_eq!(rt; store.index.run_count(), 1);
-    assert_eq!(rt; store.index.named_count(), 3);
-    assert_eq!(rt; count(&store.index, 3), Some(1));
-    assert_eq!(rt; count(&store.index, 4), None);
-    let page = store.graph.bytes_of(Element::Version(1, 6)).ok_or("page")?;
-    let root = decode_root(rt.alloc(), page).ok().ok_or("root")?;
+    assert!(rt; erase(&rt, &mut store.index, 4));
+    assert_eq!(rt; stage(&rt, &mut store, 5), Ok(Some(6)));
+    has_one_run(&rt, &store.index);
+    let root = root_of(&rt, rt.alloc(), &store.graph, 6);
     assert_eq!(rt; root.commands, 5);
     assert_eq!(rt; root.runs.len(), 1);
-    Ok(())
+    let_go(store);
 }
 
 #[test]
-fn deletions_alone_leave_no_run(rt: HostRuntime) -> Result<(), Fail> {
-    let mut store = new_store(&rt, rt.alloc())?;
-    set(rt.alloc(), &mut store.index, 1, 5)?;
-    stage(&rt, &mut store, 1)?;
-    assert!(rt; store.index.erase(id(1))?);
+fn deletions_alone_leave_no_run(rt: HostRuntime) {
+    let mut store = new_store(&rt, rt.alloc());
+    stages_one(&rt, rt.alloc(), &mut store, 1);
+    assert!(rt; erase(&rt, &mut store.index, 1));
     let before = store.graph.last_plain();
-    assert_eq!(rt; merge(&rt, &mut store, 2)?, 3);
+    assert_eq!(rt; merge(&rt, &mut store, 2), Ok(3));
     assert_eq!(rt; store.graph.last_plain(), before);
     assert_eq!(rt; store.index.run_count(), 0);
     assert_eq!(rt; store.index.named_count(), 0);
-    Ok(())
+    let_go(store);
 }

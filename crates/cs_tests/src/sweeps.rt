@@ -8,17 +8,16 @@ ghost use Rattle.cs_model.specs.Index.{live_at};
 ghost use Rattle.cs_model.specs.Lists.{◌∈◌, nth};
 ghost use Rattle.cs_reclaim.specs.Sweeps.{IsSwept};
 
-use crate::stores::{Store, id, new_store};
+use crate::stores::{Store, assert_large, id, let_go, new_store};
 use cs_chunk::put_chunks;
 use cs_deps::{Element, Graph, Refusal};
-use cs_disk::{MemoryDisk, PageDisk};
+use cs_disk::MemoryDisk;
 use cs_extent::Extents;
 use cs_frame::{Locator, ShardId};
 use cs_index::Index;
 use cs_reclaim::{Sweep, a_sweep_keeps_every_shard, a_swept_extent_stays};
 use std::alloc::Global;
 use std::process::Abort;
-use std::test::Fail;
 
 /// Puts a shard of one byte.
 fn put(
@@ -120,7 +119,7 @@ fn move_one(
     let extents = store.extents.extent_count();
     let pages = store.extents.extent_pages();
     assert_inside(rt, &store.index, extents, pages);
-    assert!(rt; 2 + (extents as u64) * (pages as u64) <= disk.pages());
+    assert_large(rt, &store.extents, disk);
     sweep.move_one(
         alloc,
         &mut store.index,
@@ -143,15 +142,12 @@ fn retire(rt: &impl Abort, store: &mut Store, sweep: Sweep) -> Result<u64, (Refu
 }
 
 /// Gives up a sweep of something that is live.
-fn fail_to_retire(rt: &impl Abort, store: &mut Store, sweep: Sweep) -> Result<(), Fail> {
-    match retire(rt, store, sweep) {
-        Ok(_) => Err(Fail::from("retired")),
-        Err((refusal, sweep)) => {
-            assert_eq!(rt; refusal, Refusal::StillLive);
-            abandon(rt, store, sweep);
-            Ok(())
-        }
-    }
+fn fail_to_retire(rt: &impl Abort, store: &mut Store, sweep: Sweep) {
+    let Err((refusal, sweep)) = retire(rt, store, sweep) else {
+        panic!(rt; "retired")
+    };
+    assert_eq!(rt; refusal, Refusal::StillLive);
+    abandon(rt, store, sweep);
 }
 
 /// What two puts, two moves and a retired extent stage, and the page of it that is kept: all superblock versions wait at one
@@ -171,49 +167,81 @@ const STAGED: [(Element, Option<u64>); 11] = [
 ];
 
 /// Asserts that this waits and nothing else.
-fn assert_staged(rt: &impl Abort, graph: &Graph) -> Result<(), Fail> {
-    let waiting = graph.waiting()?;
+fn assert_staged(rt: &impl Abort, graph: &Graph) {
+    let waiting = graph.waiting().expect(rt, "memory");
     assert_eq!(rt; waiting.len(), STAGED.len());
     for k in 0..STAGED.len() {
         let (element, page) = STAGED[k];
         assert_eq!(rt; waiting[k], element);
         assert_eq!(rt; graph.page_of(element), page);
     }
-    Ok(())
+}
+
+/// Asserts which chunk of which shard is moved, or that none is live.
+fn moves(
+    rt: &impl Abort,
+    alloc: Global,
+    store: &mut Store,
+    disk: &mut MemoryDisk,
+    sweep: &Sweep,
+    wanted: Option<(ShardId, usize)>,
+) {
+    let moved = move_one(rt, alloc, store, disk, sweep);
+    assert_eq!(rt; moved, Ok(wanted));
+}
+
+/// Two shards, which fill the first extent.
+fn put_two(rt: &(impl Abort + AllocGlobal), store: &mut Store) {
+    assert_eq!(rt; put(rt, rt.alloc(), store, 10, 0x61), Ok(()));
+    assert_eq!(rt; put(rt, rt.alloc(), store, 11, 0x62), Ok(()));
 }
 
 #[test]
-fn what_lives_is_moved_before_an_extent_is_retired(rt: HostRuntime) -> Result<(), Fail> {
-    let mut store = new_store(&rt, rt.alloc())?;
-    let mut disk = MemoryDisk::new(rt.alloc(), 14)?;
-    put(&rt, rt.alloc(), &mut store, 10, 0x61)?;
-    put(&rt, rt.alloc(), &mut store, 11, 0x62)?;
-    let sweep = begin(&mut store, 0)?;
-    let moved = move_one(&rt, rt.alloc(), &mut store, &mut disk, &sweep)?;
-    assert_eq!(rt; moved, Some((id(10), 0)));
-    fail_to_retire(&rt, &mut store, sweep)?;
-    let sweep = begin(&mut store, 0)?;
-    let moved = move_one(&rt, rt.alloc(), &mut store, &mut disk, &sweep)?;
-    assert_eq!(rt; moved, Some((id(11), 0)));
-    let moved = move_one(&rt, rt.alloc(), &mut store, &mut disk, &sweep)?;
-    assert_eq!(rt; moved, None);
+fn what_lives_is_moved_before_an_extent_is_retired(rt: HostRuntime) {
+    let mut store = new_store(&rt, rt.alloc());
+    let mut disk = MemoryDisk::new(rt.alloc(), 14).expect(&rt, "a disk");
+    put_two(&rt, &mut store);
+    let sweep = begin(&mut store, 0).expect(&rt, "a sweep");
+    moves(
+        &rt,
+        rt.alloc(),
+        &mut store,
+        &mut disk,
+        &sweep,
+        Some((id(10), 0)),
+    );
+    fail_to_retire(&rt, &mut store, sweep);
+    let sweep = begin(&mut store, 0).expect(&rt, "a sweep");
+    moves(
+        &rt,
+        rt.alloc(),
+        &mut store,
+        &mut disk,
+        &sweep,
+        Some((id(11), 0)),
+    );
+    moves(&rt, rt.alloc(), &mut store, &mut disk, &sweep, None);
     assert_eq!(rt; retire(&rt, &mut store, sweep).ok(), Some(2));
-    assert_staged(&rt, &store.graph)?;
+    assert_staged(&rt, &store.graph);
     a_swept_extent_stays();
     a_sweep_keeps_every_shard();
-    Ok(())
+    let_go(store);
+}
+
+/// Asserts that an extent isn't swept.
+fn refuses_to_begin(rt: &impl Abort, store: &mut Store, extent: usize) {
+    assert_eq!(rt; begin(store, extent).err(), Some(Refusal::NotSweepable));
 }
 
 #[test]
-fn what_is_open_or_empty_or_swept_is_not_sweepable(rt: HostRuntime) -> Result<(), Fail> {
-    let mut store = new_store(&rt, rt.alloc())?;
-    put(&rt, rt.alloc(), &mut store, 10, 0x61)?;
-    assert_eq!(rt; begin(&mut store, 0).err(), Some(Refusal::NotSweepable));
-    assert_eq!(rt; begin(&mut store, 1).err(), Some(Refusal::NotSweepable));
-    assert_eq!(rt; begin(&mut store, 6).err(), Some(Refusal::NotSweepable));
-    put(&rt, rt.alloc(), &mut store, 11, 0x62)?;
-    begin(&mut store, 0)?;
-    let refused = begin(&mut store, 0).err();
-    assert_eq!(rt; refused, Some(Refusal::NotSweepable));
-    Ok(())
+fn what_is_open_or_empty_or_swept_is_not_sweepable(rt: HostRuntime) {
+    let mut store = new_store(&rt, rt.alloc());
+    assert_eq!(rt; put(&rt, rt.alloc(), &mut store, 10, 0x61), Ok(()));
+    refuses_to_begin(&rt, &mut store, 0);
+    refuses_to_begin(&rt, &mut store, 1);
+    refuses_to_begin(&rt, &mut store, 6);
+    assert_eq!(rt; put(&rt, rt.alloc(), &mut store, 11, 0x62), Ok(()));
+    assert!(rt; begin(&mut store, 0).is_ok());
+    refuses_to_begin(&rt, &mut store, 0);
+    let_go(store);
 }
