@@ -1,23 +1,24 @@
 //! What no contract says: that calls succeed with ample memory, and what they answer then.
 ghost use Rattle.std.specs.Prelude.{◌≡◌, [], IfOk};
-ghost use Rattle.cs_node.specs.Starts.{start_of};
 
 mod failures;
 mod losses;
 mod sweeps;
 mod threads;
+mod together;
+mod trials;
 mod workers;
 
+use self::trials::{Calls, Closes, Lends, Trial, list_of, miss, try_on};
 use cs_core::{Bytes, Core, Limits};
-use cs_deps::Refusal;
 use cs_disk::{MemoryDisk, PageDisk};
 use cs_frame::{Geometry, ShardId};
 use cs_node::*;
 use std::alloc::Global;
-use std::marker::Brand;
 use std::process::Abort;
 use std::sync::Wait;
 use std::test::*;
+use std::thread::Threads;
 
 /// A core that did nothing yet, over a new store of six extents of two pages.
 fn new_core(alloc: Global, history: usize) -> Result<Core<MemoryDisk>, Fail>
@@ -36,12 +37,6 @@ fn id(last: u8) -> ShardId {
     let mut bytes = [0; 16];
     bytes[15] = last;
     ShardId(bytes)
-}
-
-fn one_byte(alloc: Global, byte: u8) -> Result<Bytes, Fail> {
-    let mut bytes = Vec::new(alloc);
-    bytes.push(byte)?;
-    Ok(Bytes::new(alloc, bytes)?)
 }
 
 /// One byte, None where there is no memory.
@@ -63,235 +58,241 @@ fn put<D: PageDisk, K: Naming, R: Wait>(
     node.put(rt, purse, id(last), bytes).ok()
 }
 
+/// Puts two shards, and loses their tickets.
+fn put_two<D: PageDisk, K: Naming, R: Wait + Abort>(
+    rt: &R,
+    alloc: Global,
+    node: &Node<D, K>,
+    purse: &mut Purse<K>,
+) {
+    assert!(rt; put(rt, alloc, node, purse, 10).is_some());
+    assert!(rt; put(rt, alloc, node, purse, 11).is_some());
+}
+
+/// Puts the first shard, whose ticket a poll gives back.
+fn put_first<D: PageDisk, K: Naming, R: Wait + Abort>(
+    rt: &R,
+    alloc: Global,
+    node: &Node<D, K>,
+    purse: &mut Purse<K>,
+) -> Ticket<K> {
+    let ticket = put(rt, alloc, node, purse, 10).expect(rt, "a put");
+    assert_eq!(rt; ticket.number(), 1);
+    let Polled::Back(ticket, 0) = purse.poll(node, ticket) else {
+        panic!(rt; "a poll before")
+    };
+    ticket
+}
+
+/// A ticket that a settle gives back, since no command is persistent.
+fn settle_in_vain<D: PageDisk, K: Naming, R: Wait + Abort>(
+    rt: &R,
+    node: &Node<D, K>,
+    purse: &mut Purse<K>,
+    ticket: Ticket<K>,
+) -> Ticket<K> {
+    let Settled::Back(ticket, Why::NotYet(0)) = node.settle(rt, purse, ticket) else {
+        panic!(rt; "a settle before")
+    };
+    ticket
+}
+
+/// Syncs by the pilot, which is given once, and asserts how many commands are persistent then.
+fn sync<D: PageDisk, K: Naming, R: Wait + Abort>(rt: &R, node: &Node<D, K>, persistent: u64) {
+    let mut pilot = node.pilot(rt).expect(rt, "the pilot");
+    assert!(rt; node.pilot(rt).is_none());
+    assert_eq!(rt; node.sync(rt, &mut pilot), Ok(persistent));
+}
+
+/// Keeps the ack of the first command, and asserts the places of the purse's calls.
+fn keep_first<K: Naming, R: Abort>(
+    rt: &R,
+    alloc: Global,
+    purse: &mut Purse<K>,
+    ack: Ack<K>,
+    places: &[u64],
+) {
+    assert_eq!(rt; ack.number(), 1);
+    let found = purse.places(alloc).expect(rt, "places");
+    assert_eq!(rt; found.as_slice(), places);
+    assert!(rt; purse.keep_ack(ack).is_ok());
+}
+
+/// Settles before a sync and after.
+#[derive(Drop)]
+struct Settles;
+
+impl Calls for Settles {
+    fn call<D: PageDisk + Send, K: Naming + Send + Sync, R: Threads + Wait + Abort + Sync>(
+        self,
+        rt: &R,
+        alloc: Global,
+        node: &Node<D, K>,
+        purse: &mut Purse<K>,
+    ) {
+        let ticket = put_first(rt, alloc, node, purse);
+        let ticket = settle_in_vain(rt, node, purse, ticket);
+        sync(rt, node, 1);
+        let Settled::Done(ack) = node.settle(rt, purse, ticket) else {
+            panic!(rt; "a settle after")
+        };
+        keep_first(rt, alloc, purse, ack, &[0, 1, 13]);
+    }
+}
+
 #[test]
 fn a_put_is_settled_and_polled(rt: HostRuntime) -> Result<(), Fail> {
-    let board = Board::new(rt.alloc())?;
     let core = new_core(rt.alloc(), 64)?;
-    settles_and_polls::<Brand, _>(&rt, rt.alloc(), board, core);
+    let trial = Closes {
+        calls: Settles,
+        accepted: 1,
+        acknowledged: 1,
+    };
+    try_on(&rt, rt.alloc(), core, trial);
     Ok(())
 }
 
-fn settles_and_polls<K: Naming, R: Wait + Abort>(
-    rt: &R,
-    alloc: Global,
-    board: Board,
-    core: Core<MemoryDisk>,
-)
-    requires named { (board ≡ K.table) × (start_of core ≡ K.start) }
-    requires new { (core.history ≡ []) × (core.store.accepted ≡ 0) × (core.store.frontier ≡ 0) }
-{
-    let node = Node::<MemoryDisk, K>::new(board, core);
-    let mut purse = node.purse(rt, alloc).expect(rt, "a purse");
-    let bytes = bytes_of(alloc, 6).expect(rt, "bytes");
-    let Ok(ticket) = node.put(rt, &mut purse, id(10), bytes) else {
-        panic!(rt; "a put")
-    };
-    assert_eq!(rt; ticket.number(), 1);
-    let Polled::Back(ticket, 0) = purse.poll(&node, ticket) else {
-        panic!(rt; "a poll before")
-    };
-    let Settled::Back(ticket, Why::NotYet(0)) = node.settle(rt, &mut purse, ticket) else {
-        panic!(rt; "a settle before")
-    };
-    let mut pilot = node.pilot(rt).expect(rt, "the pilot");
-    assert!(rt; node.pilot(rt).is_none());
-    assert!(rt; matches!(node.sync(rt, &mut pilot), Ok(1)));
-    let Settled::Done(ack) = node.settle(rt, &mut purse, ticket) else {
-        panic!(rt; "a settle after")
-    };
-    assert_eq!(rt; ack.number(), 1);
-    let places = purse.places(alloc).expect(rt, "places");
-    assert_eq!(rt; places.as_slice(), [0, 1, 13].as_slice());
-    assert!(rt; purse.keep_ack(ack).is_ok());
-    let mut purses = Vec::new(alloc);
-    assert!(rt; purses.push(purse).is_ok());
-    let Ok(closed) = node.rest().close(alloc, purses) else {
-        panic!(rt; "a close")
-    };
-    assert_eq!(rt; closed.accepted, 1);
-    assert_eq!(rt; closed.acknowledged, 1);
+/// Polls before a sync and after.
+#[derive(Drop)]
+struct Polls;
+
+impl Calls for Polls {
+    fn call<D: PageDisk + Send, K: Naming + Send + Sync, R: Threads + Wait + Abort + Sync>(
+        self,
+        rt: &R,
+        alloc: Global,
+        node: &Node<D, K>,
+        purse: &mut Purse<K>,
+    ) {
+        let ticket = put_first(rt, alloc, node, purse);
+        sync(rt, node, 1);
+        let Polled::Done(ack) = purse.poll(node, ticket) else {
+            panic!(rt; "a poll after")
+        };
+        keep_first(rt, alloc, purse, ack, &[0]);
+    }
 }
 
 #[test]
 fn a_poll_before_and_after_a_sync(rt: HostRuntime) -> Result<(), Fail> {
-    let board = Board::new(rt.alloc())?;
     let core = new_core(rt.alloc(), 64)?;
-    polls_alone::<Brand, _>(&rt, rt.alloc(), board, core);
+    let trial = Closes {
+        calls: Polls,
+        accepted: 1,
+        acknowledged: 1,
+    };
+    try_on(&rt, rt.alloc(), core, trial);
     Ok(())
 }
 
-fn polls_alone<K: Naming, R: Wait + Abort>(
-    rt: &R,
-    alloc: Global,
-    board: Board,
-    core: Core<MemoryDisk>,
-)
-    requires named { (board ≡ K.table) × (start_of core ≡ K.start) }
-    requires new { (core.history ≡ []) × (core.store.accepted ≡ 0) × (core.store.frontier ≡ 0) }
-{
-    let node = Node::<MemoryDisk, K>::new(board, core);
-    let mut purse = node.purse(rt, alloc).expect(rt, "a purse");
-    let bytes = bytes_of(alloc, 6).expect(rt, "bytes");
-    let Ok(ticket) = node.put(rt, &mut purse, id(10), bytes) else {
-        panic!(rt; "a put")
-    };
-    assert_eq!(rt; ticket.number(), 1);
-    let Polled::Back(ticket, 0) = purse.poll(&node, ticket) else {
-        panic!(rt; "a poll before")
-    };
-    let mut pilot = node.pilot(rt).expect(rt, "the pilot");
-    assert!(rt; matches!(node.sync(rt, &mut pilot), Ok(1)));
-    let Polled::Done(ack) = purse.poll(&node, ticket) else {
-        panic!(rt; "a poll after")
-    };
-    assert_eq!(rt; ack.number(), 1);
-    let places = purse.places(alloc).expect(rt, "places");
-    assert_eq!(rt; places.as_slice(), [0].as_slice());
-    assert!(rt; purse.keep_ack(ack).is_ok());
-    let mut purses = Vec::new(alloc);
-    assert!(rt; purses.push(purse).is_ok());
-    let Ok(closed) = node.rest().close(alloc, purses) else {
-        panic!(rt; "a close")
-    };
-    assert_eq!(rt; closed.accepted, 1);
-    assert_eq!(rt; closed.acknowledged, 1);
+/// Loses a ticket, is not closed, and goes on.
+#[derive(Drop)]
+struct LosesOne;
+
+impl Trial for LosesOne {
+    fn run<D: PageDisk + Send + Drop, K: Naming + Send + Sync, R: Threads + Wait + Abort + Sync>(
+        self,
+        rt: &R,
+        alloc: Global,
+        node: Node<D, K>,
+    ) {
+        let mut purse = node.purse(rt, alloc).expect(rt, "a purse");
+        assert!(rt; put(rt, alloc, &node, &mut purse, 10).is_some());
+        let purses = list_of(rt, alloc, purse);
+        let NotClosed {
+            why: _,
+            rest,
+            mut purses,
+        } = miss(rt, alloc, node.rest(), purses, 1);
+        let node = rest.resume();
+        let mut purse = purses.pop().expect(rt, "the purse");
+        let ticket = put(rt, alloc, &node, &mut purse, 11).expect(rt, "a put");
+        assert_eq!(rt; ticket.number(), 2);
+    }
 }
 
 #[test]
 fn a_lost_ticket_is_missing(rt: HostRuntime) -> Result<(), Fail> {
-    let board = Board::new(rt.alloc())?;
     let core = new_core(rt.alloc(), 64)?;
-    loses_a_ticket::<Brand, _>(&rt, rt.alloc(), board, core);
+    try_on(&rt, rt.alloc(), core, LosesOne);
     Ok(())
 }
 
-fn loses_a_ticket<K: Naming, R: Wait + Abort>(
-    rt: &R,
-    alloc: Global,
-    board: Board,
-    core: Core<MemoryDisk>,
-)
-    requires named { (board ≡ K.table) × (start_of core ≡ K.start) }
-    requires new { (core.history ≡ []) × (core.store.accepted ≡ 0) × (core.store.frontier ≡ 0) }
-{
-    let node = Node::<MemoryDisk, K>::new(board, core);
-    let mut purse = node.purse(rt, alloc).expect(rt, "a purse");
-    let bytes = bytes_of(alloc, 6).expect(rt, "bytes");
-    assert!(rt; node.put(rt, &mut purse, id(10), bytes).is_ok());
-    let mut purses = Vec::new(alloc);
-    assert!(rt; purses.push(purse).is_ok());
-    let Err(not) = node.rest().close(alloc, purses) else {
-        panic!(rt; "one is missing")
-    };
-    assert!(rt; matches!(not.why, Unclosed::Missing(1)));
-    let node = not.rest.resume();
-    let mut purses = not.purses;
-    let mut purse = purses.pop().expect(rt, "the purse");
-    let bytes = bytes_of(alloc, 7).expect(rt, "bytes");
-    let Ok(ticket) = node.put(rt, &mut purse, id(11), bytes) else {
-        panic!(rt; "a put")
-    };
-    assert_eq!(rt; ticket.number(), 2);
+/// Fills a history of two events.
+#[derive(Drop)]
+struct FillsTwo;
+
+impl Calls for FillsTwo {
+    fn call<D: PageDisk + Send, K: Naming + Send + Sync, R: Threads + Wait + Abort + Sync>(
+        self,
+        rt: &R,
+        alloc: Global,
+        node: &Node<D, K>,
+        purse: &mut Purse<K>,
+    ) {
+        let ticket = put(rt, alloc, node, purse, 10).expect(rt, "a put");
+        let ticket = settle_in_vain(rt, node, purse, ticket);
+        let Settled::Back(_, Why::HistoryFull) = node.settle(rt, purse, ticket) else {
+            panic!(rt; "a full history")
+        };
+    }
 }
 
 #[test]
 fn a_full_history_answers_nothing(rt: HostRuntime) -> Result<(), Fail> {
-    let board = Board::new(rt.alloc())?;
     let core = new_core(rt.alloc(), 2)?;
-    fills_the_history::<Brand, _>(&rt, rt.alloc(), board, core)
+    try_on(&rt, rt.alloc(), core, Lends { calls: FillsTwo });
+    Ok(())
 }
 
-fn fills_the_history<K: Naming, R: Wait + Abort>(
+/// Gets and deletes, before a put and after.
+#[derive(Drop)]
+struct GetsAndDeletes;
+
+impl Calls for GetsAndDeletes {
+    fn call<D: PageDisk + Send, K: Naming + Send + Sync, R: Threads + Wait + Abort + Sync>(
+        self,
+        rt: &R,
+        alloc: Global,
+        node: &Node<D, K>,
+        purse: &mut Purse<K>,
+    ) {
+        assert!(rt; matches!(node.delete(rt, purse, id(10)), Ok(None)));
+        assert!(rt; matches!(node.get(rt, purse, id(10)), Ok(None)));
+        let first = put(rt, alloc, node, purse, 10).expect(rt, "a put");
+        assert_eq!(rt; first.number(), 1);
+        is_found(rt, node, purse, 10, &[10]);
+        let Ok(Some(ticket)) = node.delete(rt, purse, id(10)) else {
+            panic!(rt; "a delete")
+        };
+        assert_eq!(rt; ticket.number(), 2);
+    }
+}
+
+/// Asserts the content of the shard under the identifier that ends with this byte.
+fn is_found<D: PageDisk, K: Naming, R: Wait + Abort>(
     rt: &R,
-    alloc: Global,
-    board: Board,
-    core: Core<MemoryDisk>,
-) -> Result<(), Fail>
-    requires named { (board ≡ K.table) × (start_of core ≡ K.start) }
-    requires new { (core.history ≡ []) × (core.store.accepted ≡ 0) × (core.store.frontier ≡ 0) }
-{
-    let node = Node::<MemoryDisk, K>::new(board, core);
-    let mut purse = node.purse(rt, alloc).expect(rt, "a purse");
-    let bytes = one_byte(alloc, 6)?;
-    let Ok(ticket) = node.put(rt, &mut purse, id(10), bytes) else {
-        panic!(rt; "a put")
+    node: &Node<D, K>,
+    purse: &mut Purse<K>,
+    last: u8,
+    content: &[u8],
+) {
+    let Ok(Some(found)) = node.get(rt, purse, id(last)) else {
+        panic!(rt; "a get")
     };
-    let Settled::Back(ticket, Why::NotYet(0)) = node.settle(rt, &mut purse, ticket) else {
-        panic!(rt; "a settle")
-    };
-    let Settled::Back(_, Why::HistoryFull) = node.settle(rt, &mut purse, ticket) else {
-        panic!(rt; "a full history")
-    };
-    Ok(())
+    assert_eq!(rt; found.as_slice(), content);
 }
 
 #[test]
 fn gets_and_deletes_answer(rt: HostRuntime) -> Result<(), Fail> {
-    let board = Board::new(rt.alloc())?;
     let core = new_core(rt.alloc(), 64)?;
-    gets_and_deletes::<Brand, _>(&rt, rt.alloc(), board, core)
-}
-
-fn gets_and_deletes<K: Naming, R: Wait + Abort>(
-    rt: &R,
-    alloc: Global,
-    board: Board,
-    core: Core<MemoryDisk>,
-) -> Result<(), Fail>
-    requires named { (board ≡ K.table) × (start_of core ≡ K.start) }
-    requires new { (core.history ≡ []) × (core.store.accepted ≡ 0) × (core.store.frontier ≡ 0) }
-{
-    let node = Node::<MemoryDisk, K>::new(board, core);
-    let mut purse = node.purse(rt, alloc).expect(rt, "a purse");
-    assert!(rt; matches!(node.delete(rt, &mut purse, id(10)), Ok(None)));
-    assert!(rt; matches!(node.get(rt, &mut purse, id(10)), Ok(None)));
-    let bytes = one_byte(alloc, 6)?;
-    let Ok(first) = node.put(rt, &mut purse, id(10), bytes) else {
-        panic!(rt; "a put")
-    };
-    assert_eq!(rt; first.number(), 1);
-    let Ok(Some(found)) = node.get(rt, &mut purse, id(10)) else {
-        panic!(rt; "a get")
-    };
-    assert_eq!(rt; found.as_slice(), [6].as_slice());
-    let Ok(Some(ticket)) = node.delete(rt, &mut purse, id(10)) else {
-        panic!(rt; "a delete")
-    };
-    assert_eq!(rt; ticket.number(), 2);
-    Ok(())
-}
-
-#[test]
-fn workers_take_turns(rt: HostRuntime) -> Result<(), Fail> {
-    let board = Board::new(rt.alloc())?;
-    let core = new_core(rt.alloc(), 64)?;
-    turns::<Brand, _>(&rt, rt.alloc(), board, core)
-}
-
-fn turns<K: Naming, R: Wait + Abort>(
-    rt: &R,
-    alloc: Global,
-    board: Board,
-    core: Core<MemoryDisk>,
-) -> Result<(), Fail>
-    requires named { (board ≡ K.table) × (start_of core ≡ K.start) }
-    requires new { (core.history ≡ []) × (core.store.accepted ≡ 0) × (core.store.frontier ≡ 0) }
-{
-    let node = Node::<MemoryDisk, K>::new(board, core);
-    let mut purse = node.purse(rt, alloc).expect(rt, "a purse");
-    let first = one_byte(alloc, 6)?;
-    assert!(rt; node.put(rt, &mut purse, id(10), first).is_ok());
-    let second = one_byte(alloc, 7)?;
-    assert!(rt; node.put(rt, &mut purse, id(11), second).is_ok());
-    let mut reclaimer = Reclaimer::new(1);
-    assert_eq!(rt; reclaimer.turn(rt, &node, &Open), Ok(Step::BeginSweep));
-    assert_eq!(rt; reclaimer.turn(rt, &node, &Open), Ok(Step::MoveOne));
-    assert_eq!(rt; reclaimer.turn(rt, &node, &Open), Ok(Step::MoveOne));
-    assert_eq!(rt; reclaimer.turn(rt, &node, &Open), Ok(Step::MoveOne));
-    assert_eq!(rt; reclaimer.turn(rt, &node, &Open), Ok(Step::Retire));
-    assert_eq!(rt; reclaimer.turn(rt, &node, &Open), Ok(Step::Idle));
-    let mut pilot = node.pilot(rt).expect(rt, "the pilot");
-    assert_eq!(rt; pilot.turn(rt, &node, &Open), Ok(Step::Begin));
-    assert_eq!(rt; pilot.turn(rt, &node, &Open), Ok(Step::Issue));
+    try_on(
+        &rt,
+        rt.alloc(),
+        core,
+        Lends {
+            calls: GetsAndDeletes,
+        },
+    );
     Ok(())
 }

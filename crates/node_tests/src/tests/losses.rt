@@ -1,13 +1,10 @@
 //! Tickets that are lost.
-ghost use Rattle.std.specs.Prelude.{◌≡◌, [], IfOk};
-ghost use Rattle.cs_node.specs.Starts.{start_of};
-
+use super::together::{Together, run};
+use super::trials::list_of;
 use super::{new_core, put};
-use cs_core::Core;
-use cs_disk::MemoryDisk;
+use cs_disk::PageDisk;
 use cs_node::*;
 use std::alloc::Global;
-use std::marker::Brand;
 use std::process::Abort;
 use std::sync::Wait;
 use std::test::*;
@@ -22,10 +19,10 @@ struct Puts<K: Naming> {
     alloc: Global,
 }
 
-impl<K: Naming + Send + Sync> Job<Node<MemoryDisk, K>> for Puts<K> {
+impl<D: PageDisk + Send, K: Naming + Send + Sync> Job<Node<D, K>> for Puts<K> {
     type Out = Purse<K>;
 
-    fn run<R: Wait>(self, rt: &R, node: &Node<MemoryDisk, K>) -> Purse<K> {
+    fn run<R: Wait>(self, rt: &R, node: &Node<D, K>) -> Purse<K> {
         let Puts {
             mut purse,
             first,
@@ -43,23 +40,12 @@ impl<K: Naming + Send + Sync> Job<Node<MemoryDisk, K>> for Puts<K> {
     }
 }
 
-#[test]
-fn all_tickets_of_a_thread_are_missing(rt: HostRuntime) -> Result<(), Fail> {
-    let board = Board::new(rt.alloc())?;
-    let core = new_core(rt.alloc(), 64)?;
-    drops_all_of_one::<Brand, _>(&rt, rt.alloc(), board, core)
-}
-
-fn drops_all_of_one<K: Naming + Send + Sync, R: Threads + Wait + Abort + Sync>(
+/// The purses of the thread that keeps its tickets and of the one that drops them.
+pub fn put_beside<D: PageDisk + Send, K: Naming + Send + Sync, R: Threads + Wait + Abort + Sync>(
     rt: &R,
     alloc: Global,
-    board: Board,
-    core: Core<MemoryDisk>,
-) -> Result<(), Fail>
-    requires named { (board ≡ K.table) × (start_of core ≡ K.start) }
-    requires new { (core.history ≡ []) × (core.store.accepted ≡ 0) × (core.store.frontier ≡ 0) }
-{
-    let node = Node::<MemoryDisk, K>::new(board, core);
+    node: &Node<D, K>,
+) -> Vec<Purse<K>> {
     let keeps = Puts {
         purse: node.purse(rt, alloc).expect(rt, "a purse"),
         first: 16,
@@ -73,12 +59,14 @@ fn drops_all_of_one<K: Naming + Send + Sync, R: Threads + Wait + Abort + Sync>(
         alloc,
     };
     let (kept, dropped) = node.beside(rt, keeps, drops);
-    let mut purses = Vec::new(alloc);
-    purses.push(kept)?;
-    purses.push(dropped)?;
-    let Err(not) = node.rest().close(alloc, purses) else {
-        panic!(rt; "three are missing")
-    };
-    assert!(rt; matches!(not.why, Unclosed::Missing(3)));
+    let mut purses = list_of(rt, alloc, kept);
+    assert!(rt; purses.push(dropped).is_ok());
+    purses
+}
+
+#[test]
+fn all_tickets_of_a_thread_are_missing(rt: HostRuntime) -> Result<(), Fail> {
+    let end = run(&rt, rt.alloc(), new_core(rt.alloc(), 64)?, Together::Losses);
+    assert!(rt; matches!(end, Err(Unclosed::Missing(3))));
     Ok(())
 }

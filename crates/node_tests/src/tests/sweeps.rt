@@ -1,23 +1,21 @@
 //! Sweeps by one reclaimer, turn by turn and to their end.
-ghost use Rattle.std.specs.Prelude.{◌≡◌, [], IfOk};
-ghost use Rattle.cs_node.specs.Starts.{start_of};
-
+use super::trials::{Calls, Lends, Trial, try_on};
 use super::workers::Counts;
-use super::{new_core, put};
-use cs_core::{Core, Event};
-use cs_disk::MemoryDisk;
+use super::{new_core, put_two};
+use cs_core::Event;
+use cs_disk::PageDisk;
 use cs_node::*;
 use std::alloc::Global;
-use std::marker::Brand;
 use std::process::Abort;
 use std::sync::Wait;
 use std::sync::atomic::Ordering;
 use std::test::*;
+use std::thread::Threads;
 
 /// One whole sweep of an extent with two shards.
-fn sweeps_two_shards<K: Naming, R: Wait + Abort>(
+fn sweep_two<D: PageDisk, K: Naming, R: Wait + Abort>(
     rt: &R,
-    node: &Node<MemoryDisk, K>,
+    node: &Node<D, K>,
     reclaimer: &mut Reclaimer,
 ) {
     assert_eq!(rt; reclaimer.turn(rt, node, &Open), Ok(Step::BeginSweep));
@@ -27,68 +25,113 @@ fn sweeps_two_shards<K: Naming, R: Wait + Abort>(
     assert_eq!(rt; reclaimer.turn(rt, node, &Open), Ok(Step::Retire));
 }
 
+/// Puts two shards, makes so many sweeps, and then has nothing to do.
+fn sweep<D: PageDisk, K: Naming, R: Wait + Abort>(
+    rt: &R,
+    alloc: Global,
+    node: &Node<D, K>,
+    purse: &mut Purse<K>,
+    sweeps: u32,
+) {
+    put_two(rt, alloc, node, purse);
+    let mut reclaimer = Reclaimer::new(sweeps);
+    for _ in 0..sweeps {
+        sweep_two(rt, node, &mut reclaimer);
+    }
+    assert_eq!(rt; reclaimer.turn(rt, node, &Open), Ok(Step::Idle));
+}
+
+/// A sweep, and the two first turns of the pilot.
+#[derive(Drop)]
+struct TakesTurns;
+
+impl Calls for TakesTurns {
+    fn call<D: PageDisk + Send, K: Naming + Send + Sync, R: Threads + Wait + Abort + Sync>(
+        self,
+        rt: &R,
+        alloc: Global,
+        node: &Node<D, K>,
+        purse: &mut Purse<K>,
+    ) {
+        sweep(rt, alloc, node, purse, 1);
+        let mut pilot = node.pilot(rt).expect(rt, "the pilot");
+        assert_eq!(rt; pilot.turn(rt, node, &Open), Ok(Step::Begin));
+        assert_eq!(rt; pilot.turn(rt, node, &Open), Ok(Step::Issue));
+    }
+}
+
+#[test]
+fn workers_take_turns(rt: HostRuntime) -> Result<(), Fail> {
+    let core = new_core(rt.alloc(), 64)?;
+    try_on(&rt, rt.alloc(), core, Lends { calls: TakesTurns });
+    Ok(())
+}
+
 /// Whether the event at this place begins a sweep of this extent.
-fn began<K: Naming>(rest: &Rest<MemoryDisk, K>, place: usize, extent: usize) -> bool {
+fn began<D: PageDisk, K: Naming>(rest: &Rest<D, K>, place: usize, extent: usize) -> bool {
     match rest.core().history().get(place) {
         Some(entry) => matches!(&entry.0, Event::BeginSweep(swept) if *swept == extent),
         None => false,
     }
 }
 
-#[test]
-fn a_second_sweep_is_of_the_next_extent(rt: HostRuntime) -> Result<(), Fail> {
-    let board = Board::new(rt.alloc())?;
-    let core = new_core(rt.alloc(), 64)?;
-    sweeps_twice::<Brand, _>(&rt, rt.alloc(), board, core)
+/// Sweeps twice, and looks at what was swept.
+#[derive(Drop)]
+struct SweepsTwice;
+
+impl Trial for SweepsTwice {
+    fn run<D: PageDisk + Send + Drop, K: Naming + Send + Sync, R: Threads + Wait + Abort + Sync>(
+        self,
+        rt: &R,
+        alloc: Global,
+        node: Node<D, K>,
+    ) {
+        let mut purse = node.purse(rt, alloc).expect(rt, "a purse");
+        sweep(rt, alloc, &node, &mut purse, 2);
+        let rest = node.rest();
+        assert!(rt; began(&rest, 2, 0));
+        assert!(rt; began(&rest, 7, 1));
+    }
 }
 
-fn sweeps_twice<K: Naming, R: Wait + Abort>(
-    rt: &R,
-    alloc: Global,
-    board: Board,
-    core: Core<MemoryDisk>,
-) -> Result<(), Fail>
-    requires named { (board ≡ K.table) × (start_of core ≡ K.start) }
-    requires new { (core.history ≡ []) × (core.store.accepted ≡ 0) × (core.store.frontier ≡ 0) }
-{
-    let node = Node::<MemoryDisk, K>::new(board, core);
-    let mut purse = node.purse(rt, alloc).expect(rt, "a purse");
-    put(rt, alloc, &node, &mut purse, 10).expect(rt, "a put");
-    put(rt, alloc, &node, &mut purse, 11).expect(rt, "a put");
-    let mut reclaimer = Reclaimer::new(2);
-    sweeps_two_shards(rt, &node, &mut reclaimer);
-    sweeps_two_shards(rt, &node, &mut reclaimer);
-    assert_eq!(rt; reclaimer.turn(rt, &node, &Open), Ok(Step::Idle));
-    let rest = node.rest();
-    assert!(rt; began(&rest, 2, 0));
-    assert!(rt; began(&rest, 7, 1));
+#[test]
+fn a_second_sweep_is_of_the_next_extent(rt: HostRuntime) -> Result<(), Fail> {
+    let core = new_core(rt.alloc(), 64)?;
+    try_on(&rt, rt.alloc(), core, SweepsTwice);
     Ok(())
+}
+
+/// Runs until two sweeps are done.
+#[derive(Drop)]
+struct RunsTwoSweeps;
+
+impl Calls for RunsTwoSweeps {
+    fn call<D: PageDisk + Send, K: Naming + Send + Sync, R: Threads + Wait + Abort + Sync>(
+        self,
+        rt: &R,
+        alloc: Global,
+        node: &Node<D, K>,
+        purse: &mut Purse<K>,
+    ) {
+        put_two(rt, alloc, node, purse);
+        let gate = Counts::new(64);
+        let mut reclaimer = Reclaimer::new(2);
+        assert!(rt; reclaimer.run(rt, node, &gate).is_ok());
+        assert_eq!(rt; gate.events.load(Ordering::SeqCst), 10);
+        assert_eq!(rt; gate.turns.load(Ordering::SeqCst), 54);
+    }
 }
 
 #[test]
 fn a_reclaimer_runs_until_its_sweeps_are_done(rt: HostRuntime) -> Result<(), Fail> {
-    let board = Board::new(rt.alloc())?;
     let core = new_core(rt.alloc(), 64)?;
-    runs_two_sweeps::<Brand, _>(&rt, rt.alloc(), board, core)
-}
-
-fn runs_two_sweeps<K: Naming, R: Wait + Abort>(
-    rt: &R,
-    alloc: Global,
-    board: Board,
-    core: Core<MemoryDisk>,
-) -> Result<(), Fail>
-    requires named { (board ≡ K.table) × (start_of core ≡ K.start) }
-    requires new { (core.history ≡ []) × (core.store.accepted ≡ 0) × (core.store.frontier ≡ 0) }
-{
-    let node = Node::<MemoryDisk, K>::new(board, core);
-    let mut purse = node.purse(rt, alloc).expect(rt, "a purse");
-    put(rt, alloc, &node, &mut purse, 10).expect(rt, "a put");
-    put(rt, alloc, &node, &mut purse, 11).expect(rt, "a put");
-    let gate = Counts::new(64);
-    let mut reclaimer = Reclaimer::new(2);
-    assert!(rt; reclaimer.run(rt, &node, &gate).is_ok());
-    assert_eq!(rt; gate.events.load(Ordering::SeqCst), 10);
-    assert_eq!(rt; gate.turns.load(Ordering::SeqCst), 54);
+    try_on(
+        &rt,
+        rt.alloc(),
+        core,
+        Lends {
+            calls: RunsTwoSweeps,
+        },
+    );
     Ok(())
 }

@@ -1,13 +1,10 @@
 //! Two threads on one node, each of which waits for the other at most a bounded number of loads.
-ghost use Rattle.std.specs.Prelude.{◌≡◌, [], IfOk};
-ghost use Rattle.cs_node.specs.Starts.{start_of};
-
-use super::{id, new_core, one_byte, put};
-use cs_core::{Bytes, Core};
-use cs_disk::{MemoryDisk, PageDisk};
+use super::together::{Together, run};
+use super::{bytes_of, id, new_core, put, sync};
+use cs_core::Bytes;
+use cs_disk::PageDisk;
 use cs_node::*;
-use std::alloc::Global;
-use std::marker::Brand;
+use std::alloc::{AllocError, Global};
 use std::process::Abort;
 use std::sync::atomic::{AtomicU64, Ordering};
 use std::sync::{Arc, Wait};
@@ -30,36 +27,32 @@ struct Flags {
 
 type Signals = Arc<Flags, Global>;
 
-fn signals(alloc: Global) -> Result<Signals, Fail> {
-    Ok(Arc::new(
-        alloc,
-        Flags {
-            reached: AtomicU64::new(0),
-            answered: AtomicU64::new(0),
-            seen: AtomicU64::new(0),
-        },
-    )?)
+fn signals(alloc: Global) -> Result<Signals, AllocError> {
+    let flags = Flags {
+        reached: AtomicU64::new(0),
+        answered: AtomicU64::new(0),
+        seen: AtomicU64::new(0),
+    };
+    match Arc::new(alloc, flags) {
+        Ok(signals) => Ok(signals),
+        Err(_) => Err(AllocError),
+    }
 }
 
-/// What two threads share, and the bytes of two puts. It is made before there is a core, which would have to be let go wherever an
-/// allocation fails.
+/// What two threads share, and who looks at it then.
 #[derive(Drop)]
 struct Shared {
     signals: Signals,
     of_first: Signals,
     of_second: Signals,
-    before: Bytes,
-    beside: Bytes,
 }
 
-fn new_shared(alloc: Global) -> Result<Shared, Fail> {
+fn new_shared(alloc: Global) -> Result<Shared, AllocError> {
     let signals = signals(alloc)?;
     Ok(Shared {
         of_first: Arc::try_clone(&signals)?,
         of_second: Arc::try_clone(&signals)?,
         signals,
-        before: one_byte(alloc, 6)?,
-        beside: one_byte(alloc, 7)?,
     })
 }
 
@@ -146,60 +139,55 @@ impl<D: PageDisk + Send, K: Naming + Send + Sync> Job<Node<D, K>> for Polls<K> {
     }
 }
 
-#[test]
-fn a_poll_answers_while_a_put_has_the_lock(rt: HostRuntime) -> Result<(), Fail> {
-    let shared = new_shared(rt.alloc())?;
-    let board = Board::new(rt.alloc())?;
-    let core = new_core(rt.alloc(), 64)?;
-    polls_beside_a_put::<Brand, _>(&rt, rt.alloc(), board, core, shared);
-    Ok(())
-}
-
-fn polls_beside_a_put<K: Naming + Send + Sync, R: Threads + Wait + Abort + Sync>(
-    rt: &R,
-    alloc: Global,
-    board: Board,
-    core: Core<MemoryDisk>,
-    shared: Shared,
-)
-    requires named { (board ≡ K.table) × (start_of core ≡ K.start) }
-    requires new { (core.history ≡ []) × (core.store.accepted ≡ 0) × (core.store.frontier ≡ 0) }
-{
-    let node = Node::<MemoryDisk, K>::new(board, core);
+/// Puts beside a poll that waits until the put has the lock.
+pub fn polls_beside_a_put<
+    D: PageDisk + Send,
+    K: Naming + Send + Sync,
+    R: Threads + Wait + Abort + Sync,
+>(rt: &R, alloc: Global, node: &Node<D, K>) {
     let Shared {
         signals,
         of_first,
         of_second,
-        before,
-        beside,
-    } = shared;
+    } = new_shared(alloc).expect(rt, "signals");
     let mut first = node.purse(rt, alloc).expect(rt, "a purse");
-    let second = node.purse(rt, alloc).expect(rt, "a purse");
-    let Ok(ticket) = node.put(rt, &mut first, id(10), before) else {
-        panic!(rt; "a put")
-    };
-    let mut pilot = node.pilot(rt).expect(rt, "the pilot");
-    assert!(rt; matches!(node.sync(rt, &mut pilot), Ok(1)));
+    let ticket = put(rt, alloc, node, &mut first, 10).expect(rt, "a put");
+    sync(rt, node, 1);
     let puts = Puts {
         purse: first,
-        bytes: beside,
+        bytes: bytes_of(alloc, 7).expect(rt, "bytes"),
         gate: KeepsPut { signals: of_first },
     };
     let polls = Polls {
-        purse: second,
+        purse: node.purse(rt, alloc).expect(rt, "a purse"),
         ticket,
         signals: of_second,
     };
     let (put, polled) = node.beside(rt, puts, polls);
-    let Some(ticket) = put else {
-        panic!(rt; "a put beside")
-    };
-    assert_eq!(rt; ticket.number(), 2);
+    is_second(rt, put);
     let Polled::Done(ack) = polled else {
         panic!(rt; "a poll beside")
     };
     assert_eq!(rt; ack.number(), 1);
     assert_eq!(rt; signals.seen.load(Ordering::SeqCst), 1);
+}
+
+/// Asserts that this is the ticket of the second command.
+fn is_second<K: Naming, R: Abort>(rt: &R, put: Option<Ticket<K>>) {
+    let ticket = put.expect(rt, "a put beside");
+    assert_eq!(rt; ticket.number(), 2);
+}
+
+#[test]
+fn a_poll_answers_while_a_put_has_the_lock(rt: HostRuntime) -> Result<(), Fail> {
+    let end = run(
+        &rt,
+        rt.alloc(),
+        new_core(rt.alloc(), 64)?,
+        Together::PollsBesideAPut,
+    );
+    assert!(rt; end.is_err());
+    Ok(())
 }
 
 /// A gate that keeps a pilot between Begin and End, without the lock.
@@ -272,35 +260,19 @@ impl<D: PageDisk + Send, K: Naming + Send + Sync> Job<Node<D, K>> for PutsThen<K
     }
 }
 
-#[test]
-fn a_put_answers_while_a_round_is_out(rt: HostRuntime) -> Result<(), Fail> {
-    let shared = new_shared(rt.alloc())?;
-    let board = Board::new(rt.alloc())?;
-    let core = new_core(rt.alloc(), 64)?;
-    puts_beside_a_round::<Brand, _>(&rt, rt.alloc(), board, core, shared);
-    Ok(())
-}
-
-fn puts_beside_a_round<K: Naming + Send + Sync, R: Threads + Wait + Abort + Sync>(
-    rt: &R,
-    alloc: Global,
-    board: Board,
-    core: Core<MemoryDisk>,
-    shared: Shared,
-)
-    requires named { (board ≡ K.table) × (start_of core ≡ K.start) }
-    requires new { (core.history ≡ []) × (core.store.accepted ≡ 0) × (core.store.frontier ≡ 0) }
-{
-    let node = Node::<MemoryDisk, K>::new(board, core);
+/// Flies beside a put that waits until a round is out.
+pub fn puts_beside_a_round<
+    D: PageDisk + Send,
+    K: Naming + Send + Sync,
+    R: Threads + Wait + Abort + Sync,
+>(rt: &R, alloc: Global, node: &Node<D, K>) {
     let Shared {
         signals,
         of_first,
         of_second,
-        before,
-        beside,
-    } = shared;
+    } = new_shared(alloc).expect(rt, "signals");
     let mut purse = node.purse(rt, alloc).expect(rt, "a purse");
-    assert!(rt; node.put(rt, &mut purse, id(10), before).is_ok());
+    assert!(rt; put(rt, alloc, node, &mut purse, 10).is_some());
     let flies = Flies {
         pilot: node.pilot(rt).expect(rt, "the pilot"),
         gate: KeepsPilot {
@@ -311,21 +283,30 @@ fn puts_beside_a_round<K: Naming + Send + Sync, R: Threads + Wait + Abort + Sync
     };
     let puts = PutsThen {
         purse,
-        bytes: beside,
+        bytes: bytes_of(alloc, 7).expect(rt, "bytes"),
         signals: of_second,
     };
     let (flew, put) = node.beside(rt, flies, puts);
     assert!(rt; flew);
-    let Some(ticket) = put else {
-        panic!(rt; "a put beside")
-    };
-    assert_eq!(rt; ticket.number(), 2);
+    is_second(rt, put);
     assert_eq!(rt; signals.seen.load(Ordering::SeqCst), 1);
+}
+
+#[test]
+fn a_put_answers_while_a_round_is_out(rt: HostRuntime) -> Result<(), Fail> {
+    let end = run(
+        &rt,
+        rt.alloc(),
+        new_core(rt.alloc(), 64)?,
+        Together::PutsBesideARound,
+    );
+    assert!(rt; end.is_err());
+    Ok(())
 }
 
 /// Puts and sends the tickets off, or takes them in.
 #[derive(Drop)]
-enum Rides<K: Naming> {
+pub enum Rides<K: Naming> {
     In(Purse<K>, Ramp<K>, u8, Global),
     Out(Purse<K>, Dock<K>),
 }
@@ -369,36 +350,27 @@ fn takes<K: Naming, R: Wait>(rt: &R, mut purse: Purse<K>, dock: Dock<K>) -> Purs
     purse
 }
 
-#[test]
-fn two_ramps_lead_to_one_dock(rt: HostRuntime) -> Result<(), Fail> {
-    let board = Board::new(rt.alloc())?;
-    let core = new_core(rt.alloc(), 64)?;
-    ferries::<Brand, _>(&rt, rt.alloc(), board, core)
-}
-
-fn ferries<K: Naming + Send + Sync, R: Threads + Wait + Abort + Sync>(
+/// Two threads that put and send, and one that takes.
+pub fn new_rides<D: PageDisk, K: Naming, R: Wait + Abort>(
     rt: &R,
     alloc: Global,
-    board: Board,
-    core: Core<MemoryDisk>,
-) -> Result<(), Fail>
-    requires named { (board ≡ K.table) × (start_of core ≡ K.start) }
-    requires new { (core.history ≡ []) × (core.store.accepted ≡ 0) × (core.store.frontier ≡ 0) }
-{
-    let node = Node::<MemoryDisk, K>::new(board, core);
-    let (ramp, dock) = ferry(alloc, 1)?;
-    let other = ramp.another()?;
+    node: &Node<D, K>,
+) -> Vec<Rides<K>> {
+    let (ramp, dock) = ferry(alloc, 1).expect(rt, "a ferry");
+    let other = ramp.another().expect(rt, "a ramp");
     let first = node.purse(rt, alloc).expect(rt, "a purse");
     let second = node.purse(rt, alloc).expect(rt, "a purse");
     let third = node.purse(rt, alloc).expect(rt, "a purse");
     let mut rides = Vec::new(alloc);
-    rides.push(Rides::In(first, ramp, 10, alloc))?;
-    rides.push(Rides::In(second, other, 20, alloc))?;
-    rides.push(Rides::Out(third, dock))?;
-    let purses = node.abreast(rt, rides)?;
-    let Ok(closed) = node.rest().close(alloc, purses) else {
-        panic!(rt; "a close")
-    };
-    assert_eq!(rt; closed.accepted, 4);
+    assert!(rt; rides.push(Rides::In(first, ramp, 10, alloc)).is_ok());
+    assert!(rt; rides.push(Rides::In(second, other, 20, alloc)).is_ok());
+    assert!(rt; rides.push(Rides::Out(third, dock)).is_ok());
+    rides
+}
+
+#[test]
+fn two_ramps_lead_to_one_dock(rt: HostRuntime) -> Result<(), Fail> {
+    let end = run(&rt, rt.alloc(), new_core(rt.alloc(), 64)?, Together::Rides);
+    assert!(rt; matches!(end, Ok((4, _))));
     Ok(())
 }

@@ -1,19 +1,14 @@
-//! Gates that count, a sweep that is abandoned, a stream, and a node that rests between two purses.
-ghost use Rattle.std.specs.Prelude.{◌≡◌, [], IfOk};
-ghost use Rattle.cs_node.specs.Starts.{start_of};
-
-use super::{id, new_core, one_byte, put};
-use cs_core::{Core, Limits};
-use cs_deps::Refusal;
-use cs_disk::{FailAt, MemoryDisk};
-use cs_frame::Geometry;
+//! Gates that count, a stream, and a node that rests between two purses.
+use super::trials::{Calls, Lends, Trial, close, list_of, miss, try_on};
+use super::{bytes_of, id, new_core, put, sync};
+use cs_disk::PageDisk;
 use cs_node::*;
 use std::alloc::Global;
-use std::marker::Brand;
 use std::process::Abort;
 use std::sync::Wait;
 use std::sync::atomic::{AtomicU64, Ordering};
 use std::test::*;
+use std::thread::Threads;
 
 /// A gate that lets through so many turns, and counts events.
 #[derive(Drop)]
@@ -46,182 +41,161 @@ impl Gate for Counts {
     }
 }
 
-#[test]
-fn a_gate_counts_events(rt: HostRuntime) -> Result<(), Fail> {
-    let board = Board::new(rt.alloc())?;
-    let core = new_core(rt.alloc(), 64)?;
-    counts_events::<Brand, _>(&rt, rt.alloc(), board, core)
-}
+/// Puts and flies with a gate that counts.
+#[derive(Drop)]
+struct CountsEvents;
 
-fn counts_events<K: Naming, R: Wait + Abort>(
-    rt: &R,
-    alloc: Global,
-    board: Board,
-    core: Core<MemoryDisk>,
-) -> Result<(), Fail>
-    requires named { (board ≡ K.table) × (start_of core ≡ K.start) }
-    requires new { (core.history ≡ []) × (core.store.accepted ≡ 0) × (core.store.frontier ≡ 0) }
-{
-    let node = Node::<MemoryDisk, K>::new(board, core);
-    let mut purse = node.purse(rt, alloc).expect(rt, "a purse");
-    let gate = Counts::new(3);
-    let bytes = one_byte(alloc, 6)?;
-    assert!(rt; node.put_with(rt, &mut purse, id(10), bytes, &gate).is_ok());
-    assert_eq!(rt; gate.events.load(Ordering::SeqCst), 1);
-    let mut pilot = node.pilot(rt).expect(rt, "the pilot");
-    assert!(rt; pilot.run(rt, &node, &gate).is_ok());
-    assert_eq!(rt; gate.events.load(Ordering::SeqCst), 4);
-    Ok(())
-}
-
-#[test]
-fn a_stream_stages_before_each_round(rt: HostRuntime) -> Result<(), Fail> {
-    let board = Board::new(rt.alloc())?;
-    let core = new_core(rt.alloc(), 64)?;
-    streams::<Brand, _>(&rt, rt.alloc(), board, core)
-}
-
-fn streams<K: Naming, R: Wait + Abort>(
-    rt: &R,
-    alloc: Global,
-    board: Board,
-    core: Core<MemoryDisk>,
-) -> Result<(), Fail>
-    requires named { (board ≡ K.table) × (start_of core ≡ K.start) }
-    requires new { (core.history ≡ []) × (core.store.accepted ≡ 0) × (core.store.frontier ≡ 0) }
-{
-    let node = Node::<MemoryDisk, K>::new(board, core);
-    let mut purse = node.purse(rt, alloc).expect(rt, "a purse");
-    let first = one_byte(alloc, 6)?;
-    assert!(rt; node.put(rt, &mut purse, id(10), first).is_ok());
-    let pilot = node.pilot(rt).expect(rt, "the pilot");
-    let mut stream = Stream::new(pilot);
-    assert_eq!(rt; stream.turn(rt, &node, &Open), Ok(Step::Stage));
-    assert_eq!(rt; stream.turn(rt, &node, &Open), Ok(Step::Begin));
-    assert_eq!(rt; stream.turn(rt, &node, &Open), Ok(Step::Issue));
-    let second = one_byte(alloc, 7)?;
-    assert!(rt; node.put(rt, &mut purse, id(11), second).is_ok());
-    assert_eq!(rt; stream.turn(rt, &node, &Open), Ok(Step::Issue));
-    assert_eq!(rt; stream.turn(rt, &node, &Open), Ok(Step::End));
-    assert_eq!(rt; stream.turn(rt, &node, &Open), Ok(Step::Stage));
-    assert_eq!(rt; stream.turn(rt, &node, &Open), Ok(Step::Begin));
-    let mut pilot = stream.into_pilot();
-    assert!(rt; matches!(node.sync(rt, &mut pilot), Ok(2)));
-    Ok(())
-}
-
-#[test]
-fn a_stream_runs_until_its_gate_ends_it(rt: HostRuntime) -> Result<(), Fail> {
-    let board = Board::new(rt.alloc())?;
-    let core = new_core(rt.alloc(), 64)?;
-    streams_to_its_end::<Brand, _>(&rt, rt.alloc(), board, core)
-}
-
-fn streams_to_its_end<K: Naming, R: Wait + Abort>(
-    rt: &R,
-    alloc: Global,
-    board: Board,
-    core: Core<MemoryDisk>,
-) -> Result<(), Fail>
-    requires named { (board ≡ K.table) × (start_of core ≡ K.start) }
-    requires new { (core.history ≡ []) × (core.store.accepted ≡ 0) × (core.store.frontier ≡ 0) }
-{
-    let node = Node::<MemoryDisk, K>::new(board, core);
-    let mut purse = node.purse(rt, alloc).expect(rt, "a purse");
-    let ticket = put(rt, alloc, &node, &mut purse, 10).expect(rt, "a put");
-    let pilot = node.pilot(rt).expect(rt, "the pilot");
-    let mut stream = Stream::new(pilot);
-    let gate = Counts::new(64);
-    assert!(rt; stream.run(rt, &node, &gate).is_ok());
-    assert_eq!(rt; gate.turns.load(Ordering::SeqCst), 0);
-    assert_eq!(rt; gate.events.load(Ordering::SeqCst), 11);
-    let Polled::Done(ack) = purse.poll(&node, ticket) else {
-        panic!(rt; "a poll after")
-    };
-    assert_eq!(rt; ack.number(), 1);
-    Ok(())
-}
-
-/// A core that did nothing yet, over a new store of six extents of two pages, whose disk fails once.
-fn failing_core(alloc: Global, at: u64) -> Result<Core<FailAt<MemoryDisk>>, Fail>
-    ensures { IfOk result (λ core. (core.history ≡ []) × (core.store.accepted ≡ 0) × (core.store.frontier ≡ 0)) }
-{
-    let geometry = Geometry::new(6, 2)?;
-    let disk = FailAt::new(MemoryDisk::new(alloc, 14)?, at);
-    match Core::format(alloc, disk, geometry, Limits { history: 64 }) {
-        Ok(core) => Ok(core),
-        Err(_) => Err(Fail::from("no core")),
+impl Calls for CountsEvents {
+    fn call<D: PageDisk + Send, K: Naming + Send + Sync, R: Threads + Wait + Abort + Sync>(
+        self,
+        rt: &R,
+        alloc: Global,
+        node: &Node<D, K>,
+        purse: &mut Purse<K>,
+    ) {
+        let gate = Counts::new(3);
+        let bytes = bytes_of(alloc, 6).expect(rt, "bytes");
+        assert!(rt; node.put_with(rt, purse, id(10), bytes, &gate).is_ok());
+        assert_eq!(rt; gate.events.load(Ordering::SeqCst), 1);
+        let mut pilot = node.pilot(rt).expect(rt, "the pilot");
+        assert!(rt; pilot.run(rt, node, &gate).is_ok());
+        assert_eq!(rt; gate.events.load(Ordering::SeqCst), 4);
     }
 }
 
 #[test]
-fn a_refused_move_is_abandoned(rt: HostRuntime) -> Result<(), Fail> {
-    let board = Board::new(rt.alloc())?;
-    let core = failing_core(rt.alloc(), 12)?;
-    abandons::<Brand, _>(&rt, rt.alloc(), board, core)
+fn a_gate_counts_events(rt: HostRuntime) -> Result<(), Fail> {
+    let core = new_core(rt.alloc(), 64)?;
+    try_on(
+        &rt,
+        rt.alloc(),
+        core,
+        Lends {
+            calls: CountsEvents,
+        },
+    );
+    Ok(())
 }
 
-fn abandons<K: Naming, R: Wait + Abort>(
+/// Asserts what a stream does, turn by turn.
+fn stream_steps<D: PageDisk, K: Naming, R: Wait + Abort>(
     rt: &R,
-    alloc: Global,
-    board: Board,
-    core: Core<FailAt<MemoryDisk>>,
-) -> Result<(), Fail>
-    requires named { (board ≡ K.table) × (start_of core ≡ K.start) }
-    requires new { (core.history ≡ []) × (core.store.accepted ≡ 0) × (core.store.frontier ≡ 0) }
-{
-    let node = Node::<FailAt<MemoryDisk>, K>::new(board, core);
-    let mut purse = node.purse(rt, alloc).expect(rt, "a purse");
-    let first = one_byte(alloc, 6)?;
-    assert!(rt; node.put(rt, &mut purse, id(10), first).is_ok());
-    let second = one_byte(alloc, 7)?;
-    assert!(rt; node.put(rt, &mut purse, id(11), second).is_ok());
-    let mut pilot = node.pilot(rt).expect(rt, "the pilot");
-    assert!(rt; matches!(node.sync(rt, &mut pilot), Ok(2)));
-    let mut reclaimer = Reclaimer::new(1);
-    assert_eq!(rt; reclaimer.turn(rt, &node, &Open), Ok(Step::BeginSweep));
-    assert_eq!(rt; reclaimer.turn(rt, &node, &Open), Err(Refusal::DeviceFault));
-    assert_eq!(rt; reclaimer.turn(rt, &node, &Open), Ok(Step::Abandon));
-    assert_eq!(rt; reclaimer.turn(rt, &node, &Open), Ok(Step::Idle));
+    node: &Node<D, K>,
+    stream: &mut Stream<K>,
+    steps: &[Step],
+) {
+    for step in steps {
+        assert_eq!(rt; stream.turn(rt, node, &Open), Ok(*step));
+    }
+}
+
+/// The turns up to the second put.
+const FIRST_STEPS: &[Step] = &[Step::Stage, Step::Begin, Step::Issue];
+
+/// The turns after it.
+const LATER_STEPS: &[Step] = &[Step::Issue, Step::End, Step::Stage, Step::Begin];
+
+/// Puts once more while a round of a stream is out.
+#[derive(Drop)]
+struct Streams;
+
+impl Calls for Streams {
+    fn call<D: PageDisk + Send, K: Naming + Send + Sync, R: Threads + Wait + Abort + Sync>(
+        self,
+        rt: &R,
+        alloc: Global,
+        node: &Node<D, K>,
+        purse: &mut Purse<K>,
+    ) {
+        assert!(rt; put(rt, alloc, node, purse, 10).is_some());
+        let mut stream = Stream::new(node.pilot(rt).expect(rt, "the pilot"));
+        stream_steps(rt, node, &mut stream, FIRST_STEPS);
+        assert!(rt; put(rt, alloc, node, purse, 11).is_some());
+        stream_steps(rt, node, &mut stream, LATER_STEPS);
+        let mut pilot = stream.into_pilot();
+        assert!(rt; matches!(node.sync(rt, &mut pilot), Ok(2)));
+    }
+}
+
+#[test]
+fn a_stream_stages_before_each_round(rt: HostRuntime) -> Result<(), Fail> {
+    let core = new_core(rt.alloc(), 64)?;
+    try_on(&rt, rt.alloc(), core, Lends { calls: Streams });
     Ok(())
+}
+
+/// Runs a stream until its gate ends it.
+#[derive(Drop)]
+struct StreamsToItsEnd;
+
+impl Calls for StreamsToItsEnd {
+    fn call<D: PageDisk + Send, K: Naming + Send + Sync, R: Threads + Wait + Abort + Sync>(
+        self,
+        rt: &R,
+        alloc: Global,
+        node: &Node<D, K>,
+        purse: &mut Purse<K>,
+    ) {
+        let ticket = put(rt, alloc, node, purse, 10).expect(rt, "a put");
+        let mut stream = Stream::new(node.pilot(rt).expect(rt, "the pilot"));
+        let gate = Counts::new(64);
+        assert!(rt; stream.run(rt, node, &gate).is_ok());
+        assert_eq!(rt; gate.turns.load(Ordering::SeqCst), 0);
+        assert_eq!(rt; gate.events.load(Ordering::SeqCst), 11);
+        let Polled::Done(ack) = purse.poll(node, ticket) else {
+            panic!(rt; "a poll after")
+        };
+        assert_eq!(rt; ack.number(), 1);
+    }
+}
+
+#[test]
+fn a_stream_runs_until_its_gate_ends_it(rt: HostRuntime) -> Result<(), Fail> {
+    let core = new_core(rt.alloc(), 64)?;
+    try_on(
+        &rt,
+        rt.alloc(),
+        core,
+        Lends {
+            calls: StreamsToItsEnd,
+        },
+    );
+    Ok(())
+}
+
+/// Rests between two purses, and closes over both.
+#[derive(Drop)]
+struct Rests;
+
+impl Trial for Rests {
+    fn run<D: PageDisk + Send + Drop, K: Naming + Send + Sync, R: Threads + Wait + Abort + Sync>(
+        self,
+        rt: &R,
+        alloc: Global,
+        node: Node<D, K>,
+    ) {
+        let first = node.purse(rt, alloc).expect(rt, "a purse");
+        assert!(rt; node.pilot(rt).is_some());
+        let rest = node.rest();
+        assert_eq!(rt; rest.given(), 1);
+        let node = rest.resume();
+        assert!(rt; node.pilot(rt).is_none());
+        let second = node.purse(rt, alloc).expect(rt, "a purse");
+        let purses = list_of(rt, alloc, second);
+        let NotClosed {
+            why: _,
+            rest,
+            mut purses,
+        } = miss(rt, alloc, node.rest(), purses, 0);
+        assert_eq!(rt; rest.given(), 2);
+        assert!(rt; purses.push(first).is_ok());
+        assert_eq!(rt; close(rt, alloc, rest, purses), (0, 0));
+    }
 }
 
 #[test]
 fn a_node_that_rested_keeps_what_it_gave(rt: HostRuntime) -> Result<(), Fail> {
-    let board = Board::new(rt.alloc())?;
     let core = new_core(rt.alloc(), 64)?;
-    rests_between::<Brand, _>(&rt, rt.alloc(), board, core)
-}
-
-fn rests_between<K: Naming, R: Wait + Abort>(
-    rt: &R,
-    alloc: Global,
-    board: Board,
-    core: Core<MemoryDisk>,
-) -> Result<(), Fail>
-    requires named { (board ≡ K.table) × (start_of core ≡ K.start) }
-    requires new { (core.history ≡ []) × (core.store.accepted ≡ 0) × (core.store.frontier ≡ 0) }
-{
-    let node = Node::<MemoryDisk, K>::new(board, core);
-    let first = node.purse(rt, alloc).expect(rt, "a purse");
-    assert!(rt; node.pilot(rt).is_some());
-    let rest = node.rest();
-    assert_eq!(rt; rest.given(), 1);
-    let node = rest.resume();
-    assert!(rt; node.pilot(rt).is_none());
-    let second = node.purse(rt, alloc).expect(rt, "a purse");
-    let mut purses = Vec::new(alloc);
-    purses.push(second)?;
-    let Err(not) = node.rest().close(alloc, purses) else {
-        panic!(rt; "a purse is missing")
-    };
-    assert!(rt; matches!(not.why, Unclosed::Missing(0)));
-    assert_eq!(rt; not.rest.given(), 2);
-    let mut purses = not.purses;
-    purses.push(first)?;
-    let Ok(closed) = not.rest.close(alloc, purses) else {
-        panic!(rt; "a close")
-    };
-    assert_eq!(rt; closed.accepted, 0);
+    try_on(&rt, rt.alloc(), core, Rests);
     Ok(())
 }

@@ -1,0 +1,85 @@
+//! What several threads do on one node, which is made and closed here. What is sent to a thread isn't taken from a trait's method, so
+//! these are no trials.
+ghost use Rattle.std.specs.Prelude.{◌≡◌, []};
+ghost use Rattle.cs_node.specs.Starts.{start_of};
+
+use super::losses::put_beside;
+use super::threads::{new_rides, polls_beside_a_put, puts_beside_a_round};
+use cs_core::Core;
+use cs_disk::{MemoryDisk, PageDisk};
+use cs_node::*;
+use std::alloc::Global;
+use std::marker::Brand;
+use std::process::Abort;
+use std::sync::Wait;
+use std::test::*;
+use std::thread::Threads;
+
+/// What the threads do.
+#[derive(Clone, Copy)]
+pub enum Together {
+    PollsBesideAPut,
+    PutsBesideARound,
+    Rides,
+    Losses,
+}
+
+/// How many commands a node that was closed accepted, and how many of them are acknowledged, or why it wasn't closed.
+pub type End = Result<(u64, u64), Unclosed>;
+
+/// Does this on a node of the core, which did nothing yet, and closes the node.
+pub fn run<R: Threads + Wait + Abort + Sync>(
+    rt: &R,
+    alloc: Global,
+    core: Core<MemoryDisk>,
+    together: Together,
+) -> End
+    requires new { (core.history ≡ []) × (core.store.accepted ≡ 0) × (core.store.frontier ≡ 0) }
+{
+    let Ok(board) = Board::new(alloc) else {
+        panic!(rt; "a board")
+    };
+    run_named::<Brand, _>(rt, alloc, board, core, together)
+}
+
+fn run_named<K: Naming + Send + Sync, R: Threads + Wait + Abort + Sync>(
+    rt: &R,
+    alloc: Global,
+    board: Board,
+    core: Core<MemoryDisk>,
+    together: Together,
+) -> End
+    requires named { (board ≡ K.table) × (start_of core ≡ K.start) }
+    requires new { (core.history ≡ []) × (core.store.accepted ≡ 0) × (core.store.frontier ≡ 0) }
+{
+    let node = Node::<MemoryDisk, K>::new(board, core);
+    let purses = purses_of(rt, alloc, &node, together);
+    match node.rest().close(alloc, purses) {
+        Ok(closed) => Ok((closed.accepted, closed.acknowledged)),
+        Err(not) => Err(not.why),
+    }
+}
+
+/// The purses that the threads give back, if they do.
+fn purses_of<D: PageDisk + Send, K: Naming + Send + Sync, R: Threads + Wait + Abort + Sync>(
+    rt: &R,
+    alloc: Global,
+    node: &Node<D, K>,
+    together: Together,
+) -> Vec<Purse<K>> {
+    match together {
+        Together::PollsBesideAPut => {
+            polls_beside_a_put(rt, alloc, node);
+            Vec::new(alloc)
+        }
+        Together::PutsBesideARound => {
+            puts_beside_a_round(rt, alloc, node);
+            Vec::new(alloc)
+        }
+        Together::Rides => {
+            let rides = new_rides(rt, alloc, node);
+            node.abreast(rt, rides).expect(rt, "purses")
+        }
+        Together::Losses => put_beside(rt, alloc, node),
+    }
+}
