@@ -21,8 +21,9 @@ use cs_disk::{CrashDisk, MemoryDisk};
 use cs_frame::Geometry;
 use cs_script::{Ran, run_script};
 use std::alloc::Global;
+use std::io::{Read, Write};
 use std::process::Abort;
-use std::test::Fail;
+use std::test::{Fail, *};
 
 /// A new store in memory with so many extents of 2 pages.
 fn new_core(rt: &(impl Abort + AllocGlobal), extents: u64) -> Result<Core<MemoryDisk>, Fail> {
@@ -40,21 +41,107 @@ fn new_core_of(
     let disk = MemoryDisk::new(alloc, geometry.device_pages())?;
     match Core::format(alloc, disk, geometry, Limits { history }) {
         Ok(core) => Ok(core),
-        Err((refusal, _)) => {
-            assert!(rt; false, "{}", refusal.name());
-            unreachable!()
-        }
+        Err((refusal, _)) => panic!(rt; "{}", refusal.name()),
     }
+}
+
+/// What a script printed and left behind, in numbers.
+#[derive(Drop)]
+struct Ended {
+    output: Vec<u8>,
+    status: u8,
+    // none where no store could be opened after a crash
+    left: Option<Counts>,
+}
+
+/// How many commands the store found when it was opened, how many it accepted since and how many of these are persistent, and how many
+/// writes are volatile.
+#[derive(Clone, Copy)]
+struct Counts {
+    found: u64,
+    accepted: u64,
+    persistent: u64,
+    volatile: usize,
+}
+
+/// Runs a script on a core, which is let go here alone: whatever a function has is proved to be let go at each of its exits.
+fn run_to_end<D: CrashDisk + Drop, R: Read + Drop, W: Write>(
+    alloc: Global,
+    core: Core<D>,
+    reader: R,
+    writer: &mut W,
+) -> (u8, Option<Counts>) {
+    let ran = run_script(alloc, core, reader, writer);
+    (ran.status, counts_of(&ran))
+}
+
+fn counts_of<D: CrashDisk>(ran: &Ran<D>) -> Option<Counts> {
+    let Some(core) = &ran.core else {
+        return None;
+    };
+    Some(Counts {
+        found: core.opened().0,
+        accepted: core.accepted(),
+        persistent: core.frontier(),
+        volatile: core.disk().volatile(),
+    })
+}
+
+/// What a script's text printed and left behind on this core.
+fn end_of<D: CrashDisk + Drop>(alloc: Global, core: Core<D>, text: &str) -> Ended {
+    let mut output = Vec::new(alloc);
+    let (status, left) = run_to_end(alloc, core, text.as_bytes(), &mut output);
+    Ended {
+        output,
+        status,
+        left,
+    }
+}
+
+/// The same for a new store with so many extents of 2 pages.
+fn run_on(rt: &(impl Abort + AllocGlobal), extents: u64, text: &str) -> Result<Ended, Fail> {
+    let core = new_core(rt, extents)?;
+    Ok(end_of(rt.alloc(), core, text))
 }
 
 /// The core that a script left behind.
 fn core_of<D: CrashDisk>(rt: &impl Abort, ran: Ran<D>) -> Core<D> {
     match ran.core {
         Some(core) => core,
-        None => {
-            assert!(rt; false, "no core is left");
-            unreachable!()
-        }
+        None => panic!(rt; "no core is left"),
+    }
+}
+
+/// The disk that a script leaves of a new store with so many extents of 2 pages, and what it printed.
+fn disk_after(
+    rt: &(impl Abort + AllocGlobal),
+    extents: u64,
+    text: &str,
+) -> Result<(MemoryDisk, Vec<u8>), Fail> {
+    let core = new_core(rt, extents)?;
+    let mut output = Vec::new(rt.alloc());
+    let ran = run_script(rt.alloc(), core, text.as_bytes(), &mut output);
+    Ok((core_of(rt, ran).into_disk(), output))
+}
+
+impl Ended {
+    /// Asserts what was printed, and the exit status.
+    fn printed(&self, rt: &impl Abort, wanted: &str, status: u8, script: &str) {
+        assert_eq!(rt; self.output.as_slice(), wanted.as_bytes(), "{script}");
+        assert_eq!(rt; self.status, status, "{script}");
+    }
+
+    /// Asserts how what was printed ends.
+    fn printed_last(&self, rt: &impl Abort, wanted: &str, script: &str) {
+        assert!(rt;
+            self.output.as_slice().ends_with(wanted.as_bytes()),
+            "{script}"
+        );
+    }
+
+    /// The counts of the core that is left.
+    fn counts(&self, rt: &impl Abort) -> Counts {
+        self.left.expect(rt, "a core is left")
     }
 }
 
@@ -78,18 +165,6 @@ fn printed(alloc: Global, lines: &str) -> Result<String, Fail> {
     Ok(text)
 }
 
-/// What a script's text left behind and printed, with so many extents of 2 pages.
-fn run_on(
-    rt: &(impl Abort + AllocGlobal),
-    extents: u64,
-    text: &str,
-) -> Result<(Ran<MemoryDisk>, Vec<u8>), Fail> {
-    let core = new_core(rt, extents)?;
-    let mut output = Vec::new(rt.alloc());
-    let ran = run_script(rt.alloc(), core, text.as_bytes(), &mut output);
-    Ok((ran, output))
-}
-
 /// Asserts the output of a script's text, its exit status and how many commands are acknowledged, with 6 extents of 2 pages.
 fn prints_text(
     rt: &(impl Abort + AllocGlobal),
@@ -98,10 +173,9 @@ fn prints_text(
     status: u8,
     persistent: u64,
 ) -> Result<(), Fail> {
-    let (ran, output) = run_on(rt, 6, text)?;
-    assert_eq!(rt; output.as_slice(), wanted.as_bytes(), "{text}");
-    assert_eq!(rt; ran.status, status, "{text}");
-    assert_eq!(rt; core_of(rt, ran).frontier(), persistent, "{text}");
+    let ended = run_on(rt, 6, text)?;
+    ended.printed(rt, wanted, status, text);
+    assert_eq!(rt; ended.counts(rt).persistent, persistent, "{text}");
     Ok(())
 }
 

@@ -1,23 +1,31 @@
 //! Crashes, and what is opened then.
-use super::{new_core, printed, prints, run_on, script_text};
+use super::{end_of, new_core, printed, prints, run_on, script_text};
 use cs_core::{Core, Limits};
 use cs_disk::{FailAt, MemoryDisk};
-use cs_script::run_script;
 use std::process::Abort;
-use std::test::Fail;
+use std::test::{Fail, *};
 
 /// The root of a sweep is durable, and what went to the extent that was swept isn't: whatever a crash keeps of that, what was
 /// put before is there and what was put later isn't.
 #[test]
 fn crashes_over_a_swept_extent(rt: HostRuntime) -> Result<(), Fail> {
-    for (bits, kept) in [("000", 0), ("001", 1), ("010", 1), ("011", 2)] {
-        crashes_over_what_was_swept(&rt, bits, kept)?;
-    }
-    for (bits, kept) in [("100", 1), ("101", 2), ("110", 2), ("111", 3)] {
-        crashes_over_what_was_swept(&rt, bits, kept)?;
+    for (bits, kept) in MASKS {
+        crashes_over_what_was_swept(&rt, bits, *kept)?;
     }
     Ok(())
 }
+
+/// Which of three volatile writes a crash keeps, and how many these are.
+const MASKS: &[(&str, u64)] = &[
+    ("000", 0),
+    ("001", 1),
+    ("010", 1),
+    ("011", 2),
+    ("100", 1),
+    ("101", 2),
+    ("110", 2),
+    ("111", 3),
+];
 
 fn crashes_over_what_was_swept(
     rt: &(impl Abort + AllocGlobal),
@@ -34,12 +42,11 @@ fn crashes_over_what_was_swept(
     }
     let crash = format!(in alloc; "crash {bits} / get @a / get @b / get @c / get @d")?;
     text.push_str(&script_text(alloc, &crash)?)?;
-    let (_, output) = run_on(rt, 6, &text)?;
     let wanted = format!(in alloc;
         "issue [w7] page 2 / issue [w8] page 3 / issue [s7] page 0 / crash kept {kept} of 3 / open commands 2 shards 2 / value 61 / value 62 / absent / absent"
     )?;
     let end = printed(alloc, &wanted)?;
-    assert!(rt; output.as_slice().ends_with(end.as_bytes()), "{bits}");
+    run_on(rt, 6, &text)?.printed_last(rt, &end, bits);
     Ok(())
 }
 
@@ -132,10 +139,7 @@ fn core_that_fails(
         Limits { history: 1000 },
     ) {
         Ok(core) => Ok(core),
-        Err((refusal, _)) => {
-            assert!(rt; false, "{}", refusal.name());
-            unreachable!()
-        }
+        Err((refusal, _)) => panic!(rt; "{}", refusal.name()),
     }
 }
 
@@ -148,14 +152,11 @@ pub fn fails(
     status: u8,
 ) -> Result<(), Fail> {
     let alloc = rt.alloc();
-    let core = core_that_fails(rt, call)?;
-    let mut output = Vec::new(alloc);
     let text = script_text(alloc, script)?;
-    let ran = run_script(alloc, core, text.as_bytes(), &mut output);
     let wanted = printed(alloc, lines)?;
-    assert_eq!(rt; output.as_slice(), wanted.as_bytes());
-    assert_eq!(rt; ran.status, status);
-    assert_eq!(rt; ran.core.is_none(), status == 3);
+    let ended = end_of(alloc, core_that_fails(rt, call)?, &text);
+    ended.printed(rt, &wanted, status, script);
+    assert_eq!(rt; ended.left.is_none(), status == 3);
     Ok(())
 }
 

@@ -1,20 +1,17 @@
 //! Images of which the lowest bit of one byte is turned.
-use super::{core_of, printed, run_on, script_text};
+use super::{disk_after, end_of, printed, script_text};
 use cs_core::{Core, Limits};
 use cs_deps::Refusal;
-use cs_disk::MemoryDisk;
-use cs_script::run_script;
+use cs_disk::{MemoryDisk, PageDisk};
 use std::alloc::Global;
 use std::process::Abort;
-use std::test::Fail;
+use std::test::{Fail, *};
 
 /// The image of one put and a sync: superblock, root, the put's frame and its run's on pages 0 to 3.
 fn image(rt: &(impl Abort + AllocGlobal)) -> Result<Vec<u8>, Fail> {
-    let alloc = rt.alloc();
-    let text = script_text(alloc, "put @a 61 / sync")?;
-    let (ran, _) = run_on(rt, 6, &text)?;
-    let disk = core_of(rt, ran).into_disk();
-    Ok(Vec::from_slice(alloc, disk.image())?)
+    let text = script_text(rt.alloc(), "put @a 61 / sync")?;
+    let (disk, _) = disk_after(rt, 6, &text)?;
+    Ok(Vec::from_slice(rt.alloc(), disk.image())?)
 }
 
 /// A disk with this image but for the lowest bit of one byte.
@@ -27,7 +24,7 @@ fn damaged(rt: &(impl Abort + AllocGlobal), image: &[u8], at: usize) -> Result<M
 }
 
 /// Why a disk isn't opened.
-fn why_not_opened(alloc: Global, disk: MemoryDisk) -> Option<Refusal> {
+pub fn why_not_opened<D: PageDisk + Drop>(alloc: Global, disk: D) -> Option<Refusal> {
     match Core::open(alloc, disk, Limits { history: 1000 }) {
         Ok(_) => None,
         Err((refusal, _)) => Some(refusal),
@@ -43,13 +40,10 @@ fn a_damaged_superblock(rt: HostRuntime) -> Result<(), Fail> {
 }
 
 /// The store on a disk.
-fn opened(rt: &(impl Abort + AllocGlobal), disk: MemoryDisk) -> Result<Core<MemoryDisk>, Fail> {
+fn opened(rt: &(impl Abort + AllocGlobal), disk: MemoryDisk) -> Core<MemoryDisk> {
     match Core::open(rt.alloc(), disk, Limits { history: 1000 }) {
-        Ok(core) => Ok(core),
-        Err((refusal, _)) => {
-            assert!(rt; false, "{}", refusal.name());
-            unreachable!()
-        }
+        Ok(core) => core,
+        Err((refusal, _)) => panic!(rt; "{}", refusal.name()),
     }
 }
 
@@ -60,14 +54,10 @@ fn prints_over_a_damaged_shard(
     lines: &str,
 ) -> Result<(), Fail> {
     let alloc = rt.alloc();
-    let image = image(rt)?;
-    let core = opened(rt, damaged(rt, &image, 2 * 4096 + 41)?)?;
-    let mut output = Vec::new(alloc);
     let text = script_text(alloc, script)?;
-    let ran = run_script(alloc, core, text.as_bytes(), &mut output);
     let wanted = printed(alloc, lines)?;
-    assert_eq!(rt; output.as_slice(), wanted.as_bytes(), "{script}");
-    assert_eq!(rt; ran.status, 0, "{script}");
+    let disk = damaged(rt, &image(rt)?, 2 * 4096 + 41)?;
+    end_of(alloc, opened(rt, disk), &text).printed(rt, &wanted, 0, script);
     Ok(())
 }
 

@@ -1,73 +1,76 @@
 //! One call on the device that fails, whichever it is: a put, a sync, another put and a get, then a crash.
 use super::crashes::fails;
+use super::damage::why_not_opened;
 use super::new_core;
-use cs_core::{Core, Limits};
 use cs_deps::Refusal;
 use cs_disk::FailAt;
 use std::process::Abort;
 use std::test::Fail;
-
-/// Asserts what is printed where that call fails, and what a crash with this mask leaves then. The store halts, so what was put first
-/// is read from memory.
-fn halts(
-    rt: &(impl Abort + AllocGlobal),
-    call: u64,
-    rounds: &str,
-    mask: &str,
-    crash: &str,
-) -> Result<(), Fail> {
-    let alloc = rt.alloc();
-    let script = format!(in alloc; "put @a 61 / sync / put @b 62 / get @a / crash {mask}")?;
-    let lines = format!(in alloc;
-        "put 1 / {rounds}refused 1 DeviceFault / refused 40 Halted / value 61 / crash kept {crash}"
-    )?;
-    fails(rt, call, &script, &lines, 0)
-}
 
 /// The three calls that open the store.
 #[test]
 fn opening_fails(rt: HostRuntime) -> Result<(), Fail> {
     for call in 1..4 {
         let disk = FailAt::new(new_core(&rt, 6)?.into_disk(), call);
-        let refusal = match Core::open(rt.alloc(), disk, Limits { history: 1000 }) {
-            Ok(_) => None,
-            Err((refusal, _)) => Some(refusal),
-        };
+        let refusal = why_not_opened(rt.alloc(), disk);
         assert_eq!(rt; refusal, Some(Refusal::DeviceFault));
     }
     Ok(())
 }
 
+/// A call that fails, which rounds are printed before, and for a crash then its mask, what it keeps, and how many commands it leaves.
+type Halt = (u64, &'static str, &'static str, &'static str, u64);
+
+/// The store halts, so what was put first is read from memory.
+fn halts(rt: &(impl Abort + AllocGlobal), halt: &Halt) -> Result<(), Fail> {
+    let alloc = rt.alloc();
+    let (call, rounds, mask, kept, commands) = *halt;
+    let script = format!(in alloc; "put @a 61 / sync / put @b 62 / get @a / crash {mask}")?;
+    let lines = format!(in alloc;
+        "put 1 / {rounds}refused 1 DeviceFault / refused 40 Halted / value 61 / crash kept {kept} / open commands {commands} shards {commands}"
+    )?;
+    fails(rt, call, &script, &lines, 0)
+}
+
 /// The two writes of the first round, and its flush.
+const FIRST_ROUND: &[Halt] = &[
+    (4, "", "-", "0 of 0", 0),
+    (5, "", "0", "0 of 1", 0),
+    (5, "", "1", "1 of 1", 0),
+    (6, "", "00", "0 of 2", 0),
+    (6, "", "01", "1 of 2", 0),
+    (6, "", "10", "1 of 2", 0),
+    (6, "", "11", "2 of 2", 0),
+];
+
 #[test]
 fn the_first_round_fails(rt: HostRuntime) -> Result<(), Fail> {
-    let none = "open commands 0 shards 0";
-    for (call, mask, kept) in [(4, "-", "0 of 0"), (5, "0", "0 of 1"), (5, "1", "1 of 1")] {
-        let crash = format!(in rt.alloc(); "{kept} / {none}")?;
-        halts(&rt, call, "", mask, &crash)?;
-    }
-    for (mask, kept) in [("00", 0), ("01", 1), ("10", 1), ("11", 2)] {
-        let crash = format!(in rt.alloc(); "{kept} of 2 / {none}")?;
-        halts(&rt, 6, "", mask, &crash)?;
+    for halt in FIRST_ROUND {
+        halts(&rt, halt)?;
     }
     Ok(())
 }
 
+const ONE: &str = "round 1: [w1, w2] / ";
+
+const TWO: &str = "round 1: [w1, w2] / round 2: [s3] / ";
+
 /// The superblock's write and its flush, then the root's.
+const LATER_ROUNDS: &[Halt] = &[
+    (7, ONE, "-", "0 of 0", 0),
+    (8, ONE, "0", "0 of 1", 0),
+    (8, ONE, "1", "1 of 1", 0),
+    (9, TWO, "-", "0 of 0", 0),
+    (10, TWO, "0", "0 of 1", 0),
+    (10, TWO, "1", "1 of 1", 1),
+];
+
 #[test]
 fn later_rounds_fail(rt: HostRuntime) -> Result<(), Fail> {
-    let one = "round 1: [w1, w2] / ";
-    let two = "round 1: [w1, w2] / round 2: [s3] / ";
-    let none = "open commands 0 shards 0";
-    for (call, mask, kept) in [(7, "-", "0 of 0"), (8, "0", "0 of 1"), (8, "1", "1 of 1")] {
-        let crash = format!(in rt.alloc(); "{kept} / {none}")?;
-        halts(&rt, call, one, mask, &crash)?;
+    for halt in LATER_ROUNDS {
+        halts(&rt, halt)?;
     }
-    for (call, mask, kept) in [(9, "-", "0 of 0"), (10, "0", "0 of 1")] {
-        let crash = format!(in rt.alloc(); "{kept} / {none}")?;
-        halts(&rt, call, two, mask, &crash)?;
-    }
-    halts(&rt, 10, two, "1", "1 of 1 / open commands 1 shards 1")
+    Ok(())
 }
 
 /// Asserts the same where all was made persistent before: the get, and what a crash leaves, with the exit status.

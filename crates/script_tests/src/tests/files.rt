@@ -10,36 +10,33 @@ use std::process::Abort;
 use std::rt::Files;
 use std::test::Fail;
 
-/// Asserts what a script prints over the store in a file, and its exit status.
+/// Asserts what a script's text prints over the store in a file, and its exit status.
 fn prints_over(
     rt: &(impl Abort + AllocGlobal),
     store: Result<Core<FileDisk>, Refusal>,
-    script: &str,
-    lines: &str,
+    text: &str,
+    wanted: &str,
     status: u8,
-) -> Result<(), Fail> {
-    let alloc = rt.alloc();
-    let text = script_text(alloc, script)?;
-    let mut output = Vec::new(alloc);
-    let ended = run_over(alloc, store, text.as_bytes(), &mut output);
-    let wanted = printed(alloc, lines)?;
-    assert_eq!(rt; output.as_slice(), wanted.as_bytes(), "{script}");
-    assert_eq!(rt; ended, status, "{script}");
-    Ok(())
+) {
+    let mut output = Vec::new(rt.alloc());
+    let ended = run_over(rt.alloc(), store, text.as_bytes(), &mut output);
+    assert_eq!(rt; output.as_slice(), wanted.as_bytes(), "{text}");
+    assert_eq!(rt; ended, status, "{text}");
 }
 
 /// Makes a store of 6 extents of 2 pages in a file, and puts a shard.
 fn make(rt: &(impl Abort + AllocGlobal + Files<File = File>), path: &str) -> Result<(), Fail> {
-    prints_over(
-        rt,
-        new_in_file(rt, rt.alloc(), path, Geometry::new(6, 2)?),
-        "put @a 61 / sync",
+    let text = script_text(rt.alloc(), "put @a 61 / sync")?;
+    let wanted = printed(
+        rt.alloc(),
         "put 1 / round 1: [w1, w2] / round 2: [s3] / round 3: [r2] / chain: [w1, s3, r2] / flushes 3 / acknowledged 1",
-        0,
-    )
+    )?;
+    let store = new_in_file(rt, rt.alloc(), path, Geometry::new(6, 2)?);
+    prints_over(rt, store, &text, &wanted, 0);
+    Ok(())
 }
 
-/// The same for the store that is in the file.
+/// Asserts what a script prints over the store that is in the file, and its exit status.
 fn opens(
     rt: &(impl Abort + AllocGlobal + Files<File = File>),
     path: &str,
@@ -47,13 +44,11 @@ fn opens(
     lines: &str,
     status: u8,
 ) -> Result<(), Fail> {
-    prints_over(
-        rt,
-        open_in_file(rt, rt.alloc(), path),
-        script,
-        lines,
-        status,
-    )
+    let text = script_text(rt.alloc(), script)?;
+    let wanted = printed(rt.alloc(), lines)?;
+    let store = open_in_file(rt, rt.alloc(), path);
+    prints_over(rt, store, &text, &wanted, status);
+    Ok(())
 }
 
 /// What was synced is there when the file is opened again, and what wasn't isn't.
@@ -126,16 +121,9 @@ fn files_that_hold_no_store(rt: HostRuntime) -> Result<(), Fail> {
 /// A file that can't be made.
 #[test]
 fn no_store_is_made(rt: HostRuntime) -> Result<(), Fail> {
-    prints_over(
-        &rt,
-        new_in_file(
-            &rt,
-            rt.alloc(),
-            "no_such_folder/store",
-            Geometry::new(6, 2)?,
-        ),
-        "get @a",
-        "refused 1 DeviceFault",
-        3,
-    )
+    let text = script_text(rt.alloc(), "get @a")?;
+    let path = "no_such_folder/store";
+    let store = new_in_file(&rt, rt.alloc(), path, Geometry::new(6, 2)?);
+    prints_over(&rt, store, &text, "refused 1 DeviceFault\n", 3);
+    Ok(())
 }

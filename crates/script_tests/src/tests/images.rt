@@ -1,5 +1,5 @@
 //! What stands on the device's pages.
-use super::{core_of, printed, run_on, script_text};
+use super::{disk_after, printed, script_text};
 use std::process::Abort;
 use std::test::Fail;
 
@@ -34,25 +34,32 @@ const RUN: &[u8] = b"CSF1\x01\0\0\0\x55\x08\xe3\x07\xea\x1b\xcb\x07\x73";
 
 const ENTRY: &[u8] = b"\0\0\0\x01\0\0\0\0\0\0\0\0\0\0\0\0\0\0\0\x0a\x01";
 
+/// What stands on the pages, and from where on.
+const PIECES: &[(usize, &[u8])] = &[
+    (0, SUPERBLOCK),
+    (52, SUPERBLOCK_DIGEST),
+    (4096, ROOT),
+    (4125, ROOT_DIGEST),
+    (8192, CHUNK),
+    (8233, b"\x61\0"),
+    (12288, RUN),
+    (12329, ENTRY),
+];
+
+/// From where on there are zeros, and how many.
+const ZEROS: &[(usize, usize)] = &[(22, 30), (84, 4012), (12350, 64), (16384, 4096)];
+
 #[test]
 fn pages(rt: HostRuntime) -> Result<(), Fail> {
     let text = script_text(rt.alloc(), "put @a 61 / sync")?;
-    let (ran, _) = run_on(&rt, 6, &text)?;
-    let disk = core_of(&rt, ran).into_disk();
-    let image = disk.image();
-    assert_eq!(rt; image.len(), 14 * 4096);
-    stands(&rt, image, 0, SUPERBLOCK);
-    has_zeros(&rt, image, 22, 30);
-    stands(&rt, image, 52, SUPERBLOCK_DIGEST);
-    has_zeros(&rt, image, 84, 4012);
-    stands(&rt, image, 4096, ROOT);
-    stands(&rt, image, 4125, ROOT_DIGEST);
-    stands(&rt, image, 8192, CHUNK);
-    stands(&rt, image, 8233, b"\x61\0");
-    stands(&rt, image, 12288, RUN);
-    stands(&rt, image, 12329, ENTRY);
-    has_zeros(&rt, image, 12350, 64);
-    has_zeros(&rt, image, 16384, 4096);
+    let (disk, _) = disk_after(&rt, 6, &text)?;
+    assert_eq!(rt; disk.image().len(), 14 * 4096);
+    for (from, bytes) in PIECES {
+        stands(&rt, disk.image(), *from, bytes);
+    }
+    for (from, count) in ZEROS {
+        has_zeros(&rt, disk.image(), *from, *count);
+    }
     Ok(())
 }
 
@@ -66,10 +73,9 @@ fn leaves(
     runs: &[u8],
 ) -> Result<(), Fail> {
     let text = script_text(rt.alloc(), script)?;
-    let (ran, output) = run_on(rt, extents, &text)?;
     let wanted = printed(rt.alloc(), end)?;
+    let (disk, output) = disk_after(rt, extents, &text)?;
     assert!(rt; output.as_slice().ends_with(wanted.as_bytes()));
-    let disk = core_of(rt, ran).into_disk();
     stands(rt, disk.image(), 4116, runs);
     Ok(())
 }

@@ -1,6 +1,5 @@
 //! A crash at each moment of a script, with each mask.
-use super::{core_of, run_on, script_text};
-use cs_disk::CrashDisk;
+use super::{run_on, script_text};
 use std::alloc::Global;
 use std::process::Abort;
 use std::test::Fail;
@@ -77,29 +76,27 @@ fn crashes(
     let alloc = rt.alloc();
     let end = script_text(alloc, "get @a / get @b / get @c")?;
     let text = format!(in alloc; "{lines}crash {mask}\n{end}")?;
-    let (ran, output) = run_on(rt, 6, &text)?;
-    let (commands, _) = core_of(rt, ran).opened();
+    let ended = run_on(rt, 6, &text)?;
+    let commands = ended.counts(rt).found;
     assert!(rt; acknowledged <= commands, "{text}");
     assert!(rt; commands <= accepted, "{text}");
     let mut wanted = String::new(alloc);
     for digit in "abc".chars() {
         wanted.push_str(&line_after(alloc, commands, digit)?)?;
     }
-    assert!(rt; output.as_slice().ends_with(wanted.as_bytes()), "{text}");
+    ended.printed_last(rt, &wanted, &text);
     Ok(())
 }
 
 /// Crashes with each mask after these lines, and gives how many there were.
 fn crashes_with_each_mask(rt: &(impl Abort + AllocGlobal), lines: &str) -> Result<u64, Fail> {
     let alloc = rt.alloc();
-    let (ran, _) = run_on(rt, 6, lines)?;
-    let core = core_of(rt, ran);
-    let volatile = core.disk().volatile();
-    assert!(rt; volatile < 12);
-    let masks = 1 << volatile as u64;
+    let counts = run_on(rt, 6, lines)?.counts(rt);
+    assert!(rt; counts.volatile < 12);
+    let masks = 1 << counts.volatile as u64;
     for number in 0..masks {
-        let mask = mask_text(alloc, volatile, number)?;
-        crashes(rt, lines, &mask, core.frontier(), core.accepted())?;
+        let mask = mask_text(alloc, counts.volatile, number)?;
+        crashes(rt, lines, &mask, counts.persistent, counts.accepted)?;
     }
     Ok(masks)
 }
@@ -116,8 +113,7 @@ fn each_moment_with_each_mask(rt: HostRuntime) -> Result<(), Fail> {
         most = most.max(crashes_with_each_mask(&rt, &lines)?);
     }
     // All was made persistent at the end, and rounds of several members were out before.
-    let (ran, _) = run_on(&rt, 6, &lines)?;
-    assert_eq!(rt; core_of(&rt, ran).frontier(), 6);
+    assert_eq!(rt; run_on(&rt, 6, &lines)?.counts(&rt).persistent, 6);
     assert!(rt; most >= 16);
     Ok(())
 }

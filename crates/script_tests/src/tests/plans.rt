@@ -6,7 +6,7 @@ use cs_disk::MemoryDisk;
 use cs_script::run_script;
 use std::alloc::Global;
 use std::process::Abort;
-use std::test::Fail;
+use std::test::{Fail, *};
 
 /// The next number of a fixed list without an order that shows.
 fn next(number: u64) -> u64 {
@@ -29,36 +29,48 @@ fn line_of(alloc: Global, number: u64) -> Result<String, Fail> {
     script_text(alloc, &line)
 }
 
-/// Asserts that the check accepts the plan of all that waits, where no round is out.
-fn judge(rt: &(impl Abort + AllocGlobal), core: &Core<MemoryDisk>) -> Result<bool, Fail> {
+/// So many lines.
+fn lines(alloc: Global, count: usize) -> Result<Vec<String>, Fail> {
+    let mut lines = Vec::new(alloc);
+    let mut number = 1;
+    for _ in 0..count {
+        number = next(number);
+        lines.push(line_of(alloc, number)?)?;
+    }
+    Ok(lines)
+}
+
+/// The core after one line more.
+fn after_line(
+    rt: &(impl Abort + AllocGlobal),
+    core: Core<MemoryDisk>,
+    line: &str,
+) -> Core<MemoryDisk> {
+    let mut output = Vec::new(rt.alloc());
+    let ran = run_script(rt.alloc(), core, line.as_bytes(), &mut output);
+    core_of(rt, ran)
+}
+
+/// Asserts that the check accepts the plan of all that waits, where no round is out. It tells whether there was one.
+fn judge(rt: &(impl Abort + AllocGlobal), core: &Core<MemoryDisk>) -> bool {
     if core.round().is_some() {
-        return Ok(false);
+        return false;
     }
-    match core.plan() {
-        Ok(plan) => {
-            let judged = check(rt.alloc(), &core.view()?, &core.everything()?, &plan);
-            assert!(rt; judged.is_ok());
-            Ok(true)
-        }
-        Err(refusal) => {
-            assert!(rt; false, "{}", refusal.name());
-            Ok(false)
-        }
-    }
+    let plan = core.plan().expect(rt, "a plan");
+    let view = core.view().expect(rt, "a view");
+    let everything = core.everything().expect(rt, "everything");
+    assert!(rt; check(rt.alloc(), &view, &everything, &plan).is_ok());
+    true
 }
 
 #[test]
 fn the_check_accepts_each_plan(rt: HostRuntime) -> Result<(), Fail> {
+    let lines = lines(rt.alloc(), 2000)?;
     let mut core = new_core_of(&rt, 6, 8192)?;
-    let mut number = 1;
     let mut plans: u64 = 0;
-    for _ in 0..2000 {
-        number = next(number);
-        let line = line_of(rt.alloc(), number)?;
-        let mut output = Vec::new(rt.alloc());
-        let ran = run_script(rt.alloc(), core, line.as_bytes(), &mut output);
-        core = core_of(&rt, ran);
-        if judge(&rt, &core)? {
+    for line in lines.iter() {
+        core = after_line(&rt, core, line);
+        if judge(&rt, &core) {
             plans = plans.saturating_add(1);
         }
     }

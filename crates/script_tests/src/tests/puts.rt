@@ -73,12 +73,12 @@ fn two_chunks_are_read(rt: HostRuntime) -> Result<(), Fail> {
 #[test]
 fn eight_chunks(rt: HostRuntime) -> Result<(), Fail> {
     let alloc = rt.alloc();
-    let (_, output) = run_on(&rt, 12, &long_put(alloc, 65208, " / plan")?)?;
+    let script = long_put(alloc, 65208, " / plan")?;
     let wanted = printed(
         alloc,
         "put 1 / round 1: [w1, w2, w3, w4, w5, w6, w7, w8, w9, w10, w11, w12, w13, w14, w15, w16, w17] / round 2: [s10] / round 3: [r2] / chain: [w1, s10, r2] / flushes 3",
     )?;
-    assert_eq!(rt; output.as_slice(), wanted.as_bytes());
+    run_on(&rt, 12, &script)?.printed(&rt, &wanted, 0, "eight chunks");
     Ok(())
 }
 
@@ -128,11 +128,10 @@ fn names(rt: HostRuntime) -> Result<(), Fail> {
     let rest =
         "put 000000000000000000000000000000aa 61 / del @0 / put 000000000000000000000000000000aa 61 / sweep 0 / put 000000000000000000000000000000aa 61";
     script.push_str(&script_text(alloc, rest)?)?;
-    let (_, output) = run_on(&rt, 64, &script)?;
     let wanted = printed(
         alloc,
         "put 99 / put 100 / refused 32 IndexFull / del 101 / refused 32 IndexFull / sweep 0 moved 1 root [r2] / put 102",
     )?;
-    assert!(rt; output.as_slice().ends_with(wanted.as_bytes()));
+    run_on(&rt, 64, &script)?.printed_last(&rt, &wanted, rest);
     Ok(())
 }

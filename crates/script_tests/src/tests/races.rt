@@ -3,7 +3,7 @@ ghost use Rattle.std.specs.Prelude.{◌≡◌, [], IfOk};
 ghost use Rattle.cs_node.specs.Starts.{start_of};
 
 use cs_core::Core;
-use cs_disk::MemoryDisk;
+use cs_disk::{MemoryDisk, PageDisk};
 use cs_frame::Geometry;
 use cs_node::{Board, Job, Naming, Node};
 use cs_script::{Race, Returned, new_core, new_in_memory, racers_of, run_race};
@@ -20,45 +20,38 @@ fn races(
     race: Option<Race>,
     wanted: &str,
     status: u8,
-) -> Result<(), Fail> {
-    let Some(race) = race else {
-        assert!(rt; false, "no race");
-        unreachable!()
-    };
-    let Ok(core) = new_core(rt.alloc()) else {
-        assert!(rt; false, "no core");
-        unreachable!()
-    };
+) {
+    let race = race.expect(rt, "a race");
+    let core = new_core(rt.alloc()).expect(rt, "a core");
     let mut output = Vec::new(rt.alloc());
     assert_eq!(rt; run_race(rt, rt.alloc(), core, race, &mut output), status);
     assert_eq!(rt; output.as_slice(), wanted.as_bytes());
-    Ok(())
 }
 
 #[test]
-fn all_tickets_come(rt: HostRuntime) -> Result<(), Fail> {
+fn all_tickets_come(rt: HostRuntime) {
     races(
         &rt,
         Race::new(4, 10, 0, false),
         "accepted 40\nread back 40\nacknowledged 40\n",
         0,
-    )?;
+    );
     races(
         &rt,
         Race::new(3, 5, 0, true),
         "accepted 15\nread back 15\nacknowledged 15\n",
         0,
-    )
+    );
 }
 
 #[test]
-fn a_ticket_is_dropped(rt: HostRuntime) -> Result<(), Fail> {
+fn a_ticket_is_dropped(rt: HostRuntime) {
     races(
         &rt,
         Race::new(4, 10, 1, false),
         "accepted 40\nread back 40\nrefused 50 Missing 1\n",
         1,
-    )
+    );
 }
 
 #[test]
@@ -86,7 +79,8 @@ fn large_core(alloc: Global) -> Result<Core<MemoryDisk>, Fail>
 fn racers_run_one_after_another(rt: HostRuntime) -> Result<(), Fail> {
     let board = Board::new(rt.alloc())?;
     let core = large_core(rt.alloc())?;
-    one_after_another::<Brand, _>(&rt, rt.alloc(), board, core)
+    one_after_another::<Brand, _>(&rt, rt.alloc(), board, core);
+    Ok(())
 }
 
 fn one_after_another<K: Naming + Send + Sync, R: Wait + Abort>(
@@ -94,22 +88,31 @@ fn one_after_another<K: Naming + Send + Sync, R: Wait + Abort>(
     alloc: Global,
     board: Board,
     core: Core<MemoryDisk>,
-) -> Result<(), Fail>
+)
     requires named { (board ≡ K.table) × (start_of core ≡ K.start) }
     requires new { (core.history ≡ []) × (core.store.accepted ≡ 0) × (core.store.frontier ≡ 0) }
 {
     let node = Node::<MemoryDisk, K>::new(board, core);
-    let pilot = node.pilot(rt).expect(rt, "the pilot");
     let race = Race::new(2, 600, 0, false).expect(rt, "a race");
-    let Ok(all) = racers_of(rt, alloc, &node, race, pilot) else {
+    assert_eq!(rt; read_back(rt, alloc, &node, race), 1200);
+}
+
+/// How many shards the racers of a race read back.
+fn read_back<D: PageDisk + Send, K: Naming + Send + Sync, R: Wait + Abort>(
+    rt: &R,
+    alloc: Global,
+    node: &Node<D, K>,
+    race: Race,
+) -> u64 {
+    let pilot = node.pilot(rt).expect(rt, "the pilot");
+    let Ok(racers) = racers_of(rt, alloc, node, race, pilot) else {
         panic!(rt; "racers")
     };
     let mut read_back = 0u64;
-    for racer in all.into_iter().rev() {
-        if let Returned::Called(_, count) = racer.run(rt, &node) {
+    for racer in racers.into_iter().rev() {
+        if let Returned::Called(_, count) = racer.run(rt, node) {
             read_back = read_back.saturating_add(count);
         }
     }
-    assert_eq!(rt; read_back, 1200);
-    Ok(())
+    read_back
 }

@@ -1,10 +1,10 @@
 //! A crash in each round over a swept extent, after its begin and after each of its issues, with each mask.
-use super::{core_of, run_on, script_text};
+use super::{disk_after, script_text};
 use cs_core::{Core, Limits};
 use cs_disk::{CrashDisk, MemoryDisk};
-use std::alloc::Global;
+use std::alloc::{AllocError, Global};
 use std::process::Abort;
-use std::test::Fail;
+use std::test::{Fail, *};
 
 /// How many crashes left how many commands: none, two or four.
 #[derive(Clone, Copy)]
@@ -12,6 +12,19 @@ struct Outcomes {
     none: u64,
     two: u64,
     four: u64,
+}
+
+impl Outcomes {
+    /// Counts a crash that left so many commands and shards.
+    fn count(&mut self, rt: &impl Abort, found: (u64, usize)) {
+        assert_eq!(rt; found.0, found.1 as u64);
+        match found.0 {
+            0 => self.none = self.none.saturating_add(1),
+            2 => self.two = self.two.saturating_add(1),
+            4 => self.four = self.four.saturating_add(1),
+            _ => panic!(rt; "{} commands", found.0),
+        }
+    }
 }
 
 /// The disk after a sweep, two more puts and so many steps.
@@ -24,12 +37,12 @@ fn stopped(rt: &(impl Abort + AllocGlobal), steps: u64) -> Result<MemoryDisk, Fa
     for _ in 0..steps {
         text.push_str("step\n")?;
     }
-    let (ran, _) = run_on(rt, 6, &text)?;
-    Ok(core_of(rt, ran).into_disk())
+    let (disk, _) = disk_after(rt, 6, &text)?;
+    Ok(disk)
 }
 
 /// The mask that a number stands for, its lowest digit first.
-fn mask_of(alloc: Global, count: usize, number: u64) -> Result<Vec<bool>, Fail> {
+fn mask_of(alloc: Global, count: usize, number: u64) -> Result<Vec<bool>, AllocError> {
     let mut mask = Vec::new(alloc);
     let mut rest = number;
     for _ in 0..count {
@@ -39,32 +52,20 @@ fn mask_of(alloc: Global, count: usize, number: u64) -> Result<Vec<bool>, Fail> 
     Ok(mask)
 }
 
-/// Counts what a crash after so many steps leaves, with this mask.
-fn count(
+/// How many commands and shards a crash after so many steps leaves, with the mask of this number.
+fn found_after(
     rt: &(impl Abort + AllocGlobal),
     steps: u64,
     number: u64,
-    outcomes: &mut Outcomes,
-) -> Result<(), Fail> {
+) -> Result<(u64, usize), Fail> {
     let disk = stopped(rt, steps)?;
-    let mask = mask_of(rt.alloc(), disk.volatile(), number)?;
     assert!(rt; disk.crashable());
+    let mask = mask_of(rt.alloc(), disk.volatile(), number).expect(rt, "a mask");
     assert!(rt; mask.len() == disk.volatile());
-    let disk = disk.crash(&mask);
-    let found = match Core::open(rt.alloc(), disk, Limits { history: 1 }) {
-        Ok(core) => core.opened(),
-        Err((refusal, _)) => {
-            assert!(rt; false, "{}", refusal.name());
-            unreachable!()
-        }
-    };
-    match found {
-        (0, 0) => outcomes.none = outcomes.none.saturating_add(1),
-        (2, 2) => outcomes.two = outcomes.two.saturating_add(1),
-        (4, 4) => outcomes.four = outcomes.four.saturating_add(1),
-        _ => assert!(rt; false, "{steps} steps, mask {number}"),
+    match Core::open(rt.alloc(), disk.crash(&mask), Limits { history: 1 }) {
+        Ok(core) => Ok(core.opened()),
+        Err((refusal, _)) => panic!(rt; "{steps} steps, mask {number}: {}", refusal.name()),
     }
-    Ok(())
 }
 
 /// The rounds have six, one, one, three, one and one members: with the begin of each and its end, 25 steps. A step that ends a round
@@ -80,12 +81,8 @@ fn each_stop_with_each_mask(rt: HostRuntime) -> Result<(), Fail> {
     for members in [6, 1, 1, 3, 1, 1] {
         for issued in 0..=members {
             for number in 0..1 << issued {
-                count(
-                    &rt,
-                    begun.saturating_add(1).saturating_add(issued),
-                    number,
-                    &mut outcomes,
-                )?;
+                let steps = begun.saturating_add(1).saturating_add(issued);
+                outcomes.count(&rt, found_after(&rt, steps, number)?);
             }
         }
         begun = begun.saturating_add(members).saturating_add(2);

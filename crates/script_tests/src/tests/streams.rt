@@ -1,10 +1,10 @@
 //! Readers and writers that fail.
-use super::{core_of, document_text, new_core, script_text};
-use cs_script::{run_check, run_script};
+use super::{document_text, new_core, run_to_end, script_text};
+use cs_script::run_check;
 use std::io;
 use std::io::{ErrorKind, Read, Write};
 use std::process::Abort;
-use std::test::Fail;
+use std::test::{Fail, *};
 
 /// Gives some bytes, and then fails.
 #[derive(Drop)]
@@ -68,9 +68,9 @@ fn ends<R: Read + Drop, W: Write>(
     accepted: u64,
 ) -> Result<(), Fail> {
     let core = new_core(rt, 6)?;
-    let ran = run_script(rt.alloc(), core, reader, writer);
-    assert_eq!(rt; ran.status, status);
-    assert_eq!(rt; core_of(rt, ran).accepted(), accepted);
+    let (ended, left) = run_to_end(rt.alloc(), core, reader, writer);
+    assert_eq!(rt; ended, status);
+    assert_eq!(rt; left.expect(rt, "a core is left").accepted, accepted);
     Ok(())
 }
 
