@@ -56,7 +56,8 @@ fn entry(
     Ok((element, needs))
 }
 
-/// The waiting elements with their needs.
+/// Reads the waiting elements in their order, each with its needs, which are sought among those before. 10 BadDocument where one isn't
+/// there; 9 OutOfMemory.
 fn entries(
     alloc: Global,
     letters: &[char],

@@ -87,7 +87,7 @@ pub fn rounds(
     Ok(rounds)
 }
 
-/// The version that a whole number is.
+/// Reads a whole number below 2^63 as a version; any other value is 10 BadDocument.
 fn version(value: &Value) -> Result<u64, CheckFault>
     ensures ok { IfOk result (λ v. (v < 2 ^ 63) × (view value.now ≡ number (unsigned v))) }
     ensures err { IfErr result (λ fault. (fault ≡ CheckFault.BadDocument) × ((v : ℕ) → v < 2 ^ 63 → view value.now ≡ number (unsigned v) → ⊥)) }
@@ -104,7 +104,7 @@ fn version(value: &Value) -> Result<u64, CheckFault>
     }
 }
 
-/// The versions that an array of whole numbers is.
+/// Reads an array of such numbers. 9 OutOfMemory, or 10 BadDocument for any other value.
 pub fn versions(alloc: Global, value: &Value) -> Result<Vec<u64>, CheckFault>
     ensures ok { IfOk result (λ vs. All (λ v. v < 2 ^ 63) vs.items × (view value.now ≡ numbers_data vs.items)) }
     ensures err { IfErr result (λ fault. Blames fault ((vs : List ℕ) × All (λ v. v < 2 ^ 63) vs × (view value.now ≡ numbers_data vs))) }

@@ -100,7 +100,7 @@ fn decoded(alloc: Global, kind: FrameKind, pages: &[[u8; 4096]]) -> Result<Vec<u
 }
 
 /// The pages of the frame that begins at a place. The header's tests are made before the second page is read.
-fn frame_pages<D: PageDisk>(
+fn read_frame_pages<D: PageDisk>(
     alloc: Global,
     extents: &Extents,
     graph: &Graph,
@@ -173,7 +173,7 @@ pub fn read_frame<D: PageDisk>(
     ensures cause { IsCaused (D.failure_count disk.old) (D.failure_count disk.new) result }
     ensures whole { IsWhole extents.now }
 {
-    match frame_pages(alloc, extents, graph, disk, kind, locator) {
+    match read_frame_pages(alloc, extents, graph, disk, kind, locator) {
         Ok(pages) => decoded(alloc, kind, &pages),
         Err(refusal) => Err(refusal),
     }

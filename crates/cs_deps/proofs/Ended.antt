@@ -9,15 +9,15 @@ use Rattle.cs_deps.specs.declared.levels.Kept.{Kept}
 use Rattle.cs_deps.specs.declared.levels.Levels.{Levels}
 use Rattle.cs_deps.specs.Named.{Named, Names, IsWithin, StandsFor}
 use Rattle.cs_deps.specs.Pending.{Waits}
-use Rattle.cs_deps.specs.Staging.{IsSatisfied, is_left_waiting}
-use Rattle.cs_deps.specs.State.{State, after_round, waits_still}
+use Rattle.cs_deps.specs.Staging.{IsSatisfied, is_left_waiting, waits_still}
+use Rattle.cs_deps.specs.State.{State, after_round}
 use Rattle.cs_deps.specs.Entries.{IsSound}
 use Rattle.cs_deps.specs.Levels.{kept_by, level_by, top_of, row_at, IsInRow, IsIndexed}
 use Rattle.cs_deps.proofs.Filtered.{filter_keeps}
 use Rattle.cs_deps.proofs.KeptIn.{level_one}
 use Rattle.cs_deps.proofs.LeftOver.{level_test}
 use Rattle.cs_deps.proofs.Settled.{one_stands}
-use Rattle.cs_deps.proofs.StateSteps.{after_waits, waits_still_is}
+use Rattle.cs_deps.proofs.StateSteps.{after_waits}
 use Rattle.cs_deps.proofs.Tops.{up}
 
 module _ (s : State) (whole : IsSound s) (l : Levels) (ix : IsIndexed s l) where
@@ -28,7 +28,7 @@ module _ (s : State) (whole : IsSound s) (l : Levels) (ix : IsIndexed s l) where
       member : (round : List Element) → s.round ≡ Some round → (b : Bool) → waits_still round (Plain n) ≡ b → l.ended < level_by l (Plain n)
       member round is true q = (let lt = ltb-true l.base (level_by l (Plain n)) (level_test s whole l ix round is n w ∙ q) in omega (arith, lt, ix.low))
       member round is false q =
-          let y = one_stands round (Plain n, w.1) (waits_still_is round (Plain n) w.1 ∙ q) in
+          let y = one_stands round (Plain n, w.1) q in
           stands y.0 y.1 y.2
         where
           stands : (y : Element) → Contains round y → StandsFor y (Plain n) → l.ended < level_by l (Plain n)
@@ -54,9 +54,9 @@ module _ (s : State) (whole : IsSound s) (l : Levels) (ix : IsIndexed s l) where
       after_it a = (let lt = up s whole l ix x a in omega (arith, lt, ix.within x, ix.low))
 
       member : (round : List Element) → s.round ≡ Some round → (b : Bool) → waits_still round x ≡ b → 0 < length l.rows.items
-      member round is true q = (let r = filter_keeps (is_left_waiting round) s.staging.pending.waiting w.0 (x, w.1) w.2 (waits_still_is round x w.1 ∙ q) in after_it (subst (λ o. Waits (after_round s.staging.pending o) x) (sym is) (r.0, w.1, r.1)))
+      member round is true q = (let r = filter_keeps (is_left_waiting round) s.staging.pending.waiting w.0 (x, w.1) w.2 q in after_it (subst (λ o. Waits (after_round s.staging.pending o) x) (sym is) (r.0, w.1, r.1)))
       member round is false q =
-          let y = one_stands round (x, w.1) (waits_still_is round x w.1 ∙ q) in
+          let y = one_stands round (x, w.1) q in
           let o = ix.out y.0 (round, is, y.1) in
           omega (arith, o.0, ix.high)
 

@@ -8,8 +8,8 @@ use Rattle.cs_deps.specs.declared.elements.Element.TheVariants.{Plain, Version}
 use Rattle.cs_deps.specs.declared.levels.Levels.{Levels}
 use Rattle.cs_deps.specs.Named.{Named}
 use Rattle.cs_deps.specs.Pending.{Waits}
-use Rattle.cs_deps.specs.Staging.{is_left_waiting, raised}
-use Rattle.cs_deps.specs.State.{State, Write, after_round, waits_still}
+use Rattle.cs_deps.specs.Staging.{is_left_waiting, raised, waits_still}
+use Rattle.cs_deps.specs.State.{State, Write, after_round}
 use Rattle.cs_deps.specs.Entries.{state_of, entry_stays, AreCurrent, IsSound}
 use Rattle.cs_deps.specs.Levels.{level_by, level_of, entry_live, live_of, floor_of, IsIndexed, IsLevelsSettled}
 use Rattle.cs_deps.specs.Trimmed.{IsTrimmed}
@@ -17,7 +17,6 @@ use Rattle.cs_deps.proofs.Entries.{listed_now}
 use Rattle.cs_deps.proofs.Filtered.{filter_keeps}
 use Rattle.cs_deps.proofs.Live.{filter_twice}
 use Rattle.cs_deps.proofs.Settled.{came}
-use Rattle.cs_deps.proofs.StateSteps.{waits_still_is}
 use Rattle.cs_deps.proofs.Tops.{up}
 use Rattle.cs_deps.proofs.Trimmed.{level_above, level_low}
 
@@ -28,13 +27,13 @@ module _ (s : State) (whole : IsSound s) (l : Levels) (ix : IsIndexed s l) (roun
     where
       test : (b : Bool) → waits_still round (Plain n) ≡ b → nat_lt l.base (level_by l (Plain n)) ≡ b
       test true q =
-          let r = filter_keeps (is_left_waiting round) s.staging.pending.waiting w.0 (Plain n, w.1) w.2 (waits_still_is round (Plain n) w.1 ∙ q) in
+          let r = filter_keeps (is_left_waiting round) s.staging.pending.waiting w.0 (Plain n, w.1) w.2 q in
           lt-ltb l.base (level_by l (Plain n)) (up s whole l ix (Plain n) (subst (λ o. Waits (after_round s.staging.pending o) (Plain n)) (sym is) (r.0, w.1, r.1)))
       test false q = ⊎_elim
           (λ (lt : l.base < level_by l (Plain n)).
           let a = subst (λ o. Waits (after_round s.staging.pending o) (Plain n)) is (ix.levels.gone (Plain n) lt) in
           let c = came s.staging.pending whole.kept.staged round a.0 (Plain n) a.1 a.2 in
-          absurd (cc (sym (waits_still_is round (Plain n) a.1) ∙ c.2, q)))
+          let both : true ≡ false = sym c.2 ∙ q in absurd (cc both))
           (λ (le : level_by l (Plain n) ≤ l.base). le-ltb l.base (level_by l (Plain n)) le)
           (cases_lt l.base (level_by l (Plain n)))
 

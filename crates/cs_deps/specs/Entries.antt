@@ -6,12 +6,12 @@ use Rattle.cs_deps.specs.declared.levels.Levels.{Levels}
 use Rattle.cs_deps.specs.Levels.{IsIndexed}
 use Rattle.cs_deps.specs.Named.{Named}
 use Rattle.cs_deps.specs.Pending.{Waits}
-use Rattle.cs_deps.specs.Staging.{IsKept, stands_for}
+use Rattle.cs_deps.specs.Staging.{IsKept, stands_for, waits_still}
 use Rattle.cs_deps.specs.declared.records.Record.{Record}
 use Rattle.cs_deps.specs.Records.{AreFiled}
 use Rattle.cs_deps.specs.Newest.{AreNewest}
 use Rattle.slab.specs.Slab.{Slab, HasRoomFor}
-use Rattle.cs_deps.specs.State.{State, Write, IsListed, IsOut, waits_still}
+use Rattle.cs_deps.specs.State.{State, Write, IsListed, IsOut}
 
 -- what names nothing
 abbrev pub nothing : Named

@@ -46,7 +46,7 @@ fn fill(places: &mut Vec<Box<Dependency>>, count: usize) -> Result<(), AllocErro
     Ok(())
 }
 
-/// The place of an entry of an element, None where it has none. Goes through the entries.
+/// The index in the list of an element's entry, from 0; None where it has none. Compares with each.
 pub fn place_of(entries: &[(Element, Needs)], element: Element) -> Option<usize>
     ensures { MatchOption result (¬ IsListed entries.now element) (λ k. (d : Named) × (slice_get entries.now k ≡ Some (element, d))) }
 {

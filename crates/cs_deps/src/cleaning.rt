@@ -40,7 +40,8 @@ fn next_floor(persistent: u64, latest: u64, floor: u64) -> u64
     if persistent < latest { floor } else { latest }
 }
 
-/// Raises the floor of each family of which nothing waits to its last version; the others keep theirs.
+/// Raises the floor of each family of which nothing waits to its last version, as a later one needs nothing of those up to it; the
+/// others keep theirs.
 pub fn raise_floors(floors: &mut Vec<u64>, persistent: &[u64], latest: &[u64])
     requires count { length floors.old.items ≡ length latest.now }
     ensures each { (f : ℕ) → slice_index floors.new.items f ≡ floor_of (slice_index persistent.now f) (slice_index latest.now f) (slice_index floors.old.items f) }

@@ -31,7 +31,8 @@ use std::marker::Model;
 /// What is persistent, what waits with its needs and its page write, and the round that is out.
 ///
 /// Plain writes are numbered from 1, versions of each family from the one that was persistent at first; the last number
-/// of either is 2^63 - 1. There are 1 to 16 families. Page numbers are the caller's, and nothing here reads them.
+/// of either is 2^63 - 1. There are 1 to 16 families. Page numbers are the caller's: any will do, and they
+/// serve only to find the newest plain write to a page.
 #[derive(Drop)]
 pub struct Graph {
     /// The greatest persistent version of each family.
@@ -360,9 +361,10 @@ impl Graph {
     }
 
     /// Puts the round that is out into the persistent set, once its writes have been flushed. Its members and what they
-    /// stand for wait no more, and their bytes go. Over all calls the work is linear in the members and in what ends with them, and
-    /// in the families for each call: what is of no use any more is taken away when it is half of all that is kept. So what is kept
-    /// is at most twice what waits, and what the waiting versions take over from persistent ones. It takes no memory where no element
+    /// stand for wait no more, and their bytes go. Each call goes through the round, what ends with it, and the
+    /// families. What is of no use any more is taken away when it is half of all that is kept, so over all calls the work is linear in
+    /// the members and in what ends with them; only where a write to a page replaced an earlier one that is settled may finding the one
+    /// before go down the numbers. What is kept is at most twice what waits, and what the waiting versions take over from persistent ones. It takes no memory where no element
     /// needs versions of more than two families, and else no more than it gives back.
     pub fn settle_round(&mut self)
         requires out { IsSome self.old.round }

@@ -29,7 +29,8 @@ pub struct Kept {
     /// The greatest level of the plain writes up to this one, and the least that has it.
     pub top: u64,
     pub least: u64,
-    /// Under which its page write was put; of the versions of one level only the greatest has its own still.
+    /// The key of its page write in the graph's records. Once a later version of its family has its level, another write may
+    /// stand there.
     pub key: usize,
 }
 
@@ -52,9 +53,9 @@ pub struct Best {
 /// The levels of what waits.
 #[derive(Drop)]
 pub struct Levels {
-    /// Rounds ended that had a member.
+    /// How many rounds with a member have ended.
     pub ended: u64,
-    /// The same, and one while such a round is out.
+    /// `ended`, and one more while such a round is out.
     pub base: u64,
     /// What is kept of the plain writes, by number, from the one after `dropped` on.
     pub plains: VecDeque<Kept>,
@@ -288,7 +289,7 @@ impl Levels {
         self.top_versions(more, needs)
     }
 
-    /// Keeps the plain write behind n others, one level over what it needs.
+    /// Keeps the plain write after number `last`, one level above the highest of its needs.
     pub fn push_plain(&mut self, last: u64, best: Best, key: usize)
         requires low { self.old.ended ≤ best.level }
         requires high { best.level ≤ self.old.ended + length self.old.rows.items }

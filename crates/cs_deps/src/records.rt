@@ -22,7 +22,7 @@ pub struct Record {
     pub element: Element,
     pub page: u64,
     pub bytes: [u8; 4096],
-    /// Of a plain write a number that none before it to its page is above, 0 where none had a record when it was staged.
+    /// Of a plain write: no earlier one to its page that has a record has a number above this; 0 where none had one.
     pub older: u64,
 }
 

@@ -26,7 +26,9 @@ use std::marker::Model;
 pub struct Extents {
     /// What the next superblock says, but for its version.
     superblock: Superblock,
+    /// Of each extent the version of the root of its last reset since open, 0 for none.
     resets: Vec<u64>,
+    /// Which extents are being swept; opening forgets it.
     swept: Vec<bool>,
     open_extent: Option<usize>,
 }
@@ -139,7 +141,7 @@ impl Extents {
     }
 
     /// Empties an extent, under the version of the root that was staged for it. Nothing is staged: the next version of
-    /// the superblock records it. 35 `WornOut` where its generation is the greatest, 4,294,967,295.
+    /// the superblock records it, and an opening before that one is persistent finds the extent as it was. 35 `WornOut` where its generation is the greatest, 4,294,967,295.
     pub fn reset(&mut self, extent: usize, root: u64) -> Result<(), Refusal>
         requires exists { extent < (shape self.old).extents }
         requires closed { ¬ ((extents_of self.old).open_extent ≡ Some extent) }
@@ -248,7 +250,7 @@ impl Extents {
         self.geometry().device_page(extent as u16, page)
     }
 
-    /// The version of the root that goes with the last reset of an extent, 0 where there was none.
+    /// The version of the root under which an extent was last reset since open, 0 where it wasn't.
     fn root_of(&self, extent: usize) -> u64
         requires { extent < (shape self.now).extents }
         ensures { result ≡ (extents_of self.now).reset extent }
@@ -256,14 +258,14 @@ impl Extents {
         self.resets[extent]
     }
 
-    /// The greatest version of the root that goes with a last reset.
+    /// The greatest of these over all extents.
     fn need(&self) -> u64
         ensures { result ≡ need_of self.now }
     {
         greatest_of(&self.resets)
     }
 
-    /// Gives pages of an extent, which is open then unless it is full.
+    /// Takes pages of an extent from its pointer on; the extent is open then, unless it is full.
     fn take(&mut self, extent: usize, pages: usize)
         requires exists { extent < (shape self.old).extents }
         requires some { 1 ≤ pages }
@@ -326,7 +328,8 @@ impl Extents {
     }
 
     /// Appends a frame for this purpose: stages each of its pages as one plain write, and then the version of the
-    /// superblock that records them. Answers where the frame begins, and the dependency that names that version.
+    /// superblock that records them. Each page needs the root of its extent's last reset since open, if there is one; the superblock
+    /// needs all plain writes so far and the greatest such root. Answers where the frame begins, and the dependency that names that version.
     ///
     /// 30 `Full` where no extent takes the frame, then 35 `WornOut` where a number would pass 2^63 - 1, then 9
     /// `OutOfMemory`, which asks only for the room in the graph. Costs a pass over the extents, the frame's pages and one
@@ -394,7 +397,7 @@ impl Extents {
         ensures rest { graph.new ≡ record graph.old { room = graph.new.room } }
         ensures memory { frames + pages ≤ graph.old.room → IsOk result }
     {
-        // The sum alone counts, so the two numbers may change places.
+        // One staging a page, and one a frame for its superblock.
         graph.reserve(frames + pages)
     }
 }

@@ -1,7 +1,7 @@
 //! Where frames go on the device: extents of pages, of which one at a time is appended to, and each is reset as a whole.
 //!
 //! Each frame that is appended is staged in the graph: its pages as plain writes, and then a version of the superblock
-//! that records how far the extents are written.
+//! that records how many pages of each extent are given.
 #![tactic(auto)]
 
 mod extents;

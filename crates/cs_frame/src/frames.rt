@@ -47,7 +47,7 @@ impl FrameHeader {
     }
 }
 
-/// The pages that a frame with so many bytes of payload takes.
+/// How many pages a frame with so many bytes of payload takes.
 pub fn frame_pages(payload_len: usize) -> usize
     requires { payload_len < 2 ^ 32 }
     ensures { result ≡ page_count payload_len }

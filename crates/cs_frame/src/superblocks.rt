@@ -1,4 +1,4 @@
-//! The superblock: how far each extent is written.
+//! The superblock: how many pages of each extent are given.
 
 ghost use Rattle.std.specs.Prelude.{◌≡◌, ◌≢◌, ◌↔◌, ◌+◌, ◌*◌, ◌/◌, ◌≤◌, ◌++◌, ℕ, List, Some, None, Ok, Err, IfOk, MatchResult, length, nat_le};
 ghost use Rattle.std.specs.List.{AllByRecursion, list_all};
@@ -21,7 +21,7 @@ pub struct Superblock {
     /// The pages of an extent, from 2 to 256.
     pub pages: u16,
     /// Of each extent, 4 to 512 of them, the pointer and the generation: how many of its pages are
-    /// written, and how often it was reset.
+    /// given, and how often it was reset.
     pub extents: Vec<(u16, u32)>,
 }
 

@@ -62,8 +62,8 @@ impl Sweep {
         Ok(Sweep { extent })
     }
 
-    /// The sweep of an extent that is marked as being swept, None where it isn't or isn't there. There is one sweep of it
-    /// where whoever marks extents keeps none beside the mark.
+    /// The sweep of an extent that is marked, None where it isn't marked or isn't there. The mark is all there is to a sweep, so a
+    /// caller keeps either the value from `begin` or the number alone, as the core does.
     pub fn resume(extents: &Extents, extent: usize) -> Option<Sweep>
         ensures { MatchOption result (((shape extents.now).extents ≤ extent) ⊎ ((extents_of extents.now).swept extent ≡ false)) (λ s. (s ≡ extent) × (extent < (shape extents.now).extents) × ((extents_of extents.now).swept extent ≡ true)) }
     {
@@ -328,7 +328,7 @@ fn places_of(alloc: Global, index: &Index, id: ShardId) -> Result<Vec<Locator>, 
     }
 }
 
-/// Stages the merged run and its root, and empties the extent under it.
+/// Stages the merged run and its root, and empties the extent under that root.
 fn retire_extent(
     extent: usize,
     index: &mut Index,

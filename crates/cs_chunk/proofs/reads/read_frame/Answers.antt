@@ -23,7 +23,7 @@ returns-in-Ok-clause-read g c = λ h view payload are there.
 
 pub returns-in-Err-clause-read : goal.returns-in-Err-clause-read
 returns-in-Err-clause-read g c = λ h view payload are there.
-    reads_it c.args.extents.now c.frame_pages.ensures.whole view c.args.kind c.args.locator c.requires.page {V = List ℕ} (λ v. v) (Err c.in-Err.refusal) payload (c.in-Err.ensures.fault h view are) tt there
+    reads_it c.args.extents.now c.read_frame_pages.ensures.whole view c.args.kind c.args.locator c.requires.page {V = List ℕ} (λ v. v) (Err c.in-Err.refusal) payload (c.in-Err.ensures.fault h view are) tt there
 
 pub returns-in-Ok-clause-size : goal.returns-in-Ok-clause-size
 returns-in-Ok-clause-size g c =

@@ -5,7 +5,7 @@ use Rattle.cs_disk.specs.Disk.{State, seen}
 use Rattle.cs_frame.specs.Frames.{header_fault, kind_byte, page_count}
 use Rattle.cs_chunk.proofs.Framed.{header_refused, fronts_read}
 use Rattle.cs_chunk.proofs.OnlyRead.{reads_on}
-use Rattle.cs_chunk.proofs.reads.frame_pages.Goals as goal
+use Rattle.cs_chunk.proofs.reads.read_frame_pages.Goals as goal
 
 pub returns-in-Ok-decode_frame_header-clause-disk : goal.returns-in-Ok-decode_frame_header-clause-disk
 returns-in-Ok-decode_frame_header-clause-disk g c = reads_on g.D.PageDisk.honest g.D.PageDisk.state g.D.PageDisk.page_count g.D.PageDisk.failure_count g.D.PageDisk.moment g.D.PageDisk.left_since c.args.disk.now c.read_page.new.disk c.read_pages.new.disk c.read_page.ensures.disk c.read_pages.ensures.disk
