@@ -8,7 +8,7 @@ use Rattle.cs_frame.specs.declared.faults.FormatFault.{FormatFault}
 use Rattle.cs_frame.specs.declared.faults.FormatFault.TheVariants as fault
 use Rattle.cs_frame.specs.Formats.{refusal_of}
 use Rattle.cs_model.specs.Refusal.{BadDigest, BadLength, BadMagic, BadPadding, BadVersion, Refusal as Ground}
-use Rattle.cs_core.specs.Meanings.{refusal_for}
+use Rattle.cs_refine.specs.Refusals.{refusal_for}
 
 -- the refusal is that of damage: only faults of this ground have it, and neither the device nor want of a place or number
 pub record IsDamage (r : Code) : Type 0 where

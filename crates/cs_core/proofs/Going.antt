@@ -132,43 +132,33 @@ parts_roomed x g h i j s are graph index =
       index = record { lookups = are.index.lookups; same_runs = are.index.same_runs };
     }))
 
+-- other room in its graph and its index, and a store is of the same states
+state_roomed : (v : Stored) (h : GraphState) (j : IndexState) (s : State) → h ≡ record v.graph { room = h.room } → j ≡ record v.index { room = j.room } → IsStateOf v s → IsStateOf (record v { graph = h; index = j }) s
+state_roomed v h j s graph index is = record {
+  parts = parts_roomed v.extents v.graph h v.index j s is.parts graph index;
+  sound = is.sound;
+  bounded = is.bounded;
+  round_out = is.round_out;
+  gone = is.gone;
+  gone_is = is.gone_is;
+  left = is.left;
+  issued = is.issued;
+  halted = is.halted;
+  base = is.base;
+  accepted = is.accepted;
+  frontier = is.frontier;
+  roots = is.roots;
+}
+
 -- a store that differs in room alone is of the same states
 pub same_state : (v w : Stored) (s : State) → IsStateOf v s → settled_rooms w ≡ settled_rooms v → IsStateOf w s
-same_state v w s is same = from_settled w s (subst (λ (u : Stored). IsStateOf u s) (sym same) (to_settled v s is))
+same_state v w s is same = from_settled (subst (λ (u : Stored). IsStateOf u s) (sym same) to_settled)
   where
-    to_settled : (u : Stored) (z : State) → IsStateOf u z → IsStateOf (settled_rooms u) z
-    to_settled u z of = record {
-      parts = parts_roomed u.extents u.graph (record u.graph { room = 0 }) u.index (record u.index { room = 0 }) z of.parts refl refl;
-      sound = of.sound;
-      bounded = of.bounded;
-      round_out = of.round_out;
-      gone = of.gone;
-      gone_is = of.gone_is;
-      left = of.left;
-      issued = of.issued;
-      halted = of.halted;
-      base = of.base;
-      accepted = of.accepted;
-      frontier = of.frontier;
-      roots = of.roots;
-    }
+    to_settled : IsStateOf (settled_rooms v) s
+    to_settled = state_roomed v (record v.graph { room = 0 }) (record v.index { room = 0 }) s refl refl is
 
-    from_settled : (u : Stored) (z : State) → IsStateOf (settled_rooms u) z → IsStateOf u z
-    from_settled u z of = record {
-      parts = parts_roomed u.extents (record u.graph { room = 0 }) u.graph (record u.index { room = 0 }) u.index z of.parts refl refl;
-      sound = of.sound;
-      bounded = of.bounded;
-      round_out = of.round_out;
-      gone = of.gone;
-      gone_is = of.gone_is;
-      left = of.left;
-      issued = of.issued;
-      halted = of.halted;
-      base = of.base;
-      accepted = of.accepted;
-      frontier = of.frontier;
-      roots = of.roots;
-    }
+    from_settled : IsStateOf (settled_rooms w) s → IsStateOf w s
+    from_settled of = state_roomed (settled_rooms w) w.graph w.index s refl refl of
 
 pub roomed : (v : Stored) (x : ExtentsState) (g : GraphState) (i : IndexState) → x ≡ v.extents → g ≡ record v.graph { room = g.room } → i ≡ record v.index { room = i.room }
     → settled_rooms (record v { extents = x; graph = g; index = i }) ≡ settled_rooms v

@@ -22,7 +22,7 @@ use Rattle.cs_model.specs.Lists.{◌∈◌}
 use Rattle.cs_model.specs.Machine.{BeginRound, EndRound, happens}
 use Rattle.cs_model.specs.Refusal.{DeviceFault, Halted, InFlight, NoRound, Refusal}
 use Rattle.cs_model.specs.Sound.{Sound}
-use Rattle.cs_model.specs.State.{Begin, Begun, End, Ended, Issue, Issued, Nothing, Refused, State}
+use Rattle.cs_model.specs.State.{Begin, Begun, End, Ended, Event, Issue, Issued, Nothing, Refused, State}
 use Rattle.cs_model.specs.Step.{Step}
 use Rattle.cs_model.proofs.Keeps.{steps}
 use Rattle.cs_refine.specs.Bridge.{AreNames, name}
@@ -183,6 +183,28 @@ module _ (v : Stored) (s : State) (whole : IsWhole v.extents) (is : IsStateOf v 
       let done = begin_done none same_round graph h round queue some same adds out in
       (done.0, done.1, done.2 ∙ sym a, done.2 ∙ sym n, done.3, subst (λ (o : Option (List Name)). IsStateOf (record v { graph = h; out = o; issued = 0 }) done.1) (sym out) done.4)
 
+  -- ---- a device that failed
+
+  -- a store that the failed device only halts is of the state that is halted
+  halts : (event : Event) → Step (shape v.extents) (formats_of (shape v.extents)) s event (Refused DeviceFault) (record s { halted = true }) → IsStateOf (record v { halted = true }) (record s { halted = true })
+  halts event step =
+      let kept = steps (shape v.extents) (formats_of (shape v.extents)) (store_shape v.extents whole) (store_format v.extents whole) s (record s { halted = true }) event (Refused DeviceFault) is.sound is.bounded step in
+      record {
+        parts = record { world = is.parts.world; index = is.parts.index };
+        sound = kept.0;
+        bounded = kept.1;
+        round_out = is.round_out;
+        gone = v.issued;
+        gone_is = inl refl;
+        left = left_now;
+        issued = issued_now;
+        halted = refl;
+        base = is.base;
+        accepted = is.accepted;
+        frontier = is.frontier;
+        roots = record { all = is.roots.all; only = is.roots.only };
+      }
+
   -- ---- Issue
 
   pub issue_none : slice_get (members_of v.out) v.issued ≡ None → Step (shape v.extents) (formats_of (shape v.extents)) s Issue (Refused NoRound) s
@@ -273,25 +295,10 @@ module _ (v : Stored) (s : State) (whole : IsWhole v.extents) (is : IsStateOf v 
         × IsDiskOf (shape v.extents) (formats_of (shape v.extents)) t after
     issue_fails disk after on (inl same) =
         let t : State = record s { halted = true } in
-        let step : Step (shape v.extents) (formats_of (shape v.extents)) s Issue (Refused DeviceFault) t = inr (issues, refl, inl refl) in
-        let kept = steps (shape v.extents) (formats_of (shape v.extents)) (store_shape v.extents whole) (store_format v.extents whole) s t Issue (Refused DeviceFault) is.sound is.bounded step in (
+        let step : Step (shape v.extents) (formats_of (shape v.extents)) s Issue (Refused DeviceFault) t = inr (issues, refl, inl refl) in (
           t,
           step,
-          record {
-            parts = record { world = is.parts.world; index = is.parts.index };
-            sound = kept.0;
-            bounded = kept.1;
-            round_out = is.round_out;
-            gone = v.issued;
-            gone_is = inl refl;
-            left = left_now;
-            issued = issued_now;
-            halted = refl;
-            base = is.base;
-            accepted = is.accepted;
-            frontier = is.frontier;
-            roots = record { all = is.roots.all; only = is.roots.only };
-          },
+          halts Issue step,
           subst (λ (d : DiskState). IsDiskOf (shape v.extents) (formats_of (shape v.extents)) t d) (sym same) (record { durable = on.durable; volatile = on.volatile }),
         )
     issue_fails disk after on (inr is_written) = failed
@@ -349,25 +356,10 @@ module _ (v : Stored) (s : State) (whole : IsWhole v.extents) (is : IsStateOf v 
         × IsDiskOf (shape v.extents) (formats_of (shape v.extents)) t disk
     end_fails disk on =
         let t : State = record s { halted = true } in
-        let step : Step (shape v.extents) (formats_of (shape v.extents)) s End (Refused DeviceFault) t = inr (ends, refl, refl) in
-        let kept = steps (shape v.extents) (formats_of (shape v.extents)) (store_shape v.extents whole) (store_format v.extents whole) s t End (Refused DeviceFault) is.sound is.bounded step in (
+        let step : Step (shape v.extents) (formats_of (shape v.extents)) s End (Refused DeviceFault) t = inr (ends, refl, refl) in (
           t,
           step,
-          record {
-            parts = record { world = is.parts.world; index = is.parts.index };
-            sound = kept.0;
-            bounded = kept.1;
-            round_out = is.round_out;
-            gone = v.issued;
-            gone_is = inl refl;
-            left = left_now;
-            issued = issued_now;
-            halted = refl;
-            base = is.base;
-            accepted = is.accepted;
-            frontier = is.frontier;
-            roots = record { all = is.roots.all; only = is.roots.only };
-          },
+          halts End step,
           record { durable = on.durable; volatile = on.volatile },
         )
 

@@ -1,16 +1,15 @@
 -- What events and replies say, in the words of the store's machine.
 use Rattle.std.specs.Prelude.{◌≡◌, ◌∷◌, ◌++◌, List, [], Some, None, map}
-use Rattle.cs_deps.specs.declared.refusals.Refusal.{Refusal}
-use Rattle.cs_deps.specs.declared.refusals.Refusal.TheVariants as refusal
 use Rattle.cs_index.specs.State.{id_number}
 use Rattle.cs_model.specs.Device.{Shape}
 use Rattle.cs_model.specs.Disk.{page_write}
 use Rattle.cs_model.specs.Element.{Element}
 use Rattle.cs_model.specs.Formats.{Formats}
-use Rattle.cs_model.specs.Refusal.{BadDigest, BadLength, BadMagic, BadPadding, BadVersion, DeviceFault, Full, Halted, InFlight, IndexFull, NoRound, NotSweepable, Refusal as Ground, StillLive, TooLarge, WornOut}
+use Rattle.cs_model.specs.Refusal.{Refusal as Ground}
 use Rattle.cs_model.specs.State as model
 use Rattle.cs_model.specs.State.{Command}
 use Rattle.cs_refine.specs.Bridge.{name}
+use Rattle.cs_refine.specs.Refusals.{refusal_for}
 use Rattle.cs_core.specs.declared.events.Event.{Event}
 use Rattle.cs_core.specs.declared.events.Event.TheVariants.{Abandon, Begin, BeginSweep, Delete, End, Get, Issue, MoveOne, Put, Retire, Settle, Stage}
 use Rattle.cs_core.specs.declared.events.Reply.{Reply}
@@ -30,24 +29,6 @@ event_of (MoveOne e) = model.MoveOne e
 event_of (Retire e) = model.Retire e
 event_of (Abandon e) = model.Abandon e
 event_of (Settle n) = model.Settle n
-
--- the refusal of a ground, under the same number
-abbrev pub refusal_for : Ground → Refusal
-refusal_for DeviceFault = refusal.DeviceFault
-refusal_for InFlight = refusal.InFlight
-refusal_for BadMagic = refusal.BadMagic
-refusal_for BadDigest = refusal.BadDigest
-refusal_for BadLength = refusal.BadLength
-refusal_for BadPadding = refusal.BadPadding
-refusal_for BadVersion = refusal.BadVersion
-refusal_for Full = refusal.Full
-refusal_for TooLarge = refusal.TooLarge
-refusal_for IndexFull = refusal.IndexFull
-refusal_for NotSweepable = refusal.NotSweepable
-refusal_for StillLive = refusal.StillLive
-refusal_for WornOut = refusal.WornOut
-refusal_for Halted = refusal.Halted
-refusal_for NoRound = refusal.NoRound
 
 -- the command of one event, if it was accepted
 abbrev pub command_said : Event → Reply → List Command

@@ -214,7 +214,8 @@ impl<D: PageDisk> Core<D> {
         Ok(reply)
     }
 
-    /// How many commands the root counted, and how many shards there were, as the core was opened.
+    /// How many commands the root counted, and how many shards there were, as the core was opened. Contracts call this `found`, and
+    /// `opened` the image then.
     pub fn opened(&self) -> (u64, usize)
         ensures found { result ≡ self.now.found }
         ensures image { D.honest self.now.disk → IsFound (shape self.now.store.extents) self.now.opened result }

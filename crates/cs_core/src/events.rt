@@ -34,7 +34,8 @@ pub enum Event {
     Get(ShardId),
     /// To delete an identifier: `Accepted`, or `Absent` where there is nothing under it. Refused 35 WornOut.
     Delete(ShardId),
-    /// To stage what the index has changed, and a root over it: `Staged`, or `Unchanged`. The device is left alone.
+    /// To stage what the index has changed as a run (where four are there already, all that is live as one) and a root over all
+    /// runs: `Staged`, or `Unchanged`. The device is left alone.
     /// Refused 30 Full, then 35 WornOut.
     Stage,
     /// To take a round of what may be written: `Begun`, or `Nothing`. Refused 5 InFlight where a round is out.

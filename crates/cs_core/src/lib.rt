@@ -1,5 +1,9 @@
 //! The event machine of a shard store over one disk: each call of `apply` is one event, and the history keeps it with its
 //! reply.
+//!
+//! An event goes through `cores` (`apply`), `serves` (whether the store is halted; Get and Settle) and `running` (all others) to
+//! one call of a `Store`: `commands`, `reads`, `stagings`, `rounds` or `sweeps`. `formats` makes a new store; `openings`, `runs` and
+//! `loads` read one.
 #![tactic(auto)]
 
 mod commands;

@@ -1,4 +1,4 @@
-//! Events of a store that runs: a halted one refuses them.
+//! Events that a halted store refuses: all but Get and Settle. `serve` calls these.
 ghost use Rattle.std.specs.Prelude.{◌≡◌, ◌≢◌, ◌≤◌, ◌⊎◌, ◌↔◌, IfOk, OnErr, false};
 ghost use Rattle.cs_disk.specs.Disk.{Elapses, Rises, State as DiskState};
 ghost use Rattle.cs_extent.specs.State.{shape};

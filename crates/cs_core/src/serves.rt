@@ -53,7 +53,7 @@ impl Store {
         }
     }
 
-    /// The reply to a Settle, twice. Commands are numbered from 1, so 0 is never persistent.
+    /// The reply to a Settle, once to tell and once to keep: `Persistent` for 1 to the frontier, else `NotYet` with the frontier.
     fn serve_settle(&self, n: u64) -> (Reply, Reply)
         ensures twice { result.0 ≡ result.1 }
         ensures answered { IsAnswered (settled_rooms self.now) (Event.Settle n) result.0 (settled_rooms self.now) }

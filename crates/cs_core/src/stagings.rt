@@ -11,10 +11,10 @@ use crate::stores::Store;
 use cs_deps::Refusal;
 
 impl Store {
-    /// Stages a run for the index changes since the last root, and a root over it, and gives that root's version; None
-    /// where there are none.
+    /// Stages the index's changes as a run, and the next root over all runs, and gives that root's version; None where nothing
+    /// has changed. Where there are four runs already, one run of all that is live takes the place of all.
     ///
-    /// Refused 30 Full where no extent has room, 35 WornOut, and 9 OutOfMemory.
+    /// Refused 30 Full where no extent takes the run (opening one has to leave another empty), 35 WornOut, and 9 OutOfMemory.
     pub fn stage(&mut self) -> Result<Option<u64>, Refusal>
         ensures step { self.old.halted ≡ false → Answers self.old Stage staged_or_not result self.new }
         ensures staged { IfOk result (λ staged. MatchOption staged ((self.old.index.table ≡ []) × (settled_rooms self.new ≡ settled_rooms self.old)) (λ v. self.new.index.table ≡ [])) }
@@ -30,6 +30,7 @@ impl Store {
         if self.roots.reserve(1).is_err() {
             return Err(Refusal::OutOfMemory);
         }
+        // The root's page counts all commands; `roots` counts those since open.
         let commands = self.base + self.accepted;
         match self
             .index

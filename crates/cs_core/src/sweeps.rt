@@ -29,6 +29,7 @@ impl Store {
     {
         // Its contract tells what all extents keep.
         self.extents.extent_count();
+        // The mark stays; `Sweep::resume` finds the sweep again by it.
         match Sweep::begin(&mut self.extents, extent) {
             Ok(_) => {}
             Err(refusal) => return Err(refusal),
