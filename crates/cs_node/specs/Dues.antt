@@ -7,7 +7,7 @@ use Rattle.cs_core.specs.declared.events.Event.TheVariants as asked
 use Rattle.cs_core.specs.declared.events.Reply.{Reply}
 use Rattle.cs_core.specs.Stored.{Stored, members_of}
 use Rattle.cs_core.specs.Views.{IsStep, View}
-use Rattle.cs_node.specs.Locks.{IsRefused, WhileLocked}
+use Rattle.cs_node.specs.Locks.{IsDone, IsRefused, WhileLocked}
 use Rattle.cs_node.specs.Starts.{Start}
 use Rattle.cs_node.specs.declared.gates.Step.{Step}
 use Rattle.cs_node.specs.declared.gates.Step.TheVariants.{Abandon, Begin, BeginSweep, Delete, End, Get, Idle, Issue, MoveOne, Put, Retire, Settle, Stage}
@@ -47,7 +47,7 @@ IsAtRest s = (s.out ≡ None) × (s.graph.staging.pending.waiting ≡ []) × (s.
 -- one event was done, which this step names and which was due; or none was due
 abbrev pub Turns : {D : Type 0} → (honest : D → Type 0) → (state : D → DiskState) → (old : View D) → Step → (new : View D) → Type 0
 Turns honest state old step new = ((step ≡ Idle) × IsAtRest old.store × (new ≡ old))
-    ⊎ ((event : Event) × (reply : Reply) × (step ≡ step_of event) × IsDue old.store event × IsStep honest state old event reply new)
+    ⊎ ((event : Event) × (reply : Reply) × (step ≡ step_of event) × IsDue old.store event × IsStep honest state old event reply new × IsDone reply)
 
 -- the event that was due was refused: it was recorded with its refusal, and no other was; or none was
 abbrev pub IsTurnRefused : {D : Type 0} → (honest : D → Type 0) → (state : D → DiskState) → (old : View D) → Refusal → (new : View D) → Type 0
@@ -59,7 +59,7 @@ IsTurn honest state old result new = MatchResult result (λ step. Turns honest s
 
 -- one Stage, after which so many commands are accepted; or it was refused
 abbrev pub IsStaged : {D : Type 0} → (honest : D → Type 0) → (state : D → DiskState) → (old : View D) → Result ℕ Refusal → (new : View D) → Type 0
-IsStaged honest state old result new = MatchResult result (λ accepted. (reply : Reply) × IsStep honest state old asked.Stage reply new × (accepted ≡ new.store.accepted)) (λ r. IsRefused honest state old asked.Stage r new)
+IsStaged honest state old result new = MatchResult result (λ accepted. (reply : Reply) × IsStep honest state old asked.Stage reply new × IsDone reply × (accepted ≡ new.store.accepted)) (λ r. IsRefused honest state old asked.Stage r new)
 
 -- so many commands as were wanted are persistent, and nothing was done; or at most one event was done, or it was refused
 abbrev pub IsAdvance : {D : Type 0} → (honest : D → Type 0) → (state : D → DiskState) → (old : View D) → ℕ → Result (Option ℕ) Refusal → (new : View D) → Type 0

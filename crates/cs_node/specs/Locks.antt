@@ -1,5 +1,5 @@
 -- What a call does to the core while it has the lock.
-use Rattle.std.specs.Prelude.{◌≡◌, ℕ, ◌≤◌, ◌++◌, ◌∷◌, Bool, List, Result, [], length, MatchBool, MatchResult}
+use Rattle.std.specs.Prelude.{◌≡◌, ◌≢◌, ℕ, ◌≤◌, ◌++◌, ◌∷◌, Bool, List, Result, [], length, MatchBool, MatchResult}
 use Rattle.cs_deps.specs.declared.refusals.Refusal.{Refusal}
 use Rattle.cs_deps.specs.declared.refusals.Refusal.TheVariants.{HistoryFull, OutOfMemory}
 use Rattle.cs_disk.specs.Disk.{State as DiskState}
@@ -23,8 +23,8 @@ pub record IsBehind {D : Type 0} (honest : D → Type 0) (state : D → DiskStat
   pub started : start_of v ≡ start
   pub legal : honest v.disk → (s : State) × IsIn state v s
 
--- There is a core that lay behind the lock as the call took it, and one that it was as the call let go, of which `goes` holds. Which cores
--- these were isn't told.
+-- There is a core that lay behind the lock once, of this start, and one that it was after the call, of which `goes` holds. Which cores these
+-- were isn't told: the first may be an earlier one than the call found.
 abbrev pub WhileLocked : {D : Type 0} → (honest : D → Type 0) → (state : D → DiskState) → Start → (View D → View D → Type 0) → Type 0
 WhileLocked {D} honest state start goes = (old new : View D) × IsBehind honest state start old × goes old new
 
@@ -34,6 +34,10 @@ abbrev pub Declines : {D : Type 0} → (honest : D → Type 0) → (state : D �
 Declines honest state old OutOfMemory new = IsUntouched honest state old new
 Declines honest state old HistoryFull new = honest old.disk → (old.limit ≤ length old.history) × (new ≡ old)
 Declines honest state old r new = ⊥
+
+-- the reply of an event that was done, and not refused
+abbrev pub IsDone : Reply → Type 0
+IsDone reply = (r : Refusal) → reply ≢ Refused r
 
 -- one event was refused: it was recorded with its refusal, and no other was; or none was
 abbrev pub IsRefused : {D : Type 0} → (honest : D → Type 0) → (state : D → DiskState) → (old : View D) → Event → Refusal → (new : View D) → Type 0

@@ -10,7 +10,7 @@ use Rattle.cs_core.specs.Views.{IsStep, View}
 use Rattle.cs_node.specs.declared.gates.Step.{Step}
 use Rattle.cs_node.specs.declared.gates.Step.TheVariants.{Idle}
 use Rattle.cs_node.specs.Dues.{IsAtRest, IsOfRound, step_of}
-use Rattle.cs_node.specs.Locks.{IsRefused}
+use Rattle.cs_node.specs.Locks.{IsDone, IsRefused}
 
 -- the event that is due: what is left of the round that is out, else to stage what has changed, else a new round where something waits
 abbrev pub IsNext : Stored → Event → Type 0
@@ -21,7 +21,7 @@ IsNext s event = IsOfRound s event
 -- one event was done, which this step names and which was due; or none was due
 abbrev pub Streams : {D : Type 0} → (honest : D → Type 0) → (state : D → DiskState) → (old : View D) → Step → (new : View D) → Type 0
 Streams honest state old step new = ((step ≡ Idle) × IsAtRest old.store × (new ≡ old))
-    ⊎ ((event : Event) × (reply : Reply) × (step ≡ step_of event) × IsNext old.store event × IsStep honest state old event reply new)
+    ⊎ ((event : Event) × (reply : Reply) × (step ≡ step_of event) × IsNext old.store event × IsStep honest state old event reply new × IsDone reply)
 
 -- the event that was due was refused: it was recorded with its refusal, and no other was; or none was
 abbrev pub IsStreamRefused : {D : Type 0} → (honest : D → Type 0) → (state : D → DiskState) → (old : View D) → Refusal → (new : View D) → Type 0

@@ -1,5 +1,5 @@
 -- What a reclaimer does, and what each event of a sweep leaves it to do.
-use Rattle.std.specs.Prelude.{◌≡◌, ◌⊎◌, ◌<◌, ◌≤◌, ◌+◌, ◌-◌, ℕ, None, Option, Result, Some, MatchResult}
+use Rattle.std.specs.Prelude.{◌≡◌, ◌⊎◌, ◌<◌, ◌≤◌, ◌+◌, ◌-◌, ℕ, zero, suc, None, Option, Result, Some, MatchResult}
 use Rattle.cs_deps.specs.declared.refusals.Refusal.{Refusal}
 use Rattle.cs_disk.specs.Disk.{State as DiskState}
 use Rattle.cs_core.specs.declared.events.Event.{Event}
@@ -11,7 +11,8 @@ use Rattle.cs_core.specs.Views.{IsStep, View}
 use Rattle.cs_extent.specs.State.{extents_of, shape as shape_of}
 use Rattle.cs_reclaim.specs.Sweeps.{IsNotSweepable}
 use Rattle.cs_node.specs.Dues.{step_of}
-use Rattle.cs_node.specs.Locks.{IsRefused}
+use Rattle.cs_node.specs.Locks.{IsDone, IsRefused, WhileLocked}
+use Rattle.cs_node.specs.Starts.{Start}
 use Rattle.cs_node.specs.declared.gates.Step.{Step}
 use Rattle.cs_node.specs.declared.gates.Step.TheVariants.{Idle}
 use Rattle.cs_node.specs.declared.reclaimers.Next.{Next}
@@ -32,7 +33,7 @@ abbrev pub IsNextAfter : Stored → (last : Option ℕ) → ℕ → Type 0
 IsNextAfter s None e = IsLeastFrom s 0 e
 IsNextAfter s (Some last) e = IsLeastFrom s (last + 1) e ⊎ (NoneFrom s (last + 1) × IsLeastFrom s 0 e)
 
--- a reclaimer: how many sweeps it may begin yet, the extent that it began last, and what comes next
+-- a reclaimer: how many sweeps it may still begin, the extent that it began last, and what comes next
 pub record Reclaiming : Type 0 where
   pub left : ℕ
   pub begun : Option ℕ
@@ -81,7 +82,7 @@ after_refusal w event = w
 -- one event was done, which this step names and which came next, and the reclaimer is what it is after it; or none came next
 abbrev pub Sweeps : {D : Type 0} → (honest : D → Type 0) → (state : D → DiskState) → (old : View D) → (was : Reclaiming) → Step → (new : View D) → (is : Reclaiming) → Type 0
 Sweeps honest state old was step new is = ((step ≡ Idle) × IsIdle old.store was × (new ≡ old) × (is ≡ was))
-    ⊎ ((event : Event) × (reply : Reply) × (step ≡ step_of event) × IsNextEvent old.store was event × IsStep honest state old event reply new × (is ≡ after_event was event reply))
+    ⊎ ((event : Event) × (reply : Reply) × (step ≡ step_of event) × IsNextEvent old.store was event × IsStep honest state old event reply new × IsDone reply × (is ≡ after_event was event reply))
 
 -- the event that came next was refused: it was recorded with its refusal, and no other was; or none was
 abbrev pub IsSweepRefused : {D : Type 0} → (honest : D → Type 0) → (state : D → DiskState) → (old : View D) → (was : Reclaiming) → Refusal → (new : View D) → (is : Reclaiming) → Type 0
@@ -90,3 +91,12 @@ IsSweepRefused honest state old was r new is = (event : Event) × IsNextEvent ol
 -- at most one event of a sweep: the one that came next, which was done or refused
 abbrev pub IsSweepTurn : {D : Type 0} → (honest : D → Type 0) → (state : D → DiskState) → (old : View D) → (was : Reclaiming) → Result Step Refusal → (new : View D) → (is : Reclaiming) → Type 0
 IsSweepTurn honest state old was result new is = MatchResult result (λ step. Sweeps honest state old was step new is) (λ r. IsSweepRefused honest state old was r new is)
+
+-- what a reclaimer is after a turn on a node of this start
+abbrev pub IsAfterTurn : {D : Type 0} → (honest : D → Type 0) → (state : D → DiskState) → Start → (was is : Reclaiming) → Type 0
+IsAfterTurn honest state start was is = (result : Result Step Refusal) × WhileLocked honest state start (λ old new. IsSweepTurn honest state old was result new is)
+
+-- what it is after so many turns
+abbrev pub IsAfterTurns : {D : Type 0} → (honest : D → Type 0) → (state : D → DiskState) → Start → ℕ → (was is : Reclaiming) → Type 0
+IsAfterTurns honest state start zero was is = is ≡ was
+IsAfterTurns honest state start (suc n) was is = (before : Reclaiming) × IsAfterTurns honest state start n was before × IsAfterTurn honest state start before is

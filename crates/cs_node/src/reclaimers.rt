@@ -1,7 +1,7 @@
 //! Who sweeps extents.
-ghost use Rattle.std.specs.Prelude.{◌≡◌, ◌⊎◌, ◌^◌, ◌-◌, ◌<◌, ◌≤◌, IfErr, IfOk, IfSome, IsTrue, MatchOption, true};
+ghost use Rattle.std.specs.Prelude.{ℕ, ◌≡◌, ◌⊎◌, ◌^◌, ◌-◌, ◌<◌, ◌≤◌, IfErr, IfOk, IfSome, IsTrue, MatchOption, true};
 ghost use Rattle.cs_node.specs.Locks.{IsBehind, WhileLocked};
-ghost use Rattle.cs_node.specs.Sweeps.{HasSwept, IsIdle, IsLeastFrom, IsNextAfter, IsNextEvent, IsSweepRefused, IsSweepTurn, NoneFrom, Reclaiming, after_event, after_refusal, unbegun};
+ghost use Rattle.cs_node.specs.Sweeps.{HasSwept, IsAfterTurns, IsIdle, IsLeastFrom, IsNextAfter, IsNextEvent, IsSweepRefused, IsSweepTurn, NoneFrom, Reclaiming, after_event, after_refusal, unbegun};
 
 use crate::boards::{Naming, Shown};
 use crate::gates::{Gate, Step, step_of};
@@ -23,8 +23,8 @@ pub enum Next {
     Abandon(usize),
 }
 
-/// Sweeps extents, one after another. Contracts see how many sweeps it may begin yet, the extent that it began last, and what comes
-/// next.
+/// Sweeps extents, one after another. Contracts see how many sweeps it may still begin, the extent that it began last, and what
+/// comes next.
 #[derive(Debug, Drop)]
 pub struct Reclaimer {
     sweeps: u32,
@@ -80,6 +80,7 @@ impl Reclaimer {
         ensures err { IfErr result (λ r. (r ≡ Refusal.Halted) ⊎ (r ≡ Refusal.HistoryFull)) }
         ensures refused { IfErr result (λ r. WhileLocked D.honest D.state K.start (λ old new. (was : Reclaiming) × IsSweepRefused D.honest D.state old was r new self.new)) }
         ensures left { self.new.left ≤ self.old.left }
+        ensures turns { (n : ℕ) × IsAfterTurns D.honest D.state K.start n self.old self.new }
     {
         for _ in rt.forever() {
             if self.has_swept() || !gate.before() {

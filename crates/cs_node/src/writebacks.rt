@@ -3,7 +3,7 @@ ghost use Rattle.std.specs.Prelude.{◌≡◌, IfErr, IfOk, MatchOption, None, t
 ghost use Rattle.cs_core.specs.Shapes.{MayAnswer};
 ghost use Rattle.cs_core.specs.Views.{IsStep};
 ghost use Rattle.cs_node.specs.Dues.{IsAdvance, IsAtRest, IsDue, IsOfRound, IsStaged, IsTurn};
-ghost use Rattle.cs_node.specs.Locks.{IsBehind, IsRefused};
+ghost use Rattle.cs_node.specs.Locks.{IsBehind, IsDone, IsRefused};
 
 use crate::boards::{Naming, Shown};
 use crate::gates::{Gate, Open, Step, step_of};
@@ -53,6 +53,7 @@ impl<D: PageDisk, K: Naming> Locked<D, K> {
         requires fresh { self.old.fresh ≡ true }
         ensures step { IfOk result (λ reply. IsStep D.honest D.state self.old.core event.now reply self.new.core) }
         ensures answers { IfOk result (λ reply. MayAnswer event.now reply) }
+        ensures done { IfOk result IsDone }
         ensures refused { IfErr result (λ r. IsRefused D.honest D.state self.old.core event.now r self.new.core) }
         ensures given { (self.new.given ≡ self.old.given) × (self.new.piloted ≡ self.old.piloted) }
         ensures behind { IsBehind D.honest D.state K.start self.old.core }

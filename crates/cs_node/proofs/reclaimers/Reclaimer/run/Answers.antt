@@ -1,4 +1,4 @@
-use Rattle.std.proofs.Common.{subst}
+use Rattle.std.proofs.Common.{rules, suc, subst}
 use Rattle.cs_deps.specs.declared.refusals.Refusal.{Refusal}
 use Rattle.cs_node.specs.Locks.{WhileLocked}
 use Rattle.cs_node.specs.Sweeps.{IsSweepRefused}
@@ -13,3 +13,15 @@ pub returns-in-Err-HistoryFull-clause-refused : goal.returns-in-Err-HistoryFull-
 returns-in-Err-HistoryFull-clause-refused g c =
     let w = subst (λ (r : Refusal). WhileLocked g.D.PageDisk.honest g.D.PageDisk.state g.K.Naming.start (λ old new. IsSweepRefused g.D.PageDisk.honest g.D.PageDisk.state old c.loop.self r new c.turn.new.self)) c.in-Err-HistoryFull.field-0-is c.in-Err-HistoryFull.ensures in
     (w.0, w.1, w.2, (c.loop.self, w.3))
+
+pub returns-in-Err-Halted-clause-turns : goal.returns-in-Err-Halted-clause-turns
+returns-in-Err-Halted-clause-turns g c = let t = c.loop.invariant.3 in (suc t.0, (c.loop.self, t.1, (c.turn.result, c.turn.ensures)))
+
+pub returns-in-Err-HistoryFull-clause-turns : goal.returns-in-Err-HistoryFull-clause-turns
+returns-in-Err-HistoryFull-clause-turns g c = let t = c.loop.invariant.3 in (suc t.0, (c.loop.self, t.1, (c.turn.result, c.turn.ensures)))
+
+pub loop-preserved-in-Ok : goal.loop-preserved-in-Ok
+loop-preserved-in-Ok g c = (search rules, search rules, search rules, (let t = c.loop.invariant.3 in (suc t.0, (c.loop.self, t.1, (c.turn.result, c.turn.ensures)))))
+
+pub loop-preserved : goal.loop-preserved
+loop-preserved g c = (search rules, search rules, search rules, (let t = c.loop.invariant.3 in (suc t.0, (c.loop.self, t.1, (c.turn.result, c.turn.ensures)))))
