@@ -1,11 +1,11 @@
 //! Reads of frames.
-ghost use Rattle.std.specs.Prelude.{◌≡◌, ◌↔◌, ◌⊎◌, ◌+◌, ◌*◌, ◌-◌, ◌^◌, ◌<◌, ◌≤◌, ℕ, List, IfErr, IfOk, IsOk, MatchResult, OnOk, length, take};
+ghost use Rattle.std.specs.Prelude.{◌≡◌, ◌⊎◌, ◌+◌, ◌*◌, ◌-◌, ◌^◌, ◌<◌, ◌≤◌, ℕ, List, IfErr, IfOk, IsOk, MatchResult, OnOk, length, take};
 ghost use Rattle.cs_chunk.specs.Chunks.{IsFrameAt, kind_of};
 ghost use Rattle.cs_chunk.specs.Newest.{AreNewest, IsReadAs};
 ghost use Rattle.cs_chunk.specs.Reads.{AnswersFault, AreReadAs, IsCaused, IsFrameFront, IsNoAnswer, IsOfFault, IsReadRefusal, OnlyReads, fault_at, pages_at};
 ghost use Rattle.cs_deps.specs.Refusals.{number_of};
 ghost use Rattle.cs_deps.specs.State.{NoneOn};
-ghost use Rattle.cs_disk.specs.Disk.{Elapses, seen};
+ghost use Rattle.cs_disk.specs.Disk.{seen};
 ghost use Rattle.cs_extent.specs.State.{IsWhole, shape};
 ghost use Rattle.cs_frame.specs.Formats.{formats_of};
 ghost use Rattle.cs_frame.specs.Frames.{SpellsFrame, frame_count, frame_fault, kind_byte};
@@ -166,10 +166,7 @@ pub fn read_frame<D: PageDisk>(
     // Whatever the disk answers, the frame of what is read lies in the extent.
     ensures size { IfOk result (λ payload. locator.page + length ((formats_of (shape extents.now)).frame (kind_of kind) payload.items) ≤ (shape extents.now).pages) }
 
-    ensures state { D.honest disk.old → D.state disk.new ≡ D.state disk.old }
-    ensures time { D.honest disk.old → Elapses (D.moment disk.old) (D.moment disk.new) (D.left_since disk.old) (D.left_since disk.new) (D.state disk.new) }
-    ensures honest { D.honest disk.old ↔ D.honest disk.new }
-    ensures pages { D.page_count disk.new ≡ D.page_count disk.old }
+    ensures disk { OnlyReads D.honest D.state D.page_count D.failure_count D.moment D.left_since disk.old disk.new }
     ensures cause { IsCaused (D.failure_count disk.old) (D.failure_count disk.new) result }
     ensures whole { IsWhole extents.now }
 {

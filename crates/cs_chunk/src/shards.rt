@@ -1,9 +1,9 @@
 //! Reads of shards.
-ghost use Rattle.std.specs.Prelude.{All, ◌≡◌, ◌↔◌, ◌⊎◌, ◌+◌, ◌*◌, ◌<◌, ◌≤◌, ℕ, List, IfErr, IfOk, MatchResult};
+ghost use Rattle.std.specs.Prelude.{All, ◌≡◌, ◌⊎◌, ◌+◌, ◌*◌, ◌<◌, ◌≤◌, ℕ, List, IfErr, IfOk, MatchResult};
 ghost use Rattle.cs_chunk.specs.Chunks.{AreChunksAt};
 ghost use Rattle.cs_chunk.specs.Newest.{AreNewest};
-ghost use Rattle.cs_chunk.specs.Reads.{IsCaused, IsNoAnswer, IsOfChunk, IsReadRefusal};
-ghost use Rattle.cs_disk.specs.Disk.{Elapses, seen};
+ghost use Rattle.cs_chunk.specs.Reads.{IsCaused, IsNoAnswer, IsOfChunk, IsReadRefusal, OnlyReads};
+ghost use Rattle.cs_disk.specs.Disk.{seen};
 ghost use Rattle.cs_extent.specs.State.{shape};
 ghost use Rattle.cs_model.specs.Index.{joined};
 
@@ -39,10 +39,7 @@ pub fn read_chunks<D: PageDisk>(
         → IfErr result (IsOfChunk (shape extents.now) view locators.now) }
     ensures refusals { IfErr result IsReadRefusal }
 
-    ensures state { D.honest disk.old → D.state disk.new ≡ D.state disk.old }
-    ensures time { D.honest disk.old → Elapses (D.moment disk.old) (D.moment disk.new) (D.left_since disk.old) (D.left_since disk.new) (D.state disk.new) }
-    ensures honest { D.honest disk.old ↔ D.honest disk.new }
-    ensures pages { D.page_count disk.new ≡ D.page_count disk.old }
+    ensures disk { OnlyReads D.honest D.state D.page_count D.failure_count D.moment D.left_since disk.old disk.new }
     ensures cause { IsCaused (D.failure_count disk.old) (D.failure_count disk.new) result }
 {
     let mut bytes = Vec::new(alloc);

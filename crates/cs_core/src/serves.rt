@@ -1,5 +1,6 @@
 //! What one event does to a store and its disk, whichever it is.
 ghost use Rattle.std.specs.Prelude.{◌≡◌, ◌≤◌, ◌⊎◌, ◌↔◌, IfOk, OnErr};
+ghost use Rattle.cs_chunk.specs.Reads.{OnlyReads};
 ghost use Rattle.cs_disk.specs.Disk.{Elapses, Rises, State as DiskState};
 ghost use Rattle.cs_extent.specs.State.{shape};
 ghost use Rattle.cs_core.specs.Answered.{IsAnswered};
@@ -77,10 +78,7 @@ impl Store {
         ensures twice { IfOk result (λ r. r.0 ≡ r.1) }
         ensures answered { IfOk result (λ r. IsAnswered (settled_rooms self.now) (Event.Get id) r.0 (settled_rooms self.now)) }
         ensures step { D.honest disk.old → IfOk result (λ r. Serves self.now (D.state disk.old) (Event.Get id) r.0 self.now (D.state disk.new)) }
-        ensures state { D.honest disk.old → D.state disk.new ≡ D.state disk.old }
-        ensures time { D.honest disk.old → Elapses (D.moment disk.old) (D.moment disk.new) (D.left_since disk.old) (D.left_since disk.new) (D.state disk.new) }
-        ensures honest { D.honest disk.old ↔ D.honest disk.new }
-        ensures pages { D.page_count disk.new ≡ D.page_count disk.old }
+        ensures disk { OnlyReads D.honest D.state D.page_count D.failure_count D.moment D.left_since disk.old disk.new }
         ensures cause { IfOk result (λ r. r.0 ≡ Reply.Refused Refusal.DeviceFault → Rises (D.failure_count disk.old) (D.failure_count disk.new)) }
     {
         let bytes = match self.get(disk, id) {

@@ -1,7 +1,6 @@
 //! Sweeps.
-ghost use Rattle.std.specs.Prelude.{◌≡◌, ◌≢◌, ◌↔◌, [], IfErr, IfOk, None, OnErr, OnOk, false};
-ghost use Rattle.cs_chunk.specs.Reads.{IsCaused};
-ghost use Rattle.cs_disk.specs.Disk.{Elapses};
+ghost use Rattle.std.specs.Prelude.{◌≡◌, ◌≢◌, [], IfErr, IfOk, None, OnErr, OnOk, false};
+ghost use Rattle.cs_chunk.specs.Reads.{IsCaused, OnlyReads};
 ghost use Rattle.cs_extent.specs.State.{shape};
 ghost use Rattle.cs_model.specs.State.{Abandon, Abandoned, BeginSweep, Retire, Retired, Sweeping};
 ghost use Rattle.cs_core.specs.Reads.{MoveAnswers};
@@ -113,10 +112,7 @@ impl Store {
         ensures refused { OnErr result (settled_rooms self.new ≡ settled_rooms self.old) }
         ensures shape { shape self.new.extents ≡ shape self.old.extents }
         ensures frontier { self.new.frontier ≡ self.old.frontier }
-        ensures state { D.honest disk.old → D.state disk.new ≡ D.state disk.old }
-        ensures time { D.honest disk.old → Elapses (D.moment disk.old) (D.moment disk.new) (D.left_since disk.old) (D.left_since disk.new) (D.state disk.new) }
-        ensures honest { D.honest disk.old ↔ D.honest disk.new }
-        ensures pages { D.page_count disk.new ≡ D.page_count disk.old }
+        ensures disk { OnlyReads D.honest D.state D.page_count D.failure_count D.moment D.left_since disk.old disk.new }
         ensures cause { IsCaused (D.failure_count disk.old) (D.failure_count disk.new) result }
     {
         // Their contracts tell what all extents and every graph keep.

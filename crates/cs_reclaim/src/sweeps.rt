@@ -2,8 +2,8 @@
 ghost use Rattle.std.specs.Prelude.{◌≡◌, ◌↔◌, ◌⊎◌, ◌+◌, ◌*◌, ◌^◌, ◌<◌, ◌≤◌, ℕ, List, IfErr, IfOk, IsTrue, MatchOption, MatchResult, None, OnErr, OnOk, Some, false, length, map, slice_set, true};
 ghost use Rattle.cs_chunk.specs.Chunks.{IsFrameAt};
 ghost use Rattle.cs_chunk.specs.Newest.{AreNewest};
-ghost use Rattle.cs_chunk.specs.Reads.{IsCaused, IsReadRefusal, fault_at};
-ghost use Rattle.cs_disk.specs.Disk.{Elapses, seen};
+ghost use Rattle.cs_chunk.specs.Reads.{IsCaused, IsReadRefusal, OnlyReads, fault_at};
+ghost use Rattle.cs_disk.specs.Disk.{seen};
 ghost use Rattle.cs_extent.specs.Appended.{IsAppended};
 ghost use Rattle.cs_extent.specs.Frames.{AreResetsStaged, IsWorn, root_family};
 ghost use Rattle.cs_extent.specs.State.{extents_of, shape};
@@ -133,10 +133,7 @@ impl Sweep {
         ensures limit { index.new.limit ≡ index.old.limit }
 
         // The disk is only read.
-        ensures state { D.honest disk.old → D.state disk.new ≡ D.state disk.old }
-        ensures time { D.honest disk.old → Elapses (D.moment disk.old) (D.moment disk.new) (D.left_since disk.old) (D.left_since disk.new) (D.state disk.new) }
-        ensures honest { D.honest disk.old ↔ D.honest disk.new }
-        ensures pages { D.page_count disk.new ≡ D.page_count disk.old }
+        ensures disk { OnlyReads D.honest D.state D.page_count D.failure_count D.moment D.left_since disk.old disk.new }
         ensures cause { IsCaused (D.failure_count disk.old) (D.failure_count disk.new) result }
     {
         let Some(live) = index.first_live(self.extent) else {
@@ -247,10 +244,7 @@ fn move_live<D: PageDisk>(
     ensures families { length graph.new.staging.latest ≡ length graph.old.staging.latest }
     ensures shape { shape extents.new ≡ shape extents.old }
     ensures limit { index.new.limit ≡ index.old.limit }
-    ensures state { D.honest disk.old → D.state disk.new ≡ D.state disk.old }
-    ensures time { D.honest disk.old → Elapses (D.moment disk.old) (D.moment disk.new) (D.left_since disk.old) (D.left_since disk.new) (D.state disk.new) }
-    ensures honest { D.honest disk.old ↔ D.honest disk.new }
-    ensures pages { D.page_count disk.new ≡ D.page_count disk.old }
+    ensures disk { OnlyReads D.honest D.state D.page_count D.failure_count D.moment D.left_since disk.old disk.new }
     ensures cause { IsCaused (D.failure_count disk.old) (D.failure_count disk.new) result }
 {
     let payload = match read_frame(alloc, extents, graph, disk, FrameKind::Chunk, live.place) {

@@ -2,7 +2,6 @@ use Rattle.std.proofs.Common.{◌<◌, [], ℕ, List, get_or, subst, sym, Ok, Er
 use Rattle.std.proofs.lemmas.List.{get_or_default}
 use Rattle.std.proofs.lemmas.Option.{slice_get_within, get_or_from_slice_get}
 use Rattle.cs_chunk.specs.Newest.{AreNewest}
-use Rattle.cs_chunk.specs.Reads.{OnlyReads}
 use Rattle.cs_disk.specs.Disk.{State, seen}
 use Rattle.cs_extent.specs.State.{shape}
 use Rattle.cs_frame.specs.declared.locators.Locator.{Locator}
@@ -16,10 +15,6 @@ use Rattle.cs_chunk.proofs.shards.read_chunks.Given.{Over}
 abbrev at_place : List Locator → ℕ → Locator
 at_place ls k = get_or ls k (record { extent = 0; page = 0; generation = 0 })
 
-only : (g : Over) (c : After-read_frame g) → OnlyReads g.D.PageDisk.honest g.D.PageDisk.state g.D.PageDisk.page_count g.D.PageDisk.failure_count g.D.PageDisk.moment g.D.PageDisk.left_since c.args.disk.now c.read_frame.new.disk
-only g c = reads_on g.D.PageDisk.honest g.D.PageDisk.state g.D.PageDisk.page_count g.D.PageDisk.failure_count g.D.PageDisk.moment g.D.PageDisk.left_since c.args.disk.now c.loop-k.disk c.read_frame.new.disk c.loop-k.invariant.disk
-    (record { same = c.read_frame.ensures.state; time = c.read_frame.ensures.time; honesty = c.read_frame.ensures.honest; pages = c.read_frame.ensures.pages; failures = c.read_frame.ensures.cause.later })
-
 -- what a page reads as is the same after reads
 view_here : (g : Over) (c : After-read_frame g) → g.D.PageDisk.honest c.args.disk.now → (view : ℕ → List ℕ) → AreNewest c.args.graph.now (seen (g.D.PageDisk.state c.args.disk.now)) view → AreNewest c.args.graph.now (seen (g.D.PageDisk.state c.loop-k.disk)) view
 view_here g c h view are = subst (λ (s : State). AreNewest c.args.graph.now (seen s) view) (sym (c.loop-k.invariant.disk.same h)) are
@@ -30,18 +25,18 @@ inside g c = λ k l at. subst (λ (m : Locator). m.page < c.args.extents.now.pag
 pub loop-k-preserved : goal.loop-k-preserved
 loop-k-preserved g c =
     let r = (goal.at.loop-k-preserved g c).After-read_frame in record {
-      disk = only g r;
+      disk = reads_on g.D.PageDisk.honest g.D.PageDisk.state g.D.PageDisk.page_count g.D.PageDisk.failure_count g.D.PageDisk.moment g.D.PageDisk.left_since c.args.disk.now c.loop-k.disk c.read_frame.new.disk c.loop-k.invariant.disk c.read_frame.ensures.disk;
       read = λ h view are.
           one_more (shape c.args.extents.now) view c.args.locators.now c.loop-k.k (at_place c.args.locators.now c.loop-k.k) c.loop-k.bytes.items c.extend_from_slice.new.self.items c.in-Ok.chunk.items c.deref.result.now
           c.loop-k-test.true (get_or_default c.args.locators.now c.loop-k.k _ _ c.loop-k-test.true) (c.loop-k.invariant.read h view are)
           (c.in-Ok.ensures.payload (c.loop-k.invariant.disk.honesty.0 h) view (view_here g r h view are)) c.deref.ensures.value c.in_ok-extend_from_slice-in-Ok.ensures.items;
     }
 
-pub returns-in_err-extend_from_slice-in-Ok-clause-time : goal.returns-in_err-extend_from_slice-in-Ok-clause-time
-returns-in_err-extend_from_slice-in-Ok-clause-time g c = (only g (goal.at.returns-in_err-extend_from_slice-in-Ok-clause-time g c).After-read_frame).time
+pub returns-in_err-extend_from_slice-in-Ok-clause-disk : goal.returns-in_err-extend_from_slice-in-Ok-clause-disk
+returns-in_err-extend_from_slice-in-Ok-clause-disk g c = reads_on g.D.PageDisk.honest g.D.PageDisk.state g.D.PageDisk.page_count g.D.PageDisk.failure_count g.D.PageDisk.moment g.D.PageDisk.left_since c.args.disk.now c.loop-k.disk c.read_frame.new.disk c.loop-k.invariant.disk c.read_frame.ensures.disk
 
-pub returns-in-Err-clause-time : goal.returns-in-Err-clause-time
-returns-in-Err-clause-time g c = (only g (goal.at.returns-in-Err-clause-time g c).After-read_frame).time
+pub returns-in-Err-clause-disk : goal.returns-in-Err-clause-disk
+returns-in-Err-clause-disk g c = reads_on g.D.PageDisk.honest g.D.PageDisk.state g.D.PageDisk.page_count g.D.PageDisk.failure_count g.D.PageDisk.moment g.D.PageDisk.left_since c.args.disk.now c.loop-k.disk c.read_frame.new.disk c.loop-k.invariant.disk c.read_frame.ensures.disk
 
 pub returns-in-Err-clause-fault : goal.returns-in-Err-clause-fault
 returns-in-Err-clause-fault g c = λ h view are.

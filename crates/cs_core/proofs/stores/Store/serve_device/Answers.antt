@@ -79,7 +79,7 @@ returns-in-Ok-Some-clause-step g c = λ honest.
     let is_ : c.move_one.result ≡ Ok (Some (c.in-Ok-Some.id, c.in-Ok-Some.chunk)) = search rules in
     let runs = c.requires.running in
     subst (λ (e : Asked). Serves c.args.self.now disk e (told.Moved c.in-Ok-Some.id c.in-Ok-Some.chunk) c.move_one.new.self after) (sym c.in-MoveOne.is)
-    (moved_served c.args.self.now c.move_one.new.self disk after c.in-MoveOne.e (c.in-Ok-Some.id, c.in-Ok-Some.chunk) (c.move_one.ensures.state honest)
+    (moved_served c.args.self.now c.move_one.new.self disk after c.in-MoveOne.e (c.in-Ok-Some.id, c.in-Ok-Some.chunk) (c.move_one.ensures.disk.same honest)
     (subst (λ (r : Result (Option (ShardId × ℕ)) Code). MoveAnswers c.args.self.now disk c.in-MoveOne.e r c.move_one.new.self) is_ (c.move_one.ensures.step runs honest)))
 
 pub returns-in-Ok-None-clause-step : goal.returns-in-Ok-None-clause-step
@@ -89,7 +89,7 @@ returns-in-Ok-None-clause-step g c = λ honest.
     let is_ : c.move_one.result ≡ Ok None = search rules in
     let runs = c.requires.running in
     subst (λ (e : Asked). Serves c.args.self.now disk e told.NoneLive c.move_one.new.self after) (sym c.in-MoveOne.is)
-    (none_live_served c.args.self.now c.move_one.new.self disk after c.in-MoveOne.e (c.move_one.ensures.state honest)
+    (none_live_served c.args.self.now c.move_one.new.self disk after c.in-MoveOne.e (c.move_one.ensures.disk.same honest)
     (subst (λ (r : Result (Option (ShardId × ℕ)) Code). MoveAnswers c.args.self.now disk c.in-MoveOne.e r c.move_one.new.self) is_ (c.move_one.ensures.step runs honest)))
 
 pub returns-in-Err-move_one-clause-step : goal.returns-in-Err-move_one-clause-step
@@ -99,7 +99,7 @@ returns-in-Err-move_one-clause-step g c = λ honest.
     let runs = c.requires.running in
     if_refused c.args.self.now c.move_one.new.self disk after c.args.event.now c.in-Err-move_one.refusal c.refused-in-Err-move_one.result c.refused-in-Err-move_one.ensures (λ known.
     subst (λ (e : Asked). Serves c.args.self.now disk e (told.Refused c.in-Err-move_one.refusal) c.move_one.new.self after) (sym c.in-MoveOne.is)
-    (move_refused c.args.self.now c.move_one.new.self disk after c.in-MoveOne.e c.in-Err-move_one.refusal (c.move_one.ensures.state honest) (c.in-Err-move_one.ensures.step runs honest) known))
+    (move_refused c.args.self.now c.move_one.new.self disk after c.in-MoveOne.e c.in-Err-move_one.refusal (c.move_one.ensures.disk.same honest) (c.in-Err-move_one.ensures.step runs honest) known))
 
 pub returns-in-Err-move_one-clause-answered : goal.returns-in-Err-move_one-clause-answered
 returns-in-Err-move_one-clause-answered g c =

@@ -26,17 +26,17 @@ returns-clause-answered g c =
 pub returns-in-Ok-None-clause-step : goal.returns-in-Ok-None-clause-step
 returns-in-Ok-None-clause-step g c = λ honest.
     let is_ : c.get.result ≡ Ok None = search rules in
-    absent_served c.args.self.now (g.D.PageDisk.state c.args.disk.now) (g.D.PageDisk.state c.get.new.disk) c.args.id (c.get.ensures.state honest)
+    absent_served c.args.self.now (g.D.PageDisk.state c.args.disk.now) (g.D.PageDisk.state c.get.new.disk) c.args.id (c.get.ensures.disk.same honest)
     (subst (λ (r : Result (Option (Vec ℕ Global)) Code). GetAnswers c.args.self.now (g.D.PageDisk.state c.args.disk.now) (id_number c.args.id) r) is_ (c.get.ensures.step honest))
 
 pub returns-in-Err-clause-step : goal.returns-in-Err-clause-step
 returns-in-Err-clause-step g c = λ honest.
     if_refused c.args.self.now c.args.self.now (g.D.PageDisk.state c.args.disk.now) (g.D.PageDisk.state c.get.new.disk) (asked.Get c.args.id) c.in-Err.refusal c.refused.result c.refused.ensures (λ known.
-    get_refused c.args.self.now (g.D.PageDisk.state c.args.disk.now) (g.D.PageDisk.state c.get.new.disk) c.args.id c.in-Err.refusal (c.get.ensures.state honest) (c.in-Err.ensures.step honest) known)
+    get_refused c.args.self.now (g.D.PageDisk.state c.args.disk.now) (g.D.PageDisk.state c.get.new.disk) c.args.id c.in-Err.refusal (c.get.ensures.disk.same honest) (c.in-Err.ensures.step honest) known)
 
 pub returns-clause-step : goal.returns-clause-step
 returns-clause-step g c = λ honest.
     let is_ : c.get.result ≡ Ok (Some c.in-Ok-Some.bytes) = search rules in
     if_found c.args.self.now (g.D.PageDisk.state c.args.disk.now) (g.D.PageDisk.state c.get.new.disk) (asked.Get c.args.id) c.in-Ok-Some.bytes.items c.found.result c.found.ensures
-    (found_served c.args.self.now (g.D.PageDisk.state c.args.disk.now) (g.D.PageDisk.state c.get.new.disk) c.args.id c.in-Ok-Some.bytes (c.get.ensures.state honest)
+    (found_served c.args.self.now (g.D.PageDisk.state c.args.disk.now) (g.D.PageDisk.state c.get.new.disk) c.args.id c.in-Ok-Some.bytes (c.get.ensures.disk.same honest)
     (subst (λ (r : Result (Option (Vec ℕ Global)) Code). GetAnswers c.args.self.now (g.D.PageDisk.state c.args.disk.now) (id_number c.args.id) r) is_ (c.get.ensures.step honest)))
