@@ -78,11 +78,11 @@ IsFirst rounds x i = (m : ℕ) → m ≤ length rounds → SatisfiedBy (all_of (
 abbrev pub AreFirsts : Pending → List (List Element) → List ℕ → Type 0
 AreFirsts g rounds firsts = (length firsts ≡ length g.waiting) × ((k : ℕ) (x : Element) (d : Named) → WaitsAt g k x d → IsFirst rounds x (slice_index firsts k))
 
--- each waiting element that d names has less than i
+-- by these numbers each waiting element that d names is satisfied by the first i rounds
 abbrev pub AllBefore : Pending → List ℕ → Named → ℕ → Type 0
 AllBefore g firsts d i = (k : ℕ) (x : Element) (e : Named) → WaitsAt g k x e → Names d x → slice_index firsts k < i
 
--- the needs of a waiting element x have less than i
+-- by these numbers each waiting need of a waiting element x is satisfied by the first i rounds
 abbrev pub NeedsBefore : Pending → List ℕ → Element → ℕ → Type 0
 NeedsBefore g firsts x i = (k : ℕ) (d : Named) → WaitsAt g k x d → AllBefore g firsts d i
 

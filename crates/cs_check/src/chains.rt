@@ -1,5 +1,5 @@
 //! Whether a list of elements is a chain of the target.
-ghost use Rattle.std.specs.Prelude.{◌≡◌, ◌<◌, ◌↔◌, IsTrue, All, length};
+ghost use Rattle.std.specs.Prelude.{◌<◌, ◌↔◌, IsTrue, All, length};
 ghost use Rattle.cs_deps.specs.Pending.{Waits, Needs};
 ghost use Rattle.cs_deps.specs.Chain.{IsChainOf};
 ghost use Rattle.cs_deps.specs.View.{pending_of};

@@ -1,5 +1,5 @@
 //! After how many rounds an element is satisfied.
-ghost use Rattle.std.specs.Prelude.{All, ◌≡◌, ◌≤◌, ◌<◌, ◌↔◌, IfOk, IsTrue, length, slice_index};
+ghost use Rattle.std.specs.Prelude.{All, ◌≡◌, ◌≤◌, ◌<◌, ◌↔◌, IfOk, IsTrue, length};
 ghost use Rattle.cs_deps.specs.Named.{Names, StandsFor};
 ghost use Rattle.cs_deps.specs.Pending.{SatisfiedBy};
 ghost use Rattle.cs_deps.specs.Schedule.{IsSchedule, Covers};
@@ -87,7 +87,7 @@ fn all_before(view: &GraphView, firsts: &[usize], needs: &Dependency, i: usize) 
     true
 }
 
-/// Whether what the element needs is satisfied by the first i rounds.
+/// Whether each waiting need of an element is satisfied by the first i rounds; so it is for one that doesn't wait.
 fn needs_before(view: &GraphView, firsts: &[usize], element: Element, i: usize) -> bool
     requires count { length firsts.now ≡ length view.now.waiting.items }
     requires listing { IsListing (pending_of view.now) }

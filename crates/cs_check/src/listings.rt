@@ -1,8 +1,5 @@
 //! Whether a view lists its elements as a document would.
-ghost use Rattle.std.specs.Prelude.{◌≡◌, ℕ, ◌+◌, ◌≤◌, ◌<◌, ◌⊎◌, ◌↔◌, IfOk, IfErr, IsTrue, Some, length, slice_index};
-ghost use Rattle.cs_deps.specs.declared.elements.Element.{Element as Item};
-ghost use Rattle.cs_deps.specs.Named.{Named, Names};
-ghost use Rattle.cs_deps.specs.Pending.{WaitsAt};
+ghost use Rattle.std.specs.Prelude.{◌≡◌, ◌<◌, ◌⊎◌, ◌↔◌, IfOk, IfErr, IsTrue, slice_index};
 ghost use Rattle.cs_deps.specs.View.{pending_of};
 ghost use Rattle.cs_check.specs.Listing.{IsListing, NamesOthers};
 ghost use Rattle.cs_check.specs.Progress.{NamesFrom, IsKnown, IsNext, MayStand, plain_after, latest_after, AreLatest};

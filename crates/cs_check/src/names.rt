@@ -1,5 +1,5 @@
 //! The names of elements in documents: a letter and a number.
-ghost use Rattle.std.specs.Prelude.{◌≡◌, ℕ, IfOk, MatchOption, decimal, string_bytes};
+ghost use Rattle.std.specs.Prelude.{◌≡◌, ℕ, MatchOption, decimal};
 ghost use Rattle.cs_deps.specs.declared.elements.Element.{Element as Item};
 ghost use Rattle.cs_check.specs.Names.{AreLetters, IsName, IsNumber, name_of};
 

@@ -1,5 +1,5 @@
 //! Whether each version needs what the version before it needs.
-ghost use Rattle.std.specs.Prelude.{◌≡◌, ◌<◌, ◌↔◌, IsTrue, length};
+ghost use Rattle.std.specs.Prelude.{◌<◌, ◌↔◌, IsTrue, length};
 ghost use Rattle.cs_deps.specs.Named.{Names};
 ghost use Rattle.cs_deps.specs.View.{pending_of};
 ghost use Rattle.cs_check.specs.Listing.{IsListing};

@@ -1,5 +1,5 @@
 //! Whether rounds and a chain are of elements that wait.
-ghost use Rattle.std.specs.Prelude.{◌≡◌, ◌≤◌, ◌↔◌, IsTrue, All, length};
+ghost use Rattle.std.specs.Prelude.{◌≤◌, ◌↔◌, IsTrue, All, length};
 ghost use Rattle.cs_deps.specs.Pending.{Waits};
 ghost use Rattle.cs_deps.specs.Schedule.{IsSchedule};
 ghost use Rattle.cs_deps.specs.View.{pending_of};

@@ -1,5 +1,5 @@
 //! What the values of a document say.
-ghost use Rattle.std.specs.Prelude.{◌≡◌, ℕ, ◌≤◌, length, slice_index, ◌<◌, ◌^◌, [], ◌∷◌, AllPairs, ◌⊎◌, ◌↔◌, List, All, IfOk, IfErr, IsTrue, Some, option_copied};
+ghost use Rattle.std.specs.Prelude.{◌≡◌, ℕ, ◌≤◌, length, slice_index, ◌<◌, ◌^◌, [], ◌∷◌, AllPairs, ◌↔◌, List, All, IfOk, IfErr, IsTrue, Some};
 ghost use Rattle.serde_json.specs.Data.{Data, number, string, array, unsigned};
 ghost use Rattle.serde_json.specs.View.{view, items_view, items_of};
 ghost use Rattle.cs_deps.specs.declared.elements.Element.{Element as Item};

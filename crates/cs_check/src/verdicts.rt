@@ -1,5 +1,5 @@
 //! The checker of plans.
-ghost use Rattle.std.specs.Prelude.{◌≡◌, ◌≤◌, ◌⊎◌, ◌↔◌, IfOk, IfErr, OnOk, IsTrue, length};
+ghost use Rattle.std.specs.Prelude.{◌≡◌, ◌⊎◌, ◌↔◌, IfOk, IfErr, OnOk, IsTrue, length};
 ghost use Rattle.cs_deps.specs.Schedule.{IsSchedule, Respects, Covers, IsFewest};
 ghost use Rattle.cs_deps.specs.View.{pending_of, rounds_of};
 ghost use Rattle.cs_check.specs.Listing.{IsWellFormed};

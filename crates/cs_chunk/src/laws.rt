@@ -1,5 +1,5 @@
 //! Laws of what is read.
-ghost use Rattle.std.specs.Prelude.{◌≡◌, ◌≢◌, ◌+◌, ◌<◌, ◌≤◌, ℕ, List, length};
+ghost use Rattle.std.specs.Prelude.{◌≡◌, ◌≢◌, ℕ, List};
 ghost use Rattle.cs_chunk.specs.Newest.{AreNewest};
 ghost use Rattle.cs_chunk.specs.Stays.{IsBelow};
 ghost use Rattle.cs_deps.specs.State.{IsWhole as IsWholeGraph, State as GraphState};
@@ -8,7 +8,6 @@ ghost use Rattle.cs_extent.specs.Appended.{IsAppended};
 ghost use Rattle.cs_extent.specs.State.{IsWhole, State, extents_of, shape};
 ghost use Rattle.cs_frame.specs.declared.locators.Locator.{Locator as Place};
 ghost use Rattle.cs_frame.specs.Formats.{formats_of};
-ghost use Rattle.cs_model.specs.Device.{Shape};
 ghost use Rattle.cs_model.specs.Extents.{Extents as Given, Purpose, emptied};
 ghost use Rattle.cs_model.specs.Formats.{Stand};
 

@@ -23,8 +23,8 @@ use cs_extent::{Extents, Purpose};
 use cs_frame::Locator;
 use std::alloc::{AllocError, Global};
 
-/// How the bytes of a put are cut, where nothing but memory can refuse them: 31 `TooLarge`, then 30 `Full`, then 35
-/// `WornOut`.
+/// How the bytes of a put are cut. Refused 31 `TooLarge`, then 30 `Full`, then 35 `WornOut`; where it isn't, only memory can still
+/// refuse the put.
 fn fitting_cut(extents: &Extents, graph: &Graph, size: usize) -> Result<Cut, Refusal>
     requires { root_family < length graph.now.staging.latest }
     ensures whole { IsWhole extents.now }
@@ -37,7 +37,7 @@ fn fitting_cut(extents: &Extents, graph: &Graph, size: usize) -> Result<Cut, Ref
         × Fits (shape extents.now) (extents_of extents.now) ForPut (pages_of cut) × IsPutWorn graph.now.staging (pages_of cut) }
     ensures refusals { IfErr result (λ r. (r ≡ Refusal.TooLarge) ⊎ (r ≡ Refusal.Full) ⊎ (r ≡ Refusal.WornOut)) }
 {
-    // Its contract tells what all extents keep.
+    // Called for its contract alone: what all extents keep.
     extents.extent_count();
     let Some(cut) = Cut::of(extents, size) else {
         return Err(Refusal::TooLarge);
@@ -67,7 +67,7 @@ fn append_one(extents: &mut Extents, graph: &mut Graph, frame: &[[u8; 4096]]) ->
 {
     match extents.append(graph, frame, Purpose::Put) {
         Ok((place, _)) => {
-            // Its contract tells what every graph keeps.
+            // Called for its contract alone: what every graph keeps.
             graph.families();
             place
         }
@@ -181,7 +181,7 @@ pub fn put_fits(extents: &Extents, bytes: &[u8]) -> bool
         ((cs : List (List ℕ)) → Chunked (shape extents.now).chunk_bytes bytes.now cs
         → ¬ Fits (shape extents.now) (extents_of extents.now) ForPut (page_counts (chunk_frames (shape extents.now) (formats_of (shape extents.now)) cs))) }
 {
-    // Its contract tells what all extents keep.
+    // Called for its contract alone: what all extents keep.
     extents.extent_count();
     let Some(cut) = Cut::of(extents, bytes.len()) else {
         unreachable!()

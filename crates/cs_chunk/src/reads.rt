@@ -1,5 +1,5 @@
 //! Reads of frames.
-ghost use Rattle.std.specs.Prelude.{◌≡◌, ◌⊎◌, ◌+◌, ◌*◌, ◌-◌, ◌^◌, ◌<◌, ◌≤◌, ℕ, List, IfErr, IfOk, IsOk, MatchResult, OnOk, length, take};
+ghost use Rattle.std.specs.Prelude.{◌≡◌, ◌⊎◌, ◌+◌, ◌*◌, ◌-◌, ◌^◌, ◌<◌, ◌≤◌, ℕ, List, IfErr, IfOk, IsOk, MatchResult, OnOk, length};
 ghost use Rattle.cs_chunk.specs.Chunks.{IsFrameAt, kind_of};
 ghost use Rattle.cs_chunk.specs.Newest.{AreNewest, IsReadAs};
 ghost use Rattle.cs_chunk.specs.Reads.{AnswersFault, AreReadAs, IsCaused, IsFrameFront, IsNoAnswer, IsOfFault, IsReadRefusal, OnlyReads, fault_at, pages_at};
@@ -8,7 +8,7 @@ ghost use Rattle.cs_deps.specs.State.{NoneOn};
 ghost use Rattle.cs_disk.specs.Disk.{seen};
 ghost use Rattle.cs_extent.specs.State.{IsWhole, shape};
 ghost use Rattle.cs_frame.specs.Formats.{formats_of};
-ghost use Rattle.cs_frame.specs.Frames.{SpellsFrame, frame_count, frame_fault, kind_byte};
+ghost use Rattle.cs_frame.specs.Frames.{SpellsFrame, frame_fault, kind_byte};
 
 use crate::refusals::{refusal_of_disk, refusal_of_fault};
 use cs_deps::{Graph, Refusal};

@@ -26,7 +26,7 @@ pub fn refusal_of_fault(fault: FormatFault) -> Refusal
     }
 }
 
-/// The refusal that has the number of a disk's.
+/// The refusal that has the number of a disk's fault.
 pub fn refusal_of_disk(fault: DiskFault) -> Refusal
     ensures { number_of result ≡ disk_fault_number fault }
 {

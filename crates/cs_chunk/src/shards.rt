@@ -1,5 +1,5 @@
 //! Reads of shards.
-ghost use Rattle.std.specs.Prelude.{All, ◌≡◌, ◌⊎◌, ◌+◌, ◌*◌, ◌<◌, ◌≤◌, ℕ, List, IfErr, IfOk, MatchResult};
+ghost use Rattle.std.specs.Prelude.{All, ◌≡◌, ◌+◌, ◌*◌, ◌<◌, ◌≤◌, ℕ, List, IfErr, IfOk, MatchResult};
 ghost use Rattle.cs_chunk.specs.Chunks.{AreChunksAt};
 ghost use Rattle.cs_chunk.specs.Newest.{AreNewest};
 ghost use Rattle.cs_chunk.specs.Reads.{IsCaused, IsNoAnswer, IsOfChunk, IsReadRefusal, OnlyReads};
@@ -43,7 +43,7 @@ pub fn read_chunks<D: PageDisk>(
     ensures cause { IsCaused (D.failure_count disk.old) (D.failure_count disk.new) result }
 {
     let mut bytes = Vec::new(alloc);
-    // Its contract tells what all extents keep.
+    // Called for its contract alone: what all extents keep.
     extents.extent_count();
     for k in 0..locators.len() {
         let locator = locators[k];

@@ -93,7 +93,8 @@ fn in_memory(alloc: Global, options: &ArgMatches) -> Result<Core<MemoryDisk>, Re
 }
 
 /// The store in a file: a new one of the geometry that the options ask for, where they do, else the one that is there. Refused
-/// 7 BadGeometry before the file is touched. On a terminal it is told of a large one that it is made.
+/// 7 BadGeometry before the file is touched. On a terminal a large one is announced before
+/// it is made, and told of afterwards.
 fn in_file<R: AllocGlobal + Files<File = File> + Eprint>(
     rt: &R,
     path: &str,

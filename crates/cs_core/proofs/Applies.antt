@@ -12,7 +12,7 @@ use Rattle.cs_refine.specs.Devices.{IsDiskOf}
 use Rattle.cs_core.specs.declared.events.Event.{Event as Asked}
 use Rattle.cs_core.specs.declared.events.Reply.{Reply as Told}
 use Rattle.cs_core.specs.Meanings.{Says, event_of}
-use Rattle.cs_core.specs.Stored.{Stored, settled_rooms}
+use Rattle.cs_core.specs.Stored.{Stored, but_for_room}
 use Rattle.cs_core.specs.Views.{AreSaid, IsIn, IsReached, Serves}
 use Rattle.cs_core.proofs.Going.{same_state}
 
@@ -41,19 +41,19 @@ module _ (S : Shape) (F : Formats) where
 -- a core goes on by what its store serves
 pub goes : {D : Type 0} (state : D → DiskState) (v w : Stored) (disk after : D) (opened : Image) (found : ℕ × ℕ) (history : List (Asked × Told)) (limit limit2 : ℕ) (event : Asked) (reply : Told)
     → shape w.extents ≡ shape v.extents → Serves v (state disk) event reply w (state after) → (s : State)
-    → IsIn state (record { disk = disk; opened = opened; found = found; store = settled_rooms v; history = history; limit = limit }) s
+    → IsIn state (record { disk = disk; opened = opened; found = found; store = but_for_room v; history = history; limit = limit }) s
     → (m : Reply) × (t : State) × Says (shape v.extents) (formats_of (shape v.extents)) reply m
     × Step (shape v.extents) (formats_of (shape v.extents)) s (event_of event) m t
-    × IsIn state (record { disk = after; opened = opened; found = found; store = settled_rooms w; history = history ++ (event, reply) ∷ []; limit = limit2 }) t
+    × IsIn state (record { disk = after; opened = opened; found = found; store = but_for_room w; history = history ++ (event, reply) ∷ []; limit = limit2 }) t
 unfolding Serves
 goes state v w disk after opened found history limit limit2 event reply same serves s was =
-    let d = serves s (same_state (settled_rooms v) v s was.store refl) was.disk in (
+    let d = serves s (same_state (but_for_room v) v s was.store refl) was.disk in (
       d.0,
       d.1,
       d.2,
       d.3,
       record {
-        store = same_state w (settled_rooms w) d.1 d.4 refl;
+        store = same_state w (but_for_room w) d.1 d.4 refl;
         disk = subst (λ (S : Shape). IsDiskOf S (formats_of S) d.1 (state after)) (sym same) d.5;
         reached = subst (λ (S : Shape). IsReached S (formats_of S) opened (history ++ (event, reply) ∷ []) d.1) (sym same)
             (reached_more (shape v.extents) (formats_of (shape v.extents)) opened history event reply d.0 s d.1 was.reached d.2 d.3);

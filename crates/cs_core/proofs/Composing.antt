@@ -12,7 +12,7 @@ use Rattle.cs_refine.specs.Devices.{IsDiskOf}
 use Rattle.cs_core.specs.declared.events.Event.{Event}
 use Rattle.cs_core.specs.declared.events.Reply.{Reply}
 use Rattle.cs_core.specs.Meanings.{command_said, commands_said}
-use Rattle.cs_core.specs.Runs.{AreCalls, IsCall}
+use Rattle.cs_core.specs.Calls.{AreCalls, IsCall}
 use Rattle.cs_core.specs.States.{IsStateOf}
 use Rattle.cs_core.specs.Stored.{Stored}
 use Rattle.cs_core.specs.Views.{Applies, IsUntouched, IsFull, IsIn, IsReached, IsStep, View}

@@ -23,7 +23,7 @@ use Rattle.cs_refine.specs.Parts.{ArePartsOf}
 use Rattle.cs_refine.proofs.Shapes.{store_format, store_shape}
 use Rattle.cs_core.specs.declared.roots.Root.{Root as Noted}
 use Rattle.cs_core.specs.States.{AreRootsOf, IsStateOf}
-use Rattle.cs_core.specs.Stored.{Stored, members_of, settled_rooms}
+use Rattle.cs_core.specs.Stored.{Stored, members_of, but_for_room}
 use Rattle.cs_core.proofs.RootsStay.{SameRoots}
 
 -- ---- refusals
@@ -151,26 +151,26 @@ state_roomed v h j s graph index is = record {
 }
 
 -- a store that differs in room alone is of the same states
-pub same_state : (v w : Stored) (s : State) → IsStateOf v s → settled_rooms w ≡ settled_rooms v → IsStateOf w s
+pub same_state : (v w : Stored) (s : State) → IsStateOf v s → but_for_room w ≡ but_for_room v → IsStateOf w s
 same_state v w s is same = from_settled (subst (λ (u : Stored). IsStateOf u s) (sym same) to_settled)
   where
-    to_settled : IsStateOf (settled_rooms v) s
+    to_settled : IsStateOf (but_for_room v) s
     to_settled = state_roomed v (record v.graph { room = 0 }) (record v.index { room = 0 }) s refl refl is
 
-    from_settled : IsStateOf (settled_rooms w) s → IsStateOf w s
-    from_settled of = state_roomed (settled_rooms w) w.graph w.index s refl refl of
+    from_settled : IsStateOf (but_for_room w) s → IsStateOf w s
+    from_settled of = state_roomed (but_for_room w) w.graph w.index s refl refl of
 
 pub roomed : (v : Stored) (x : ExtentsState) (g : GraphState) (i : IndexState) → x ≡ v.extents → g ≡ record v.graph { room = g.room } → i ≡ record v.index { room = i.room }
-    → settled_rooms (record v { extents = x; graph = g; index = i }) ≡ settled_rooms v
+    → but_for_room (record v { extents = x; graph = g; index = i }) ≡ but_for_room v
 roomed v x g i extents graph index =
     ap (λ (k : ExtentsState). record v { extents = k; graph = record g { room = 0 }; index = record i { room = 0 } }) extents
     ∙ ap (λ (k : GraphState). record v { graph = record k { room = 0 }; index = record i { room = 0 } }) graph
     ∙ ap (λ (k : IndexState). record v { graph = record v.graph { room = 0 }; index = record k { room = 0 } }) index
 
 pub roomed_roots : (v : Stored) (x : ExtentsState) (g : GraphState) (i : IndexState) (roots : List Noted) → x ≡ v.extents → g ≡ record v.graph { room = g.room } → i ≡ record v.index { room = i.room } → roots ≡ v.roots
-    → settled_rooms (record v { extents = x; graph = g; index = i; roots = roots }) ≡ settled_rooms v
+    → but_for_room (record v { extents = x; graph = g; index = i; roots = roots }) ≡ but_for_room v
 roomed_roots v x g i roots extents graph index same =
-    ap (λ (rs : List Noted). settled_rooms (record v { extents = x; graph = g; index = i; roots = rs })) same ∙ roomed v x g i extents graph index
+    ap (λ (rs : List Noted). but_for_room (record v { extents = x; graph = g; index = i; roots = rs })) same ∙ roomed v x g i extents graph index
 
 pub same_index : (i j : IndexState) → j ≡ i → j ≡ record i { room = j.room }
 same_index i j same = subst (λ (k : IndexState). k ≡ record i { room = k.room }) (sym same) refl

@@ -14,7 +14,7 @@ use Rattle.cs_core.specs.declared.events.Event.{Event}
 use Rattle.cs_core.specs.declared.events.Event.TheVariants.{Begin, Delete, End, Get, Issue, MoveOne, Put, Retire, Settle, Stage}
 use Rattle.cs_core.specs.declared.events.Reply.{Reply}
 use Rattle.cs_core.specs.declared.events.Reply.TheVariants.{Absent, Accepted, Begun, Ended, Issued, Moved, NoneLive, Nothing, Refused, Retired, Staged, Unchanged}
-use Rattle.cs_core.specs.Runs.{AreDone, EndsNone, IsRoundDone}
+use Rattle.cs_core.specs.Calls.{AreDone, EndsNone, IsRoundDone}
 use Rattle.cs_core.specs.Stored.{StagesBehind, Stored, members_of}
 use Rattle.cs_core.specs.Writebacks.{StaysRefused, WritesBack}
 use Rattle.cs_core.proofs.Moves.{behind_none, behind_then}

@@ -41,7 +41,7 @@ use Rattle.cs_reclaim.specs.Moves.{AnswersMove, AnswersPlace, IsMoved, chunk_fra
 use Rattle.cs_frame.specs.declared.identifiers.ShardId.{ShardId}
 use Rattle.cs_core.specs.Reads.{DeclinesOn, MoveAnswers, StepsOn}
 use Rattle.cs_core.specs.States.{IsStateOf}
-use Rattle.cs_core.specs.Stored.{Stored, page_total, settled_rooms}
+use Rattle.cs_core.specs.Stored.{Stored, page_total, but_for_room}
 use Rattle.cs_core.proofs.Damage.{IsDamage, read_refusal}
 use Rattle.cs_core.proofs.Gets.{newest_there}
 use Rattle.cs_core.proofs.Going.{Beside, beside_is, frontier_same, goes_on, going, no_more, pass, pass_found, roomed, roots_same, same_state}
@@ -193,7 +193,7 @@ module _ (v : Stored) (whole : IsWhole v.extents) (graph : IsWholeGraph v.graph)
 
   -- ---- it is refused
 
-  module _ (w : Stored) (same : settled_rooms w ≡ settled_rooms v) (r : Code) (some : NothingLive (index_of v.index) e → ⊥)
+  module _ (w : Stored) (same : but_for_room w ≡ but_for_room v) (r : Code) (some : NothingLive (index_of v.index) e → ⊥)
       (met : (view : ℕ → List ℕ) → AreNewest v.graph (seen disk) view → (d n : ℕ) (from : Place) → FirstLive (index_of v.index) e d n from
       → IsNoAnswer r ⊎ IsOfFault (fault_at (shape v.extents) view Chunk (as_locator from)) r ⊎ ((fault_at (shape v.extents) view Chunk (as_locator from) ≡ None) × ((r ≡ code.Full) ⊎ (r ≡ code.WornOut))))
       (why : (view : ℕ → List ℕ) → AreNewest v.graph (seen disk) view → (d n : ℕ) (from : Place) (bytes : List ℕ) → FirstLive (index_of v.index) e d n from → IsFrameAt (shape v.extents) view ChunkFrame (as_locator from) bytes

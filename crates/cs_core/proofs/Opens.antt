@@ -30,7 +30,7 @@ use Rattle.cs_core.specs.declared.events.Reply.{Reply}
 use Rattle.cs_core.specs.declared.roots.Root.{Root as Noted}
 use Rattle.cs_core.specs.Openings.{IsOpened, IsStoreMade, IsWhyNotOpened, opened_stored}
 use Rattle.cs_core.specs.States.{AreRootsOf, IsStateOf}
-use Rattle.cs_core.specs.Stored.{Stored, page_total, settled_rooms}
+use Rattle.cs_core.specs.Stored.{Stored, page_total, but_for_room}
 use Rattle.cs_core.specs.Views.{IsCore, IsFound, IsReached}
 use Rattle.cs_core.proofs.Exactly.{none_fails, recovers_here}
 
@@ -142,12 +142,12 @@ module _ {D : Type 0} (honest : D → Type 0) (state : D → DiskState) (page_co
   }
 
   pub opened_core : (opened : Image) (history : List (Event × Reply)) (limit : ℕ) → opened ≡ (state disk).durable → history ≡ []
-      → IsCore honest state page_count (record { disk = disk; opened = opened; found = (commands, live); store = settled_rooms store; history = history; limit = limit })
+      → IsCore honest state page_count (record { disk = disk; opened = opened; found = (commands, live); store = but_for_room store; history = history; limit = limit })
   opened_core opened history limit as_is none =
-      let core : IsCore honest state page_count (record { disk = disk; opened = opened; found = (commands, live); store = settled_rooms store; history = history; limit = 0 }) =
-      subst (λ (i : Image). IsCore honest state page_count (record { disk = disk; opened = i; found = (commands, live); store = settled_rooms store; history = history; limit = 0 })) (sym as_is)
-      (subst (λ (h : List (Event × Reply)). IsCore honest state page_count (record { disk = disk; opened = (state disk).durable; found = (commands, live); store = settled_rooms store; history = h; limit = 0 })) (sym none)
-      (subst (λ (u : Stored). IsCore honest state page_count (record { disk = disk; opened = (state disk).durable; found = (commands, live); store = settled_rooms u; history = []; limit = 0 })) (sym made.made) base)) in
+      let core : IsCore honest state page_count (record { disk = disk; opened = opened; found = (commands, live); store = but_for_room store; history = history; limit = 0 }) =
+      subst (λ (i : Image). IsCore honest state page_count (record { disk = disk; opened = i; found = (commands, live); store = but_for_room store; history = history; limit = 0 })) (sym as_is)
+      (subst (λ (h : List (Event × Reply)). IsCore honest state page_count (record { disk = disk; opened = (state disk).durable; found = (commands, live); store = but_for_room store; history = h; limit = 0 })) (sym none)
+      (subst (λ (u : Stored). IsCore honest state page_count (record { disk = disk; opened = (state disk).durable; found = (commands, live); store = but_for_room u; history = []; limit = 0 })) (sym made.made) base)) in
       record {
         device = core.device;
         sized = core.sized;
@@ -158,14 +158,14 @@ module _ {D : Type 0} (honest : D → Type 0) (state : D → DiskState) (page_co
 -- ---- what its caller is told
 
 pub is_opened : (before : Type 0) (old : DiskState) (image : Image) (version pages : ℕ) (written : List (ℕ × ℕ)) (commands live : ℕ) (store : Stored) → IsStoreMade before (page (seen old)) version pages written commands live store
-    → (before → image ≡ seen old) → IsOpened before image (commands, live) (settled_rooms store)
+    → (before → image ≡ seen old) → IsOpened before image (commands, live) (but_for_room store)
 is_opened before old image version pages written commands live store made same = record {
   version = version;
   pages = pages;
   written = written;
   root = made.root;
   runs = made.runs;
-  made = ap settled_rooms made.made;
+  made = ap but_for_room made.made;
   read = λ h. subst (λ (i : Image). IsStoreRead (page i) version pages written made.root commands made.runs) (sym (same h)) (made.read h);
 }
 

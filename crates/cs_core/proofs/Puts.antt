@@ -25,7 +25,7 @@ use Rattle.cs_refine.proofs.Indexes.{as_many_named, looked_up}
 use Rattle.cs_refine.proofs.RefusedPuts.{put_full, put_worn}
 use Rattle.cs_refine.specs.Parts.{ArePartsOf}
 use Rattle.cs_core.specs.States.{IsStateOf}
-use Rattle.cs_core.specs.Stored.{IsWhyWorn, Stored, settled_rooms}
+use Rattle.cs_core.specs.Stored.{IsWhyWorn, Stored, but_for_room}
 use Rattle.cs_core.specs.Steps.{Declines}
 use Rattle.cs_core.proofs.Going.{Beside, beside_is, frontier_same, goes_on, going, no_more, pass, roots_same, same_state}
 use Rattle.cs_core.proofs.RootsStay.{SameRoots, appends_stay}
@@ -164,7 +164,7 @@ set_from id i k j ls e set = let there : IsSet (record i { room = k.room }) id l
     record { table = there.table; index = there.index; runs = there.runs; limit = there.limit }
 
 -- ---- refusals of the calls
-module _ (v w : Stored) (whole : IsWhole v.extents) (limit : v.index.limit ≡ (shape v.extents).most_names) (runs : v.halted ≡ false) (same : settled_rooms w ≡ settled_rooms v) (id : ℕ) (bytes : List ℕ) (r : Code) where
+module _ (v w : Stored) (whole : IsWhole v.extents) (limit : v.index.limit ≡ (shape v.extents).most_names) (runs : v.halted ≡ false) (same : but_for_room w ≡ but_for_room v) (id : ℕ) (bytes : List ℕ) (r : Code) where
   abbrev pub IsLarge : Type 0
   IsLarge = (shape v.extents).most_chunks * (shape v.extents).chunk_bytes < length bytes
 

@@ -30,7 +30,7 @@ use Rattle.cs_reclaim.specs.Retired.{IsRetireFull, IsRetireWorn, IsRetired}
 use Rattle.cs_core.specs.declared.roots.Root.{Root as Noted}
 use Rattle.cs_core.specs.States.{AreRootsOf, IsStateOf}
 use Rattle.cs_core.specs.Steps.{Declines, Steps}
-use Rattle.cs_core.specs.Stored.{Stored, settled_rooms}
+use Rattle.cs_core.specs.Stored.{Stored, but_for_room}
 use Rattle.cs_core.proofs.Going.{Beside, frontier_stays, goes_on, going, no_more, pass, roots_more, same_state}
 use Rattle.cs_core.proofs.RootsStay.{SameRoots, append_stays, merge_stays}
 
@@ -202,25 +202,25 @@ module _ (v : Stored) (s : State) (whole : IsWhole v.extents) (is : IsStateOf v 
 
 -- ---- the answers of the calls
 
-pub stage_declines : (v w : Stored) (whole : IsWhole v.extents) (runs : v.halted ≡ false) → settled_rooms w ≡ settled_rooms v → (r : Code)
+pub stage_declines : (v w : Stored) (whole : IsWhole v.extents) (runs : v.halted ≡ false) → but_for_room w ≡ but_for_room v → (r : Code)
     → IsWhy r (IsFull (WritesRun v.index) v.extents ForRun) ((v.index.table ≢ []) × IsStageWorn (WritesRun v.index) v.extents v.graph.staging) → Declines v Stage r w
 stage_declines v w whole runs same code.Full full = inr (Full, refl, λ s is. (s, stage_no_room v s whole is runs full, same_state v w s is same))
 stage_declines v w whole runs same code.WornOut worn = inr (WornOut, refl, λ s is. (s, stage_worn_out v s whole is runs worn.0 worn.1, same_state v w s is same))
 stage_declines v w whole runs same code.OutOfMemory why = inl refl
 stage_declines v w whole runs same r why = absurd why
 
-pub retire_declines : (v w : Stored) (whole : IsWhole v.extents) (runs : v.halted ≡ false) → settled_rooms w ≡ settled_rooms v → (e : ℕ) → (extents_of v.extents).swept e ≡ true → NothingLive (index_of v.index) e → (r : Code)
+pub retire_declines : (v w : Stored) (whole : IsWhole v.extents) (runs : v.halted ≡ false) → but_for_room w ≡ but_for_room v → (e : ℕ) → (extents_of v.extents).swept e ≡ true → NothingLive (index_of v.index) e → (r : Code)
     → IsWhy r (IsRetireFull v.index v.extents) (IsRetireWorn v.index v.extents v.graph.staging e) → Declines v (Retire e) r w
 retire_declines v w whole runs same e marks none code.Full full = inr (Full, refl, λ s is. (s, retire_no_room v s whole is runs e marks none full, same_state v w s is same))
 retire_declines v w whole runs same e marks none code.WornOut worn = inr (WornOut, refl, λ s is. (s, retire_worn_out v s whole is runs e marks none worn.0 worn.1, same_state v w s is same))
 retire_declines v w whole runs same e marks none code.OutOfMemory why = inl refl
 retire_declines v w whole runs same e marks none r why = absurd why
 
-pub retire_lives : (v w : Stored) (whole : IsWhole v.extents) (runs : v.halted ≡ false) → settled_rooms w ≡ settled_rooms v → (e : ℕ) → (extents_of v.extents).swept e ≡ true → (NothingLive (index_of v.index) e → ⊥)
+pub retire_lives : (v w : Stored) (whole : IsWhole v.extents) (runs : v.halted ≡ false) → but_for_room w ≡ but_for_room v → (e : ℕ) → (extents_of v.extents).swept e ≡ true → (NothingLive (index_of v.index) e → ⊥)
     → Declines v (Retire e) code.StillLive w
 retire_lives v w whole runs same e marks live = inr (StillLive, refl, λ s is. (s, retire_live v s whole is runs e marks live, same_state v w s is same))
 
-pub stage_none : (v w : Stored) (whole : IsWhole v.extents) (runs : v.halted ≡ false) → settled_rooms w ≡ settled_rooms v → v.index.table ≡ [] → Steps v Stage Unchanged w
+pub stage_none : (v w : Stored) (whole : IsWhole v.extents) (runs : v.halted ≡ false) → but_for_room w ≡ but_for_room v → v.index.table ≡ [] → Steps v Stage Unchanged w
 stage_none v w whole runs same none s is = (s, stage_nothing v s whole is runs none, same_state v w s is same)
 
 pub stage_steps : (v : Stored) (whole : IsWhole v.extents) (runs : v.halted ≡ false) (n : ℕ) (y : ExtentsState) (h : GraphState) (j : IndexState) (roots : List Noted) → (IsFull (WritesRun v.index) v.extents ForRun → ⊥)
@@ -262,7 +262,7 @@ abbrev pub which : Result ℕ (Code × ℕ) → Code
 which (Ok x) = code.Full
 which (Err r) = r.0
 
-pub retire_refused : (v w : Stored) (whole : IsWhole v.extents) (runs : v.halted ≡ false) → settled_rooms w ≡ settled_rooms v → (e : ℕ) → (extents_of v.extents).swept e ≡ true → (r : Code) (back : ℕ) → back ≡ e
+pub retire_refused : (v w : Stored) (whole : IsWhole v.extents) (runs : v.halted ≡ false) → but_for_room w ≡ but_for_room v → (e : ℕ) → (extents_of v.extents).swept e ≡ true → (r : Code) (back : ℕ) → back ≡ e
     → ((wrong r back ≡ wrong code.StillLive e) ↔ (NothingLive (index_of v.index) e → ⊥))
     → (NothingLive (index_of v.index) e → IsWhy r (IsRetireFull v.index v.extents) (IsRetireWorn v.index v.extents v.graph.staging e))
     → (r ≡ code.StillLive) ⊎ (r ≡ code.Full) ⊎ (r ≡ code.WornOut) ⊎ (r ≡ code.OutOfMemory) → Declines v (Retire e) r w

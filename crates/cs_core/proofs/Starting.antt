@@ -21,7 +21,7 @@ use Rattle.cs_refine.specs.Devices.{IsDiskOf}
 use Rattle.cs_core.specs.declared.roots.Root.{Root as Noted}
 use Rattle.cs_core.specs.Started.{IsNewStore, new_stored}
 use Rattle.cs_core.specs.States.{AreRootsOf, IsStateOf}
-use Rattle.cs_core.specs.Stored.{IsKept, Stored, page_total, settled_rooms}
+use Rattle.cs_core.specs.Stored.{IsKept, Stored, page_total, but_for_room}
 use Rattle.cs_core.specs.declared.events.Event.{Event}
 use Rattle.cs_core.specs.declared.events.Reply.{Reply}
 use Rattle.cs_core.specs.Views.{IsCore, IsReached}
@@ -78,7 +78,7 @@ new_roots s r one version commands count = record {
 -- a new store is of a state of the machine
 pub starts : (extents pages : ℕ) (v : Stored) (superblock root : List ℕ) → IsNewStore extents pages v superblock root → (old now : DiskState) → 2 ≤ length old.durable
     → now ≡ flushed (written (written old 0 superblock) 1 root)
-    → (s : State) × IsStateOf (settled_rooms v) s × IsDiskOf (shape v.extents) (formats_of (shape v.extents)) s now × IsReached (shape v.extents) (formats_of (shape v.extents)) now.durable [] s
+    → (s : State) × IsStateOf (but_for_room v) s × IsDiskOf (shape v.extents) (formats_of (shape v.extents)) s now × IsReached (shape v.extents) (formats_of (shape v.extents)) now.durable [] s
 starts extents pages v superblock root made old now large is =
     let w : DiskState = flushed (written (written old 0 superblock) 1 root) in
     let image : Image = w.durable in
@@ -105,7 +105,7 @@ starts extents pages v superblock root made old now large is =
     } in
     let reached : IsReached (shape x) (formats_of (shape x)) image [] s = record { count = 0; start = λ id. None; gives = start.0; events = []; said = tt; legal = refl } in (
       s,
-      subst (λ (u : Stored). IsStateOf (settled_rooms u) s) (sym made.made) of,
+      subst (λ (u : Stored). IsStateOf (but_for_room u) s) (sym made.made) of,
       subst (λ (u : Stored). IsDiskOf (shape u.extents) (formats_of (shape u.extents)) s now) (sym made.made)
           (subst (λ (d : DiskState). IsDiskOf (shape x) (formats_of (shape x)) s d) (sym is) start.1.disk),
       subst (λ (u : Stored). IsReached (shape u.extents) (formats_of (shape u.extents)) now.durable [] s) (sym made.made)
@@ -160,7 +160,7 @@ none_there m none = ([], record { rising = search rules; exact = λ id. (λ has.
 pub new_core : {D : Type 0} (honest : D → Type 0) (state : D → DiskState) (page_count : D → ℕ) (disk : D) (opened : Image) (v : Stored) (history : List (Event × Reply)) (limit extents pages : ℕ) (superblock root : List ℕ)
     → IsNewStore extents pages v superblock root → history ≡ [] → page_count disk ≡ 2 + extents * pages → opened ≡ (state disk).durable → (honest disk → length (state disk).durable ≡ page_count disk)
     → (old : DiskState) → (honest disk → (2 ≤ length old.durable) × (state disk ≡ flushed (written (written old 0 superblock) 1 root)))
-    → IsCore honest state page_count (record { disk = disk; opened = opened; found = (0, 0); store = settled_rooms v; history = history; limit = limit })
+    → IsCore honest state page_count (record { disk = disk; opened = opened; found = (0, 0); store = but_for_room v; history = history; limit = limit })
 new_core honest state page_count disk opened v history limit extents pages superblock root made none size as_is sized old wrote =
     let total : page_total (shape v.extents) ≡ 2 + extents * pages
     = ap (λ (u : Stored). page_total (shape u.extents)) made.made ∙ ap (λ (n : ℕ). 2 + n * pages) (length-replicate extents (0, 0)) in

@@ -14,7 +14,7 @@ use Rattle.cs_refine.proofs.Calls.{abandon, sweep}
 use Rattle.cs_reclaim.specs.Sweeps.{IsNotSweepable}
 use Rattle.cs_core.specs.States.{IsStateOf}
 use Rattle.cs_core.specs.Steps.{Declines, Steps}
-use Rattle.cs_core.specs.Stored.{AreSwept, Stored, settled_rooms}
+use Rattle.cs_core.specs.Stored.{AreSwept, Stored, but_for_room}
 use Rattle.cs_core.proofs.Going.{frontier_same, goes_on, going, no_more, pass, roots_same, same_state}
 
 -- an extent that isn't there isn't marked
@@ -23,7 +23,7 @@ unswept x e swept (inl out) = false_from_ne_true ((extents_of x).swept e) (λ is
 unswept x e swept (inr not) = not
 
 module _ (v : Stored) (whole : IsWhole v.extents) (runs : v.halted ≡ false) (e : ℕ) where
-  pub begin_declines : (w : Stored) → settled_rooms w ≡ settled_rooms v → IsNotSweepable (shape v.extents) (extents_of v.extents) e → Declines v (BeginSweep e) code.NotSweepable w
+  pub begin_declines : (w : Stored) → but_for_room w ≡ but_for_room v → IsNotSweepable (shape v.extents) (extents_of v.extents) e → Declines v (BeginSweep e) code.NotSweepable w
   begin_declines w same not = inr (
     NotSweepable,
     refl,

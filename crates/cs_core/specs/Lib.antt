@@ -1,13 +1,13 @@
 pub mod Answered
 pub mod Asked
+pub mod Calls
 pub mod Frontiers
 pub mod Meanings
 pub mod Openings
 pub mod Reads
 pub mod Replays
+pub mod Replies
 pub mod Rounds
-pub mod Runs
-pub mod Shapes
 pub mod Started
 pub mod States
 pub mod Steps

@@ -84,9 +84,9 @@ pub record IsKept (s : Stored) : Type 0 where
   pub numbers : s.base + s.accepted < 2 ^ 63
   pub swept : AreSwept s.extents
 
--- the store with the rooms of graph and index as 0: clauses compare stores so, whatever memory is reserved
-abbrev pub settled_rooms : Stored → Stored
-settled_rooms s = record s { graph = record s.graph { room = 0 }; index = record s.index { room = 0 } }
+-- the store with the rooms of graph and index as 0: clauses compare stores so, as how much memory is reserved doesn't matter
+abbrev pub but_for_room : Stored → Stored
+but_for_room s = record s { graph = record s.graph { room = 0 }; index = record s.index { room = 0 } }
 
 -- why a put is refused where the number of commands is the greatest: 30 where its chunks don't fit, else 35
 abbrev pub IsWhyWorn : ExtentsState → List ℕ → Refusal → Type 0

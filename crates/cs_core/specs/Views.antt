@@ -87,8 +87,8 @@ pub record IsStep {D : Type 0} (honest : D → Type 0) (state : D → DiskState)
 abbrev pub Applies : {D : Type 0} → (honest : D → Type 0) → (state : D → DiskState) → (old : View D) → Event → Reply → (new : View D) → Type 0
 Applies honest state old event reply new = IsFull old reply new ⊎ IsStep honest state old event reply new
 
--- What one event does to a store and to an honest disk: from whichever state they are of, the machine makes a step to one
--- that they are of then.
+-- What one event does to a store and to an honest disk: whichever state they are in, the machine makes a step from it to one
+-- that they are in then.
 unfoldable pub Serves : (old : Stored) (disk : DiskState) → Event → Reply → (new : Stored) (after : DiskState) → Type 0
 Serves old disk event reply new after = (s : model.State) → IsStateOf old s → IsDiskOf (shape old.extents) (formats_of (shape old.extents)) s disk
     → (m : model.Reply) × (t : model.State) × Says (shape old.extents) (formats_of (shape old.extents)) reply m

@@ -1,12 +1,12 @@
 //! Puts and deletes.
-ghost use Rattle.std.specs.Prelude.{◌≡◌, ◌≢◌, ◌+◌, ◌*◌, ◌^◌, ◌<◌, ◌≤◌, ◌⊎◌, ◌↔◌, [], IfErr, IfOk, IsTrue, MatchOption, OnErr, OnOk, None, false, length, map, vec_len};
+ghost use Rattle.std.specs.Prelude.{◌≡◌, ◌≢◌, ◌+◌, ◌*◌, ◌<◌, ◌≤◌, ◌⊎◌, ◌↔◌, IfErr, IfOk, MatchOption, OnErr, OnOk, None, false, length, map};
 ghost use Rattle.cs_extent.specs.State.{IsWhole, shape};
 ghost use Rattle.cs_frame.specs.Formats.{place_of};
 ghost use Rattle.cs_index.specs.State.{IsSet, id_number, index_of};
 ghost use Rattle.cs_model.specs.Index.{lookup, names};
 ghost use Rattle.cs_model.specs.State.{Accepted, Delete, Put};
 ghost use Rattle.cs_core.specs.Steps.{Answers, deleted_or_not};
-ghost use Rattle.cs_core.specs.Stored.{IsWhyWorn, settled_rooms};
+ghost use Rattle.cs_core.specs.Stored.{IsWhyWorn, but_for_room};
 ghost use Rattle.cs_core.specs.Writebacks.{AddsCommand, KeepsRound, KeepsStaging, Stages};
 
 use crate::stores::Store;
@@ -26,7 +26,7 @@ impl Store {
         ensures round { KeepsRound self.old self.new }
         ensures behind { OnOk result (Stages self.old self.new) }
         ensures step { self.old.halted ≡ false → Answers self.old (Put (id_number id) bytes.now) (λ n. Accepted n) result self.new }
-        ensures refused { OnErr result (settled_rooms self.new ≡ settled_rooms self.old) }
+        ensures refused { OnErr result (but_for_room self.new ≡ but_for_room self.old) }
         ensures shape { shape self.new.extents ≡ shape self.old.extents }
         ensures frontier { self.new.frontier ≡ self.old.frontier }
         ensures no_fault { IfErr result (λ r. r ≢ Refusal.DeviceFault) }
@@ -54,15 +54,15 @@ impl Store {
     /// Refused 35 WornOut, and 9 OutOfMemory.
     pub fn delete(&mut self, id: ShardId) -> Result<Option<u64>, Refusal>
         ensures step { self.old.halted ≡ false → Answers self.old (Delete (id_number id)) deleted_or_not result self.new }
-        ensures adds { IfOk result (λ deleted. MatchOption deleted (settled_rooms self.new ≡ settled_rooms self.old) (λ n. AddsCommand n self.old self.new)) }
+        ensures adds { IfOk result (λ deleted. MatchOption deleted (but_for_room self.new ≡ but_for_room self.old) (λ n. AddsCommand n self.old self.new)) }
         ensures round { KeepsRound self.old self.new }
         ensures staging { KeepsStaging self.old self.new }
-        ensures refused { OnErr result (settled_rooms self.new ≡ settled_rooms self.old) }
+        ensures refused { OnErr result (but_for_room self.new ≡ but_for_room self.old) }
         ensures shape { shape self.new.extents ≡ shape self.old.extents }
         ensures frontier { self.new.frontier ≡ self.old.frontier }
         ensures no_fault { IfErr result (λ r. r ≢ Refusal.DeviceFault) }
     {
-        // Its contract tells what all extents keep.
+        // Called for its contract alone: what all extents keep.
         self.extents.extent_count();
         if !self.index.is_live(id) {
             return Ok(None);

@@ -30,7 +30,7 @@ ghost use Rattle.cs_reclaim.specs.Sweeps.{IsNotSweepable};
 ghost use Rattle.cs_core.specs.Meanings.{commands_said};
 ghost use Rattle.cs_core.specs.Openings.{IsOpened, IsOpeningRefusal, IsWhyNotOpened};
 ghost use Rattle.cs_core.specs.Replays.{replayed};
-ghost use Rattle.cs_core.specs.Shapes.{MayAnswer};
+ghost use Rattle.cs_core.specs.Replies.{MayAnswer};
 ghost use Rattle.cs_core.specs.Started.{IsFormatted, IsHeadWritten, new_stored};
 ghost use Rattle.cs_core.specs.Views.{Applies, IsUntouched, IsFound, IsIn};
 ghost use Rattle.cs_core.specs.Writebacks.{WritesBack};
@@ -73,14 +73,14 @@ pub struct Core<D: PageDisk> {
 
 impl<D: PageDisk> Model for Core<D> {
     ghost use Rattle.std.specs.Prelude.{◌≤◌, length};
-    ghost use Rattle.cs_core.specs.Stored.{settled_rooms};
+    ghost use Rattle.cs_core.specs.Stored.{but_for_room};
     ghost use Rattle.cs_core.specs.Views.{IsCore, View};
 
     ghost Value = { View D };
 
-    ghost view = { λ c. record { disk = c.disk; opened = (D.state c.opened.value).durable; found = c.found; store = settled_rooms c.store; history = c.history.items; limit = c.limit } };
+    ghost view = { λ c. record { disk = c.disk; opened = (D.state c.opened.value).durable; found = c.found; store = but_for_room c.store; history = c.history.items; limit = c.limit } };
 
-    ghost invariant = { λ c. IsCore D.honest D.state D.page_count (record { disk = c.disk; opened = (D.state c.opened.value).durable; found = c.found; store = settled_rooms c.store; history = c.history.items; limit = c.limit }) };
+    ghost invariant = { λ c. IsCore D.honest D.state D.page_count (record { disk = c.disk; opened = (D.state c.opened.value).durable; found = c.found; store = but_for_room c.store; history = c.history.items; limit = c.limit }) };
 }
 
 impl<D: PageDisk> Core<D> {
@@ -202,7 +202,7 @@ impl<D: PageDisk> Core<D> {
         ensures honest { D.honest self.old.disk ↔ D.honest self.new.disk }
         ensures pages { D.page_count self.new.disk ≡ D.page_count self.old.disk }
     {
-        // Its contract tells what all extents keep.
+        // Called for its contract alone: what all extents keep.
         self.store.extent_count();
         if self.limit <= self.history.len() {
             return Ok(Reply::Refused(Refusal::HistoryFull));
@@ -299,7 +299,7 @@ impl<D: PageDisk> Core<D> {
         ensures view { IfOk result (λ view. pending_of view ≡ self.now.store.graph.staging.pending) }
         ensures kept { IsOk result → IsKept self.now.store.graph.staging }
     {
-        // Its contract tells what every graph keeps.
+        // Called for its contract alone: what every graph keeps.
         self.store.graph.families();
         self.store.graph.view()
     }

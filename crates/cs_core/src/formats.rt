@@ -1,5 +1,5 @@
 //! New stores.
-ghost use Rattle.std.specs.Prelude.{◌≡◌, ◌⊎◌, ◌↔◌, ◌≤◌, IfOk, OnErr, OnOk};
+ghost use Rattle.std.specs.Prelude.{◌≡◌, ◌↔◌, ◌≤◌, IfOk, OnErr, OnOk};
 ghost use Rattle.cs_disk.specs.Disk.{HasCause, flushed, written};
 ghost use Rattle.cs_core.specs.Started.{IsHeadWritten, IsNewStore};
 
@@ -31,6 +31,7 @@ pub fn new_store(alloc: Global, geometry: Geometry) -> Result<NewStore, AllocErr
     };
     let page = encode_superblock(&superblock);
     let extents = Extents::of(alloc, &superblock)?;
+    // Never refused: without runs no identifier is named.
     let Ok(index) = Index::load(alloc, geometry.named_limit(), Vec::new(alloc)) else {
         return Err(AllocError);
     };

@@ -12,7 +12,7 @@ ghost use Rattle.cs_model.specs.State.{State};
 ghost use Rattle.cs_refine.specs.Crashes.{IsPrefix};
 ghost use Rattle.cs_refine.specs.Devices.{persistent_image};
 ghost use Rattle.cs_core.specs.Meanings.{commands_said};
-ghost use Rattle.cs_core.specs.Runs.{AreCalls, IsRoundDone};
+ghost use Rattle.cs_core.specs.Calls.{AreCalls, IsRoundDone};
 ghost use Rattle.cs_core.specs.States.{IsStateOf};
 ghost use Rattle.cs_core.specs.Stored.{Stored};
 ghost use Rattle.cs_core.specs.Views.{IsCore, IsReached, View};

@@ -29,7 +29,7 @@ impl Store {
         ensures in_flight { (result ≡ Err Refusal.InFlight) ↔ IsSome self.now.graph.round }
         ensures refusals { IfErr result (λ r. (r ≡ Refusal.InFlight) ⊎ (r ≡ Refusal.OutOfMemory)) }
     {
-        // Its contract tells what every graph keeps.
+        // Called for its contract alone: what every graph keeps.
         self.graph.families();
         plan_all(alloc, &self.graph)
     }

@@ -15,7 +15,7 @@ pub fn found(alloc: Global, bytes: Vec<u8>) -> Result<(Reply, Reply), OutOfMemor
     Ok((Reply::Found(told), Reply::Found(noted)))
 }
 
-/// The reply to a refused event, twice, but that want of memory has none.
+/// The reply to a refused event, twice. Want of memory has no reply: it is the `Err`.
 pub fn refused(refusal: Refusal) -> Result<(Reply, Reply), OutOfMemory>
     ensures { MatchResult result (λ r. (r.0 ≡ Reply.Refused refusal) × (r.1 ≡ Reply.Refused refusal) × (refusal ≢ Refusal.OutOfMemory)) (λ _. refusal ≡ Refusal.OutOfMemory) }
 {

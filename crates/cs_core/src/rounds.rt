@@ -1,18 +1,16 @@
 //! Rounds of writeback.
-ghost use Rattle.std.specs.Prelude.{◌≡◌, ◌≢◌, ◌+◌, ◌^◌, ◌<◌, ◌≤◌, ◌⊎◌, ◌↔◌, [], IfOk, IfErr, IfSome, MatchBool, MatchOption, MatchResult, OnErr, OnOk, IsErrOf, None, Some, false, true, length, slice_get, option_map};
+ghost use Rattle.std.specs.Prelude.{◌≡◌, ◌≢◌, ◌+◌, ◌^◌, ◌<◌, ◌≤◌, ◌⊎◌, ◌↔◌, [], IfOk, IfErr, IfSome, MatchBool, MatchOption, MatchResult, OnErr, IsErrOf, None, Some, false, true, length, slice_get};
 ghost use Rattle.cs_chunk.specs.Reads.{IsCaused};
-ghost use Rattle.cs_deps.specs.State.{IsQueue};
-ghost use Rattle.cs_disk.specs.Disk.{Elapses, flushed, written};
+ghost use Rattle.cs_disk.specs.Disk.{Elapses};
 ghost use Rattle.cs_extent.specs.State.{shape};
 ghost use Rattle.cs_core.specs.Asked.{AsksDevice};
 ghost use Rattle.cs_core.specs.Rounds.{BeginAnswers, EndAnswers, IssueAnswers};
-ghost use Rattle.cs_core.specs.Stored.{members_of, page_total, settled_rooms};
+ghost use Rattle.cs_core.specs.Stored.{members_of, page_total, but_for_room};
 ghost use Rattle.cs_core.specs.Writebacks.{IsMemberIssued, IsRoundBegun, IsRoundEnded, StaysRefused};
 
 use crate::events::{Event, Reply};
 use crate::frontiers::frontier_of;
 use crate::stores::Store;
-use cs_chunk::refusal_of_disk;
 use cs_deps::{Element, Refusal};
 use cs_disk::{DiskFault, PageDisk};
 use cs_plan::next_round;
@@ -22,15 +20,15 @@ impl Store {
     ///
     /// Refused 5 InFlight where a round is out, and 9 OutOfMemory.
     pub fn begin(&mut self) -> Result<Option<(Vec<Element>, Vec<Element>)>, Refusal>
-        ensures begun { IfOk result (λ begun. MatchOption begun ((self.old.graph.staging.pending.waiting ≡ []) × (self.old.out ≡ None) × (settled_rooms self.new ≡ settled_rooms self.old)) (λ r. IsRoundBegun r.0.items (settled_rooms self.old) (settled_rooms self.new))) }
+        ensures begun { IfOk result (λ begun. MatchOption begun ((self.old.graph.staging.pending.waiting ≡ []) × (self.old.out ≡ None) × (but_for_room self.new ≡ but_for_room self.old)) (λ r. IsRoundBegun r.0.items (but_for_room self.old) (but_for_room self.new))) }
         ensures twice { IfOk result (λ begun. IfSome begun (λ r. r.0.items ≡ r.1.items)) }
         ensures step { self.old.halted ≡ false → BeginAnswers self.old result self.new }
-        ensures refused { OnErr result (settled_rooms self.new ≡ settled_rooms self.old) }
+        ensures refused { OnErr result (but_for_room self.new ≡ but_for_room self.old) }
         ensures shape { shape self.new.extents ≡ shape self.old.extents }
         ensures frontier { self.new.frontier ≡ self.old.frontier }
         ensures no_fault { IfErr result (λ r. r ≢ Refusal.DeviceFault) }
     {
-        // Their contracts tell what all extents and every graph keep.
+        // Called for their contracts alone: what all extents and every graph keep.
         self.extents.extent_count();
         self.graph.families();
         let round = match next_round(self.alloc, &self.graph) {
@@ -53,7 +51,7 @@ impl Store {
     /// OutOfMemory.
     pub fn issue<D: PageDisk>(&mut self, disk: &mut D) -> Result<(Element, u64), Refusal>
         requires device { page_total (shape self.old.extents) ≡ D.page_count disk.old }
-        ensures issued { MatchResult result (λ r. IsMemberIssued r.0 (settled_rooms self.old) (settled_rooms self.new)) (λ r. StaysRefused Event.Issue r (settled_rooms self.old) (settled_rooms self.new)) }
+        ensures issued { MatchResult result (λ r. IsMemberIssued r.0 (but_for_room self.old) (but_for_room self.new)) (λ r. StaysRefused Event.Issue r (but_for_room self.old) (but_for_room self.new)) }
         ensures step { self.old.halted ≡ false → D.honest disk.old → IssueAnswers self.old (D.state disk.old) result self.new (D.state disk.new) }
         ensures memory { IsErrOf result Refusal.OutOfMemory → (self.new ≡ self.old) × (D.honest disk.old → D.state disk.new ≡ D.state disk.old) }
         ensures shape { shape self.new.extents ≡ shape self.old.extents }
@@ -61,15 +59,16 @@ impl Store {
         ensures time { D.honest disk.old → Elapses (D.moment disk.old) (D.moment disk.new) (D.left_since disk.old) (D.left_since disk.new) (D.state disk.new) }
         ensures honest { D.honest disk.old ↔ D.honest disk.new }
         ensures pages { D.page_count disk.new ≡ D.page_count disk.old }
-        ensures device { D.honest disk.old → MatchResult result (λ r. AsksDevice (settled_rooms self.old) (D.state disk.old) Event.Issue (Reply.Issued r.0 r.1) (D.state disk.new)) (λ r. AsksDevice (settled_rooms self.old) (D.state disk.old) Event.Issue (Reply.Refused r) (D.state disk.new)) }
+        ensures device { D.honest disk.old → MatchResult result (λ r. AsksDevice (but_for_room self.old) (D.state disk.old) Event.Issue (Reply.Issued r.0 r.1) (D.state disk.new)) (λ r. AsksDevice (but_for_room self.old) (D.state disk.old) Event.Issue (Reply.Refused r) (D.state disk.new)) }
         ensures cause { IsCaused (D.failure_count disk.old) (D.failure_count disk.new) result }
     {
-        // Their contracts tell what all extents and every graph keep.
+        // Called for their contracts alone: what all extents and every graph keep.
         self.extents.extent_count();
         self.graph.families();
         let Some(member) = self.next_member() else {
             return Err(Refusal::NoRound);
         };
+        // A member of the round that is out keeps its page and its bytes.
         let page = self.graph.page_of(member).unwrap();
         let bytes = self.graph.bytes_of(member).unwrap();
         match disk.write(page, bytes) {
@@ -108,7 +107,7 @@ impl Store {
     /// OutOfMemory.
     pub fn end<D: PageDisk>(&mut self, disk: &mut D) -> Result<u64, Refusal>
         requires device { page_total (shape self.old.extents) ≡ D.page_count disk.old }
-        ensures ended { MatchResult result (λ n. IsRoundEnded n (settled_rooms self.old) (settled_rooms self.new)) (λ r. StaysRefused Event.End r (settled_rooms self.old) (settled_rooms self.new)) }
+        ensures ended { MatchResult result (λ n. IsRoundEnded n (but_for_room self.old) (but_for_room self.new)) (λ r. StaysRefused Event.End r (but_for_room self.old) (but_for_room self.new)) }
         ensures step { self.old.halted ≡ false → D.honest disk.old → EndAnswers self.old (D.state disk.old) result self.new (D.state disk.new) }
         ensures memory { IsErrOf result Refusal.OutOfMemory → (self.new ≡ self.old) × (D.honest disk.old → D.state disk.new ≡ D.state disk.old) }
         ensures shape { shape self.new.extents ≡ shape self.old.extents }
@@ -117,10 +116,10 @@ impl Store {
         ensures time { D.honest disk.old → Elapses (D.moment disk.old) (D.moment disk.new) (D.left_since disk.old) (D.left_since disk.new) (D.state disk.new) }
         ensures honest { D.honest disk.old ↔ D.honest disk.new }
         ensures pages { D.page_count disk.new ≡ D.page_count disk.old }
-        ensures device { D.honest disk.old → MatchResult result (λ n. AsksDevice (settled_rooms self.old) (D.state disk.old) Event.End (Reply.Ended n) (D.state disk.new)) (λ r. AsksDevice (settled_rooms self.old) (D.state disk.old) Event.End (Reply.Refused r) (D.state disk.new)) }
+        ensures device { D.honest disk.old → MatchResult result (λ n. AsksDevice (but_for_room self.old) (D.state disk.old) Event.End (Reply.Ended n) (D.state disk.new)) (λ r. AsksDevice (but_for_room self.old) (D.state disk.old) Event.End (Reply.Refused r) (D.state disk.new)) }
         ensures cause { IsCaused (D.failure_count disk.old) (D.failure_count disk.new) result }
     {
-        // Their contracts tell what all extents and every graph keep.
+        // Called for their contracts alone: what all extents and every graph keep.
         self.extents.extent_count();
         self.graph.families();
         if !self.is_issued() {
@@ -131,6 +130,7 @@ impl Store {
                 self.graph.settle_round();
                 self.issued = 0;
                 let counted = frontier_of(self.alloc, &self.graph, &self.roots);
+                // No invariant ties the frontier to the roots; so that it never falls is made sure of here.
                 self.frontier = self.frontier.max(counted);
                 Ok(self.frontier)
             }

@@ -4,7 +4,7 @@ ghost use Rattle.cs_disk.specs.Disk.{Elapses, Rises, State as DiskState};
 ghost use Rattle.cs_extent.specs.State.{shape};
 ghost use Rattle.cs_core.specs.Answered.{IsAlone, IsAnswered, IsForDevice};
 ghost use Rattle.cs_core.specs.Asked.{AsksDevice};
-ghost use Rattle.cs_core.specs.Stored.{page_total, settled_rooms};
+ghost use Rattle.cs_core.specs.Stored.{page_total, but_for_room};
 ghost use Rattle.cs_core.specs.Views.{Serves};
 
 use crate::contents::Elements;
@@ -15,15 +15,15 @@ use cs_deps::Refusal;
 use cs_disk::PageDisk;
 
 impl Store {
-    /// Does an event of a store that isn't halted, which asks nothing of the disk, and gives its reply twice.
+    /// Does an event that asks nothing of the disk, where the store isn't halted, and gives its reply twice.
     pub fn serve_alone(&mut self, event: &Event) -> Result<(Reply, Reply), OutOfMemory>
         requires alone { IsAlone event.now }
         requires running { self.old.halted ≡ false }
         ensures twice { IfOk result (λ r. r.0 ≡ r.1) }
-        ensures answered { IfOk result (λ r. IsAnswered (settled_rooms self.old) event.now r.0 (settled_rooms self.new)) }
+        ensures answered { IfOk result (λ r. IsAnswered (but_for_room self.old) event.now r.0 (but_for_room self.new)) }
         ensures rises { self.old.frontier ≤ self.new.frontier }
         ensures step { (disk : DiskState) → IfOk result (λ r. Serves self.old disk event.now r.0 self.new disk) }
-        ensures refused { OnErr result (settled_rooms self.new ≡ settled_rooms self.old) }
+        ensures refused { OnErr result (but_for_room self.new ≡ but_for_room self.old) }
         ensures shape { shape self.new.extents ≡ shape self.old.extents }
         ensures no_fault { IfOk result (λ r. r.0 ≢ Reply.Refused Refusal.DeviceFault) }
     {
@@ -66,7 +66,7 @@ impl Store {
         }
     }
 
-    /// Does an event of a store that isn't halted, for which the disk is read, written or flushed, and gives its reply twice.
+    /// Does an event that reads, writes or flushes the disk, where the store isn't halted, and gives its reply twice.
     pub fn serve_device<D: PageDisk>(
         &mut self,
         disk: &mut D,
@@ -76,17 +76,17 @@ impl Store {
         requires kind { IsForDevice event.now }
         requires running { self.old.halted ≡ false }
         ensures twice { IfOk result (λ r. r.0 ≡ r.1) }
-        ensures answered { IfOk result (λ r. IsAnswered (settled_rooms self.old) event.now r.0 (settled_rooms self.new)) }
+        ensures answered { IfOk result (λ r. IsAnswered (but_for_room self.old) event.now r.0 (but_for_room self.new)) }
         ensures quiet { D.honest disk.old → (event.now ≡ Event.Issue) ⊎ (event.now ≡ Event.End) ⊎ (D.state disk.new ≡ D.state disk.old) }
         ensures rises { self.old.frontier ≤ self.new.frontier }
         ensures step { D.honest disk.old → IfOk result (λ r. Serves self.old (D.state disk.old) event.now r.0 self.new (D.state disk.new)) }
-        ensures refused { OnErr result (settled_rooms self.new ≡ settled_rooms self.old) }
+        ensures refused { OnErr result (but_for_room self.new ≡ but_for_room self.old) }
         ensures same { D.honest disk.old → OnErr result (D.state disk.new ≡ D.state disk.old) }
         ensures shape { shape self.new.extents ≡ shape self.old.extents }
         ensures time { D.honest disk.old → Elapses (D.moment disk.old) (D.moment disk.new) (D.left_since disk.old) (D.left_since disk.new) (D.state disk.new) }
         ensures honest { D.honest disk.old ↔ D.honest disk.new }
         ensures pages { D.page_count disk.new ≡ D.page_count disk.old }
-        ensures device { D.honest disk.old → IfOk result (λ r. AsksDevice (settled_rooms self.old) (D.state disk.old) event.now r.0 (D.state disk.new)) }
+        ensures device { D.honest disk.old → IfOk result (λ r. AsksDevice (but_for_room self.old) (D.state disk.old) event.now r.0 (D.state disk.new)) }
         ensures cause { IfOk result (λ r. r.0 ≡ Reply.Refused Refusal.DeviceFault → Rises (D.failure_count disk.old) (D.failure_count disk.new)) }
     {
         match event {

@@ -1,5 +1,5 @@
 //! The index's runs, as they are read when a store is opened.
-ghost use Rattle.std.specs.Prelude.{◌≡◌, ◌+◌, ◌*◌, ◌<◌, ◌≤◌, ◌⊎◌, ◌↔◌, ℕ, IfErr, IfOk, MatchBool, length, map};
+ghost use Rattle.std.specs.Prelude.{◌≡◌, ◌+◌, ◌*◌, ◌<◌, ◌≤◌, ◌⊎◌, ℕ, IfErr, IfOk, MatchBool, length, map};
 ghost use Rattle.std.specs.List.{AllByRecursion};
 ghost use Rattle.cs_chunk.specs.Reads.{IsCaused, IsNoAnswer, IsOfFault, OnlyReads};
 ghost use Rattle.cs_deps.specs.State.{NoneOn};
@@ -101,7 +101,7 @@ fn read_run<D: PageDisk>(
     ensures disk { OnlyReads D.honest D.state D.page_count D.failure_count D.moment D.left_since disk.old disk.new }
     ensures cause { IsCaused (D.failure_count disk.old) (D.failure_count disk.new) result }
 {
-    // Its contract tells how many pages an extent may have.
+    // Called for its contract alone: how many pages an extent may have.
     extents.extent_count();
     if !is_located(extents, place) {
         return Err(Refusal::NotAStore);

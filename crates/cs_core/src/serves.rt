@@ -5,7 +5,7 @@ ghost use Rattle.cs_disk.specs.Disk.{Elapses, Rises, State as DiskState};
 ghost use Rattle.cs_extent.specs.State.{shape};
 ghost use Rattle.cs_core.specs.Answered.{IsAnswered};
 ghost use Rattle.cs_core.specs.Asked.{AsksDevice};
-ghost use Rattle.cs_core.specs.Stored.{page_total, settled_rooms};
+ghost use Rattle.cs_core.specs.Stored.{page_total, but_for_room};
 ghost use Rattle.cs_core.specs.Views.{Serves};
 
 use crate::events::{Event, OutOfMemory, Reply};
@@ -25,17 +25,17 @@ impl Store {
     ) -> Result<(Reply, Reply), OutOfMemory>
         requires device { page_total (shape self.old.extents) ≡ D.page_count disk.old }
         ensures twice { IfOk result (λ r. r.0 ≡ r.1) }
-        ensures answered { IfOk result (λ r. IsAnswered (settled_rooms self.old) event.now r.0 (settled_rooms self.new)) }
+        ensures answered { IfOk result (λ r. IsAnswered (but_for_room self.old) event.now r.0 (but_for_room self.new)) }
         ensures quiet { D.honest disk.old → (event.now ≡ Event.Issue) ⊎ (event.now ≡ Event.End) ⊎ (D.state disk.new ≡ D.state disk.old) }
         ensures rises { self.old.frontier ≤ self.new.frontier }
         ensures step { D.honest disk.old → IfOk result (λ r. Serves self.old (D.state disk.old) event.now r.0 self.new (D.state disk.new)) }
-        ensures refused { OnErr result (settled_rooms self.new ≡ settled_rooms self.old) }
+        ensures refused { OnErr result (but_for_room self.new ≡ but_for_room self.old) }
         ensures same { D.honest disk.old → OnErr result (D.state disk.new ≡ D.state disk.old) }
         ensures shape { shape self.new.extents ≡ shape self.old.extents }
         ensures time { D.honest disk.old → Elapses (D.moment disk.old) (D.moment disk.new) (D.left_since disk.old) (D.left_since disk.new) (D.state disk.new) }
         ensures honest { D.honest disk.old ↔ D.honest disk.new }
         ensures pages { D.page_count disk.new ≡ D.page_count disk.old }
-        ensures device { D.honest disk.old → IfOk result (λ r. AsksDevice (settled_rooms self.old) (D.state disk.old) event.now r.0 (D.state disk.new)) }
+        ensures device { D.honest disk.old → IfOk result (λ r. AsksDevice (but_for_room self.old) (D.state disk.old) event.now r.0 (D.state disk.new)) }
         ensures cause { IfOk result (λ r. r.0 ≡ Reply.Refused Refusal.DeviceFault → Rises (D.failure_count disk.old) (D.failure_count disk.new)) }
     {
         match event {
@@ -57,7 +57,7 @@ impl Store {
     /// The reply to a Settle, once to tell and once to keep: `Persistent` for 1 to the frontier, else `NotYet` with the frontier.
     fn serve_settle(&self, n: u64) -> (Reply, Reply)
         ensures twice { result.0 ≡ result.1 }
-        ensures answered { IsAnswered (settled_rooms self.now) (Event.Settle n) result.0 (settled_rooms self.now) }
+        ensures answered { IsAnswered (but_for_room self.now) (Event.Settle n) result.0 (but_for_room self.now) }
         ensures step { (disk : DiskState) → Serves self.now disk (Event.Settle n) result.0 self.now disk }
     {
         let frontier = self.frontier();
@@ -76,7 +76,7 @@ impl Store {
     ) -> Result<(Reply, Reply), OutOfMemory>
         requires device { page_total (shape self.now.extents) ≡ D.page_count disk.old }
         ensures twice { IfOk result (λ r. r.0 ≡ r.1) }
-        ensures answered { IfOk result (λ r. IsAnswered (settled_rooms self.now) (Event.Get id) r.0 (settled_rooms self.now)) }
+        ensures answered { IfOk result (λ r. IsAnswered (but_for_room self.now) (Event.Get id) r.0 (but_for_room self.now)) }
         ensures step { D.honest disk.old → IfOk result (λ r. Serves self.now (D.state disk.old) (Event.Get id) r.0 self.now (D.state disk.new)) }
         ensures disk { OnlyReads D.honest D.state D.page_count D.failure_count D.moment D.left_since disk.old disk.new }
         ensures cause { IfOk result (λ r. r.0 ≡ Reply.Refused Refusal.DeviceFault → Rises (D.failure_count disk.old) (D.failure_count disk.new)) }

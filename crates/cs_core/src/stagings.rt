@@ -1,9 +1,9 @@
 //! Runs and roots.
-ghost use Rattle.std.specs.Prelude.{◌≡◌, ◌≢◌, ◌+◌, ◌∷◌, ◌++◌, [], IfErr, IfOk, MatchOption, OnErr, OnOk, false};
+ghost use Rattle.std.specs.Prelude.{◌≡◌, ◌≢◌, ◌+◌, [], IfErr, IfOk, MatchOption, OnErr, OnOk, false};
 ghost use Rattle.cs_extent.specs.State.{shape};
 ghost use Rattle.cs_model.specs.State.{Stage};
 ghost use Rattle.cs_core.specs.Steps.{Answers, staged_or_not};
-ghost use Rattle.cs_core.specs.Stored.{settled_rooms};
+ghost use Rattle.cs_core.specs.Stored.{but_for_room};
 ghost use Rattle.cs_core.specs.Writebacks.{KeepsRound, Stages};
 
 use crate::roots::Root;
@@ -17,15 +17,15 @@ impl Store {
     /// Refused 30 Full where no extent takes the run (opening one has to leave another empty), 35 WornOut, and 9 OutOfMemory.
     pub fn stage(&mut self) -> Result<Option<u64>, Refusal>
         ensures step { self.old.halted ≡ false → Answers self.old Stage staged_or_not result self.new }
-        ensures staged { IfOk result (λ staged. MatchOption staged ((self.old.index.table ≡ []) × (settled_rooms self.new ≡ settled_rooms self.old)) (λ v. self.new.index.table ≡ [])) }
+        ensures staged { IfOk result (λ staged. MatchOption staged ((self.old.index.table ≡ []) × (but_for_room self.new ≡ but_for_room self.old)) (λ v. self.new.index.table ≡ [])) }
         ensures round { KeepsRound self.old self.new }
         ensures behind { OnOk result (Stages self.old self.new) }
-        ensures refused { OnErr result (settled_rooms self.new ≡ settled_rooms self.old) }
+        ensures refused { OnErr result (but_for_room self.new ≡ but_for_room self.old) }
         ensures shape { shape self.new.extents ≡ shape self.old.extents }
         ensures frontier { self.new.frontier ≡ self.old.frontier }
         ensures no_fault { IfErr result (λ r. r ≢ Refusal.DeviceFault) }
     {
-        // Its contract tells what all extents keep.
+        // Called for its contract alone: what all extents keep.
         self.extents.extent_count();
         if self.roots.reserve(1).is_err() {
             return Err(Refusal::OutOfMemory);

@@ -1,15 +1,12 @@
 //! A store without its disk: extents, the graph of what waits, the index, and how far the round that is out has come.
-ghost use Rattle.std.specs.Prelude.{◌≡◌, ◌+◌, ◌^◌, ◌<◌, ◌≤◌, ◌⊎◌, ◌↔◌, MatchBool, MatchOption, None, Some};
+ghost use Rattle.std.specs.Prelude.{◌≡◌, ◌+◌, ◌^◌, ◌<◌, ◌≤◌, MatchBool, MatchOption, None, Some};
 ghost use Rattle.cs_deps.specs.State.{AreCounted};
 ghost use Rattle.cs_extent.specs.State.{IsWhole, shape};
-ghost use Rattle.cs_index.specs.State.{id_number, index_of};
-ghost use Rattle.cs_model.specs.Index.{live_at, lookup, names};
-ghost use Rattle.cs_core.specs.Stored.{IsKept, Stored, members_of};
+ghost use Rattle.cs_core.specs.Stored.{IsKept, Stored};
 
 use crate::roots::Root;
 use cs_deps::{Element, Graph, LAST_NUMBER};
 use cs_extent::Extents;
-use cs_frame::ShardId;
 use cs_index::Index;
 use std::alloc::Global;
 use std::marker::Model;

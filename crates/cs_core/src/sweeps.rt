@@ -1,11 +1,11 @@
 //! Sweeps.
-ghost use Rattle.std.specs.Prelude.{◌≡◌, ◌≢◌, [], IfErr, IfOk, None, OnErr, OnOk, false};
+ghost use Rattle.std.specs.Prelude.{◌≡◌, ◌≢◌, [], IfErr, None, OnErr, OnOk, false};
 ghost use Rattle.cs_chunk.specs.Reads.{IsCaused, OnlyReads};
 ghost use Rattle.cs_extent.specs.State.{shape};
 ghost use Rattle.cs_model.specs.State.{Abandon, Abandoned, BeginSweep, Retire, Retired, Sweeping};
 ghost use Rattle.cs_core.specs.Reads.{MoveAnswers};
 ghost use Rattle.cs_core.specs.Steps.{Answers};
-ghost use Rattle.cs_core.specs.Stored.{page_total, settled_rooms};
+ghost use Rattle.cs_core.specs.Stored.{page_total, but_for_room};
 ghost use Rattle.cs_core.specs.Writebacks.{KeepsRound, KeepsStaging, Stages};
 
 use crate::roots::Root;
@@ -21,12 +21,12 @@ impl Store {
         ensures step { self.old.halted ≡ false → Answers self.old (BeginSweep extent) (λ _. Sweeping) result self.new }
         ensures round { KeepsRound self.old self.new }
         ensures staging { KeepsStaging self.old self.new }
-        ensures refused { OnErr result (settled_rooms self.new ≡ settled_rooms self.old) }
+        ensures refused { OnErr result (but_for_room self.new ≡ but_for_room self.old) }
         ensures shape { shape self.new.extents ≡ shape self.old.extents }
         ensures frontier { self.new.frontier ≡ self.old.frontier }
         ensures no_fault { IfErr result (λ r. r ≢ Refusal.DeviceFault) }
     {
-        // Its contract tells what all extents keep.
+        // Called for its contract alone: what all extents keep.
         self.extents.extent_count();
         // The mark stays; `Sweep::resume` finds the sweep again by it.
         match Sweep::begin(&mut self.extents, extent) {
@@ -41,12 +41,12 @@ impl Store {
         ensures step { self.old.halted ≡ false → Answers self.old (Abandon extent) (λ _. Abandoned) result self.new }
         ensures round { KeepsRound self.old self.new }
         ensures staging { KeepsStaging self.old self.new }
-        ensures refused { OnErr result (settled_rooms self.new ≡ settled_rooms self.old) }
+        ensures refused { OnErr result (but_for_room self.new ≡ but_for_room self.old) }
         ensures shape { shape self.new.extents ≡ shape self.old.extents }
         ensures frontier { self.new.frontier ≡ self.old.frontier }
         ensures no_fault { IfErr result (λ r. r ≢ Refusal.DeviceFault) }
     {
-        // Its contract tells what all extents keep.
+        // Called for its contract alone: what all extents keep.
         self.extents.extent_count();
         let Some(sweep) = Sweep::resume(&self.extents, extent) else {
             return Err(Refusal::NotSweepable);
@@ -64,12 +64,12 @@ impl Store {
         ensures step { self.old.halted ≡ false → Answers self.old (Retire extent) (λ v. Retired v) result self.new }
         ensures round { KeepsRound self.old self.new }
         ensures behind { OnOk result (Stages self.old self.new) }
-        ensures refused { OnErr result (settled_rooms self.new ≡ settled_rooms self.old) }
+        ensures refused { OnErr result (but_for_room self.new ≡ but_for_room self.old) }
         ensures shape { shape self.new.extents ≡ shape self.old.extents }
         ensures frontier { self.new.frontier ≡ self.old.frontier }
         ensures no_fault { IfErr result (λ r. r ≢ Refusal.DeviceFault) }
     {
-        // Its contract tells what all extents keep.
+        // Called for its contract alone: what all extents keep.
         self.extents.extent_count();
         let Some(sweep) = Sweep::resume(&self.extents, extent) else {
             return Err(Refusal::NotSweepable);
@@ -105,17 +105,17 @@ impl Store {
         extent: usize,
     ) -> Result<Option<(ShardId, usize)>, Refusal>
         requires device { page_total (shape self.old.extents) ≡ D.page_count disk.old }
-        ensures none { result ≡ Ok None → settled_rooms self.new ≡ settled_rooms self.old }
+        ensures none { result ≡ Ok None → but_for_room self.new ≡ but_for_room self.old }
         ensures step { self.old.halted ≡ false → D.honest disk.old → MoveAnswers self.old (D.state disk.old) extent result self.new }
         ensures round { KeepsRound self.old self.new }
         ensures behind { OnOk result (Stages self.old self.new) }
-        ensures refused { OnErr result (settled_rooms self.new ≡ settled_rooms self.old) }
+        ensures refused { OnErr result (but_for_room self.new ≡ but_for_room self.old) }
         ensures shape { shape self.new.extents ≡ shape self.old.extents }
         ensures frontier { self.new.frontier ≡ self.old.frontier }
         ensures disk { OnlyReads D.honest D.state D.page_count D.failure_count D.moment D.left_since disk.old disk.new }
         ensures cause { IsCaused (D.failure_count disk.old) (D.failure_count disk.new) result }
     {
-        // Their contracts tell what all extents and every graph keep.
+        // Called for their contracts alone: what all extents and every graph keep.
         self.extents.extent_count();
         self.graph.families();
         let Some(sweep) = Sweep::resume(&self.extents, extent) else {

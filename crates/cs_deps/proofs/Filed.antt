@@ -14,7 +14,7 @@ use Rattle.cs_deps.specs.Pending.{Waits}
 use Rattle.cs_deps.specs.Levels.{kept_by, level_by, IsInRow, IsQueued, IsIndexed}
 use Rattle.cs_deps.specs.Records.{writes_of, AreFiled}
 use Rattle.cs_deps.specs.Staging.{is_left_waiting}
-use Rattle.cs_deps.specs.State.{State, Write, IsOut, IsOfLevel, KeepsBytes, IsWhole, after, after_round, same_element, last_write, write_of}
+use Rattle.cs_deps.specs.State.{State, Write, IsOut, IsInQueue, KeepsBytes, IsWhole, after, after_round, same_element, last_write, write_of}
 use Rattle.cs_deps.specs.Entries.{IsSound}
 use Rattle.cs_deps.proofs.AllHeights.{all_have_heights}
 use Rattle.cs_deps.proofs.Filtered.{filter_keeps}
@@ -123,7 +123,7 @@ module _ (s : State) (whole : IsSound s) (l : Levels) (ix : IsIndexed s l) where
       (cases_lt l.base (level_by l x))
 
   -- what waits once the round has joined, of a height and of its family the greatest
-  level_queued : (n : ℕ) (x : Element) → 1 ≤ n → IsOfLevel (after s) n x → IsQueued l x
+  level_queued : (n : ℕ) (x : Element) → 1 ≤ n → IsInQueue (after s) n x → IsQueued l x
   level_queued n x one h =
       let place : l.ended + (l.base + n - l.ended - 1) + 1 ≡ l.base + n = omega (arith, ix.low, one) in
       (l.base + n - l.ended - 1, level_in_row (after s) (kept_after s whole).staged l l.base ix.levels l.ended l.rows.items ix.rows n (l.base + n - l.ended - 1) place one x h)
@@ -153,7 +153,7 @@ module _ (s : State) (whole : IsSound s) (l : Levels) (ix : IsIndexed s l) where
   keeps_queued (Plain n) w = plain_queued n w
   keeps_queued (Version f v) h = ⊎_elim
       (λ (o : IsOut s (Version f v)). out_queued (Version f v) o)
-      (λ (t : (n : ℕ) × IsOfLevel (after s) n (Version f v)). level_queued t.0 (Version f v) (height_positive (after s) (Version f v) t.0 t.1.0) t.1)
+      (λ (t : (n : ℕ) × IsInQueue (after s) n (Version f v)). level_queued t.0 (Version f v) (height_positive (after s) (Version f v) t.0 t.1.0) t.1)
       h
 
   -- what stands in a queue has its write

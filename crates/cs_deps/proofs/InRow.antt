@@ -6,7 +6,7 @@ use Rattle.cs_deps.specs.declared.levels.Levels.{Levels}
 use Rattle.cs_deps.specs.declared.levels.Row.{Row}
 use Rattle.cs_deps.specs.Chain.{IsHeight}
 use Rattle.cs_deps.specs.Pending.{Pending, IsStaged}
-use Rattle.cs_deps.specs.State.{IsOfLevel}
+use Rattle.cs_deps.specs.State.{IsInQueue}
 use Rattle.cs_deps.specs.Levels.{kept_by, level_by, row_at, IsInRow, AreKeptLevels, AreRows}
 use Rattle.cs_deps.proofs.AllHeights.{all_have_heights}
 use Rattle.cs_deps.proofs.KeptIn.{level_one}
@@ -32,7 +32,7 @@ module _ (g : Pending) (ok : IsStaged g) (l : Levels) (base : ℕ) (are : AreKep
       subst (IsHeight g x) same h.1
 
   -- what a round would take stands in the queue
-  pub level_in_row : (x : Element) → IsOfLevel g n x → IsInRow (kept_by l) ended rows i x
+  pub level_in_row : (x : Element) → IsInQueue g n x → IsInRow (kept_by l) ended rows i x
   level_in_row (Plain m) h = are.waiting (Plain m) n h ∙ sym place
   level_in_row (Version f v) h =
       let lv : level_by l (Version f v) ≡ ended + i + 1 = are.waiting (Version f v) n h.0 ∙ sym place in
@@ -43,7 +43,7 @@ module _ (g : Pending) (ok : IsStaged g) (l : Levels) (base : ℕ) (are : AreKep
       (up, omega (arith, le, most))
 
   -- what stands in the queue a round would take
-  pub row_of_level : (x : Element) → IsInRow (kept_by l) ended rows i x → IsOfLevel g n x
+  pub row_of_level : (x : Element) → IsInRow (kept_by l) ended rows i x → IsInQueue g n x
   row_of_level (Plain m) h = height_from (Plain m) (h ∙ place)
   row_of_level (Version f v) h = (
     height_from (Version f v) (row_level l ended rows ready i (Version f v) h ∙ place),

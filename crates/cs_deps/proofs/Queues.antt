@@ -10,7 +10,7 @@ use Rattle.cs_deps.specs.Named.{IsPlain}
 use Rattle.cs_deps.specs.Pending.{Pending, Waits, Needs}
 use Rattle.cs_deps.specs.Chain.{IsHeight}
 use Rattle.cs_deps.specs.Rounds.{IsListedBefore}
-use Rattle.cs_deps.specs.State.{State, Write, IsOfLevel, IsQueue, after, after_round}
+use Rattle.cs_deps.specs.State.{State, Write, IsInQueue, IsQueue, after, after_round}
 use Rattle.cs_deps.specs.Entries.{IsSound}
 use Rattle.cs_deps.specs.Levels.{IsInRow, kept_in, kept_by, level_by, level_of, row_at, family_at, AreKeptLevels, AreTops, AreRows, AreLinked, HasRoom, IsIndexed, IsNew, IsSameBut, ArePlainsListed, AreVersionsListed}
 use Rattle.cs_deps.proofs.AllHeights.{all_have_heights}
@@ -55,7 +55,7 @@ module _ (s : State) (whole : IsSound s) (none : s.round ≡ None) (l : Levels) 
       greatest : (f v w : ℕ) → v ≡ get_or (row_at l.rows.items i).versions f 0 → IsHeight g (Version f w) (i + 1) → w ≤ v
       greatest f v w is h = omega (arith, is, ix.rows.version i f w (level (Version f w) h))
 
-      has : (x : Element) → Contains xs x → IsOfLevel g (i + 1) x
+      has : (x : Element) → Contains xs x → IsInQueue g (i + 1) x
       has (Plain n) c = ⊎_elim
           (λ (o : Contains ys (Plain n)). let r = plains.plain (Plain n) o in height (Plain n) (ap (level_by l) r.1 ∙ r.2))
           (λ (o : (f : ℕ) × (f < 16) × (0 < get_or (row_at l.rows.items i).versions f 0) × (Plain n ≡ Version f (get_or (row_at l.rows.items i).versions f 0))). absurd (cc o.3))
@@ -67,7 +67,7 @@ module _ (s : State) (whole : IsSound s) (none : s.round ≡ None) (l : Levels) 
           (height (Version f v) (ap (level_by l) o.3 ∙ ix.rows.greatest i o.0 o.2), λ w h. greatest f v w (ver ∙ ap (λ u. get_or (row_at l.rows.items i).versions u 0) (sym fam)) h))
           (versions.came (Version f v) c)
 
-      of : (x : Element) → IsOfLevel g (i + 1) x → Contains xs x
+      of : (x : Element) → IsInQueue g (i + 1) x → Contains xs x
       of (Plain n) h = versions.old_there (Plain n) (plains.all n (level (Plain n) h))
       of (Version f v) h =
           let lv = level (Version f v) h.0 in
@@ -87,7 +87,7 @@ module _ (s : State) (whole : IsSound s) (none : s.round ≡ None) (l : Levels) 
     order = none_ordered;
   }
     where
-      height : (x : Element) → IsOfLevel g n x → IsHeight g x n
+      height : (x : Element) → IsInQueue g n x → IsHeight g x n
       height (Plain m) h = h
       height (Version f v) h = h.0
 

@@ -1,5 +1,5 @@
 //! What was staged, as far as it is of use.
-ghost use Rattle.std.specs.Prelude.{◌≡◌, [], ◌∷◌, ◌++◌, ℕ, ◌+◌, ◌≤◌, ◌<◌, MatchOption, OnOk, IsOk, Some, slice_get, vec_len, vec_capacity};
+ghost use Rattle.std.specs.Prelude.{◌≡◌, [], ◌∷◌, ◌++◌, ◌+◌, ◌≤◌, ◌<◌, MatchOption, OnOk, IsOk, Some, slice_get, vec_len, vec_capacity};
 ghost use Rattle.cs_deps.specs.Named.{Named};
 ghost use Rattle.cs_deps.specs.State.{IsListed};
 

@@ -1,5 +1,5 @@
 //! Entries that are of no use any more go, many at a time.
-ghost use Rattle.std.specs.Prelude.{◌≡◌, ℕ, ◌≤◌, ◌<◌, List, filter, length, slice_index, vec_len, vec_capacity};
+ghost use Rattle.std.specs.Prelude.{◌≡◌, ℕ, ◌≤◌, ◌<◌, List, length, slice_index, vec_len, vec_capacity};
 ghost use Rattle.cs_deps.specs.declared.elements.Element.{Element as Item};
 ghost use Rattle.cs_deps.specs.State.{IsListed};
 ghost use Rattle.cs_deps.specs.Entries.{waiting_of, AreCurrent};

@@ -7,7 +7,7 @@ ghost use Rattle.cs_deps.specs.View.{pending_of};
 ghost use Rattle.cs_deps.specs.Chain.{IsHeight};
 ghost use Rattle.cs_deps.specs.Pending.{Waits, WaitsAt, Needs, IsPersistent};
 ghost use Rattle.cs_deps.specs.Wanted.{AreWanted};
-ghost use Rattle.cs_deps.specs.State.{State, write_of, after, everything, IsNewestOn, IsOut, IsQueue, IsWhole, KeepsBytes, KeepsOthers, AddsNone, AreCounted, NoneOn};
+ghost use Rattle.cs_deps.specs.State.{State, write_of, after, everything, IsNewestOn, IsOut, IsQueue, IsWhole, KeepsBytes, AddsOnly, AddsNone, AreCounted, NoneOn};
 
 use crate::backlogs::Backlog;
 use crate::cleaning::{clean, count_ended, raise_floors};
@@ -130,7 +130,7 @@ impl Graph {
         ensures staged { IfOk result (λ n. self.new.staging ≡ record { pending = staged_after self.old.staging.pending (Element.Plain n) needs; staged = n; latest = self.old.staging.latest }) }
         ensures round { OnOk result (self.new.round ≡ self.old.round) }
         ensures write { IfOk result (λ n. write_of self.new (Element.Plain n) ≡ Some (page, bytes.now)) }
-        ensures others { IfOk result (λ n. KeepsOthers self.old self.new (Element.Plain n)) }
+        ensures others { IfOk result (λ n. AddsOnly self.old self.new (Element.Plain n)) }
         ensures unknown { (result ≡ Err Refusal.UnknownNeed) ↔ ¬ IsWithin needs self.old.staging.staged self.old.staging.latest }
         ensures worn { (result ≡ Err Refusal.WornOut) ↔ (IsWithin needs self.old.staging.staged self.old.staging.latest × (2 ^ 63 ≤ self.old.staging.staged + 1)) }
         ensures refusals { IfErr result (λ r. (r ≡ Refusal.UnknownNeed) ⊎ (r ≡ Refusal.WornOut) ⊎ (r ≡ Refusal.OutOfMemory)) }
@@ -189,7 +189,7 @@ impl Graph {
         ensures staged { IfOk result (λ v. IsVersionStaged self.old.staging family v needs self.new.staging) }
         ensures round { OnOk result (self.new.round ≡ self.old.round) }
         ensures write { IfOk result (λ v. write_of self.new (Element.Version family v) ≡ Some (page, bytes.now)) }
-        ensures others { IfOk result (λ v. KeepsOthers self.old self.new (Element.Version family v)) }
+        ensures others { IfOk result (λ v. AddsOnly self.old self.new (Element.Version family v)) }
         ensures unknown { (result ≡ Err Refusal.UnknownNeed) ↔ ¬ IsWithin needs self.old.staging.staged self.old.staging.latest }
         ensures own { (result ≡ Err Refusal.OwnFamily) ↔ (IsWithin needs self.old.staging.staged self.old.staging.latest × NamesFamily needs family) }
         ensures worn { (result ≡ Err Refusal.WornOut) ↔ (IsWithin needs self.old.staging.staged self.old.staging.latest × (¬ NamesFamily needs family) × (2 ^ 63 ≤ slice_index self.old.staging.latest family + 1)) }
@@ -219,6 +219,7 @@ impl Graph {
                 let version = before + 1;
                 let best = self.levels.top(&needs);
                 let kept = self.levels.next_of(family, before, best);
+                // An earlier version of the same level is never written, since this one stands for it: its page goes.
                 clear(&mut self.records, self.levels.replaced(family, kept.level));
                 let key = self.records.insert_reserved(Record {
                     element: Element::Version(family, version),
@@ -361,11 +362,12 @@ impl Graph {
     }
 
     /// Puts the round that is out into the persistent set, once its writes have been flushed. Its members and what they
-    /// stand for wait no more, and their bytes go. Each call goes through the round, what ends with it, and the
-    /// families. What is of no use any more is taken away when it is half of all that is kept, so over all calls the work is linear in
-    /// the members and in what ends with them; only where a write to a page replaced an earlier one that is settled may finding the one
-    /// before go down the numbers. What is kept is at most twice what waits, and what the waiting versions take over from persistent ones. It takes no memory where no element
-    /// needs versions of more than two families, and else no more than it gives back.
+    /// stand for wait no more, and their bytes go.
+    ///
+    /// Over all calls the work is linear in the members and in what ends with them, and each goes through the families; only where a
+    /// page's earlier write is settled may finding the one before go down the numbers. What is kept is at most twice what waits, and what
+    /// waiting versions take over from persistent ones. It takes no memory where no element needs versions of more than two families, and
+    /// else no more than it gives back.
     pub fn settle_round(&mut self)
         requires out { IsSome self.old.round }
         ensures settled { self.new.staging ≡ record { pending = after self.old; staged = self.old.staging.staged; latest = self.old.staging.latest } }
@@ -379,6 +381,7 @@ impl Graph {
             give_up(&mut self.records, &mut self.newest, &self.levels, &round);
             self.levels.settle();
             raise_all(&mut self.persistent, &round);
+            // What is of no use any more goes: what is kept by number from the front, entries once half of them have ended.
             self.levels.trim(self.staged, &self.latest);
             raise_floors(&mut self.entries.floors, &self.persistent, &self.latest);
             clean(&mut self.entries, ended, &self.levels, &self.persistent);

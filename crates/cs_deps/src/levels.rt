@@ -196,21 +196,21 @@ impl Levels {
         !self.is_above(number)
     }
 
-    /// The same of each of these plain writes.
+    /// Whether none of these plain writes waits or is one of the round that is out.
     fn have_ended(&self, listed: &[u64]) -> bool
         ensures { IsTrue result ↔ All (λ n. level_by self.now (Element.Plain n) ≤ self.now.ended) listed.now }
     {
         listed.iter().all(|n| self.has_ended(*n))
     }
 
-    /// The same of each plain write that a dependency names.
+    /// Whether no plain write that a dependency names waits or is one of the round that is out.
     pub fn have_named_ended(&self, needs: &Dependency) -> bool
         ensures { IsTrue result ↔ ((top_of (kept_by self.now (Element.Plain needs.now.through)) ≤ self.now.ended) × All (λ n. level_by self.now (Element.Plain n) ≤ self.now.ended) needs.now.plains) }
     {
         self.has_ended_through(needs.through_number()) && self.have_ended(needs.listed())
     }
 
-    /// With the greatest level of the plain writes up to a number.
+    /// The higher of what was found so far and the highest plain write up to a number.
     fn top_through(&self, best: Best, through: u64) -> Best
         ensures low { best.level ≤ result.level }
         ensures above { (k : KeptOf) → kept_by self.now (Element.Plain through) ≡ Some k → k.top ≤ result.level }
@@ -222,7 +222,7 @@ impl Levels {
         }
     }
 
-    /// With one plain write.
+    /// The higher of what was found so far and one plain write, at one level the one of the smaller number.
     fn top_plain(&self, best: Best, number: u64) -> Best
         ensures low { best.level ≤ result.level }
         ensures above { level_by self.now (Element.Plain number) ≤ result.level }
@@ -239,7 +239,7 @@ impl Levels {
         }
     }
 
-    /// With the listed plain writes.
+    /// The highest of what was found so far and the listed plain writes.
     fn top_listed(&self, best: Best, listed: &[u64]) -> Best
         ensures low { best.level ≤ result.level }
         ensures above { (n : ℕ) → Contains listed.now n → level_by self.now (Element.Plain n) ≤ result.level }
@@ -252,7 +252,7 @@ impl Levels {
         top
     }
 
-    /// With one version.
+    /// The higher of what was found so far and one version.
     fn top_version(&self, best: Best, family: usize, version: u64) -> Best
         ensures low { best.level ≤ result.level }
         ensures above { level_by self.now (Element.Version family version) ≤ result.level }
@@ -262,7 +262,7 @@ impl Levels {
         better(best, level_at(self.kept(element)), element)
     }
 
-    /// With the versions that are named.
+    /// The highest of what was found so far and the versions that are named.
     fn top_versions(&self, best: Best, needs: &Dependency) -> Best
         ensures low { best.level ≤ result.level }
         ensures above { (f : ℕ) → level_by self.now (Element.Version f (slice_index needs.now.least f)) ≤ result.level }
@@ -392,7 +392,7 @@ impl Levels {
         reserve_each(&mut self.versions, stagings)
     }
 
-    /// A round is taken: where something waits, its members leave the first level.
+    /// A round is taken: where something waits the base rises over the first level, so that heights are counted as if the round had ended.
     pub fn take(&mut self)
         requires limit { self.old.ended + length self.old.rows.items ≤ 2 ^ 63 }
         ensures empty { length self.old.rows.items ≡ 0 → self.new ≡ self.old }
@@ -403,7 +403,7 @@ impl Levels {
         }
     }
 
-    /// It is settled.
+    /// The round is settled: its level counts as ended, and its queue goes. Where none was taken nothing changes.
     pub fn settle(&mut self)
         requires some { self.old.ended < self.old.base → 0 < length self.old.rows.items }
         requires near { self.old.base ≤ self.old.ended + 1 }

@@ -35,7 +35,7 @@ impl Model for Needs {
     ghost view = { λ n. named_by n.held };
 }
 
-/// What a dependency names, in four words where they do.
+/// What a dependency names, in four words; None where that takes more.
 fn few(needs: &Dependency) -> Option<Held>
     ensures { IfSome result (λ held. named_by held ≡ needs.now) }
 {

@@ -27,6 +27,7 @@ pub fn note(newest: &mut HashMap<u64, u64>, page: u64, number: u64)
     ensures numbers { (q : ℕ) → get nat_eq newest.new q ≡ (if page == q then Some number else get nat_eq newest.old q) }
     ensures spare { spare newest.old ≤ spare newest.new + 1 }
 {
+    // There is room, so nothing is refused.
     match newest.insert(page, number) {
         Ok(_) => {}
         Err(_) => {}

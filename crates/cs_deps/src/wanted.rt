@@ -44,7 +44,7 @@ impl Wanted {
         Ok(Wanted { all, marks, start })
     }
 
-    /// With what a dependency names.
+    /// What is wanted, and what a dependency names.
     pub(crate) fn with(self, more: &Dependency) -> Result<Self, AllocError>
         ensures { IfOk result (λ w. w ≡ union self more.now) }
     {

@@ -57,7 +57,7 @@ fn is_wanted(
     is_waiting(levels, floors, persistent, element) && wanted.names(element)
 }
 
-/// With what an element needs, where it is wanted.
+/// What is wanted, with what an element needs where it waits and is wanted.
 fn with_needs(
     alloc: Global,
     wanted: Wanted,

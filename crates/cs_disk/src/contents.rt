@@ -14,7 +14,7 @@ impl Contents {
     ghost use Rattle.cs_disk.specs.Past.{state_of};
 
     /// Makes all volatile writes durable.
-    pub fn settle(&mut self)
+    pub fn make_durable(&mut self)
         ensures state { state_of self.new ≡ flushed (state_of self.old) }
         ensures pages { length self.new.durable.items ≡ length self.old.durable.items }
     {

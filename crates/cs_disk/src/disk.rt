@@ -1,7 +1,7 @@
 // A disk of pages, as the layers above see it.
 ghost use Rattle.std.specs.Prelude.{◌≡◌, ◌⊎◌, ◌<◌, ◌≤◌, ◌↔◌, ℕ, length, OnOk, OnErr, IsErrOf, IsTrue};
 ghost use Rattle.cs_disk.specs.Disk.{Image, State, page, seen, written, flushed, crashed, IsWhole, MayLeave, Elapses, HasCause};
-ghost use Rattle.cs_disk.specs.declared.fault.DiskFault.TheVariants.{DeviceFault, OutOfMemory};
+ghost use Rattle.cs_disk.specs.declared.fault.DiskFault.TheVariants.{OutOfMemory};
 
 use crate::DiskFault;
 

@@ -12,8 +12,8 @@ use std::os::unix::fs::FileExt;
 use std::rt::Files;
 
 /// A disk in a file, page 0 first. No clause can say what a file holds, so nothing says that it is honest: what is
-/// proved of an honest disk is carried over to it by an argument outside the contracts, with the premise that the operating system keeps to the model, `sync_data` being
-/// the flush of a file whose length doesn't change. No crash of it can be tried out.
+/// proved of an honest disk is carried over to it by an argument outside the contracts, with the premise that the operating system keeps to
+/// the model, `sync_data` being the flush of a file whose length doesn't change. No crash of it can be tried out.
 ///
 /// A write stays in memory up to the next flush, so it may be refused 9 OutOfMemory; what was never flushed is lost with the
 /// value, as after a crash. A flush writes what was kept, in the order of the pages and adjacent ones in one call where they came

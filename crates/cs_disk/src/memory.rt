@@ -1,5 +1,5 @@
 // A disk in memory.
-ghost use Rattle.std.specs.Prelude.{All, ◌≡◌, ◌<◌, length, IsOk, OnOk, OnErr, IfOk, IsOkUnless};
+ghost use Rattle.std.specs.Prelude.{All, ◌≡◌, ◌<◌, length, IsOk, IfOk, IsOkUnless};
 ghost use Rattle.cs_disk.specs.Disk.{page, seen, flushed, Elapses, IsBytes};
 ghost use Rattle.std.proofs.Common.{inl, refl};
 ghost use Rattle.cs_disk.specs.Past.{state_of, past_states, LeftSince, only_now as only_held};
@@ -142,7 +142,7 @@ impl PageDisk for MemoryDisk {
         ensures pages { length (memory_state self.new).durable ≡ length (memory_state self.old).durable }
     {
         self.past.note(&self.contents);
-        self.contents.settle();
+        self.contents.make_durable();
         Ok(())
     }
 

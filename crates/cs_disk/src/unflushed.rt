@@ -64,6 +64,7 @@ impl Unflushed {
         ensures places { IsPermutation self.old.places.items self.new.places.items }
     {
         self.places.sort_unstable();
+        // The first group has no page, and writing it writes nothing.
         let mut group = Group {
             offset: 0,
             next: 0,

@@ -9,8 +9,8 @@ use Rattle.cs_deps.specs.declared.elements.Element.{Element}
 use Rattle.cs_deps.specs.declared.elements.Element.TheVariants.{Plain, Version}
 use Rattle.cs_deps.specs.Named.{Named, Names, NamesFamily, IsWithin}
 use Rattle.cs_deps.specs.Staging.{Staging, IsVersionStaged, staged_after}
-use Rattle.cs_deps.specs.State.{State, Write, write_of, KeepsOthers}
-use Rattle.cs_extent.specs.Frames.{AreResetsStaged, ArePagesStaged, AreWritten, IsFrameStaged, IsNextPlain, IsSuperblockNeed, IsSuperblockStaged, IsVersionUpTo, KeepsBut, root_family, superblock_family}
+use Rattle.cs_deps.specs.State.{State, Write, write_of, AddsOnly}
+use Rattle.cs_extent.specs.Frames.{AreResetsStaged, ArePagesStaged, AreWritten, IsFrameStaged, IsNextPlain, IsSuperblockNeed, IsSuperblockStaged, IsVersionUpTo, AddsOnlyOf, root_family, superblock_family}
 
 -- what dependencies name
 
@@ -71,7 +71,7 @@ pages_more old middle new count root was needs names is = subst (λ s. ArePagesS
 
 -- their writes
 
-module _ (middle new : State) (before count m : ℕ) (is : m ≡ before + count) (others : KeepsOthers middle new (Plain (m + 1))) where
+module _ (middle new : State) (before count m : ℕ) (is : m ≡ before + count) (others : AddsOnly middle new (Plain (m + 1))) where
   pub written_more : (page : ℕ → ℕ) (frame : List (List ℕ)) (w : Write) → AreWritten middle before count page frame → write_of new (Plain (m + 1)) ≡ Some w → w ≡ (page count, slice_index_or frame count [])
       → AreWritten new before (count + 1) page frame
   written_more page frame w was here right i u lt h = ⊎_elim
@@ -85,7 +85,7 @@ module _ (middle new : State) (before count m : ℕ) (is : m ≡ before + count)
       same_Some u w (sym h ∙ ap (λ n. write_of new (Plain n)) number ∙ here) ∙ right ∙ ap (λ k. (page k, slice_index_or frame k [])) (sym last))
       (cases_lt i count)
 
-  pub others_more : (old : State) → old.staging.staged ≡ before → KeepsBut old middle (IsNextPlain old.staging count) → KeepsBut old new (IsNextPlain old.staging (count + 1))
+  pub others_more : (old : State) → old.staging.staged ≡ before → AddsOnlyOf old middle (IsNextPlain old.staging count) → AddsOnlyOf old new (IsNextPlain old.staging (count + 1))
   others_more old same was x w h = ⊎_elim
       (λ (o : write_of middle x ≡ Some w). ⊎_elim (λ (p : write_of old x ≡ Some w). inl p) (λ (p : IsNextPlain old.staging count x). inr (more x p)) (was x w o))
       (λ (e : x ≡ Plain (m + 1)). inr (subst (IsNextPlain old.staging (count + 1)) (sym e) (omega (arith, same, is), omega (arith, same, is))))

@@ -3,7 +3,7 @@ use Rattle.std.specs.Prelude.{◌≡◌, ◌+◌, ℕ, List, [], ◌∷◌, Some
 use Rattle.cs_deps.specs.State.{State as GraphState, write_of}
 use Rattle.cs_frame.specs.declared.locators.Locator.{Locator}
 use Rattle.cs_model.specs.Extents.{Placed, Purpose as Reason, taken}
-use Rattle.cs_extent.specs.Frames.{AreWritten, IsFrameStaged, IsOfFrame, KeepsBut, next_place, next_superblock, superblock_family}
+use Rattle.cs_extent.specs.Frames.{AreWritten, IsFrameStaged, IsOfFrame, AddsOnlyOf, next_place, next_superblock, superblock_family}
 use Rattle.cs_extent.specs.State.{SpellsExtents, State, extents_of, need_of, shape}
 
 -- A frame was appended at l: its pages were given and staged behind the pointer of an extent that may take them, and
@@ -18,7 +18,7 @@ pub record IsAppended (x : State) (g : GraphState) (reason : Reason) (frame : Li
   pub writes : AreWritten h g.staging.staged (length frame) (λ i. (shape x).address l.extent (l.page + i)) frame
   pub superblock : (page : List ℕ) × (write_of h (next_superblock g.staging) ≡ Some ((shape x).section_page 0, page))
       × SpellsExtents y (slice_index g.staging.latest superblock_family + 1) page
-  pub others : KeepsBut g h (IsOfFrame g.staging (length frame))
+  pub others : AddsOnlyOf g h (IsOfFrame g.staging (length frame))
   pub round : h.round ≡ g.round
 
 -- frames were appended one after another at these places; where there are none the graph may have other room

@@ -98,9 +98,9 @@ abbrev pub IsOfFrame : Staging → (count : ℕ) → Element → Type 0
 IsOfFrame s count (Plain n) = IsNextPlain s count (Plain n)
 IsOfFrame s count (Version f v) = (f ≡ superblock_family) × (v ≡ slice_index s.latest superblock_family + 1)
 
--- no write is kept in the new state that was not kept in the old one, but for these elements
-abbrev pub KeepsBut : State → State → (Element → Type 0) → Type 0
-KeepsBut old new These = (x : Element) (w : Write) → write_of new x ≡ Some w → (write_of old x ≡ Some w) ⊎ These x
+-- of no element but these is a write kept that wasn't kept before
+abbrev pub AddsOnlyOf : State → State → (Element → Type 0) → Type 0
+AddsOnlyOf old new These = (x : Element) (w : Write) → write_of new x ≡ Some w → (write_of old x ≡ Some w) ⊎ These x
 
 -- what the waiting versions of the superblock need is staged plain writes, and no later version of the root than `need`
 abbrev pub AreNeedsWithin : Staging → (need : ℕ) → Type 0

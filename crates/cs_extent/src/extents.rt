@@ -6,7 +6,7 @@ ghost use Rattle.cs_deps.specs.State.{write_of};
 ghost use Rattle.cs_frame.specs.Superblocks.{IsSuperblock};
 ghost use Rattle.cs_model.specs.Extents.{Fits, IsFirstEmpty, Placed, empties, emptied, marked, taken};
 ghost use Rattle.cs_extent.specs.Appended.{IsAppended};
-ghost use Rattle.cs_extent.specs.Frames.{AreResetsStaged, AreWritten, IsFrameStaged, IsOfFrame, IsVersionUpTo, IsWorn, KeepsBut, greatest, next_place, next_superblock, root_family, superblock_family};
+ghost use Rattle.cs_extent.specs.Frames.{AreResetsStaged, AreWritten, IsFrameStaged, IsOfFrame, IsVersionUpTo, IsWorn, AddsOnlyOf, greatest, next_place, next_superblock, root_family, superblock_family};
 ghost use Rattle.cs_extent.specs.Places.{room_at};
 ghost use Rattle.cs_extent.specs.Purposes.{reason_of};
 ghost use Rattle.cs_extent.specs.State.{IsWhole, SpellsExtents, extents_of, need_of, shape};
@@ -141,7 +141,9 @@ impl Extents {
     }
 
     /// Empties an extent, under the version of the root that was staged for it. Nothing is staged: the next version of
-    /// the superblock records it, and an opening before that one is persistent finds the extent as it was. 35 `WornOut` where its generation is the greatest, 4,294,967,295.
+    /// the superblock records it, and an opening before that one is persistent finds the extent as it was.
+    ///
+    /// 35 `WornOut` where its generation is the greatest, 4,294,967,295.
     pub fn reset(&mut self, extent: usize, root: u64) -> Result<(), Refusal>
         requires exists { extent < (shape self.old).extents }
         requires closed { ¬ ((extents_of self.old).open_extent ≡ Some extent) }
@@ -258,7 +260,7 @@ impl Extents {
         self.resets[extent]
     }
 
-    /// The greatest of these over all extents.
+    /// The greatest version of the root that any extent was reset under since open, 0 without one.
     fn need(&self) -> u64
         ensures { result ≡ need_of self.now }
     {
@@ -308,7 +310,7 @@ impl Extents {
         ensures staged { IsFrameStaged graph.old.staging graph.new.staging (length frame.now) ((extents_of self.old).reset extent) (need_of self.old) }
         ensures pages { AreWritten graph.new graph.old.staging.staged (length frame.now) (λ i. (shape self.old).address extent ((extents_of self.old).pointer extent + i)) frame.now }
         ensures superblock { (page : List ℕ) × (write_of graph.new (next_superblock graph.old.staging) ≡ Some ((shape self.old).section_page 0, page)) × SpellsExtents self.new (slice_index graph.old.staging.latest superblock_family + 1) page }
-        ensures others { KeepsBut graph.old graph.new (IsOfFrame graph.old.staging (length frame.now)) }
+        ensures others { AddsOnlyOf graph.old graph.new (IsOfFrame graph.old.staging (length frame.now)) }
         ensures round { graph.new.round ≡ graph.old.round }
         ensures dependency { (x : Item) → Names result.1 x ↔ IsVersionUpTo superblock_family (slice_index graph.old.staging.latest superblock_family + 1) x }
         ensures resets { AreResetsStaged (extents_of self.new) graph.new.staging }
@@ -329,7 +331,8 @@ impl Extents {
 
     /// Appends a frame for this purpose: stages each of its pages as one plain write, and then the version of the
     /// superblock that records them. Each page needs the root of its extent's last reset since open, if there is one; the superblock
-    /// needs all plain writes so far and the greatest such root. Answers where the frame begins, and the dependency that names that version.
+    /// needs all plain writes so far and the greatest such root. Answers where the frame begins, and a
+    /// dependency that names this version of the superblock and all before it.
     ///
     /// 30 `Full` where no extent takes the frame, then 35 `WornOut` where a number would pass 2^63 - 1, then 9
     /// `OutOfMemory`, which asks only for the room in the graph. Costs a pass over the extents, the frame's pages and one
@@ -354,7 +357,7 @@ impl Extents {
         ensures staged { IfOk result (λ r. IsFrameStaged graph.old.staging graph.new.staging (length frame.now) ((extents_of self.old).reset r.0.extent) (need_of self.old)) }
         ensures writes { IfOk result (λ r. AreWritten graph.new graph.old.staging.staged (length frame.now) (λ i. (shape self.old).address r.0.extent (r.0.page + i)) frame.now) }
         ensures superblock { OnOk result ((page : List ℕ) × (write_of graph.new (next_superblock graph.old.staging) ≡ Some ((shape self.old).section_page 0, page)) × SpellsExtents self.new (slice_index graph.old.staging.latest superblock_family + 1) page) }
-        ensures others { OnOk result (KeepsBut graph.old graph.new (IsOfFrame graph.old.staging (length frame.now))) }
+        ensures others { OnOk result (AddsOnlyOf graph.old graph.new (IsOfFrame graph.old.staging (length frame.now))) }
         ensures round { graph.new.round ≡ graph.old.round }
         ensures dependency { IfOk result (λ r. (x : Item) → Names r.1 x ↔ IsVersionUpTo superblock_family (slice_index graph.old.staging.latest superblock_family + 1) x) }
 

@@ -3,8 +3,8 @@ ghost use Rattle.std.specs.Prelude.{◌≡◌, ◌+◌, ◌^◌, ◌<◌, ◌≤
 ghost use Rattle.cs_deps.specs.declared.elements.Element.{Element as Item};
 ghost use Rattle.cs_deps.specs.Named.{Named, Names};
 ghost use Rattle.cs_deps.specs.Staging.{staged_after};
-ghost use Rattle.cs_deps.specs.State.{KeepsOthers, write_of};
-ghost use Rattle.cs_extent.specs.Frames.{ArePagesStaged, AreWritten, IsFrameStaged, IsNextPlain, IsOfFrame, IsSuperblockStaged, IsVersionUpTo, KeepsBut, root_family, superblock_family};
+ghost use Rattle.cs_deps.specs.State.{AddsOnly, write_of};
+ghost use Rattle.cs_extent.specs.Frames.{ArePagesStaged, AreWritten, IsFrameStaged, IsNextPlain, IsOfFrame, IsSuperblockStaged, IsVersionUpTo, AddsOnlyOf, root_family, superblock_family};
 
 use crate::families::{ROOT, SUPERBLOCK, on_versions, superblock_needs};
 use cs_deps::{Element, Graph};
@@ -17,7 +17,7 @@ fn stage_page(graph: &mut Graph, alloc: Global, page: u64, bytes: &[u8; 4096], r
     requires root { root ≤ slice_index graph.old.staging.latest root_family }
     ensures staged { (needs : Named) × ((x : Item) → Names needs x ↔ IsVersionUpTo root_family root x) × (graph.new.staging ≡ record { pending = staged_after graph.old.staging.pending (Element.Plain (graph.old.staging.staged + 1)) needs; staged = graph.old.staging.staged + 1; latest = graph.old.staging.latest }) }
     ensures write { write_of graph.new (Element.Plain (graph.old.staging.staged + 1)) ≡ Some (page, bytes.now) }
-    ensures others { KeepsOthers graph.old graph.new (Element.Plain (graph.old.staging.staged + 1)) }
+    ensures others { AddsOnly graph.old graph.new (Element.Plain (graph.old.staging.staged + 1)) }
     ensures round { graph.new.round ≡ graph.old.round }
     ensures left { graph.old.room ≤ graph.new.room + 1 }
 {
@@ -35,7 +35,7 @@ fn stage_pages(graph: &mut Graph, alloc: Global, frame: &[[u8; 4096]], first: u6
     requires root { root ≤ slice_index graph.old.staging.latest root_family }
     ensures staged { ArePagesStaged graph.old.staging graph.new.staging (length frame.now) root }
     ensures writes { AreWritten graph.new graph.old.staging.staged (length frame.now) (λ i. first + i) frame.now }
-    ensures others { KeepsBut graph.old graph.new (IsNextPlain graph.old.staging (length frame.now)) }
+    ensures others { AddsOnlyOf graph.old graph.new (IsNextPlain graph.old.staging (length frame.now)) }
     ensures round { graph.new.round ≡ graph.old.round }
     ensures left { graph.old.room ≤ graph.new.room + length frame.now }
 {
@@ -52,7 +52,7 @@ fn stage_superblock(graph: &mut Graph, alloc: Global, bytes: &[u8; 4096], need: 
     requires root { need ≤ slice_index graph.old.staging.latest root_family }
     ensures staged { IsSuperblockStaged graph.old.staging graph.new.staging need }
     ensures write { write_of graph.new (Element.Version superblock_family (slice_index graph.old.staging.latest superblock_family + 1)) ≡ Some (0, bytes.now) }
-    ensures others { KeepsOthers graph.old graph.new (Element.Version superblock_family (slice_index graph.old.staging.latest superblock_family + 1)) }
+    ensures others { AddsOnly graph.old graph.new (Element.Version superblock_family (slice_index graph.old.staging.latest superblock_family + 1)) }
     ensures round { graph.new.round ≡ graph.old.round }
     ensures left { graph.old.room ≤ graph.new.room + 1 }
 {
@@ -83,7 +83,7 @@ pub fn stage_frame(
     ensures staged { IsFrameStaged graph.old.staging graph.new.staging (length frame.now) root need }
     ensures writes { AreWritten graph.new graph.old.staging.staged (length frame.now) (λ i. first + i) frame.now }
     ensures write { write_of graph.new (Element.Version superblock_family (slice_index graph.old.staging.latest superblock_family + 1)) ≡ Some (0, superblock.now) }
-    ensures others { KeepsBut graph.old graph.new (IsOfFrame graph.old.staging (length frame.now)) }
+    ensures others { AddsOnlyOf graph.old graph.new (IsOfFrame graph.old.staging (length frame.now)) }
     ensures round { graph.new.round ≡ graph.old.round }
     ensures left { graph.old.room ≤ graph.new.room + (length frame.now + 1) }
 {

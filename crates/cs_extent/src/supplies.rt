@@ -2,7 +2,8 @@
 ghost use Rattle.std.specs.Prelude.{◌≡◌, ◌≤◌};
 ghost use Rattle.cs_extent.specs.Places.{left_after};
 
-/// How many pages of the open extent are left, and how many extents are empty.
+/// How many pages of the open extent are left, and how many extents are empty. Empty extents are alike, so these two numbers decide
+/// whether further frames fit.
 #[derive(Clone, Copy)]
 pub struct Supply {
     pub room: usize,

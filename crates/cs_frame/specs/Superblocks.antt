@@ -10,7 +10,7 @@ use Rattle.cs_frame.specs.Bytes.{field, number}
 use Rattle.cs_frame.specs.Faults.{first_fault, unless}
 use Rattle.cs_frame.specs.Pages.{digest_test, magic_test, padded, padding_test, sealed, version_test}
 
--- | 0 | 2 | pointer: how many pages are written |
+-- | 0 | 2 | pointer: how many pages are given   |
 -- | 2 | 4 | generation                          |
 abbrev pub spelled_extent : ℕ × ℕ → List ℕ
 spelled_extent extent = big_bytes 2 extent.0 ++ big_bytes 4 extent.1

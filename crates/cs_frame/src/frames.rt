@@ -1,6 +1,6 @@
 //! Frames: a payload with its digest, in whole pages.
 
-ghost use Rattle.std.specs.Prelude.{◌≡◌, ◌≢◌, ◌↔◌, ◌+◌, ◌^◌, ◌<◌, ◌≤◌, ℕ, List, Some, None, Ok, Err, IfOk, MatchResult, length, vec_len};
+ghost use Rattle.std.specs.Prelude.{◌≡◌, ◌+◌, ◌^◌, ◌<◌, ◌≤◌, ℕ, List, None, Ok, Err, IfOk, length, vec_len};
 ghost use Rattle.cs_frame.specs.Bytes.{EachHas, IsBytes};
 ghost use Rattle.cs_frame.specs.Faults.{HasFault, OkUnlessMemory, fault_in};
 ghost use Rattle.cs_frame.specs.Frames.{SpellsFrame, bytes_in, frame_fault, header_fault, kind_byte, page_count, payload_in, payload_length, spelled_frame};

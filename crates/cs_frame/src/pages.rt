@@ -1,7 +1,7 @@
 //! What the formats of one page share.
 
-ghost use Rattle.std.specs.Prelude.{◌≡◌, ◌+◌, ◌-◌, ◌≤◌, ◌++◌, [], length, drop, take};
-ghost use Rattle.cs_frame.specs.Bytes.{all_zero, field, zeros};
+ghost use Rattle.std.specs.Prelude.{◌≡◌, ◌+◌, ◌-◌, ◌≤◌, ◌++◌, [], length, drop};
+ghost use Rattle.cs_frame.specs.Bytes.{all_zero, zeros};
 ghost use Rattle.cs_frame.specs.Faults.{fault_in};
 ghost use Rattle.cs_frame.specs.Pages.{digest_test, magic_test, padded, padding_test, sealed, version_test};
 

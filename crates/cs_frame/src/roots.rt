@@ -1,6 +1,6 @@
 //! The root: the runs of the index, and how many commands they include.
 
-ghost use Rattle.std.specs.Prelude.{◌≡◌, ◌≢◌, ◌↔◌, ℕ, List, Some, None, Ok, Err, IfOk, MatchResult, ◌≤◌, slice_index};
+ghost use Rattle.std.specs.Prelude.{◌≡◌, ℕ, List, None, Ok, Err, IfOk, ◌≤◌, slice_index};
 ghost use Rattle.cs_frame.specs.declared.locators.Locator.{Locator as Place};
 ghost use Rattle.cs_frame.specs.Faults.{HasFault, OkUnlessMemory, fault_in};
 ghost use Rattle.cs_frame.specs.Roots.{IsRoot, SpellsRoot, root_fault, root_range_test, runs_in};

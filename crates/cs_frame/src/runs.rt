@@ -1,11 +1,11 @@
 //! Runs of the index.
 
-ghost use Rattle.std.specs.Prelude.{◌≡◌, ◌≢◌, ◌↔◌, ◌+◌, ◌-◌, ◌/◌, ◌<◌, ◌≤◌, ◌++◌, ℕ, List, Some, None, Ok, Err, IfOk, OnOk, MatchResult, length, map, drop, option_map, slice_index, slice_index_or, []};
-ghost use Rattle.cs_frame.specs.Bytes.{EachHas, IsBytes};
+ghost use Rattle.std.specs.Prelude.{◌≡◌, ◌+◌, ◌-◌, ◌<◌, ◌≤◌, ◌++◌, ℕ, List, Some, None, Ok, Err, IfOk, OnOk, length, map, option_map, slice_index, slice_index_or, []};
+ghost use Rattle.cs_frame.specs.Bytes.{IsBytes};
 ghost use Rattle.cs_frame.specs.Locators.{FitsLocator, spelled_locators};
 ghost use Rattle.std.specs.List.{AllByRecursion};
 ghost use Rattle.cs_frame.specs.Faults.{HasFault, OkUnlessMemory, fault_in, first_fault};
-ghost use Rattle.cs_frame.specs.Runs.{Entry, FitsEntry, IsRun, SpellsRun, entries_in, entries_of, entries_tests, entry_in, entry_of, entry_tests, id_in, order_test, pieces_in, run_fault, run_length_test, spelled_entry, spelled_run};
+ghost use Rattle.cs_frame.specs.Runs.{Entry, FitsEntry, IsRun, SpellsRun, entries_of, entries_tests, entry_in, entry_of, entry_tests, id_in, order_test, pieces_in, run_fault, run_length_test, spelled_entry};
 
 use crate::faults::FormatFault;
 use crate::identifiers::ShardId;

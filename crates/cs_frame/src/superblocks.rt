@@ -1,6 +1,6 @@
 //! The superblock: how many pages of each extent are given.
 
-ghost use Rattle.std.specs.Prelude.{◌≡◌, ◌≢◌, ◌↔◌, ◌+◌, ◌*◌, ◌/◌, ◌≤◌, ◌++◌, ℕ, List, Some, None, Ok, Err, IfOk, MatchResult, length, nat_le};
+ghost use Rattle.std.specs.Prelude.{◌≡◌, ◌+◌, ◌*◌, ◌/◌, ◌≤◌, ◌++◌, ℕ, List, None, Ok, Err, IfOk, length, nat_le};
 ghost use Rattle.std.specs.List.{AllByRecursion, list_all};
 ghost use Rattle.std.specs.Simd.{first_chunks};
 ghost use Rattle.cs_frame.specs.Buffers.{text_of};

@@ -6,7 +6,7 @@ use Rattle.cs_deps.specs.declared.refusals.Refusal.{Refusal}
 use Rattle.cs_deps.specs.declared.refusals.Refusal.TheVariants.{Full, OutOfMemory, WornOut}
 use Rattle.cs_deps.specs.Named.{Named, Names}
 use Rattle.cs_deps.specs.Staging.{IsVersionStaged, Staging}
-use Rattle.cs_deps.specs.State.{KeepsOthers, State as GraphState, write_of}
+use Rattle.cs_deps.specs.State.{AddsOnly, State as GraphState, write_of}
 use Rattle.cs_extent.specs.Appended.{IsAppended}
 use Rattle.cs_extent.specs.Frames.{IsVersionUpTo, IsWorn, root_family, superblock_family}
 use Rattle.cs_extent.specs.State.{State as ExtentsState, extents_of, shape}
@@ -34,7 +34,7 @@ pub record IsRootOver (g h : GraphState) (v commands : ℕ) (oldest_first : List
   pub names : (x : Element) → Names needs x ↔ IsVersionUpTo superblock_family (slice_index g.staging.latest superblock_family) x
   pub version : IsVersionStaged g.staging root_family v needs h.staging
   pub page : (page : List ℕ) × (write_of h (Version root_family v) ≡ Some (1, page)) × SpellsRoot page v commands oldest_first
-  pub others : KeepsOthers g h (Version root_family v)
+  pub others : AddsOnly g h (Version root_family v)
   pub round : h.round ≡ g.round
 
 -- the root over these runs was staged
@@ -99,7 +99,7 @@ IsWhy WornOut full worn = (full → ⊥) × worn
 IsWhy OutOfMemory full worn = Unit {0}
 IsWhy _ full worn = ⊥
 
--- a call gave what it gives exactly where neither holds, unless memory ran out
+-- the call is refused 30 where the first holds, else 35 where the second does, else not; 9 may come instead of any of these
 abbrev pub IsExact : {T : Type 0} → Result T Refusal → (full worn : Type 0) → Type 0
 IsExact (Ok x) full worn = (full → ⊥) × (worn → ⊥)
 IsExact (Err refusal) full worn = IsWhy refusal full worn

@@ -1,5 +1,5 @@
 //! The index of a store.
-ghost use Rattle.std.specs.Prelude.{◌≡◌, ◌≢◌, ℕ, ◌+◌, ◌∷◌, ◌<◌, ◌≤◌, ◌^◌, ◌⊎◌, ◌↔◌, ◌==◌, [], IfErr, IfOk, IfSome, IsOk, IsTrue, MatchOption, OnErr, OnOk, None, Some, MatchBool, false, if◌then◌else◌, length, map, option_copied, option_map, true};
+ghost use Rattle.std.specs.Prelude.{◌≡◌, ◌≢◌, ℕ, ◌+◌, ◌∷◌, ◌<◌, ◌≤◌, ◌^◌, ◌⊎◌, ◌↔◌, ◌==◌, [], IfErr, IfOk, IfSome, IsOk, IsTrue, MatchOption, OnErr, OnOk, None, Some, MatchBool, false, length, map, option_copied, option_map, true};
 ghost use Rattle.std.specs.List.{AllByRecursion};
 ghost use Rattle.cs_extent.specs.Frames.{AreResetsStaged, IsWorn, root_family};
 ghost use Rattle.cs_extent.specs.Purposes.{reason_of};
@@ -15,7 +15,7 @@ ghost use Rattle.cs_index.specs.State.{IsId, IsSet, IsShort, IsStored, IsWhole, 
 use crate::entries::{Entries, entries_after, entries_from};
 use crate::live::{Cleared, LiveChunk, NONE_KNOWN, known_up_to, search, still_cleared};
 use crate::mergers::merged;
-use crate::runs::{StoredRun, check_ids, count_after, count_names, find_in_runs};
+use crate::runs::{StoredRun, are_ids, count_after, count_names, find_in_runs};
 use crate::stagings::{run_fits, stage_empty, stage_run};
 use crate::tables::{find, put};
 use cs_deps::{Graph, Refusal};
@@ -66,7 +66,7 @@ impl Index {
         ensures full { (result ≡ Err Refusal.NotAStore) ↔ (limit < names (entries_of (newest_first runs.items))) }
         ensures refusals { IfErr result (λ r. r ≡ Refusal.NotAStore) }
     {
-        check_ids(&runs);
+        are_ids(&runs);
         let named = count_names(&runs);
         if limit < named {
             return Err(Refusal::NotAStore);
@@ -103,7 +103,7 @@ impl Index {
         entries_from(&self.table.entries, &self.runs)
     }
 
-    /// Of the live chunks on an extent, that of the least identifier, and of its shard's the lowest. Where the last search was of
+    /// The first live chunk on an extent, by identifier and then by chunk. Where the last search was of
     /// the same extent it reads on from there, unless a shard that it had passed was given a locator there since, or all
     /// entries became one run: so searching an extent again and again, while its chunks are moved, reads each entry once.
     pub fn first_live(&mut self, extent: usize) -> Option<LiveChunk>

@@ -1,5 +1,5 @@
 //! What lives on an extent.
-ghost use Rattle.std.specs.Prelude.{◌≡◌, ◌⊎◌, IfSome, List, MatchBool, MatchOption, None, map, option_map};
+ghost use Rattle.std.specs.Prelude.{◌≡◌, ◌⊎◌, IfSome, MatchBool, MatchOption, None, map, option_map};
 ghost use Rattle.cs_frame.specs.Formats.{place_of};
 ghost use Rattle.cs_index.specs.Live.{IsFirstOn, NoneOn, NoneUpTo};
 ghost use Rattle.cs_index.specs.State.{IsAfter, IsId, id_number};
@@ -79,8 +79,8 @@ fn first_on(places: &[Locator], extent: usize) -> Option<usize>
     None
 }
 
-/// Reads the identifier, where there is one.
-fn check_id(id: Option<ShardId>)
+/// Tells clauses that the identifier, where there is one, has sixteen bytes. It has no effect.
+fn is_id(id: Option<ShardId>)
     ensures { IfSome id IsId }
 {
     if let Some(some) = id {
@@ -88,7 +88,7 @@ fn check_id(id: Option<ShardId>)
     }
 }
 
-/// Of the live chunks on the extent, that of the least identifier, and of its shard's the lowest; and the last identifier before
+/// The first live chunk on the extent, by identifier and then by chunk; and the last identifier before
 /// it, or of all where nothing is live there. Reads on behind the identifier that is passed already.
 pub fn search(
     entries: Entries<'_>,
@@ -100,7 +100,7 @@ pub fn search(
     ensures found { MatchOption result.0 (NothingLive entries.entry.index extent) (λ found. FirstLive entries.entry.index extent (id_number found.id) found.chunk (place_of found.place)) }
     ensures none { NoneUpTo entries.entry.index (option_map id_number result.1) extent }
 {
-    check_id(passed);
+    is_id(passed);
     let mut read = entries;
     let mut last = passed;
     while let Some((id, places)) = read.next_entry() {

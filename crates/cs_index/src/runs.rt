@@ -73,7 +73,7 @@ pub fn count_names(runs: &[StoredRun]) -> usize
     count
 }
 
-/// How many identifiers have an entry once another call entered one that was known or not.
+/// How many identifiers have an entry once this one got one, which had one already or not.
 pub fn count_after(named: usize, known: bool) -> usize
     requires { known ≡ false → named + 1 < 2 ^ 64 }
     ensures { result ≡ (if known then named else named + 1) }
@@ -81,8 +81,8 @@ pub fn count_after(named: usize, known: bool) -> usize
     if known { named } else { named + 1 }
 }
 
-/// Reads each identifier of these entries.
-fn check_entries(entries: &[(ShardId, Vec<Locator>)])
+/// Tells clauses that each identifier of these entries has sixteen bytes. It has no effect.
+fn are_entry_ids(entries: &[(ShardId, Vec<Locator>)])
     ensures { AllByRecursion (λ entry. IsId entry.0) entries.now }
 {
     for entry in entries {
@@ -90,11 +90,11 @@ fn check_entries(entries: &[(ShardId, Vec<Locator>)])
     }
 }
 
-/// Reads each identifier of these runs.
-pub fn check_ids(runs: &[StoredRun])
+/// Tells clauses that each identifier of these runs has sixteen bytes. It has no effect.
+pub fn are_ids(runs: &[StoredRun])
     ensures { AllByRecursion (λ run. AllByRecursion (λ entry. IsId entry.0) run.entries.items) runs.now }
 {
     for run in runs {
-        check_entries(&run.entries);
+        are_entry_ids(&run.entries);
     }
 }

@@ -1,5 +1,5 @@
 //! Sorted entries.
-ghost use Rattle.std.specs.Prelude.{◌≡◌, ◌≢◌, ◌+◌, ◌<◌, ◌≤◌, ◌==◌, Some, IfOk, IsOk, MatchBool, OnErr, OnOk, length, map, nat_lt, option_copied, option_map, slice_get, vec_capacity, vec_len};
+ghost use Rattle.std.specs.Prelude.{◌≡◌, ◌≢◌, ◌+◌, ◌<◌, ◌≤◌, ◌==◌, Some, IfOk, IsOk, MatchBool, OnErr, OnOk, map, nat_lt, option_copied, option_map, slice_get, vec_capacity, vec_len};
 ghost use Rattle.cs_model.specs.Index.{Ascending, lookup};
 ghost use Rattle.std.specs.List.{AllByRecursion, insert as inserted};
 ghost use Rattle.cs_model.specs.Element.{Entry};

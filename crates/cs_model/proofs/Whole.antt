@@ -5,7 +5,7 @@ use Rattle.cs_model.proofs.Carries.{and_true}
 use Rattle.cs_model.specs.Device.{Page, Shape}
 use Rattle.cs_model.specs.Element.{Bytes, Content, Damaged, Entry, Locator, Map, Opening, Run}
 use Rattle.cs_model.specs.Formats.{ChunkFrame, Formats, RunFrame, opening_in}
-use Rattle.cs_model.specs.Index.{Gives, Holds, IsWhole, Reads, ReadsAs, Value, after, entries_of, live, lookup}
+use Rattle.cs_model.specs.Index.{Gives, Holds, NoneDamaged, Reads, ReadsAs, Value, after, entries_of, live, lookup}
 use Rattle.cs_model.specs.Lists.{◌∈◌}
 use Rattle.cs_model.specs.Recovery.{Recovers, RecoversBut}
 use Rattle.cs_model.specs.Refusal.{Refusal}
@@ -67,7 +67,7 @@ module _ (S : Shape) (F : Formats) (d h : Opening) (img : ℕ → Page) (p g : �
   whole_holds (Some (k ∷ ls)) v not value l has = content_holds (k ∷ ls) value.0
       (λ f is. not f (value.2 ∙ ap (λ (c : Content). Some c) is)) value.1 l has
 
-  pub whole_gives : (table : List Entry) (runs : List Run) (m : Map) → IsWhole m → Gives S F d img p g table runs m
+  pub whole_gives : (table : List Entry) (runs : List Run) (m : Map) → NoneDamaged m → Gives S F d img p g table runs m
       → Gives S F h img p g table runs m
   whole_gives table runs m whole gives = record {
     runs_read = λ run has. more_reads run.place
@@ -87,21 +87,21 @@ one_or_other : (b : Bool) (x y : Option Content) (f : Refusal) → x ≢ Some (D
 one_or_other true x y f a b is = a is
 one_or_other false x y f a b is = b is
 
-whole_after : (start : Map) (cs : List Command) → IsWhole start → IsWhole (after_all start cs)
+whole_after : (start : Map) (cs : List Command) → NoneDamaged start → NoneDamaged (after_all start cs)
 whole_after start [] whole = whole
 whole_after start (c ∷ cs) whole = λ id f. one_or_other (id == c.0) (content_of c.1) (after_all start cs id) f
     (not_damaged c.1 f) (whole_after start cs whole id f)
 
-pub whole_map : (start : Map) (cs : List Command) (n : ℕ) → IsWhole start → IsWhole (map_after start cs n)
+pub whole_map : (start : Map) (cs : List Command) (n : ℕ) → NoneDamaged start → NoneDamaged (map_after start cs n)
 whole_map start [] n whole = whole
 whole_map start (c ∷ cs) n whole = either (nat_le n (length cs)) (map_after start cs n) (after_all start (c ∷ cs))
     (whole_map start cs n whole) (whole_after start (c ∷ cs) whole)
   where
-    either : (b : Bool) (x y : Map) → IsWhole x → IsWhole y → IsWhole (if b then x else y)
+    either : (b : Bool) (x y : Map) → NoneDamaged x → NoneDamaged y → NoneDamaged (if b then x else y)
     either true x y a b = a
     either false x y a b = b
 
-pub whole_recovers : (S : Shape) (F : Formats) (opening : Opening) (img : ℕ → Page) (n : ℕ) (m : Map) → IsWhole m
+pub whole_recovers : (S : Shape) (F : Formats) (opening : Opening) (img : ℕ → Page) (n : ℕ) (m : Map) → NoneDamaged m
     → RecoversBut S F (λ p g. opening) img n m → Recovers S F img n m
 whole_recovers S F opening img n m whole r = record {
   formats = r.formats;

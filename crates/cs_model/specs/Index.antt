@@ -150,5 +150,5 @@ module _ (S : Shape) (F : Formats) where
       pub values : (id : ℕ) → Value (lookup id (table ++ entries_of runs)) (m id)
 
 -- no shard of this map is damaged
-abbrev pub IsWhole : Map → Type 0
-IsWhole m = (id : ℕ) (f : Refusal) → m id ≢ Some (Damaged f)
+abbrev pub NoneDamaged : Map → Type 0
+NoneDamaged m = (id : ℕ) (f : Refusal) → m id ≢ Some (Damaged f)

@@ -5,7 +5,7 @@ use Rattle.cs_model.specs.Disk.{applied, kept_of, page_writes}
 use Rattle.cs_model.specs.Element.{Element, Locator, Root, Run, log_of, roots_of}
 use Rattle.cs_model.specs.Events.{IsFrontier, newest_page}
 use Rattle.cs_model.specs.Formats.{ChunkFrame, Formats, image, pages_from}
-use Rattle.cs_model.specs.Index.{Gives, InBounds, IsWhole}
+use Rattle.cs_model.specs.Index.{Gives, InBounds, NoneDamaged}
 use Rattle.cs_model.specs.Distinct.{AreDistinct}
 use Rattle.cs_model.specs.Lists.{◌∈◌}
 use Rattle.cs_model.specs.Recovery.{Recovers, RecoversBut, RootGives}
@@ -63,4 +63,4 @@ module _ (S : Shape) (F : Formats) where
   abbrev pub LeavesPrefix : State → List Bool → Type 0
   LeavesPrefix s mask = (n : ℕ) × (n ≤ length s.commands) × ((f : ℕ) → IsFrontier S F s f → f ≤ n)
       × RecoversBut S F (λ p g. s.opening) (crashed s mask) (s.count + n) (map_after s.start s.commands n)
-      × (IsWhole s.start → Recovers S F (crashed s mask) (s.count + n) (map_after s.start s.commands n))
+      × (NoneDamaged s.start → Recovers S F (crashed s mask) (s.count + n) (map_after s.start s.commands n))

@@ -6,7 +6,7 @@ ghost use Rattle.cs_model.specs.Events.{ReadsNow, newest_page};
 ghost use Rattle.cs_model.specs.Extents.{Extents, Fits, NoPlace, Placed, Purpose, taken};
 ghost use Rattle.cs_model.specs.Formats.{Formats, FrameKind};
 ghost use Rattle.cs_model.specs.Frames.{IsFormat};
-ghost use Rattle.cs_model.specs.Index.{Chunks, after};
+ghost use Rattle.cs_model.specs.Index.{Chunks};
 ghost use Rattle.cs_model.specs.Lists.{with};
 ghost use Rattle.cs_model.specs.Machine.{PastGreatest, World};
 ghost use Rattle.cs_model.specs.Sound.{Sound};

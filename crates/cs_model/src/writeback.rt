@@ -3,7 +3,6 @@ ghost use Rattle.cs_model.specs.Device.{IsShape, Shape};
 ghost use Rattle.cs_model.specs.Disk.{applied, page_write, page_writes, written};
 ghost use Rattle.cs_model.specs.Element.{Element, log_of};
 ghost use Rattle.cs_model.specs.Formats.{Formats, image};
-ghost use Rattle.cs_model.specs.Lists.{with};
 ghost use Rattle.cs_model.specs.Sound.{Sound, crashed};
 ghost use Rattle.cs_model.specs.State.{State};
 ghost use Rattle.std.specs.Prelude.{◌≡◌, ◌++◌, ◌∷◌, [], ℕ, Bool, true, List, if◌then◌else◌};

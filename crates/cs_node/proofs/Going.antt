@@ -6,7 +6,7 @@ use Rattle.cs_disk.specs.Disk.{State as DiskState}
 use Rattle.cs_model.specs.Refusal as ground
 use Rattle.cs_model.specs.State.{State}
 use Rattle.cs_refine.specs.Refusals.{refusal_for}
-use Rattle.cs_core.specs.Shapes.{MayAnswer}
+use Rattle.cs_core.specs.Replies.{MayAnswer}
 use Rattle.cs_core.specs.declared.events.Event.{Event}
 use Rattle.cs_core.specs.declared.events.Event.TheVariants.{Abandon, Begin, BeginSweep, Delete, End, Get, Issue, MoveOne, Put, Retire, Settle, Stage}
 use Rattle.cs_core.specs.declared.events.Reply.{Reply}

@@ -1,5 +1,5 @@
 //! The board: one word that tells how many commands are persistent.
-ghost use Rattle.std.specs.Prelude.{◌≡◌, ◌≤◌, [], IfOk};
+ghost use Rattle.std.specs.Prelude.{◌≡◌, [], IfOk};
 
 use atomic_table::{Play, Seat, Shared, Split, Table, TableRule};
 use std::alloc::{AllocError, Global};

@@ -1,6 +1,6 @@
 //! Events of clients, under the lock.
 ghost use Rattle.std.specs.Prelude.{◌≡◌, ◌≢◌, ◌⊎◌, ◌^◌, ◌<◌, ◌≤◌, IfErr, IfOk, MatchResult, OnOk, length, true};
-ghost use Rattle.cs_core.specs.Shapes.{MayAnswer};
+ghost use Rattle.cs_core.specs.Replies.{MayAnswer};
 ghost use Rattle.cs_core.specs.Views.{IsStep};
 ghost use Rattle.cs_node.specs.Answers.{Gets, Settles, deleted};
 ghost use Rattle.cs_node.specs.Locks.{Declines, IsAnswered, IsBehind, IsCallRefused, IsGot, IsSettledBy};

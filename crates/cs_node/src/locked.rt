@@ -5,7 +5,7 @@
 //! and the mark are private to this file. So a function that does a second event without taking the lock again isn't proved.
 ghost use Rattle.std.specs.Prelude.{◌≡◌, ◌≢◌, ◌⊎◌, ◌+◌, [], IfErr, IfOk, MatchOption, OnErr, false, true};
 ghost use Rattle.std.specs.Sync.Mutex.{mutex_guard_value};
-ghost use Rattle.cs_core.specs.Shapes.{MayAnswer};
+ghost use Rattle.cs_core.specs.Replies.{MayAnswer};
 ghost use Rattle.cs_core.specs.Views.{Applies, IsUntouched, IsStep};
 ghost use Rattle.cs_node.specs.Locks.{Declines, IsBehind};
 ghost use Rattle.cs_node.specs.Starts.{start_of};
@@ -134,7 +134,7 @@ impl<D: PageDisk, K: Naming> Locked<D, K> {
         ensures given { (self.new.given ≡ self.old.given) × (self.new.piloted ≡ self.old.piloted) }
         ensures behind { IsBehind D.honest D.state K.start self.old.core }
     {
-        // Its contract tells what a core behind the lock keeps.
+        // Called for its contract alone: what a core behind the lock keeps.
         self.core();
         let Ok(reply) = self.apply(board, event) else {
             return Err(Refusal::OutOfMemory);
@@ -184,7 +184,7 @@ impl<D: PageDisk, K: Naming> Locked<D, K> {
         ensures start { start_of self.now.core ≡ K.start }
         ensures behind { IsBehind D.honest D.state K.start self.now.core }
     {
-        // Its contract tells that the history is legal.
+        // Called for its contract alone: that the history is legal.
         self.core.progress();
         &self.core
     }

@@ -69,7 +69,7 @@ impl<D: PageDisk, K: Naming> Node<D, K> {
     {
         let Node { lock, words } = self;
         let locked = lock.into_inner();
-        // Its contract tells what a core behind the lock keeps.
+        // Called for its contract alone: what a core behind the lock keeps.
         locked.core();
         Rest { locked, words }
     }

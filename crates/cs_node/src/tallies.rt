@@ -1,5 +1,5 @@
 //! How often each place and each number occurs in purses.
-ghost use Rattle.std.specs.Prelude.{◌≡◌, ℕ, ◌≤◌, ◌<◌, ◌+◌, ◌-◌, ◌^◌, ◌==◌, ◌↔◌, cond, min, length, vec_len, slice_index, slice_index_or, All, IfOk, IsTrue};
+ghost use Rattle.std.specs.Prelude.{◌≡◌, ℕ, ◌≤◌, ◌<◌, ◌+◌, ◌-◌, ◌==◌, ◌↔◌, cond, min, length, vec_len, slice_index, slice_index_or, All, IfOk, IsTrue};
 ghost use Rattle.cs_core.specs.declared.events.Event.{Event as Asked};
 ghost use Rattle.cs_core.specs.declared.events.Reply.{Reply as Answer};
 ghost use Rattle.cs_node.specs.Accounts.{Stands, times_at, called_at, wanted, times, held, Within, AllWithin, AcksWithin, wanted_number, unmarked, Judges, AreCalls, AreNumbers};

@@ -1,6 +1,6 @@
 //! Events of writeback, under the lock.
 ghost use Rattle.std.specs.Prelude.{◌≡◌, IfErr, IfOk, MatchOption, None, true};
-ghost use Rattle.cs_core.specs.Shapes.{MayAnswer};
+ghost use Rattle.cs_core.specs.Replies.{MayAnswer};
 ghost use Rattle.cs_core.specs.Views.{IsStep};
 ghost use Rattle.cs_node.specs.Dues.{IsAdvance, IsAtRest, IsDue, IsOfRound, IsStaged, IsTurn};
 ghost use Rattle.cs_node.specs.Locks.{IsBehind, IsDone, IsRefused};

@@ -15,7 +15,7 @@ use Rattle.cs_deps.specs.Pending.{Pending, Waits, IsPersistent, IsStaged, Satisf
 use Rattle.cs_deps.specs.Chain.{IsChain, IsChainOf, IsHeight, LastIs}
 use Rattle.cs_deps.specs.Rounds.{IsListedBefore, IsDue, IsTaken, IsRound, AreRounds}
 use Rattle.cs_deps.specs.Staging.{Staging, IsKept}
-use Rattle.cs_deps.specs.State.{IsQueue, IsOfLevel}
+use Rattle.cs_deps.specs.State.{IsQueue, IsInQueue}
 use Rattle.cs_deps.specs.Turns.{IsPlanOf}
 use Rattle.cs_deps.specs.Wanted.{AreWanted}
 use Rattle.cs_deps.proofs.AllHeights.{all_have_heights}
@@ -138,7 +138,7 @@ module _ (s : Staging) (kept : IsKept s) (target d : Named) (wanted : AreWanted 
         let r = low.came (Version f v) c in
         from r.1.1 r.1.4 ((is.members r.1.1).0 (subst (λ (u : Element). Contains queue u) (get_or_from_slice_get queue r.1.0 r.1.1 r.1.1 r.1.3) (Contains-get_or queue r.1.0 r.1.1 r.1.2)))
       where
-        from : (y : Element) → Version f v ≡ lowered d y → IsOfLevel g n y → w ≤ v
+        from : (y : Element) → Version f v ≡ lowered d y → IsInQueue g n y → w ≤ v
         from (Plain m) e level = absurd (cc e)
         from (Version h top) e level =
             let one : f ≡ h = cc e in

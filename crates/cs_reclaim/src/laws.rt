@@ -1,5 +1,5 @@
 //! Laws of sweeps.
-ghost use Rattle.std.specs.Prelude.{◌≡◌, ◌≢◌, ◌+◌, ◌≤◌, Bool, ℕ, List, length};
+ghost use Rattle.std.specs.Prelude.{◌≡◌, ◌≢◌, Bool, ℕ, List};
 ghost use Rattle.cs_chunk.specs.Chunks.{AreChunksAt, IsFrameAt};
 ghost use Rattle.cs_chunk.specs.Newest.{AreNewest};
 ghost use Rattle.cs_deps.specs.State.{IsWhole as IsWholeGraph, State as GraphState};

@@ -81,7 +81,7 @@ impl Sweep {
         self.extent
     }
 
-    /// Moves a live chunk off the extent, that of the least identifier and there the lowest: appends a frame of the same
+    /// Moves the first live chunk, by identifier and then by chunk, off the extent: appends a frame of the same
     /// bytes with `Purpose::Move`, and points the shard at it. Answers the identifier and the number of the chunk,
     /// counted from 0, or None where nothing is live there. Frames of other extents aren't read. The search goes on in the
     /// index from where the last one on this extent ended, as `Index::first_live` does.
@@ -289,7 +289,7 @@ fn move_to(
     Ok(())
 }
 
-/// Puts another place in place of one.
+/// Gives one chunk another place.
 fn set_place(places: &mut Vec<Locator>, chunk: usize, place: Locator)
     requires { chunk < length places.old.items }
     ensures { places.new.items ≡ slice_set places.old.items chunk place }
@@ -297,7 +297,7 @@ fn set_place(places: &mut Vec<Locator>, chunk: usize, place: Locator)
     places[chunk] = place;
 }
 
-/// Points a shard at other places, for which there is room.
+/// Gives a shard these places, where the index has room for the entry.
 fn point_at(index: &mut Index, id: ShardId, before: &[Locator], after: Vec<Locator>)
     requires before { lookup (id_number id) (index_of index.old) ≡ Some (map place_of before.now) }
     requires after { (1 ≤ length after.items) × (length after.items ≤ 8) }

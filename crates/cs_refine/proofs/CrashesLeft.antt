@@ -10,7 +10,7 @@ use Rattle.cs_model.proofs.Unique.{one_recovery}
 use Rattle.cs_model.specs.Device.{Page, Shape}
 use Rattle.cs_model.specs.Element.{Map}
 use Rattle.cs_model.specs.Events.{IsFrontier}
-use Rattle.cs_model.specs.Index.{IsWhole as IsWholeMap}
+use Rattle.cs_model.specs.Index.{NoneDamaged}
 use Rattle.cs_model.specs.Local.{AgreeBelow, LiesBelow}
 use Rattle.cs_model.specs.Recovery.{Recovers}
 use Rattle.cs_model.specs.Sound.{LeavesPrefix, Sound, crashed}
@@ -62,7 +62,7 @@ module _ (x : ExtentsState) (s : State) (disk : DiskState) (left : Image) (whole
       let same = one_recovery (shape x) (formats_of (shape x)) (store_format x whole) s.opened s.count count s.start start gives again in
       go count start same.0 (λ i id. same.1 id i) undamaged
     where
-      go : (count : ℕ) (start : Map) → s.count ≡ count → s.start ≡ start → IsWholeMap start
+      go : (count : ℕ) (start : Map) → s.count ≡ count → s.start ≡ start → NoneDamaged start
           → (n : ℕ) × (f ≤ n) × (n ≤ length s.commands)
           × Recovers (shape x) (formats_of (shape x)) (page left) (count + n) (map_after start s.commands n)
       go count start counts starts undamaged = let l = leaves in (
@@ -71,7 +71,7 @@ module _ (x : ExtentsState) (s : State) (disk : DiskState) (left : Image) (whole
         l.1,
         subst (λ (k : ℕ). Recovers (shape x) (formats_of (shape x)) (page left) (k + l.0) (map_after start s.commands l.0)) counts
             (subst (λ (m : Map). Recovers (shape x) (formats_of (shape x)) (page left) (s.count + l.0) (map_after m s.commands l.0)) starts
-            (l.4 (subst (λ (m : Map). IsWholeMap m) (sym starts) undamaged))),
+            (l.4 (subst (λ (m : Map). NoneDamaged m) (sym starts) undamaged))),
       )
 
 -- the first commands are the first of more

@@ -7,7 +7,7 @@ use Rattle.cs_deps.specs.declared.elements.Element.{Element as Name}
 use Rattle.cs_deps.specs.declared.elements.Element.TheVariants.{Plain, Version}
 use Rattle.cs_deps.specs.Named.{Named, Names}
 use Rattle.cs_deps.specs.Staging.{IsVersionStaged, Staging, staged_after}
-use Rattle.cs_deps.specs.State.{KeepsOthers, State as GraphState, write_of}
+use Rattle.cs_deps.specs.State.{AddsOnly, State as GraphState, write_of}
 use Rattle.cs_model.specs.Device.{Shape}
 use Rattle.cs_model.specs.Disk.{page_write}
 use Rattle.cs_model.specs.Element.{A_root, A_superblock, A_write, Element, Map, Root, Run, roots_of}
@@ -91,7 +91,7 @@ module _ (x : State) (g h : GraphState) (w : World) (is : IsWorldOf x g w) (v : 
   abbrev next : World
   next = happens (shape x) w (StageRoot n runs m pointers)
 
-  module _ (kept : write_of h (Version root_family v) ≡ Some (page_write (shape x) (formats_of (shape x)) (A_root root))) (others : KeepsOthers g h (Version root_family v)) where
+  module _ (kept : write_of h (Version root_family v) ≡ Some (page_write (shape x) (formats_of (shape x)) (A_root root))) (others : AddsOnly g h (Version root_family v)) where
     root_writes : AreWritesOf (shape x) next h
     root_writes k p waits there = ⊎_elim
         (λ (here : k ≡ A_root root).

@@ -10,7 +10,7 @@ use Rattle.cs_deps.specs.declared.elements.Element.TheVariants.{Plain, Version}
 use Rattle.cs_deps.specs.Named.{Named}
 use Rattle.cs_deps.specs.Pending.{Waits}
 use Rattle.cs_deps.specs.Rounds.{IsListedBefore}
-use Rattle.cs_deps.specs.State.{AddsNone, IsOfLevel, IsOut, IsQueue, KeepsBytes, IsWhole as IsWholeGraph, State as GraphState, after, after_round, everything, write_of}
+use Rattle.cs_deps.specs.State.{AddsNone, IsInQueue, IsOut, IsQueue, KeepsBytes, IsWhole as IsWholeGraph, State as GraphState, after, after_round, everything, write_of}
 use Rattle.cs_disk.specs.Disk.{State as DiskState, flushed, written}
 use Rattle.cs_extent.specs.State.{IsWhole, State as ExtentsState, shape}
 use Rattle.cs_frame.specs.Formats.{formats_of}
@@ -96,7 +96,7 @@ module _ (x : ExtentsState) (g h : GraphState) (i : IndexState) (s : State) (are
   waits : (names : List Name) → names ≢ [] → IsQueue g.staging.pending 1 names → NothingWaits s.world → ⊥
   waits [] some queue done = some refl
   waits (z ∷ zs) some queue done =
-      let level : IsOfLevel g.staging.pending 1 z = (queue.members z).0 (Contains-append_left (z ∷ []) zs z (Contains-push [] z)) in
+      let level : IsInQueue g.staging.pending 1 z = (queue.members z).0 (Contains-append_left (z ∷ []) zs z (Contains-push [] z)) in
       some_waits (shape x) (formats_of (shape x)) g s sound are.world.staging.pending z
       (chain_ends_waiting g.staging.pending z 1 (of_level_height g.staging.pending 1 z level).reached) done
 

@@ -1,5 +1,5 @@
 //! What the calls of a store's parts do, as what the machine's events do.
-ghost use Rattle.std.specs.Prelude.{◌≡◌, ◌≢◌, ◌↔◌, ◌+◌, ◌<◌, ◌≤◌, ◌∷◌, ◌++◌, ℕ, suc, true, false, List, [], None, length, map};
+ghost use Rattle.std.specs.Prelude.{◌≡◌, ◌≢◌, ◌↔◌, ◌+◌, ◌<◌, ◌≤◌, ◌++◌, ℕ, suc, true, false, List, [], None, length, map};
 ghost use Rattle.cs_deps.specs.State.{State as GraphState};
 ghost use Rattle.cs_extent.specs.Appended.{AreAppended};
 ghost use Rattle.cs_extent.specs.State.{IsWhole, State as ExtentsState, extents_of, shape};

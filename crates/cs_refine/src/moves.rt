@@ -13,7 +13,7 @@ ghost use Rattle.cs_model.specs.State.{State};
 ghost use Rattle.cs_model.specs.Sound.{Sound};
 ghost use Rattle.cs_model.specs.Append.{Append, AppendAll};
 ghost use Rattle.cs_model.specs.Extents.{Purpose as Reason, emptied, marked};
-ghost use Rattle.cs_deps.specs.State.{AddsNone, IsWhole as IsWholeGraph, KeepsBytes, KeepsOthers, State as GraphState, write_of};
+ghost use Rattle.cs_deps.specs.State.{AddsNone, IsWhole as IsWholeGraph, KeepsBytes, AddsOnly, State as GraphState, write_of};
 ghost use Rattle.cs_frame.specs.declared.locators.Locator.{Locator};
 ghost use Rattle.cs_extent.specs.Appended.{AreAppended, IsAppended};
 ghost use Rattle.cs_extent.specs.Frames.{AreNeedsWithin, IsVersionUpTo, root_family, superblock_family};
@@ -43,7 +43,7 @@ pub fn root_refines_root()
     ensures { (x : ExtentsState) (g h : GraphState) (w : World) (v : ℕ) (needs : Named) (n : ℕ) (runs : List Run) (m : Map) (pointers : ℕ → ℕ)
         → IsWorldOf x g w → IsVersionStaged g.staging root_family v needs h.staging
         → ((z : Name) → Names needs z ↔ IsVersionUpTo superblock_family (slice_index g.staging.latest superblock_family) z)
-        → write_of h (Version root_family v) ≡ Some (page_write (shape x) (formats_of (shape x)) (A_root (root_now w n runs m pointers))) → KeepsOthers g h (Version root_family v)
+        → write_of h (Version root_family v) ≡ Some (page_write (shape x) (formats_of (shape x)) (A_root (root_now w n runs m pointers))) → AddsOnly g h (Version root_family v)
         → IsWorldOf x h (happens (shape x) w (StageRoot n runs m pointers)) }
 {}
 

@@ -1,5 +1,5 @@
 //! A store as it is made, and as it is opened.
-ghost use Rattle.std.specs.Prelude.{◌≡◌, ◌+◌, ◌*◌, ◌≤◌, ℕ, List, [], None, length, replicate};
+ghost use Rattle.std.specs.Prelude.{◌+◌, ◌*◌, ◌≤◌, ℕ, List, [], None, length, replicate};
 ghost use Rattle.cs_refine.specs.Openings.{IsStartOf};
 ghost use Rattle.cs_disk.specs.Disk.{Image, IsWhole as IsWholeDisk, MayLeave, State as DiskState, flushed, page, seen, written};
 ghost use Rattle.cs_extent.specs.State.{IsWhole, State as ExtentsState, shape};

@@ -1,5 +1,5 @@
 //! Why the calls of a store's parts are refused, as why the machine's events are.
-ghost use Rattle.std.specs.Prelude.{◌≡◌, ◌≢◌, ◌⊎◌, ◌↔◌, ◌+◌, ◌^◌, ◌<◌, ◌≤◌, ℕ, suc, true, false, List, [], Some, None, length};
+ghost use Rattle.std.specs.Prelude.{◌≡◌, ◌≢◌, ◌⊎◌, ◌↔◌, ◌+◌, ◌^◌, ◌<◌, ◌≤◌, ℕ, true, false, List, [], Some, None, length};
 ghost use Rattle.cs_chunk.specs.Chunks.{IsPutWorn};
 ghost use Rattle.cs_chunk.specs.Reads.{fault_at, refusal_for as refusal_of_fault};
 ghost use Rattle.cs_deps.specs.Refusals.{number_of};
@@ -95,8 +95,8 @@ pub fn move_refusals_agree()
         → WouldPass (shape x) (formats_of (shape x)) s (MoveOne e) ↔ IsWorn g.staging (length (chunk_frame x payload)) }
 {}
 
-/// BeginSweep is refused exactly where the extent can't be swept; MoveOne, Retire and Abandon are where it isn't being swept,
-/// and Abandon for nothing else.
+/// Where the store isn't halted: BeginSweep is refused exactly where the extent can't be swept; MoveOne, Retire and Abandon are refused 33
+/// where it isn't being swept, and Abandon for nothing else.
 pub fn sweep_refusals_agree()
     ensures begin_sweep { (F : Formats) (x : ExtentsState) (g : GraphState) (i : IndexState) (s : State) (e : ℕ) (f : Ground)
         → ArePartsOf x g i s → s.halted ≡ false

@@ -4,13 +4,13 @@ use Rattle.cs_deps.specs.declared.elements.Element.{Element}
 use Rattle.cs_core.specs.declared.events.Event.TheVariants.{Abandon, BeginSweep, Issue, Stage}
 use Rattle.cs_core.specs.declared.events.Reply.{Reply}
 use Rattle.cs_core.specs.declared.events.Reply.TheVariants.{Abandoned, Issued, Refused, Staged, Sweeping, Unchanged}
-use Rattle.cs_core.specs.Shapes.{MayAnswer}
+use Rattle.cs_core.specs.Replies.{MayAnswer}
 use Rattle.cs_core.specs.Stored.{Stored}
 use Rattle.cs_core.specs.Writebacks.{WritesBack}
 use Rattle.cs_script.specs.Histories.{IsNoRefusal}
-use Rattle.cs_script.specs.Scripts.{IsStaged}
+use Rattle.cs_script.specs.Scripts.{IsStageDone}
 
-pub staged_of : (reply : Reply) → MayAnswer Stage reply → IsNoRefusal reply → IsStaged reply
+pub staged_of : (reply : Reply) → MayAnswer Stage reply → IsNoRefusal reply → IsStageDone reply
 staged_of (Staged v) may none = inl (v, refl)
 staged_of Unchanged may none = inr refl
 staged_of (Refused r) may none = absurd none

@@ -28,7 +28,7 @@ module _ {D : Type 0} (honest : D → Type 0) (state : D → DiskState) (page_co
 
   -- no core goes on
   pub ends : {T : Type 0} (mask : List Bool) (old : View D) (r : Refusal) (count status : ℕ) (a b c : Option (List ℕ)) → count ≡ kept_count mask → Appends a b (crash_line count (length mask))
-      → IsCrash honest state page_count can_crash volatile_count failure_count (says_crash mask) old mask → IsNotReopened honest state page_count can_crash volatile_count failure_count mask old r
+      → IsCrash can_crash volatile_count (says_crash mask) old mask → IsNotReopened honest state page_count can_crash volatile_count failure_count mask old r
       → ((status ≡ 3) × Appends b c (refusal_line r)) ⊎ (status ≡ 4)
       → ((status ≡ 3) × (◌≡◌ {A = Option T} None None) × ((out : List ℕ) × CrashesForGood honest state page_count can_crash volatile_count failure_count (says_crash mask) old out × Appends a c out)) ⊎ (status ≡ 4)
   ends mask old r count status a b c e first is_crash why (inl (is, second)) = inl (

@@ -113,21 +113,21 @@ module _ {D : Type 0} (honest : D → Type 0) (state : D → DiskState) (page_co
 
   -- a readable `crash`
   pub on_crash : {E : Type 0} (said said' : Said) (mask : List Bool) (old : View D) (status : ℕ) (a b : Option (List ℕ)) (r : Result (View D × ℕ) E) → said ≡ said'
-      → IsCrash honest state page_count can_crash volatile_count failure_count said old mask
+      → IsCrash can_crash volatile_count said old mask
       → IfOk r (λ on. (on.1 ≡ status) × ((out : List ℕ) × Crashes honest state page_count can_crash volatile_count failure_count mask old on.0 out × Appends a b out))
       → IfOk r (λ on. (out : List ℕ) × GoesOnWith said' old status on.0 on.1 out × Appends a b out)
   on_crash said said' mask old status a b (Ok on) e is_crash (is, (out, crashes, printed)) =
-      (out, inr (mask, subst (λ s. IsCrash honest state page_count can_crash volatile_count failure_count s old mask) e is_crash, crashes, is), printed)
+      (out, inr (mask, subst (λ s. IsCrash can_crash volatile_count s old mask) e is_crash, crashes, is), printed)
   on_crash said said' mask old status a b (Err x) e is_crash h = tt
 
   pub ended_crash : {A : Type 0} (said said' : Said) (mask : List Bool) (old : View D) (a b : Option (List ℕ)) (r : Result A (Ran D)) → said ≡ said'
-      → IsCrash honest state page_count can_crash volatile_count failure_count said old mask
+      → IsCrash can_crash volatile_count said old mask
       → IfErr r (Ended (says_crash mask) old a b) → IfErr r (Ended said' old a b)
   ended_crash said said' mask old a b r e is_crash h = subst (λ s. IfErr r (Ended s old a b)) (sym is_crash.0 ∙ e) h
 
   -- any other line
   pub on_answer : {E : Type 0} (said said' heard : Said) (can : Bool) (old : View D) (status : ℕ) (a b : Option (List ℕ)) (r : Result (View D × ℕ) E) → said ≡ said'
-      → ((mask : List Bool) → ¬ IsCrash honest state page_count can_crash volatile_count failure_count said old mask)
+      → ((mask : List Bool) → ¬ IsCrash can_crash volatile_count said old mask)
       → (IsTrue can ↔ can_crash old.disk) → heard ≡ said_to can said
       → IfOk r (λ on. (on.1 ≡ status_after heard status) × ((out : List ℕ) × Answers honest state heard old on.0 out × Appends a b out))
       → IfOk r (λ on. (out : List ℕ) × GoesOnWith said' old status on.0 on.1 out × Appends a b out)

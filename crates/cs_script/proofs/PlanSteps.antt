@@ -21,7 +21,7 @@ use Rattle.cs_deps.proofs.InTurn.{everything_is_all, in_turn_is_a_plan}
 use Rattle.cs_disk.specs.Disk.{State as DiskState}
 use Rattle.cs_core.specs.declared.events.Event.TheVariants.{Stage}
 use Rattle.cs_core.specs.declared.events.Reply.{Reply}
-use Rattle.cs_core.specs.Shapes.{MayAnswer}
+use Rattle.cs_core.specs.Replies.{MayAnswer}
 use Rattle.cs_core.specs.Views.{View}
 use Rattle.cs_script.specs.Histories.{Goes, IsNoRefusal}
 use Rattle.cs_script.specs.Outputs.{round_line, round_lines}

@@ -10,7 +10,7 @@ use Rattle.cs_core.specs.declared.events.Event.{Event}
 use Rattle.cs_core.specs.declared.events.Event.TheVariants.{Abandon, BeginSweep, MoveOne, Retire}
 use Rattle.cs_core.specs.declared.events.Reply.{Reply}
 use Rattle.cs_core.specs.declared.events.Reply.TheVariants.{Abandoned, Moved, NoneLive, Retired, Sweeping}
-use Rattle.cs_core.specs.Shapes.{MayAnswer}
+use Rattle.cs_core.specs.Replies.{MayAnswer}
 use Rattle.cs_core.specs.Views.{View}
 use Rattle.cs_script.specs.Histories.{Goes, IsNoRefusal, IsStopped, Went}
 use Rattle.cs_script.specs.Scripts.{Abandons, IsSweepRefused, StopsSweep, Sweeps, moves}

@@ -12,7 +12,7 @@ use Rattle.cs_core.specs.declared.events.Event.{Event}
 use Rattle.cs_core.specs.declared.events.Event.TheVariants.{Begin, End, Stage}
 use Rattle.cs_core.specs.declared.events.Reply.{Reply}
 use Rattle.cs_core.specs.declared.events.Reply.TheVariants.{Ended}
-use Rattle.cs_core.specs.Shapes.{MayAnswer}
+use Rattle.cs_core.specs.Replies.{MayAnswer}
 use Rattle.cs_core.specs.Stored.{Stored}
 use Rattle.cs_core.specs.Views.{View}
 use Rattle.cs_script.specs.declared.syncs.Stop.{Stop}
@@ -21,7 +21,7 @@ use Rattle.cs_script.specs.Histories.{Goes, IsNoRefusal, IsStopped, Went}
 use Rattle.cs_script.specs.Lines.{says_sync}
 use Rattle.cs_script.specs.Outputs.{round_line, round_lines, chain_line, flushes_line, acknowledged_line, refusal_line}
 use Rattle.cs_script.specs.Rounds.{IsPart, Turn, elements_of, events_of, events_of_all, issues, rounds_of}
-use Rattle.cs_script.specs.Scripts.{Answers, Finishes, IsPlanOf, Syncs}
+use Rattle.cs_script.specs.Scripts.{Answers, Finishes, IsBestOfAll, Syncs}
 use Rattle.cs_script.specs.Stops.{StopsAfter, StopsInRounds}
 use Rattle.cs_script.proofs.Appended.{appends_then, appends_same}
 use Rattle.cs_script.proofs.Asked.{stage_does, staged_of}
@@ -144,7 +144,7 @@ module _ {D : Type 0} (honest : D → Type 0) (state : D → DiskState) where
   -- all is printed
   pub synced : (old ended staged new : View D) (c0 c1 c2 c3 c4 c5 : Option (List ℕ)) (reply : Reply) (planned : List (List Element)) (chain : List Element) (n m : ℕ)
       → (out : List ℕ) × Finishes honest state old ended out × Appends c0 c1 out → Goes honest state ended Stage reply staged → MayAnswer Stage reply → IsNoRefusal reply
-      → IsKept staged.store.graph.staging → IsPlanOf staged.store planned chain
+      → IsKept staged.store.graph.staging → IsBestOfAll staged.store planned chain
       → (turns : List Turn) × (n ≡ length turns) × Went honest state staged (events_of_all turns) new × Appends c1 c2 (round_lines 1 (rounds_of turns))
       → new.store.graph.staging.pending.waiting ≡ []
       → Appends c2 c3 (chain_line chain) → Appends c3 c4 (flushes_line n) → m ≡ new.store.frontier → Appends c4 c5 (acknowledged_line m)

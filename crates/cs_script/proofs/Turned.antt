@@ -14,7 +14,7 @@ use Rattle.cs_core.specs.declared.events.Event.{Event}
 use Rattle.cs_core.specs.declared.events.Event.TheVariants.{Begin, End, Issue}
 use Rattle.cs_core.specs.declared.events.Reply.{Reply}
 use Rattle.cs_core.specs.declared.events.Reply.TheVariants.{Begun, Ended, Issued}
-use Rattle.cs_core.specs.Shapes.{MayAnswer}
+use Rattle.cs_core.specs.Replies.{MayAnswer}
 use Rattle.cs_core.specs.Stored.{Stored, members_of}
 use Rattle.cs_core.specs.Views.{View}
 use Rattle.cs_core.specs.Writebacks.{IsRoundBegun, IsMemberIssued, IsRoundEnded}

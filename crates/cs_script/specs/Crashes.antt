@@ -14,11 +14,11 @@ use Rattle.cs_script.specs.Outputs.{crash_line, open_line, refusal_line}
 abbrev pub kept_count : List Bool → ℕ
 kept_count mask = count_by (λ b. b) mask
 
-module _ {D : Type 0} (honest : D → Type 0) (state : D → DiskState) (page_count : D → ℕ) (can_crash : D → Type 0) (volatile_count : D → ℕ) (failure_count : D → ℕ) where
-  -- a readable line `crash`: it has one digit for each volatile write of a disk that can crash
-  abbrev pub IsCrash : Said → View D → List Bool → Type 0
-  IsCrash said v mask = (said ≡ says_crash mask) × can_crash v.disk × (length mask ≡ volatile_count v.disk)
+-- a line `crash` that fits the disk: the disk can crash, and the line has one digit for each of its volatile writes
+abbrev pub IsCrash : {D : Type 0} → (can_crash : D → Type 0) → (volatile_count : D → ℕ) → Said → View D → List Bool → Type 0
+IsCrash can_crash volatile_count said v mask = (said ≡ says_crash mask) × can_crash v.disk × (length mask ≡ volatile_count v.disk)
 
+module _ {D : Type 0} (honest : D → Type 0) (state : D → DiskState) (page_count : D → ℕ) (can_crash : D → Type 0) (volatile_count : D → ℕ) (failure_count : D → ℕ) where
   -- The disk crashed, and kept those of its volatile writes for which the mask says true.
   pub record IsCrashed (mask : List Bool) (before after : D) : Type 0 where
     pub image : honest before → state after ≡ crashed (state before) mask
@@ -61,5 +61,5 @@ module _ {D : Type 0} (honest : D → Type 0) (state : D → DiskState) (page_co
 
   -- the disk crashes, and the store that is left isn't opened: that is printed
   abbrev pub CrashesForGood : Said → View D → List ℕ → Type 0
-  CrashesForGood said old out = (mask : List Bool) × IsCrash said old mask × (r : Refusal) × IsNotReopened mask old r
+  CrashesForGood said old out = (mask : List Bool) × IsCrash can_crash volatile_count said old mask × (r : Refusal) × IsNotReopened mask old r
       × (out ≡ crash_line (kept_count mask) (length mask) ++ refusal_line r)

@@ -37,12 +37,12 @@ pub record IsBest (g : Pending) (target : Named) (rounds : List (List Element)) 
   pub heights : AreRounds g target rounds
 
 -- these are a best plan of all that waits in this store
-abbrev pub IsPlanOf : Stored → List (List Element) → List Element → Type 0
-IsPlanOf s rounds chain = IsBest s.graph.staging.pending (everything s.graph.staging) rounds chain
+abbrev pub IsBestOfAll : Stored → List (List Element) → List Element → Type 0
+IsBestOfAll s rounds chain = IsBest s.graph.staging.pending (everything s.graph.staging) rounds chain
 
 -- a Stage that isn't refused
-abbrev pub IsStaged : Reply → Type 0
-IsStaged reply = ((v : ℕ) × (reply ≡ Staged v)) ⊎ (reply ≡ Unchanged)
+abbrev pub IsStageDone : Reply → Type 0
+IsStageDone reply = ((v : ℕ) × (reply ≡ Staged v)) ⊎ (reply ≡ Unchanged)
 
 -- a chunk of each of these identifiers is moved
 abbrev pub moves : ℕ → List (ShardId × ℕ) → List (Event × Reply)
@@ -76,14 +76,14 @@ document_letters = codes "sr"
 
 -- the document of a best plan of all that waits, which has one, is printed as one line, where no round is out
 abbrev pub Documents : Stored → List ℕ → Type 0
-Documents s out = (s.out ≡ None) × (rounds : List (List Element)) × (chain : List Element) × (text : List ℕ) × IsPlanOf s rounds chain
+Documents s out = (s.out ≡ None) × (rounds : List (List Element)) × (chain : List Element) × (text : List ℕ) × IsBestOfAll s rounds chain
     × HasDocument document_letters s.graph.staging.pending (everything s.graph.staging) rounds chain
     × IsTextOf text document_letters s.graph.staging.pending (everything s.graph.staging) rounds chain × (out ≡ line_of text)
 
 -- a round is out; or there is no memory; or a best plan can't be written
 abbrev pub IsDocumentRefused : Stored → Refusal → Type 0
 IsDocumentRefused s r = ((s.out ≢ None) × (r ≡ refusal.InFlight)) ⊎ (r ≡ refusal.OutOfMemory)
-    ⊎ ((r ≡ refusal.BadDocument) × (rounds : List (List Element)) × (chain : List Element) × IsPlanOf s rounds chain
+    ⊎ ((r ≡ refusal.BadDocument) × (rounds : List (List Element)) × (chain : List Element) × IsBestOfAll s rounds chain
     × (¬ HasDocument document_letters s.graph.staging.pending (everything s.graph.staging) rounds chain))
 
 module _ {D : Type 0} (honest : D → Type 0) (state : D → DiskState) where
@@ -110,11 +110,11 @@ module _ {D : Type 0} (honest : D → Type 0) (state : D → DiskState) where
     pub staged : View D
     pub reply : Reply
     pub stages : Went honest state ended ((Stage, reply) ∷ []) staged
-    pub is_staged : IsStaged reply
+    pub is_staged : IsStageDone reply
     pub turns : List Turn
     pub chain : List Element
     pub turned : Went honest state staged (events_of_all turns) new
-    pub best : IsPlanOf staged.store (rounds_of turns) chain
+    pub best : IsBestOfAll staged.store (rounds_of turns) chain
     pub none_out : new.store.out ≡ None
     pub none_waiting : new.store.graph.staging.pending.waiting ≡ []
     pub none_changed : new.store.index.table ≡ []
@@ -126,7 +126,7 @@ module _ {D : Type 0} (honest : D → Type 0) (state : D → DiskState) where
 
   -- an event of a later round is refused, after a Stage and these turns, or there is no memory to plan them
   abbrev pub StopsInTurn : View D → List Turn → View D → Refusal → Type 0
-  StopsInTurn ended turns new r = (reply : Reply) × IsStaged reply × (part : List (Event × Reply)) × (event : Event) × IsPart part event
+  StopsInTurn ended turns new r = (reply : Reply) × IsStageDone reply × (part : List (Event × Reply)) × (event : Event) × IsPart part event
       × IsStopped honest state ended ((Stage, reply) ∷ events_of_all turns ++ part) event r new
 
   -- A sync in which the Stage or a later event is refused, after some rounds, which are printed as they end.
@@ -144,11 +144,11 @@ module _ {D : Type 0} (honest : D → Type 0) (state : D → DiskState) where
 
   -- the index's changes are staged where no round is out
   abbrev pub Stages : View D → View D → Type 0
-  Stages old new = (old.store.out ≡ None) × (reply : Reply) × IsStaged reply × Went honest state old ((Stage, reply) ∷ []) new
+  Stages old new = (old.store.out ≡ None) × (reply : Reply) × IsStageDone reply × Went honest state old ((Stage, reply) ∷ []) new
 
   -- the plan of all that waits after a Stage is printed
   abbrev pub Plans : View D → View D → List ℕ → Type 0
-  Plans old new out = Stages old new × (rounds : List (List Element)) × (chain : List Element) × IsPlanOf new.store rounds chain × (out ≡ plan_lines rounds chain)
+  Plans old new out = Stages old new × (rounds : List (List Element)) × (chain : List Element) × IsBestOfAll new.store rounds chain × (out ≡ plan_lines rounds chain)
 
   -- a round is out, and nothing changes; or the Stage is refused; or there is no memory for the plan
   abbrev pub IsPlanRefused : View D → View D → Refusal → Type 0
@@ -223,8 +223,8 @@ module _ {D : Type 0} (honest : D → Type 0) (state : D → DiskState) (page_co
   -- a line that isn't a readable `crash` is answered by the core; and after a crash the core goes on that is opened then
   abbrev pub GoesOn : Said → (old : View D) (status : ℕ) → (new : View D) (after : ℕ) → List ℕ → Type 0
   GoesOn said old status new after out =
-      (((mask : List Bool) → ¬ IsCrash honest state page_count can_crash volatile_count failure_count said old mask) × AnswersOver said old status new after out)
-      ⊎ ((mask : List Bool) × IsCrash honest state page_count can_crash volatile_count failure_count said old mask × Crashes honest state page_count can_crash volatile_count failure_count mask old new out × (after ≡ status))
+      (((mask : List Bool) → ¬ IsCrash can_crash volatile_count said old mask) × AnswersOver said old status new after out)
+      ⊎ ((mask : List Bool) × IsCrash can_crash volatile_count said old mask × Crashes honest state page_count can_crash volatile_count failure_count mask old new out × (after ≡ status))
 
   -- A script runs: nothing is left of it; or its first line is answered and the rest runs; or no store is opened after a crash, and
   -- it ends with no core. Each line ends with a line feed, the last one may end with the text.

@@ -1,6 +1,6 @@
 //! Events that lines ask of the core.
 ghost use Rattle.std.specs.Prelude.{[], IfErr, IfOk};
-ghost use Rattle.cs_core.specs.Shapes.{MayAnswer};
+ghost use Rattle.cs_core.specs.Replies.{MayAnswer};
 ghost use Rattle.cs_script.specs.Histories.{Goes, IsNoRefusal, IsStopped};
 
 use cs_core::{Core, Event, OutOfMemory, Reply};

@@ -16,10 +16,10 @@ use std::alloc::Global;
 use std::io;
 use std::io::Write;
 
-/// The mask of a line `crash`, where it is readable.
+/// The mask of a line `crash`, where the disk can crash and the mask has a digit for each volatile write.
 pub fn mask_of<'a, D: CrashDisk>(core: &Core<D>, line: &'a Line) -> Option<&'a [bool]>
-    ensures { MatchOption result ((mask : List Bool) → ¬ IsCrash D.honest D.state D.page_count D.can_crash D.volatile_count D.failure_count (said_by line.now) core.now mask)
-        (λ mask. IsCrash D.honest D.state D.page_count D.can_crash D.volatile_count D.failure_count (said_by line.now) core.now mask.now) }
+    ensures { MatchOption result ((mask : List Bool) → ¬ IsCrash D.can_crash D.volatile_count (said_by line.now) core.now mask)
+        (λ mask. IsCrash D.can_crash D.volatile_count (said_by line.now) core.now mask.now) }
 {
     match line {
         Line::Crash { mask } => fitting(core.disk(), mask),
@@ -48,7 +48,7 @@ pub fn crash<D: CrashDisk + Drop, W: Write>(
     status: u8,
     writer: &mut W,
 ) -> Result<(Core<D>, u8), Ran<D>>
-    requires { IsCrash D.honest D.state D.page_count D.can_crash D.volatile_count D.failure_count (says_crash mask.now) core mask.now }
+    requires { IsCrash D.can_crash D.volatile_count (says_crash mask.now) core mask.now }
     ensures on { IfOk result (λ on. (on.1 ≡ status) × ((out : List ℕ) × Crashes D.honest D.state D.page_count D.can_crash D.volatile_count D.failure_count mask.now core on.0 out
         × Appends (W.contents writer.old) (W.contents writer.new) out)) }
     ensures ended { IfErr result (λ ran. ((ran.status ≡ 3) × (ran.core ≡ None)
@@ -90,7 +90,7 @@ fn reopen<D: CrashDisk + Drop>(
     core: Core<D>,
     mask: &[bool],
 ) -> Result<Core<D>, Refusal>
-    requires { IsCrash D.honest D.state D.page_count D.can_crash D.volatile_count D.failure_count (says_crash mask.now) core mask.now }
+    requires { IsCrash D.can_crash D.volatile_count (says_crash mask.now) core mask.now }
     ensures opened { IfOk result (λ new. Reopens D.honest D.state D.page_count D.can_crash D.volatile_count D.failure_count mask.now core new) }
     ensures refused { IfErr result (λ refusal. IsNotReopened D.honest D.state D.page_count D.can_crash D.volatile_count D.failure_count mask.now core refusal) }
 {
@@ -100,7 +100,7 @@ fn reopen<D: CrashDisk + Drop>(
     let disk = crashed_disk(core, mask);
     match Core::open(alloc, disk, limits) {
         Ok(core) => {
-            // Its contract tells what every core was opened on.
+            // Called for its contract alone: what every core was opened on.
             core.opened();
             Ok(core)
         }

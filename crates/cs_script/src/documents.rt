@@ -1,5 +1,5 @@
 //! The line `document`. Where the writer fails, it ends with that error.
-ghost use Rattle.std.specs.Prelude.{◌≡◌, ℕ, List, IfErr, IfOk, OnOk, string_bytes};
+ghost use Rattle.std.specs.Prelude.{ℕ, List, IfErr, IfOk, OnOk, string_bytes};
 ghost use Rattle.std.specs.Io.KnownBytes.{Appends};
 ghost use Rattle.cs_script.specs.Lines.{says_document};
 ghost use Rattle.cs_script.specs.Outputs.{line_of};

@@ -5,7 +5,7 @@ ghost use Rattle.cs_deps.specs.Staging.{IsKept};
 ghost use Rattle.cs_deps.specs.View.{rounds_of};
 ghost use Rattle.cs_script.specs.Lines.{says_plan};
 ghost use Rattle.cs_script.specs.Outputs.{plan_lines, round_lines};
-ghost use Rattle.cs_script.specs.Scripts.{Answers, IsPlanOf, IsPlanRefused, Stages};
+ghost use Rattle.cs_script.specs.Scripts.{Answers, IsBestOfAll, IsPlanRefused, Stages};
 
 use crate::asks::ask;
 use crate::outputs::{print_chain, print_flushes, print_refusal, print_round};
@@ -32,7 +32,7 @@ pub fn plan<D: PageDisk, W: Write>(core: &mut Core<D>, writer: &mut W) -> io::Re
 /// OutOfMemory, the changes stay staged.
 fn stage_and_plan<D: PageDisk>(core: &mut Core<D>) -> Result<Plan, Refusal>
     ensures staged { OnOk result (Stages D.honest D.state core.old core.new) }
-    ensures best { IfOk result (λ plan. IsPlanOf core.new.store (rounds_of plan) plan.chain.items) }
+    ensures best { IfOk result (λ plan. IsBestOfAll core.new.store (rounds_of plan) plan.chain.items) }
     ensures refused { IfErr result (λ refusal. IsPlanRefused D.honest D.state core.old core.new refusal) }
 {
     if core.round().is_some() {
@@ -47,7 +47,7 @@ fn stage_and_plan<D: PageDisk>(core: &mut Core<D>) -> Result<Plan, Refusal>
 /// Plans all that waits, where no round is out. Refused 9 OutOfMemory alone.
 pub fn plan_all<D: PageDisk>(core: &Core<D>) -> Result<Plan, Refusal>
     requires { core.now.store.out ≡ None }
-    ensures best { IfOk result (λ plan. IsPlanOf core.now.store (rounds_of plan) plan.chain.items) }
+    ensures best { IfOk result (λ plan. IsBestOfAll core.now.store (rounds_of plan) plan.chain.items) }
     ensures refused { IfErr result (λ refusal. refusal ≡ Refusal.OutOfMemory) }
     ensures kept { IsKept core.now.store.graph.staging }
 {
@@ -63,7 +63,7 @@ fn print_plan<W: Write>(writer: &mut W, plan: &Plan) -> io::Result<()>
     print_flushes(writer, plan.rounds.len())
 }
 
-/// The lines of rounds, from 1 on.
+/// The lines of rounds, numbered from 1.
 fn print_rounds<W: Write>(writer: &mut W, rounds: &[Vec<Element>]) -> io::Result<()>
     ensures { OnOk result (Appends (W.contents writer.old) (W.contents writer.new) (round_lines 1 (map (λ round. round.items) rounds.now))) }
 {

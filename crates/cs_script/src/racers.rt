@@ -1,5 +1,5 @@
 //! What the threads of a race do.
-ghost use Rattle.std.specs.Prelude.{◌≤◌, ◌<◌, IfErr};
+ghost use Rattle.std.specs.Prelude.{◌<◌, IfErr};
 ghost use Rattle.cs_script.specs.Races.{IsNoRace};
 
 use crate::races::Race;

@@ -1,4 +1,5 @@
-//! Races: threads put, get back and poll, beside a pilot and a reclaimer, on one node, which is closed then.
+//! Races: threads put, get back and poll, beside a pilot and a reclaimer, on one node, which is closed then. Where the writer fails, the
+//! status is 4.
 ghost use Rattle.std.specs.Prelude.{◌≡◌, ◌⊎◌, ◌≤◌, ◌<◌, ℕ, List, [], IfErr, IfOk, MatchOption, OnOk};
 ghost use Rattle.std.specs.Io.KnownBytes.{Appends};
 ghost use Rattle.cs_node.specs.Starts.{start_of};
@@ -206,7 +207,7 @@ fn gather<K: Naming>(
     Ok((purses, read_back, last))
 }
 
-/// Closes the node, prints what that answered, and gives the exit status.
+/// Closes the node, prints what that answered below the counts, and gives the exit status, or the writer's error.
 fn close<D: PageDisk + Drop, K: Naming, W: Write>(
     alloc: Global,
     left: Left<D, K>,

@@ -1,5 +1,5 @@
 //! Scripts, line by line. Any write may fail, and nothing says when, so what prints may answer an error.
-ghost use Rattle.std.specs.Prelude.{◌≡◌, ◌⊎◌, ℕ, ◌≤◌, ◌<◌, List, IfErr, IfOk, IsSome, MatchOption, None, OnOk, Some, length};
+ghost use Rattle.std.specs.Prelude.{◌≡◌, ◌⊎◌, ℕ, ◌≤◌, ◌<◌, List, IfErr, IfOk, IsSome, None, OnOk, Some};
 ghost use Rattle.std.specs.Io.BufRead.{strip_last};
 ghost use Rattle.std.specs.Io.KnownBytes.{Appends};
 ghost use Rattle.cs_script.specs.Lines.{said_by, said_of, says_put, says_get, says_delete};
@@ -153,7 +153,7 @@ fn line_to(crashable: bool, line: Line) -> Line
     }
 }
 
-/// Answers a line that is no readable `crash`. It gives the core and the status with which the script goes on, or what it
+/// Answers a line that is no `crash` that fits the disk. It gives the core and the status with which the script goes on, or what it
 /// left behind.
 fn answer_line<D: PageDisk, W: Write>(
     alloc: Global,
@@ -192,7 +192,7 @@ fn answer_and_flush<D: PageDisk, W: Write>(
     Ok(after)
 }
 
-/// Answers a line that is no readable `crash`, and gives the exit status so far.
+/// Answers a line that is no `crash` that fits the disk, and gives the exit status so far.
 fn answer<D: PageDisk, W: Write>(
     alloc: Global,
     core: &mut Core<D>,

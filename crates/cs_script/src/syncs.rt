@@ -1,5 +1,5 @@
 //! The line `sync`. Where the writer fails, it ends with that error.
-ghost use Rattle.std.specs.Prelude.{◌≡◌, ℕ, [], None, List, IfErr, IfOk, OnOk, length};
+ghost use Rattle.std.specs.Prelude.{◌≡◌, ℕ, [], List, IfErr, IfOk, OnOk, length};
 ghost use Rattle.std.specs.Io.KnownBytes.{Appends};
 ghost use Rattle.cs_script.specs.Histories.{Went};
 ghost use Rattle.cs_script.specs.Lines.{says_sync};
@@ -64,6 +64,7 @@ fn write_back<D: PageDisk, W: Write>(core: &mut Core<D>, writer: &mut W) -> Resu
 {
     end_round(core, writer)?;
     ask(core, &Event::Stage)?;
+    // For its chain alone: the rounds are taken one by one, and together they are this plan's.
     let plan = plan_all(core)?;
     let flushes = run_rounds(core, writer)?;
     print_chain(writer, &plan.chain)?;

@@ -1,5 +1,5 @@
 //! Rounds of writeback, whole or what is left of them.
-ghost use Rattle.std.specs.Prelude.{◌≡◌, ◌≢◌, ◌-◌, ℕ, List, [], IfErr, IfOk, OnOk, length};
+ghost use Rattle.std.specs.Prelude.{◌≡◌, ◌≢◌, ◌-◌, List, [], IfErr, IfOk, OnOk, length};
 ghost use Rattle.cs_core.specs.Stored.{members_of};
 ghost use Rattle.cs_core.specs.declared.events.Event.{Event as Asked};
 ghost use Rattle.cs_core.specs.declared.events.Reply.{Reply as Answer};

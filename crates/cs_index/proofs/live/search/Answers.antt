@@ -13,7 +13,7 @@ loop-id-init c = record {
   index = refl;
   after = c.requires.passed;
   none = c.requires.none;
-  small = subst IsSmall (sym c.requires.passed) (small_passed c.args.passed c.check_id.ensures);
+  small = subst IsSmall (sym c.requires.passed) (small_passed c.args.passed c.is_id.ensures);
 }
 
 pub bounds-places-chunk : goal.bounds-places-chunk

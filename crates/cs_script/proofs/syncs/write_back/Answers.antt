@@ -1,7 +1,7 @@
 use Rattle.std.proofs.Common.{List, subst, sym}
 use Rattle.cs_deps.specs.declared.elements.Element.{Element}
 use Rattle.cs_deps.specs.View.{rounds_of}
-use Rattle.cs_script.specs.Scripts.{IsPlanOf}
+use Rattle.cs_script.specs.Scripts.{IsBestOfAll}
 use Rattle.cs_script.specs.Stops.{StopsAfter}
 use Rattle.cs_script.proofs.SyncSteps.{if_refused, if_same, none_staged, stops_at_plan, stops_at_stage, stops_later, synced}
 use Rattle.cs_script.proofs.syncs.write_back.Goals as goal
@@ -39,7 +39,7 @@ pub returns-clause-done : goal.returns-clause-done
 returns-clause-done g c =
     let planned = rounds_of c.in_ok-plan.plan in
     let e = c.in_ok-ask.ensures in
-    let best = subst (λ (chain : List Element). IsPlanOf c.ask.new.core.store planned chain) (sym c.deref.ensures.value) c.in_ok-plan.ensures.best in
+    let best = subst (λ (chain : List Element). IsBestOfAll c.ask.new.core.store planned chain) (sym c.deref.ensures.value) c.in_ok-plan.ensures.best in
     synced g.D.PageDisk.honest g.D.PageDisk.state c.args.core.now c.end_round.new.core c.ask.new.core c.run_rounds.new.core
     (g.W.Write.contents c.args.writer.now) (g.W.Write.contents c.end_round.new.writer) (g.W.Write.contents c.run_rounds.new.writer) (g.W.Write.contents c.print_chain.new.writer) (g.W.Write.contents c.print_flushes.new.writer) (g.W.Write.contents c.print_acknowledged.new.writer)
     c.in_ok-ask.field-0 planned c.deref.result.now c.in_ok-flushes.flushes c.frontier.result

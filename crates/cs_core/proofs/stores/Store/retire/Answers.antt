@@ -10,7 +10,7 @@ use Rattle.cs_core.proofs.Kept.{inside_live, kept_on, moves_retired, swept_retir
 use Rattle.cs_core.proofs.Moves.{moves_refused}
 use Rattle.cs_model.specs.State.{Retire, Retired}
 use Rattle.cs_index.specs.State.{index_of}
-use Rattle.cs_core.specs.Stored.{settled_rooms}
+use Rattle.cs_core.specs.Stored.{but_for_room}
 use Rattle.cs_core.specs.Steps.{Declines, Steps}
 use Rattle.cs_core.proofs.StageSteps.{alive_not, retire_refused, retire_steps, settled_nothing}
 use Rattle.cs_core.proofs.SweepSteps.{retire_unmarked, unswept}
@@ -62,7 +62,7 @@ returns-in-Err-clause-step c = rw (← c.self.view_is) (λ runs.
     let d = c.in-Err.ensures in
     let w : Stored = record v { extents = c.retire.new.extents; graph = c.retire.new.graph; index = c.retire.new.index; roots = c.reserve.new.self.items } in
     let marks : (extents_of v.extents).swept c.in-Some.sweep ≡ true = subst (λ (k : ℕ). (extents_of v.extents).swept k ≡ true) (sym at.0) at.2 in
-    let same : settled_rooms w ≡ settled_rooms v = roomed_roots v c.retire.new.extents c.retire.new.graph c.retire.new.index c.reserve.new.self.items d.unwritten d.unstaged (same_index v.index c.retire.new.index d.refused) c.reserve.ensures.items in
+    let same : but_for_room w ≡ but_for_room v = roomed_roots v c.retire.new.extents c.retire.new.graph c.retire.new.index c.reserve.new.self.items d.unwritten d.unstaged (same_index v.index c.retire.new.index d.refused) c.reserve.ensures.items in
     let answer : Declines v (Retire c.in-Some.sweep) c.in-Err.refusal w = retire_refused v w c.extent_count.ensures.whole runs same c.in-Some.sweep marks c.in-Err.refusal c.in-Err._sweep d.back d.alive d.why d.refusals in
     round_told (λ (u : Stored). Declines v (Retire c.args.extent) c.in-Err.refusal u) w (ap (λ (k : GraphState). k.round) d.unstaged) (subst (λ (k : ℕ). Declines v (Retire k) c.in-Err.refusal w) at.0 answer))
 

@@ -13,7 +13,7 @@ use Rattle.cs_core.specs.Steps.{Answers, Declines, Steps, deleted_or_not, staged
 use Rattle.cs_core.specs.Views.{Serves}
 use Rattle.std.specs.Prelude.{IfOk, MatchOption}
 use Rattle.cs_core.specs.Answered.{IsAnswered}
-use Rattle.cs_core.specs.Stored.{settled_rooms}
+use Rattle.cs_core.specs.Stored.{but_for_room}
 use Rattle.cs_core.specs.Writebacks.{AddsCommand, IsRoundBegun, Stages}
 use Rattle.cs_core.proofs.Answering.{abandon_so, begin_none_so, begin_so, begin_sweep_so, delete_absent_so, delete_so, if_refused_so, no_other, ok_of, put_so, refused_alone, retire_so, stage_none_so, stage_so}
 use Rattle.cs_core.proofs.ServeSteps.{begun_served, declined, if_refused, nothing_served, on_any, on_any_refused, served}
@@ -35,14 +35,14 @@ returns-in-Ok-clause-step c = λ disk.
 
 pub returns-in-Err-clause-answered : goal.returns-in-Err-clause-answered
 returns-in-Err-clause-answered c =
-    let v = settled_rooms c.args.self.now in
-    let w = settled_rooms c.put.new.self in
+    let v = but_for_room c.args.self.now in
+    let w = but_for_room c.put.new.self in
     if_refused_so v w c.args.event.now c.in-Err.refusal c.refused.result c.refused.ensures (λ known. subst (λ (e : Asked). IsAnswered v e (told.Refused c.in-Err.refusal) w) (sym c.in-Put.is) (refused_alone v w (asked.Put c.in-Put.id c.in-Put.bytes) tt c.in-Err.refusal known c.in-Err.ensures.refused))
 
 pub returns-in-Ok-clause-answered : goal.returns-in-Ok-clause-answered
 returns-in-Ok-clause-answered c =
-    let v = settled_rooms c.args.self.now in
-    let w = settled_rooms c.put.new.self in
+    let v = but_for_room c.args.self.now in
+    let w = but_for_room c.put.new.self in
     subst (λ (e : Asked). IsAnswered v e (told.Accepted c.in-Ok.n) w) (sym c.in-Put.is) (put_so v w c.in-Put.id c.in-Put.bytes c.in-Ok.n c.in-Ok.ensures.adds c.put.ensures.round c.in-Ok.ensures.behind)
 
 pub returns-in-Err-delete-clause-step : goal.returns-in-Err-delete-clause-step
@@ -69,24 +69,24 @@ returns-in-Ok-None-clause-step c = λ disk.
 
 pub returns-in-Err-delete-clause-answered : goal.returns-in-Err-delete-clause-answered
 returns-in-Err-delete-clause-answered c =
-    let v = settled_rooms c.args.self.now in
-    let w = settled_rooms c.delete.new.self in
+    let v = but_for_room c.args.self.now in
+    let w = but_for_room c.delete.new.self in
     if_refused_so v w c.args.event.now c.in-Err-delete.refusal c.refused-in-Err-delete.result c.refused-in-Err-delete.ensures (λ known. subst (λ (e : Asked). IsAnswered v e (told.Refused c.in-Err-delete.refusal) w) (sym c.in-Delete.is) (refused_alone v w (asked.Delete c.in-Delete.id) tt c.in-Err-delete.refusal known c.in-Err-delete.ensures.refused))
 
 pub returns-in-Ok-Some-clause-answered : goal.returns-in-Ok-Some-clause-answered
 returns-in-Ok-Some-clause-answered c =
-    let v = settled_rooms c.args.self.now in
-    let w = settled_rooms c.delete.new.self in
+    let v = but_for_room c.args.self.now in
+    let w = but_for_room c.delete.new.self in
     let is_ : c.delete.result ≡ Ok (Some c.in-Ok-Some.n) = search rules in
-    let e = subst (λ (r : Result (Option ℕ) Code). IfOk r (λ deleted. MatchOption deleted (settled_rooms c.delete.new.self ≡ settled_rooms c.args.self.now) (λ n. AddsCommand n c.args.self.now c.delete.new.self))) is_ c.delete.ensures.adds in
+    let e = subst (λ (r : Result (Option ℕ) Code). IfOk r (λ deleted. MatchOption deleted (but_for_room c.delete.new.self ≡ but_for_room c.args.self.now) (λ n. AddsCommand n c.args.self.now c.delete.new.self))) is_ c.delete.ensures.adds in
     subst (λ (e : Asked). IsAnswered v e (told.Accepted c.in-Ok-Some.n) w) (sym c.in-Delete.is) (delete_so v w c.in-Delete.id c.in-Ok-Some.n e c.delete.ensures.round c.delete.ensures.staging)
 
 pub returns-in-Ok-None-clause-answered : goal.returns-in-Ok-None-clause-answered
 returns-in-Ok-None-clause-answered c =
-    let v = settled_rooms c.args.self.now in
-    let w = settled_rooms c.delete.new.self in
+    let v = but_for_room c.args.self.now in
+    let w = but_for_room c.delete.new.self in
     let is_ : c.delete.result ≡ Ok None = search rules in
-    let e = subst (λ (r : Result (Option ℕ) Code). IfOk r (λ deleted. MatchOption deleted (settled_rooms c.delete.new.self ≡ settled_rooms c.args.self.now) (λ n. AddsCommand n c.args.self.now c.delete.new.self))) is_ c.delete.ensures.adds in
+    let e = subst (λ (r : Result (Option ℕ) Code). IfOk r (λ deleted. MatchOption deleted (but_for_room c.delete.new.self ≡ but_for_room c.args.self.now) (λ n. AddsCommand n c.args.self.now c.delete.new.self))) is_ c.delete.ensures.adds in
     subst (λ (e : Asked). IsAnswered v e told.Absent w) (sym c.in-Delete.is) (delete_absent_so v w c.in-Delete.id e)
 
 pub returns-in-Err-stage-clause-step : goal.returns-in-Err-stage-clause-step
@@ -113,24 +113,24 @@ returns-in-Ok-None-stage-clause-step c = λ disk.
 
 pub returns-in-Err-stage-clause-answered : goal.returns-in-Err-stage-clause-answered
 returns-in-Err-stage-clause-answered c =
-    let v = settled_rooms c.args.self.now in
-    let w = settled_rooms c.stage.new.self in
+    let v = but_for_room c.args.self.now in
+    let w = but_for_room c.stage.new.self in
     if_refused_so v w c.args.event.now c.in-Err-stage.refusal c.refused-in-Err-stage.result c.refused-in-Err-stage.ensures (λ known. subst (λ (e : Asked). IsAnswered v e (told.Refused c.in-Err-stage.refusal) w) (sym c.in-Stage.is) (refused_alone v w asked.Stage tt c.in-Err-stage.refusal known c.in-Err-stage.ensures.refused))
 
 pub returns-in-Ok-Some-stage-clause-answered : goal.returns-in-Ok-Some-stage-clause-answered
 returns-in-Ok-Some-stage-clause-answered c =
-    let v = settled_rooms c.args.self.now in
-    let w = settled_rooms c.stage.new.self in
+    let v = but_for_room c.args.self.now in
+    let w = but_for_room c.stage.new.self in
     let is_ : c.stage.result ≡ Ok (Some c.in-Ok-Some-stage.v) = search rules in
-    let e = subst (λ (r : Result (Option ℕ) Code). IfOk r (λ staged. MatchOption staged ((c.args.self.now.index.table ≡ []) × (settled_rooms c.stage.new.self ≡ settled_rooms c.args.self.now)) (λ v. c.stage.new.self.index.table ≡ []))) is_ c.stage.ensures.staged in
+    let e = subst (λ (r : Result (Option ℕ) Code). IfOk r (λ staged. MatchOption staged ((c.args.self.now.index.table ≡ []) × (but_for_room c.stage.new.self ≡ but_for_room c.args.self.now)) (λ v. c.stage.new.self.index.table ≡ []))) is_ c.stage.ensures.staged in
     subst (λ (e : Asked). IsAnswered v e (told.Staged c.in-Ok-Some-stage.v) w) (sym c.in-Stage.is) (stage_so v w c.in-Ok-Some-stage.v e c.stage.ensures.round (ok_of (Stages v w) c.stage.result (Some c.in-Ok-Some-stage.v) is_ c.stage.ensures.behind))
 
 pub returns-in-Ok-None-stage-clause-answered : goal.returns-in-Ok-None-stage-clause-answered
 returns-in-Ok-None-stage-clause-answered c =
-    let v = settled_rooms c.args.self.now in
-    let w = settled_rooms c.stage.new.self in
+    let v = but_for_room c.args.self.now in
+    let w = but_for_room c.stage.new.self in
     let is_ : c.stage.result ≡ Ok None = search rules in
-    let e = subst (λ (r : Result (Option ℕ) Code). IfOk r (λ staged. MatchOption staged ((c.args.self.now.index.table ≡ []) × (settled_rooms c.stage.new.self ≡ settled_rooms c.args.self.now)) (λ v. c.stage.new.self.index.table ≡ []))) is_ c.stage.ensures.staged in
+    let e = subst (λ (r : Result (Option ℕ) Code). IfOk r (λ staged. MatchOption staged ((c.args.self.now.index.table ≡ []) × (but_for_room c.stage.new.self ≡ but_for_room c.args.self.now)) (λ v. c.stage.new.self.index.table ≡ []))) is_ c.stage.ensures.staged in
     subst (λ (e : Asked). IsAnswered v e told.Unchanged w) (sym c.in-Stage.is) (stage_none_so v w e)
 
 pub returns-in-Err-begin-clause-step : goal.returns-in-Err-begin-clause-step
@@ -157,24 +157,24 @@ returns-in-Ok-None-begin-clause-step c = λ disk.
 
 pub returns-in-Err-begin-clause-answered : goal.returns-in-Err-begin-clause-answered
 returns-in-Err-begin-clause-answered c =
-    let v = settled_rooms c.args.self.now in
-    let w = settled_rooms c.begin.new.self in
+    let v = but_for_room c.args.self.now in
+    let w = but_for_room c.begin.new.self in
     if_refused_so v w c.args.event.now c.in-Err-begin.refusal c.refused-in-Err-begin.result c.refused-in-Err-begin.ensures (λ known. subst (λ (e : Asked). IsAnswered v e (told.Refused c.in-Err-begin.refusal) w) (sym c.in-Begin.is) (refused_alone v w asked.Begin tt c.in-Err-begin.refusal known c.in-Err-begin.ensures.refused))
 
 pub returns-in-Ok-Some-begin-clause-answered : goal.returns-in-Ok-Some-begin-clause-answered
 returns-in-Ok-Some-begin-clause-answered c =
-    let v = settled_rooms c.args.self.now in
-    let w = settled_rooms c.begin.new.self in
+    let v = but_for_room c.args.self.now in
+    let w = but_for_room c.begin.new.self in
     let is_ : c.begin.result ≡ Ok (Some (c.in-Ok-Some-begin.told, c.in-Ok-Some-begin.noted)) = search rules in
-    let e = subst (λ (r : Result (Option (Vec Name Global × Vec Name Global)) Code). IfOk r (λ begun. MatchOption begun ((c.args.self.now.graph.staging.pending.waiting ≡ []) × (c.args.self.now.out ≡ None) × (settled_rooms c.begin.new.self ≡ settled_rooms c.args.self.now)) (λ r. IsRoundBegun r.0.items (settled_rooms c.args.self.now) (settled_rooms c.begin.new.self)))) is_ c.begin.ensures.begun in
-    subst (λ (e : Asked). IsAnswered v e (told.Begun c.new.result) w) (sym c.in-Begin.is) (begin_so v w c.new.result (subst (λ (xs : List Name). IsRoundBegun xs (settled_rooms c.args.self.now) (settled_rooms c.begin.new.self)) (sym c.new.ensures) e))
+    let e = subst (λ (r : Result (Option (Vec Name Global × Vec Name Global)) Code). IfOk r (λ begun. MatchOption begun ((c.args.self.now.graph.staging.pending.waiting ≡ []) × (c.args.self.now.out ≡ None) × (but_for_room c.begin.new.self ≡ but_for_room c.args.self.now)) (λ r. IsRoundBegun r.0.items (but_for_room c.args.self.now) (but_for_room c.begin.new.self)))) is_ c.begin.ensures.begun in
+    subst (λ (e : Asked). IsAnswered v e (told.Begun c.new.result) w) (sym c.in-Begin.is) (begin_so v w c.new.result (subst (λ (xs : List Name). IsRoundBegun xs (but_for_room c.args.self.now) (but_for_room c.begin.new.self)) (sym c.new.ensures) e))
 
 pub returns-in-Ok-None-begin-clause-answered : goal.returns-in-Ok-None-begin-clause-answered
 returns-in-Ok-None-begin-clause-answered c =
-    let v = settled_rooms c.args.self.now in
-    let w = settled_rooms c.begin.new.self in
+    let v = but_for_room c.args.self.now in
+    let w = but_for_room c.begin.new.self in
     let is_ : c.begin.result ≡ Ok None = search rules in
-    let e = subst (λ (r : Result (Option (Vec Name Global × Vec Name Global)) Code). IfOk r (λ begun. MatchOption begun ((c.args.self.now.graph.staging.pending.waiting ≡ []) × (c.args.self.now.out ≡ None) × (settled_rooms c.begin.new.self ≡ settled_rooms c.args.self.now)) (λ r. IsRoundBegun r.0.items (settled_rooms c.args.self.now) (settled_rooms c.begin.new.self)))) is_ c.begin.ensures.begun in
+    let e = subst (λ (r : Result (Option (Vec Name Global × Vec Name Global)) Code). IfOk r (λ begun. MatchOption begun ((c.args.self.now.graph.staging.pending.waiting ≡ []) × (c.args.self.now.out ≡ None) × (but_for_room c.begin.new.self ≡ but_for_room c.args.self.now)) (λ r. IsRoundBegun r.0.items (but_for_room c.args.self.now) (but_for_room c.begin.new.self)))) is_ c.begin.ensures.begun in
     subst (λ (e : Asked). IsAnswered v e told.Nothing w) (sym c.in-Begin.is) (begin_none_so v w e)
 
 pub returns-in-Err-begin_sweep-clause-step : goal.returns-in-Err-begin_sweep-clause-step
@@ -193,14 +193,14 @@ returns-in-Ok-begin_sweep-clause-step c = λ disk.
 
 pub returns-in-Err-begin_sweep-clause-answered : goal.returns-in-Err-begin_sweep-clause-answered
 returns-in-Err-begin_sweep-clause-answered c =
-    let v = settled_rooms c.args.self.now in
-    let w = settled_rooms c.begin_sweep.new.self in
+    let v = but_for_room c.args.self.now in
+    let w = but_for_room c.begin_sweep.new.self in
     if_refused_so v w c.args.event.now c.in-Err-begin_sweep.refusal c.refused-in-Err-begin_sweep.result c.refused-in-Err-begin_sweep.ensures (λ known. subst (λ (e : Asked). IsAnswered v e (told.Refused c.in-Err-begin_sweep.refusal) w) (sym c.in-BeginSweep.is) (refused_alone v w (asked.BeginSweep c.in-BeginSweep.e) tt c.in-Err-begin_sweep.refusal known c.in-Err-begin_sweep.ensures.refused))
 
 pub returns-in-Ok-begin_sweep-clause-answered : goal.returns-in-Ok-begin_sweep-clause-answered
 returns-in-Ok-begin_sweep-clause-answered c =
-    let v = settled_rooms c.args.self.now in
-    let w = settled_rooms c.begin_sweep.new.self in
+    let v = but_for_room c.args.self.now in
+    let w = but_for_room c.begin_sweep.new.self in
     subst (λ (e : Asked). IsAnswered v e told.Sweeping w) (sym c.in-BeginSweep.is) (begin_sweep_so v w c.in-BeginSweep.e c.begin_sweep.ensures.round c.begin_sweep.ensures.staging)
 
 pub returns-in-Err-retire-clause-step : goal.returns-in-Err-retire-clause-step
@@ -219,14 +219,14 @@ returns-in-Ok-retire-clause-step c = λ disk.
 
 pub returns-in-Err-retire-clause-answered : goal.returns-in-Err-retire-clause-answered
 returns-in-Err-retire-clause-answered c =
-    let v = settled_rooms c.args.self.now in
-    let w = settled_rooms c.retire.new.self in
+    let v = but_for_room c.args.self.now in
+    let w = but_for_room c.retire.new.self in
     if_refused_so v w c.args.event.now c.in-Err-retire.refusal c.refused-in-Err-retire.result c.refused-in-Err-retire.ensures (λ known. subst (λ (e : Asked). IsAnswered v e (told.Refused c.in-Err-retire.refusal) w) (sym c.in-Retire.is) (refused_alone v w (asked.Retire c.in-Retire.e) tt c.in-Err-retire.refusal known c.in-Err-retire.ensures.refused))
 
 pub returns-in-Ok-retire-clause-answered : goal.returns-in-Ok-retire-clause-answered
 returns-in-Ok-retire-clause-answered c =
-    let v = settled_rooms c.args.self.now in
-    let w = settled_rooms c.retire.new.self in
+    let v = but_for_room c.args.self.now in
+    let w = but_for_room c.retire.new.self in
     subst (λ (e : Asked). IsAnswered v e (told.Retired c.in-Ok-retire.v) w) (sym c.in-Retire.is) (retire_so v w c.in-Retire.e c.in-Ok-retire.v c.in-Ok-retire.ensures.staged c.retire.ensures.round c.in-Ok-retire.ensures.behind)
 
 pub returns-in-Err-abandon-clause-step : goal.returns-in-Err-abandon-clause-step
@@ -245,14 +245,14 @@ returns-in-Ok-abandon-clause-step c = λ disk.
 
 pub returns-in-Err-abandon-clause-answered : goal.returns-in-Err-abandon-clause-answered
 returns-in-Err-abandon-clause-answered c =
-    let v = settled_rooms c.args.self.now in
-    let w = settled_rooms c.abandon.new.self in
+    let v = but_for_room c.args.self.now in
+    let w = but_for_room c.abandon.new.self in
     if_refused_so v w c.args.event.now c.in-Err-abandon.refusal c.refused-in-Err-abandon.result c.refused-in-Err-abandon.ensures (λ known. subst (λ (e : Asked). IsAnswered v e (told.Refused c.in-Err-abandon.refusal) w) (sym c.in-Abandon.is) (refused_alone v w (asked.Abandon c.in-Abandon.e) tt c.in-Err-abandon.refusal known c.in-Err-abandon.ensures.refused))
 
 pub returns-in-Ok-abandon-clause-answered : goal.returns-in-Ok-abandon-clause-answered
 returns-in-Ok-abandon-clause-answered c =
-    let v = settled_rooms c.args.self.now in
-    let w = settled_rooms c.abandon.new.self in
+    let v = but_for_room c.args.self.now in
+    let w = but_for_room c.abandon.new.self in
     subst (λ (e : Asked). IsAnswered v e told.Abandoned w) (sym c.in-Abandon.is) (abandon_so v w c.in-Abandon.e c.abandon.ensures.round c.abandon.ensures.staging)
 
 pub unreachable-requires : goal.unreachable-requires

@@ -8,7 +8,7 @@ use Rattle.cs_core.specs.declared.events.Event.TheVariants as asked
 use Rattle.cs_core.specs.declared.events.Reply.TheVariants as told
 use Rattle.cs_core.specs.Views.{Serves}
 use Rattle.cs_core.specs.Answered.{IsAnswered}
-use Rattle.cs_core.specs.Stored.{settled_rooms}
+use Rattle.cs_core.specs.Stored.{but_for_room}
 use Rattle.cs_core.proofs.Answering.{end_refused_so, end_so, if_refused_so, issue_refused_so, issue_so, move_none_so, move_so, ok_of, refused_alone}
 use Rattle.cs_core.specs.Writebacks.{Stages}
 use Rattle.cs_core.proofs.ServeSteps.{end_refused, end_served, if_refused, issue_refused, issue_served, move_refused, moved_served, none_live_served}
@@ -33,14 +33,14 @@ returns-in-Ok-clause-step g c = λ honest.
 
 pub returns-in-Err-clause-answered : goal.returns-in-Err-clause-answered
 returns-in-Err-clause-answered g c =
-    let v = settled_rooms c.args.self.now in
-    let w = settled_rooms c.issue.new.self in
+    let v = but_for_room c.args.self.now in
+    let w = but_for_room c.issue.new.self in
     if_refused_so v w c.args.event.now c.in-Err.refusal c.refused.result c.refused.ensures (λ known. subst (λ (e : Asked). IsAnswered v e (told.Refused c.in-Err.refusal) w) (sym c.in-Issue.is) (issue_refused_so v w c.in-Err.refusal known c.in-Err.ensures.issued))
 
 pub returns-in-Ok-clause-answered : goal.returns-in-Ok-clause-answered
 returns-in-Ok-clause-answered g c =
-    let v = settled_rooms c.args.self.now in
-    let w = settled_rooms c.issue.new.self in
+    let v = but_for_room c.args.self.now in
+    let w = but_for_room c.issue.new.self in
     subst (λ (e : Asked). IsAnswered v e (told.Issued c.in-Ok.x c.in-Ok.p) w) (sym c.in-Issue.is) (issue_so v w c.in-Ok.x c.in-Ok.p c.in-Ok.ensures.issued)
 
 pub returns-in-Err-end-clause-step : goal.returns-in-Err-end-clause-step
@@ -62,14 +62,14 @@ returns-in-Ok-end-clause-step g c = λ honest.
 
 pub returns-in-Err-end-clause-answered : goal.returns-in-Err-end-clause-answered
 returns-in-Err-end-clause-answered g c =
-    let v = settled_rooms c.args.self.now in
-    let w = settled_rooms c.end.new.self in
+    let v = but_for_room c.args.self.now in
+    let w = but_for_room c.end.new.self in
     if_refused_so v w c.args.event.now c.in-Err-end.refusal c.refused-in-Err-end.result c.refused-in-Err-end.ensures (λ known. subst (λ (e : Asked). IsAnswered v e (told.Refused c.in-Err-end.refusal) w) (sym c.in-End.is) (end_refused_so v w c.in-Err-end.refusal known c.in-Err-end.ensures.ended))
 
 pub returns-in-Ok-end-clause-answered : goal.returns-in-Ok-end-clause-answered
 returns-in-Ok-end-clause-answered g c =
-    let v = settled_rooms c.args.self.now in
-    let w = settled_rooms c.end.new.self in
+    let v = but_for_room c.args.self.now in
+    let w = but_for_room c.end.new.self in
     subst (λ (e : Asked). IsAnswered v e (told.Ended c.in-Ok-end.n) w) (sym c.in-End.is) (end_so v w c.in-Ok-end.n c.in-Ok-end.ensures.ended)
 
 pub returns-in-Ok-Some-clause-step : goal.returns-in-Ok-Some-clause-step
@@ -103,18 +103,18 @@ returns-in-Err-move_one-clause-step g c = λ honest.
 
 pub returns-in-Err-move_one-clause-answered : goal.returns-in-Err-move_one-clause-answered
 returns-in-Err-move_one-clause-answered g c =
-    let v = settled_rooms c.args.self.now in
-    let w = settled_rooms c.move_one.new.self in
+    let v = but_for_room c.args.self.now in
+    let w = but_for_room c.move_one.new.self in
     if_refused_so v w c.args.event.now c.in-Err-move_one.refusal c.refused-in-Err-move_one.result c.refused-in-Err-move_one.ensures (λ known. subst (λ (e : Asked). IsAnswered v e (told.Refused c.in-Err-move_one.refusal) w) (sym c.in-MoveOne.is) (refused_alone v w (asked.MoveOne c.in-MoveOne.e) tt c.in-Err-move_one.refusal known c.in-Err-move_one.ensures.refused))
 
 pub returns-in-Ok-Some-clause-answered : goal.returns-in-Ok-Some-clause-answered
 returns-in-Ok-Some-clause-answered g c =
-    let v = settled_rooms c.args.self.now in
-    let w = settled_rooms c.move_one.new.self in
+    let v = but_for_room c.args.self.now in
+    let w = but_for_room c.move_one.new.self in
     subst (λ (e : Asked). IsAnswered v e (told.Moved c.in-Ok-Some.id c.in-Ok-Some.chunk) w) (sym c.in-MoveOne.is) (move_so v w c.in-MoveOne.e c.in-Ok-Some.id c.in-Ok-Some.chunk c.move_one.ensures.round (ok_of (Stages v w) c.move_one.result (Some (c.in-Ok-Some.id, c.in-Ok-Some.chunk)) (search rules) c.move_one.ensures.behind))
 
 pub returns-in-Ok-None-clause-answered : goal.returns-in-Ok-None-clause-answered
 returns-in-Ok-None-clause-answered g c =
-    let v = settled_rooms c.args.self.now in
-    let w = settled_rooms c.move_one.new.self in
+    let v = but_for_room c.args.self.now in
+    let w = but_for_room c.move_one.new.self in
     subst (λ (e : Asked). IsAnswered v e told.NoneLive w) (sym c.in-MoveOne.is) (move_none_so v w c.in-MoveOne.e (c.move_one.ensures.none (search rules)))

@@ -2,7 +2,7 @@ use Rattle.std.proofs.Common.{◌≡◌, ◌⊎◌, ◌<◌, ◌≤◌, refl, sy
 use Rattle.cs_core.specs.declared.events.Event.TheVariants as asked
 use Rattle.cs_core.specs.declared.events.Reply.TheVariants as told
 use Rattle.cs_core.specs.Views.{Serves}
-use Rattle.cs_core.specs.Stored.{settled_rooms}
+use Rattle.cs_core.specs.Stored.{but_for_room}
 use Rattle.cs_core.proofs.Answering.{not_yet_so, persistent_so}
 use Rattle.cs_core.proofs.ServeSteps.{not_yet_served, persistent_served}
 use Rattle.cs_core.proofs.stores.Store.serve_settle.Goals.{else-n-ge1-via-then-n-ge1+else-n-frontier, else-n-ge1-via-else-n-ge1}
@@ -19,8 +19,8 @@ returns-else-n-ge1-clause-step c = λ disk.
     elim c.else-n-ge1.branch [ else-n-ge1-via-then-n-ge1+else-n-frontier w ↦ inr w.if-n-frontier.false | else-n-ge1-via-else-n-ge1 w ↦ inl (omega (arith, w.if-n-ge1.false)) ])))
 
 pub returns-then-n-frontier-clause-answered : goal.returns-then-n-frontier-clause-answered
-returns-then-n-frontier-clause-answered c = persistent_so (settled_rooms c.args.self.now) (settled_rooms c.args.self.now) c.args.n c.if-n-ge1.true refl
+returns-then-n-frontier-clause-answered c = persistent_so (but_for_room c.args.self.now) (but_for_room c.args.self.now) c.args.n c.if-n-ge1.true refl
 
 pub returns-else-n-ge1-clause-answered : goal.returns-else-n-ge1-clause-answered
-returns-else-n-ge1-clause-answered c = not_yet_so (settled_rooms c.args.self.now) (settled_rooms c.args.self.now) c.args.n c.frontier-frontier.result (
+returns-else-n-ge1-clause-answered c = not_yet_so (but_for_room c.args.self.now) (but_for_room c.args.self.now) c.args.n c.frontier-frontier.result (
     elim c.else-n-ge1.branch [ else-n-ge1-via-then-n-ge1+else-n-frontier w ↦ inr w.if-n-frontier.false | else-n-ge1-via-else-n-ge1 w ↦ inl (omega (arith, w.if-n-ge1.false)) ]) refl

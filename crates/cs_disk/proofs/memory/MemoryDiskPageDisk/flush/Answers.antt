@@ -9,8 +9,8 @@ returns-clause-time c = elapses_call _ _ _ _ c.note.ensures
 
 pub invariant_of-self-clause-durable : goal.invariant_of-self-clause-durable
 invariant_of-self-clause-durable c =
-    subst (λ (s : State). Pages 4096 s.durable) (sym c.settle.ensures.state) (applied_whole (λ bytes. length bytes ≡ 4096) _ _ c.args.self.now.durable c.args.self.now.volatile)
+    subst (λ (s : State). Pages 4096 s.durable) (sym c.make_durable.ensures.state) (applied_whole (λ bytes. length bytes ≡ 4096) _ _ c.args.self.now.durable c.args.self.now.volatile)
 
 pub invariant_of-self-clause-durable_bytes : goal.invariant_of-self-clause-durable_bytes
 invariant_of-self-clause-durable_bytes c =
-    subst (λ (s : State). BytePages s.durable) (sym c.settle.ensures.state) (applied_whole IsBytes _ _ c.args.self.now.durable_bytes c.args.self.now.volatile_bytes)
+    subst (λ (s : State). BytePages s.durable) (sym c.make_durable.ensures.state) (applied_whole IsBytes _ _ c.args.self.now.durable_bytes c.args.self.now.volatile_bytes)

@@ -11,7 +11,7 @@ use Rattle.cs_index.proofs.indexes.Index.load.Goals.{After-deref-2}
 stored : (c : After-deref-2) → AllByRecursion IsStored (newest_first c.args.runs.items)
 stored c =
     stored_runs c.args.runs.items
-    (subst (λ (runs : List StoredRun). AllByRecursion (λ run. AllByRecursion (λ entry. IsId entry.0) run.entries.items) runs) c.deref.ensures.value c.check_ids.ensures) c.requires.runs
+    (subst (λ (runs : List StoredRun). AllByRecursion (λ run. AllByRecursion (λ entry. IsId entry.0) run.entries.items) runs) c.deref.ensures.value c.are_ids.ensures) c.requires.runs
 
 pub count_names-named-requires-clause-stored : goal.count_names-named-requires-clause-stored
 count_names-named-requires-clause-stored c = subst (λ (runs : List StoredRun). AllByRecursion IsStored (newest_first runs)) (sym c.deref-2.ensures.value) (stored c)
