@@ -88,7 +88,7 @@ fn is_id(id: Option<ShardId>)
     }
 }
 
-/// The first live chunk on the extent, by identifier and then by chunk; and the last identifier before
+/// Of the live chunks on the extent the first, by identifier and then by chunk; and the last identifier before
 /// it, or of all where nothing is live there. Reads on behind the identifier that is passed already.
 pub fn search(
     entries: Entries<'_>,
