@@ -1,5 +1,5 @@
 -- A graph in which room was made is the same graph.
-use Rattle.std.proofs.Common.{◌≡◌, ◌∙◌, ◌+◌, ◌≤◌, ℕ, List, sym, ap, subst}
+use Rattle.std.proofs.Common.{◌≡◌, ◌∙◌, ◌+◌, ◌≤◌, ℕ, List, sym, ap, subst, arith}
 use Rattle.std.specs.Prelude.{nat_eq, option_map, vec_len, vec_capacity}
 use Rattle.std.specs.HashMap.{get as get_number, spare}
 use Rattle.slab.specs.Slab.{Slab, get, HasRoomFor}
@@ -13,7 +13,7 @@ use Rattle.cs_deps.specs.Records.{AreFiled, writes_of}
 use Rattle.cs_deps.specs.State.{State}
 use Rattle.cs_deps.specs.Entries.{state_of, IsHeld}
 use Rattle.cs_deps.specs.Levels.{HasRoom, IsSameBut, live_of}
-use Rattle.cs_deps.proofs.FiledSteps.{filed_same}
+use Rattle.cs_deps.proofs.FiledSteps.{filed_same, room_same}
 use Rattle.cs_deps.proofs.Live.{live_same}
 use Rattle.cs_deps.proofs.Noted.{newest_same}
 use Rattle.cs_deps.proofs.Queues.{indexed_same}
@@ -33,6 +33,17 @@ pub record Fits (m : Inside) (room : ℕ) : Type 0 where
   pub records : HasRoomFor m.records room
   pub newest : room ≤ spare m.newest
   pub levels : HasRoom m.levels room
+
+-- what there was room for fits still, where no part has less
+pub still_fits : (g m : Inside) → the_invariant g → IsRoomy g m → vec_len m.entries.list ≡ vec_len g.entries.list → vec_capacity g.entries.list ≤ vec_capacity m.entries.list
+    → vec_len g.entries.places ≤ vec_len m.entries.places → g.records.capacity ≤ m.records.capacity → spare g.newest ≤ spare m.newest → Fits m g.room
+still_fits g m was same count entries places records newest = record {
+  list = omega (arith, was.entries_fit, count, entries);
+  places = omega (arith, was.places_fit, places);
+  records = room_same g.records m.records same.records records g.room was.records_fit;
+  newest = omega (arith, was.newest_fit, newest);
+  levels = same.levels.room g.room was.indexed.room;
+}
 
 -- g with the parts of h that change as elements are staged
 abbrev pub over : Inside → Inside → Inside

@@ -15,7 +15,7 @@ use crate::dependencies::Dependency;
 use crate::elements::{Element, LAST_NUMBER};
 use crate::levels::Levels;
 use crate::pages::{note, noted};
-use crate::records::{Record, clear, give_up, make_room, need_room, record_of};
+use crate::records::{Record, clear, give_up, make_room, record_of};
 use crate::refusals::Refusal;
 use crate::rounds::raise_all;
 use crate::rows::{add_plains, add_versions};
@@ -144,12 +144,13 @@ impl Graph {
         if self.staged >= LAST_NUMBER {
             return Err(Refusal::WornOut);
         }
-        match need_room(
+        match make_room(
             &mut self.entries,
             &mut self.records,
             &mut self.newest,
             &mut self.levels,
             self.room,
+            1,
         ) {
             Ok(made) => {
                 let number = self.staged + 1;
@@ -208,12 +209,13 @@ impl Graph {
         if before >= LAST_NUMBER {
             return Err(Refusal::WornOut);
         }
-        match need_room(
+        match make_room(
             &mut self.entries,
             &mut self.records,
             &mut self.newest,
             &mut self.levels,
             self.room,
+            1,
         ) {
             Ok(made) => {
                 let version = before + 1;

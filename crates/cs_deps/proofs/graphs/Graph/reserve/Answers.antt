@@ -1,7 +1,5 @@
-use Rattle.std.proofs.Common.{arith}
 use Rattle.cs_deps.specs.declared.graphs.Graph.TheInside.{Inside}
-use Rattle.cs_deps.proofs.FiledSteps.{room_same}
-use Rattle.cs_deps.proofs.Roomy.{IsRoomy, held_roomy}
+use Rattle.cs_deps.proofs.Roomy.{IsRoomy, held_roomy, still_fits}
 use Rattle.cs_deps.proofs.graphs.Graph.reserve.Goals.{After-make_room}
 use Rattle.cs_deps.proofs.graphs.Graph.reserve.Goals as goal
 
@@ -21,13 +19,5 @@ invariant_of-self-2 c =
 pub invariant_of-self : goal.invariant_of-self
 invariant_of-self c =
     let at = (goal.at.invariant_of-self c).After-make_room in
-    let g = c.self.inside in
-    let was = c.self.invariant in
     let e = c.make_room.ensures in
-    held_roomy g was (with_room at) (roomy at) g.room (record {
-      list = omega (arith, was.entries_fit, e.entry_count, e.more_entries);
-      places = omega (arith, was.places_fit, e.more_places);
-      records = room_same g.records c.make_room.new.records e.records e.more_records g.room was.records_fit;
-      newest = omega (arith, was.newest_fit, e.more_newest);
-      levels = e.levels.room g.room was.indexed.room;
-    })
+    held_roomy c.self.inside c.self.invariant (with_room at) (roomy at) c.self.inside.room (still_fits c.self.inside (with_room at) c.self.invariant (roomy at) e.entry_count e.more_entries e.more_places e.more_records e.more_newest)

@@ -1,4 +1,5 @@
-use Rattle.std.proofs.Common.{◌∙◌, ◌+◌, List, ap, arith}
+use Rattle.std.proofs.Common.{◌∙◌, ◌+◌, ◌<◌, List, sym, ap, subst, arith}
+use Rattle.std.proofs.Math.Nat.{le-max_right}
 use Rattle.std.specs.Prelude.{◌-◌}
 use Rattle.cs_deps.specs.contracts.graphs.Graph.{the_invariant}
 use Rattle.cs_deps.specs.declared.elements.Element.{Element}
@@ -9,31 +10,31 @@ use Rattle.cs_deps.specs.Staging.{Staging}
 use Rattle.cs_deps.proofs.Added.{TakesOne, IsAdded}
 use Rattle.cs_deps.proofs.Held.{MayBeAdded, high_enough}
 use Rattle.cs_deps.proofs.PlainAdded.{plain_added}
-use Rattle.cs_deps.proofs.Roomy.{IsRoomy, view_roomy, held_roomy}
-use Rattle.cs_deps.proofs.graphs.Graph.stage_plain.Goals.{After-need_room, After-top-best, After-push_plain, in-Heap-3, in-Inline-3}
+use Rattle.cs_deps.proofs.Roomy.{IsRoomy, view_roomy, held_roomy, still_fits}
+use Rattle.cs_deps.proofs.graphs.Graph.stage_plain.Goals.{After-make_room, After-top-best, After-push_plain, in-Heap-3, in-Inline-3}
 use Rattle.cs_deps.proofs.graphs.Graph.stage_plain.Goals as goal
 
 -- the graph with the room that was made
-abbrev with_room : After-need_room → Inside
-with_room c = let m = c.need_room.new in record c.self.inside { entries = m.entries; records = m.records; newest = m.newest; levels = m.levels }
+abbrev with_room : After-make_room → Inside
+with_room c = let m = c.make_room.new in record c.self.inside { entries = m.entries; records = m.records; newest = m.newest; levels = m.levels }
 
-roomy : (c : After-need_room) → IsRoomy c.self.inside (with_room c)
-roomy c = let e = c.need_room.ensures in record { list = e.entries; floors = e.floors; records = e.records; newest = e.newest; levels = e.levels }
+roomy : (c : After-make_room) → IsRoomy c.self.inside (with_room c)
+roomy c = let e = c.make_room.ensures in record { list = e.entries; floors = e.floors; records = e.records; newest = e.newest; levels = e.levels }
 
-still_held : (c : After-need_room) → the_invariant (with_room c)
+still_held : (c : After-make_room) → the_invariant (with_room c)
 still_held c =
-    let e = c.need_room.ensures in
-    held_roomy c.self.inside c.self.invariant (with_room c) (roomy c) c.self.inside.room (record { list = e.entry_room; places = e.place_room; records = e.record_room; newest = e.newest_room; levels = e.level_room })
+    let e = c.make_room.ensures in
+    held_roomy c.self.inside c.self.invariant (with_room c) (roomy c) c.self.inside.room (still_fits c.self.inside (with_room c) c.self.invariant (roomy c) e.entry_count e.more_entries e.more_places e.more_records e.more_newest)
 
 -- the same graph, where it is known what the write needs
 abbrev before_it : After-top-best → Inside
-before_it c = let m = c.need_room.new in record c.self.inside { entries = m.entries; records = m.records; newest = m.newest; levels = m.levels }
+before_it c = let m = c.make_room.new in record c.self.inside { entries = m.entries; records = m.records; newest = m.newest; levels = m.levels }
 
 allowed : (c : After-top-best) → MayBeAdded c.self.inside (before_it c) c.in-Ok.made c.args.needs c.top-best.result.level c.top-best.result.before
 allowed c =
     let says = rw (← c.self.view_is) at c.is_staged.ensures in
     let e = c.in-Ok.ensures in
-    record { same = record { list = e.entries; floors = e.floors; records = e.records; newest = e.newest; levels = e.levels }; some = e.some; fits = record { list = e.entries_fit; places = e.places_fit; records = e.records_fit; newest = e.newest_fit; levels = e.levels_fit }; within = says.0 c.if-not-is_staged.false; best = c.top-best.ensures }
+    record { same = record { list = e.entries; floors = e.floors; records = e.records; newest = e.newest; levels = e.levels }; some = subst (λ n. 0 < n) (sym e.room) (le-max_right c.self.inside.room 1); fits = record { list = e.entries_fit; places = e.places_fit; records = e.records_fit; newest = e.newest_fit; levels = e.levels_fit }; within = says.0 c.if-not-is_staged.false; best = c.top-best.ensures }
 
 pub push_plain-requires-clause-high : goal.push_plain-requires-clause-high
 push_plain-requires-clause-high c =
@@ -42,7 +43,7 @@ push_plain-requires-clause-high c =
 
 -- the same graph, and the one that the write is in
 abbrev room_for : After-push_plain → Inside
-room_for c = let m = c.need_room.new in record c.self.inside { entries = m.entries; records = m.records; newest = m.newest; levels = m.levels }
+room_for c = let m = c.make_room.new in record c.self.inside { entries = m.entries; records = m.records; newest = m.newest; levels = m.levels }
 
 abbrev behind_it : After-push_plain → Inside
 behind_it c = record c.self.inside { entries = c.push_reserved.new.self; records = c.insert_reserved-key.new.self; newest = c.note.new.newest; levels = c.push_plain.new.self }
@@ -76,13 +77,13 @@ pub returns-in-Ok-clause-others : goal.returns-in-Ok-clause-others
 returns-in-Ok-clause-others c = let at = goal.at.returns-in-Ok-clause-others c in rw (← c.self.view_is) (added at.After-push_plain (allowed at.After-top-best)).others
 
 pub invariant_of-self-in-Err : goal.invariant_of-self-in-Err
-invariant_of-self-in-Err c = still_held (goal.at.invariant_of-self-in-Err c).After-need_room
+invariant_of-self-in-Err c = still_held (goal.at.invariant_of-self-in-Err c).After-make_room
 
 pub invariant_of-self-in-Err-2 : goal.invariant_of-self-in-Err-2
-invariant_of-self-in-Err-2 c = still_held (goal.at.invariant_of-self-in-Err-2 c).After-need_room
+invariant_of-self-in-Err-2 c = still_held (goal.at.invariant_of-self-in-Err-2 c).After-make_room
 
 pub returns-in-Err-clause-refused : goal.returns-in-Err-clause-refused
 returns-in-Err-clause-refused c =
-    let at = (goal.at.returns-in-Err-clause-refused c).After-need_room in
+    let at = (goal.at.returns-in-Err-clause-refused c).After-make_room in
     let same = view_roomy c.self.inside c.self.invariant (with_room at) (roomy at) in
     rw (← c.self.view_is) (elim c.match-needs-3.branch [ in-Heap-3 w ↦ w.self-is ∙ same | in-Inline-3 w ↦ w.self-is ∙ same ])

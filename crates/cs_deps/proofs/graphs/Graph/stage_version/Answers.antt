@@ -1,4 +1,5 @@
-use Rattle.std.proofs.Common.{◌∙◌, ◌+◌, ◌≡◌, ◌<◌, ◌≤◌, List, set, get_or, length, refl, sym, ap, arith}
+use Rattle.std.proofs.Common.{◌∙◌, ◌+◌, ◌≡◌, ◌<◌, ◌≤◌, List, set, get_or, length, refl, sym, ap, subst, arith}
+use Rattle.std.proofs.Math.Nat.{le-max_right}
 use Rattle.std.specs.Prelude.{◌-◌, option_map}
 use Rattle.std.proofs.lemmas.Option.{slice_get_read, get_or_from_slice_get}
 use Rattle.cs_deps.specs.contracts.graphs.Graph.{the_invariant}
@@ -11,9 +12,9 @@ use Rattle.cs_deps.specs.Staging.{Staging}
 use Rattle.cs_deps.proofs.Added.{TakesOne, IsAdded}
 use Rattle.cs_deps.proofs.Entries.{joined_next, next_needs}
 use Rattle.cs_deps.proofs.Held.{MayBeAdded, high_enough}
-use Rattle.cs_deps.proofs.Roomy.{IsRoomy, live_in, view_roomy, held_roomy}
+use Rattle.cs_deps.proofs.Roomy.{IsRoomy, live_in, view_roomy, held_roomy, still_fits}
 use Rattle.cs_deps.proofs.VersionAdded.{next_in_range, version_added}
-use Rattle.cs_deps.proofs.graphs.Graph.stage_version.Goals.{After-index-before, After-need_room, After-top-best, After-next_of-kept, After-push_version, in-Heap-4, in-Inline-4}
+use Rattle.cs_deps.proofs.graphs.Graph.stage_version.Goals.{After-index-before, After-make_room, After-top-best, After-next_of-kept, After-push_version, in-Heap-4, in-Inline-4}
 use Rattle.cs_deps.proofs.graphs.Graph.stage_version.Goals as goal
 
 -- the version before the new one
@@ -25,24 +26,25 @@ last c =
 
 -- the graph with the room that was made, where it is known what the version needs
 abbrev before_it : After-top-best → Inside
-before_it c = let m = c.need_room.new in record c.self.inside { entries = m.entries; records = m.records; newest = m.newest; levels = m.levels }
+before_it c = let m = c.make_room.new in record c.self.inside { entries = m.entries; records = m.records; newest = m.newest; levels = m.levels }
 
 allowed : (c : After-top-best) → MayBeAdded c.self.inside (before_it c) c.in-Ok.made c.args.needs c.top-best.result.level c.top-best.result.before
 allowed c =
     let says = rw (← c.self.view_is) at c.is_staged.ensures in
     let e = c.in-Ok.ensures in
-    record { same = record { list = e.entries; floors = e.floors; records = e.records; newest = e.newest; levels = e.levels }; some = e.some; fits = record { list = e.entries_fit; places = e.places_fit; records = e.records_fit; newest = e.newest_fit; levels = e.levels_fit }; within = says.0 c.if-not-is_staged.false; best = c.top-best.ensures }
+    record { same = record { list = e.entries; floors = e.floors; records = e.records; newest = e.newest; levels = e.levels }; some = subst (λ n. 0 < n) (sym e.room) (le-max_right c.self.inside.room 1); fits = record { list = e.entries_fit; places = e.places_fit; records = e.records_fit; newest = e.newest_fit; levels = e.levels_fit }; within = says.0 c.if-not-is_staged.false; best = c.top-best.ensures }
 
 pub next_of-kept-requires : goal.next_of-kept-requires
 next_of-kept-requires c =
     let at = (goal.at.next_of-kept-requires c).After-top-best in
-    omega (arith, high_enough c.self.inside c.self.invariant (before_it at) c.in-Ok.made c.args.needs c.top-best.result.level c.top-best.result.before (allowed at), c.in-Ok.ensures.levels_fit.limit, c.in-Ok.ensures.some)
+    let may = allowed at in
+    omega (arith, high_enough c.self.inside c.self.invariant (before_it at) c.in-Ok.made c.args.needs c.top-best.result.level c.top-best.result.before may, c.in-Ok.ensures.levels_fit.limit, may.some)
 
 -- the same graph, where the version's level is known
 abbrev room_for : After-next_of-kept → Inside
-room_for c = let m = c.need_room.new in record c.self.inside { entries = m.entries; records = m.records; newest = m.newest; levels = m.levels }
+room_for c = let m = c.make_room.new in record c.self.inside { entries = m.entries; records = m.records; newest = m.newest; levels = m.levels }
 
-in_range : (c : After-next_of-kept) → MayBeAdded c.self.inside (room_for c) c.in-Ok.made c.args.needs c.top-best.result.level c.top-best.result.before → (c.need_room.new.levels.ended < c.next_of-kept.result.level) × (c.next_of-kept.result.level ≤ c.need_room.new.levels.ended + length c.need_room.new.levels.rows.items + 1)
+in_range : (c : After-next_of-kept) → MayBeAdded c.self.inside (room_for c) c.in-Ok.made c.args.needs c.top-best.result.level c.top-best.result.before → (c.make_room.new.levels.ended < c.next_of-kept.result.level) × (c.next_of-kept.result.level ≤ c.make_room.new.levels.ended + length c.make_room.new.levels.rows.items + 1)
 in_range c may = next_in_range c.self.inside c.self.invariant (room_for c) c.in-Ok.made c.args.needs c.top-best.result.level c.top-best.result.before may c.args.family c.index-before.result.now c.next_of-kept.result c.next_of-kept.ensures
 
 pub replaced-requires-clause-low : goal.replaced-requires-clause-low
@@ -56,10 +58,10 @@ push_version-requires-clause-high c = let at = goal.at.push_version-requires-cla
 
 -- the same graph, and the one that the version is in
 abbrev with_place : After-push_version → Inside
-with_place c = let m = c.need_room.new in record c.self.inside { entries = m.entries; records = m.records; newest = m.newest; levels = m.levels }
+with_place c = let m = c.make_room.new in record c.self.inside { entries = m.entries; records = m.records; newest = m.newest; levels = m.levels }
 
 abbrev behind_it : After-push_version → Inside
-behind_it c = record c.self.inside { entries = c.push_reserved.new.self; records = c.insert_reserved-key.new.self; newest = c.need_room.new.newest; levels = c.push_version.new.self }
+behind_it c = record c.self.inside { entries = c.push_reserved.new.self; records = c.insert_reserved-key.new.self; newest = c.make_room.new.newest; levels = c.push_version.new.self }
 
 takes_one : (c : After-push_version) → TakesOne (with_place c) (behind_it c) (Version c.args.family (c.index-before.result.now + 1)) c.args.needs
 takes_one c =
@@ -95,22 +97,22 @@ pub returns-in-Ok-clause-others : goal.returns-in-Ok-clause-others
 returns-in-Ok-clause-others c = let at = goal.at.returns-in-Ok-clause-others c in rw (← c.self.view_is) (added at.After-push_version (allowed at.After-top-best) (last at.After-index-before)).others
 
 -- the graph with the room that was made
-abbrev with_room : After-need_room → Inside
-with_room c = let m = c.need_room.new in record c.self.inside { entries = m.entries; records = m.records; newest = m.newest; levels = m.levels }
+abbrev with_room : After-make_room → Inside
+with_room c = let m = c.make_room.new in record c.self.inside { entries = m.entries; records = m.records; newest = m.newest; levels = m.levels }
 
-roomy : (c : After-need_room) → IsRoomy c.self.inside (with_room c)
-roomy c = let e = c.need_room.ensures in record { list = e.entries; floors = e.floors; records = e.records; newest = e.newest; levels = e.levels }
+roomy : (c : After-make_room) → IsRoomy c.self.inside (with_room c)
+roomy c = let e = c.make_room.ensures in record { list = e.entries; floors = e.floors; records = e.records; newest = e.newest; levels = e.levels }
 
-still_held : (c : After-need_room) → the_invariant (with_room c)
+still_held : (c : After-make_room) → the_invariant (with_room c)
 still_held c =
-    let e = c.need_room.ensures in
-    held_roomy c.self.inside c.self.invariant (with_room c) (roomy c) c.self.inside.room (record { list = e.entry_room; places = e.place_room; records = e.record_room; newest = e.newest_room; levels = e.level_room })
+    let e = c.make_room.ensures in
+    held_roomy c.self.inside c.self.invariant (with_room c) (roomy c) c.self.inside.room (still_fits c.self.inside (with_room c) c.self.invariant (roomy c) e.entry_count e.more_entries e.more_places e.more_records e.more_newest)
 
 pub invariant_of-self-in-Err : goal.invariant_of-self-in-Err
-invariant_of-self-in-Err c = still_held (goal.at.invariant_of-self-in-Err c).After-need_room
+invariant_of-self-in-Err c = still_held (goal.at.invariant_of-self-in-Err c).After-make_room
 
 pub invariant_of-self-in-Err-2 : goal.invariant_of-self-in-Err-2
-invariant_of-self-in-Err-2 c = still_held (goal.at.invariant_of-self-in-Err-2 c).After-need_room
+invariant_of-self-in-Err-2 c = still_held (goal.at.invariant_of-self-in-Err-2 c).After-make_room
 
 pub returns-then-before-ge-LAST_NUMBER-clause-worn : goal.returns-then-before-ge-LAST_NUMBER-clause-worn
 returns-then-before-ge-LAST_NUMBER-clause-worn c =
@@ -132,6 +134,6 @@ returns-in-Err-clause-own c = ((λ e. absurd (cc e)), (λ h. absurd (cc (c.names
 
 pub returns-in-Err-clause-refused : goal.returns-in-Err-clause-refused
 returns-in-Err-clause-refused c =
-    let at = (goal.at.returns-in-Err-clause-refused c).After-need_room in
+    let at = (goal.at.returns-in-Err-clause-refused c).After-make_room in
     let same = view_roomy c.self.inside c.self.invariant (with_room at) (roomy at) in
     rw (← c.self.view_is) (elim c.match-needs-4.branch [ in-Heap-4 w ↦ w.self-is ∙ same | in-Inline-4 w ↦ w.self-is ∙ same ])
