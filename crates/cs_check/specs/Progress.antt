@@ -1,4 +1,4 @@
--- How far a view has been read. Only private clauses cite it.
+-- How far a view has been read. Private clauses and proofs alone cite it.
 use Rattle.std.specs.Prelude.{[], ◌∷◌, ◌++◌, ◌≡◌, ℕ, suc, ◌+◌, ◌^◌, ◌≤◌, ◌<◌, ◌⊎◌, ◌↔◌, List, All, Some, length, map, slice_get, slice_index, slice_set, take, Vec}
 use Rattle.std.specs.Global.{Global}
 use Rattle.cs_deps.specs.declared.elements.Element.{Element}

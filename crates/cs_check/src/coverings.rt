@@ -74,7 +74,7 @@ fn is_late(needs: &Dependency, element: Element, first: usize, i: usize) -> bool
     needs.names(element) && i <= first
 }
 
-/// Whether all waiting elements that are named are satisfied by the first i rounds.
+/// By `firsts`, whether all waiting elements that are named are satisfied by the first i rounds.
 fn all_before(view: &GraphView, firsts: &[usize], needs: &Dependency, i: usize) -> bool
     requires { length firsts.now ≡ length view.now.waiting.items }
     ensures { IsTrue result ↔ AllBefore (pending_of view.now) firsts.now needs.now i }
@@ -87,7 +87,7 @@ fn all_before(view: &GraphView, firsts: &[usize], needs: &Dependency, i: usize) 
     true
 }
 
-/// Whether each waiting need of an element is satisfied by the first i rounds; so it is for one that doesn't wait.
+/// By `firsts`, whether each waiting need of an element is satisfied by the first i rounds; so it is for one that doesn't wait.
 fn needs_before(view: &GraphView, firsts: &[usize], element: Element, i: usize) -> bool
     requires count { length firsts.now ≡ length view.now.waiting.items }
     requires listing { IsListing (pending_of view.now) }
@@ -99,7 +99,7 @@ fn needs_before(view: &GraphView, firsts: &[usize], element: Element, i: usize) 
     }
 }
 
-/// Whether what each member of the round needs is satisfied by the first i rounds.
+/// By `firsts`, whether what each member of the round needs is satisfied by the first i rounds.
 fn is_in_time(view: &GraphView, firsts: &[usize], round: &[Element], i: usize) -> bool
     requires count { length firsts.now ≡ length view.now.waiting.items }
     requires listing { IsListing (pending_of view.now) }

@@ -46,7 +46,7 @@ pub struct Document {
 /// zero. The name of a version among needs or in the target stands for the earlier ones too. Of a repeated key the
 /// last value counts.
 ///
-/// 10 where the text is no such document, 9 where a growth was refused. With n elements whose needs have d names, it
+/// 10 BadDocument where the text is no such document, 9 OutOfMemory where a growth was refused. With n elements whose needs have d names, it
 /// takes time in the order of n * (n + d) * d.
 pub fn from_document(alloc: Global, text: &str) -> Result<Document, CheckFault>
     ensures says { IfOk result (λ doc. (d : Data) × (read text.now ≡ Some d) × IsDocumentOf d doc.letters.items (pending_of doc.view) doc.target (rounds_of doc.plan) doc.plan.chain.items) }
@@ -70,8 +70,9 @@ pub fn from_document(alloc: Global, text: &str) -> Result<Document, CheckFault>
 /// Needs and target are written as what they name among what waits: first plain writes by number, then one version a
 /// family, the greatest, in the order of the families. What is persistent is left out.
 ///
-/// 10 where view, target or plan break a rule of documents, the target names a version past the last one listed, or
-/// the letters aren't one of `a` to `z` but `w` for each family, each of them once. 9 where a growth was refused.
+/// 10 BadDocument where view, target or plan break a rule of documents, the target names a version past the last one listed, or
+/// the letters aren't one of `a` to `z` but `w` for each family, each of them once. 9 OutOfMemory where a
+/// growth was refused.
 pub fn to_document(
     alloc: Global,
     view: &GraphView,

@@ -97,9 +97,9 @@ fn test(
 /// Checks that a plan covers its target, that each crash during it leaves a closed set, and that its chain shows that
 /// no schedule takes fewer flushes.
 ///
-/// The first test that fails is answered: 10, 11, 12, 13, 14, 15. What the target or a need names and is persistent in
+/// The first test that fails is answered: 10 BadDocument, 11 NotNested, 12 Uncovered, 13 TooEarly, 14 ChainBroken, 15 ChainShort. What the target or a need names and is persistent in
 /// the view is passed over, and so is a plain write that the view doesn't list, number 0 too. A version past the last
-/// one listed is 10 as a need and 12 in the target. 9 where a growth was refused.
+/// one listed is 10 as a need and 12 in the target. 9 OutOfMemory where a growth was refused.
 ///
 /// With n waiting elements, m members in all rounds and names of size d, it takes time in the order of n * (n + m) * d.
 pub fn check(

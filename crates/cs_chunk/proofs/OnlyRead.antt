@@ -12,6 +12,7 @@ module _ {D : Type 0} (honest : D → Type 0) (state : D → State) (page_count 
   pub reads_on : (a b c : D) → OnlyReads honest state page_count failure_count moment left_since a b → OnlyReads honest state page_count failure_count moment left_since b c → OnlyReads honest state page_count failure_count moment left_since a c
   reads_on a b c first more = record {
     same = λ h. more.same (first.honesty.0 h) ∙ first.same h;
+    still = λ h. more.still (first.honesty.0 h) ∙ first.still h;
     time = λ h.
         let one = first.time h in
         let two = more.time (first.honesty.0 h) in

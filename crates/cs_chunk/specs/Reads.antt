@@ -6,7 +6,7 @@ use Rattle.cs_deps.specs.declared.refusals.Refusal.{Refusal}
 use Rattle.cs_deps.specs.declared.refusals.Refusal.TheVariants as refusal
 use Rattle.cs_deps.specs.Refusals.{number_of}
 use Rattle.cs_deps.specs.State.{State as Graph}
-use Rattle.cs_disk.specs.Disk.{Elapses, Image, Rises, State}
+use Rattle.cs_disk.specs.Disk.{GoesOn, Image, Rises, State}
 use Rattle.cs_frame.specs.declared.faults.FormatFault.{FormatFault}
 use Rattle.cs_frame.specs.declared.faults.FormatFault.TheVariants as fault
 use Rattle.cs_frame.specs.declared.frames.FrameKind.{FrameKind}
@@ -67,11 +67,12 @@ pub record IsCaused {T : Type 0} (before now : ℕ) (result : Result T Refusal) 
   pub later : before ≤ now
   pub failed : IsErrOf result refusal.DeviceFault → Rises before now
 
--- The disk is as reads leave it: an honest one holds what it held, and a crash meanwhile leaves nothing that it mightn't have left
--- before; its size and its honesty stay, and its count of failures doesn't fall.
+-- The disk is as reads leave it: an honest one holds what it held, no write and no flush counts, and a crash meanwhile leaves nothing
+-- that it mightn't have left before; its size and its honesty stay, and its count of failures doesn't fall.
 pub record OnlyReads {D : Type 0} (honest : D → Type 0) (state : D → State) (page_count failure_count moment : D → ℕ) (left_since : D → ℕ → Image → Type 0) (old new : D) : Type 0 where
   pub same : honest old → state new ≡ state old
-  pub time : honest old → Elapses (moment old) (moment new) (left_since old) (left_since new) (state new)
+  pub still : honest old → moment new ≡ moment old
+  pub time : GoesOn honest state moment left_since old new
   pub honesty : honest old ↔ honest new
   pub pages : page_count new ≡ page_count old
   pub failures : failure_count old ≤ failure_count new

@@ -119,8 +119,8 @@ fn prepare(
 /// Answers where the frames begin, in order.
 ///
 /// A chunk has 4,096 bytes for each page of an extent, less 41, and there are at most eight: 31 `TooLarge` for more
-/// bytes. 30 `Full` where the frames find no places, 35 `WornOut` where a number would pass 2^63 - 1. 9 `OutOfMemory`
-/// comes last, and asks for the pages of all frames. After a refusal nothing is staged.
+/// bytes. 30 `Full` where the frames find no places, 35 `WornOut` where a number would pass 2^63 - 1. Memory is
+/// asked for last, for the pages of all frames: 9 `OutOfMemory`. After a refusal nothing is staged.
 pub fn put_chunks(
     alloc: Global,
     extents: &mut Extents,

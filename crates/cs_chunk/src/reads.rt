@@ -99,7 +99,8 @@ fn decoded(alloc: Global, kind: FrameKind, pages: &[[u8; 4096]]) -> Result<Vec<u
     }
 }
 
-/// The pages of the frame that begins at a place. The header's tests are made before the second page is read.
+/// As many pages as the header at a place counts. The header's tests are made before the second page is read (20, 22 and 24); digest and
+/// padding aren't tested. Refused 1 DeviceFault and 9 OutOfMemory, too.
 fn read_frame_pages<D: PageDisk>(
     alloc: Global,
     extents: &Extents,

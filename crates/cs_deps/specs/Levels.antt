@@ -29,7 +29,7 @@ abbrev pub kept_by : Levels → Element → Option Kept
 kept_by l (Plain n) = kept_in l.plains.items l.dropped n
 kept_by l (Version f v) = kept_in (family_at l.versions.items f) (slice_index l.starts.items f) v
 
--- its level, 0 where nothing is kept
+-- the level that is kept, 0 where nothing is
 abbrev pub level_of : Option Kept → ℕ
 level_of None = 0
 level_of (Some k) = k.level

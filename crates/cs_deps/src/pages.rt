@@ -60,7 +60,7 @@ fn is_noted(newest: &HashMap<u64, u64>, page: u64, number: u64) -> bool
     }
 }
 
-/// Whether a record of a plain write to this page is kept.
+/// Whether this plain write has a record, and goes to this page.
 fn is_put(records: &Slab<Record>, levels: &Levels, page: u64, number: u64) -> bool
     requires keyed { AreKeyed levels.now records.now }
     ensures { IsTrue result ↔ IsPut records.now page number }

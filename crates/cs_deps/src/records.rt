@@ -26,7 +26,7 @@ pub struct Record {
     pub older: u64,
 }
 
-/// The record of an element of which this is kept, where it still has one.
+/// The record under the key that is kept of an element, where it is still that element's.
 pub fn record_of(records: &Slab<Record>, kept: Option<Kept>, element: Element) -> Option<&Record>
     ensures some { IfSome result (λ r. (k : KeptOf) × (kept ≡ Some k) × (get records.now k.key ≡ Some r.now) × (r.now.element ≡ element)) }
     ensures none { result ≡ None → (k : KeptOf) (r : RecordOf) → kept ≡ Some k → get records.now k.key ≡ Some r → r.element ≢ element }

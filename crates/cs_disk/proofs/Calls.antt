@@ -1,6 +1,7 @@
 -- One more call joins what a disk in memory has held.
-use Rattle.std.proofs.Common.{◌≡◌, ◌⊎◌, inl, inr, ℕ, ◌≤◌, List, ◌∷◌, length, sym, subst, arith}
-use Rattle.cs_disk.specs.Disk.{State, Image, MayLeave, Elapses}
+use Rattle.std.proofs.Common.{◌≡◌, ◌⊎◌, inl, inr, ℕ, ◌+◌, ◌≤◌, List, ◌∷◌, length, sym, subst, arith}
+use Rattle.std.specs.Prelude.{Result, Ok, Err}
+use Rattle.cs_disk.specs.Disk.{Counts, State, Image, MayLeave, Elapses}
 use Rattle.cs_disk.specs.Past.{MightHaveLeft, LeftSince}
 
 call_more : (past : List State) (old new : State) → Elapses (length past) (length (old ∷ past)) (LeftSince past old) (LeftSince (old ∷ past) new) new
@@ -19,3 +20,14 @@ call_more past old new = record { later = omega arith; nothing_else = was; keeps
 pub elapses_call : (past later : List State) (old new : State) → later ≡ old ∷ past → Elapses (length past) (length later) (LeftSince past old) (LeftSince later new) new
 elapses_call past later old new noted =
     subst (λ (l : List State). Elapses (length past) (length l) (LeftSince past old) (LeftSince l new) new) (sym noted) (call_more past old new)
+
+-- which counts as one, whatever it answers
+one_more : {T E : Type 0} (result : Result T E) (before now : ℕ) → now ≡ before + 1 → Counts result before now
+one_more (Ok x) before now e = e
+one_more (Err x) before now e = omega (arith, e)
+
+pub one_call : (past later : List State) (old : State) → later ≡ old ∷ past → length later ≡ length past + 1
+one_call past later old noted = subst (λ (l : List State). length l ≡ length past + 1) (sym noted) (omega arith)
+
+pub counts_call : {T E : Type 0} (result : Result T E) (past later : List State) (old : State) → later ≡ old ∷ past → Counts result (length past) (length later)
+counts_call result past later old noted = one_more result (length past) (length later) (one_call past later old noted)

@@ -1,5 +1,5 @@
 -- What a page disk holds, what its calls do to it, and what a crash may leave.
-use Rattle.std.specs.Prelude.{All, ◌≡◌, ◌⊎◌, ℕ, ◌<◌, ◌≤◌, ◌+◌, ◌-◌, ◌^◌, min, Bool, true, false, List, [], ◌∷◌, ◌++◌, length, slice_index, slice_index_or, slice_set, if◌then◌else◌, ◌==◌, Result, IsErrOf}
+use Rattle.std.specs.Prelude.{All, ◌≡◌, ◌⊎◌, ℕ, ◌<◌, ◌≤◌, ◌+◌, ◌-◌, ◌^◌, min, Bool, true, false, List, [], ◌∷◌, ◌++◌, length, slice_index, slice_index_or, slice_set, if◌then◌else◌, ◌==◌, Result, Ok, Err, IsErrOf}
 use Rattle.cs_disk.specs.declared.fault.DiskFault.{DiskFault}
 use Rattle.cs_disk.specs.declared.fault.DiskFault.TheVariants.{DeviceFault}
 
@@ -76,6 +76,15 @@ pub record Elapses (before now : ℕ) (past since : ℕ → Image → Type 0) (s
   pub later : before ≤ now
   pub nothing_else : (t : ℕ) (c : Image) → t ≤ before → since t c → past t c ⊎ MayLeave state c
   pub keeps : (t : ℕ) (c : Image) → t ≤ before → past t c → since t c
+
+-- From the old disk to the new one time goes on, where it is honest.
+abbrev pub GoesOn : {D : Type 0} (honest : D → Type 0) (state : D → State) (moment : D → ℕ) (left_since : D → ℕ → Image → Type 0) (old new : D) → Type 0
+GoesOn honest state moment left_since old new = honest old → Elapses (moment old) (moment new) (left_since old) (left_since new) (state new)
+
+-- A write or a flush that succeeds raises the moment by one; one that fails may raise it, by one at most.
+abbrev pub Counts : {T E : Type 0} → Result T E → (before now : ℕ) → Type 0
+Counts (Ok x) before now = now ≡ before + 1
+Counts (Err e) before now = now ≤ before + 1
 
 -- A crash at any moment since old leaves an image that has P.
 pub record LeavesOnly {D : Type 0} (moment : D → ℕ) (left_since : D → ℕ → Image → Type 0) (old new : D) (P : Image → Type 0) : Type 0 where

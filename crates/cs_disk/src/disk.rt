@@ -1,6 +1,6 @@
 // A disk of pages, as the layers above see it.
 ghost use Rattle.std.specs.Prelude.{◌≡◌, ◌⊎◌, ◌<◌, ◌≤◌, ◌↔◌, ℕ, length, OnOk, OnErr, IsErrOf, IsTrue};
-ghost use Rattle.cs_disk.specs.Disk.{Image, State, page, seen, written, flushed, crashed, IsWhole, MayLeave, Elapses, HasCause};
+ghost use Rattle.cs_disk.specs.Disk.{Image, State, page, seen, written, flushed, crashed, IsWhole, MayLeave, Counts, GoesOn, HasCause};
 ghost use Rattle.cs_disk.specs.declared.fault.DiskFault.TheVariants.{OutOfMemory};
 
 use crate::DiskFault;
@@ -19,11 +19,13 @@ pub trait PageDisk {
     /// The durable image and the volatile writes.
     ghost state: { Self → State };
 
+    /// How many pages it has.
     ghost page_count: { Self → ℕ };
 
+    /// How many of its calls failed, up to 2^64 - 1.
     ghost failure_count: { Self → ℕ };
 
-    /// The moment, as a number that doesn't fall.
+    /// The moment, as a number that each write and each flush that succeeds raises by one, one that fails by one at most, and nothing else.
     ghost moment: { Self → ℕ };
 
     /// The images that a crash at some moment from that one on might have left, during a call or between two.
@@ -43,7 +45,8 @@ pub trait PageDisk {
         requires { number < page_count self.old }
         ensures bytes { honest self.old → OnOk result (buffer.new ≡ page (seen (state self.old)) number) }
         ensures state { honest self.old → state self.new ≡ state self.old }
-        ensures time { honest self.old → Elapses (moment self.old) (moment self.new) (left_since self.old) (left_since self.new) (state self.new) }
+        ensures still { honest self.old → moment self.new ≡ moment self.old }
+        ensures time { GoesOn honest state moment left_since self.old self.new }
         ensures honest { honest self.old ↔ honest self.new }
         ensures pages { page_count self.new ≡ page_count self.old }
         ensures cause { HasCause (failure_count self.old) (failure_count self.new) result };
@@ -55,7 +58,8 @@ pub trait PageDisk {
         ensures ok { honest self.old → OnOk result (state self.new ≡ written (state self.old) number bytes.now) }
         ensures fault { honest self.old → (state self.new ≡ state self.old) ⊎ (state self.new ≡ written (state self.old) number bytes.now) }
         ensures memory { honest self.old → IsErrOf result OutOfMemory → state self.new ≡ state self.old }
-        ensures time { honest self.old → Elapses (moment self.old) (moment self.new) (left_since self.old) (left_since self.new) (state self.new) }
+        ensures count { honest self.old → Counts result (moment self.old) (moment self.new) }
+        ensures time { GoesOn honest state moment left_since self.old self.new }
         ensures honest { honest self.old ↔ honest self.new }
         ensures pages { page_count self.new ≡ page_count self.old }
         ensures cause { HasCause (failure_count self.old) (failure_count self.new) result };
@@ -64,7 +68,8 @@ pub trait PageDisk {
     fn flush(&mut self) -> Result<(), DiskFault>
         ensures ok { honest self.old → OnOk result (state self.new ≡ flushed (state self.old)) }
         ensures err { honest self.old → OnErr result (state self.new ≡ state self.old) }
-        ensures time { honest self.old → Elapses (moment self.old) (moment self.new) (left_since self.old) (left_since self.new) (state self.new) }
+        ensures count { honest self.old → Counts result (moment self.old) (moment self.new) }
+        ensures time { GoesOn honest state moment left_since self.old self.new }
         ensures honest { honest self.old ↔ honest self.new }
         ensures pages { page_count self.new ≡ page_count self.old }
         ensures cause { HasCause (failure_count self.old) (failure_count self.new) result };

@@ -1,6 +1,6 @@
 // A disk in memory.
 ghost use Rattle.std.specs.Prelude.{All, ◌≡◌, ◌<◌, length, IsOk, IfOk, IsOkUnless};
-ghost use Rattle.cs_disk.specs.Disk.{page, seen, flushed, Elapses, IsBytes};
+ghost use Rattle.cs_disk.specs.Disk.{Counts, page, seen, flushed, Elapses, IsBytes};
 ghost use Rattle.std.proofs.Common.{inl, refl};
 ghost use Rattle.cs_disk.specs.Past.{state_of, past_states, LeftSince, only_now as only_held};
 
@@ -138,6 +138,7 @@ impl PageDisk for MemoryDisk {
     fn flush(&mut self) -> Result<(), DiskFault>
         ensures always { IsOk result }
         ensures ok { memory_state self.new ≡ flushed (memory_state self.old) }
+        ensures count { Counts result (memory_moment self.old) (memory_moment self.new) }
         ensures time { Elapses (memory_moment self.old) (memory_moment self.new) (memory_left_since self.old) (memory_left_since self.new) (memory_state self.new) }
         ensures pages { length (memory_state self.new).durable ≡ length (memory_state self.old).durable }
     {

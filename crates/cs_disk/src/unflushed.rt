@@ -20,6 +20,7 @@ pub struct Unflushed {
 }
 
 impl Unflushed {
+    /// No writes.
     pub fn new(alloc: Global) -> Self
         ensures pages { result.pages.items ≡ [] }
         ensures places { result.places.items ≡ [] }

@@ -7,9 +7,9 @@ abbrev pub room_at : (pages : ℕ) → (pointer : ℕ → ℕ) → Option ℕ �
 room_at pages pointer None = 0
 room_at pages pointer (Some e) = pages - pointer e
 
--- what is left once a frame of k pages was placed, where it can be
-abbrev pub left_after : (pages spare : ℕ) → Supply → ℕ → Option Supply
-left_after pages spare s k =
-    if nat_le k s.room then Some (record { room = s.room - k; empty = s.empty })
-    else if nat_lt spare s.empty then Some (record { room = pages - k; empty = s.empty - 1 })
+-- what is left once a frame was placed, where it can be
+abbrev pub left_after : (extent_pages spare : ℕ) → Supply → (frame_pages : ℕ) → Option Supply
+left_after extent_pages spare s frame_pages =
+    if nat_le frame_pages s.room then Some (record { room = s.room - frame_pages; empty = s.empty })
+    else if nat_lt spare s.empty then Some (record { room = extent_pages - frame_pages; empty = s.empty - 1 })
     else None

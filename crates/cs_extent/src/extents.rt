@@ -197,16 +197,16 @@ impl Extents {
 
     /// Whether frames of these numbers of pages, appended one after another, all find a place. Takes no memory, and costs
     /// a pass over the extents and the frames.
-    pub fn fits(&self, frames: &[usize], purpose: Purpose) -> bool
-        requires { All (λ k. (1 ≤ k) × (k ≤ (shape self.now).pages)) frames.now }
-        ensures { IsTrue result ↔ Fits (shape self.now) (extents_of self.now) (reason_of purpose) frames.now }
+    pub fn fits(&self, frame_pages: &[usize], purpose: Purpose) -> bool
+        requires { All (λ pages. (1 ≤ pages) × (pages ≤ (shape self.now).pages)) frame_pages.now }
+        ensures { IsTrue result ↔ Fits (shape self.now) (extents_of self.now) (reason_of purpose) frame_pages.now }
     {
         let mut supply = Supply {
             room: self.room(),
             empty: self.empty_count(),
         };
-        for frame in frames {
-            match supply.after(self.extent_pages(), *frame, purpose.spare()) {
+        for pages in frame_pages {
+            match supply.after(self.extent_pages(), *pages, purpose.spare()) {
                 Some(left) => supply = left,
                 None => return false,
             }
@@ -280,7 +280,7 @@ impl Extents {
         self.open_extent = open_unless_full(extent, entry.0, self.superblock.pages);
     }
 
-    /// The page that spells the superblock of this version.
+    /// The page that spells the superblock of this version. The version is noted in the value that is spelled, where no clause sees it.
     fn superblock_page(&mut self, version: u64) -> [u8; 4096]
         requires { (1 ≤ version) × (version < 2 ^ 63) }
         ensures page { SpellsExtents self.old version result }
@@ -335,7 +335,7 @@ impl Extents {
     /// dependency that names this version of the superblock and all before it.
     ///
     /// 30 `Full` where no extent takes the frame, then 35 `WornOut` where a number would pass 2^63 - 1, then 9
-    /// `OutOfMemory`, which asks only for the room in the graph. Costs a pass over the extents, the frame's pages and one
+    /// `OutOfMemory`: memory is asked for as room in the graph alone. Costs a pass over the extents, the frame's pages and one
     /// page that spells the superblock.
     pub fn append(
         &mut self,

@@ -27,7 +27,7 @@ fn stage_page(graph: &mut Graph, alloc: Global, page: u64, bytes: &[u8; 4096], r
     }
 }
 
-/// Stages the pages of a frame, in order, to the pages of the device from `first` on.
+/// Stages the pages of a frame, in order, to the pages of the device from `first` on. Each needs versions 1 to `root` of the root.
 fn stage_pages(graph: &mut Graph, alloc: Global, frame: &[[u8; 4096]], first: u64, root: u64)
     requires room { length frame.now ≤ graph.old.room }
     requires numbers { graph.old.staging.staged + length frame.now < 2 ^ 63 }
@@ -63,7 +63,8 @@ fn stage_superblock(graph: &mut Graph, alloc: Global, bytes: &[u8; 4096], need: 
     }
 }
 
-/// Stages a frame, and then the version of the superblock that records it.
+/// Stages a frame, each page of which needs versions 1 to `root` of the root, and then the version of the superblock that records it,
+/// which needs those up to `need`.
 pub fn stage_frame(
     graph: &mut Graph,
     alloc: Global,

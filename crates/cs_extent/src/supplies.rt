@@ -11,20 +11,21 @@ pub struct Supply {
 }
 
 impl Supply {
-    /// What is left once a frame of so many pages was placed, where it can be.
-    pub fn after(self, pages: usize, frame: usize, spare: usize) -> Option<Supply>
-        requires { frame ≤ pages }
-        ensures { result ≡ left_after pages spare self frame }
+    /// What is left once a frame is placed, where it can be: in the open extent where it has room, else in an empty one where more
+    /// are empty than have to stay so.
+    pub fn after(self, extent_pages: usize, frame_pages: usize, spare: usize) -> Option<Supply>
+        requires { frame_pages ≤ extent_pages }
+        ensures { result ≡ left_after extent_pages spare self frame_pages }
     {
-        if frame <= self.room {
+        if frame_pages <= self.room {
             return Some(Supply {
-                room: self.room - frame,
+                room: self.room - frame_pages,
                 empty: self.empty,
             });
         }
         if spare < self.empty {
             return Some(Supply {
-                room: pages - frame,
+                room: extent_pages - frame_pages,
                 empty: self.empty - 1,
             });
         }

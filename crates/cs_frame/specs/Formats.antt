@@ -24,15 +24,15 @@ kind_number RunFrame = 1
 abbrev pub id_bytes : ℕ → List ℕ
 id_bytes id = id / 256 ^ 15 ∷ big_bytes 15 id
 
--- a locator and an entry of the machine as they are spelled here, and a locator as the machine has it
+-- a locator of the machine as it is spelled here
 abbrev pub as_locator : Place → Locator
 as_locator l = record { extent = l.extent; page = l.page; generation = l.generation }
 
--- a locator as the machine's model has it
+-- a locator as the machine has it
 abbrev pub place_of : Locator → Place
 place_of l = record { extent = l.extent; page = l.page; generation = l.generation }
 
--- an entry of the machine's model as a run spells it
+-- an entry of the machine as a run spells it
 abbrev pub as_entry : NamedEntry → Entry
 as_entry x = record { id = id_bytes x.id; locators = map as_locator x.locators }
 

@@ -124,7 +124,8 @@ fn payload_of(kind: FrameKind, pages: &[[u8; 4096]]) -> Result<&[u8], FormatFaul
 
 /// The payload of the frame that begins in the first of these pages, which lie from it to the end of
 /// its extent; those after the frame's own, as the header counts them, are not read and may be left
-/// out. The first test that fails is answered, and 9 only where the pages begin with a frame.
+/// out. The first test that fails is answered: 20 BadMagic, 24 BadVersion, 22 BadLength, 21 BadDigest, 23 BadPadding; 9 OutOfMemory
+/// only where the pages begin with a frame.
 pub fn decode_frame(
     alloc: Global,
     kind: FrameKind,

@@ -81,7 +81,8 @@ impl Geometry {
         4096 * usize::from(self.pages) - 41
     }
 
-    /// How many identifiers the index can name: the entries of a run that takes one whole extent.
+    /// How many identifiers the index can name: the entries of a run that takes one whole extent. A frame's header has 41 bytes, a
+    /// run's count 4, and an entry 81.
     pub fn named_limit(self) -> usize
         ensures { result ≡ (4096 * self.pages - 45) / 81 }
     {

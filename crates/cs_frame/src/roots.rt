@@ -84,8 +84,8 @@ fn root_from(alloc: Global, page: &[u8; 4096]) -> Result<Root, AllocError>
     })
 }
 
-/// The root that a page spells. The first test that fails is answered, and 9 only for a page that
-/// spells a root.
+/// The root that a page spells. The first test that fails is answered: 20 BadMagic, 24 BadVersion, 22 BadLength, 21 BadDigest, then 24
+/// for the ranges of version and number, and 23 BadPadding; 9 OutOfMemory only for a page that spells a root.
 pub fn decode_root(alloc: Global, page: &[u8; 4096]) -> Result<Root, FormatFault>
     // What is read is spelled by the page.
     ensures spelled { IfOk result (λ root. SpellsRoot page.now root.version root.commands root.runs.items) }

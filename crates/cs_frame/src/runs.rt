@@ -169,8 +169,8 @@ pub fn encode_run(alloc: Global, run: &Run) -> Result<Vec<u8>, AllocError>
     Ok(payload)
 }
 
-/// The run that a payload spells. The first test that fails is answered, and 9 only for a payload
-/// that spells a run.
+/// The run that a payload spells. The first test that fails is answered: 22 BadLength, then of each entry 25 OutOfOrder, 22 and
+/// 23 BadPadding; 9 OutOfMemory only for a payload that spells a run.
 pub fn decode_run(alloc: Global, payload: &[u8]) -> Result<Run, FormatFault>
     // What is read is spelled by the payload.
     ensures spelled { IfOk result (λ run. SpellsRun payload.now (entries_of run.entries.items)) }

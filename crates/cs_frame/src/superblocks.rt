@@ -165,8 +165,8 @@ fn superblock_from(alloc: Global, page: &[u8; 4096]) -> Result<Superblock, Alloc
     })
 }
 
-/// The superblock that a page spells. The first test that fails is answered, and 9 only for a page
-/// that spells a superblock.
+/// The superblock that a page spells. The first test that fails is answered: 20 BadMagic, 24 BadVersion, 22 BadLength, 21 BadDigest,
+/// then 24 for the version's range, 22 for a pointer, and 23 BadPadding; 9 OutOfMemory only for a page that spells a superblock.
 pub fn decode_superblock(alloc: Global, page: &[u8; 4096]) -> Result<Superblock, FormatFault>
     // What is read is spelled by the page.
     ensures spelled { IfOk result (λ superblock.

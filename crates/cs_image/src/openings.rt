@@ -38,8 +38,7 @@ pub fn what_is_read_recovers()
         × IsFoundAs (shape x) (formats_of (shape x)) view commands m found x version root (newest_first runs)) }
 {}
 
-/// What is recovered of an image can be read: none of the decoders refuses it, and none of the tests that a locator has to
-/// pass.
+/// What is recovered of an image can be read: no decoder refuses it, and each locator passes its tests.
 pub fn what_is_recovered_can_be_read()
     ensures superblock { (view : ℕ → List ℕ) (extents pages n : ℕ) (m : Map) → IsGeometry extents pages
         → (let S = shape_of extents pages 1 extents 1 in Recovers S (formats_of S) view n m

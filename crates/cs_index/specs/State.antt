@@ -20,11 +20,11 @@ pub record IsId (id : ShardId) : Type 0 where
   pub bytes : IsBytes id.0
   pub size : length id.0 ≡ 16
 
--- an entry and a run as the machine has them
+-- an entry as the machine has it
 abbrev pub named_entry : ShardId × Vec Locator Global → Entry
 named_entry entry = record { id = id_number entry.0; locators = map place_of entry.1.items }
 
--- a run as the machine's model has it
+-- a run as the machine has it
 abbrev pub run_of : StoredRun → Run
 run_of run = record { place = place_of run.place; entries = map named_entry run.entries.items }
 

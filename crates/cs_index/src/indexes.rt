@@ -198,7 +198,8 @@ impl Index {
 
     /// Gives an identifier these locators, whatever it had before.
     ///
-    /// 32 `IndexFull` where it has no entry and as many have one as may, then 9 `OutOfMemory`, where there is no room.
+    /// 32 `IndexFull` where it has no entry and as many have one as may, then 9 `OutOfMemory`, only where `reserve` left no room and memory
+    /// is refused. Costs a search of the table and of each run.
     pub fn set(&mut self, id: ShardId, locators: Vec<Locator>) -> Result<(), Refusal>
         requires { (1 ≤ length locators.items) × (length locators.items ≤ 8) }
         ensures entered { OnOk result (IsSet self.old (id_number id) (map place_of locators.items) self.new) }

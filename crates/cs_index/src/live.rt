@@ -88,8 +88,8 @@ fn is_id(id: Option<ShardId>)
     }
 }
 
-/// Of the live chunks on the extent the first, by identifier and then by chunk; and the last identifier before
-/// it, or of all where nothing is live there. Reads on behind the identifier that is passed already.
+/// The first live chunk on the extent, by identifier and then by chunk, and the last identifier before it; where nothing is live there,
+/// None and the last identifier of all. Reading begins behind the one that was passed already.
 pub fn search(
     entries: Entries<'_>,
     passed: Option<ShardId>,

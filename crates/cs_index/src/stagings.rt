@@ -208,7 +208,7 @@ pub fn stage_run(
 
 /// Stages a root without runs.
 ///
-/// 35 `WornOut` where the last number of a root is given, then 9 `OutOfMemory`, which asks only for room in the graph.
+/// 35 `WornOut` where the last number of a root is given, then 9 `OutOfMemory`, where the graph has no room and gets none.
 pub fn stage_empty(alloc: Global, graph: &mut Graph, commands: u64) -> Result<u64, Refusal>
     requires families { root_family < length graph.old.staging.latest }
     requires commands { commands < 2 ^ 63 }

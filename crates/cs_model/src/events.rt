@@ -95,7 +95,7 @@ pub fn the_frontier_rises()
         → Sound S F t → Step S F s event reply t → IsFrontier S F s n → IsFrontier S F t k → n ≤ k }
 {}
 
-/// A member that is issued wasn't issued before, and isn't left.
+/// An Issue takes a member that wasn't issued in this round before, and that isn't among those left after it.
 pub fn each_member_is_issued_once()
     ensures { (S : Shape) (F : Formats) (s t : State) (m : Element) → Sound S F s → Does S F s Issue (Issued m) t
         → (m ∈ s.issued → ⊥) × (m ∈ t.left → ⊥) }

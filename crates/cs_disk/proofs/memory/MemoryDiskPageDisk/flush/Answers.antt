@@ -1,11 +1,14 @@
 use Rattle.std.proofs.Common.{◌≡◌, length, sym, subst}
 use Rattle.cs_disk.specs.Disk.{IsBytes, State}
-use Rattle.cs_disk.proofs.Calls.{elapses_call}
+use Rattle.cs_disk.proofs.Calls.{elapses_call, one_call}
 use Rattle.cs_disk.proofs.Whole.{BytePages, Pages, applied_whole}
 use Rattle.cs_disk.proofs.memory.MemoryDiskPageDisk.flush.Goals as goal
 
 pub returns-clause-time : goal.returns-clause-time
 returns-clause-time c = elapses_call _ _ _ _ c.note.ensures
+
+pub returns-clause-count : goal.returns-clause-count
+returns-clause-count c = one_call _ _ _ c.note.ensures
 
 pub invariant_of-self-clause-durable : goal.invariant_of-self-clause-durable
 invariant_of-self-clause-durable c =
