@@ -1,7 +1,7 @@
 -- What an event asks of an honest disk.
-use Rattle.std.specs.Prelude.{◌≡◌, ◌⊎◌, ℕ, List, Some, slice_get}
+use Rattle.std.specs.Prelude.{◌≡◌, ◌⊎◌, ◌+◌, ◌≤◌, ℕ, List, Some, slice_get}
 use Rattle.cs_deps.specs.declared.elements.Element.{Element as Name}
-use Rattle.cs_deps.specs.declared.refusals.Refusal.TheVariants.{DeviceFault}
+use Rattle.cs_deps.specs.declared.refusals.Refusal.TheVariants.{DeviceFault, OutOfMemory}
 use Rattle.cs_deps.specs.State.{write_of}
 use Rattle.cs_disk.specs.Disk.{State as DiskState, flushed, written}
 use Rattle.cs_core.specs.declared.events.Event.{Event}
@@ -24,3 +24,14 @@ AsksDevice old disk Issue (Issued x page) after = IsMemberWritten old disk x pag
 AsksDevice old disk Issue (Refused DeviceFault) after = (after ≡ disk) ⊎ ((x : Name) × (page : ℕ) × IsMemberWritten old disk x page after)
 AsksDevice old disk End (Ended n) after = after ≡ flushed disk
 AsksDevice old disk event reply after = after ≡ disk
+
+-- How many writes and flushes were made, from the count before an event to the one after it: one by Issue and one by End; one or none
+-- where that call fails; none by any other event or refusal. Want of memory is no reply; its lines are for the calls below `apply`.
+abbrev pub CallsDevice : Event → Reply → (before now : ℕ) → Type 0
+CallsDevice Issue (Issued x page) before now = now ≡ before + 1
+CallsDevice End (Ended n) before now = now ≡ before + 1
+CallsDevice Issue (Refused DeviceFault) before now = now ≤ before + 1
+CallsDevice End (Refused DeviceFault) before now = now ≤ before + 1
+CallsDevice Issue (Refused OutOfMemory) before now = now ≤ before + 1
+CallsDevice End (Refused OutOfMemory) before now = now ≤ before + 1
+CallsDevice event reply before now = now ≡ before

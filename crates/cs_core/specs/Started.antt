@@ -37,13 +37,13 @@ pub record IsNewStore (extents pages : ℕ) (store : Stored) (superblock root : 
   pub superblock_page : SpellsSuperblock superblock 1 pages (replicate extents (0, 0))
   pub root_page : SpellsRoot root 1 0 []
 
--- Nothing was written to the disk but superblock and root, on pages 0 and 1, and nothing was flushed.
+-- Only pages 0 and 1 were written on the disk, and nothing was flushed.
 pub record IsHeadWritten (old new : DiskState) : Type 0 where
   pub writes : List Write
   pub head : All (λ (w : Write). w.0 < 2) writes
   pub volatile : new.volatile ≡ old.volatile ++ writes
   pub durable : new.durable ≡ old.durable
 
--- nothing was written but superblock and root, and then all was flushed
+-- only pages 0 and 1 were written, and then all was flushed
 abbrev pub IsFormatted : (old new : DiskState) → Type 0
 IsFormatted old new = (between : DiskState) × IsHeadWritten old between × (new ≡ flushed between)

@@ -94,7 +94,7 @@ Serves old disk event reply new after = (s : model.State) → IsStateOf old s �
     → (m : model.Reply) × (t : model.State) × Says (shape old.extents) (formats_of (shape old.extents)) reply m
     × Step (shape old.extents) (formats_of (shape old.extents)) s (event_of event) m t × IsStateOf new t × IsDiskOf (shape old.extents) (formats_of (shape old.extents)) t after
 
--- nothing but rooms has changed, and nothing of an honest disk
+-- nothing but rooms has changed, and an honest disk holds what it held
 pub record IsUntouched {D : Type 0} (honest : D → Type 0) (state : D → DiskState) (old new : View D) : Type 0 where
   pub opened : new.opened ≡ old.opened
   pub found : new.found ≡ old.found

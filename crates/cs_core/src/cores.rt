@@ -6,13 +6,10 @@
 //! n isn't below the frontier, which no acknowledged number exceeds, nor above the number of commands accepted. The clauses `crash` and
 //! `left` of `Core::apply` say that the image is such a one; `a_crash_of_a_run_leaves_a_prefix` says it of many calls in a row;
 //! `recovers` of `Core::open` says that such an image is opened so.
-ghost use Rattle.std.specs.Prelude.{All, IfErr, IfOk, IsOk, IsSome, IsTrue, MatchOption, MatchResult, None, OnErr, OnOk, Some, [], length, take, ℕ, ◌*◌, ◌+◌, ◌<◌, ◌^◌, ◌↔◌, ◌≡◌, ◌≢◌, ◌≤◌, ◌⊎◌};
+ghost use Rattle.std.specs.Prelude.{IfErr, IfOk, IsOk, IsSome, IsTrue, MatchOption, MatchResult, None, OnErr, OnOk, Some, [], take, ℕ, ◌*◌, ◌+◌, ◌<◌, ◌^◌, ◌↔◌, ◌≡◌, ◌≢◌, ◌≤◌, ◌⊎◌};
 ghost use Rattle.cs_refine.specs.Crashes.{IsPrefix};
 ghost use Rattle.cs_chunk.specs.Reads.{IsNoAnswer};
-ghost use Rattle.cs_deps.specs.Chain.{IsChainOf};
 ghost use Rattle.cs_deps.specs.Named.{IsWithin};
-ghost use Rattle.cs_deps.specs.Rounds.{AreRounds};
-ghost use Rattle.cs_deps.specs.Schedule.{Covers, IsFewest, IsSchedule, Respects};
 ghost use Rattle.cs_deps.specs.Staging.{IsKept};
 ghost use Rattle.cs_deps.specs.State.{AreCounted, everything};
 ghost use Rattle.cs_deps.specs.View.{pending_of, rounds_of};
@@ -24,8 +21,9 @@ ghost use Rattle.cs_image.specs.Counts.{HasCount};
 ghost use Rattle.cs_model.specs.Element.{Map};
 ghost use Rattle.cs_model.specs.Geometry.{shape_of};
 ghost use Rattle.cs_model.specs.Recovery.{Recovers};
-ghost use Rattle.cs_core.specs.Asked.{AsksDevice};
+ghost use Rattle.cs_core.specs.Asked.{AsksDevice, CallsDevice};
 ghost use Rattle.cs_model.specs.State.{State};
+ghost use Rattle.cs_plan.specs.Best.{IsBestPlan};
 ghost use Rattle.cs_reclaim.specs.Sweeps.{IsNotSweepable};
 ghost use Rattle.cs_core.specs.Meanings.{commands_said};
 ghost use Rattle.cs_core.specs.Openings.{IsOpened, IsOpeningRefusal, IsWhyNotOpened};
@@ -49,7 +47,7 @@ use std::alloc::{AllocError, Global};
 use std::marker::Model;
 use std::snapshot::Snapshot;
 
-/// What a core may take.
+/// What bounds a core.
 #[derive(Clone, Copy, Debug, PartialEq, Eq)]
 pub struct Limits {
     /// How many events its history may have: with so many, any further one is refused 41 HistoryFull. It bounds the
@@ -191,8 +189,8 @@ impl<D: PageDisk> Core<D> {
         ensures answers { IfOk result (λ reply. MayAnswer event.now reply) }
         ensures writeback { IfOk result (λ reply. WritesBack self.old.store event.now reply self.new.store) }
         ensures rises { self.old.store.frontier ≤ self.new.store.frontier }
-        // What it asks of the disk, by what the disk holds then. A flush that finds nothing to flush shows nowhere there; that
-        // it would do no harm is `crash`.
+        // How many writes and flushes it makes, and which, by what the disk holds then.
+        ensures calls { D.honest self.old.disk → IfOk result (λ reply. CallsDevice event.now reply (D.moment self.old.disk) (D.moment self.new.disk)) }
         ensures device { D.honest self.old.disk → IfOk result (λ reply. AsksDevice self.old.store (D.state self.old.disk) event.now reply (D.state self.new.disk)) }
         ensures cause { IfOk result (λ reply. reply ≡ Reply.Refused Refusal.DeviceFault → Rises (D.failure_count self.old.disk) (D.failure_count self.new.disk)) }
         // A crash at any moment of the event leaves the map after some of the commands, as before it.
@@ -309,15 +307,7 @@ impl<D: PageDisk> Core<D> {
     pub fn plan(&self) -> Result<Plan, Refusal>
         ensures kept { IsKept self.now.store.graph.staging }
         ensures out { self.now.store.out ≡ self.now.store.graph.round }
-        ensures schedule { IfOk result (λ plan. IsSchedule self.now.store.graph.staging.pending (rounds_of plan)) }
-        ensures covers { IfOk result (λ plan. Covers self.now.store.graph.staging.pending (rounds_of plan) (everything self.now.store.graph.staging)) }
-        ensures respects { IfOk result (λ plan. Respects self.now.store.graph.staging.pending (rounds_of plan)) }
-        ensures fewest { IfOk result (λ plan. IsFewest self.now.store.graph.staging.pending (everything self.now.store.graph.staging) (rounds_of plan)) }
-        ensures chain { IfOk result (λ plan. IsChainOf self.now.store.graph.staging.pending (everything self.now.store.graph.staging) plan.chain.items) }
-        ensures chain_count { IfOk result (λ plan. length plan.chain.items ≡ length (rounds_of plan)) }
-        // Each round has exactly what is needed at its height, once.
-        ensures rounds { IfOk result (λ plan. AreRounds self.now.store.graph.staging.pending (everything self.now.store.graph.staging) (rounds_of plan)) }
-        ensures no_empty { IfOk result (λ plan. All (λ round. 0 < length round) (rounds_of plan)) }
+        ensures best { IfOk result (λ plan. IsBestPlan self.now.store.graph.staging.pending (everything self.now.store.graph.staging) (rounds_of plan) plan.chain.items) }
         ensures in_flight { (result ≡ Err Refusal.InFlight) ↔ IsSome self.now.store.graph.round }
         ensures refusals { IfErr result (λ r. (r ≡ Refusal.InFlight) ⊎ (r ≡ Refusal.OutOfMemory)) }
     {
@@ -327,15 +317,7 @@ impl<D: PageDisk> Core<D> {
     /// The plan that makes a dependency persistent. Refused 4 NotStaged, 5 InFlight where a round is out, and 9
     /// OutOfMemory. Time and memory grow with what waits.
     pub fn plan_for(&self, target: &Dependency) -> Result<Plan, Refusal>
-        ensures schedule { IfOk result (λ plan. IsSchedule self.now.store.graph.staging.pending (rounds_of plan)) }
-        ensures covers { IfOk result (λ plan. Covers self.now.store.graph.staging.pending (rounds_of plan) target.now) }
-        ensures respects { IfOk result (λ plan. Respects self.now.store.graph.staging.pending (rounds_of plan)) }
-        ensures fewest { IfOk result (λ plan. IsFewest self.now.store.graph.staging.pending target.now (rounds_of plan)) }
-        ensures chain { IfOk result (λ plan. IsChainOf self.now.store.graph.staging.pending target.now plan.chain.items) }
-        ensures chain_count { IfOk result (λ plan. length plan.chain.items ≡ length (rounds_of plan)) }
-        // Each round has exactly what is needed at its height, once.
-        ensures rounds { IfOk result (λ plan. AreRounds self.now.store.graph.staging.pending target.now (rounds_of plan)) }
-        ensures no_empty { IfOk result (λ plan. All (λ round. 0 < length round) (rounds_of plan)) }
+        ensures best { IfOk result (λ plan. IsBestPlan self.now.store.graph.staging.pending target.now (rounds_of plan) plan.chain.items) }
         ensures not_staged { (result ≡ Err Refusal.NotStaged) ↔ ¬ IsWithin target.now self.now.store.graph.staging.staged self.now.store.graph.staging.latest }
         ensures in_flight { (result ≡ Err Refusal.InFlight) ↔ (IsWithin target.now self.now.store.graph.staging.staged self.now.store.graph.staging.latest × IsSome self.now.store.graph.round) }
         ensures refusals { IfErr result (λ r. (r ≡ Refusal.NotStaged) ⊎ (r ≡ Refusal.InFlight) ⊎ (r ≡ Refusal.OutOfMemory)) }
@@ -370,7 +352,11 @@ impl<D: PageDisk> Core<D> {
         ensures within { D.honest self.now.disk → result.1 ≤ result.0 }
         // Where the disk is honest the history led to a state of the machine in which disk and store are.
         ensures legal { D.honest self.now.disk → (s : State) × IsIn D.state self.now s }
+        // A crash now leaves the map after some of the commands, none of the persistent ones left out.
+        ensures left { D.honest self.now.disk → Leaves (D.state self.now.disk) (IsPrefix (shape self.now.store.extents) (page self.now.opened) (commands_said self.now.history) self.now.store.frontier self.now.store.accepted) }
     {
+        // Called for its contract alone: what all extents keep.
+        self.store.extent_count();
         (self.store.accepted(), self.store.frontier())
     }
 

@@ -1,12 +1,10 @@
 //! Plans of a store.
-ghost use Rattle.std.specs.Prelude.{All, ◌≡◌, ◌<◌, ◌⊎◌, ◌↔◌, IfErr, IfOk, IsSome, length};
-ghost use Rattle.cs_deps.specs.Chain.{IsChainOf};
+ghost use Rattle.std.specs.Prelude.{◌≡◌, ◌⊎◌, ◌↔◌, IfErr, IfOk, IsSome};
 ghost use Rattle.cs_deps.specs.Named.{IsWithin};
-ghost use Rattle.cs_deps.specs.Rounds.{AreRounds};
-ghost use Rattle.cs_deps.specs.Schedule.{Covers, IsFewest, IsSchedule, Respects};
 ghost use Rattle.cs_deps.specs.Staging.{IsKept};
 ghost use Rattle.cs_deps.specs.State.{everything};
 ghost use Rattle.cs_deps.specs.View.{rounds_of};
+ghost use Rattle.cs_plan.specs.Best.{IsBestPlan};
 
 use crate::stores::Store;
 use cs_deps::{Dependency, Plan, Refusal};
@@ -18,14 +16,7 @@ impl Store {
     pub fn plan(&self, alloc: Global) -> Result<Plan, Refusal>
         ensures kept { IsKept self.now.graph.staging }
         ensures out { self.now.out ≡ self.now.graph.round }
-        ensures schedule { IfOk result (λ plan. IsSchedule self.now.graph.staging.pending (rounds_of plan)) }
-        ensures covers { IfOk result (λ plan. Covers self.now.graph.staging.pending (rounds_of plan) (everything self.now.graph.staging)) }
-        ensures respects { IfOk result (λ plan. Respects self.now.graph.staging.pending (rounds_of plan)) }
-        ensures fewest { IfOk result (λ plan. IsFewest self.now.graph.staging.pending (everything self.now.graph.staging) (rounds_of plan)) }
-        ensures chain { IfOk result (λ plan. IsChainOf self.now.graph.staging.pending (everything self.now.graph.staging) plan.chain.items) }
-        ensures chain_count { IfOk result (λ plan. length plan.chain.items ≡ length (rounds_of plan)) }
-        ensures rounds { IfOk result (λ plan. AreRounds self.now.graph.staging.pending (everything self.now.graph.staging) (rounds_of plan)) }
-        ensures no_empty { IfOk result (λ plan. All (λ round. 0 < length round) (rounds_of plan)) }
+        ensures best { IfOk result (λ plan. IsBestPlan self.now.graph.staging.pending (everything self.now.graph.staging) (rounds_of plan) plan.chain.items) }
         ensures in_flight { (result ≡ Err Refusal.InFlight) ↔ IsSome self.now.graph.round }
         ensures refusals { IfErr result (λ r. (r ≡ Refusal.InFlight) ⊎ (r ≡ Refusal.OutOfMemory)) }
     {
@@ -37,14 +28,7 @@ impl Store {
     /// The plan that makes a dependency persistent. Refused 4 NotStaged, 5 InFlight where a round is out, and 9
     /// OutOfMemory.
     pub fn plan_for(&self, alloc: Global, target: &Dependency) -> Result<Plan, Refusal>
-        ensures schedule { IfOk result (λ plan. IsSchedule self.now.graph.staging.pending (rounds_of plan)) }
-        ensures covers { IfOk result (λ plan. Covers self.now.graph.staging.pending (rounds_of plan) target.now) }
-        ensures respects { IfOk result (λ plan. Respects self.now.graph.staging.pending (rounds_of plan)) }
-        ensures fewest { IfOk result (λ plan. IsFewest self.now.graph.staging.pending target.now (rounds_of plan)) }
-        ensures chain { IfOk result (λ plan. IsChainOf self.now.graph.staging.pending target.now plan.chain.items) }
-        ensures chain_count { IfOk result (λ plan. length plan.chain.items ≡ length (rounds_of plan)) }
-        ensures rounds { IfOk result (λ plan. AreRounds self.now.graph.staging.pending target.now (rounds_of plan)) }
-        ensures no_empty { IfOk result (λ plan. All (λ round. 0 < length round) (rounds_of plan)) }
+        ensures best { IfOk result (λ plan. IsBestPlan self.now.graph.staging.pending target.now (rounds_of plan) plan.chain.items) }
         ensures not_staged { (result ≡ Err Refusal.NotStaged) ↔ ¬ IsWithin target.now self.now.graph.staging.staged self.now.graph.staging.latest }
         ensures in_flight { (result ≡ Err Refusal.InFlight) ↔ (IsWithin target.now self.now.graph.staging.staged self.now.graph.staging.latest × IsSome self.now.graph.round) }
         ensures refusals { IfErr result (λ r. (r ≡ Refusal.NotStaged) ⊎ (r ≡ Refusal.InFlight) ⊎ (r ≡ Refusal.OutOfMemory)) }

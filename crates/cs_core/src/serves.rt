@@ -1,10 +1,10 @@
 //! What one event does to a store and its disk, whichever it is.
 ghost use Rattle.std.specs.Prelude.{◌≡◌, ◌≤◌, ◌⊎◌, ◌↔◌, IfOk, OnErr};
 ghost use Rattle.cs_chunk.specs.Reads.{OnlyReads};
-ghost use Rattle.cs_disk.specs.Disk.{Elapses, Rises, State as DiskState};
+ghost use Rattle.cs_disk.specs.Disk.{GoesOn, Rises, State as DiskState};
 ghost use Rattle.cs_extent.specs.State.{shape};
 ghost use Rattle.cs_core.specs.Answered.{IsAnswered};
-ghost use Rattle.cs_core.specs.Asked.{AsksDevice};
+ghost use Rattle.cs_core.specs.Asked.{AsksDevice, CallsDevice};
 ghost use Rattle.cs_core.specs.Stored.{page_total, but_for_room};
 ghost use Rattle.cs_core.specs.Views.{Serves};
 
@@ -32,9 +32,10 @@ impl Store {
         ensures refused { OnErr result (but_for_room self.new ≡ but_for_room self.old) }
         ensures same { D.honest disk.old → OnErr result (D.state disk.new ≡ D.state disk.old) }
         ensures shape { shape self.new.extents ≡ shape self.old.extents }
-        ensures time { D.honest disk.old → Elapses (D.moment disk.old) (D.moment disk.new) (D.left_since disk.old) (D.left_since disk.new) (D.state disk.new) }
+        ensures time { GoesOn D.honest D.state D.moment D.left_since disk.old disk.new }
         ensures honest { D.honest disk.old ↔ D.honest disk.new }
         ensures pages { D.page_count disk.new ≡ D.page_count disk.old }
+        ensures calls { D.honest disk.old → IfOk result (λ r. CallsDevice event.now r.0 (D.moment disk.old) (D.moment disk.new)) }
         ensures device { D.honest disk.old → IfOk result (λ r. AsksDevice (but_for_room self.old) (D.state disk.old) event.now r.0 (D.state disk.new)) }
         ensures cause { IfOk result (λ r. r.0 ≡ Reply.Refused Refusal.DeviceFault → Rises (D.failure_count disk.old) (D.failure_count disk.new)) }
     {

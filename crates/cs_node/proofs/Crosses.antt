@@ -75,5 +75,5 @@ pub locked_send : (D K : RattleType) (d : Disks D.Denot) (n : Names K.Denot) →
 locked_send D K d n s k = search (sendable, crosses, core_send, seat_send) depth 40 fits 20000
 
 -- threads may share a node
-pub node_sync : (D K : RattleType) (d : Disks D.Denot) (n : Names K.Denot) → IsSend D → IsSend K → IsSync K → IsSync (node.the_row D K d n)
+pub node_sync : (D K : RattleType) (d : Disks D.Denot) (n : Names K.Denot) → IsSend D → IsSend K → IsSync K → IsSync (node.the_row D K n d)
 node_sync D K d n s k l = search (sendable, crosses, locked_send, shared_sync, lease_sync) depth 40 fits 20000

@@ -1,19 +1,27 @@
 -- What an event leaves of a core.
-use Rattle.std.proofs.Common.{◌≡◌, ◌≢◌, Err, IfErr, IsErrAnd, Ok, Result, false, ap, ⊎_elim, refl, subst, sym}
+use Rattle.std.proofs.Common.{◌≡◌, ◌≢◌, ℕ, List, Err, IfErr, IfOk, IfSome, IsErrAnd, MatchOption, None, Ok, Option, Result, Some, false, ap, ⊎_elim, refl, subst, sym}
 use Rattle.cs_deps.specs.declared.refusals.Refusal.{Refusal}
 use Rattle.cs_deps.specs.declared.refusals.Refusal.TheVariants.{HistoryFull, OutOfMemory}
-use Rattle.cs_disk.specs.Disk.{State as DiskState}
+use Rattle.cs_disk.specs.Disk.{Leaves, State as DiskState, page}
 use Rattle.cs_model.specs.Refusal as ground
 use Rattle.cs_model.specs.State.{State}
 use Rattle.cs_refine.specs.Refusals.{refusal_for}
+use Rattle.cs_refine.specs.Crashes.{IsPrefix}
+use Rattle.cs_core.specs.Meanings.{commands_said}
 use Rattle.cs_core.specs.Replies.{MayAnswer}
 use Rattle.cs_core.specs.declared.events.Event.{Event}
 use Rattle.cs_core.specs.declared.events.Event.TheVariants.{Abandon, Begin, BeginSweep, Delete, End, Get, Issue, MoveOne, Put, Retire, Settle, Stage}
 use Rattle.cs_core.specs.declared.events.Reply.{Reply}
 use Rattle.cs_core.specs.declared.events.Reply.TheVariants.{Refused}
 use Rattle.cs_core.specs.Views.{Applies, IsFull, IsIn, IsStep, View}
-use Rattle.cs_node.specs.Locks.{Declines}
+use Rattle.cs_node.specs.Locks.{Declines, IsBehind}
+use Rattle.cs_node.specs.Starts.{Start}
 use Rattle.cs_node.specs.Told.{is_unrecorded}
+use Rattle.cs_node.specs.Under.{Under}
+
+-- what a guard holds is behind the lock where what the lock gave is
+pub behind_at : {D : Type 0} (honest : D → Type 0) (state : D → DiskState) (start : Start) (u v : Under D) → v ≡ u → IsBehind honest state start u.engine.core → IsBehind honest state start v.engine.core
+behind_at honest state start u v same behind = subst (λ (w : Under _). IsBehind honest state start w.engine.core) (sym same) behind
 
 -- what isn't told to be full was recorded
 pub recorded : {D : Type 0} (honest : D → Type 0) (state : D → DiskState) (old : View D) (e : Event) (r : Reply) (new : View D)
@@ -68,6 +76,26 @@ no_want (Abandon x) r may full = may
 -- a refusal that was recorded is one that a history records
 pub is_recorded : (e : Event) (r : Refusal) → MayAnswer e (Refused r) → Refused r ≢ Refused HistoryFull → is_unrecorded r ≡ false
 is_recorded e r may other = let full : r ≢ HistoryFull = λ same. other (ap Refused same) in recorded_as r (no_want e r may full) full
+
+-- what is so of a value is so of one that is given on
+pub if_ok : {T E : Type 0} {P Q : T → Type 0} (result : Result T E) → ((t : T) → P t → Q t) → IfOk result P → IfOk result Q
+if_ok (Ok t) gives p = gives t p
+if_ok (Err e) gives p = tt
+
+pub if_some : {T : Type 0} {P Q : T → Type 0} (N : Type 0) (o : Option T) → ((t : T) → P t → Q t) → MatchOption o N P → IfSome o Q
+if_some N (Some t) gives p = gives t p
+if_some N None gives p = tt
+
+-- what a crash leaves of a core it leaves of the disk, the history and the counts that were taken of it
+pub left_of_parts : {D : Type 0} (state : D → DiskState) (start : Start) (core : View D) (disk : D) (history : List (Event × Reply)) (frontier accepted : ℕ)
+    → disk ≡ core.disk → history ≡ core.history → frontier ≡ core.store.frontier → accepted ≡ core.store.accepted
+    → Leaves (state core.disk) (IsPrefix start.shape (page start.opened) (commands_said core.history) core.store.frontier core.store.accepted)
+    → Leaves (state disk) (IsPrefix start.shape (page start.opened) (commands_said history) frontier accepted)
+left_of_parts state start core disk history frontier accepted same_disk same_history same_frontier same_accepted left =
+    subst (λ d. Leaves (state d) (IsPrefix start.shape (page start.opened) (commands_said history) frontier accepted)) (sym same_disk)
+    (subst (λ (h : List (Event × Reply)). Leaves (state core.disk) (IsPrefix start.shape (page start.opened) (commands_said h) frontier accepted)) (sym same_history)
+    (subst (λ (f : ℕ). Leaves (state core.disk) (IsPrefix start.shape (page start.opened) (commands_said core.history) f accepted)) (sym same_frontier)
+    (subst (λ (n : ℕ). Leaves (state core.disk) (IsPrefix start.shape (page start.opened) (commands_said core.history) core.store.frontier n)) (sym same_accepted) left)))
 
 -- a refusal that is passed on
 pub if_same : {T : Type 0} (result : Result T Refusal) (P : Refusal → Type 0) (r : Refusal) → IsErrAnd result (λ x. x ≡ r) → P r → IfErr result P

@@ -61,17 +61,15 @@ IsTurn honest state old result new = MatchResult result (λ step. Turns honest s
 abbrev pub IsStaged : {D : Type 0} → (honest : D → Type 0) → (state : D → DiskState) → (old : View D) → Result ℕ Refusal → (new : View D) → Type 0
 IsStaged honest state old result new = MatchResult result (λ accepted. (reply : Reply) × IsStep honest state old asked.Stage reply new × IsDone reply × (accepted ≡ new.store.accepted)) (λ r. IsRefused honest state old asked.Stage r new)
 
--- so many commands as were wanted are persistent, and nothing was done; or at most one event was done, or it was refused
-abbrev pub IsAdvance : {D : Type 0} → (honest : D → Type 0) → (state : D → DiskState) → (old : View D) → ℕ → Result (Option ℕ) Refusal → (new : View D) → Type 0
+-- as many commands as were wanted are persistent, and nothing was done; or fewer are, and at most one event was done, or it was refused
+abbrev pub IsAdvance : {D A : Type 0} → (honest : D → Type 0) → (state : D → DiskState) → (old : View D) → ℕ → Result A Refusal → (new : View D) → Type 0
 IsAdvance honest state old target result new = MatchResult result
-    (λ reached. MatchOption reached ((step : Step) × Turns honest state old step new) (λ frontier. (new ≡ old) × (frontier ≡ old.store.frontier) × (target ≤ frontier)))
-    (λ r. IsTurnRefused honest state old r new)
+    (λ _. ((target ≤ old.store.frontier) × (new ≡ old)) ⊎ ((old.store.frontier < target) × ((step : Step) × Turns honest state old step new)))
+    (λ r. (old.store.frontier < target) × IsTurnRefused honest state old r new)
 
--- a sync: once it staged, and at last as many commands were persistent as were accepted then
+-- a sync: once it staged, and it answers no fewer commands than were accepted then
 abbrev pub Syncs : {D : Type 0} → (honest : D → Type 0) → (state : D → DiskState) → Start → (frontier : ℕ) → Type 0
-Syncs honest state start frontier = (target : ℕ) × (target ≤ frontier)
-    × WhileLocked honest state start (λ old new. IsStaged honest state old (Ok target) new)
-    × WhileLocked honest state start (λ old new. (new ≡ old) × (frontier ≡ old.store.frontier))
+Syncs honest state start frontier = (target : ℕ) × (target ≤ frontier) × WhileLocked honest state start (λ old new. IsStaged honest state old (Ok target) new)
 
 -- the event of a sync that was refused: its Stage, or one that was due then
 abbrev pub IsSyncRefused : {D : Type 0} → (honest : D → Type 0) → (state : D → DiskState) → (old : View D) → Refusal → (new : View D) → Type 0

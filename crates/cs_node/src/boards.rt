@@ -1,9 +1,9 @@
 //! The board: one word that tells how many commands are persistent.
-ghost use Rattle.std.specs.Prelude.{◌≡◌, [], IfOk};
+ghost use Rattle.std.specs.Prelude.{◌≡◌, ◌≤◌, [], IfOk};
 
-use atomic_table::{Play, Seat, Shared, Split, Table, TableRule};
+use atomic_table::{Play, Seat, Split, Table, TableRule};
 use std::alloc::{AllocError, Global};
-use std::marker::{Brand, Model};
+use std::marker::{Brand, Model, PhantomData};
 
 /// Names a board, and the start of the core behind it. Whoever makes a node picks both.
 pub trait Naming {
@@ -55,9 +55,36 @@ impl Split<u64> for Alike {
 
 pub type Words = Table<(), u64, (), Mirror, Global>;
 
-pub type Shown = Shared<(), u64, (), Mirror>;
-
 pub type Reader = Seat<(), u64>;
+
+/// The board that K names.
+#[derive(Drop)]
+pub struct NamedBoard<K: Naming> {
+    pub(crate) words: Words,
+    pub(crate) of: PhantomData<K>,
+    ghost named: { words.shared.table_id ≡ K.table },
+    ghost one_word: { words.shared.table_id.words ≡ 1 },
+}
+
+impl<K: Naming> NamedBoard<K> {
+    /// Loads the word, which is the view of this seat then.
+    pub(crate) fn look(&self, seat: &mut Reader) -> u64
+        requires { (seat.old.table_id ≡ K.table) × (seat.old.me.1 ≡ []) }
+        ensures seat { (seat.new.table_id ≡ K.table) × (seat.new.me ≡ (result, [])) }
+        ensures later { seat.old.me.0 ≤ result }
+    {
+        self.words.shared.load::<Sees>(seat, 0)
+    }
+
+    /// A new seat with the view of this one.
+    pub(crate) fn split(&self, seat: &mut Reader) -> Reader
+        requires { seat.old.table_id ≡ K.table }
+        ensures kept { (seat.new.table_id ≡ seat.old.table_id) × (seat.new.id ≡ seat.old.id) × (seat.new.me ≡ seat.old.me) }
+        ensures made { (result.table_id ≡ K.table) × (result.me ≡ (seat.old.me.0, [])) }
+    {
+        self.words.shared.split_seat::<Alike>(seat)
+    }
+}
 
 /// A board that no node has yet. Contracts see its name.
 #[derive(Drop)]

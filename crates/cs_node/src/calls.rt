@@ -6,9 +6,9 @@ ghost use Rattle.cs_node.specs.Answers.{Gets, Settles, deleted};
 ghost use Rattle.cs_node.specs.Locks.{Declines, IsAnswered, IsBehind, IsCallRefused, IsGot, IsSettledBy};
 ghost use Rattle.cs_node.specs.Told.{Adds, Below, Refuses};
 
-use crate::boards::{Naming, Shown};
+use crate::boards::{NamedBoard, Naming};
 use crate::gates::Gate;
-use crate::locked::Locked;
+use crate::locked::Engine;
 use crate::logs::Log;
 use crate::nodes::{Settled, Why};
 use crate::purses::Purse;
@@ -18,17 +18,16 @@ use cs_deps::Refusal;
 use cs_disk::PageDisk;
 use cs_frame::ShardId;
 
-impl<D: PageDisk, K: Naming> Locked<D, K> {
+impl<D: PageDisk, K: Naming> Engine<D, K> {
     /// Does one event for a purse, which has room for it then, and gives its place and its reply. Refused 9 OutOfMemory and
     /// 41 HistoryFull; nothing is recorded then.
     fn ask<G: Gate>(
         &mut self,
-        board: &Shown,
+        board: &NamedBoard<K>,
         log: &mut Log,
         event: &Event,
         gate: &G,
     ) -> Result<(u64, Reply), Refusal>
-        requires board { (board.now.table_id ≡ K.table) × (board.now.table_id.words ≡ 1) }
         requires fresh { self.old.fresh ≡ true }
         ensures step { IfOk result (λ told. IsStep D.honest D.state self.old.core event.now told.1 self.new.core) }
         ensures place { IfOk result (λ told. told.0 ≡ length self.old.core.history) }
@@ -39,8 +38,6 @@ impl<D: PageDisk, K: Naming> Locked<D, K> {
         ensures calls { log.new.calls ≡ log.old.calls }
         ensures err { IfErr result (λ r. (r ≡ Refusal.OutOfMemory) ⊎ (r ≡ Refusal.HistoryFull)) }
         ensures declined { IfErr result (λ r. Declines D.honest D.state self.old.core r self.new.core) }
-        ensures given { (self.new.given ≡ self.old.given) × (self.new.piloted ≡ self.old.piloted) }
-        ensures behind { IsBehind D.honest D.state K.start self.old.core }
     {
         let place = self.core().history().len() as u64;
         if !log.is_above(place) || log.reserve().is_err() {
@@ -53,19 +50,16 @@ impl<D: PageDisk, K: Naming> Locked<D, K> {
     /// Keeps bytes under an identifier.
     pub fn put<G: Gate>(
         &mut self,
-        board: &Shown,
+        board: &NamedBoard<K>,
         purse: &mut Purse<K>,
         id: ShardId,
         bytes: Bytes,
         gate: &G,
     ) -> Result<Ticket<K>, Refusal>
-        requires board { (board.now.table_id ≡ K.table) × (board.now.table_id.words ≡ 1) }
         requires fresh { self.old.fresh ≡ true }
         ensures ok { IfOk result (λ ticket. Adds purse.old (Event.Put id bytes) (Reply.Accepted ticket) purse.new) }
         ensures err { IfErr result (λ r. Refuses purse.old (Event.Put id bytes) r purse.new) }
         ensures step { IsAnswered D.honest D.state self.old.core purse.old (Event.Put id bytes) (λ n. Reply.Accepted n) result self.new.core purse.new }
-        ensures given { (self.new.given ≡ self.old.given) × (self.new.piloted ≡ self.old.piloted) }
-        ensures behind { IsBehind D.honest D.state K.start self.old.core }
     {
         let event = Event::Put(id, bytes);
         let (place, reply) = self.ask(board, &mut purse.log, &event, gate)?;
@@ -85,18 +79,15 @@ impl<D: PageDisk, K: Naming> Locked<D, K> {
     /// Reads what is under an identifier.
     pub fn get<G: Gate>(
         &mut self,
-        board: &Shown,
+        board: &NamedBoard<K>,
         purse: &mut Purse<K>,
         id: ShardId,
         gate: &G,
     ) -> Result<bool, Refusal>
-        requires board { (board.now.table_id ≡ K.table) × (board.now.table_id.words ≡ 1) }
         requires fresh { self.old.fresh ≡ true }
         ensures ok { IfOk result (λ there. Gets purse.old id there purse.new) }
         ensures err { IfErr result (λ r. Refuses purse.old (Event.Get id) r purse.new) }
         ensures step { MatchResult result (λ there. IsGot D.honest D.state self.old.core purse.old id there self.new.core purse.new) (λ r. IsCallRefused D.honest D.state self.old.core purse.old (Event.Get id) r self.new.core purse.new) }
-        ensures given { (self.new.given ≡ self.old.given) × (self.new.piloted ≡ self.old.piloted) }
-        ensures behind { IsBehind D.honest D.state K.start self.old.core }
     {
         let event = Event::Get(id);
         let (place, reply) = self.ask(board, &mut purse.log, &event, gate)?;
@@ -120,18 +111,15 @@ impl<D: PageDisk, K: Naming> Locked<D, K> {
     /// Deletes an identifier.
     pub fn delete<G: Gate>(
         &mut self,
-        board: &Shown,
+        board: &NamedBoard<K>,
         purse: &mut Purse<K>,
         id: ShardId,
         gate: &G,
     ) -> Result<Option<Ticket<K>>, Refusal>
-        requires board { (board.now.table_id ≡ K.table) × (board.now.table_id.words ≡ 1) }
         requires fresh { self.old.fresh ≡ true }
         ensures ok { IfOk result (λ ticket. Adds purse.old (Event.Delete id) (deleted ticket) purse.new) }
         ensures err { IfErr result (λ r. Refuses purse.old (Event.Delete id) r purse.new) }
         ensures step { IsAnswered D.honest D.state self.old.core purse.old (Event.Delete id) deleted result self.new.core purse.new }
-        ensures given { (self.new.given ≡ self.old.given) × (self.new.piloted ≡ self.old.piloted) }
-        ensures behind { IsBehind D.honest D.state K.start self.old.core }
     {
         let event = Event::Delete(id);
         let (place, reply) = self.ask(board, &mut purse.log, &event, gate)?;
@@ -155,17 +143,14 @@ impl<D: PageDisk, K: Naming> Locked<D, K> {
     /// Asks whether a command is persistent.
     pub fn settle<G: Gate>(
         &mut self,
-        board: &Shown,
+        board: &NamedBoard<K>,
         purse: &mut Purse<K>,
         ticket: Ticket<K>,
         gate: &G,
     ) -> Settled<K>
-        requires board { (board.now.table_id ≡ K.table) × (board.now.table_id.words ≡ 1) }
         requires fresh { self.old.fresh ≡ true }
         ensures told { Settles purse.old ticket result purse.new }
         ensures step { IsSettledBy D.honest D.state self.old.core purse.old ticket result self.new.core purse.new }
-        ensures given { (self.new.given ≡ self.old.given) × (self.new.piloted ≡ self.old.piloted) }
-        ensures behind { IsBehind D.honest D.state K.start self.old.core }
     {
         let event = Event::Settle(ticket.number());
         match self.ask(board, &mut purse.log, &event, gate) {

@@ -1,9 +1,9 @@
 //! What lies under the lock, and the lock.
 //!
-//! Under one lock at most one event is done. `Locked::apply`, the one function that has the core do an event, wants that none was done since
+//! Under one lock at most one event is done. `Engine::apply`, the one function that has the core do an event, requires that none was done since
 //! the lock was taken, and afterwards one was. That none was is known of what `Lock::take` gives, and of nothing else: the mutex, the core
 //! and the mark are private to this file. So a function that does a second event without taking the lock again isn't proved.
-ghost use Rattle.std.specs.Prelude.{◌≡◌, ◌≢◌, ◌⊎◌, ◌+◌, [], IfErr, IfOk, MatchOption, OnErr, false, true};
+ghost use Rattle.std.specs.Prelude.{◌≡◌, ◌≢◌, ◌⊎◌, ◌+◌, ◌^◌, ◌≤◌, [], IfErr, IfOk, MatchOption, OnErr, false, true};
 ghost use Rattle.std.specs.Sync.Mutex.{mutex_guard_value};
 ghost use Rattle.cs_core.specs.Replies.{MayAnswer};
 ghost use Rattle.cs_core.specs.Views.{Applies, IsUntouched, IsStep};
@@ -12,7 +12,7 @@ ghost use Rattle.cs_node.specs.Starts.{start_of};
 ghost use Rattle.cs_node.specs.Told.{empty};
 
 use crate::alike::is_full;
-use crate::boards::{Alike, Naming, Reader, Sees, Shown};
+use crate::boards::{NamedBoard, Naming, Reader, Sees};
 use crate::gates::{Gate, step_of};
 use crate::pilots::Pilot;
 use crate::purses::Purse;
@@ -24,29 +24,43 @@ use std::marker::{Model, PhantomData};
 use std::snapshot::Snapshot;
 use std::sync::{Mutex, MutexGuard, Wait};
 
-/// The core, the keeper's seat at the board, and what the node gave: purses and the pilot. Contracts see the core, these, and whether no
-/// event was done since the lock was taken.
+/// A core, and the keeper's seat at the board that K names. Contracts see the core, and whether no event was done since the lock was
+/// taken.
 #[derive(Drop)]
-pub struct Locked<D: PageDisk, K: Naming> {
+pub struct Engine<D: PageDisk, K: Naming> {
     core: Core<D>,
     keeper: Reader,
-    given: u64,
-    piloted: bool,
     // it costs no bytes
     fresh: Snapshot<bool>,
     of: PhantomData<K>,
 }
 
-impl<D: PageDisk, K: Naming> Model for Locked<D, K> {
+impl<D: PageDisk, K: Naming> Model for Engine<D, K> {
     ghost use Rattle.std.specs.Prelude.{◌≡◌, []};
     ghost use Rattle.cs_node.specs.Starts.{start_of};
+    ghost use Rattle.cs_node.specs.Under.{EngineView};
+
+    ghost Value = { EngineView D };
+
+    ghost view = { λ s. record { core = s.core; fresh = s.fresh.value } };
+
+    ghost invariant = { λ s. (start_of s.core ≡ K.start) × (s.keeper.table_id ≡ K.table) × (s.keeper.id ≡ 0) × (s.keeper.me ≡ (s.core.store.frontier, [])) };
+}
+
+/// What does events, and what the node gave: purses and the pilot.
+#[derive(Drop)]
+pub struct Locked<D: PageDisk, K: Naming> {
+    pub engine: Engine<D, K>,
+    given: u64,
+    piloted: bool,
+}
+
+impl<D: PageDisk, K: Naming> Model for Locked<D, K> {
     ghost use Rattle.cs_node.specs.Under.{Under};
 
     ghost Value = { Under D };
 
-    ghost view = { λ s. record { core = s.core; given = s.given; piloted = s.piloted; fresh = s.fresh.value } };
-
-    ghost invariant = { λ s. (start_of s.core ≡ K.start) × (s.keeper.table_id ≡ K.table) × (s.keeper.id ≡ 0) × (s.keeper.me ≡ (s.core.store.frontier, [])) };
+    ghost view = { λ s. record { engine = s.engine; given = s.given; piloted = s.piloted } };
 }
 
 /// The lock. Each time it is taken, one event may be done.
@@ -65,10 +79,11 @@ impl<D: PageDisk, K: Naming> Lock<D, K> {
 
     /// Takes the lock, for at most one event.
     pub fn take<R: Wait>(&self, rt: &R) -> MutexGuard<'_, Locked<D, K>>
-        ensures { (mutex_guard_value result).fresh ≡ true }
+        ensures fresh { (mutex_guard_value result).engine.fresh ≡ true }
+        ensures behind { IsBehind D.honest D.state K.start (mutex_guard_value result).engine.core }
     {
         let mut guard = self.mutex.lock(rt);
-        guard.fresh = Snapshot::of(&true);
+        guard.engine.refresh();
         guard
     }
 
@@ -79,31 +94,37 @@ impl<D: PageDisk, K: Naming> Lock<D, K> {
     }
 }
 
-impl<D: PageDisk, K: Naming> Locked<D, K> {
-    /// A core and the keeper's seat, where nothing was given yet.
-    pub fn new(core: Core<D>, keeper: Reader) -> Self
+impl<D: PageDisk, K: Naming> Engine<D, K> {
+    /// A core, and the keeper's seat.
+    fn new(core: Core<D>, keeper: Reader) -> Self
         requires start { start_of core ≡ K.start }
         requires keeper { (keeper.table_id ≡ K.table) × (keeper.id ≡ 0) × (keeper.me ≡ (core.store.frontier, [])) }
-        ensures { result ≡ record { core = core; given = 0; piloted = false; fresh = false } }
+        ensures { result ≡ record { core = core; fresh = false } }
     {
-        Locked {
+        Engine {
             core,
             keeper,
-            given: 0,
-            piloted: false,
             fresh: Snapshot::of(&false),
             of: PhantomData,
         }
     }
 
+    /// As the lock is taken.
+    fn refresh(&mut self)
+        ensures fresh { self.new ≡ record self.old { fresh = true } }
+        ensures behind { IsBehind D.honest D.state K.start self.new.core }
+    {
+        self.fresh = Snapshot::of(&true);
+        // Called for its contract alone: what a core behind the lock keeps.
+        self.core();
+    }
+
     /// Does the one event of this lock. Where it makes more commands persistent, the board tells.
-    fn apply(&mut self, board: &Shown, event: &Event) -> Result<Reply, OutOfMemory>
-        requires board { (board.now.table_id ≡ K.table) × (board.now.table_id.words ≡ 1) }
+    fn apply(&mut self, board: &NamedBoard<K>, event: &Event) -> Result<Reply, OutOfMemory>
         requires fresh { self.old.fresh ≡ true }
         ensures step { IfOk result (λ reply. Applies D.honest D.state self.old.core event.now reply self.new.core) }
         ensures memory { OnErr result (IsUntouched D.honest D.state self.old.core self.new.core) }
         ensures answers { IfOk result (λ reply. MayAnswer event.now reply) }
-        ensures given { (self.new.given ≡ self.old.given) × (self.new.piloted ≡ self.old.piloted) }
         ensures spent { self.new.fresh ≡ false }
     {
         self.fresh = Snapshot::of(&false);
@@ -111,7 +132,8 @@ impl<D: PageDisk, K: Naming> Locked<D, K> {
         let reply = self.core.apply(event)?;
         let frontier = self.core.frontier();
         if before < frontier {
-            board.store::<Sees>(&mut self.keeper, 0, frontier);
+            let shown = &board.words.shared;
+            shown.store::<Sees>(&mut self.keeper, 0, frontier);
         }
         Ok(reply)
     }
@@ -120,19 +142,16 @@ impl<D: PageDisk, K: Naming> Locked<D, K> {
     /// 41 HistoryFull; nothing is recorded then.
     pub fn record<G: Gate>(
         &mut self,
-        board: &Shown,
+        board: &NamedBoard<K>,
         event: &Event,
         gate: &G,
     ) -> Result<Reply, Refusal>
-        requires board { (board.now.table_id ≡ K.table) × (board.now.table_id.words ≡ 1) }
         requires fresh { self.old.fresh ≡ true }
         ensures step { IfOk result (λ reply. IsStep D.honest D.state self.old.core event.now reply self.new.core) }
         ensures answers { IfOk result (λ reply. MayAnswer event.now reply) }
         ensures recorded { IfOk result (λ reply. reply ≢ Reply.Refused Refusal.HistoryFull) }
         ensures err { IfErr result (λ r. (r ≡ Refusal.OutOfMemory) ⊎ (r ≡ Refusal.HistoryFull)) }
         ensures declined { IfErr result (λ r. Declines D.honest D.state self.old.core r self.new.core) }
-        ensures given { (self.new.given ≡ self.old.given) × (self.new.piloted ≡ self.old.piloted) }
-        ensures behind { IsBehind D.honest D.state K.start self.old.core }
     {
         // Called for its contract alone: what a core behind the lock keeps.
         self.core();
@@ -146,29 +165,54 @@ impl<D: PageDisk, K: Naming> Locked<D, K> {
         Ok(reply)
     }
 
+    /// The core, which was opened on what K names.
+    pub fn core(&self) -> &Core<D>
+        ensures core { result.now ≡ self.now.core }
+        ensures behind { IsBehind D.honest D.state K.start self.now.core }
+    {
+        // Called for its contract alone: that the history is legal.
+        self.core.progress();
+        &self.core
+    }
+}
+
+impl<D: PageDisk, K: Naming> Locked<D, K> {
+    /// A core and the keeper's seat, where nothing was given yet.
+    pub fn new(core: Core<D>, keeper: Reader) -> Self
+        requires start { start_of core ≡ K.start }
+        requires keeper { (keeper.table_id ≡ K.table) × (keeper.id ≡ 0) × (keeper.me ≡ (core.store.frontier, [])) }
+        ensures { result ≡ record { engine = record { core = core; fresh = false }; given = 0; piloted = false } }
+    {
+        Locked {
+            engine: Engine::new(core, keeper),
+            given: 0,
+            piloted: false,
+        }
+    }
+
     /// A purse with a seat of its own. Refused 35 WornOut past the greatest number of purses.
-    pub fn give(&mut self, board: &Shown, alloc: Global) -> Result<Purse<K>, Refusal>
-        requires { (board.now.table_id ≡ K.table) × (board.now.table_id.words ≡ 1) }
-        ensures ok { IfOk result (λ purse. (purse ≡ empty self.old.core.store.frontier) × (self.new ≡ record self.old { given = self.old.given + 1 })) }
-        ensures err { IfErr result (λ r. (r ≡ Refusal.WornOut) × (self.new ≡ self.old)) }
+    pub fn give(&mut self, board: &NamedBoard<K>, alloc: Global) -> Result<Purse<K>, Refusal>
+        ensures ok { IfOk result (λ purse. (purse ≡ empty self.old.engine.core.store.frontier) × (self.new ≡ record self.old { given = self.old.given + 1 })) }
+        ensures err { IfErr result (λ r. (r ≡ Refusal.WornOut) × (2 ^ 63 ≤ self.old.given + 1) × (self.new ≡ self.old)) }
     {
         if self.given >= LAST_NUMBER {
             return Err(Refusal::WornOut);
         }
-        let reader = board.split_seat::<Alike>(&mut self.keeper);
+        let reader = board.split(&mut self.engine.keeper);
         self.given += 1;
         Ok(Purse::new(alloc, reader))
     }
 
-    /// The pilot, None once it was given.
-    pub fn hire(&mut self) -> Option<Pilot<K>>
-        ensures { MatchOption result ((self.old.piloted ≡ true) × (self.new ≡ self.old)) (λ _. (self.old.piloted ≡ false) × (self.new ≡ record self.old { piloted = true })) }
+    /// The pilot with a seat of its own, None once it was given.
+    pub fn hire(&mut self, board: &NamedBoard<K>) -> Option<Pilot<K>>
+        ensures { MatchOption result ((self.old.piloted ≡ true) × (self.new ≡ self.old)) (λ pilot. (self.old.piloted ≡ false) × (pilot ≡ self.old.engine.core.store.frontier) × (self.new ≡ record self.old { piloted = true })) }
     {
         if self.piloted {
             return None;
         }
+        let reader = board.split(&mut self.engine.keeper);
         self.piloted = true;
-        Some(Pilot::new())
+        Some(Pilot::new(reader))
     }
 
     /// How many purses were given.
@@ -178,30 +222,21 @@ impl<D: PageDisk, K: Naming> Locked<D, K> {
         self.given
     }
 
-    /// The core, which was opened on what K names.
-    pub fn core(&self) -> &Core<D>
-        ensures core { result.now ≡ self.now.core }
-        ensures start { start_of self.now.core ≡ K.start }
-        ensures behind { IsBehind D.honest D.state K.start self.now.core }
-    {
-        // Called for its contract alone: that the history is legal.
-        self.core.progress();
-        &self.core
-    }
-
     /// The core alone.
     pub fn into_core(self) -> Core<D>
-        ensures core { result ≡ self.core }
-        ensures start { start_of self.core ≡ K.start }
+        ensures { result ≡ self.engine.core }
     {
         let Locked {
-            core,
-            keeper: _,
+            engine,
             given: _,
             piloted: _,
+        } = self;
+        let Engine {
+            core,
+            keeper: _,
             fresh: _,
             of: _,
-        } = self;
+        } = engine;
         core
     }
 }

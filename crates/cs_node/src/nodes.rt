@@ -3,9 +3,9 @@ ghost use Rattle.std.specs.Prelude.{◌≡◌, [], IfErr, IfOk};
 ghost use Rattle.cs_node.specs.Answers.{Settles, deleted, got};
 ghost use Rattle.cs_node.specs.Locks.{IsAnswered, IsSettledBy, WhileLocked};
 ghost use Rattle.cs_node.specs.Starts.{start_of};
-ghost use Rattle.cs_node.specs.Told.{Adds, Refuses};
+ghost use Rattle.cs_node.specs.Told.{Adds, Refuses, empty};
 
-use crate::boards::{Board, Naming, Words};
+use crate::boards::{Board, NamedBoard, Naming};
 use crate::gates::{Gate, Open};
 use crate::locked::{Lock, Locked};
 use crate::purses::Purse;
@@ -15,16 +15,15 @@ use cs_deps::Refusal;
 use cs_disk::PageDisk;
 use cs_frame::ShardId;
 use std::alloc::Global;
+use std::marker::PhantomData;
 use std::sync::Wait;
 
-/// A core under its lock, and its board. Each call takes the lock at most once at a time, for at most one event: an event wants that none
-/// was done since the lock was taken, so under one lock a second one isn't proved.
+/// A core under its lock, and its board. Each call takes the lock at most once at a time, for at most one event: `Engine::apply` requires
+/// that no event was done since the lock was taken, so code that does a second one under the same lock isn't proved.
 #[derive(Drop)]
 pub struct Node<D: PageDisk, K: Naming> {
     pub(crate) lock: Lock<D, K>,
-    pub(crate) words: Words,
-    ghost named: { words.shared.table_id ≡ K.table },
-    ghost one_word: { words.shared.table_id.words ≡ 1 },
+    pub(crate) board: NamedBoard<K>,
 }
 
 /// Why a ticket came back from a settle.
@@ -41,7 +40,9 @@ pub enum Why {
 /// What a settle answers.
 #[derive(Drop)]
 pub enum Settled<K: Naming> {
+    /// The command is persistent.
     Done(Ack<K>),
+    /// The same ticket again, and why.
     Back(Ticket<K>, Why),
 }
 
@@ -57,16 +58,19 @@ impl<D: PageDisk, K: Naming> Node<D, K> {
         let Board { words, keeper } = board;
         Node {
             lock: Lock::new(Locked::new(core, keeper)),
-            words,
+            board: NamedBoard {
+                words,
+                of: PhantomData,
+            },
         }
     }
 
-    /// A new purse. Refused 35 WornOut past 2^63 - 1 purses.
+    /// A new purse, whose seat sees the frontier of that moment. Refused 35 WornOut past 2^63 - 1 purses.
     pub fn purse<R: Wait>(&self, rt: &R, alloc: Global) -> Result<Purse<K>, Refusal>
-        ensures ok { IfOk result (λ purse. (purse.calls ≡ []) × (purse.tickets ≡ []) × (purse.acks ≡ [])) }
+        ensures ok { IfOk result (λ purse. WhileLocked D.honest D.state K.start (λ old new. (purse ≡ empty old.store.frontier) × (new ≡ old))) }
         ensures err { IfErr result (λ r. r ≡ Refusal.WornOut) }
     {
-        self.lock.take(rt).give(&self.words.shared, alloc)
+        self.lock.take(rt).give(&self.board, alloc)
     }
 
     /// Keeps bytes under an identifier. The ticket has the command's number.
@@ -102,7 +106,8 @@ impl<D: PageDisk, K: Naming> Node<D, K> {
     {
         self.lock
             .take(rt)
-            .put(&self.words.shared, purse, id, bytes, gate)
+            .engine
+            .put(&self.board, purse, id, bytes, gate)
     }
 
     /// Reads what is under an identifier, None where there is nothing. The bytes are shared with the history and the purse.
@@ -122,7 +127,8 @@ impl<D: PageDisk, K: Naming> Node<D, K> {
         let there = self
             .lock
             .take(rt)
-            .get(&self.words.shared, purse, id, &Open)?;
+            .engine
+            .get(&self.board, purse, id, &Open)?;
         if !there {
             return Ok(None);
         }
@@ -147,17 +153,20 @@ impl<D: PageDisk, K: Naming> Node<D, K> {
     {
         self.lock
             .take(rt)
-            .delete(&self.words.shared, purse, id, &Open)
+            .engine
+            .delete(&self.board, purse, id, &Open)
     }
 
-    /// Asks under the lock whether a command is persistent.
+    /// Asks under the lock whether a command is persistent: `Done` with its ack, or `Back` with the same ticket and why. It is recorded, but
+    /// for 41 HistoryFull and 9 OutOfMemory.
     pub fn settle<R: Wait>(&self, rt: &R, purse: &mut Purse<K>, ticket: Ticket<K>) -> Settled<K>
         ensures told { Settles purse.old ticket result purse.new }
         ensures step { WhileLocked D.honest D.state K.start (λ old new. IsSettledBy D.honest D.state old purse.old ticket result new purse.new) }
     {
         self.lock
             .take(rt)
-            .settle(&self.words.shared, purse, ticket, &Open)
+            .engine
+            .settle(&self.board, purse, ticket, &Open)
     }
 }
 

@@ -1,26 +1,51 @@
 //! Who writes back.
-ghost use Rattle.std.specs.Prelude.{IfErr, IfOk};
+ghost use Rattle.std.specs.Prelude.{◌≡◌, ◌≤◌, [], IfErr, IfOk, IfSome};
 ghost use Rattle.cs_node.specs.Dues.{IsSyncRefused, IsTurn, IsTurnRefused, Syncs};
 ghost use Rattle.cs_node.specs.Locks.{WhileLocked};
 
-use crate::boards::Naming;
+use crate::boards::{NamedBoard, Naming, Reader};
 use crate::gates::{Gate, Step};
 use crate::nodes::Node;
 use cs_deps::Refusal;
 use cs_disk::PageDisk;
-use std::marker::PhantomData;
+use std::marker::{Model, PhantomData};
 use std::sync::Wait;
 use std::thread;
 
-/// The one seat from which a node's writeback is done.
+/// Who does a node's writeback; there is one. Contracts see the view of its seat at the board: the number that it last loaded.
 #[derive(Drop)]
 pub struct Pilot<K: Naming> {
+    reader: Reader,
     of: PhantomData<K>,
 }
 
+impl<K: Naming> Model for Pilot<K> {
+    ghost use Rattle.std.specs.Prelude.{ℕ, ◌≡◌, []};
+
+    ghost Value = { ℕ };
+
+    ghost view = { λ p. p.reader.me.0 };
+
+    ghost invariant = { λ p. (p.reader.table_id ≡ K.table) × (p.reader.me.1 ≡ []) };
+}
+
 impl<K: Naming> Pilot<K> {
-    pub(crate) fn new() -> Self {
-        Pilot { of: PhantomData }
+    pub(crate) fn new(reader: Reader) -> Self
+        requires { (reader.table_id ≡ K.table) × (reader.me.1 ≡ []) }
+        ensures { result ≡ reader.me.0 }
+    {
+        Pilot {
+            reader,
+            of: PhantomData,
+        }
+    }
+
+    /// Loads the word of the board, which the seat's view is then.
+    fn see(&mut self, board: &NamedBoard<K>) -> u64
+        ensures seen { self.new ≡ result }
+        ensures later { self.old ≤ result }
+    {
+        board.look(&mut self.reader)
     }
 
     /// Does the event of writeback that is due, under one lock: a round that is out goes on and ends, a new one begins where something
@@ -33,9 +58,10 @@ impl<K: Naming> Pilot<K> {
         node: &Node<D, K>,
         gate: &G,
     ) -> Result<Step, Refusal>
-        ensures { WhileLocked D.honest D.state K.start (λ old new. IsTurn D.honest D.state old result new) }
+        ensures turn { WhileLocked D.honest D.state K.start (λ old new. IsTurn D.honest D.state old result new) }
+        ensures seen { self.new ≡ self.old }
     {
-        node.lock.take(rt).turn(&node.words.shared, gate)
+        node.lock.take(rt).engine.turn(&node.board, gate)
     }
 
     /// Takes turns until the gate ends it or a turn is refused. It yields where there is nothing to do.
@@ -47,6 +73,7 @@ impl<K: Naming> Pilot<K> {
     ) -> Result<(), Refusal>
         ensures ok { IfOk result (λ _. G.ended gate.now) }
         ensures err { IfErr result (λ r. WhileLocked D.honest D.state K.start (λ old new. IsTurnRefused D.honest D.state old r new)) }
+        ensures seen { self.new ≡ self.old }
     {
         for _ in rt.forever() {
             if !gate.before() {
@@ -61,25 +88,30 @@ impl<K: Naming> Pilot<K> {
 }
 
 impl<D: PageDisk, K: Naming> Node<D, K> {
-    /// The pilot, None once it was given.
-    pub fn pilot<R: Wait>(&self, rt: &R) -> Option<Pilot<K>> {
-        self.lock.take(rt).hire()
+    /// The pilot, whose seat sees the frontier of that moment; None once it was given.
+    pub fn pilot<R: Wait>(&self, rt: &R) -> Option<Pilot<K>>
+        ensures { IfSome result (λ pilot. WhileLocked D.honest D.state K.start (λ old new. (pilot ≡ old.store.frontier) × (new ≡ old))) }
+    {
+        self.lock.take(rt).hire(&self.board)
     }
 
     /// Stages what has changed, and writes back until all commands that were accepted by then are persistent: what is left of the round
-    /// that is out, and then round by round, each event under a lock of its own. Answers how many are persistent.
+    /// that is out, and then round by round, each event under a lock of its own. Answers how many are persistent by the board, as the
+    /// pilot's seat saw it.
     ///
     /// Refused as one of its events is, 9 OutOfMemory and 41 HistoryFull. The events before that stand.
-    pub fn sync<R: Wait>(&self, rt: &R, _pilot: &mut Pilot<K>) -> Result<u64, Refusal>
-        ensures ok { IfOk result (λ frontier. Syncs D.honest D.state K.start frontier) }
+    pub fn sync<R: Wait>(&self, rt: &R, pilot: &mut Pilot<K>) -> Result<u64, Refusal>
+        ensures ok { IfOk result (λ frontier. (frontier ≡ pilot.new) × Syncs D.honest D.state K.start frontier) }
+        ensures later { pilot.old ≤ pilot.new }
         ensures err { IfErr result (λ r. WhileLocked D.honest D.state K.start (λ old new. IsSyncRefused D.honest D.state old r new)) }
     {
-        let target = self.lock.take(rt).stage(&self.words.shared)?;
+        let target = self.lock.take(rt).engine.stage(&self.board)?;
         for _ in rt.forever() {
-            let reached = self.lock.take(rt).advance(&self.words.shared, target)?;
-            if let Some(frontier) = reached {
+            let frontier = pilot.see(&self.board);
+            if target <= frontier {
                 return Ok(frontier);
             }
+            self.lock.take(rt).engine.advance(&self.board, target)?;
         }
         unreachable!()
     }

@@ -3,7 +3,7 @@ ghost use Rattle.std.specs.Prelude.{◌≡◌, ◌≤◌, max};
 ghost use Rattle.cs_node.specs.Answers.{Tells};
 ghost use Rattle.cs_node.specs.Told.{floor_of};
 
-use crate::boards::{Naming, Sees};
+use crate::boards::Naming;
 use crate::nodes::Node;
 use crate::purses::Purse;
 use crate::tickets::{Ack, Ticket};
@@ -23,7 +23,7 @@ impl<K: Naming> Purse<K> {
         ensures later { self.old.seen ≤ self.new.seen }
         ensures same { self.new ≡ record self.old { seen = self.new.seen } }
     {
-        let word = node.words.shared.load::<Sees>(&mut self.reader, 0);
+        let word = node.board.look(&mut self.reader);
         let known = word.max(self.log.floor());
         if ticket.number() <= known {
             Polled::Done(ticket.into_ack())

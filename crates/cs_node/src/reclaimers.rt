@@ -1,16 +1,16 @@
 //! Who sweeps extents.
-ghost use Rattle.std.specs.Prelude.{ℕ, ◌≡◌, ◌⊎◌, ◌^◌, ◌-◌, ◌<◌, ◌≤◌, IfErr, IfOk, IfSome, IsTrue, MatchOption, true};
+ghost use Rattle.std.specs.Prelude.{ℕ, ◌≡◌, ◌⊎◌, ◌↔◌, ◌^◌, ◌-◌, ◌<◌, ◌≤◌, IfErr, IfOk, IfSome, IsTrue, MatchOption, true};
 ghost use Rattle.cs_node.specs.Locks.{IsBehind, WhileLocked};
 ghost use Rattle.cs_node.specs.Sweeps.{HasSwept, IsAfterTurns, IsIdle, IsLeastFrom, IsNextAfter, IsNextEvent, IsSweepRefused, IsSweepTurn, NoneFrom, Reclaiming, after_event, after_refusal, unbegun};
 
-use crate::boards::{Naming, Shown};
+use crate::boards::{NamedBoard, Naming};
 use crate::gates::{Gate, Step, step_of};
-use crate::locked::Locked;
+use crate::locked::Engine;
 use crate::nodes::Node;
 use cs_core::{Core, Event, Reply};
 use cs_deps::Refusal;
 use cs_disk::PageDisk;
-use std::marker::Model;
+use std::marker::{Model, PhantomData};
 use std::sync::Wait;
 use std::thread;
 
@@ -23,16 +23,17 @@ pub enum Next {
     Abandon(usize),
 }
 
-/// Sweeps extents, one after another. Contracts see how many sweeps it may still begin, the extent that it began last, and what
+/// Sweeps extents of one node, one after another. Contracts see how many sweeps it may still begin, the extent that it began last, and what
 /// comes next.
-#[derive(Debug, Drop)]
-pub struct Reclaimer {
+#[derive(Drop)]
+pub struct Reclaimer<K: Naming> {
     sweeps: u32,
     last: Option<usize>,
     next: Next,
+    of: PhantomData<K>,
 }
 
-impl Model for Reclaimer {
+impl<K: Naming> Model for Reclaimer<K> {
     ghost use Rattle.cs_node.specs.Sweeps.{Reclaiming};
 
     ghost Value = { Reclaiming };
@@ -40,7 +41,7 @@ impl Model for Reclaimer {
     ghost view = { λ r. record { left = r.sweeps; begun = r.last; next = r.next } };
 }
 
-impl Reclaimer {
+impl<K: Naming> Reclaimer<K> {
     /// One that begins at most so many sweeps.
     pub fn new(sweeps: u32) -> Self
         ensures { result ≡ unbegun sweeps }
@@ -49,6 +50,7 @@ impl Reclaimer {
             sweeps,
             last: None,
             next: Next::Begin,
+            of: PhantomData,
         }
     }
 
@@ -57,7 +59,7 @@ impl Reclaimer {
     /// After a move or a retirement that was refused the next turn abandons it.
     ///
     /// Refused as the event is, 9 OutOfMemory and 41 HistoryFull.
-    pub fn turn<D: PageDisk, K: Naming, G: Gate, R: Wait>(
+    pub fn turn<D: PageDisk, G: Gate, R: Wait>(
         &mut self,
         rt: &R,
         node: &Node<D, K>,
@@ -65,12 +67,12 @@ impl Reclaimer {
     ) -> Result<Step, Refusal>
         ensures { WhileLocked D.honest D.state K.start (λ old new. IsSweepTurn D.honest D.state old self.old result new self.new) }
     {
-        node.lock.take(rt).sweep(&node.words.shared, self, gate)
+        node.lock.take(rt).engine.sweep(&node.board, self, gate)
     }
 
     /// Takes turns until the gate ends it, its sweeps are used up, or a turn is refused 40 Halted or 41 HistoryFull. It yields where
     /// there is nothing to do.
-    pub fn run<D: PageDisk, K: Naming, G: Gate, R: Wait>(
+    pub fn run<D: PageDisk, G: Gate, R: Wait>(
         &mut self,
         rt: &R,
         node: &Node<D, K>,
@@ -99,7 +101,7 @@ impl Reclaimer {
 
     /// Whether no sweep is going on and none may be begun.
     fn has_swept(&self) -> bool
-        ensures { IsTrue result → HasSwept self.now }
+        ensures { IsTrue result ↔ HasSwept self.now }
     {
         self.sweeps == 0 && matches!(self.next, Next::Begin)
     }
@@ -154,19 +156,16 @@ impl Reclaimer {
     }
 }
 
-impl<D: PageDisk, K: Naming> Locked<D, K> {
+impl<D: PageDisk, K: Naming> Engine<D, K> {
     /// Does the next event of a sweep. Refused as the event is, 9 OutOfMemory and 41 HistoryFull.
     fn sweep<G: Gate>(
         &mut self,
-        board: &Shown,
-        reclaimer: &mut Reclaimer,
+        board: &NamedBoard<K>,
+        reclaimer: &mut Reclaimer<K>,
         gate: &G,
     ) -> Result<Step, Refusal>
-        requires board { (board.now.table_id ≡ K.table) × (board.now.table_id.words ≡ 1) }
         requires fresh { self.old.fresh ≡ true }
         ensures turn { IsSweepTurn D.honest D.state self.old.core reclaimer.old result self.new.core reclaimer.new }
-        ensures given { (self.new.given ≡ self.old.given) × (self.new.piloted ≡ self.old.piloted) }
-        ensures behind { IsBehind D.honest D.state K.start self.old.core }
     {
         let Some(event) = reclaimer.next_event(self.core()) else {
             return Ok(Step::Idle);

@@ -1,13 +1,13 @@
 //! A node at rest, and its close.
 ghost use Rattle.std.specs.Prelude.{◌≡◌, ◌≤◌, ℕ, IfErr, IfOk};
-ghost use Rattle.cs_model.specs.State.{State};
-ghost use Rattle.cs_core.specs.Views.{IsIn};
+ghost use Rattle.cs_core.specs.Meanings.{commands_said};
+ghost use Rattle.cs_disk.specs.Disk.{Leaves, page};
+ghost use Rattle.cs_refine.specs.Crashes.{IsPrefix};
 ghost use Rattle.cs_node.specs.Accounts.{acknowledged_by, once_to};
 ghost use Rattle.cs_node.specs.Closes.{Fails, IsClosed};
 ghost use Rattle.cs_node.specs.Locks.{IsBehind};
-ghost use Rattle.cs_node.specs.Starts.{start_of};
 
-use crate::boards::{Naming, Words};
+use crate::boards::{NamedBoard, Naming};
 use crate::locked::{Lock, Locked};
 use crate::nodes::Node;
 use crate::purses::Purse;
@@ -17,22 +17,19 @@ use cs_disk::PageDisk;
 use std::alloc::Global;
 use std::marker::Model;
 
-/// A node whose lock is open. Contracts see its core, and what it gave.
+/// A node whose lock is open. Contracts see its core, and how many purses it gave.
 #[derive(Drop)]
 pub struct Rest<D: PageDisk, K: Naming> {
-    pub(crate) locked: Locked<D, K>,
-    pub(crate) words: Words,
+    locked: Locked<D, K>,
+    board: NamedBoard<K>,
 }
 
 impl<D: PageDisk, K: Naming> Model for Rest<D, K> {
-    ghost use Rattle.std.specs.Prelude.{◌≡◌};
-    ghost use Rattle.cs_node.specs.Under.{Under};
+    ghost use Rattle.cs_node.specs.Under.{RestView};
 
-    ghost Value = { Under D };
+    ghost Value = { RestView D };
 
-    ghost view = { λ r. r.locked };
-
-    ghost invariant = { λ r. (r.words.shared.table_id ≡ K.table) × (r.words.shared.table_id.words ≡ 1) };
+    ghost view = { λ r. record { core = r.locked.engine.core; given = r.locked.given } };
 }
 
 /// Why a node wasn't closed.
@@ -67,11 +64,11 @@ impl<D: PageDisk, K: Naming> Node<D, K> {
     pub fn rest(self) -> Rest<D, K>
         ensures { IsBehind D.honest D.state K.start result.core }
     {
-        let Node { lock, words } = self;
+        let Node { lock, board } = self;
         let locked = lock.into_inner();
         // Called for its contract alone: what a core behind the lock keeps.
-        locked.core();
-        Rest { locked, words }
+        locked.engine.core();
+        Rest { locked, board }
     }
 }
 
@@ -79,10 +76,9 @@ impl<D: PageDisk, K: Naming> Rest<D, K> {
     /// Its core, which was opened on what K names.
     pub fn core(&self) -> &Core<D>
         ensures core { result.now ≡ self.now.core }
-        ensures start { start_of self.now.core ≡ K.start }
         ensures behind { IsBehind D.honest D.state K.start self.now.core }
     {
-        self.locked.core()
+        self.locked.engine.core()
     }
 
     /// How many purses the node gave.
@@ -94,10 +90,10 @@ impl<D: PageDisk, K: Naming> Rest<D, K> {
 
     /// Locks it again.
     pub fn resume(self) -> Node<D, K> {
-        let Rest { locked, words } = self;
+        let Rest { locked, board } = self;
         Node {
             lock: Lock::new(locked),
-            words,
+            board,
         }
     }
 
@@ -109,8 +105,9 @@ impl<D: PageDisk, K: Naming> Rest<D, K> {
     pub fn close(self, alloc: Global, purses: Vec<Purse<K>>) -> Result<Closed<D>, NotClosed<D, K>>
         ensures closed { IfOk result (λ c. IsClosed self purses.items c) }
         ensures acknowledged { D.honest self.core.disk → IfOk result (λ c. (x : ℕ) → acknowledged_by c.acknowledged x purses.items ≡ once_to c.acknowledged x) }
-        ensures start { start_of self.core ≡ K.start }
-        ensures legal { D.honest self.core.disk → (s : State) × IsIn D.state self.core s }
+        ensures behind { IsBehind D.honest D.state K.start self.core }
+        // A crash of its disk leaves the map after the first n commands, n not below any number that was acknowledged.
+        ensures left { D.honest self.core.disk → IfOk result (λ c. Leaves (D.state c.disk) (IsPrefix K.start.shape (page K.start.opened) (commands_said c.history.items) c.acknowledged c.accepted)) }
         ensures err { IfErr result (λ e. (e.rest ≡ self) × (e.purses.items ≡ purses.items) × Fails self purses.items e.why) }
     {
         match judge(alloc, self.core(), self.given(), purses.as_slice()) {
@@ -137,7 +134,7 @@ impl<D: PageDisk, K: Naming> Rest<D, K> {
         ensures history { result.history.items ≡ self.core.history }
     {
         let (accepted, acknowledged) = self.core().progress();
-        let Rest { locked, words: _ } = self;
+        let Rest { locked, board: _ } = self;
         let (disk, history) = locked.into_core().into_parts();
         Closed {
             disk,

@@ -4,34 +4,47 @@ ghost use Rattle.cs_node.specs.Dues.{IsAtRest};
 ghost use Rattle.cs_node.specs.Locks.{IsBehind, WhileLocked};
 ghost use Rattle.cs_node.specs.Streams.{IsNext, IsStreamRefused, IsStreamTurn};
 
-use crate::boards::{Naming, Shown};
+use crate::boards::{NamedBoard, Naming};
 use crate::gates::{Gate, Step, step_of};
-use crate::locked::Locked;
+use crate::locked::Engine;
 use crate::nodes::Node;
 use crate::pilots::Pilot;
 use crate::writebacks::round_event;
 use cs_core::{Core, Event};
 use cs_deps::Refusal;
 use cs_disk::PageDisk;
+use std::marker::Model;
 use std::sync::Wait;
 use std::thread;
 
 /// The pilot's seat under steady load. Whenever no round is out it stages what has changed before the next round begins. So rounds of
 /// several syncs overlap: under one flush go the data of what came last, the superblock of what came before, and the root of what came
-/// before that.
+/// before that. Contracts see what they see of the pilot.
 #[derive(Drop)]
 pub struct Stream<K: Naming> {
     pilot: Pilot<K>,
 }
 
+impl<K: Naming> Model for Stream<K> {
+    ghost use Rattle.std.specs.Prelude.{ℕ};
+
+    ghost Value = { ℕ };
+
+    ghost view = { λ s. s.pilot };
+}
+
 impl<K: Naming> Stream<K> {
     /// The pilot's seat for a stream.
-    pub fn new(pilot: Pilot<K>) -> Self {
+    pub fn new(pilot: Pilot<K>) -> Self
+        ensures { result ≡ pilot }
+    {
         Stream { pilot }
     }
 
     /// The pilot again.
-    pub fn into_pilot(self) -> Pilot<K> {
+    pub fn into_pilot(self) -> Pilot<K>
+        ensures { result ≡ self }
+    {
         let Stream { pilot } = self;
         pilot
     }
@@ -46,9 +59,10 @@ impl<K: Naming> Stream<K> {
         node: &Node<D, K>,
         gate: &G,
     ) -> Result<Step, Refusal>
-        ensures { WhileLocked D.honest D.state K.start (λ old new. IsStreamTurn D.honest D.state old result new) }
+        ensures turn { WhileLocked D.honest D.state K.start (λ old new. IsStreamTurn D.honest D.state old result new) }
+        ensures seen { self.new ≡ self.old }
     {
-        node.lock.take(rt).stream(&node.words.shared, gate)
+        node.lock.take(rt).engine.stream(&node.board, gate)
     }
 
     /// Takes turns until the gate ends it or a turn is refused. It yields where there is nothing to do.
@@ -60,6 +74,7 @@ impl<K: Naming> Stream<K> {
     ) -> Result<(), Refusal>
         ensures ok { IfOk result (λ _. G.ended gate.now) }
         ensures err { IfErr result (λ r. WhileLocked D.honest D.state K.start (λ old new. IsStreamRefused D.honest D.state old r new)) }
+        ensures seen { self.new ≡ self.old }
     {
         for _ in rt.forever() {
             if !gate.before() {
@@ -89,14 +104,11 @@ fn next_event<D: PageDisk>(core: &Core<D>) -> Option<Event>
     None
 }
 
-impl<D: PageDisk, K: Naming> Locked<D, K> {
+impl<D: PageDisk, K: Naming> Engine<D, K> {
     /// Does the event of writeback that is due in a stream. Refused as the event is, 9 OutOfMemory and 41 HistoryFull.
-    pub fn stream<G: Gate>(&mut self, board: &Shown, gate: &G) -> Result<Step, Refusal>
-        requires board { (board.now.table_id ≡ K.table) × (board.now.table_id.words ≡ 1) }
+    pub fn stream<G: Gate>(&mut self, board: &NamedBoard<K>, gate: &G) -> Result<Step, Refusal>
         requires fresh { self.old.fresh ≡ true }
         ensures turn { IsStreamTurn D.honest D.state self.old.core result self.new.core }
-        ensures given { (self.new.given ≡ self.old.given) × (self.new.piloted ≡ self.old.piloted) }
-        ensures behind { IsBehind D.honest D.state K.start self.old.core }
     {
         let Some(event) = next_event(self.core()) else {
             return Ok(Step::Idle);

@@ -5,9 +5,9 @@ ghost use Rattle.cs_core.specs.Views.{IsStep};
 ghost use Rattle.cs_node.specs.Dues.{IsAdvance, IsAtRest, IsDue, IsOfRound, IsStaged, IsTurn};
 ghost use Rattle.cs_node.specs.Locks.{IsBehind, IsDone, IsRefused};
 
-use crate::boards::{Naming, Shown};
+use crate::boards::{NamedBoard, Naming};
 use crate::gates::{Gate, Open, Step, step_of};
-use crate::locked::Locked;
+use crate::locked::Engine;
 use cs_core::{Core, Event, Reply};
 use cs_deps::Refusal;
 use cs_disk::PageDisk;
@@ -40,23 +40,20 @@ pub fn due<D: PageDisk>(core: &Core<D>) -> Option<Event>
     None
 }
 
-impl<D: PageDisk, K: Naming> Locked<D, K> {
+impl<D: PageDisk, K: Naming> Engine<D, K> {
     /// Does one event of the node's own, after which the gate is asked, and gives its reply. Refused as the event is, which is
     /// recorded, and 9 OutOfMemory and 41 HistoryFull, which aren't.
     pub fn work<G: Gate>(
         &mut self,
-        board: &Shown,
+        board: &NamedBoard<K>,
         event: &Event,
         gate: &G,
     ) -> Result<Reply, Refusal>
-        requires board { (board.now.table_id ≡ K.table) × (board.now.table_id.words ≡ 1) }
         requires fresh { self.old.fresh ≡ true }
         ensures step { IfOk result (λ reply. IsStep D.honest D.state self.old.core event.now reply self.new.core) }
         ensures answers { IfOk result (λ reply. MayAnswer event.now reply) }
         ensures done { IfOk result IsDone }
         ensures refused { IfErr result (λ r. IsRefused D.honest D.state self.old.core event.now r self.new.core) }
-        ensures given { (self.new.given ≡ self.old.given) × (self.new.piloted ≡ self.old.piloted) }
-        ensures behind { IsBehind D.honest D.state K.start self.old.core }
     {
         match self.record(board, event, gate)? {
             Reply::Refused(refusal) => Err(refusal),
@@ -65,12 +62,9 @@ impl<D: PageDisk, K: Naming> Locked<D, K> {
     }
 
     /// Does the event of writeback that is due. Refused as the event is, 9 OutOfMemory and 41 HistoryFull.
-    pub fn turn<G: Gate>(&mut self, board: &Shown, gate: &G) -> Result<Step, Refusal>
-        requires board { (board.now.table_id ≡ K.table) × (board.now.table_id.words ≡ 1) }
+    pub fn turn<G: Gate>(&mut self, board: &NamedBoard<K>, gate: &G) -> Result<Step, Refusal>
         requires fresh { self.old.fresh ≡ true }
         ensures turn { IsTurn D.honest D.state self.old.core result self.new.core }
-        ensures given { (self.new.given ≡ self.old.given) × (self.new.piloted ≡ self.old.piloted) }
-        ensures behind { IsBehind D.honest D.state K.start self.old.core }
     {
         let Some(event) = due(self.core()) else {
             return Ok(Step::Idle);
@@ -82,30 +76,22 @@ impl<D: PageDisk, K: Naming> Locked<D, K> {
     }
 
     /// Stages what has changed, and gives how many commands were accepted then.
-    pub fn stage(&mut self, board: &Shown) -> Result<u64, Refusal>
-        requires board { (board.now.table_id ≡ K.table) × (board.now.table_id.words ≡ 1) }
+    pub fn stage(&mut self, board: &NamedBoard<K>) -> Result<u64, Refusal>
         requires fresh { self.old.fresh ≡ true }
         ensures staged { IsStaged D.honest D.state self.old.core result self.new.core }
-        ensures given { (self.new.given ≡ self.old.given) × (self.new.piloted ≡ self.old.piloted) }
-        ensures behind { IsBehind D.honest D.state K.start self.old.core }
     {
         self.work(board, &Event::Stage, &Open)?;
         Ok(self.core().accepted())
     }
 
-    /// Gives how many commands are persistent where as many are, else does the event of writeback that is due.
-    pub fn advance(&mut self, board: &Shown, target: u64) -> Result<Option<u64>, Refusal>
-        requires board { (board.now.table_id ≡ K.table) × (board.now.table_id.words ≡ 1) }
+    /// Does the event of writeback that is due where fewer commands are persistent than are wanted.
+    pub fn advance(&mut self, board: &NamedBoard<K>, target: u64) -> Result<(), Refusal>
         requires fresh { self.old.fresh ≡ true }
         ensures advance { IsAdvance D.honest D.state self.old.core target result self.new.core }
-        ensures given { (self.new.given ≡ self.old.given) × (self.new.piloted ≡ self.old.piloted) }
-        ensures behind { IsBehind D.honest D.state K.start self.old.core }
     {
-        let frontier = self.core().frontier();
-        if target <= frontier {
-            return Ok(Some(frontier));
+        if self.core().frontier() < target {
+            self.turn(board, &Open)?;
         }
-        self.turn(board, &Open)?;
-        Ok(None)
+        Ok(())
     }
 }

@@ -16,7 +16,6 @@ use Rattle.cs_deps.specs.Chain.{IsChain, IsChainOf, IsHeight, LastIs}
 use Rattle.cs_deps.specs.Rounds.{IsListedBefore, IsDue, IsTaken, IsRound, AreRounds}
 use Rattle.cs_deps.specs.Staging.{Staging, IsKept}
 use Rattle.cs_deps.specs.State.{IsQueue, IsInQueue}
-use Rattle.cs_deps.specs.Turns.{IsPlanOf}
 use Rattle.cs_deps.specs.Wanted.{AreWanted}
 use Rattle.cs_deps.proofs.AllHeights.{all_have_heights}
 use Rattle.cs_deps.proofs.ByHeight.{Serve, rounds_schedule, rounds_cover, rounds_respect}
@@ -26,6 +25,7 @@ use Rattle.cs_deps.proofs.KeptLevels.{heights_rise}
 use Rattle.cs_deps.proofs.Kept.{at_push}
 use Rattle.cs_deps.proofs.LowerBound.{no_fewer_sets}
 use Rattle.cs_deps.proofs.Sets.{no_element}
+use Rattle.cs_plan.specs.Best.{IsBestPlan}
 use Rattle.cs_plan.specs.Targets.{lowered, IsNamedAt, AreLowered, IsLoweredQueue, AreLoweredQueues, IsInLast}
 
 -- ONE ROUND
@@ -248,14 +248,10 @@ module _ (s : Staging) (kept : IsKept s) (target d : Named) (wanted : AreWanted 
 
   -- what stands in the last round is due there, and named by the target
   last_due : (x : Element) → IsInLast rounds x → IsDue s.pending target (length rounds) x
-  last_due x last = (let q = due_in rounds each x last.0 last.1 in due_of s kept target d wanted (length rounds) x q)
-    where
-      due_in : (rs : List (Vec Element Global)) → AreLoweredQueues s.pending d rs → (x : Element) → 0 < length rs → ((e : Vec Element Global) → Contains (slice_index_or rs (length rs - 1) e).items x) → IsNamedAt s.pending d (length rs) x
-      due_in [] are x lt has = absurd (omega (arith, lt))
-      due_in (r ∷ rs) are x lt has =
-          let q = (are (length (r ∷ rs) - 1) (get_or (r ∷ rs) (length (r ∷ rs) - 1) r) (slice_get-get_or (r ∷ rs) (length (r ∷ rs) - 1) r (omega (arith, lt)))).0 in
-          let same : length (r ∷ rs) - 1 + 1 ≡ length (r ∷ rs) = omega (arith, lt) in
-          subst (λ n. IsNamedAt s.pending d n x) same (q.2.came x (has r)).0
+  last_due x (round, at, has) =
+      let same : length rounds - 1 + 1 ≡ length rounds = omega (arith, slice_get_within rounds (length rounds - 1) round at) in
+      let named = ((each (length rounds - 1) round at).0.2.came x has).0 in
+      due_of s kept target d wanted (length rounds) x (subst (λ n. IsNamedAt s.pending d n x) same named)
 
   pub last_height : (x : Element) → IsInLast rounds x → IsHeight s.pending x (length rounds)
   last_height x last = (last_due x last).1
@@ -274,24 +270,24 @@ module _ (s : Staging) (kept : IsKept s) (target d : Named) (wanted : AreWanted 
   chain_named (x ∷ []) l = last_named x l
   chain_named (x ∷ y ∷ ys) l = chain_named (y ∷ ys) l
 
-  pub full : (i : ℕ) (r : Vec Element Global) → slice_get rounds i ≡ Some r → 0 < length r.items
-  full i r at = (each i r at).1
-
   module _ (chain : List Element) (links : IsChain s.pending chain) (last : LastIs (IsInLast rounds) chain) (count : length chain ≡ length rounds) where
-    pub chain_of : IsChainOf s.pending target chain
-    chain_of = (links, chain_named chain last)
-
     same_count : length chain ≡ length (lists_of rounds)
     same_count = count ∙ sym (length-map rounds (λ (r : Vec Element Global). r.items))
 
-    pub is_plan : ((x : Element) → Names target x → IsPersistent s.pending x ⊎ Waits s.pending x) → IsPlanOf s.pending target (lists_of rounds)
-    is_plan known = record {
-      schedule = rounds_schedule s.pending kept.staged (all_have_heights s.pending kept.staged) target (lists_of rounds) serve;
-      covers = rounds_cover s.pending kept.staged (all_have_heights s.pending kept.staged) target (lists_of rounds) serve known;
-      respects = rounds_respect s.pending kept.staged (all_have_heights s.pending kept.staged) target (lists_of rounds) serve;
-      fewest = λ sets schedule respects covers. omega (arith, no_fewer_sets s.pending kept.staged target chain chain_of sets schedule respects covers, same_count);
-      heights = are_rounds;
-    }
+    none_empty : All (λ (round : List Element). 0 < length round) (lists_of rounds)
+    none_empty i e lt = (let r = item_of rounds i (get_or (lists_of rounds) i e) (slice_get-get_or (lists_of rounds) i e lt) in subst (λ (l : List Element). 0 < length l) r.2 (each i r.0 r.1).1)
 
-    pub none_empty : All (λ (round : List Element). 0 < length round) (lists_of rounds)
-    none_empty i e lt = (let r = item_of rounds i (get_or (lists_of rounds) i e) (slice_get-get_or (lists_of rounds) i e lt) in subst (λ (l : List Element). 0 < length l) r.2 (full i r.0 r.1))
+    pub best_of_lowered : ((x : Element) → Names target x → IsPersistent s.pending x ⊎ Waits s.pending x) → IsBestPlan s.pending target (lists_of rounds) chain
+    best_of_lowered known =
+        let ok = kept.staged in
+        let heights = all_have_heights s.pending ok in
+        let shown : IsChainOf s.pending target chain = (links, chain_named chain last) in record {
+          schedule = rounds_schedule s.pending ok heights target (lists_of rounds) serve;
+          covers = rounds_cover s.pending ok heights target (lists_of rounds) serve known;
+          respects = rounds_respect s.pending ok heights target (lists_of rounds) serve;
+          fewest = λ sets schedule respects covers. omega (arith, no_fewer_sets s.pending ok target chain shown sets schedule respects covers, same_count);
+          links = shown;
+          chain_count = same_count;
+          no_empty = none_empty;
+          heights = are_rounds;
+        }

@@ -1,16 +1,17 @@
 -- A plan by queues.
 use Rattle.std.proofs.Common.{◌≡◌, ◌∙◌, ℕ, zero, suc, ◌+◌, ◌<◌, ◌≤◌, List, [], ◌∷◌, ◌++◌, length, map, drop, get_or, Some, slice_get, refl, sym, ap, subst, ⊎_elim, arith}
-use Rattle.std.specs.Prelude.{◌-◌, Contains, All, Vec, option_map}
+use Rattle.std.specs.Prelude.{◌-◌, Contains, Vec, option_map}
 use Rattle.std.specs.Global.{Global}
 use Rattle.std.proofs.lemmas.List.{length-map}
+use Rattle.std.proofs.lemmas.List.Elements.{Contains-get_or}
 use Rattle.std.proofs.lemmas.Option.{same_Some, slice_get_within, slice_get-get_or, slice_get-map}
 use Rattle.cs_deps.specs.declared.elements.Element.{Element}
+use Rattle.cs_deps.specs.declared.elements.Element.TheVariants.{Plain}
 use Rattle.cs_deps.specs.Named.{Named, Names}
 use Rattle.cs_deps.specs.Pending.{Pending, WaitsAt, Needs, IsPersistent, SatisfiedBy}
-use Rattle.cs_deps.specs.Chain.{IsChain, IsChainOf, IsHeight, LastIs}
+use Rattle.cs_deps.specs.Chain.{IsChain, IsHeight, LastIs}
 use Rattle.cs_deps.specs.Staging.{Staging, IsKept}
 use Rattle.cs_deps.specs.State.{IsQueue, everything}
-use Rattle.cs_deps.specs.Turns.{IsPlanOf}
 use Rattle.cs_deps.proofs.AllHeights.{all_have_heights}
 use Rattle.cs_deps.proofs.HeightSteps.{chain_ends_waiting, queue_serves, of_level_height}
 use Rattle.cs_deps.proofs.InTurn.{AreQueues, everything_is_all, queues_are_a_plan}
@@ -18,6 +19,7 @@ use Rattle.cs_deps.proofs.Kept.{at_push}
 use Rattle.cs_deps.proofs.LowerBound.{waiting_not_persistent}
 use Rattle.cs_deps.proofs.Ready.{satisfied_is_first}
 use Rattle.cs_deps.proofs.Sets.{no_element}
+use Rattle.cs_plan.specs.Best.{IsBestPlan}
 use Rattle.cs_plan.specs.Queues.{AreListed, IsFollowed, backwards}
 use Rattle.cs_plan.specs.Targets.{IsInLast}
 use Rattle.cs_plan.proofs.AlongChain.{due_somewhere}
@@ -68,6 +70,20 @@ last_named target end [] named is = tt
 last_named target end (x ∷ []) named is = subst (Names target) (sym is) named
 last_named target end (x ∷ y ∷ ys) named is = last_named target end (y ∷ ys) named is
 
+-- where no round is empty, the last has a member
+pub none_left : (rounds : List (Vec Element Global)) → ((i : ℕ) (round : Vec Element Global) → slice_get rounds i ≡ Some round → 0 < length round.items) → ((x : Element) → IsInLast rounds x → ⊥) → length rounds ≡ 0
+none_left [] full none = refl
+none_left (r ∷ rs) full none =
+    let last = get_or (r ∷ rs) (length (r ∷ rs) - 1) r in
+    let at = slice_get-get_or (r ∷ rs) (length (r ∷ rs) - 1) r (omega arith) in
+    absurd (none (get_or last.items 0 (Plain 0)) (last, at, Contains-get_or last.items 0 (Plain 0) (full (length (r ∷ rs) - 1) last at)))
+
+-- a member of the last queue has the greatest height
+pub last_height : (g : Pending) (rounds : List (Vec Element Global)) → AreListed g rounds → (x : Element) → IsInLast rounds x → IsHeight g x (length rounds)
+last_height g rounds listed x (round, at, has) =
+    let same : length rounds - 1 + 1 ≡ length rounds = omega (arith, slice_get_within rounds (length rounds - 1) round at) in
+    subst (IsHeight g x) same (of_level_height g (length rounds - 1 + 1) x (((listed (length rounds - 1) round at).members x).0 has))
+
 -- THE PLAN
 abbrev lists_of : List (Vec Element Global) → List (List Element)
 lists_of rounds = map (λ (r : Vec Element Global). r.items) rounds
@@ -109,17 +125,29 @@ module _ (s : Staging) (kept : IsKept s) (rounds : List (Vec Element Global)) (l
   pub all_full : (0 < depth → (x : Element) × IsHeight g x depth) → (i : ℕ) (r : Vec Element Global) → slice_get rounds i ≡ Some r → 0 < length r.items
   all_full reached i r at = full reached i r.items (slice_get-map (λ (r : Vec Element Global). r.items) rounds i ∙ ap (option_map (λ (r : Vec Element Global). r.items)) at)
 
-  pub are_queues : (0 < depth → (x : Element) × IsHeight g x depth) → AreQueues g (lists_of rounds)
+  are_queues : (0 < depth → (x : Element) × IsHeight g x depth) → AreQueues g (lists_of rounds)
   are_queues reached = record {
     each = λ i round at. (is_queue i round at, full reached i round at);
     all = λ n x h. (let e = length-map rounds (λ (r : Vec Element Global). r.items) in omega (arith, all x n h, e, count));
   }
 
-  pub is_plan : (0 < depth → (x : Element) × IsHeight g x depth) → IsPlanOf g target (lists_of rounds)
-  is_plan reached = queues_are_a_plan g kept.staged target (everything_is_all s kept) (lists_of rounds) (are_queues reached)
+  chain_named : (xs : List Element) → LastIs (IsInLast rounds) xs → LastIs (Names target) xs
+  chain_named [] last = tt
+  chain_named (x ∷ []) last = (everything_is_all s kept).all x (chain_ends_waiting g x (length rounds) (last_height g rounds listed x last).reached)
+  chain_named (x ∷ y ∷ ys) last = chain_named (y ∷ ys) last
 
-  pub none_empty : (0 < depth → (x : Element) × IsHeight g x depth) → All (λ (round : List Element). 0 < length round) (lists_of rounds)
-  none_empty reached i d lt = full reached i (get_or (lists_of rounds) i d) (slice_get-get_or (lists_of rounds) i d lt)
+  pub best_of_queues : (0 < depth → (x : Element) × IsHeight g x depth) → (chain : List Element) → IsChain g chain → LastIs (IsInLast rounds) chain → length chain ≡ length rounds → IsBestPlan g target (lists_of rounds) chain
+  best_of_queues reached chain links last same =
+      let p = queues_are_a_plan g kept.staged target (everything_is_all s kept) (lists_of rounds) (are_queues reached) in record {
+        schedule = p.schedule;
+        covers = p.covers;
+        respects = p.respects;
+        fewest = p.fewest;
+        links = (links, chain_named chain last);
+        chain_count = same ∙ sym (length-map rounds (λ (r : Vec Element Global). r.items));
+        no_empty = λ i d lt. full reached i (get_or (lists_of rounds) i d) (slice_get-get_or (lists_of rounds) i d lt);
+        heights = p.heights;
+      }
 
 -- an empty first queue means that nothing waits
 pub nothing_waits : (s : Staging) → IsKept s → (xs : List Element) → IsQueue s.pending 1 xs → xs ≡ [] → s.pending.waiting ≡ []
@@ -142,31 +170,3 @@ listed_more g rounds i queue count is listed j round at = ⊎_elim
     (λ (o : slice_get rounds j ≡ Some round). listed j round o)
     (λ (o : (j ≡ length rounds) × (queue ≡ round)). let e : i ≡ j = sym count ∙ sym o.0 in subst (λ (r : Vec Element Global). IsQueue g (j + 1) r.items) o.1 (subst (λ n. IsQueue g (n + 1) queue.items) e is))
     (at_push rounds queue round j at)
-
--- a member of the last queue has the greatest height
-pub last_height : (g : Pending) (rounds : List (Vec Element Global)) → AreListed g rounds → (x : Element) → 0 < length rounds → ((d : Vec Element Global) → Contains (get_or rounds (length rounds - 1) d).items x) → IsHeight g x (length rounds)
-last_height g [] listed x lt has = absurd (omega (arith, lt))
-last_height g (r ∷ rs) listed x lt has =
-    let q = listed (length (r ∷ rs) - 1) (get_or (r ∷ rs) (length (r ∷ rs) - 1) r) (slice_get-get_or (r ∷ rs) (length (r ∷ rs) - 1) r (omega (arith, lt))) in
-    let same : length (r ∷ rs) - 1 + 1 ≡ length (r ∷ rs) = omega (arith, lt) in
-    subst (IsHeight g x) same (of_level_height g (length (r ∷ rs) - 1 + 1) x ((q.members x).0 (has r)))
-
-pub none_left : (rounds : List (Vec Element Global)) → ((i : ℕ) (round : Vec Element Global) → slice_get rounds i ≡ Some round → 0 < length round.items) → (0 < length rounds → (d : Vec Element Global) → (get_or rounds (length rounds - 1) d).items ≡ []) → length rounds ≡ 0
-none_left [] full none = refl
-none_left (r ∷ rs) full none =
-    let lt : 0 < length (r ∷ rs) = omega arith in
-    let at = slice_get-get_or (r ∷ rs) (length (r ∷ rs) - 1) r (omega (arith, lt)) in
-    let some = full (length (r ∷ rs) - 1) (get_or (r ∷ rs) (length (r ∷ rs) - 1) r) at in
-    absurd (omega (arith, some, ap length (none lt r)))
-
--- a chain that ends in the last round ends in what was staged
-pub chain_of_all : (s : Staging) → IsKept s → (rounds : List (Vec Element Global)) → AreListed s.pending rounds → (xs : List Element) → IsChain s.pending xs → LastIs (IsInLast rounds) xs → IsChainOf s.pending (everything s) xs
-chain_of_all s kept rounds listed xs chain last = (chain, each xs last)
-  where
-    named : (x : Element) → IsInLast rounds x → Names (everything s) x
-    named x is = (everything_is_all s kept).all x (chain_ends_waiting s.pending x (length rounds) (last_height s.pending rounds listed x is.0 is.1).reached)
-
-    each : (ys : List Element) → LastIs (IsInLast rounds) ys → LastIs (Names (everything s)) ys
-    each [] is = tt
-    each (y ∷ []) is = named y is
-    each (y ∷ z ∷ zs) is = each (z ∷ zs) is

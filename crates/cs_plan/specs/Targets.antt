@@ -1,5 +1,5 @@
 -- Rounds of what a target needs, taken from the queues of what waits.
-use Rattle.std.specs.Prelude.{◌≡◌, ℕ, ◌+◌, ◌-◌, ◌<◌, List, Some, Vec, AllPairs, Contains, length, min, slice_get, slice_index, slice_index_or}
+use Rattle.std.specs.Prelude.{◌≡◌, ℕ, ◌+◌, ◌-◌, ◌<◌, List, Some, Vec, AllPairs, Contains, length, min, slice_get, slice_index}
 use Rattle.std.specs.Global.{Global}
 use Rattle.cs_deps.specs.declared.elements.Element.{Element}
 use Rattle.cs_deps.specs.declared.elements.Element.TheVariants.{Plain, Version}
@@ -34,4 +34,4 @@ AreLoweredQueues g d rounds = (i : ℕ) (round : Vec Element Global) → slice_g
 
 -- x stands in the last of the rounds
 abbrev pub IsInLast : List (Vec Element Global) → Element → Type 0
-IsInLast rounds x = (0 < length rounds) × ((d : Vec Element Global) → Contains (slice_index_or rounds (length rounds - 1) d).items x)
+IsInLast rounds x = (round : Vec Element Global) × (slice_get rounds (length rounds - 1) ≡ Some round) × Contains round.items x

@@ -1,5 +1,5 @@
 //! A chain of needs, which shows that there are no rounds too many.
-ghost use Rattle.std.specs.Prelude.{◌≡◌, ℕ, ◌+◌, ◌<◌, [], IfOk, IfSome, None, Vec, Contains, ◌-◌, slice_index_or, slice_get, Some, length};
+ghost use Rattle.std.specs.Prelude.{◌≡◌, ℕ, ◌+◌, ◌<◌, IfOk, IfSome, None, Vec, slice_get, Some, length};
 ghost use Rattle.std.specs.Global.{Global as Heap};
 ghost use Rattle.cs_deps.specs.declared.elements.Element.{Element as Item};
 ghost use Rattle.cs_deps.specs.Pending.{Needs, Waits};
@@ -12,8 +12,8 @@ use std::alloc::{AllocError, Global};
 
 /// The first element of the last round, where there is one.
 fn first_of_last(rounds: &[Vec<Element>]) -> Option<Element>
-    ensures some { IfSome result (λ x. (0 < length rounds.now) × ((d : Vec Item Heap) → Contains (slice_index_or rounds.now (length rounds.now - 1) d).items x)) }
-    ensures none { result ≡ None → 0 < length rounds.now → (d : Vec Item Heap) → (slice_index_or rounds.now (length rounds.now - 1) d).items ≡ [] }
+    ensures some { IfSome result (IsInLast rounds.now) }
+    ensures none { result ≡ None → (x : Item) → ¬ IsInLast rounds.now x }
 {
     if rounds.is_empty() {
         return None;
@@ -56,7 +56,7 @@ fn turned(alloc: Global, elements: &[Element]) -> Result<Vec<Element>, AllocErro
     Ok(turned)
 }
 
-/// A need of an element that is one lower, where there is one.
+/// A need of an element that is one lower; of an element of height 1 the element itself.
 fn earlier(graph: &Graph, element: Element) -> Element
     requires none { graph.now.round ≡ None }
     requires waits { Waits graph.now.staging.pending element }

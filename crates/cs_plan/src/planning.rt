@@ -1,13 +1,12 @@
 //! Plans.
-ghost use Rattle.std.specs.Prelude.{◌≡◌, ◌+◌, ◌<◌, ◌⊎◌, ◌↔◌, [], All, IfOk, IfErr, IsSome, None, Vec, ◌-◌, Some, MatchOption, length};
+ghost use Rattle.std.specs.Prelude.{◌≡◌, ◌⊎◌, ◌↔◌, [], IfOk, IfErr, IsSome, None, MatchOption, length};
 ghost use Rattle.cs_deps.specs.Named.{IsWithin};
 ghost use Rattle.cs_deps.specs.Pending.{Waits};
-ghost use Rattle.cs_deps.specs.Schedule.{IsSchedule, Respects, Covers, IsFewest};
-ghost use Rattle.cs_deps.specs.Chain.{IsChainOf, IsHeight};
+ghost use Rattle.cs_deps.specs.Chain.{IsHeight};
 ghost use Rattle.cs_deps.specs.State.{everything, IsQueue, IsReady, IsWhole};
-ghost use Rattle.cs_plan.specs.Queues.{AreListed};
-ghost use Rattle.cs_deps.specs.Rounds.{AreRounds};
 ghost use Rattle.cs_deps.specs.View.{rounds_of};
+ghost use Rattle.cs_plan.specs.Best.{IsBestPlan};
+ghost use Rattle.cs_plan.specs.Queues.{AreListed};
 
 use crate::chains::shown_last;
 use crate::targets::wanted_rounds;
@@ -25,14 +24,7 @@ fn each_graph_is_whole(graph: &Graph)
 fn plan_staged(alloc: Global, graph: &Graph, target: &Dependency) -> Result<Plan, AllocError>
     requires none { graph.now.round ≡ None }
     requires within { IsWithin target.now graph.now.staging.staged graph.now.staging.latest }
-    ensures schedule { IfOk result (λ plan. IsSchedule graph.now.staging.pending (rounds_of plan)) }
-    ensures covers { IfOk result (λ plan. Covers graph.now.staging.pending (rounds_of plan) target.now) }
-    ensures respects { IfOk result (λ plan. Respects graph.now.staging.pending (rounds_of plan)) }
-    ensures fewest { IfOk result (λ plan. IsFewest graph.now.staging.pending target.now (rounds_of plan)) }
-    ensures chain { IfOk result (λ plan. IsChainOf graph.now.staging.pending target.now plan.chain.items) }
-    ensures chain_count { IfOk result (λ plan. length plan.chain.items ≡ length (rounds_of plan)) }
-    ensures no_empty { IfOk result (λ plan. All (λ round. 0 < length round) (rounds_of plan)) }
-    ensures rounds { IfOk result (λ plan. AreRounds graph.now.staging.pending target.now (rounds_of plan)) }
+    ensures best { IfOk result (λ plan. IsBestPlan graph.now.staging.pending target.now (rounds_of plan) plan.chain.items) }
 {
     each_graph_is_whole(graph);
     let wanted = graph.wanted(target)?;
@@ -41,18 +33,12 @@ fn plan_staged(alloc: Global, graph: &Graph, target: &Dependency) -> Result<Plan
     Ok(Plan { rounds, chain })
 }
 
-/// The plan of a target, which any dependency may be. A need that is persistent is passed over.
+/// The plan that makes a dependency persistent. A need that is persistent already is passed over.
 ///
-/// Refused 4 NotStaged, 5 InFlight, 9 OutOfMemory. Takes time and memory that grow with what waits.
+/// Refused 4 NotStaged where it names what wasn't staged, then 5 InFlight where a round is out, and 9 OutOfMemory. Time and
+/// memory are linear in what waits.
 pub fn plan(alloc: Global, graph: &Graph, target: &Dependency) -> Result<Plan, Refusal>
-    ensures schedule { IfOk result (λ plan. IsSchedule graph.now.staging.pending (rounds_of plan)) }
-    ensures covers { IfOk result (λ plan. Covers graph.now.staging.pending (rounds_of plan) target.now) }
-    ensures respects { IfOk result (λ plan. Respects graph.now.staging.pending (rounds_of plan)) }
-    ensures fewest { IfOk result (λ plan. IsFewest graph.now.staging.pending target.now (rounds_of plan)) }
-    ensures chain { IfOk result (λ plan. IsChainOf graph.now.staging.pending target.now plan.chain.items) }
-    ensures chain_count { IfOk result (λ plan. length plan.chain.items ≡ length (rounds_of plan)) }
-    ensures no_empty { IfOk result (λ plan. All (λ round. 0 < length round) (rounds_of plan)) }
-    ensures rounds { IfOk result (λ plan. AreRounds graph.now.staging.pending target.now (rounds_of plan)) }
+    ensures best { IfOk result (λ plan. IsBestPlan graph.now.staging.pending target.now (rounds_of plan) plan.chain.items) }
     ensures not_staged { (result ≡ Err Refusal.NotStaged) ↔ ¬ IsWithin target.now graph.now.staging.staged graph.now.staging.latest }
     ensures in_flight { (result ≡ Err Refusal.InFlight) ↔ (IsWithin target.now graph.now.staging.staged graph.now.staging.latest × IsSome graph.now.round) }
     ensures refusals { IfErr result (λ r. (r ≡ Refusal.NotStaged) ⊎ (r ≡ Refusal.InFlight) ⊎ (r ≡ Refusal.OutOfMemory)) }
@@ -70,14 +56,7 @@ pub fn plan(alloc: Global, graph: &Graph, target: &Dependency) -> Result<Plan, R
 ///
 /// Refused 5 InFlight, 9 OutOfMemory. Cost: as `plan`.
 pub fn plan_all(alloc: Global, graph: &Graph) -> Result<Plan, Refusal>
-    ensures schedule { IfOk result (λ plan. IsSchedule graph.now.staging.pending (rounds_of plan)) }
-    ensures covers { IfOk result (λ plan. Covers graph.now.staging.pending (rounds_of plan) (everything graph.now.staging)) }
-    ensures respects { IfOk result (λ plan. Respects graph.now.staging.pending (rounds_of plan)) }
-    ensures fewest { IfOk result (λ plan. IsFewest graph.now.staging.pending (everything graph.now.staging) (rounds_of plan)) }
-    ensures chain { IfOk result (λ plan. IsChainOf graph.now.staging.pending (everything graph.now.staging) plan.chain.items) }
-    ensures chain_count { IfOk result (λ plan. length plan.chain.items ≡ length (rounds_of plan)) }
-    ensures no_empty { IfOk result (λ plan. All (λ round. 0 < length round) (rounds_of plan)) }
-    ensures rounds { IfOk result (λ plan. AreRounds graph.now.staging.pending (everything graph.now.staging) (rounds_of plan)) }
+    ensures best { IfOk result (λ plan. IsBestPlan graph.now.staging.pending (everything graph.now.staging) (rounds_of plan) plan.chain.items) }
     ensures in_flight { (result ≡ Err Refusal.InFlight) ↔ IsSome graph.now.round }
     ensures refusals { IfErr result (λ r. (r ≡ Refusal.InFlight) ⊎ (r ≡ Refusal.OutOfMemory)) }
 {
@@ -90,14 +69,7 @@ pub fn plan_all(alloc: Global, graph: &Graph) -> Result<Plan, Refusal>
 /// The plan of all that waits: the queues of what waits one after another.
 fn plan_queues(alloc: Global, graph: &Graph) -> Result<Plan, AllocError>
     requires none { graph.now.round ≡ None }
-    ensures schedule { IfOk result (λ plan. IsSchedule graph.now.staging.pending (rounds_of plan)) }
-    ensures covers { IfOk result (λ plan. Covers graph.now.staging.pending (rounds_of plan) (everything graph.now.staging)) }
-    ensures respects { IfOk result (λ plan. Respects graph.now.staging.pending (rounds_of plan)) }
-    ensures fewest { IfOk result (λ plan. IsFewest graph.now.staging.pending (everything graph.now.staging) (rounds_of plan)) }
-    ensures chain { IfOk result (λ plan. IsChainOf graph.now.staging.pending (everything graph.now.staging) plan.chain.items) }
-    ensures chain_count { IfOk result (λ plan. length plan.chain.items ≡ length (rounds_of plan)) }
-    ensures no_empty { IfOk result (λ plan. All (λ round. 0 < length round) (rounds_of plan)) }
-    ensures rounds { IfOk result (λ plan. AreRounds graph.now.staging.pending (everything graph.now.staging) (rounds_of plan)) }
+    ensures best { IfOk result (λ plan. IsBestPlan graph.now.staging.pending (everything graph.now.staging) (rounds_of plan) plan.chain.items) }
 {
     each_graph_is_whole(graph);
     let depth = graph.depth();
@@ -142,10 +114,10 @@ pub fn next_round(alloc: Global, graph: &Graph) -> Result<Vec<Element>, Refusal>
 /// `None` where it doesn't wait.
 ///
 /// Refused 5 InFlight. It takes no memory and seeks nothing.
-pub fn level_of(_alloc: Global, graph: &Graph, element: Element) -> Result<Option<u64>, Refusal>
+pub fn level_of(graph: &Graph, element: Element) -> Result<Option<u64>, Refusal>
     ensures level { IfOk result (λ found. MatchOption found (¬ Waits graph.now.staging.pending element) (λ n. IsHeight graph.now.staging.pending element n)) }
     ensures in_flight { (result ≡ Err Refusal.InFlight) ↔ IsSome graph.now.round }
-    ensures refusals { IfErr result (λ r. (r ≡ Refusal.InFlight) ⊎ (r ≡ Refusal.OutOfMemory)) }
+    ensures refusals { IfErr result (λ r. r ≡ Refusal.InFlight) }
 {
     if graph.is_out() {
         return Err(Refusal::InFlight);

@@ -1,23 +1,19 @@
 -- The lines of a plan, one after another, and what they say.
 use Rattle.std.proofs.Common.{None, inr, ◌≡◌, ◌∙◌, ℕ, ◌+◌, ◌<◌, List, [], ◌∷◌, ◌++◌, length, take, map, get_or, Vec, sym, ap, arith}
-use Rattle.std.specs.Prelude.{Option, Result, Ok, Err, IfErr, IfOk, OnOk}
+use Rattle.std.specs.Prelude.{Option, Result, Ok, Err, IfErr, OnOk}
 use Rattle.std.specs.Global.{Global}
 use Rattle.std.proofs.lemmas.List.{take_more, map-append, length-map, length-take-le}
+use Rattle.std.proofs.lemmas.Option.{slice_get-get_or}
 use Rattle.std.specs.Io.KnownBytes.{Appends}
 use Rattle.cs_deps.specs.declared.elements.Element.{Element}
 use Rattle.cs_deps.specs.declared.refusals.Refusal.{Refusal}
 use Rattle.cs_deps.specs.declared.refusals.Refusal.TheVariants.{OutOfMemory}
-use Rattle.cs_deps.specs.declared.views.Plan.{Plan}
-use Rattle.cs_deps.specs.Named.{Named}
 use Rattle.cs_deps.specs.Pending.{Pending}
-use Rattle.cs_deps.specs.Rounds.{AreRounds}
-use Rattle.cs_deps.specs.Schedule.{Covers, Respects, IsFewest, IsSchedule}
-use Rattle.cs_deps.specs.Chain.{IsChainOf}
 use Rattle.cs_deps.specs.Staging.{IsKept, Staging}
 use Rattle.cs_deps.specs.State.{everything}
 use Rattle.cs_deps.specs.Turns.{LeadTo}
-use Rattle.cs_deps.specs.View.{rounds_of}
-use Rattle.cs_deps.proofs.InTurn.{everything_is_all, in_turn_is_a_plan}
+use Rattle.cs_deps.proofs.InTurn.{are_queues, everything_is_all, in_turn_is_a_plan}
+use Rattle.cs_plan.specs.Best.{IsBestPlan}
 use Rattle.cs_disk.specs.Disk.{State as DiskState}
 use Rattle.cs_core.specs.declared.events.Event.TheVariants.{Stage}
 use Rattle.cs_core.specs.declared.events.Reply.{Reply}
@@ -25,17 +21,11 @@ use Rattle.cs_core.specs.Replies.{MayAnswer}
 use Rattle.cs_core.specs.Views.{View}
 use Rattle.cs_script.specs.Histories.{Goes, IsNoRefusal}
 use Rattle.cs_script.specs.Outputs.{round_line, round_lines}
-use Rattle.cs_script.specs.Scripts.{IsBest, IsPlanRefused, Stages}
+use Rattle.cs_script.specs.Scripts.{IsPlanRefused, Stages}
 use Rattle.cs_script.proofs.Asked.{staged_of}
 use Rattle.cs_script.proofs.Histories.{went_one}
 use Rattle.cs_script.proofs.Appended.{appends_same, appends_then}
 use Rattle.cs_script.proofs.Rounds.{round_lines_more}
-
--- what a plan of all that waits says, in one
-pub best_plan : (g : Pending) (target : Named) (r : Result Plan Refusal) → IfOk r (λ plan. IsSchedule g (rounds_of plan)) → IfOk r (λ plan. Covers g (rounds_of plan) target) → IfOk r (λ plan. Respects g (rounds_of plan)) → IfOk r (λ plan. IsFewest g target (rounds_of plan))
-    → IfOk r (λ plan. IsChainOf g target plan.chain.items) → IfOk r (λ plan. length plan.chain.items ≡ length (rounds_of plan)) → IfOk r (λ plan. AreRounds g target (rounds_of plan)) → IfOk r (λ plan. IsBest g target (rounds_of plan) plan.chain.items)
-best_plan g target (Ok plan) schedule covers respects fewest chain count heights = record { schedule = schedule; covers = covers; respects = respects; fewest = fewest; links = chain; count = count; heights = heights }
-best_plan g target (Err r) schedule covers respects fewest chain count heights = tt
 
 abbrev pub elements_of : List (Vec Element Global) → List (List Element)
 elements_of rounds = map (λ (round : Vec Element Global). round.items) rounds
@@ -53,8 +43,8 @@ one_round_more rounds i v members before mid after lt is same so_far printed =
     (appends_then before mid after (round_lines 1 first) (round_line (i + 1) members) so_far printed)
 
 -- the rounds that went out one after another are a best plan, too, with the chain of the one that was made before
-pub best_in_turn : (s : Staging) → IsKept s → (h : Pending) (planned rounds : List (List Element)) (chain : List Element) → IsBest s.pending (everything s) planned chain
-    → LeadTo s.pending rounds h → h.waiting ≡ [] → IsBest s.pending (everything s) rounds chain
+pub best_in_turn : (s : Staging) → IsKept s → (h : Pending) (planned rounds : List (List Element)) (chain : List Element) → IsBestPlan s.pending (everything s) planned chain
+    → LeadTo s.pending rounds h → h.waiting ≡ [] → IsBestPlan s.pending (everything s) rounds chain
 best_in_turn s kept h planned rounds chain best lead none =
     let p = in_turn_is_a_plan s.pending h (everything s) rounds kept.staged (everything_is_all s kept) lead none in record {
       schedule = p.schedule;
@@ -62,8 +52,9 @@ best_in_turn s kept h planned rounds chain best lead none =
       respects = p.respects;
       fewest = p.fewest;
       links = best.links;
+      chain_count = omega (arith, best.chain_count, best.fewest rounds p.schedule p.respects p.covers, p.fewest planned best.schedule best.respects best.covers);
+      no_empty = λ i d lt. ((are_queues s.pending kept.staged rounds h lead none).each i (get_or rounds i d) (slice_get-get_or rounds i d lt)).1;
       heights = p.heights;
-      count = omega (arith, best.count, best.fewest rounds p.schedule p.respects p.covers, p.fewest planned best.schedule best.respects best.covers);
     }
 
 pub on_ok : {T E : Type 0} (r : Result T E) (P : Type 0) → P → OnOk r P

@@ -3,16 +3,15 @@ use Rattle.std.specs.Prelude.{◌≡◌, ◌⊎◌, ◌≤◌, ◌++◌, ℕ, Bo
 use Rattle.cs_deps.specs.declared.refusals.Refusal.{Refusal}
 use Rattle.cs_deps.specs.declared.refusals.Refusal.TheVariants.{OutOfMemory, WornOut}
 use Rattle.cs_disk.specs.Disk.{State as DiskState}
-use Rattle.cs_model.specs.State.{State}
-use Rattle.cs_core.specs.Views.{IsIn}
 use Rattle.cs_node.specs.declared.rests.Unclosed.{Unclosed}
 use Rattle.cs_node.specs.declared.rests.Unclosed.TheVariants.{Missing}
 use Rattle.cs_node.specs.declared.rests.Unclosed.TheVariants as why
 use Rattle.cs_node.specs.Accounts.{Accounted}
 use Rattle.cs_node.specs.Closes.{Fails}
-use Rattle.cs_node.specs.Starts.{Start, start_of}
+use Rattle.cs_node.specs.Locks.{IsBehind}
+use Rattle.cs_node.specs.Starts.{Start}
 use Rattle.cs_node.specs.Told.{Holdings}
-use Rattle.cs_node.specs.Under.{Under}
+use Rattle.cs_node.specs.Under.{RestView}
 use Rattle.cs_script.specs.Outputs.{acknowledged_line, line_of, refusal_line}
 
 -- So many threads put so many shards each; the first of them drops so many of its first tickets; and rounds of several syncs overlap, or
@@ -54,18 +53,17 @@ abbrev pub IsNoRace : Refusal → Type 0
 IsNoRace r = (r ≡ OutOfMemory) ⊎ (r ≡ WornOut)
 
 -- a close over these purses answers so: they account for the core, of whose commands so many are persistent, or they don't
-abbrev pub CloseAnswers : {D : Type 0} → Under D → List Holdings → Result ℕ Unclosed → Type 0
-CloseAnswers under purses (Ok n) = Accounted under.core under.given purses × (n ≡ under.core.store.frontier)
-CloseAnswers under purses (Err why) = Fails under purses why
+abbrev pub CloseAnswers : {D : Type 0} → RestView D → List Holdings → Result ℕ Unclosed → Type 0
+CloseAnswers rest purses (Ok n) = Accounted rest.core rest.given purses × (n ≡ rest.core.store.frontier)
+CloseAnswers rest purses (Err why) = Fails rest purses why
 
 -- a core with this start, whose history is a run of the store's machine where the disk is honest, was closed so
-pub record IsAnswer {D : Type 0} (honest : D → Type 0) (state : D → DiskState) (start : Start) (under : Under D) (purses : List Holdings) (answer : Result ℕ Unclosed) : Type 0 where
-  pub begun : start_of under.core ≡ start
-  pub legal : honest under.core.disk → (s : State) × IsIn state under.core s
-  pub closed : CloseAnswers under purses answer
+pub record IsAnswer {D : Type 0} (honest : D → Type 0) (state : D → DiskState) (start : Start) (rest : RestView D) (purses : List Holdings) (answer : Result ℕ Unclosed) : Type 0 where
+  pub behind : IsBehind honest state start rest.core
+  pub closed : CloseAnswers rest purses answer
 
 -- a node on a core with this start was closed over some purses, and what that answered was printed, below the counts
 abbrev pub Races : {D : Type 0} → (honest : D → Type 0) → (state : D → DiskState) → Start → ℕ → List ℕ → Type 0
-Races {D} honest state start status out = (under : Under D) × (purses : List Holdings) × (read : ℕ) × (answer : Result ℕ Unclosed)
-    × IsAnswer honest state start under purses answer × (status ≡ answer_status answer)
-    × (out ≡ counts_lines under.core.store.accepted read ++ answer_line answer)
+Races {D} honest state start status out = (rest : RestView D) × (purses : List Holdings) × (read : ℕ) × (answer : Result ℕ Unclosed)
+    × IsAnswer honest state start rest purses answer × (status ≡ answer_status answer)
+    × (out ≡ counts_lines rest.core.store.accepted read ++ answer_line answer)

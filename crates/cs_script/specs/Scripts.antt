@@ -4,12 +4,8 @@ use Rattle.std.specs.Io.BufRead.{first_piece, drop_through}
 use Rattle.cs_deps.specs.declared.elements.Element.{Element}
 use Rattle.cs_deps.specs.declared.refusals.Refusal.{Refusal}
 use Rattle.cs_deps.specs.declared.refusals.Refusal.TheVariants as refusal
-use Rattle.cs_deps.specs.Named.{Named}
-use Rattle.cs_deps.specs.Pending.{Pending}
-use Rattle.cs_deps.specs.Rounds.{AreRounds}
-use Rattle.cs_deps.specs.Schedule.{Respects, Covers, IsFewest, IsSchedule}
-use Rattle.cs_deps.specs.Chain.{IsChainOf}
 use Rattle.cs_deps.specs.State.{everything}
+use Rattle.cs_plan.specs.Best.{IsBestPlan}
 use Rattle.cs_disk.specs.Disk.{State as DiskState}
 use Rattle.cs_frame.specs.declared.identifiers.ShardId.{ShardId}
 use Rattle.cs_check.specs.Written.{HasDocument, IsTextOf}
@@ -25,20 +21,9 @@ use Rattle.cs_script.specs.Lines.{Said, says_put, says_get, says_delete, says_sw
 use Rattle.cs_script.specs.Outputs.{absent_line, acknowledged_line, bad_line, begin_line, chain_line, delete_line, end_line, flushes_line, idle_line, issue_line, line_of, plan_lines, put_line, refusal_line, round_lines, swept_line, value_line}
 use Rattle.cs_script.specs.Rounds.{IsOfRound, IsPart, Members, Turn, events_of_all, issues, rest_of_round, rounds_of}
 
--- The rounds make the target persistent, a crash leaves a closed set, and no fewer will do, which the chain shows. Each round has
--- exactly what is needed at its height, once.
-pub record IsBest (g : Pending) (target : Named) (rounds : List (List Element)) (chain : List Element) : Type 0 where
-  pub schedule : IsSchedule g rounds
-  pub covers : Covers g rounds target
-  pub respects : Respects g rounds
-  pub fewest : IsFewest g target rounds
-  pub links : IsChainOf g target chain
-  pub count : length chain ≡ length rounds
-  pub heights : AreRounds g target rounds
-
 -- these are a best plan of all that waits in this store
 abbrev pub IsBestOfAll : Stored → List (List Element) → List Element → Type 0
-IsBestOfAll s rounds chain = IsBest s.graph.staging.pending (everything s.graph.staging) rounds chain
+IsBestOfAll s rounds chain = IsBestPlan s.graph.staging.pending (everything s.graph.staging) rounds chain
 
 -- a Stage that isn't refused
 abbrev pub IsStageDone : Reply → Type 0

@@ -207,7 +207,7 @@ fn print_elements<W: Write>(writer: &mut W, elements: &[Element]) -> io::Result<
     Ok(())
 }
 
-/// The name of an element: `w` is a plain write, `s` a superblock, `r` a root.
+/// The name of an element: `w` for a plain write, `s` for a superblock and `r` for a root, and its number.
 fn print_element<W: Write>(writer: &mut W, element: Element) -> io::Result<()>
     ensures { OnOk result (Appends (W.contents writer.old) (W.contents writer.new) (element_name element)) }
 {

@@ -27,7 +27,7 @@ pub enum Racer<K: Naming> {
     Put(Putter<K>),
     Acknowledge(Acknowledger<K>),
     WriteBack(Writer<K>),
-    Sweep(Sweeper),
+    Sweep(Sweeper<K>),
 }
 
 /// What one thread hands back.
@@ -70,8 +70,8 @@ pub struct Writer<K: Naming> {
 
 /// Sweeps until all tickets were polled.
 #[derive(Drop)]
-pub struct Sweeper {
-    reclaimer: Reclaimer,
+pub struct Sweeper<K: Naming> {
+    reclaimer: Reclaimer<K>,
     until: Until,
 }
 

@@ -94,11 +94,7 @@ const LEVELS: [(Element, Option<u64>); 5] = [
 fn levels_of_one_put(rt: HostRuntime) {
     let graph = one_put(&rt);
     for (element, level) in LEVELS {
-        assert_eq!(rt;
-            level_of(rt.alloc(), &graph, element),
-            Ok(level),
-            "at {element:?}"
-        );
+        assert_eq!(rt; level_of(&graph, element), Ok(level), "at {element:?}");
     }
 }
 
@@ -120,7 +116,7 @@ fn refuses_to_plan(rt: &(impl Abort + AllocGlobal), graph: &Graph) {
     assert_eq!(rt; plan_all(alloc, graph).err(), out);
     assert_eq!(rt; next_round(alloc, graph).err(), out);
     assert_eq!(rt; plan(alloc, graph, &Dependency::none(alloc)).err(), out);
-    assert_eq!(rt; level_of(alloc, graph, Element::Plain(1)).err(), out);
+    assert_eq!(rt; level_of(graph, Element::Plain(1)).err(), out);
 }
 
 #[test]
@@ -135,7 +131,7 @@ fn rounds_of_one_put(rt: HostRuntime) {
     refuses_to_plan(&rt, &graph);
     assert!(rt; graph.is_out());
     graph.settle_round();
-    let level = level_of(rt.alloc(), &graph, Element::Version(1, 2));
+    let level = level_of(&graph, Element::Version(1, 2));
     assert_eq!(rt; level, Ok(Some(2)));
 }
 

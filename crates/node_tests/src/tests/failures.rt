@@ -42,6 +42,7 @@ impl Calls for Halts {
         let mut pilot = node.pilot(rt).expect(rt, "the pilot");
         assert!(rt; matches!(node.sync(rt, &mut pilot), Err(Refusal::DeviceFault)));
         is_halted(rt, alloc, node, purse);
+        workers_end(rt, node, pilot);
         let ticket = settle_in_vain(rt, node, purse, ticket);
         let Polled::Back(ticket, 0) = purse.poll(node, ticket) else {
             panic!(rt; "a poll after")
@@ -60,6 +61,19 @@ fn is_halted<D: PageDisk, K: Naming, R: Wait + Abort>(
 ) {
     let bytes = bytes_of(alloc, 0x62).expect(rt, "bytes");
     assert!(rt; matches!(node.put(rt, purse, id(11), bytes), Err(Refusal::Halted)));
+}
+
+/// Asserts that whoever works on a halted node ends, refused 40 Halted.
+fn workers_end<D: PageDisk, K: Naming, R: Wait + Abort>(
+    rt: &R,
+    node: &Node<D, K>,
+    mut pilot: Pilot<K>,
+) {
+    assert!(rt; matches!(pilot.run(rt, node, &Open), Err(Refusal::Halted)));
+    let mut stream = Stream::new(pilot);
+    assert!(rt; matches!(stream.run(rt, node, &Open), Err(Refusal::Halted)));
+    let mut reclaimer = Reclaimer::new(1);
+    assert!(rt; matches!(reclaimer.run(rt, node, &Open), Err(Refusal::Halted)));
 }
 
 /// Three calls open the store, four are the first round's writes and flush and the second round's write, and two more its flush and

@@ -16,7 +16,7 @@ use std::thread::Threads;
 fn sweep_two<D: PageDisk, K: Naming, R: Wait + Abort>(
     rt: &R,
     node: &Node<D, K>,
-    reclaimer: &mut Reclaimer,
+    reclaimer: &mut Reclaimer<K>,
 ) {
     assert_eq!(rt; reclaimer.turn(rt, node, &Open), Ok(Step::BeginSweep));
     assert_eq!(rt; reclaimer.turn(rt, node, &Open), Ok(Step::MoveOne));

@@ -374,3 +374,43 @@ fn two_ramps_lead_to_one_dock(rt: HostRuntime) -> Result<(), Fail> {
     assert!(rt; matches!(end, Ok((4, _))));
     Ok(())
 }
+
+/// Gives its number.
+#[derive(Drop)]
+struct Numbered(u64);
+
+impl<N> Job<N> for Numbered {
+    type Out = u64;
+
+    fn run<R: Wait>(self, _rt: &R, _node: &N) -> u64 {
+        let Numbered(number) = self;
+        number
+    }
+}
+
+/// Asserts that jobs give what they gave in their order.
+pub fn numbers_in_order<
+    D: PageDisk + Send,
+    K: Naming + Send + Sync,
+    R: Threads + Wait + Abort + Sync,
+>(rt: &R, alloc: Global, node: &Node<D, K>) {
+    let mut jobs = Vec::new(alloc);
+    for number in 1..4 {
+        assert!(rt; jobs.push(Numbered(number)).is_ok());
+    }
+    let numbers = node.abreast(rt, jobs).expect(rt, "numbers");
+    assert_eq!(rt; numbers.as_slice(), [1, 2, 3].as_slice());
+    assert_eq!(rt; node.beside(rt, Numbered(4), Numbered(5)), (4, 5));
+}
+
+#[test]
+fn jobs_answer_in_their_order(rt: HostRuntime) -> Result<(), Fail> {
+    let end = run(
+        &rt,
+        rt.alloc(),
+        new_core(rt.alloc(), 64)?,
+        Together::Numbers,
+    );
+    assert!(rt; matches!(end, Ok((0, 0))));
+    Ok(())
+}

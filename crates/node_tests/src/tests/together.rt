@@ -4,7 +4,7 @@ ghost use Rattle.std.specs.Prelude.{◌≡◌, []};
 ghost use Rattle.cs_node.specs.Starts.{start_of};
 
 use super::losses::put_beside;
-use super::threads::{new_rides, polls_beside_a_put, puts_beside_a_round};
+use super::threads::{new_rides, numbers_in_order, polls_beside_a_put, puts_beside_a_round};
 use cs_core::Core;
 use cs_disk::{MemoryDisk, PageDisk};
 use cs_node::*;
@@ -22,6 +22,7 @@ pub enum Together {
     PutsBesideARound,
     Rides,
     Losses,
+    Numbers,
 }
 
 /// How many commands a node that was closed accepted, and how many of them are acknowledged, or why it wasn't closed.
@@ -81,5 +82,9 @@ fn purses_of<D: PageDisk + Send, K: Naming + Send + Sync, R: Threads + Wait + Ab
             node.abreast(rt, rides).expect(rt, "purses")
         }
         Together::Losses => put_beside(rt, alloc, node),
+        Together::Numbers => {
+            numbers_in_order(rt, alloc, node);
+            Vec::new(alloc)
+        }
     }
 }

@@ -10,4 +10,4 @@ pub returns-in-Some-clause-last : goal.returns-in-Some-clause-last
 returns-in-Some-clause-last c = last_of c.args.rounds.now c.in-Some.end c.in-Some.ensures.some c.follow.result c.follow.ensures.last
 
 pub returns-in-None-clause-count : goal.returns-in-None-clause-count
-returns-in-None-clause-count c = ap length c.new.ensures.items ∙ sym (none_left c.args.rounds.now c.requires.full (λ lt. c.first_of_last.ensures.none c.in-None.is lt))
+returns-in-None-clause-count c = ap length c.new.ensures.items ∙ sym (none_left c.args.rounds.now c.requires.full (c.first_of_last.ensures.none c.in-None.is))
