@@ -88,8 +88,8 @@ fn is_id(id: Option<ShardId>)
     }
 }
 
-/// The first live chunk on the extent, by identifier and then by chunk, and the last identifier before it; where nothing is live there,
-/// None and the last identifier of all. Reading begins behind the one that was passed already.
+/// Of the chunks that live on the extent the one that comes first, by identifier and then by chunk, and the last identifier before it; where
+/// none lives there, None and the last identifier of all. Reading begins behind the one that was passed already.
 pub fn search(
     entries: Entries<'_>,
     passed: Option<ShardId>,
