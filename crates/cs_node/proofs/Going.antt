@@ -14,8 +14,9 @@ use Rattle.cs_core.specs.declared.events.Event.TheVariants.{Abandon, Begin, Begi
 use Rattle.cs_core.specs.declared.events.Reply.{Reply}
 use Rattle.cs_core.specs.declared.events.Reply.TheVariants.{Refused}
 use Rattle.cs_core.specs.Views.{Applies, IsFull, IsIn, IsStep, View}
-use Rattle.cs_node.specs.Locks.{Declines, IsBehind}
-use Rattle.cs_node.specs.Starts.{Start}
+use Rattle.cs_node.specs.Behind.{IsBehind}
+use Rattle.cs_node.specs.Locks.{Declines}
+use Rattle.cs_node.specs.Starts.{Start, shape_at}
 use Rattle.cs_node.specs.Told.{is_unrecorded}
 use Rattle.cs_node.specs.Under.{Under}
 
@@ -89,13 +90,13 @@ if_some N None gives p = tt
 -- what a crash leaves of a core it leaves of the disk, the history and the counts that were taken of it
 pub left_of_parts : {D : Type 0} (state : D → DiskState) (start : Start) (core : View D) (disk : D) (history : List (Event × Reply)) (frontier accepted : ℕ)
     → disk ≡ core.disk → history ≡ core.history → frontier ≡ core.store.frontier → accepted ≡ core.store.accepted
-    → Leaves (state core.disk) (IsPrefix start.shape (page start.opened) (commands_said core.history) core.store.frontier core.store.accepted)
-    → Leaves (state disk) (IsPrefix start.shape (page start.opened) (commands_said history) frontier accepted)
+    → Leaves (state core.disk) (IsPrefix (shape_at start) (page start.opened) (commands_said core.history) core.store.frontier core.store.accepted)
+    → Leaves (state disk) (IsPrefix (shape_at start) (page start.opened) (commands_said history) frontier accepted)
 left_of_parts state start core disk history frontier accepted same_disk same_history same_frontier same_accepted left =
-    subst (λ d. Leaves (state d) (IsPrefix start.shape (page start.opened) (commands_said history) frontier accepted)) (sym same_disk)
-    (subst (λ (h : List (Event × Reply)). Leaves (state core.disk) (IsPrefix start.shape (page start.opened) (commands_said h) frontier accepted)) (sym same_history)
-    (subst (λ (f : ℕ). Leaves (state core.disk) (IsPrefix start.shape (page start.opened) (commands_said core.history) f accepted)) (sym same_frontier)
-    (subst (λ (n : ℕ). Leaves (state core.disk) (IsPrefix start.shape (page start.opened) (commands_said core.history) core.store.frontier n)) (sym same_accepted) left)))
+    subst (λ d. Leaves (state d) (IsPrefix (shape_at start) (page start.opened) (commands_said history) frontier accepted)) (sym same_disk)
+    (subst (λ (h : List (Event × Reply)). Leaves (state core.disk) (IsPrefix (shape_at start) (page start.opened) (commands_said h) frontier accepted)) (sym same_history)
+    (subst (λ (f : ℕ). Leaves (state core.disk) (IsPrefix (shape_at start) (page start.opened) (commands_said core.history) f accepted)) (sym same_frontier)
+    (subst (λ (n : ℕ). Leaves (state core.disk) (IsPrefix (shape_at start) (page start.opened) (commands_said core.history) core.store.frontier n)) (sym same_accepted) left)))
 
 -- a refusal that is passed on
 pub if_same : {T : Type 0} (result : Result T Refusal) (P : Refusal → Type 0) (r : Refusal) → IsErrAnd result (λ x. x ≡ r) → P r → IfErr result P

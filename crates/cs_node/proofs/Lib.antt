@@ -1,3 +1,4 @@
+pub mod Behind
 pub mod Crosses
 pub mod Going
 pub mod LogSteps

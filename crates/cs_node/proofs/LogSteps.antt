@@ -1,5 +1,5 @@
 -- A log with one call more.
-use Rattle.std.proofs.Common.{◌≡◌, ◌<◌, ◌≤◌, ℕ, zero, suc, ◌+◌, ◌-◌, List, [], ◌∷◌, ◌++◌, Some, None, refl, sym, ap, ◌∙◌, arith, get_or, length, length-append, max}
+use Rattle.std.proofs.Common.{◌≡◌, ◌<◌, ◌≤◌, ℕ, zero, suc, ◌+◌, ◌-◌, List, [], ◌∷◌, ◌++◌, Some, None, refl, sym, ap, ◌∙◌, subst, arith, get_or, length, length-append, max}
 use Rattle.std.specs.Prelude.{slice_get}
 use Rattle.std.proofs.lemmas.Option.{get_or_from_slice_get, slice_get_within}
 use Rattle.std.proofs.lemmas.List.Elements.{All-push}
@@ -11,7 +11,7 @@ use Rattle.cs_core.specs.declared.events.Event.{Event}
 use Rattle.cs_core.specs.declared.events.Reply.{Reply}
 use Rattle.cs_core.specs.declared.events.Reply.TheVariants.{Found}
 use Rattle.cs_node.specs.declared.logs.Call.{Call}
-use Rattle.cs_node.specs.Told.{Below, Rising, call, floor_of, found_in, found_last, told_by}
+use Rattle.cs_node.specs.Told.{Below, IsAbove, Rising, call, floor_of, found_in, found_last, told_by}
 
 pub floor_of-push : (cs : List Call) (c : Call) → floor_of (cs ++ c ∷ []) ≡ max (floor_of cs) (told_by c.event c.reply)
 floor_of-push [] c = omega arith
@@ -22,6 +22,17 @@ below_more m n cs le h k d here = let b = h k d here in omega arith
 
 pub Below-push : (place : ℕ) (cs : List Call) (e : Event) (r : Reply) → Below place cs → Below (place + 1) (cs ++ call place e r ∷ [])
 Below-push place cs e r h = All-push (λ (c : Call). c.place < place + 1) cs (call place e r) (below_more place (place + 1) cs (omega arith) h) (omega arith)
+
+-- the place behind that of the call that was added is the least above all
+pub IsAbove-push : (place : ℕ) (cs : List Call) (e : Event) (r : Reply) → Below place cs → IsAbove (place + 1) (cs ++ call place e r ∷ [])
+IsAbove-push place cs e r h = record {
+  below = Below-push place cs e r h;
+  least = λ m below.
+      let all : length (cs ++ call place e r ∷ []) ≡ length cs + 1 = length-append cs (call place e r ∷ []) in
+      let seam = get_or-append_seam cs (call place e r) [] (call place e r) in
+      let last = below (length cs) (call place e r) (omega (arith, all)) in
+      subst (λ (c : Call). c.place < m → place + 1 ≤ m) (sym seam) (λ lt. omega arith) last;
+}
 
 pub Rising-push : (place : ℕ) (cs : List Call) (e : Event) (r : Reply) → Below place cs → Rising cs → Rising (cs ++ call place e r ∷ [])
 Rising-push place cs e r below rises k d lt = dite (dec_lt (k + 1) (length cs))

@@ -1,7 +1,9 @@
 pub mod Accounts
 pub mod Answers
+pub mod Behind
 pub mod Closes
 pub mod Dues
+pub mod Jobs
 pub mod Locks
 pub mod Mirror
 pub mod Starts

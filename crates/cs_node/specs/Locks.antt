@@ -2,29 +2,20 @@
 use Rattle.std.specs.Prelude.{◌≡◌, ◌≢◌, ℕ, ◌≤◌, ◌++◌, ◌∷◌, Bool, List, Result, [], length, MatchBool, MatchResult}
 use Rattle.cs_deps.specs.declared.refusals.Refusal.{Refusal}
 use Rattle.cs_deps.specs.declared.refusals.Refusal.TheVariants.{HistoryFull, OutOfMemory}
-use Rattle.cs_disk.specs.Disk.{Leaves, State as DiskState, page}
+use Rattle.cs_disk.specs.Disk.{State as DiskState}
 use Rattle.cs_frame.specs.declared.identifiers.ShardId.{ShardId}
-use Rattle.cs_model.specs.State.{State}
 use Rattle.cs_core.specs.declared.events.Event.{Event}
 use Rattle.cs_core.specs.declared.events.Event.TheVariants.{Get, Settle}
 use Rattle.cs_core.specs.declared.events.Reply.{Reply}
 use Rattle.cs_core.specs.declared.events.Reply.TheVariants.{Absent, Found, NotYet, Persistent, Refused}
-use Rattle.cs_core.specs.Meanings.{commands_said}
-use Rattle.cs_core.specs.Views.{IsUntouched, IsIn, IsStep, View}
-use Rattle.cs_refine.specs.Crashes.{IsPrefix}
+use Rattle.cs_core.specs.Views.{IsUntouched, IsStep, View}
 use Rattle.cs_node.specs.declared.nodes.Settled.{Settled}
 use Rattle.cs_node.specs.declared.nodes.Settled.TheVariants.{Done as SettleDone, Back as SettleBack}
 use Rattle.cs_node.specs.declared.nodes.Why.{Why}
 use Rattle.cs_node.specs.declared.nodes.Why.TheVariants.{NotYet as WhyNotYet, HistoryFull as WhyFull, OutOfMemory as WhyMemory}
-use Rattle.cs_node.specs.Starts.{Start, start_of}
+use Rattle.cs_node.specs.Behind.{IsBehind}
+use Rattle.cs_node.specs.Starts.{Start}
 use Rattle.cs_node.specs.Told.{Holdings, call, is_unrecorded}
-
--- A core that lies behind the lock: it was opened on this start, and where its disk is honest its history led to a state of the machine
--- in which disk and store are, and a crash would leave the map after some of the commands, none of the persistent ones left out.
-pub record IsBehind {D : Type 0} (honest : D → Type 0) (state : D → DiskState) (start : Start) (v : View D) : Type 0 where
-  pub started : start_of v ≡ start
-  pub legal : honest v.disk → (s : State) × IsIn state v s
-  pub left : honest v.disk → Leaves (state v.disk) (IsPrefix start.shape (page start.opened) (commands_said v.history) v.store.frontier v.store.accepted)
 
 -- There is a core that lay behind the lock once, of this start, and one that it was after the call, of which `goes` holds. Which cores these
 -- were isn't told: the first may be an earlier one than the call found.

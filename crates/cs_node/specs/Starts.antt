@@ -1,20 +1,25 @@
 -- What a core was opened on.
-use Rattle.std.specs.Prelude.{[]}
+use Rattle.std.specs.Prelude.{ℕ, []}
 use Rattle.cs_disk.specs.Disk.{Image}
 use Rattle.cs_extent.specs.State.{shape}
 use Rattle.cs_model.specs.Device.{Shape}
-use Rattle.cs_core.specs.Started.{new_stored}
+use Rattle.cs_model.specs.Geometry.{shape_of}
 use Rattle.cs_core.specs.Views.{View}
 
--- the image that was on the disk when the core was opened, and the geometry of the store
+-- the image that was on the disk when the core was opened, and how many extents the store has, of how many pages
 pub record Start : Type 0 where
   pub opened : Image
-  pub shape : Shape
+  pub extents : ℕ
+  pub pages : ℕ
+
+-- the shape of such a store
+abbrev pub shape_at : Start → Shape
+shape_at start = shape_of start.extents start.pages 1 start.extents 1
 
 -- what this core was opened on
 abbrev pub start_of : {D : Type 0} → View D → Start
-start_of v = record { opened = v.opened; shape = shape v.store.extents }
+start_of v = record { opened = v.opened; extents = (shape v.store.extents).extents; pages = (shape v.store.extents).pages }
 
 -- the start of no core
 abbrev pub no_start : Start
-no_start = record { opened = []; shape = shape (new_stored 4 2).extents }
+no_start = record { opened = []; extents = 4; pages = 2 }

@@ -1,5 +1,5 @@
 -- What a purse keeps, and what a call adds to it.
-use Rattle.std.specs.Prelude.{◌≡◌, ℕ, ◌+◌, ◌<◌, List, [], ◌∷◌, ◌++◌, Option, Some, None, max, All, length, slice_index_or, Bool, true, false, MatchBool}
+use Rattle.std.specs.Prelude.{◌≡◌, ℕ, ◌+◌, ◌<◌, ◌≤◌, List, [], ◌∷◌, ◌++◌, Option, Some, None, max, All, length, slice_index_or, Bool, true, false, MatchBool}
 use Rattle.cs_deps.specs.declared.refusals.Refusal.{Refusal}
 use Rattle.cs_deps.specs.declared.refusals.Refusal.TheVariants.{OutOfMemory, HistoryFull}
 use Rattle.cs_core.specs.declared.events.Event.{Event}
@@ -42,6 +42,11 @@ found_last (c ∷ d ∷ cs) = found_last (d ∷ cs)
 -- all calls are at places below n
 abbrev pub Below : ℕ → List Call → Type 0
 Below n calls = All (λ c. c.place < n) calls
+
+-- the least number that all calls are at places below
+pub record IsAbove (n : ℕ) (calls : List Call) : Type 0 where
+  pub below : Below n calls
+  pub least : (m : ℕ) → Below m calls → n ≤ m
 
 -- each place is above the one before
 abbrev pub Rising : List Call → Type 0

@@ -1,7 +1,12 @@
 //! The board: one word that tells how many commands are persistent.
-ghost use Rattle.std.specs.Prelude.{◌≡◌, ◌≤◌, [], IfOk};
+ghost use Rattle.std.specs.Prelude.{◌≡◌, ◌≤◌, [], IfOk, Some};
+ghost use Rattle.cs_node.specs.Behind.{WasFrontier};
+ghost use Rattle.cs_node.specs.Mirror.{knows};
+ghost use Rattle.cs_node.specs.Starts.{start_of};
 
 use atomic_table::{Play, Seat, Split, Table, TableRule};
+use cs_core::Core;
+use cs_disk::PageDisk;
 use std::alloc::{AllocError, Global};
 use std::marker::{Brand, Model, PhantomData};
 
@@ -24,63 +29,94 @@ impl Naming for Brand {
     ghost start = { no_start };
 }
 
-/// The rule of the board: the keeper's view is the word, and no view exceeds it.
-pub struct Mirror;
-
-impl TableRule<(), u64, ()> for Mirror {
-    ghost use Rattle.cs_node.specs.Mirror.{IsMirror};
-
-    ghost holds = { λ _ s. IsMirror s };
-
-    ghost first = { λ _. 0 };
+/// What a seat at the board knows. It stands in contracts alone, and none is ever made.
+pub struct Sight {
+    number: u64,
 }
 
-/// The keeper raises the word, or a reader loads it: the view is the word then.
-pub struct Sees;
+impl Model for Sight {
+    ghost use Rattle.std.specs.Prelude.{None};
+    ghost use Rattle.cs_node.specs.Mirror.{Knowledge};
 
-impl Play<(), u64> for Sees {
+    ghost Value = { Knowledge };
+
+    ghost view = { λ s. record { number = s.number; start = None } };
+}
+
+/// The rule of the board: the keeper's view is the word, no view exceeds it, and each was the frontier of a core behind the lock.
+pub struct Mirror<D: PageDisk> {
+    of: PhantomData<D>,
+}
+
+impl<D: PageDisk> TableRule<(), Sight, ()> for Mirror<D> {
+    ghost use Rattle.cs_node.specs.Mirror.{IsMirror, nothing};
+
+    ghost holds = { λ _ s. IsMirror D.honest D.state s };
+
+    ghost first = { λ _. nothing };
+}
+
+/// The keeper raises the word, or a reader loads it: the view is the word then, and counts commands of the core that K names.
+pub struct Sees<D: PageDisk, K: Naming> {
+    disk: PhantomData<D>,
+    of: PhantomData<K>,
+}
+
+impl<D: PageDisk, K: Naming> Play<(), Sight> for Sees<D, K> {
     ghost use Rattle.cs_node.specs.Mirror.{Sights};
 
-    ghost then = { λ _ me found now. Sights me found now };
+    ghost then = { λ _ me found now. Sights D.honest D.state K.start me found now };
 }
 
 /// A new reader knows what the keeper knows.
 pub struct Alike;
 
-impl Split<u64> for Alike {
+impl Split<Sight> for Alike {
     ghost left = { λ v. v };
 
     ghost right = { λ v. v };
 }
 
-pub type Words = Table<(), u64, (), Mirror, Global>;
+pub type Words<D> = Table<(), Sight, (), Mirror<D>, Global>;
 
-pub type Reader = Seat<(), u64>;
+pub type Reader = Seat<(), Sight>;
 
 /// The board that K names.
 #[derive(Drop)]
-pub struct NamedBoard<K: Naming> {
-    pub(crate) words: Words,
-    pub(crate) of: PhantomData<K>,
+pub struct NamedBoard<D: PageDisk, K: Naming> {
+    words: Words<D>,
+    of: PhantomData<K>,
     ghost named: { words.shared.table_id ≡ K.table },
     ghost one_word: { words.shared.table_id.words ≡ 1 },
 }
 
-impl<K: Naming> NamedBoard<K> {
+impl<D: PageDisk, K: Naming> NamedBoard<D, K> {
+    /// Raises the word to the frontier of a core, where the keeper's view was no more.
+    pub(crate) fn raise(&self, keeper: &mut Reader, core: &Core<D>)
+        requires seat { (keeper.old.table_id ≡ K.table) × (keeper.old.id ≡ 0) × (keeper.old.me ≡ (knows K.start keeper.old.me.0.number, [])) }
+        requires start { start_of core.now ≡ K.start }
+        requires later { keeper.old.me.0.number ≤ core.now.store.frontier }
+        ensures { (keeper.new.table_id ≡ K.table) × (keeper.new.id ≡ 0) × (keeper.new.me ≡ (knows K.start core.now.store.frontier, [])) }
+    {
+        let (_, frontier) = core.progress();
+        self.words.shared.store::<Sees<D, K>>(keeper, 0, frontier);
+    }
+
     /// Loads the word, which is the view of this seat then.
     pub(crate) fn look(&self, seat: &mut Reader) -> u64
-        requires { (seat.old.table_id ≡ K.table) × (seat.old.me.1 ≡ []) }
-        ensures seat { (seat.new.table_id ≡ K.table) × (seat.new.me ≡ (result, [])) }
-        ensures later { seat.old.me.0 ≤ result }
+        requires { (seat.old.table_id ≡ K.table) × (seat.old.me ≡ (knows K.start seat.old.me.0.number, [])) }
+        ensures seat { (seat.new.table_id ≡ K.table) × (seat.new.me ≡ (knows K.start result, [])) }
+        ensures later { seat.old.me.0.number ≤ result }
+        ensures frontier { WasFrontier D.honest D.state K.start result }
     {
-        self.words.shared.load::<Sees>(seat, 0)
+        self.words.shared.load::<Sees<D, K>>(seat, 0)
     }
 
     /// A new seat with the view of this one.
     pub(crate) fn split(&self, seat: &mut Reader) -> Reader
-        requires { seat.old.table_id ≡ K.table }
+        requires { (seat.old.table_id ≡ K.table) × (seat.old.me ≡ (knows K.start seat.old.me.0.number, [])) }
         ensures kept { (seat.new.table_id ≡ seat.old.table_id) × (seat.new.id ≡ seat.old.id) × (seat.new.me ≡ seat.old.me) }
-        ensures made { (result.table_id ≡ K.table) × (result.me ≡ (seat.old.me.0, [])) }
+        ensures made { (result.table_id ≡ K.table) × (result.me ≡ (knows K.start seat.old.me.0.number, [])) }
     {
         self.words.shared.split_seat::<Alike>(seat)
     }
@@ -88,14 +124,15 @@ impl<K: Naming> NamedBoard<K> {
 
 /// A board that no node has yet. Contracts see its name.
 #[derive(Drop)]
-pub struct Board {
-    pub(crate) words: Words,
-    pub(crate) keeper: Reader,
+pub struct Board<D: PageDisk> {
+    words: Words<D>,
+    keeper: Reader,
 }
 
-impl Model for Board {
+impl<D: PageDisk> Model for Board<D> {
     ghost use Rattle.std.specs.Prelude.{◌≡◌, []};
     ghost use Rattle.atomic_table.specs.Seated.{TableId, table_id_coded};
+    ghost use Rattle.cs_node.specs.Mirror.{nothing};
 
     ghost Value = { TableId };
 
@@ -103,15 +140,34 @@ impl Model for Board {
 
     ghost view = { λ b. b.words.shared.table_id };
 
-    ghost invariant = { λ b. (b.words.shared.table_id.words ≡ 1) × (b.keeper.table_id ≡ b.words.shared.table_id) × (b.keeper.id ≡ 0) × (b.keeper.me ≡ (0, [])) };
+    ghost invariant = { λ b. (b.words.shared.table_id.words ≡ 1) × (b.keeper.table_id ≡ b.words.shared.table_id) × (b.keeper.id ≡ 0) × (b.keeper.me ≡ (nothing, [])) };
 }
 
-impl Board {
+impl<D: PageDisk> Board<D> {
     /// A board that tells of no command.
-    pub fn new(alloc: Global) -> Result<Board, AllocError>
+    pub fn new(alloc: Global) -> Result<Self, AllocError>
         ensures { IfOk result (λ board. board.words ≡ 1) }
     {
-        let (words, keeper) = Words::of_words(alloc, &[0], &())?;
+        let (words, keeper) = Words::<D>::of_words(alloc, &[0], &())?;
         Ok(Board { words, keeper })
+    }
+
+    /// The board as that of a node with this core, and the keeper's seat.
+    pub(crate) fn name<K: Naming>(self, core: &Core<D>) -> (NamedBoard<D, K>, Reader)
+        requires board { self ≡ K.table }
+        requires start { start_of core.now ≡ K.start }
+        requires frontier { core.now.store.frontier ≡ 0 }
+        ensures { (result.1.table_id ≡ K.table) × (result.1.id ≡ 0) × (result.1.me ≡ (knows K.start 0, [])) }
+    {
+        // Called for its contract alone: what a core behind the lock keeps.
+        core.progress();
+        let Board { words, keeper } = self;
+        let mut keeper = keeper;
+        words.shared.store::<Sees<D, K>>(&mut keeper, 0, 0);
+        let board = NamedBoard {
+            words,
+            of: PhantomData,
+        };
+        (board, keeper)
     }
 }

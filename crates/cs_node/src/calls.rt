@@ -3,7 +3,8 @@ ghost use Rattle.std.specs.Prelude.{◌≡◌, ◌≢◌, ◌⊎◌, ◌^◌, �
 ghost use Rattle.cs_core.specs.Replies.{MayAnswer};
 ghost use Rattle.cs_core.specs.Views.{IsStep};
 ghost use Rattle.cs_node.specs.Answers.{Gets, Settles, deleted};
-ghost use Rattle.cs_node.specs.Locks.{Declines, IsAnswered, IsBehind, IsCallRefused, IsGot, IsSettledBy};
+ghost use Rattle.cs_node.specs.Behind.{IsBehind};
+ghost use Rattle.cs_node.specs.Locks.{Declines, IsAnswered, IsCallRefused, IsGot, IsSettledBy};
 ghost use Rattle.cs_node.specs.Told.{Adds, Below, Refuses};
 
 use crate::boards::{NamedBoard, Naming};
@@ -23,7 +24,7 @@ impl<D: PageDisk, K: Naming> Engine<D, K> {
     /// 41 HistoryFull; nothing is recorded then.
     fn ask<G: Gate>(
         &mut self,
-        board: &NamedBoard<K>,
+        board: &NamedBoard<D, K>,
         log: &mut Log,
         event: &Event,
         gate: &G,
@@ -50,7 +51,7 @@ impl<D: PageDisk, K: Naming> Engine<D, K> {
     /// Keeps bytes under an identifier.
     pub fn put<G: Gate>(
         &mut self,
-        board: &NamedBoard<K>,
+        board: &NamedBoard<D, K>,
         purse: &mut Purse<K>,
         id: ShardId,
         bytes: Bytes,
@@ -79,7 +80,7 @@ impl<D: PageDisk, K: Naming> Engine<D, K> {
     /// Reads what is under an identifier.
     pub fn get<G: Gate>(
         &mut self,
-        board: &NamedBoard<K>,
+        board: &NamedBoard<D, K>,
         purse: &mut Purse<K>,
         id: ShardId,
         gate: &G,
@@ -111,7 +112,7 @@ impl<D: PageDisk, K: Naming> Engine<D, K> {
     /// Deletes an identifier.
     pub fn delete<G: Gate>(
         &mut self,
-        board: &NamedBoard<K>,
+        board: &NamedBoard<D, K>,
         purse: &mut Purse<K>,
         id: ShardId,
         gate: &G,
@@ -143,7 +144,7 @@ impl<D: PageDisk, K: Naming> Engine<D, K> {
     /// Asks whether a command is persistent.
     pub fn settle<G: Gate>(
         &mut self,
-        board: &NamedBoard<K>,
+        board: &NamedBoard<D, K>,
         purse: &mut Purse<K>,
         ticket: Ticket<K>,
         gate: &G,

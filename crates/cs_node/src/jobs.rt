@@ -1,5 +1,6 @@
 //! What threads do beside one another on one node.
 ghost use Rattle.std.specs.Prelude.{◌≡◌, IfOk, vec_len};
+ghost use Rattle.cs_node.specs.Jobs.{AllGive};
 
 use crate::boards::Naming;
 use crate::nodes::Node;
@@ -12,7 +13,11 @@ use std::thread::{Threads, join, map_vec};
 pub trait Job<N>: Send + Drop {
     type Out: Send + Drop;
 
-    fn run<R: Wait>(self, rt: &R, node: &N) -> Self::Out;
+    // what is known of what it gives: nothing, where an impl says nothing else
+    ghost gives: { Self → Self.Out → Type 0 } = { λ _ _. Unit {0} };
+
+    fn run<R: Wait>(self, rt: &R, node: &N) -> Self::Out
+        ensures { gives self result };
 }
 
 /// Two jobs beside one another.
@@ -21,7 +26,9 @@ fn two<N: Sync, A: Job<N>, B: Job<N>, R: Threads + Wait + Sync>(
     node: &N,
     a: A,
     b: B,
-) -> (A::Out, B::Out) {
+) -> (A::Out, B::Out)
+    ensures { A.gives a result.0 × B.gives b result.1 }
+{
     join(rt, move || a.run(rt, node), move || b.run(rt, node))
 }
 
@@ -31,7 +38,8 @@ fn all<N: Sync, J: Job<N>, R: Threads + Wait + Sync>(
     node: &N,
     jobs: Vec<J>,
 ) -> Result<Vec<J::Out>, AllocError>
-    ensures { IfOk result (λ outs. vec_len outs ≡ vec_len jobs) }
+    ensures len { IfOk result (λ outs. vec_len outs ≡ vec_len jobs) }
+    ensures gives { IfOk result (λ outs. AllGive J.gives jobs.items outs.items) }
 {
     map_vec(rt, jobs, &move |job: J| job.run(rt, node))
 }
@@ -44,7 +52,9 @@ impl<D: PageDisk + Send, K: Naming + Send + Sync> Node<D, K> {
         rt: &R,
         a: A,
         b: B,
-    ) -> (A::Out, B::Out) {
+    ) -> (A::Out, B::Out)
+        ensures { A.gives a result.0 × B.gives b result.1 }
+    {
         two(rt, self, a, b)
     }
 
@@ -56,7 +66,8 @@ impl<D: PageDisk + Send, K: Naming + Send + Sync> Node<D, K> {
         rt: &R,
         jobs: Vec<J>,
     ) -> Result<Vec<J::Out>, AllocError>
-        ensures { IfOk result (λ outs. vec_len outs ≡ vec_len jobs) }
+        ensures len { IfOk result (λ outs. vec_len outs ≡ vec_len jobs) }
+        ensures gives { IfOk result (λ outs. AllGive J.gives jobs.items outs.items) }
     {
         all(rt, self, jobs)
     }

@@ -7,12 +7,14 @@ ghost use Rattle.std.specs.Prelude.{◌≡◌, ◌≢◌, ◌⊎◌, ◌+◌, �
 ghost use Rattle.std.specs.Sync.Mutex.{mutex_guard_value};
 ghost use Rattle.cs_core.specs.Replies.{MayAnswer};
 ghost use Rattle.cs_core.specs.Views.{Applies, IsUntouched, IsStep};
-ghost use Rattle.cs_node.specs.Locks.{Declines, IsBehind};
+ghost use Rattle.cs_node.specs.Behind.{IsBehind};
+ghost use Rattle.cs_node.specs.Locks.{Declines};
+ghost use Rattle.cs_node.specs.Mirror.{knows};
 ghost use Rattle.cs_node.specs.Starts.{start_of};
 ghost use Rattle.cs_node.specs.Told.{empty};
 
 use crate::alike::is_full;
-use crate::boards::{NamedBoard, Naming, Reader, Sees};
+use crate::boards::{NamedBoard, Naming, Reader};
 use crate::gates::{Gate, step_of};
 use crate::pilots::Pilot;
 use crate::purses::Purse;
@@ -37,6 +39,7 @@ pub struct Engine<D: PageDisk, K: Naming> {
 
 impl<D: PageDisk, K: Naming> Model for Engine<D, K> {
     ghost use Rattle.std.specs.Prelude.{◌≡◌, []};
+    ghost use Rattle.cs_node.specs.Mirror.{knows};
     ghost use Rattle.cs_node.specs.Starts.{start_of};
     ghost use Rattle.cs_node.specs.Under.{EngineView};
 
@@ -44,7 +47,7 @@ impl<D: PageDisk, K: Naming> Model for Engine<D, K> {
 
     ghost view = { λ s. record { core = s.core; fresh = s.fresh.value } };
 
-    ghost invariant = { λ s. (start_of s.core ≡ K.start) × (s.keeper.table_id ≡ K.table) × (s.keeper.id ≡ 0) × (s.keeper.me ≡ (s.core.store.frontier, [])) };
+    ghost invariant = { λ s. (start_of s.core ≡ K.start) × (s.keeper.table_id ≡ K.table) × (s.keeper.id ≡ 0) × (s.keeper.me ≡ (knows K.start s.core.store.frontier, [])) };
 }
 
 /// What does events, and what the node gave: purses and the pilot.
@@ -98,7 +101,7 @@ impl<D: PageDisk, K: Naming> Engine<D, K> {
     /// A core, and the keeper's seat.
     fn new(core: Core<D>, keeper: Reader) -> Self
         requires start { start_of core ≡ K.start }
-        requires keeper { (keeper.table_id ≡ K.table) × (keeper.id ≡ 0) × (keeper.me ≡ (core.store.frontier, [])) }
+        requires keeper { (keeper.table_id ≡ K.table) × (keeper.id ≡ 0) × (keeper.me ≡ (knows K.start core.store.frontier, [])) }
         ensures { result ≡ record { core = core; fresh = false } }
     {
         Engine {
@@ -120,7 +123,7 @@ impl<D: PageDisk, K: Naming> Engine<D, K> {
     }
 
     /// Does the one event of this lock. Where it makes more commands persistent, the board tells.
-    fn apply(&mut self, board: &NamedBoard<K>, event: &Event) -> Result<Reply, OutOfMemory>
+    fn apply(&mut self, board: &NamedBoard<D, K>, event: &Event) -> Result<Reply, OutOfMemory>
         requires fresh { self.old.fresh ≡ true }
         ensures step { IfOk result (λ reply. Applies D.honest D.state self.old.core event.now reply self.new.core) }
         ensures memory { OnErr result (IsUntouched D.honest D.state self.old.core self.new.core) }
@@ -130,10 +133,8 @@ impl<D: PageDisk, K: Naming> Engine<D, K> {
         self.fresh = Snapshot::of(&false);
         let before = self.core.frontier();
         let reply = self.core.apply(event)?;
-        let frontier = self.core.frontier();
-        if before < frontier {
-            let shown = &board.words.shared;
-            shown.store::<Sees>(&mut self.keeper, 0, frontier);
+        if before < self.core.frontier() {
+            board.raise(&mut self.keeper, &self.core);
         }
         Ok(reply)
     }
@@ -142,7 +143,7 @@ impl<D: PageDisk, K: Naming> Engine<D, K> {
     /// 41 HistoryFull; nothing is recorded then.
     pub fn record<G: Gate>(
         &mut self,
-        board: &NamedBoard<K>,
+        board: &NamedBoard<D, K>,
         event: &Event,
         gate: &G,
     ) -> Result<Reply, Refusal>
@@ -180,7 +181,7 @@ impl<D: PageDisk, K: Naming> Locked<D, K> {
     /// A core and the keeper's seat, where nothing was given yet.
     pub fn new(core: Core<D>, keeper: Reader) -> Self
         requires start { start_of core ≡ K.start }
-        requires keeper { (keeper.table_id ≡ K.table) × (keeper.id ≡ 0) × (keeper.me ≡ (core.store.frontier, [])) }
+        requires keeper { (keeper.table_id ≡ K.table) × (keeper.id ≡ 0) × (keeper.me ≡ (knows K.start core.store.frontier, [])) }
         ensures { result ≡ record { engine = record { core = core; fresh = false }; given = 0; piloted = false } }
     {
         Locked {
@@ -191,7 +192,7 @@ impl<D: PageDisk, K: Naming> Locked<D, K> {
     }
 
     /// A purse with a seat of its own. Refused 35 WornOut past the greatest number of purses.
-    pub fn give(&mut self, board: &NamedBoard<K>, alloc: Global) -> Result<Purse<K>, Refusal>
+    pub fn give(&mut self, board: &NamedBoard<D, K>, alloc: Global) -> Result<Purse<K>, Refusal>
         ensures ok { IfOk result (λ purse. (purse ≡ empty self.old.engine.core.store.frontier) × (self.new ≡ record self.old { given = self.old.given + 1 })) }
         ensures err { IfErr result (λ r. (r ≡ Refusal.WornOut) × (2 ^ 63 ≤ self.old.given + 1) × (self.new ≡ self.old)) }
     {
@@ -204,7 +205,7 @@ impl<D: PageDisk, K: Naming> Locked<D, K> {
     }
 
     /// The pilot with a seat of its own, None once it was given.
-    pub fn hire(&mut self, board: &NamedBoard<K>) -> Option<Pilot<K>>
+    pub fn hire(&mut self, board: &NamedBoard<D, K>) -> Option<Pilot<K>>
         ensures { MatchOption result ((self.old.piloted ≡ true) × (self.new ≡ self.old)) (λ pilot. (self.old.piloted ≡ false) × (pilot ≡ self.old.engine.core.store.frontier) × (self.new ≡ record self.old { piloted = true })) }
     {
         if self.piloted {

@@ -1,5 +1,5 @@
 //! The calls of one thread, with what each was told.
-ghost use Rattle.std.specs.Prelude.{◌≡◌, ◌^◌, ◌≤◌, ◌<◌, ◌++◌, ◌∷◌, [], IfOk, IsTrue, MatchOption, OnOk, None, Some, map};
+ghost use Rattle.std.specs.Prelude.{◌≡◌, ◌↔◌, ◌^◌, ◌≤◌, ◌<◌, ◌++◌, ◌∷◌, [], IfOk, IsTrue, MatchOption, OnOk, None, Some, map};
 ghost use Rattle.cs_node.specs.Told.{Below, Rising, call, floor_of, found_last, told_by};
 
 use cs_core::{Bytes, Event, Reply};
@@ -18,7 +18,7 @@ pub struct Call {
 #[derive(Drop)]
 pub struct Log {
     calls: Vec<Call>,
-    // all calls are at places below this one
+    // the least number above the places of all calls
     next: u64,
     // the greatest number that a call told of
     floor: u64,
@@ -26,13 +26,13 @@ pub struct Log {
 
 impl Model for Log {
     ghost use Rattle.std.specs.Prelude.{◌≡◌, ◌-◌, length, vec_capacity};
-    ghost use Rattle.cs_node.specs.Told.{Below, Logged, Rising, floor_of};
+    ghost use Rattle.cs_node.specs.Told.{IsAbove, Logged, Rising, floor_of};
 
     ghost Value = { Logged };
 
     ghost view = { λ l. record { calls = l.calls.items; room = vec_capacity l.calls - length l.calls.items } };
 
-    ghost invariant = { λ l. Below l.next l.calls.items × Rising l.calls.items × (l.floor ≡ floor_of l.calls.items) };
+    ghost invariant = { λ l. IsAbove l.next l.calls.items × Rising l.calls.items × (l.floor ≡ floor_of l.calls.items) };
 }
 
 impl Log {
@@ -64,7 +64,7 @@ impl Log {
 
     /// Whether the place is above those of all calls.
     pub fn is_above(&self, place: u64) -> bool
-        ensures { IsTrue result → Below place self.now.calls }
+        ensures { IsTrue result ↔ Below place self.now.calls }
     {
         self.next <= place
     }

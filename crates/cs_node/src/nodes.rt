@@ -15,7 +15,6 @@ use cs_deps::Refusal;
 use cs_disk::PageDisk;
 use cs_frame::ShardId;
 use std::alloc::Global;
-use std::marker::PhantomData;
 use std::sync::Wait;
 
 /// A core under its lock, and its board. Each call takes the lock at most once at a time, for at most one event: `Engine::apply` requires
@@ -23,7 +22,7 @@ use std::sync::Wait;
 #[derive(Drop)]
 pub struct Node<D: PageDisk, K: Naming> {
     pub(crate) lock: Lock<D, K>,
-    pub(crate) board: NamedBoard<K>,
+    pub(crate) board: NamedBoard<D, K>,
 }
 
 /// Why a ticket came back from a settle.
@@ -48,20 +47,17 @@ pub enum Settled<K: Naming> {
 
 impl<D: PageDisk, K: Naming> Node<D, K> {
     /// A node of a board and a core that did nothing yet.
-    pub fn new(board: Board, core: Core<D>) -> Self
+    pub fn new(board: Board<D>, core: Core<D>) -> Self
         requires board { board ≡ K.table }
         requires start { start_of core ≡ K.start }
         requires history { core.history ≡ [] }
         requires accepted { core.store.accepted ≡ 0 }
         requires frontier { core.store.frontier ≡ 0 }
     {
-        let Board { words, keeper } = board;
+        let (board, keeper) = board.name(&core);
         Node {
             lock: Lock::new(Locked::new(core, keeper)),
-            board: NamedBoard {
-                words,
-                of: PhantomData,
-            },
+            board,
         }
     }
 

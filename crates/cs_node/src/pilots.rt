@@ -1,7 +1,9 @@
 //! Who writes back.
 ghost use Rattle.std.specs.Prelude.{◌≡◌, ◌≤◌, [], IfErr, IfOk, IfSome};
+ghost use Rattle.cs_node.specs.Behind.{WasFrontier};
 ghost use Rattle.cs_node.specs.Dues.{IsSyncRefused, IsTurn, IsTurnRefused, Syncs};
 ghost use Rattle.cs_node.specs.Locks.{WhileLocked};
+ghost use Rattle.cs_node.specs.Mirror.{knows};
 
 use crate::boards::{NamedBoard, Naming, Reader};
 use crate::gates::{Gate, Step};
@@ -21,18 +23,19 @@ pub struct Pilot<K: Naming> {
 
 impl<K: Naming> Model for Pilot<K> {
     ghost use Rattle.std.specs.Prelude.{ℕ, ◌≡◌, []};
+    ghost use Rattle.cs_node.specs.Mirror.{knows};
 
     ghost Value = { ℕ };
 
-    ghost view = { λ p. p.reader.me.0 };
+    ghost view = { λ p. p.reader.me.0.number };
 
-    ghost invariant = { λ p. (p.reader.table_id ≡ K.table) × (p.reader.me.1 ≡ []) };
+    ghost invariant = { λ p. (p.reader.table_id ≡ K.table) × (p.reader.me ≡ (knows K.start p.reader.me.0.number, [])) };
 }
 
 impl<K: Naming> Pilot<K> {
     pub(crate) fn new(reader: Reader) -> Self
-        requires { (reader.table_id ≡ K.table) × (reader.me.1 ≡ []) }
-        ensures { result ≡ reader.me.0 }
+        requires { (reader.table_id ≡ K.table) × (reader.me ≡ (knows K.start reader.me.0.number, [])) }
+        ensures { result ≡ reader.me.0.number }
     {
         Pilot {
             reader,
@@ -41,9 +44,10 @@ impl<K: Naming> Pilot<K> {
     }
 
     /// Loads the word of the board, which the seat's view is then.
-    fn see(&mut self, board: &NamedBoard<K>) -> u64
+    fn see<D: PageDisk>(&mut self, board: &NamedBoard<D, K>) -> u64
         ensures seen { self.new ≡ result }
         ensures later { self.old ≤ result }
+        ensures frontier { WasFrontier D.honest D.state K.start result }
     {
         board.look(&mut self.reader)
     }
@@ -103,6 +107,7 @@ impl<D: PageDisk, K: Naming> Node<D, K> {
     pub fn sync<R: Wait>(&self, rt: &R, pilot: &mut Pilot<K>) -> Result<u64, Refusal>
         ensures ok { IfOk result (λ frontier. (frontier ≡ pilot.new) × Syncs D.honest D.state K.start frontier) }
         ensures later { pilot.old ≤ pilot.new }
+        ensures frontier { IfOk result (λ frontier. WasFrontier D.honest D.state K.start frontier) }
         ensures err { IfErr result (λ r. WhileLocked D.honest D.state K.start (λ old new. IsSyncRefused D.honest D.state old r new)) }
     {
         let target = self.lock.take(rt).engine.stage(&self.board)?;

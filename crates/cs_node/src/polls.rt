@@ -1,6 +1,7 @@
 //! Asking the board, without the lock.
 ghost use Rattle.std.specs.Prelude.{◌≡◌, ◌≤◌, max};
 ghost use Rattle.cs_node.specs.Answers.{Tells};
+ghost use Rattle.cs_node.specs.Behind.{WasFrontier};
 ghost use Rattle.cs_node.specs.Told.{floor_of};
 
 use crate::boards::Naming;
@@ -21,6 +22,7 @@ impl<K: Naming> Purse<K> {
     pub fn poll<D: PageDisk>(&mut self, node: &Node<D, K>, ticket: Ticket<K>) -> Polled<K>
         ensures told { Tells (max self.new.seen (floor_of self.old.calls)) ticket result }
         ensures later { self.old.seen ≤ self.new.seen }
+        ensures frontier { WasFrontier D.honest D.state K.start self.new.seen }
         ensures same { self.new ≡ record self.old { seen = self.new.seen } }
     {
         let word = node.board.look(&mut self.reader);

@@ -2,6 +2,7 @@
 ghost use Rattle.std.specs.Prelude.{◌≡◌, ◌≤◌, ◌∷◌, ◌++◌, [], IfErr, IfOk, map};
 ghost use Rattle.cs_core.specs.declared.events.Event.{Event};
 ghost use Rattle.cs_core.specs.declared.events.Reply.{Reply};
+ghost use Rattle.cs_node.specs.Mirror.{knows};
 ghost use Rattle.cs_node.specs.Told.{Adds, Holdings, Rising, empty, floor_of, told_by};
 
 use crate::boards::{Naming, Reader};
@@ -23,19 +24,20 @@ pub struct Purse<K: Naming> {
 
 impl<K: Naming> Model for Purse<K> {
     ghost use Rattle.std.specs.Prelude.{◌≡◌, []};
+    ghost use Rattle.cs_node.specs.Mirror.{knows};
     ghost use Rattle.cs_node.specs.Told.{Holdings};
 
     ghost Value = { Holdings };
 
-    ghost view = { λ p. record { calls = p.log.calls; tickets = p.tickets.items; acks = p.acks.items; seen = p.reader.me.0 } };
+    ghost view = { λ p. record { calls = p.log.calls; tickets = p.tickets.items; acks = p.acks.items; seen = p.reader.me.0.number } };
 
-    ghost invariant = { λ p. (p.reader.table_id ≡ K.table) × (p.reader.me.1 ≡ []) };
+    ghost invariant = { λ p. (p.reader.table_id ≡ K.table) × (p.reader.me ≡ (knows K.start p.reader.me.0.number, [])) };
 }
 
 impl<K: Naming> Purse<K> {
     pub(crate) fn new(alloc: Global, reader: Reader) -> Self
-        requires { (reader.table_id ≡ K.table) × (reader.me.1 ≡ []) }
-        ensures { result ≡ empty reader.me.0 }
+        requires { (reader.table_id ≡ K.table) × (reader.me ≡ (knows K.start reader.me.0.number, [])) }
+        ensures { result ≡ empty reader.me.0.number }
     {
         Purse {
             log: Log::new(alloc),

@@ -1,6 +1,7 @@
 //! Who sweeps extents.
 ghost use Rattle.std.specs.Prelude.{ℕ, ◌≡◌, ◌⊎◌, ◌↔◌, ◌^◌, ◌-◌, ◌<◌, ◌≤◌, IfErr, IfOk, IfSome, IsTrue, MatchOption, true};
-ghost use Rattle.cs_node.specs.Locks.{IsBehind, WhileLocked};
+ghost use Rattle.cs_node.specs.Behind.{IsBehind};
+ghost use Rattle.cs_node.specs.Locks.{WhileLocked};
 ghost use Rattle.cs_node.specs.Sweeps.{HasSwept, IsAfterTurns, IsIdle, IsLeastFrom, IsNextAfter, IsNextEvent, IsSweepRefused, IsSweepTurn, NoneFrom, Reclaiming, after_event, after_refusal, unbegun};
 
 use crate::boards::{NamedBoard, Naming};
@@ -160,7 +161,7 @@ impl<D: PageDisk, K: Naming> Engine<D, K> {
     /// Does the next event of a sweep. Refused as the event is, 9 OutOfMemory and 41 HistoryFull.
     fn sweep<G: Gate>(
         &mut self,
-        board: &NamedBoard<K>,
+        board: &NamedBoard<D, K>,
         reclaimer: &mut Reclaimer<K>,
         gate: &G,
     ) -> Result<Step, Refusal>

@@ -5,7 +5,8 @@ ghost use Rattle.cs_disk.specs.Disk.{Leaves, page};
 ghost use Rattle.cs_refine.specs.Crashes.{IsPrefix};
 ghost use Rattle.cs_node.specs.Accounts.{acknowledged_by, once_to};
 ghost use Rattle.cs_node.specs.Closes.{Fails, IsClosed};
-ghost use Rattle.cs_node.specs.Locks.{IsBehind};
+ghost use Rattle.cs_node.specs.Starts.{shape_at};
+ghost use Rattle.cs_node.specs.Behind.{IsBehind};
 
 use crate::boards::{NamedBoard, Naming};
 use crate::locked::{Lock, Locked};
@@ -21,7 +22,7 @@ use std::marker::Model;
 #[derive(Drop)]
 pub struct Rest<D: PageDisk, K: Naming> {
     locked: Locked<D, K>,
-    board: NamedBoard<K>,
+    board: NamedBoard<D, K>,
 }
 
 impl<D: PageDisk, K: Naming> Model for Rest<D, K> {
@@ -107,7 +108,7 @@ impl<D: PageDisk, K: Naming> Rest<D, K> {
         ensures acknowledged { D.honest self.core.disk → IfOk result (λ c. (x : ℕ) → acknowledged_by c.acknowledged x purses.items ≡ once_to c.acknowledged x) }
         ensures behind { IsBehind D.honest D.state K.start self.core }
         // A crash of its disk leaves the map after the first n commands, n not below any number that was acknowledged.
-        ensures left { D.honest self.core.disk → IfOk result (λ c. Leaves (D.state c.disk) (IsPrefix K.start.shape (page K.start.opened) (commands_said c.history.items) c.acknowledged c.accepted)) }
+        ensures left { D.honest self.core.disk → IfOk result (λ c. Leaves (D.state c.disk) (IsPrefix (shape_at K.start) (page K.start.opened) (commands_said c.history.items) c.acknowledged c.accepted)) }
         ensures err { IfErr result (λ e. (e.rest ≡ self) × (e.purses.items ≡ purses.items) × Fails self purses.items e.why) }
     {
         match judge(alloc, self.core(), self.given(), purses.as_slice()) {

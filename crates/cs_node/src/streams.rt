@@ -1,7 +1,8 @@
 //! Who writes back under steady load.
 ghost use Rattle.std.specs.Prelude.{◌≡◌, IfErr, IfOk, MatchOption, true};
 ghost use Rattle.cs_node.specs.Dues.{IsAtRest};
-ghost use Rattle.cs_node.specs.Locks.{IsBehind, WhileLocked};
+ghost use Rattle.cs_node.specs.Behind.{IsBehind};
+ghost use Rattle.cs_node.specs.Locks.{WhileLocked};
 ghost use Rattle.cs_node.specs.Streams.{IsNext, IsStreamRefused, IsStreamTurn};
 
 use crate::boards::{NamedBoard, Naming};
@@ -106,7 +107,7 @@ fn next_event<D: PageDisk>(core: &Core<D>) -> Option<Event>
 
 impl<D: PageDisk, K: Naming> Engine<D, K> {
     /// Does the event of writeback that is due in a stream. Refused as the event is, 9 OutOfMemory and 41 HistoryFull.
-    pub fn stream<G: Gate>(&mut self, board: &NamedBoard<K>, gate: &G) -> Result<Step, Refusal>
+    pub fn stream<G: Gate>(&mut self, board: &NamedBoard<D, K>, gate: &G) -> Result<Step, Refusal>
         requires fresh { self.old.fresh ≡ true }
         ensures turn { IsStreamTurn D.honest D.state self.old.core result self.new.core }
     {

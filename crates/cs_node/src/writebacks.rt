@@ -3,7 +3,8 @@ ghost use Rattle.std.specs.Prelude.{◌≡◌, IfErr, IfOk, MatchOption, None, t
 ghost use Rattle.cs_core.specs.Replies.{MayAnswer};
 ghost use Rattle.cs_core.specs.Views.{IsStep};
 ghost use Rattle.cs_node.specs.Dues.{IsAdvance, IsAtRest, IsDue, IsOfRound, IsStaged, IsTurn};
-ghost use Rattle.cs_node.specs.Locks.{IsBehind, IsDone, IsRefused};
+ghost use Rattle.cs_node.specs.Behind.{IsBehind};
+ghost use Rattle.cs_node.specs.Locks.{IsDone, IsRefused};
 
 use crate::boards::{NamedBoard, Naming};
 use crate::gates::{Gate, Open, Step, step_of};
@@ -45,7 +46,7 @@ impl<D: PageDisk, K: Naming> Engine<D, K> {
     /// recorded, and 9 OutOfMemory and 41 HistoryFull, which aren't.
     pub fn work<G: Gate>(
         &mut self,
-        board: &NamedBoard<K>,
+        board: &NamedBoard<D, K>,
         event: &Event,
         gate: &G,
     ) -> Result<Reply, Refusal>
@@ -62,7 +63,7 @@ impl<D: PageDisk, K: Naming> Engine<D, K> {
     }
 
     /// Does the event of writeback that is due. Refused as the event is, 9 OutOfMemory and 41 HistoryFull.
-    pub fn turn<G: Gate>(&mut self, board: &NamedBoard<K>, gate: &G) -> Result<Step, Refusal>
+    pub fn turn<G: Gate>(&mut self, board: &NamedBoard<D, K>, gate: &G) -> Result<Step, Refusal>
         requires fresh { self.old.fresh ≡ true }
         ensures turn { IsTurn D.honest D.state self.old.core result self.new.core }
     {
@@ -76,7 +77,7 @@ impl<D: PageDisk, K: Naming> Engine<D, K> {
     }
 
     /// Stages what has changed, and gives how many commands were accepted then.
-    pub fn stage(&mut self, board: &NamedBoard<K>) -> Result<u64, Refusal>
+    pub fn stage(&mut self, board: &NamedBoard<D, K>) -> Result<u64, Refusal>
         requires fresh { self.old.fresh ≡ true }
         ensures staged { IsStaged D.honest D.state self.old.core result self.new.core }
     {
@@ -85,7 +86,7 @@ impl<D: PageDisk, K: Naming> Engine<D, K> {
     }
 
     /// Does the event of writeback that is due where fewer commands are persistent than are wanted.
-    pub fn advance(&mut self, board: &NamedBoard<K>, target: u64) -> Result<(), Refusal>
+    pub fn advance(&mut self, board: &NamedBoard<D, K>, target: u64) -> Result<(), Refusal>
         requires fresh { self.old.fresh ≡ true }
         ensures advance { IsAdvance D.honest D.state self.old.core target result self.new.core }
     {

@@ -8,7 +8,7 @@ use Rattle.cs_node.specs.declared.rests.Unclosed.TheVariants.{Missing}
 use Rattle.cs_node.specs.declared.rests.Unclosed.TheVariants as why
 use Rattle.cs_node.specs.Accounts.{Accounted}
 use Rattle.cs_node.specs.Closes.{Fails}
-use Rattle.cs_node.specs.Locks.{IsBehind}
+use Rattle.cs_node.specs.Behind.{IsBehind}
 use Rattle.cs_node.specs.Starts.{Start}
 use Rattle.cs_node.specs.Told.{Holdings}
 use Rattle.cs_node.specs.Under.{RestView}
