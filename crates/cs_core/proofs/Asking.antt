@@ -9,7 +9,7 @@ use Rattle.cs_core.specs.declared.events.Event.TheVariants.{Settle}
 use Rattle.cs_core.specs.declared.events.Reply.{Reply}
 use Rattle.cs_core.specs.declared.events.Reply.TheVariants.{Refused}
 use Rattle.cs_core.specs.Answered.{IsAnswered}
-use Rattle.cs_core.specs.Asked.{IsMemberWritten}
+use Rattle.cs_core.specs.Disks.{IsMemberWritten}
 use Rattle.cs_core.specs.Stored.{Stored, members_of, but_for_room}
 
 pub settle_never : (v w : Stored) (n : ℕ) (r : Reply) → IsAnswered v (Settle n) r w → r ≢ Refused code.DeviceFault
@@ -18,7 +18,7 @@ settle_never v w n (Refused f) is = λ fault. let a = is.0 in cc (a, fault)
 settle_never v w n r is = λ fault. cc fault
 
 -- the member of a write that failed may be there or not
-pub fault_asks : (v : Stored) (x : Name) → slice_get (members_of v.out) v.issued ≡ Some x → (p : ℕ) (bytes : List ℕ) → write_of v.graph x ≡ Some (p, bytes)
+pub fault_written : (v : Stored) (x : Name) → slice_get (members_of v.out) v.issued ≡ Some x → (p : ℕ) (bytes : List ℕ) → write_of v.graph x ≡ Some (p, bytes)
     → (disk after : DiskState) → (after ≡ disk) ⊎ (after ≡ written disk p bytes) → (after ≡ disk) ⊎ ((y : Name) × (q : ℕ) × IsMemberWritten (but_for_room v) disk y q after)
-fault_asks v x next p bytes kept disk after (inl same) = inl same
-fault_asks v x next p bytes kept disk after (inr done) = inr (x, p, record { next = next; bytes = bytes; kept = kept; write = done })
+fault_written v x next p bytes kept disk after (inl same) = inl same
+fault_written v x next p bytes kept disk after (inr done) = inr (x, p, record { next = next; bytes = bytes; kept = kept; write = done })

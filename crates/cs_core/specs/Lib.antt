@@ -1,6 +1,6 @@
 pub mod Answered
-pub mod Asked
 pub mod Calls
+pub mod Disks
 pub mod Frontiers
 pub mod Meanings
 pub mod Openings
@@ -8,6 +8,7 @@ pub mod Reads
 pub mod Replays
 pub mod Replies
 pub mod Rounds
+pub mod Served
 pub mod Started
 pub mod States
 pub mod Steps

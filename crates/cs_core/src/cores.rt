@@ -21,10 +21,10 @@ ghost use Rattle.cs_image.specs.Counts.{HasCount};
 ghost use Rattle.cs_model.specs.Element.{Map};
 ghost use Rattle.cs_model.specs.Geometry.{shape_of};
 ghost use Rattle.cs_model.specs.Recovery.{Recovers};
-ghost use Rattle.cs_core.specs.Asked.{AsksDevice, CallsDevice};
 ghost use Rattle.cs_model.specs.State.{State};
 ghost use Rattle.cs_plan.specs.Best.{IsBestPlan};
 ghost use Rattle.cs_reclaim.specs.Sweeps.{IsNotSweepable};
+ghost use Rattle.cs_core.specs.Disks.{CountsCalls, IsDiskAfter};
 ghost use Rattle.cs_core.specs.Meanings.{commands_said};
 ghost use Rattle.cs_core.specs.Openings.{IsOpened, IsOpeningRefusal, IsWhyNotOpened};
 ghost use Rattle.cs_core.specs.Replays.{replayed};
@@ -190,8 +190,8 @@ impl<D: PageDisk> Core<D> {
         ensures writeback { IfOk result (λ reply. WritesBack self.old.store event.now reply self.new.store) }
         ensures rises { self.old.store.frontier ≤ self.new.store.frontier }
         // How many writes and flushes it makes, and which, by what the disk holds then.
-        ensures calls { D.honest self.old.disk → IfOk result (λ reply. CallsDevice event.now reply (D.moment self.old.disk) (D.moment self.new.disk)) }
-        ensures device { D.honest self.old.disk → IfOk result (λ reply. AsksDevice self.old.store (D.state self.old.disk) event.now reply (D.state self.new.disk)) }
+        ensures calls { D.honest self.old.disk → IfOk result (λ reply. CountsCalls event.now reply (D.moment self.old.disk) (D.moment self.new.disk)) }
+        ensures device { D.honest self.old.disk → IfOk result (λ reply. IsDiskAfter self.old.store (D.state self.old.disk) event.now reply (D.state self.new.disk)) }
         ensures cause { IfOk result (λ reply. reply ≡ Reply.Refused Refusal.DeviceFault → Rises (D.failure_count self.old.disk) (D.failure_count self.new.disk)) }
         // A crash at any moment of the event leaves the map after some of the commands, as before it.
         ensures crash { D.honest self.old.disk → LeavesOnly D.moment D.left_since self.old.disk self.new.disk (IsPrefix (shape self.old.store.extents) (page self.old.opened) (commands_said self.old.history) self.old.store.frontier self.old.store.accepted) }

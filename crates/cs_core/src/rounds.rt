@@ -1,9 +1,7 @@
 //! Rounds of writeback.
-ghost use Rattle.std.specs.Prelude.{◌≡◌, ◌≢◌, ◌+◌, ◌^◌, ◌<◌, ◌≤◌, ◌⊎◌, ◌↔◌, [], IfOk, IfErr, IfSome, MatchBool, MatchOption, MatchResult, OnErr, IsErrOf, None, Some, false, true, length, slice_get};
-ghost use Rattle.cs_chunk.specs.Reads.{IsCaused};
-ghost use Rattle.cs_disk.specs.Disk.{GoesOn};
+ghost use Rattle.std.specs.Prelude.{◌≡◌, ◌≢◌, ◌+◌, ◌^◌, ◌<◌, ◌≤◌, ◌⊎◌, [], IfOk, IfErr, IfSome, MatchBool, MatchOption, MatchResult, OnErr, IsErrOf, None, Some, false, true, length, slice_get};
 ghost use Rattle.cs_extent.specs.State.{shape};
-ghost use Rattle.cs_core.specs.Asked.{AsksDevice, CallsDevice};
+ghost use Rattle.cs_core.specs.Disks.{WritesAsTold};
 ghost use Rattle.cs_core.specs.Rounds.{BeginAnswers, EndAnswers, IssueAnswers};
 ghost use Rattle.cs_core.specs.Stored.{members_of, page_total, but_for_room};
 ghost use Rattle.cs_core.specs.Writebacks.{IsMemberIssued, IsRoundBegun, IsRoundEnded, StaysRefused};
@@ -56,12 +54,7 @@ impl Store {
         ensures memory { IsErrOf result Refusal.OutOfMemory → (self.new ≡ self.old) × (D.honest disk.old → D.state disk.new ≡ D.state disk.old) }
         ensures shape { shape self.new.extents ≡ shape self.old.extents }
         ensures frontier { self.new.frontier ≡ self.old.frontier }
-        ensures time { GoesOn D.honest D.state D.moment D.left_since disk.old disk.new }
-        ensures honest { D.honest disk.old ↔ D.honest disk.new }
-        ensures pages { D.page_count disk.new ≡ D.page_count disk.old }
-        ensures calls { D.honest disk.old → MatchResult result (λ r. CallsDevice Event.Issue (Reply.Issued r.0 r.1) (D.moment disk.old) (D.moment disk.new)) (λ r. CallsDevice Event.Issue (Reply.Refused r) (D.moment disk.old) (D.moment disk.new)) }
-        ensures device { D.honest disk.old → MatchResult result (λ r. AsksDevice (but_for_room self.old) (D.state disk.old) Event.Issue (Reply.Issued r.0 r.1) (D.state disk.new)) (λ r. AsksDevice (but_for_room self.old) (D.state disk.old) Event.Issue (Reply.Refused r) (D.state disk.new)) }
-        ensures cause { IsCaused (D.failure_count disk.old) (D.failure_count disk.new) result }
+        ensures disk { WritesAsTold D.honest D.state D.page_count D.failure_count D.moment D.left_since self.old disk.old Event.Issue (λ r. Reply.Issued r.0 r.1) result disk.new }
     {
         // Called for their contracts alone: what all extents and every graph keep.
         self.extents.extent_count();
@@ -114,12 +107,7 @@ impl Store {
         ensures shape { shape self.new.extents ≡ shape self.old.extents }
         ensures number { IfOk result (λ n. self.new.frontier ≡ n) }
         ensures rises { self.old.frontier ≤ self.new.frontier }
-        ensures time { GoesOn D.honest D.state D.moment D.left_since disk.old disk.new }
-        ensures honest { D.honest disk.old ↔ D.honest disk.new }
-        ensures pages { D.page_count disk.new ≡ D.page_count disk.old }
-        ensures calls { D.honest disk.old → MatchResult result (λ n. CallsDevice Event.End (Reply.Ended n) (D.moment disk.old) (D.moment disk.new)) (λ r. CallsDevice Event.End (Reply.Refused r) (D.moment disk.old) (D.moment disk.new)) }
-        ensures device { D.honest disk.old → MatchResult result (λ n. AsksDevice (but_for_room self.old) (D.state disk.old) Event.End (Reply.Ended n) (D.state disk.new)) (λ r. AsksDevice (but_for_room self.old) (D.state disk.old) Event.End (Reply.Refused r) (D.state disk.new)) }
-        ensures cause { IsCaused (D.failure_count disk.old) (D.failure_count disk.new) result }
+        ensures disk { WritesAsTold D.honest D.state D.page_count D.failure_count D.moment D.left_since self.old disk.old Event.End (λ n. Reply.Ended n) result disk.new }
     {
         // Called for their contracts alone: what all extents and every graph keep.
         self.extents.extent_count();

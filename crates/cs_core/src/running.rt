@@ -1,9 +1,9 @@
 //! Events that a halted store refuses: all but Get and Settle. `serve` calls these.
-ghost use Rattle.std.specs.Prelude.{◌≡◌, ◌≢◌, ◌≤◌, ◌⊎◌, ◌↔◌, IfOk, OnErr, false};
-ghost use Rattle.cs_disk.specs.Disk.{GoesOn, Rises, State as DiskState};
+ghost use Rattle.std.specs.Prelude.{◌≡◌, ◌≢◌, ◌≤◌, IfOk, OnErr, false};
+ghost use Rattle.cs_disk.specs.Disk.{State as DiskState};
 ghost use Rattle.cs_extent.specs.State.{shape};
 ghost use Rattle.cs_core.specs.Answered.{IsAlone, IsAnswered, IsForDevice};
-ghost use Rattle.cs_core.specs.Asked.{AsksDevice, CallsDevice};
+ghost use Rattle.cs_core.specs.Served.{IsServed};
 ghost use Rattle.cs_core.specs.Stored.{page_total, but_for_room};
 ghost use Rattle.cs_core.specs.Views.{Serves};
 
@@ -75,20 +75,7 @@ impl Store {
         requires device { page_total (shape self.old.extents) ≡ D.page_count disk.old }
         requires kind { IsForDevice event.now }
         requires running { self.old.halted ≡ false }
-        ensures twice { IfOk result (λ r. r.0 ≡ r.1) }
-        ensures answered { IfOk result (λ r. IsAnswered (but_for_room self.old) event.now r.0 (but_for_room self.new)) }
-        ensures quiet { D.honest disk.old → (event.now ≡ Event.Issue) ⊎ (event.now ≡ Event.End) ⊎ (D.state disk.new ≡ D.state disk.old) }
-        ensures rises { self.old.frontier ≤ self.new.frontier }
-        ensures step { D.honest disk.old → IfOk result (λ r. Serves self.old (D.state disk.old) event.now r.0 self.new (D.state disk.new)) }
-        ensures refused { OnErr result (but_for_room self.new ≡ but_for_room self.old) }
-        ensures same { D.honest disk.old → OnErr result (D.state disk.new ≡ D.state disk.old) }
-        ensures shape { shape self.new.extents ≡ shape self.old.extents }
-        ensures time { GoesOn D.honest D.state D.moment D.left_since disk.old disk.new }
-        ensures honest { D.honest disk.old ↔ D.honest disk.new }
-        ensures pages { D.page_count disk.new ≡ D.page_count disk.old }
-        ensures calls { D.honest disk.old → IfOk result (λ r. CallsDevice event.now r.0 (D.moment disk.old) (D.moment disk.new)) }
-        ensures device { D.honest disk.old → IfOk result (λ r. AsksDevice (but_for_room self.old) (D.state disk.old) event.now r.0 (D.state disk.new)) }
-        ensures cause { IfOk result (λ r. r.0 ≡ Reply.Refused Refusal.DeviceFault → Rises (D.failure_count disk.old) (D.failure_count disk.new)) }
+        ensures served { IsServed D.honest D.state D.page_count D.failure_count D.moment D.left_since self.old disk.old event.now result self.new disk.new }
     {
         match event {
             Event::Issue => match self.issue(disk) {

@@ -1,10 +1,10 @@
 //! What one event does to a store and its disk, whichever it is.
-ghost use Rattle.std.specs.Prelude.{◌≡◌, ◌≤◌, ◌⊎◌, ◌↔◌, IfOk, OnErr};
+ghost use Rattle.std.specs.Prelude.{◌≡◌};
 ghost use Rattle.cs_chunk.specs.Reads.{OnlyReads};
-ghost use Rattle.cs_disk.specs.Disk.{GoesOn, Rises, State as DiskState};
+ghost use Rattle.cs_disk.specs.Disk.{State as DiskState};
 ghost use Rattle.cs_extent.specs.State.{shape};
 ghost use Rattle.cs_core.specs.Answered.{IsAnswered};
-ghost use Rattle.cs_core.specs.Asked.{AsksDevice, CallsDevice};
+ghost use Rattle.cs_core.specs.Served.{IsServed};
 ghost use Rattle.cs_core.specs.Stored.{page_total, but_for_room};
 ghost use Rattle.cs_core.specs.Views.{Serves};
 
@@ -24,20 +24,7 @@ impl Store {
         event: &Event,
     ) -> Result<(Reply, Reply), OutOfMemory>
         requires device { page_total (shape self.old.extents) ≡ D.page_count disk.old }
-        ensures twice { IfOk result (λ r. r.0 ≡ r.1) }
-        ensures answered { IfOk result (λ r. IsAnswered (but_for_room self.old) event.now r.0 (but_for_room self.new)) }
-        ensures quiet { D.honest disk.old → (event.now ≡ Event.Issue) ⊎ (event.now ≡ Event.End) ⊎ (D.state disk.new ≡ D.state disk.old) }
-        ensures rises { self.old.frontier ≤ self.new.frontier }
-        ensures step { D.honest disk.old → IfOk result (λ r. Serves self.old (D.state disk.old) event.now r.0 self.new (D.state disk.new)) }
-        ensures refused { OnErr result (but_for_room self.new ≡ but_for_room self.old) }
-        ensures same { D.honest disk.old → OnErr result (D.state disk.new ≡ D.state disk.old) }
-        ensures shape { shape self.new.extents ≡ shape self.old.extents }
-        ensures time { GoesOn D.honest D.state D.moment D.left_since disk.old disk.new }
-        ensures honest { D.honest disk.old ↔ D.honest disk.new }
-        ensures pages { D.page_count disk.new ≡ D.page_count disk.old }
-        ensures calls { D.honest disk.old → IfOk result (λ r. CallsDevice event.now r.0 (D.moment disk.old) (D.moment disk.new)) }
-        ensures device { D.honest disk.old → IfOk result (λ r. AsksDevice (but_for_room self.old) (D.state disk.old) event.now r.0 (D.state disk.new)) }
-        ensures cause { IfOk result (λ r. r.0 ≡ Reply.Refused Refusal.DeviceFault → Rises (D.failure_count disk.old) (D.failure_count disk.new)) }
+        ensures served { IsServed D.honest D.state D.page_count D.failure_count D.moment D.left_since self.old disk.old event.now result self.new disk.new }
     {
         match event {
             Event::Get(id) => self.serve_get(disk, *id),
@@ -76,11 +63,8 @@ impl Store {
         id: ShardId,
     ) -> Result<(Reply, Reply), OutOfMemory>
         requires device { page_total (shape self.now.extents) ≡ D.page_count disk.old }
-        ensures twice { IfOk result (λ r. r.0 ≡ r.1) }
-        ensures answered { IfOk result (λ r. IsAnswered (but_for_room self.now) (Event.Get id) r.0 (but_for_room self.now)) }
-        ensures step { D.honest disk.old → IfOk result (λ r. Serves self.now (D.state disk.old) (Event.Get id) r.0 self.now (D.state disk.new)) }
+        ensures served { IsServed D.honest D.state D.page_count D.failure_count D.moment D.left_since self.now disk.old (Event.Get id) result self.now disk.new }
         ensures disk { OnlyReads D.honest D.state D.page_count D.failure_count D.moment D.left_since disk.old disk.new }
-        ensures cause { IfOk result (λ r. r.0 ≡ Reply.Refused Refusal.DeviceFault → Rises (D.failure_count disk.old) (D.failure_count disk.new)) }
     {
         let bytes = match self.get(disk, id) {
             Ok(Some(bytes)) => bytes,

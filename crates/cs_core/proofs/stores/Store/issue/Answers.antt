@@ -3,7 +3,7 @@ use Rattle.std.specs.Prelude.{option_copied, slice_get}
 use Rattle.cs_deps.specs.State.{write_of}
 use Rattle.cs_core.specs.contracts.stores.Store.{the_view}
 use Rattle.cs_core.specs.Stored.{Stored, members_of}
-use Rattle.cs_core.proofs.Asking.{fault_asks}
+use Rattle.cs_core.proofs.Asking.{fault_written}
 use Rattle.cs_core.proofs.Kept.{kept_round}
 use Rattle.cs_core.proofs.Members.{drop_some, next_kept, write_parts}
 use Rattle.cs_core.proofs.RoundSteps.{issue_answers, issue_declines, issue_faults, issue_no_memory}
@@ -39,12 +39,13 @@ returns-in-Err-DeviceFault-clause-step g c = rw (← c.self.view_is) (λ runs ho
     let write = write_parts (write_of c.self.inside.graph c.in-Some.member) c.unwrap-page.result c.unwrap-bytes.result.now (sym c.page_of.ensures.page ∙ c.unwrap-page.ensures) (sym c.bytes_of.ensures.bytes ∙ ap option_copied c.unwrap-bytes.ensures) in
     issue_faults v c.extent_count.ensures.whole runs c.families.ensures.whole c.in-Some.member next c.unwrap-page.result c.unwrap-bytes.result.now write (g.D.PageDisk.state c.args.disk.now) (g.D.PageDisk.state c.write.new.self) (c.write.ensures.fault honest))
 
-pub returns-in-Err-DeviceFault-clause-device : goal.returns-in-Err-DeviceFault-clause-device
-returns-in-Err-DeviceFault-clause-device g c = rw (← c.self.view_is) (λ honest.
+pub returns-in-Err-DeviceFault-clause-disk : goal.returns-in-Err-DeviceFault-clause-disk
+returns-in-Err-DeviceFault-clause-disk g c = rw (← c.self.view_is) (
     let v : Stored = the_view c.self.inside in
     let next = subst (λ (u : Stored). slice_get (members_of u.out) u.issued ≡ Some c.in-Some.member) (sym c.self.view_is) (search rules) in
     let write = write_parts (write_of c.self.inside.graph c.in-Some.member) c.unwrap-page.result c.unwrap-bytes.result.now (sym c.page_of.ensures.page ∙ c.unwrap-page.ensures) (sym c.bytes_of.ensures.bytes ∙ ap option_copied c.unwrap-bytes.ensures) in
-    fault_asks v c.in-Some.member next c.unwrap-page.result c.unwrap-bytes.result.now write (g.D.PageDisk.state c.args.disk.now) (g.D.PageDisk.state c.write.new.self) (c.write.ensures.fault honest))
+    let device = λ (honest : g.D.PageDisk.honest c.args.disk.now). fault_written v c.in-Some.member next c.unwrap-page.result c.unwrap-bytes.result.now write (g.D.PageDisk.state c.args.disk.now) (g.D.PageDisk.state c.write.new.self) (c.write.ensures.fault honest) in
+    search rules)
 
 pub returns-in-Err-OutOfMemory-clause-step : goal.returns-in-Err-OutOfMemory-clause-step
 returns-in-Err-OutOfMemory-clause-step g c = λ runs honest. issue_no_memory c.args.self.now c.args.self.now (g.D.PageDisk.state c.args.disk.now) (g.D.PageDisk.state c.write.new.self)
