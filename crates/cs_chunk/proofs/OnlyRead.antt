@@ -5,11 +5,12 @@ use Rattle.std.proofs.lemmas.List.{get_or_append_left, get_or_push, length_push}
 use Rattle.cs_chunk.specs.Newest.{IsReadAs}
 use Rattle.cs_chunk.specs.Reads.{AreReadAs, OnlyReads}
 use Rattle.cs_deps.specs.State.{State as Graph}
+use Rattle.cs_disk.specs.declared.disk.PageDisk.{Ghosts as PageDisk}
 use Rattle.cs_disk.specs.Disk.{Image, MayLeave, State}
 
-module _ {D : Type 0} (honest : D → Type 0) (state : D → State) (page_count failure_count moment : D → ℕ) (left_since : D → ℕ → Image → Type 0) where
+module _ {D : Type 0} (disks : PageDisk D) where
   -- some reads, and some more
-  pub reads_on : (a b c : D) → OnlyReads honest state page_count failure_count moment left_since a b → OnlyReads honest state page_count failure_count moment left_since b c → OnlyReads honest state page_count failure_count moment left_since a c
+  pub reads_on : (a b c : D) → OnlyReads disks a b → OnlyReads disks b c → OnlyReads disks a c
   reads_on a b c first more = record {
     same = λ h. more.same (first.honesty.0 h) ∙ first.same h;
     still = λ h. more.still (first.honesty.0 h) ∙ first.still h;
@@ -20,8 +21,8 @@ module _ {D : Type 0} (honest : D → Type 0) (state : D → State) (page_count 
         record {
           later = omega (arith, one.later, two.later);
           nothing_else = λ t i le left. ⊎_elim
-              (λ (was : left_since b t i). ⊎_elim (λ (w : left_since a t i). inl w) (λ (n : MayLeave (state b) i). inr (subst (λ (s : State). MayLeave s i) (sym still) n)) (one.nothing_else t i le was))
-              (λ (n : MayLeave (state c) i). inr n)
+              (λ (was : disks.left_since b t i). ⊎_elim (λ (w : disks.left_since a t i). inl w) (λ (n : MayLeave (disks.state b) i). inr (subst (λ (s : State). MayLeave s i) (sym still) n)) (one.nothing_else t i le was))
+              (λ (n : MayLeave (disks.state c) i). inr n)
               (two.nothing_else t i (omega (arith, le, one.later)) left);
           keeps = λ t i le past. two.keeps t i (omega (arith, le, one.later)) (one.keeps t i le past);
         };

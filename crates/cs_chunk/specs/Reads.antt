@@ -6,6 +6,7 @@ use Rattle.cs_deps.specs.declared.refusals.Refusal.{Refusal}
 use Rattle.cs_deps.specs.declared.refusals.Refusal.TheVariants as refusal
 use Rattle.cs_deps.specs.Refusals.{number_of}
 use Rattle.cs_deps.specs.State.{State as Graph}
+use Rattle.cs_disk.specs.declared.disk.PageDisk.{Ghosts as PageDisk}
 use Rattle.cs_disk.specs.Disk.{GoesOn, Image, Rises, State}
 use Rattle.cs_frame.specs.declared.faults.FormatFault.{FormatFault}
 use Rattle.cs_frame.specs.declared.faults.FormatFault.TheVariants as fault
@@ -69,13 +70,13 @@ pub record IsCaused {T : Type 0} (before now : ℕ) (result : Result T Refusal) 
 
 -- The disk is as reads leave it: an honest one holds what it held, no write and no flush counts, and a crash meanwhile leaves nothing
 -- that it mightn't have left before; its size and its honesty stay, and its count of failures doesn't fall.
-pub record OnlyReads {D : Type 0} (honest : D → Type 0) (state : D → State) (page_count failure_count moment : D → ℕ) (left_since : D → ℕ → Image → Type 0) (old new : D) : Type 0 where
-  pub same : honest old → state new ≡ state old
-  pub still : honest old → moment new ≡ moment old
-  pub time : GoesOn honest state moment left_since old new
-  pub honesty : honest old ↔ honest new
-  pub pages : page_count new ≡ page_count old
-  pub failures : failure_count old ≤ failure_count new
+pub record OnlyReads {D : Type 0} (disks : PageDisk D) (old new : D) : Type 0 where
+  pub same : disks.honest old → disks.state new ≡ disks.state old
+  pub still : disks.honest old → disks.moment new ≡ disks.moment old
+  pub time : GoesOn disks.honest disks.state disks.moment disks.left_since old new
+  pub honesty : disks.honest old ↔ disks.honest new
+  pub pages : disks.page_count new ≡ disks.page_count old
+  pub failures : disks.failure_count old ≤ disks.failure_count new
 
 -- The chunks before place k are there, and the refusal is that of the fault at k; or the device or memory refused.
 abbrev pub IsOfChunk : Shape → (view : ℕ → List ℕ) → List Locator → Refusal → Type 0

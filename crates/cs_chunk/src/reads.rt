@@ -29,7 +29,7 @@ fn read_page<D: PageDisk>(
     ensures waiting { ¬ NoneOn graph.now number → IsOk result × (disk.new ≡ disk.old) }
     ensures page { D.honest disk.old → OnOk result (IsReadAs graph.now (seen (D.state disk.old)) number buffer.new) }
     ensures refusals { IfErr result IsNoAnswer }
-    ensures disk { OnlyReads D.honest D.state D.page_count D.failure_count D.moment D.left_since disk.old disk.new }
+    ensures disk { OnlyReads D.PageDisk disk.old disk.new }
     ensures cause { IsCaused (D.failure_count disk.old) (D.failure_count disk.new) result }
 {
     if let Some(bytes) = graph.newest_on(number) {
@@ -58,7 +58,7 @@ fn read_pages<D: PageDisk>(
         → IfOk result (λ pages. AreReadAs graph.now (seen (D.state disk.old)) first count pages.items) }
     ensures size { IfOk result (λ pages. length pages.items ≡ count) }
     ensures refusals { IfErr result IsNoAnswer }
-    ensures disk { OnlyReads D.honest D.state D.page_count D.failure_count D.moment D.left_since disk.old disk.new }
+    ensures disk { OnlyReads D.PageDisk disk.old disk.new }
     ensures cause { IsCaused (D.failure_count disk.old) (D.failure_count disk.new) result }
 {
     let mut pages = Vec::with_capacity(alloc, count)?;
@@ -120,7 +120,7 @@ fn read_frame_pages<D: PageDisk>(
     ensures fits { IfOk result (λ pages. locator.page + length pages.items ≤ (shape extents.now).pages) }
     ensures refusals { IfErr result IsReadRefusal }
     ensures whole { IsWhole extents.now }
-    ensures disk { OnlyReads D.honest D.state D.page_count D.failure_count D.moment D.left_since disk.old disk.new }
+    ensures disk { OnlyReads D.PageDisk disk.old disk.new }
     ensures cause { IsCaused (D.failure_count disk.old) (D.failure_count disk.new) result }
 {
     let number = page_number(extents, locator);
@@ -167,7 +167,7 @@ pub fn read_frame<D: PageDisk>(
     // Whatever the disk answers, the frame of what is read lies in the extent.
     ensures size { IfOk result (λ payload. locator.page + length ((formats_of (shape extents.now)).frame (kind_of kind) payload.items) ≤ (shape extents.now).pages) }
 
-    ensures disk { OnlyReads D.honest D.state D.page_count D.failure_count D.moment D.left_since disk.old disk.new }
+    ensures disk { OnlyReads D.PageDisk disk.old disk.new }
     ensures cause { IsCaused (D.failure_count disk.old) (D.failure_count disk.new) result }
     ensures whole { IsWhole extents.now }
 {

@@ -39,7 +39,7 @@ pub fn read_chunks<D: PageDisk>(
         → IfErr result (IsOfChunk (shape extents.now) view locators.now) }
     ensures refusals { IfErr result IsReadRefusal }
 
-    ensures disk { OnlyReads D.honest D.state D.page_count D.failure_count D.moment D.left_since disk.old disk.new }
+    ensures disk { OnlyReads D.PageDisk disk.old disk.new }
     ensures cause { IsCaused (D.failure_count disk.old) (D.failure_count disk.new) result }
 {
     let mut bytes = Vec::new(alloc);

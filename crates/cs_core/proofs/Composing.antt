@@ -1,6 +1,7 @@
 -- What a crash leaves of many calls.
 use Rattle.std.proofs.Common.{◌≡◌, ◌∙◌, inl, inr, ⊎_elim, ℕ, ◌+◌, ◌≤◌, List, [], ◌∷◌, ◌++◌, append_assoc, length, length-append, arith, le_of_eq, refl, sym, ap, subst}
 use Rattle.std.proofs.lemmas.List.{append-nil}
+use Rattle.cs_disk.specs.declared.disk.PageDisk.{Ghosts as PageDisk}
 use Rattle.cs_disk.specs.Disk.{Image, LeavesOnly, State as DiskState, page}
 use Rattle.cs_extent.specs.State.{shape}
 use Rattle.cs_frame.specs.Formats.{formats_of}
@@ -23,7 +24,7 @@ said_more : (history : List (Event × Reply)) (e : Event) (r : Reply) → comman
 said_more [] e r = sym (append-nil (command_said e r))
 said_more (x ∷ xs) e r = ap (λ (cs : List Command). cs ++ command_said x.0 x.1) (said_more xs e r) ∙ append_assoc (command_said e r) (commands_said xs) (command_said x.0 x.1)
 
-module _ {D : Type 0} (honest : D → Type 0) (state : D → DiskState) (moment : D → ℕ) (left_since : D → ℕ → Image → Type 0) where
+module _ {D : Type 0} (disks : PageDisk D) where
   -- what later cores keep of a core
   record Follows (old new : View D) : Type 0 where
     same_shape : shape new.store.extents ≡ shape old.store.extents
@@ -33,25 +34,25 @@ module _ {D : Type 0} (honest : D → Type 0) (state : D → DiskState) (moment 
     rises : old.store.frontier ≤ new.store.frontier
     counted_old : old.store.accepted ≡ length (commands_said old.history)
     counted : new.store.accepted ≡ length (commands_said new.history)
-    stays_honest : honest new.disk
+    stays_honest : disks.honest new.disk
     state_then : State
-    is_in : IsIn state new state_then
+    is_in : IsIn disks.state new state_then
 
-  count_of : (v : View D) (s : State) → IsIn state v s → v.store.accepted ≡ length (commands_said v.history)
+  count_of : (v : View D) (s : State) → IsIn disks.state v s → v.store.accepted ≡ length (commands_said v.history)
   count_of v s is = sym is.store.accepted ∙ ap length (commands_reached (shape v.store.extents) (formats_of (shape v.store.extents)) v.opened v.history s is.reached)
 
   -- nothing has changed but rooms
-  asked_in : (old new : View D) (s : State) → honest old.disk → IsUntouched honest state old new → IsIn state old s → IsIn state new s
+  asked_in : (old new : View D) (s : State) → disks.honest old.disk → IsUntouched disks old new → IsIn disks.state old s → IsIn disks.state new s
   asked_in old new s there asked is = record {
     store = subst (λ (v : Stored). IsStateOf v s) (sym asked.store) is.store;
-    disk = subst (λ (v : Stored). IsDiskOf (shape v.extents) (formats_of (shape v.extents)) s (state new.disk)) (sym asked.store)
+    disk = subst (λ (v : Stored). IsDiskOf (shape v.extents) (formats_of (shape v.extents)) s (disks.state new.disk)) (sym asked.store)
         (subst (λ (d : DiskState). IsDiskOf (shape old.store.extents) (formats_of (shape old.store.extents)) s d) (sym (asked.disk there)) is.disk);
     reached = subst (λ (v : Stored). IsReached (shape v.extents) (formats_of (shape v.extents)) new.opened new.history s) (sym asked.store)
         (subst (λ (i : Image). IsReached (shape old.store.extents) (formats_of (shape old.store.extents)) i new.history s) (sym asked.opened)
         (subst (λ (h : List (Event × Reply)). IsReached (shape old.store.extents) (formats_of (shape old.store.extents)) old.opened h s) (sym asked.history) is.reached));
   }
 
-  same_follows : (v : View D) (s : State) → honest v.disk → IsIn state v s → Follows v v
+  same_follows : (v : View D) (s : State) → disks.honest v.disk → IsIn disks.state v s → Follows v v
   same_follows v s there is = record {
     same_shape = refl;
     opened = refl;
@@ -65,7 +66,7 @@ module _ {D : Type 0} (honest : D → Type 0) (state : D → DiskState) (moment 
     is_in = is;
   }
 
-  asked_follows : (old new : View D) (s : State) → honest old.disk → honest new.disk → IsUntouched honest state old new → IsIn state old s → Follows old new
+  asked_follows : (old new : View D) (s : State) → disks.honest old.disk → disks.honest new.disk → IsUntouched disks old new → IsIn disks.state old s → Follows old new
   asked_follows old new s there then_too asked is = let is_then = asked_in old new s there asked is in record {
     same_shape = ap (λ (v : Stored). shape v.extents) asked.store;
     opened = asked.opened;
@@ -79,7 +80,7 @@ module _ {D : Type 0} (honest : D → Type 0) (state : D → DiskState) (moment 
     is_in = is_then;
   }
 
-  step_follows : (old new : View D) (e : Event) (r : Reply) (s : State) → honest old.disk → honest new.disk → old.store.frontier ≤ new.store.frontier → IsStep honest state old e r new → IsIn state old s → Follows old new
+  step_follows : (old new : View D) (e : Event) (r : Reply) (s : State) → disks.honest old.disk → disks.honest new.disk → old.store.frontier ≤ new.store.frontier → IsStep disks old e r new → IsIn disks.state old s → Follows old new
   step_follows old new e r s there then_too rises step is = let d = step.step there s is in record {
     same_shape = step.same_shape;
     opened = step.opened;
@@ -93,13 +94,13 @@ module _ {D : Type 0} (honest : D → Type 0) (state : D → DiskState) (moment 
     is_in = d.4;
   }
 
-  call_follows : (old new : View D) (s : State) → honest old.disk → IsCall honest state moment left_since old new → IsIn state old s → Follows old new
+  call_follows : (old new : View D) (s : State) → disks.honest old.disk → IsCall disks old new → IsIn disks.state old s → Follows old new
   call_follows old new s there call is = ⊎_elim
-      (λ (did : (e : Event) × (r : Reply) × Applies honest state old e r new). ⊎_elim
+      (λ (did : (e : Event) × (r : Reply) × Applies disks old e r new). ⊎_elim
       (λ (full : IsFull old did.1 new). subst (λ (v : View D). Follows old v) (sym full.same) (same_follows old s there is))
-      (λ (step : IsStep honest state old did.0 did.1 new). step_follows old new did.0 did.1 s there (call.stays_honest there) call.rises step is)
+      (λ (step : IsStep disks old did.0 did.1 new). step_follows old new did.0 did.1 s there (call.stays_honest there) call.rises step is)
       did.2)
-      (λ (asked : IsUntouched honest state old new). asked_follows old new s there (call.stays_honest there) asked is)
+      (λ (asked : IsUntouched disks old new). asked_follows old new s there (call.stays_honest there) asked is)
       call.did
 
   follows_then : (a b c : View D) → Follows a b → Follows b c → Follows a c
@@ -135,32 +136,32 @@ module _ {D : Type 0} (honest : D → Type 0) (state : D → DiskState) (moment 
       (prefix_wider (shape b.store.extents) (page b.opened) (commands_said c.history) b.store.frontier c.store.accepted a.store.frontier c.store.accepted image p.rises (omega arith) is))
 
   -- one run after another
-  leaves_then : (a b c : D) (P Q R : Image → Type 0) → LeavesOnly moment left_since a b P → LeavesOnly moment left_since b c Q → ((i : Image) → P i → R i) → ((i : Image) → Q i → R i) → LeavesOnly moment left_since a c R
+  leaves_then : (a b c : D) (P Q R : Image → Type 0) → LeavesOnly disks.moment disks.left_since a b P → LeavesOnly disks.moment disks.left_since b c Q → ((i : Image) → P i → R i) → ((i : Image) → Q i → R i) → LeavesOnly disks.moment disks.left_since a c R
   leaves_then a b c P Q R first rest p q = record {
     later = omega (arith, first.later, rest.later);
-    each = λ i left. ⊎_elim (λ was. p i (first.each i was)) (λ has. q i has) (rest.before (moment a) i first.later left);
+    each = λ i left. ⊎_elim (λ was. p i (first.each i was)) (λ has. q i has) (rest.before (disks.moment a) i first.later left);
     before = λ t i le left. ⊎_elim
         (λ was. ⊎_elim (λ older. inl older) (λ has. inr (p i has)) (first.before t i le was))
         (λ has. inr (q i has))
         (rest.before t i (omega (arith, le, first.later)) left);
   }
 
-  leaves_more : (a b : D) (P R : Image → Type 0) → LeavesOnly moment left_since a b P → ((i : Image) → P i → R i) → LeavesOnly moment left_since a b R
+  leaves_more : (a b : D) (P R : Image → Type 0) → LeavesOnly disks.moment disks.left_since a b P → ((i : Image) → P i → R i) → LeavesOnly disks.moment disks.left_since a b R
   leaves_more a b P R only p = record {
     later = only.later;
     each = λ i left. p i (only.each i left);
     before = λ t i le left. ⊎_elim (λ older. inl older) (λ has. inr (p i has)) (only.before t i le left);
   }
 
-  follow : (between : List (View D)) (old new : View D) (s : State) → honest old.disk → AreCalls honest state moment left_since old between new → IsIn state old s → Follows old new
+  follow : (between : List (View D)) (old new : View D) (s : State) → disks.honest old.disk → AreCalls disks old between new → IsIn disks.state old s → Follows old new
   follow [] old new s there calls is = call_follows old new s there calls is
   follow (v ∷ vs) old new s there (call, calls) is =
       let first = call_follows old v s there call is in
       follows_then old v new first (follow vs v new first.state_then first.stays_honest calls first.is_in)
 
   -- a crash at any moment of these calls
-  pub calls_leave : (between : List (View D)) (old new : View D) (s : State) → honest old.disk → AreCalls honest state moment left_since old between new → IsIn state old s
-      → LeavesOnly moment left_since old.disk new.disk (Left old new)
+  pub calls_leave : (between : List (View D)) (old new : View D) (s : State) → disks.honest old.disk → AreCalls disks old between new → IsIn disks.state old s
+      → LeavesOnly disks.moment disks.left_since old.disk new.disk (Left old new)
   calls_leave [] old new s there call is =
       let next = call_follows old new s there call is in
       leaves_more old.disk new.disk (Left old old) (Left old new) (call.crash there) (left_later old old new (same_follows old s there is) next)

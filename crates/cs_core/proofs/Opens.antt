@@ -1,6 +1,7 @@
 -- A core over what was opened.
 use Rattle.std.proofs.Common.{◌≡◌, ◌≢◌, ◌⊎◌, inl, inr, ⊎_elim, ◌∙◌, ℕ, zero, suc, ◌+◌, ◌*◌, ◌<◌, List, [], ◌∷◌, None, length, le_of_eq, refl, sym, ap, subst, arith}
 use Rattle.std.specs.Prelude.{Contains}
+use Rattle.cs_disk.specs.declared.disk.PageDisk.{Ghosts as PageDisk}
 use Rattle.cs_refine.proofs.Started.{read_started, seen_pages}
 use Rattle.cs_refine.specs.Devices.{IsDiskOf}
 use Rattle.cs_chunk.specs.Reads.{IsNoAnswer}
@@ -114,17 +115,17 @@ module _ (image : Image) (version pages : ℕ) (written : List (ℕ × ℕ)) (ro
 
 -- ---- the core
 
-module _ {D : Type 0} (honest : D → Type 0) (state : D → DiskState) (page_count : D → ℕ) (disk : D) (old : DiskState) (before : Type 0) (version pages : ℕ) (written : List (ℕ × ℕ)) (commands live : ℕ) (store : Stored)
-    (sized : page_count disk ≡ 2 + length written * pages) (made : IsStoreMade before (page (seen old)) version pages written commands live store)
-    (was : honest disk → before) (now : honest disk → state disk ≡ flushed old) (whole : honest disk → IsWholeDisk (state disk)) (long : honest disk → length (state disk).durable ≡ page_count disk) where
-  are_pages : honest disk → ArePages (2 + length written * pages) (page (seen old))
+module _ {D : Type 0} (disks : PageDisk D) (disk : D) (old : DiskState) (before : Type 0) (version pages : ℕ) (written : List (ℕ × ℕ)) (commands live : ℕ) (store : Stored)
+    (sized : disks.page_count disk ≡ 2 + length written * pages) (made : IsStoreMade before (page (seen old)) version pages written commands live store)
+    (was : disks.honest disk → before) (now : disks.honest disk → disks.state disk ≡ flushed old) (whole : disks.honest disk → IsWholeDisk (disks.state disk)) (long : disks.honest disk → length (disks.state disk).durable ≡ disks.page_count disk) where
+  are_pages : disks.honest disk → ArePages (2 + length written * pages) (page (seen old))
   are_pages h = subst (λ (d : DiskState). ArePages (2 + length written * pages) (page (seen d))) (now h)
-      (seen_pages (state disk) (2 + length written * pages) (whole h) (le_of_eq (sym (long h ∙ sized))))
+      (seen_pages (disks.state disk) (2 + length written * pages) (whole h) (le_of_eq (sym (long h ∙ sized))))
 
   total : page_total (shape store.extents) ≡ 2 + length written * pages
   total = ap (λ (u : Stored). page_total (shape u.extents)) made.made
 
-  base : IsCore honest state page_count (record { disk = disk; opened = (state disk).durable; found = (commands, live); store = opened_stored version pages written made.root commands made.runs; history = []; limit = 0 })
+  base : IsCore disks (record { disk = disk; opened = (disks.state disk).durable; found = (commands, live); store = opened_stored version pages written made.root commands made.runs; history = []; limit = 0 })
   base = record {
     device = sized;
     sized = λ h. long h ∙ sized;
@@ -141,13 +142,13 @@ module _ {D : Type 0} (honest : D → Type 0) (state : D → DiskState) (page_co
         (found_there (seen old) version pages written made.root commands made.runs (are_pages h) (made.read (was h)) live made.counted);
   }
 
-  pub opened_core : (opened : Image) (history : List (Event × Reply)) (limit : ℕ) → opened ≡ (state disk).durable → history ≡ []
-      → IsCore honest state page_count (record { disk = disk; opened = opened; found = (commands, live); store = but_for_room store; history = history; limit = limit })
+  pub opened_core : (opened : Image) (history : List (Event × Reply)) (limit : ℕ) → opened ≡ (disks.state disk).durable → history ≡ []
+      → IsCore disks (record { disk = disk; opened = opened; found = (commands, live); store = but_for_room store; history = history; limit = limit })
   opened_core opened history limit as_is none =
-      let core : IsCore honest state page_count (record { disk = disk; opened = opened; found = (commands, live); store = but_for_room store; history = history; limit = 0 }) =
-      subst (λ (i : Image). IsCore honest state page_count (record { disk = disk; opened = i; found = (commands, live); store = but_for_room store; history = history; limit = 0 })) (sym as_is)
-      (subst (λ (h : List (Event × Reply)). IsCore honest state page_count (record { disk = disk; opened = (state disk).durable; found = (commands, live); store = but_for_room store; history = h; limit = 0 })) (sym none)
-      (subst (λ (u : Stored). IsCore honest state page_count (record { disk = disk; opened = (state disk).durable; found = (commands, live); store = but_for_room u; history = []; limit = 0 })) (sym made.made) base)) in
+      let core : IsCore disks (record { disk = disk; opened = opened; found = (commands, live); store = but_for_room store; history = history; limit = 0 }) =
+      subst (λ (i : Image). IsCore disks (record { disk = disk; opened = i; found = (commands, live); store = but_for_room store; history = history; limit = 0 })) (sym as_is)
+      (subst (λ (h : List (Event × Reply)). IsCore disks (record { disk = disk; opened = (disks.state disk).durable; found = (commands, live); store = but_for_room store; history = h; limit = 0 })) (sym none)
+      (subst (λ (u : Stored). IsCore disks (record { disk = disk; opened = (disks.state disk).durable; found = (commands, live); store = but_for_room u; history = []; limit = 0 })) (sym made.made) base)) in
       record {
         device = core.device;
         sized = core.sized;

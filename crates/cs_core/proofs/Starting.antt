@@ -3,6 +3,7 @@ use Rattle.std.proofs.Common.{◌≡◌, ◌≢◌, ◌∙◌, inl, ⊎_elim, ru
 use Rattle.std.proofs.lemmas.List.{length-replicate}
 use Rattle.std.specs.Prelude.{Contains, slice_index, slice_index_or}
 use Rattle.cs_deps.specs.State.{State as GraphState}
+use Rattle.cs_disk.specs.declared.disk.PageDisk.{Ghosts as PageDisk}
 use Rattle.cs_disk.proofs.Images.{applied_push, length-applied, page_other, page_same}
 use Rattle.cs_disk.specs.Disk.{Image, State as DiskState, applied, flushed, page, written}
 use Rattle.cs_extent.specs.State.{State as ExtentsState, shape}
@@ -157,11 +158,11 @@ none_there m none = ([], record { rising = search rules; exact = λ id. (λ has.
     not_in id (k, lt, at) = let l : k < 0 = lt in omega arith
 
 -- a core over a disk on which a new store was written
-pub new_core : {D : Type 0} (honest : D → Type 0) (state : D → DiskState) (page_count : D → ℕ) (disk : D) (opened : Image) (v : Stored) (history : List (Event × Reply)) (limit extents pages : ℕ) (superblock root : List ℕ)
-    → IsNewStore extents pages v superblock root → history ≡ [] → page_count disk ≡ 2 + extents * pages → opened ≡ (state disk).durable → (honest disk → length (state disk).durable ≡ page_count disk)
-    → (old : DiskState) → (honest disk → (2 ≤ length old.durable) × (state disk ≡ flushed (written (written old 0 superblock) 1 root)))
-    → IsCore honest state page_count (record { disk = disk; opened = opened; found = (0, 0); store = but_for_room v; history = history; limit = limit })
-new_core honest state page_count disk opened v history limit extents pages superblock root made none size as_is sized old wrote =
+pub new_core : {D : Type 0} (disks : PageDisk D) (disk : D) (opened : Image) (v : Stored) (history : List (Event × Reply)) (limit extents pages : ℕ) (superblock root : List ℕ)
+    → IsNewStore extents pages v superblock root → history ≡ [] → disks.page_count disk ≡ 2 + extents * pages → opened ≡ (disks.state disk).durable → (disks.honest disk → length (disks.state disk).durable ≡ disks.page_count disk)
+    → (old : DiskState) → (disks.honest disk → (2 ≤ length old.durable) × (disks.state disk ≡ flushed (written (written old 0 superblock) 1 root)))
+    → IsCore disks (record { disk = disk; opened = opened; found = (0, 0); store = but_for_room v; history = history; limit = limit })
+new_core disks disk opened v history limit extents pages superblock root made none size as_is sized old wrote =
     let total : page_total (shape v.extents) ≡ 2 + extents * pages
     = ap (λ (u : Stored). page_total (shape u.extents)) made.made ∙ ap (λ (n : ℕ). 2 + n * pages) (length-replicate extents (0, 0)) in
     record {
@@ -169,20 +170,20 @@ new_core honest state page_count disk opened v history limit extents pages super
       sized = λ h. ap length as_is ∙ sized h ∙ size ∙ sym total;
       legal = λ h.
           let w = wrote h in
-          let s = starts extents pages v superblock root made old (state disk) w.0 w.1 in (
+          let s = starts extents pages v superblock root made old (disks.state disk) w.0 w.1 in (
             s.0,
             record {
               store = s.1;
               disk = s.2;
               reached = subst (λ (i : Image). IsReached (shape v.extents) (formats_of (shape v.extents)) i history s.0) (sym as_is)
-                  (subst (λ (h : List (Event × Reply)). IsReached (shape v.extents) (formats_of (shape v.extents)) (state disk).durable h s.0) (sym none) s.3);
+                  (subst (λ (h : List (Event × Reply)). IsReached (shape v.extents) (formats_of (shape v.extents)) (disks.state disk).durable h s.0) (sym none) s.3);
             },
           );
       begun = λ h.
           let w = wrote h in (
             λ id. None,
             subst (λ (i : Image). Recovers (shape v.extents) (formats_of (shape v.extents)) (page i) 0 (λ id. None)) (sym as_is)
-                (new_recovers extents pages v superblock root made old (state disk) w.0 w.1),
+                (new_recovers extents pages v superblock root made old (disks.state disk) w.0 w.1),
             none_there (λ id. None) (λ id. refl),
           );
     }

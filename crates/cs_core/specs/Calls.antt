@@ -2,6 +2,7 @@
 use Rattle.std.specs.Prelude.{List, [], ◌∷◌, ◌≡◌, ◌≤◌, ◌⊎◌, ℕ}
 use Rattle.std.specs.List.{AllByRecursion}
 use Rattle.cs_deps.specs.declared.elements.Element.{Element as Name}
+use Rattle.cs_disk.specs.declared.disk.PageDisk.{Ghosts as PageDisk}
 use Rattle.cs_disk.specs.Disk.{Image, LeavesOnly, State as DiskState, page}
 use Rattle.cs_extent.specs.State.{shape}
 use Rattle.cs_refine.specs.Crashes.{IsPrefix}
@@ -36,13 +37,13 @@ pub record IsRoundDone (old new : Stored) : Type 0 where
   pub frontier : ℕ
   pub end : WritesBack last End (Ended frontier) new
 
-module _ {D : Type 0} (honest : D → Type 0) (state : D → DiskState) (moment : D → ℕ) (left_since : D → ℕ → Image → Type 0) where
+module _ {D : Type 0} (disks : PageDisk D) where
   -- One call of `apply`, by what its contract says of crashes: an event was done, or nothing for want of memory.
   pub record IsCall (old new : View D) : Type 0 where
-    pub did : ((event : Event) × (reply : Reply) × Applies honest state old event reply new) ⊎ IsUntouched honest state old new
+    pub did : ((event : Event) × (reply : Reply) × Applies disks old event reply new) ⊎ IsUntouched disks old new
     pub rises : old.store.frontier ≤ new.store.frontier
-    pub stays_honest : honest old.disk → honest new.disk
-    pub crash : honest old.disk → LeavesOnly moment left_since old.disk new.disk (IsPrefix (shape old.store.extents) (page old.opened) (commands_said old.history) old.store.frontier old.store.accepted)
+    pub stays_honest : disks.honest old.disk → disks.honest new.disk
+    pub crash : disks.honest old.disk → LeavesOnly disks.moment disks.left_since old.disk new.disk (IsPrefix (shape old.store.extents) (page old.opened) (commands_said old.history) old.store.frontier old.store.accepted)
 
   -- one call and more, with these cores between them
   abbrev pub AreCalls : (old : View D) → List (View D) → (new : View D) → Type 0

@@ -5,6 +5,7 @@ use Rattle.cs_deps.specs.declared.elements.Element.{Element as Name}
 use Rattle.cs_deps.specs.declared.refusals.Refusal.{Refusal}
 use Rattle.cs_deps.specs.declared.refusals.Refusal.TheVariants.{DeviceFault, OutOfMemory}
 use Rattle.cs_deps.specs.State.{write_of}
+use Rattle.cs_disk.specs.declared.disk.PageDisk.{Ghosts as PageDisk}
 use Rattle.cs_disk.specs.Disk.{GoesOn, Image, State as DiskState, flushed, written}
 use Rattle.cs_core.specs.declared.events.Event.{Event}
 use Rattle.cs_core.specs.declared.events.Event.TheVariants.{End, Issue}
@@ -45,11 +46,11 @@ reply_of told (Err r) = Refused r
 
 -- A call that does an event with this result writes and flushes as its reply has it, and no more: an honest disk counts so many
 -- calls and holds that then, and a 1 comes of a failure that the disk counted. Its honesty and its size stay.
-pub record WritesAsTold {D T : Type 0} (honest : D → Type 0) (state : D → DiskState) (page_count failure_count moment : D → ℕ) (left_since : D → ℕ → Image → Type 0)
+pub record WritesAsTold {D T : Type 0} (disks : PageDisk D)
     (old : Stored) (before : D) (event : Event) (told : T → Reply) (result : Result T Refusal) (after : D) : Type 0 where
-  pub calls : honest before → CountsCalls event (reply_of told result) (moment before) (moment after)
-  pub device : honest before → IsDiskAfter (but_for_room old) (state before) event (reply_of told result) (state after)
-  pub cause : IsCaused (failure_count before) (failure_count after) result
-  pub time : GoesOn honest state moment left_since before after
-  pub honesty : honest before ↔ honest after
-  pub pages : page_count after ≡ page_count before
+  pub calls : disks.honest before → CountsCalls event (reply_of told result) (disks.moment before) (disks.moment after)
+  pub device : disks.honest before → IsDiskAfter (but_for_room old) (disks.state before) event (reply_of told result) (disks.state after)
+  pub cause : IsCaused (disks.failure_count before) (disks.failure_count after) result
+  pub time : GoesOn disks.honest disks.state disks.moment disks.left_since before after
+  pub honesty : disks.honest before ↔ disks.honest after
+  pub pages : disks.page_count after ≡ disks.page_count before

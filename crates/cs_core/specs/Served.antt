@@ -1,6 +1,7 @@
 -- What a call that serves an event does to a store and its disk.
 use Rattle.std.specs.Prelude.{◌≡◌, ◌≤◌, ◌⊎◌, ◌↔◌, ℕ, Result, IfOk, OnErr}
 use Rattle.cs_deps.specs.declared.refusals.Refusal.TheVariants.{DeviceFault}
+use Rattle.cs_disk.specs.declared.disk.PageDisk.{Ghosts as PageDisk}
 use Rattle.cs_disk.specs.Disk.{GoesOn, Image, Rises, State as DiskState}
 use Rattle.cs_extent.specs.State.{shape}
 use Rattle.cs_core.specs.Answered.{IsAnswered}
@@ -16,27 +17,27 @@ use Rattle.cs_core.specs.Views.{Serves}
 -- The event was served: done or refused by one step of the machine, with a reply that store and disk bear out, and that is given
 -- twice; or there was no memory, and store and disk hold what they held. Whatever came of it, the disk changes by Issue and End
 -- alone, and the frontier doesn't fall.
-pub record IsServed {D : Type 0} (honest : D → Type 0) (state : D → DiskState) (page_count failure_count moment : D → ℕ) (left_since : D → ℕ → Image → Type 0)
+pub record IsServed {D : Type 0} (disks : PageDisk D)
     (old : Stored) (before : D) (event : Event) (result : Result (Reply × Reply) OutOfMemory) (new : Stored) (after : D) : Type 0 where
   -- one reply to tell, and the same to keep in the history
   pub twice : IfOk result (λ r. r.0 ≡ r.1)
   -- it is a reply to this event, and the store is as it says
   pub answered : IfOk result (λ r. IsAnswered (but_for_room old) event r.0 (but_for_room new))
   -- the machine makes a step with it, to a state that store and disk are in then
-  pub step : honest before → IfOk result (λ r. Serves old (state before) event r.0 new (state after))
+  pub step : disks.honest before → IfOk result (λ r. Serves old (disks.state before) event r.0 new (disks.state after))
   -- how many writes and flushes were made, and what the disk holds after them
-  pub calls : honest before → IfOk result (λ r. CountsCalls event r.0 (moment before) (moment after))
-  pub device : honest before → IfOk result (λ r. IsDiskAfter (but_for_room old) (state before) event r.0 (state after))
+  pub calls : disks.honest before → IfOk result (λ r. CountsCalls event r.0 (disks.moment before) (disks.moment after))
+  pub device : disks.honest before → IfOk result (λ r. IsDiskAfter (but_for_room old) (disks.state before) event r.0 (disks.state after))
   -- 1 is answered only where the disk's count of failures rose, or stood at its end
-  pub cause : IfOk result (λ r. r.0 ≡ Refused DeviceFault → Rises (failure_count before) (failure_count after))
+  pub cause : IfOk result (λ r. r.0 ≡ Refused DeviceFault → Rises (disks.failure_count before) (disks.failure_count after))
   -- without memory the store has changed by no more than how much room there is, and the disk not at all
   pub refused : OnErr result (but_for_room new ≡ but_for_room old)
-  pub same : honest before → OnErr result (state after ≡ state before)
+  pub same : disks.honest before → OnErr result (disks.state after ≡ disks.state before)
   -- no other event than these two changes what the disk holds, with memory or without
-  pub quiet : honest before → (event ≡ Issue) ⊎ (event ≡ End) ⊎ (state after ≡ state before)
+  pub quiet : disks.honest before → (event ≡ Issue) ⊎ (event ≡ End) ⊎ (disks.state after ≡ disks.state before)
   pub rises : old.frontier ≤ new.frontier
   pub same_shape : shape new.extents ≡ shape old.extents
   -- what crashes in the meantime may leave is told by the disk before and after; its honesty and its size stay
-  pub time : GoesOn honest state moment left_since before after
-  pub honesty : honest before ↔ honest after
-  pub pages : page_count after ≡ page_count before
+  pub time : GoesOn disks.honest disks.state disks.moment disks.left_since before after
+  pub honesty : disks.honest before ↔ disks.honest after
+  pub pages : disks.page_count after ≡ disks.page_count before

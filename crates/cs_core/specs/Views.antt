@@ -1,7 +1,8 @@
 -- A core as contracts see it, and what one event does to it.
 use Rattle.std.specs.Prelude.{◌≡◌, ◌≢◌, ◌⊎◌, ◌<◌, ◌≤◌, ◌++◌, ◌∷◌, ℕ, List, [], None, length}
-use Rattle.cs_deps.specs.declared.refusals.Refusal.TheVariants.{HistoryFull}
-use Rattle.cs_disk.specs.Disk.{Image, State as DiskState, page}
+use Rattle.cs_deps.specs.declared.refusals.Refusal.TheVariants.{DeviceFault, HistoryFull}
+use Rattle.cs_disk.specs.declared.disk.PageDisk.{Ghosts as PageDisk}
+use Rattle.cs_disk.specs.Disk.{Image, Rises, State as DiskState, page}
 use Rattle.cs_extent.specs.State.{shape}
 use Rattle.cs_frame.specs.Formats.{formats_of}
 use Rattle.cs_image.specs.Counts.{HasCount}
@@ -58,11 +59,11 @@ IsFound S image found = (m : Map) × Recovers S (formats_of S) (page image) foun
 
 -- What every core keeps: the disk has the geometry's pages, and where it is honest the core is in a state of the machine that
 -- its history leads to, and was opened on an image of that many commands and shards.
-pub record IsCore {D : Type 0} (honest : D → Type 0) (state : D → DiskState) (page_count : D → ℕ) (v : View D) : Type 0 where
-  pub device : page_count v.disk ≡ page_total (shape v.store.extents)
-  pub sized : honest v.disk → length v.opened ≡ page_total (shape v.store.extents)
-  pub legal : honest v.disk → (s : model.State) × IsIn state v s
-  pub begun : honest v.disk → IsFound (shape v.store.extents) v.opened v.found
+pub record IsCore {D : Type 0} (disks : PageDisk D) (v : View D) : Type 0 where
+  pub device : disks.page_count v.disk ≡ page_total (shape v.store.extents)
+  pub sized : disks.honest v.disk → length v.opened ≡ page_total (shape v.store.extents)
+  pub legal : disks.honest v.disk → (s : model.State) × IsIn disks.state v s
+  pub begun : disks.honest v.disk → IsFound (shape v.store.extents) v.opened v.found
 
 -- the history was at its limit, and nothing has changed
 pub record IsFull {D : Type 0} (old : View D) (reply : Reply) (new : View D) : Type 0 where
@@ -72,20 +73,22 @@ pub record IsFull {D : Type 0} (old : View D) (reply : Reply) (new : View D) : T
 
 -- The event with its reply was kept in the history, and where the disk is honest the core went on by one step of the machine,
 -- from whichever state it was in.
-pub record IsStep {D : Type 0} (honest : D → Type 0) (state : D → DiskState) (old : View D) (event : Event) (reply : Reply) (new : View D) : Type 0 where
+pub record IsStep {D : Type 0} (disks : PageDisk D) (old : View D) (event : Event) (reply : Reply) (new : View D) : Type 0 where
   pub room : length old.history < old.limit
   pub history : new.history ≡ old.history ++ (event, reply) ∷ []
   pub opened : new.opened ≡ old.opened
   pub found : new.found ≡ old.found
   pub limit : new.limit ≡ old.limit
   pub same_shape : shape new.store.extents ≡ shape old.store.extents
-  pub step : honest old.disk → (s : model.State) → IsIn state old s
+  -- 1 is answered only where the disk's count of failures rose, or stood at its end
+  pub cause : reply ≡ Refused DeviceFault → Rises (disks.failure_count old.disk) (disks.failure_count new.disk)
+  pub step : disks.honest old.disk → (s : model.State) → IsIn disks.state old s
       → (m : model.Reply) × (t : model.State) × Says (shape old.store.extents) (formats_of (shape old.store.extents)) reply m
-      × Step (shape old.store.extents) (formats_of (shape old.store.extents)) s (event_of event) m t × IsIn state new t
+      × Step (shape old.store.extents) (formats_of (shape old.store.extents)) s (event_of event) m t × IsIn disks.state new t
 
 -- what a call does that has memory: the history was full, and nothing has changed; or the event was done or refused by one step, and kept
-abbrev pub Applies : {D : Type 0} → (honest : D → Type 0) → (state : D → DiskState) → (old : View D) → Event → Reply → (new : View D) → Type 0
-Applies honest state old event reply new = IsFull old reply new ⊎ IsStep honest state old event reply new
+abbrev pub Applies : {D : Type 0} → (disks : PageDisk D) → (old : View D) → Event → Reply → (new : View D) → Type 0
+Applies disks old event reply new = IsFull old reply new ⊎ IsStep disks old event reply new
 
 -- What one event does to a store and to an honest disk: whichever state they are in, the machine makes a step from it to one
 -- that they are in then.
@@ -95,10 +98,10 @@ Serves old disk event reply new after = (s : model.State) → IsStateOf old s �
     × Step (shape old.extents) (formats_of (shape old.extents)) s (event_of event) m t × IsStateOf new t × IsDiskOf (shape old.extents) (formats_of (shape old.extents)) t after
 
 -- nothing but rooms has changed, and an honest disk holds what it held
-pub record IsUntouched {D : Type 0} (honest : D → Type 0) (state : D → DiskState) (old new : View D) : Type 0 where
+pub record IsUntouched {D : Type 0} (disks : PageDisk D) (old new : View D) : Type 0 where
   pub opened : new.opened ≡ old.opened
   pub found : new.found ≡ old.found
   pub store : new.store ≡ old.store
   pub history : new.history ≡ old.history
   pub limit : new.limit ≡ old.limit
-  pub disk : honest old.disk → state new.disk ≡ state old.disk
+  pub disk : disks.honest old.disk → disks.state new.disk ≡ disks.state old.disk

@@ -78,7 +78,7 @@ impl<D: PageDisk> Model for Core<D> {
 
     ghost view = { λ c. record { disk = c.disk; opened = (D.state c.opened.value).durable; found = c.found; store = but_for_room c.store; history = c.history.items; limit = c.limit } };
 
-    ghost invariant = { λ c. IsCore D.honest D.state D.page_count (record { disk = c.disk; opened = (D.state c.opened.value).durable; found = c.found; store = but_for_room c.store; history = c.history.items; limit = c.limit }) };
+    ghost invariant = { λ c. IsCore D.PageDisk (record { disk = c.disk; opened = (D.state c.opened.value).durable; found = c.found; store = but_for_room c.store; history = c.history.items; limit = c.limit }) };
 }
 
 impl<D: PageDisk> Core<D> {
@@ -184,8 +184,8 @@ impl<D: PageDisk> Core<D> {
     /// says. `step` says that a core goes by two tables of cs_model: `Does` (specs/Events.antt), what each event does, and
     /// `Refuses` (specs/Grounds.antt), the grounds of its refusals in their order.
     pub fn apply(&mut self, event: &Event) -> Result<Reply, OutOfMemory>
-        ensures step { IfOk result (λ reply. Applies D.honest D.state self.old event.now reply self.new) }
-        ensures memory { OnErr result (IsUntouched D.honest D.state self.old self.new) }
+        ensures step { IfOk result (λ reply. Applies D.PageDisk self.old event.now reply self.new) }
+        ensures memory { OnErr result (IsUntouched D.PageDisk self.old self.new) }
         ensures answers { IfOk result (λ reply. MayAnswer event.now reply) }
         ensures writeback { IfOk result (λ reply. WritesBack self.old.store event.now reply self.new.store) }
         ensures rises { self.old.store.frontier ≤ self.new.store.frontier }

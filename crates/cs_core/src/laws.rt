@@ -21,7 +21,7 @@ use cs_disk::PageDisk;
 
 /// Where nothing waits and the index's table is empty, all accepted commands are persistent.
 pub fn all_accepted_is_persistent_at_rest<D: PageDisk>()
-    ensures { (v : View D) → IsCore D.honest D.state D.page_count v → D.honest v.disk
+    ensures { (v : View D) → IsCore D.PageDisk v → D.honest v.disk
         → v.store.graph.staging.pending.waiting ≡ [] → v.store.index.table ≡ [] → v.store.frontier ≡ v.store.accepted }
 {}
 
@@ -42,8 +42,8 @@ pub fn a_round_lowers_heights_by_one()
 /// Where the first call is the core's first, n is from none to all; where it is the one after the last End, n is from all that
 /// is persistent.
 pub fn a_crash_of_a_run_leaves_a_prefix<D: PageDisk>()
-    ensures { (old new : View D) (between : List (View D)) → IsCore D.honest D.state D.page_count old → D.honest old.disk
-        → AreCalls D.honest D.state D.moment D.left_since old between new
+    ensures { (old new : View D) (between : List (View D)) → IsCore D.PageDisk old → D.honest old.disk
+        → AreCalls D.PageDisk old between new
         → LeavesOnly D.moment D.left_since old.disk new.disk
         (IsPrefix (shape old.store.extents) (page old.opened) (commands_said new.history) old.store.frontier new.store.accepted) }
 {}
@@ -51,7 +51,7 @@ pub fn a_crash_of_a_run_leaves_a_prefix<D: PageDisk>()
 /// What an honest disk has durable is what is persistent in a state that the history leads to and that the store is of, page by
 /// page, and what it has volatile are the writes of the round that were issued, in order.
 pub fn disks_hold_what_is_persistent<D: PageDisk>()
-    ensures { (v : View D) → IsCore D.honest D.state D.page_count v → D.honest v.disk
+    ensures { (v : View D) → IsCore D.PageDisk v → D.honest v.disk
         → (s : State) × IsStateOf v.store s × IsReached (shape v.store.extents) (formats_of (shape v.store.extents)) v.opened v.history s
         × ((p : ℕ) → p < length (D.state v.disk).durable → page (D.state v.disk).durable p ≡ persistent_image (shape v.store.extents) (formats_of (shape v.store.extents)) s p)
         × ((D.state v.disk).volatile ≡ page_writes (shape v.store.extents) (formats_of (shape v.store.extents)) s.issued) }

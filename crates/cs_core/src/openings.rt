@@ -34,7 +34,7 @@ fn read_superblock<D: PageDisk>(alloc: Global, disk: &mut D) -> Result<Superbloc
     ensures some { IfOk result (λ it. (bytes : List ℕ) × SpellsSuperblock bytes it.version it.pages it.extents.items) }
     ensures fault { D.honest disk.old → IfErr result (λ r. IsNoAnswer r ⊎ IsOfFault (superblock_fault (page (seen (D.state disk.old)) 0)) r) }
     ensures number { IfErr result IsOpeningRefusal }
-    ensures disk { OnlyReads D.honest D.state D.page_count D.failure_count D.moment D.left_since disk.old disk.new }
+    ensures disk { OnlyReads D.PageDisk disk.old disk.new }
     ensures cause { IsCaused (D.failure_count disk.old) (D.failure_count disk.new) result }
 {
     let mut buffer = [0; 4096];
@@ -63,7 +63,7 @@ fn read_root<D: PageDisk>(alloc: Global, disk: &mut D) -> Result<Root, Refusal>
     ensures some { IfOk result (λ it. (bytes : List ℕ) × SpellsRoot bytes it.version it.commands it.runs.items) }
     ensures fault { D.honest disk.old → IfErr result (λ r. IsNoAnswer r ⊎ IsOfFault (root_fault (page (seen (D.state disk.old)) 1)) r) }
     ensures number { IfErr result IsOpeningRefusal }
-    ensures disk { OnlyReads D.honest D.state D.page_count D.failure_count D.moment D.left_since disk.old disk.new }
+    ensures disk { OnlyReads D.PageDisk disk.old disk.new }
     ensures cause { IsCaused (D.failure_count disk.old) (D.failure_count disk.new) result }
 {
     let mut buffer = [0; 4096];
@@ -96,7 +96,7 @@ fn read_index<D: PageDisk>(
     ensures made { IfOk result (λ found. IsStoreMade (D.honest disk.old) (page (seen (D.state disk.old))) superblock.now.version superblock.now.pages superblock.now.extents.items found.commands found.live found.store) }
     ensures why { D.honest disk.old → IfErr result (λ r. IsNoAnswer r ⊎ IsWhyNotOpened (D.page_count disk.old) (page (seen (D.state disk.old))) r) }
     ensures number { IfErr result IsOpeningRefusal }
-    ensures disk { OnlyReads D.honest D.state D.page_count D.failure_count D.moment D.left_since disk.old disk.new }
+    ensures disk { OnlyReads D.PageDisk disk.old disk.new }
     ensures cause { IsCaused (D.failure_count disk.old) (D.failure_count disk.new) result }
 {
     let extents = Extents::of(alloc, superblock)?;
@@ -119,7 +119,7 @@ fn read_rest<D: PageDisk>(
     ensures made { IfOk result (λ found. IsStoreMade (D.honest disk.old) (page (seen (D.state disk.old))) superblock.now.version superblock.now.pages superblock.now.extents.items found.commands found.live found.store) }
     ensures why { D.honest disk.old → IfErr result (λ r. IsNoAnswer r ⊎ IsWhyNotOpened (D.page_count disk.old) (page (seen (D.state disk.old))) r) }
     ensures number { IfErr result IsOpeningRefusal }
-    ensures disk { OnlyReads D.honest D.state D.page_count D.failure_count D.moment D.left_since disk.old disk.new }
+    ensures disk { OnlyReads D.PageDisk disk.old disk.new }
     ensures cause { IsCaused (D.failure_count disk.old) (D.failure_count disk.new) result }
 {
     match read_root(alloc, disk) {
@@ -135,7 +135,7 @@ fn read_store<D: PageDisk>(alloc: Global, disk: &mut D) -> Result<OpenedStore, R
         × IsStoreMade (D.honest disk.old) (page (seen (D.state disk.old))) version pages written found.commands found.live found.store) }
     ensures why { D.honest disk.old → IfErr result (λ r. IsNoAnswer r ⊎ IsWhyNotOpened (D.page_count disk.old) (page (seen (D.state disk.old))) r) }
     ensures number { IfErr result IsOpeningRefusal }
-    ensures disk { OnlyReads D.honest D.state D.page_count D.failure_count D.moment D.left_since disk.old disk.new }
+    ensures disk { OnlyReads D.PageDisk disk.old disk.new }
     ensures cause { IsCaused (D.failure_count disk.old) (D.failure_count disk.new) result }
 {
     let superblock = match read_superblock(alloc, disk) {

@@ -54,7 +54,7 @@ impl Store {
         ensures memory { IsErrOf result Refusal.OutOfMemory → (self.new ≡ self.old) × (D.honest disk.old → D.state disk.new ≡ D.state disk.old) }
         ensures shape { shape self.new.extents ≡ shape self.old.extents }
         ensures frontier { self.new.frontier ≡ self.old.frontier }
-        ensures disk { WritesAsTold D.honest D.state D.page_count D.failure_count D.moment D.left_since self.old disk.old Event.Issue (λ r. Reply.Issued r.0 r.1) result disk.new }
+        ensures disk { WritesAsTold D.PageDisk self.old disk.old Event.Issue (λ r. Reply.Issued r.0 r.1) result disk.new }
     {
         // Called for their contracts alone: what all extents and every graph keep.
         self.extents.extent_count();
@@ -107,7 +107,7 @@ impl Store {
         ensures shape { shape self.new.extents ≡ shape self.old.extents }
         ensures number { IfOk result (λ n. self.new.frontier ≡ n) }
         ensures rises { self.old.frontier ≤ self.new.frontier }
-        ensures disk { WritesAsTold D.honest D.state D.page_count D.failure_count D.moment D.left_since self.old disk.old Event.End (λ n. Reply.Ended n) result disk.new }
+        ensures disk { WritesAsTold D.PageDisk self.old disk.old Event.End (λ n. Reply.Ended n) result disk.new }
     {
         // Called for their contracts alone: what all extents and every graph keep.
         self.extents.extent_count();

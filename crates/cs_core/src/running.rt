@@ -75,7 +75,7 @@ impl Store {
         requires device { page_total (shape self.old.extents) ≡ D.page_count disk.old }
         requires kind { IsForDevice event.now }
         requires running { self.old.halted ≡ false }
-        ensures served { IsServed D.honest D.state D.page_count D.failure_count D.moment D.left_since self.old disk.old event.now result self.new disk.new }
+        ensures served { IsServed D.PageDisk self.old disk.old event.now result self.new disk.new }
     {
         match event {
             Event::Issue => match self.issue(disk) {

@@ -98,7 +98,7 @@ fn read_run<D: PageDisk>(
     ensures run { IfOk result (λ run. IsRun (record { entries = run.entries })) }
     ensures why { D.honest disk.old → IfErr result (λ r. IsNoAnswer r ⊎ IsWhyNotRead extents.now (page (seen (D.state disk.old))) place r) }
     ensures number { IfErr result IsOpeningRefusal }
-    ensures disk { OnlyReads D.honest D.state D.page_count D.failure_count D.moment D.left_since disk.old disk.new }
+    ensures disk { OnlyReads D.PageDisk disk.old disk.new }
     ensures cause { IsCaused (D.failure_count disk.old) (D.failure_count disk.new) result }
 {
     // Called for its contract alone: how many pages an extent may have.
@@ -127,7 +127,7 @@ pub fn read_runs<D: PageDisk>(
     ensures count { IfOk result (λ runs. length runs.items ≡ length places.now) }
     ensures why { D.honest disk.old → IfErr result (λ r. IsNoAnswer r ⊎ IsWhyNoRuns extents.now (page (seen (D.state disk.old))) places.now r) }
     ensures number { IfErr result IsOpeningRefusal }
-    ensures disk { OnlyReads D.honest D.state D.page_count D.failure_count D.moment D.left_since disk.old disk.new }
+    ensures disk { OnlyReads D.PageDisk disk.old disk.new }
     ensures cause { IsCaused (D.failure_count disk.old) (D.failure_count disk.new) result }
 {
     let mut runs = Vec::new(alloc);

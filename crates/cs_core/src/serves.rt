@@ -24,7 +24,7 @@ impl Store {
         event: &Event,
     ) -> Result<(Reply, Reply), OutOfMemory>
         requires device { page_total (shape self.old.extents) ≡ D.page_count disk.old }
-        ensures served { IsServed D.honest D.state D.page_count D.failure_count D.moment D.left_since self.old disk.old event.now result self.new disk.new }
+        ensures served { IsServed D.PageDisk self.old disk.old event.now result self.new disk.new }
     {
         match event {
             Event::Get(id) => self.serve_get(disk, *id),
@@ -63,8 +63,8 @@ impl Store {
         id: ShardId,
     ) -> Result<(Reply, Reply), OutOfMemory>
         requires device { page_total (shape self.now.extents) ≡ D.page_count disk.old }
-        ensures served { IsServed D.honest D.state D.page_count D.failure_count D.moment D.left_since self.now disk.old (Event.Get id) result self.now disk.new }
-        ensures disk { OnlyReads D.honest D.state D.page_count D.failure_count D.moment D.left_since disk.old disk.new }
+        ensures served { IsServed D.PageDisk self.now disk.old (Event.Get id) result self.now disk.new }
+        ensures disk { OnlyReads D.PageDisk disk.old disk.new }
     {
         let bytes = match self.get(disk, id) {
             Ok(Some(bytes)) => bytes,

@@ -112,7 +112,7 @@ impl Store {
         ensures refused { OnErr result (but_for_room self.new ≡ but_for_room self.old) }
         ensures shape { shape self.new.extents ≡ shape self.old.extents }
         ensures frontier { self.new.frontier ≡ self.old.frontier }
-        ensures disk { OnlyReads D.honest D.state D.page_count D.failure_count D.moment D.left_since disk.old disk.new }
+        ensures disk { OnlyReads D.PageDisk disk.old disk.new }
         ensures cause { IsCaused (D.failure_count disk.old) (D.failure_count disk.new) result }
     {
         // Called for their contracts alone: what all extents and every graph keep.

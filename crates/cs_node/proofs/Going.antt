@@ -2,7 +2,8 @@
 use Rattle.std.proofs.Common.{◌≡◌, ◌≢◌, ℕ, List, Err, IfErr, IfOk, IfSome, IsErrAnd, MatchOption, None, Ok, Option, Result, Some, false, ap, ⊎_elim, refl, subst, sym}
 use Rattle.cs_deps.specs.declared.refusals.Refusal.{Refusal}
 use Rattle.cs_deps.specs.declared.refusals.Refusal.TheVariants.{HistoryFull, OutOfMemory}
-use Rattle.cs_disk.specs.Disk.{Leaves, State as DiskState, page}
+use Rattle.cs_disk.specs.declared.disk.PageDisk.{Ghosts as PageDisk}
+use Rattle.cs_disk.specs.Disk.{Leaves, page}
 use Rattle.cs_model.specs.Refusal as ground
 use Rattle.cs_model.specs.State.{State}
 use Rattle.cs_refine.specs.Refusals.{refusal_for}
@@ -21,13 +22,13 @@ use Rattle.cs_node.specs.Told.{is_unrecorded}
 use Rattle.cs_node.specs.Under.{Under}
 
 -- what a guard holds is behind the lock where what the lock gave is
-pub behind_at : {D : Type 0} (honest : D → Type 0) (state : D → DiskState) (start : Start) (u v : Under D) → v ≡ u → IsBehind honest state start u.engine.core → IsBehind honest state start v.engine.core
-behind_at honest state start u v same behind = subst (λ (w : Under _). IsBehind honest state start w.engine.core) (sym same) behind
+pub behind_at : {D : Type 0} (disks : PageDisk D) (start : Start) (u v : Under D) → v ≡ u → IsBehind disks start u.engine.core → IsBehind disks start v.engine.core
+behind_at disks start u v same behind = subst (λ (w : Under _). IsBehind disks start w.engine.core) (sym same) behind
 
 -- what isn't told to be full was recorded
-pub recorded : {D : Type 0} (honest : D → Type 0) (state : D → DiskState) (old : View D) (e : Event) (r : Reply) (new : View D)
-    → Applies honest state old e r new → r ≢ Refused HistoryFull → IsStep honest state old e r new
-recorded honest state old e r new applies other = ⊎_elim (λ (f : IsFull old r new). absurd (other f.reply_is)) (λ (s : IsStep honest state old e r new). s) applies
+pub recorded : {D : Type 0} (disks : PageDisk D) (old : View D) (e : Event) (r : Reply) (new : View D)
+    → Applies disks old e r new → r ≢ Refused HistoryFull → IsStep disks old e r new
+recorded disks old e r new applies other = ⊎_elim (λ (f : IsFull old r new). absurd (other f.reply_is)) (λ (s : IsStep disks old e r new). s) applies
 
 -- no ground of the machine is a full history
 never_full : (f : ground.Refusal) → HistoryFull ≢ refusal_for f
@@ -48,11 +49,11 @@ never_full ground.Halted e = cc
 never_full ground.NoRound e = cc
 
 -- what is told to be full wasn't recorded, and nothing has changed
-pub declined : {D : Type 0} (honest : D → Type 0) (state : D → DiskState) (old : View D) (e : Event) (new : View D)
-    → (honest old.disk → (s : State) × IsIn state old s) → Applies honest state old e (Refused HistoryFull) new → Declines honest state old HistoryFull new
-declined honest state old e new legal applies is_honest = ⊎_elim
+pub declined : {D : Type 0} (disks : PageDisk D) (old : View D) (e : Event) (new : View D)
+    → (disks.honest old.disk → (s : State) × IsIn disks.state old s) → Applies disks old e (Refused HistoryFull) new → Declines disks old HistoryFull new
+declined disks old e new legal applies is_honest = ⊎_elim
     (λ (f : IsFull old (Refused HistoryFull) new). (f.full, f.same))
-    (λ (g : IsStep honest state old e (Refused HistoryFull) new). let s = legal is_honest in let m = g.step is_honest s.0 s.1 in absurd (never_full m.2.0 m.2.2))
+    (λ (g : IsStep disks old e (Refused HistoryFull) new). let s = legal is_honest in let m = g.step is_honest s.0 s.1 in absurd (never_full m.2.0 m.2.2))
     applies
 
 recorded_as : (r : Refusal) → r ≢ OutOfMemory → r ≢ HistoryFull → is_unrecorded r ≡ false
@@ -88,15 +89,15 @@ if_some N (Some t) gives p = gives t p
 if_some N None gives p = tt
 
 -- what a crash leaves of a core it leaves of the disk, the history and the counts that were taken of it
-pub left_of_parts : {D : Type 0} (state : D → DiskState) (start : Start) (core : View D) (disk : D) (history : List (Event × Reply)) (frontier accepted : ℕ)
+pub left_of_parts : {D : Type 0} (disks : PageDisk D) (start : Start) (core : View D) (disk : D) (history : List (Event × Reply)) (frontier accepted : ℕ)
     → disk ≡ core.disk → history ≡ core.history → frontier ≡ core.store.frontier → accepted ≡ core.store.accepted
-    → Leaves (state core.disk) (IsPrefix (shape_at start) (page start.opened) (commands_said core.history) core.store.frontier core.store.accepted)
-    → Leaves (state disk) (IsPrefix (shape_at start) (page start.opened) (commands_said history) frontier accepted)
-left_of_parts state start core disk history frontier accepted same_disk same_history same_frontier same_accepted left =
-    subst (λ d. Leaves (state d) (IsPrefix (shape_at start) (page start.opened) (commands_said history) frontier accepted)) (sym same_disk)
-    (subst (λ (h : List (Event × Reply)). Leaves (state core.disk) (IsPrefix (shape_at start) (page start.opened) (commands_said h) frontier accepted)) (sym same_history)
-    (subst (λ (f : ℕ). Leaves (state core.disk) (IsPrefix (shape_at start) (page start.opened) (commands_said core.history) f accepted)) (sym same_frontier)
-    (subst (λ (n : ℕ). Leaves (state core.disk) (IsPrefix (shape_at start) (page start.opened) (commands_said core.history) core.store.frontier n)) (sym same_accepted) left)))
+    → Leaves (disks.state core.disk) (IsPrefix (shape_at start) (page start.opened) (commands_said core.history) core.store.frontier core.store.accepted)
+    → Leaves (disks.state disk) (IsPrefix (shape_at start) (page start.opened) (commands_said history) frontier accepted)
+left_of_parts disks start core disk history frontier accepted same_disk same_history same_frontier same_accepted left =
+    subst (λ d. Leaves (disks.state d) (IsPrefix (shape_at start) (page start.opened) (commands_said history) frontier accepted)) (sym same_disk)
+    (subst (λ (h : List (Event × Reply)). Leaves (disks.state core.disk) (IsPrefix (shape_at start) (page start.opened) (commands_said h) frontier accepted)) (sym same_history)
+    (subst (λ (f : ℕ). Leaves (disks.state core.disk) (IsPrefix (shape_at start) (page start.opened) (commands_said core.history) f accepted)) (sym same_frontier)
+    (subst (λ (n : ℕ). Leaves (disks.state core.disk) (IsPrefix (shape_at start) (page start.opened) (commands_said core.history) core.store.frontier n)) (sym same_accepted) left)))
 
 -- a refusal that is passed on
 pub if_same : {T : Type 0} (result : Result T Refusal) (P : Refusal → Type 0) (r : Refusal) → IsErrAnd result (λ x. x ≡ r) → P r → IfErr result P

@@ -1,7 +1,7 @@
 -- Which event of writeback is due.
 use Rattle.std.specs.Prelude.{◌≡◌, ◌≢◌, ◌⊎◌, ◌<◌, ◌≤◌, ℕ, [], None, Ok, Result, length, MatchResult}
 use Rattle.cs_deps.specs.declared.refusals.Refusal.{Refusal}
-use Rattle.cs_disk.specs.Disk.{State as DiskState}
+use Rattle.cs_disk.specs.declared.disk.PageDisk.{Ghosts as PageDisk}
 use Rattle.cs_core.specs.declared.events.Event.{Event}
 use Rattle.cs_core.specs.declared.events.Event.TheVariants as asked
 use Rattle.cs_core.specs.declared.events.Reply.{Reply}
@@ -45,32 +45,32 @@ abbrev pub IsAtRest : Stored → Type 0
 IsAtRest s = (s.out ≡ None) × (s.graph.staging.pending.waiting ≡ []) × (s.index.table ≡ [])
 
 -- one event was done, which this step names and which was due; or none was due
-abbrev pub Turns : {D : Type 0} → (honest : D → Type 0) → (state : D → DiskState) → (old : View D) → Step → (new : View D) → Type 0
-Turns honest state old step new = ((step ≡ Idle) × IsAtRest old.store × (new ≡ old))
-    ⊎ ((event : Event) × (reply : Reply) × (step ≡ step_of event) × IsDue old.store event × IsStep honest state old event reply new × IsDone reply)
+abbrev pub Turns : {D : Type 0} → (disks : PageDisk D) → (old : View D) → Step → (new : View D) → Type 0
+Turns disks old step new = ((step ≡ Idle) × IsAtRest old.store × (new ≡ old))
+    ⊎ ((event : Event) × (reply : Reply) × (step ≡ step_of event) × IsDue old.store event × IsStep disks old event reply new × IsDone reply)
 
 -- the event that was due was refused: it was recorded with its refusal, and no other was; or none was
-abbrev pub IsTurnRefused : {D : Type 0} → (honest : D → Type 0) → (state : D → DiskState) → (old : View D) → Refusal → (new : View D) → Type 0
-IsTurnRefused honest state old r new = (event : Event) × IsDue old.store event × IsRefused honest state old event r new
+abbrev pub IsTurnRefused : {D : Type 0} → (disks : PageDisk D) → (old : View D) → Refusal → (new : View D) → Type 0
+IsTurnRefused disks old r new = (event : Event) × IsDue old.store event × IsRefused disks old event r new
 
 -- at most one event: the one that was due, which was done or refused
-abbrev pub IsTurn : {D : Type 0} → (honest : D → Type 0) → (state : D → DiskState) → (old : View D) → Result Step Refusal → (new : View D) → Type 0
-IsTurn honest state old result new = MatchResult result (λ step. Turns honest state old step new) (λ r. IsTurnRefused honest state old r new)
+abbrev pub IsTurn : {D : Type 0} → (disks : PageDisk D) → (old : View D) → Result Step Refusal → (new : View D) → Type 0
+IsTurn disks old result new = MatchResult result (λ step. Turns disks old step new) (λ r. IsTurnRefused disks old r new)
 
 -- one Stage, after which so many commands are accepted; or it was refused
-abbrev pub IsStaged : {D : Type 0} → (honest : D → Type 0) → (state : D → DiskState) → (old : View D) → Result ℕ Refusal → (new : View D) → Type 0
-IsStaged honest state old result new = MatchResult result (λ accepted. (reply : Reply) × IsStep honest state old asked.Stage reply new × IsDone reply × (accepted ≡ new.store.accepted)) (λ r. IsRefused honest state old asked.Stage r new)
+abbrev pub IsStaged : {D : Type 0} → (disks : PageDisk D) → (old : View D) → Result ℕ Refusal → (new : View D) → Type 0
+IsStaged disks old result new = MatchResult result (λ accepted. (reply : Reply) × IsStep disks old asked.Stage reply new × IsDone reply × (accepted ≡ new.store.accepted)) (λ r. IsRefused disks old asked.Stage r new)
 
 -- as many commands as were wanted are persistent, and nothing was done; or fewer are, and at most one event was done, or it was refused
-abbrev pub IsAdvance : {D A : Type 0} → (honest : D → Type 0) → (state : D → DiskState) → (old : View D) → ℕ → Result A Refusal → (new : View D) → Type 0
-IsAdvance honest state old target result new = MatchResult result
-    (λ _. ((target ≤ old.store.frontier) × (new ≡ old)) ⊎ ((old.store.frontier < target) × ((step : Step) × Turns honest state old step new)))
-    (λ r. (old.store.frontier < target) × IsTurnRefused honest state old r new)
+abbrev pub IsAdvance : {D A : Type 0} → (disks : PageDisk D) → (old : View D) → ℕ → Result A Refusal → (new : View D) → Type 0
+IsAdvance disks old target result new = MatchResult result
+    (λ _. ((target ≤ old.store.frontier) × (new ≡ old)) ⊎ ((old.store.frontier < target) × ((step : Step) × Turns disks old step new)))
+    (λ r. (old.store.frontier < target) × IsTurnRefused disks old r new)
 
 -- a sync: once it staged, and it answers no fewer commands than were accepted then
-abbrev pub Syncs : {D : Type 0} → (honest : D → Type 0) → (state : D → DiskState) → Start → (frontier : ℕ) → Type 0
-Syncs honest state start frontier = (target : ℕ) × (target ≤ frontier) × WhileLocked honest state start (λ old new. IsStaged honest state old (Ok target) new)
+abbrev pub Syncs : {D : Type 0} → (disks : PageDisk D) → Start → (frontier : ℕ) → Type 0
+Syncs disks start frontier = (target : ℕ) × (target ≤ frontier) × WhileLocked disks start (λ old new. IsStaged disks old (Ok target) new)
 
 -- the event of a sync that was refused: its Stage, or one that was due then
-abbrev pub IsSyncRefused : {D : Type 0} → (honest : D → Type 0) → (state : D → DiskState) → (old : View D) → Refusal → (new : View D) → Type 0
-IsSyncRefused honest state old r new = IsRefused honest state old asked.Stage r new ⊎ IsTurnRefused honest state old r new
+abbrev pub IsSyncRefused : {D : Type 0} → (disks : PageDisk D) → (old : View D) → Refusal → (new : View D) → Type 0
+IsSyncRefused disks old r new = IsRefused disks old asked.Stage r new ⊎ IsTurnRefused disks old r new

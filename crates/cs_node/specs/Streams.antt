@@ -1,7 +1,7 @@
 -- Which event of writeback is due where rounds of several syncs overlap.
 use Rattle.std.specs.Prelude.{◌≡◌, ◌≢◌, ◌⊎◌, [], None, Result, MatchResult}
 use Rattle.cs_deps.specs.declared.refusals.Refusal.{Refusal}
-use Rattle.cs_disk.specs.Disk.{State as DiskState}
+use Rattle.cs_disk.specs.declared.disk.PageDisk.{Ghosts as PageDisk}
 use Rattle.cs_core.specs.declared.events.Event.{Event}
 use Rattle.cs_core.specs.declared.events.Event.TheVariants.{Begin, Stage}
 use Rattle.cs_core.specs.declared.events.Reply.{Reply}
@@ -19,14 +19,14 @@ IsNext s Begin = (s.out ≡ None) × (s.index.table ≡ []) × (s.graph.staging.
 IsNext s event = IsOfRound s event
 
 -- one event was done, which this step names and which was due; or none was due
-abbrev pub Streams : {D : Type 0} → (honest : D → Type 0) → (state : D → DiskState) → (old : View D) → Step → (new : View D) → Type 0
-Streams honest state old step new = ((step ≡ Idle) × IsAtRest old.store × (new ≡ old))
-    ⊎ ((event : Event) × (reply : Reply) × (step ≡ step_of event) × IsNext old.store event × IsStep honest state old event reply new × IsDone reply)
+abbrev pub Streams : {D : Type 0} → (disks : PageDisk D) → (old : View D) → Step → (new : View D) → Type 0
+Streams disks old step new = ((step ≡ Idle) × IsAtRest old.store × (new ≡ old))
+    ⊎ ((event : Event) × (reply : Reply) × (step ≡ step_of event) × IsNext old.store event × IsStep disks old event reply new × IsDone reply)
 
 -- the event that was due was refused: it was recorded with its refusal, and no other was; or none was
-abbrev pub IsStreamRefused : {D : Type 0} → (honest : D → Type 0) → (state : D → DiskState) → (old : View D) → Refusal → (new : View D) → Type 0
-IsStreamRefused honest state old r new = (event : Event) × IsNext old.store event × IsRefused honest state old event r new
+abbrev pub IsStreamRefused : {D : Type 0} → (disks : PageDisk D) → (old : View D) → Refusal → (new : View D) → Type 0
+IsStreamRefused disks old r new = (event : Event) × IsNext old.store event × IsRefused disks old event r new
 
 -- at most one event: the one that was due, which was done or refused
-abbrev pub IsStreamTurn : {D : Type 0} → (honest : D → Type 0) → (state : D → DiskState) → (old : View D) → Result Step Refusal → (new : View D) → Type 0
-IsStreamTurn honest state old result new = MatchResult result (λ step. Streams honest state old step new) (λ r. IsStreamRefused honest state old r new)
+abbrev pub IsStreamTurn : {D : Type 0} → (disks : PageDisk D) → (old : View D) → Result Step Refusal → (new : View D) → Type 0
+IsStreamTurn disks old result new = MatchResult result (λ step. Streams disks old step new) (λ r. IsStreamRefused disks old r new)

@@ -1,7 +1,7 @@
 -- What a reclaimer does, and what each event of a sweep leaves it to do.
 use Rattle.std.specs.Prelude.{◌≡◌, ◌⊎◌, ◌<◌, ◌≤◌, ◌+◌, ◌-◌, ℕ, zero, suc, None, Option, Result, Some, MatchResult}
 use Rattle.cs_deps.specs.declared.refusals.Refusal.{Refusal}
-use Rattle.cs_disk.specs.Disk.{State as DiskState}
+use Rattle.cs_disk.specs.declared.disk.PageDisk.{Ghosts as PageDisk}
 use Rattle.cs_core.specs.declared.events.Event.{Event}
 use Rattle.cs_core.specs.declared.events.Event.TheVariants as asked
 use Rattle.cs_core.specs.declared.events.Reply.{Reply}
@@ -80,23 +80,23 @@ after_refusal w (asked.Retire e) = record w { next = Abandon e }
 after_refusal w event = w
 
 -- one event was done, which this step names and which came next, and the reclaimer is what it is after it; or none came next
-abbrev pub Sweeps : {D : Type 0} → (honest : D → Type 0) → (state : D → DiskState) → (old : View D) → (was : Reclaiming) → Step → (new : View D) → (is : Reclaiming) → Type 0
-Sweeps honest state old was step new is = ((step ≡ Idle) × IsIdle old.store was × (new ≡ old) × (is ≡ was))
-    ⊎ ((event : Event) × (reply : Reply) × (step ≡ step_of event) × IsNextEvent old.store was event × IsStep honest state old event reply new × IsDone reply × (is ≡ after_event was event reply))
+abbrev pub Sweeps : {D : Type 0} → (disks : PageDisk D) → (old : View D) → (was : Reclaiming) → Step → (new : View D) → (is : Reclaiming) → Type 0
+Sweeps disks old was step new is = ((step ≡ Idle) × IsIdle old.store was × (new ≡ old) × (is ≡ was))
+    ⊎ ((event : Event) × (reply : Reply) × (step ≡ step_of event) × IsNextEvent old.store was event × IsStep disks old event reply new × IsDone reply × (is ≡ after_event was event reply))
 
 -- the event that came next was refused: it was recorded with its refusal, and no other was; or none was
-abbrev pub IsSweepRefused : {D : Type 0} → (honest : D → Type 0) → (state : D → DiskState) → (old : View D) → (was : Reclaiming) → Refusal → (new : View D) → (is : Reclaiming) → Type 0
-IsSweepRefused honest state old was r new is = (event : Event) × IsNextEvent old.store was event × IsRefused honest state old event r new × (is ≡ after_refusal was event)
+abbrev pub IsSweepRefused : {D : Type 0} → (disks : PageDisk D) → (old : View D) → (was : Reclaiming) → Refusal → (new : View D) → (is : Reclaiming) → Type 0
+IsSweepRefused disks old was r new is = (event : Event) × IsNextEvent old.store was event × IsRefused disks old event r new × (is ≡ after_refusal was event)
 
 -- at most one event of a sweep: the one that came next, which was done or refused
-abbrev pub IsSweepTurn : {D : Type 0} → (honest : D → Type 0) → (state : D → DiskState) → (old : View D) → (was : Reclaiming) → Result Step Refusal → (new : View D) → (is : Reclaiming) → Type 0
-IsSweepTurn honest state old was result new is = MatchResult result (λ step. Sweeps honest state old was step new is) (λ r. IsSweepRefused honest state old was r new is)
+abbrev pub IsSweepTurn : {D : Type 0} → (disks : PageDisk D) → (old : View D) → (was : Reclaiming) → Result Step Refusal → (new : View D) → (is : Reclaiming) → Type 0
+IsSweepTurn disks old was result new is = MatchResult result (λ step. Sweeps disks old was step new is) (λ r. IsSweepRefused disks old was r new is)
 
 -- what a reclaimer is after a turn on a node of this start
-abbrev pub IsAfterTurn : {D : Type 0} → (honest : D → Type 0) → (state : D → DiskState) → Start → (was is : Reclaiming) → Type 0
-IsAfterTurn honest state start was is = (result : Result Step Refusal) × WhileLocked honest state start (λ old new. IsSweepTurn honest state old was result new is)
+abbrev pub IsAfterTurn : {D : Type 0} → (disks : PageDisk D) → Start → (was is : Reclaiming) → Type 0
+IsAfterTurn disks start was is = (result : Result Step Refusal) × WhileLocked disks start (λ old new. IsSweepTurn disks old was result new is)
 
 -- what it is after so many turns
-abbrev pub IsAfterTurns : {D : Type 0} → (honest : D → Type 0) → (state : D → DiskState) → Start → ℕ → (was is : Reclaiming) → Type 0
-IsAfterTurns honest state start zero was is = is ≡ was
-IsAfterTurns honest state start (suc n) was is = (before : Reclaiming) × IsAfterTurns honest state start n was before × IsAfterTurn honest state start before is
+abbrev pub IsAfterTurns : {D : Type 0} → (disks : PageDisk D) → Start → ℕ → (was is : Reclaiming) → Type 0
+IsAfterTurns disks start zero was is = is ≡ was
+IsAfterTurns disks start (suc n) was is = (before : Reclaiming) × IsAfterTurns disks start n was before × IsAfterTurn disks start before is

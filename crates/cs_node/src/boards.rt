@@ -51,7 +51,7 @@ pub struct Mirror<D: PageDisk> {
 impl<D: PageDisk> TableRule<(), Sight, ()> for Mirror<D> {
     ghost use Rattle.cs_node.specs.Mirror.{IsMirror, nothing};
 
-    ghost holds = { λ _ s. IsMirror D.honest D.state s };
+    ghost holds = { λ _ s. IsMirror D.PageDisk s };
 
     ghost first = { λ _. nothing };
 }
@@ -65,7 +65,7 @@ pub struct Sees<D: PageDisk, K: Naming> {
 impl<D: PageDisk, K: Naming> Play<(), Sight> for Sees<D, K> {
     ghost use Rattle.cs_node.specs.Mirror.{Sights};
 
-    ghost then = { λ _ me found now. Sights D.honest D.state K.start me found now };
+    ghost then = { λ _ me found now. Sights D.PageDisk K.start me found now };
 }
 
 /// A new reader knows what the keeper knows.
@@ -107,7 +107,7 @@ impl<D: PageDisk, K: Naming> NamedBoard<D, K> {
         requires { (seat.old.table_id ≡ K.table) × (seat.old.me ≡ (knows K.start seat.old.me.0.number, [])) }
         ensures seat { (seat.new.table_id ≡ K.table) × (seat.new.me ≡ (knows K.start result, [])) }
         ensures later { seat.old.me.0.number ≤ result }
-        ensures frontier { WasFrontier D.honest D.state K.start result }
+        ensures frontier { WasFrontier D.PageDisk K.start result }
     {
         self.words.shared.load::<Sees<D, K>>(seat, 0)
     }

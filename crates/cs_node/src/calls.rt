@@ -30,7 +30,7 @@ impl<D: PageDisk, K: Naming> Engine<D, K> {
         gate: &G,
     ) -> Result<(u64, Reply), Refusal>
         requires fresh { self.old.fresh ≡ true }
-        ensures step { IfOk result (λ told. IsStep D.honest D.state self.old.core event.now told.1 self.new.core) }
+        ensures step { IfOk result (λ told. IsStep D.PageDisk self.old.core event.now told.1 self.new.core) }
         ensures place { IfOk result (λ told. told.0 ≡ length self.old.core.history) }
         ensures answers { IfOk result (λ told. MayAnswer event.now told.1) }
         ensures above { IfOk result (λ told. Below told.0 log.old.calls × (told.0 < 2 ^ 63)) }
@@ -38,7 +38,7 @@ impl<D: PageDisk, K: Naming> Engine<D, K> {
         ensures room { OnOk result (1 ≤ log.new.room) }
         ensures calls { log.new.calls ≡ log.old.calls }
         ensures err { IfErr result (λ r. (r ≡ Refusal.OutOfMemory) ⊎ (r ≡ Refusal.HistoryFull)) }
-        ensures declined { IfErr result (λ r. Declines D.honest D.state self.old.core r self.new.core) }
+        ensures declined { IfErr result (λ r. Declines D.PageDisk self.old.core r self.new.core) }
     {
         let place = self.core().history().len() as u64;
         if !log.is_above(place) || log.reserve().is_err() {
@@ -60,7 +60,7 @@ impl<D: PageDisk, K: Naming> Engine<D, K> {
         requires fresh { self.old.fresh ≡ true }
         ensures ok { IfOk result (λ ticket. Adds purse.old (Event.Put id bytes) (Reply.Accepted ticket) purse.new) }
         ensures err { IfErr result (λ r. Refuses purse.old (Event.Put id bytes) r purse.new) }
-        ensures step { IsAnswered D.honest D.state self.old.core purse.old (Event.Put id bytes) (λ n. Reply.Accepted n) result self.new.core purse.new }
+        ensures step { IsAnswered D.PageDisk self.old.core purse.old (Event.Put id bytes) (λ n. Reply.Accepted n) result self.new.core purse.new }
     {
         let event = Event::Put(id, bytes);
         let (place, reply) = self.ask(board, &mut purse.log, &event, gate)?;
@@ -88,7 +88,7 @@ impl<D: PageDisk, K: Naming> Engine<D, K> {
         requires fresh { self.old.fresh ≡ true }
         ensures ok { IfOk result (λ there. Gets purse.old id there purse.new) }
         ensures err { IfErr result (λ r. Refuses purse.old (Event.Get id) r purse.new) }
-        ensures step { MatchResult result (λ there. IsGot D.honest D.state self.old.core purse.old id there self.new.core purse.new) (λ r. IsCallRefused D.honest D.state self.old.core purse.old (Event.Get id) r self.new.core purse.new) }
+        ensures step { MatchResult result (λ there. IsGot D.PageDisk self.old.core purse.old id there self.new.core purse.new) (λ r. IsCallRefused D.PageDisk self.old.core purse.old (Event.Get id) r self.new.core purse.new) }
     {
         let event = Event::Get(id);
         let (place, reply) = self.ask(board, &mut purse.log, &event, gate)?;
@@ -120,7 +120,7 @@ impl<D: PageDisk, K: Naming> Engine<D, K> {
         requires fresh { self.old.fresh ≡ true }
         ensures ok { IfOk result (λ ticket. Adds purse.old (Event.Delete id) (deleted ticket) purse.new) }
         ensures err { IfErr result (λ r. Refuses purse.old (Event.Delete id) r purse.new) }
-        ensures step { IsAnswered D.honest D.state self.old.core purse.old (Event.Delete id) deleted result self.new.core purse.new }
+        ensures step { IsAnswered D.PageDisk self.old.core purse.old (Event.Delete id) deleted result self.new.core purse.new }
     {
         let event = Event::Delete(id);
         let (place, reply) = self.ask(board, &mut purse.log, &event, gate)?;
@@ -151,7 +151,7 @@ impl<D: PageDisk, K: Naming> Engine<D, K> {
     ) -> Settled<K>
         requires fresh { self.old.fresh ≡ true }
         ensures told { Settles purse.old ticket result purse.new }
-        ensures step { IsSettledBy D.honest D.state self.old.core purse.old ticket result self.new.core purse.new }
+        ensures step { IsSettledBy D.PageDisk self.old.core purse.old ticket result self.new.core purse.new }
     {
         let event = Event::Settle(ticket.number());
         match self.ask(board, &mut purse.log, &event, gate) {

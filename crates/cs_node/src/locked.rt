@@ -83,7 +83,7 @@ impl<D: PageDisk, K: Naming> Lock<D, K> {
     /// Takes the lock, for at most one event.
     pub fn take<R: Wait>(&self, rt: &R) -> MutexGuard<'_, Locked<D, K>>
         ensures fresh { (mutex_guard_value result).engine.fresh ≡ true }
-        ensures behind { IsBehind D.honest D.state K.start (mutex_guard_value result).engine.core }
+        ensures behind { IsBehind D.PageDisk K.start (mutex_guard_value result).engine.core }
     {
         let mut guard = self.mutex.lock(rt);
         guard.engine.refresh();
@@ -115,7 +115,7 @@ impl<D: PageDisk, K: Naming> Engine<D, K> {
     /// As the lock is taken.
     fn refresh(&mut self)
         ensures fresh { self.new ≡ record self.old { fresh = true } }
-        ensures behind { IsBehind D.honest D.state K.start self.new.core }
+        ensures behind { IsBehind D.PageDisk K.start self.new.core }
     {
         self.fresh = Snapshot::of(&true);
         // Called for its contract alone: what a core behind the lock keeps.
@@ -125,8 +125,8 @@ impl<D: PageDisk, K: Naming> Engine<D, K> {
     /// Does the one event of this lock. Where it makes more commands persistent, the board tells.
     fn apply(&mut self, board: &NamedBoard<D, K>, event: &Event) -> Result<Reply, OutOfMemory>
         requires fresh { self.old.fresh ≡ true }
-        ensures step { IfOk result (λ reply. Applies D.honest D.state self.old.core event.now reply self.new.core) }
-        ensures memory { OnErr result (IsUntouched D.honest D.state self.old.core self.new.core) }
+        ensures step { IfOk result (λ reply. Applies D.PageDisk self.old.core event.now reply self.new.core) }
+        ensures memory { OnErr result (IsUntouched D.PageDisk self.old.core self.new.core) }
         ensures answers { IfOk result (λ reply. MayAnswer event.now reply) }
         ensures spent { self.new.fresh ≡ false }
     {
@@ -148,11 +148,11 @@ impl<D: PageDisk, K: Naming> Engine<D, K> {
         gate: &G,
     ) -> Result<Reply, Refusal>
         requires fresh { self.old.fresh ≡ true }
-        ensures step { IfOk result (λ reply. IsStep D.honest D.state self.old.core event.now reply self.new.core) }
+        ensures step { IfOk result (λ reply. IsStep D.PageDisk self.old.core event.now reply self.new.core) }
         ensures answers { IfOk result (λ reply. MayAnswer event.now reply) }
         ensures recorded { IfOk result (λ reply. reply ≢ Reply.Refused Refusal.HistoryFull) }
         ensures err { IfErr result (λ r. (r ≡ Refusal.OutOfMemory) ⊎ (r ≡ Refusal.HistoryFull)) }
-        ensures declined { IfErr result (λ r. Declines D.honest D.state self.old.core r self.new.core) }
+        ensures declined { IfErr result (λ r. Declines D.PageDisk self.old.core r self.new.core) }
     {
         // Called for its contract alone: what a core behind the lock keeps.
         self.core();
@@ -169,7 +169,7 @@ impl<D: PageDisk, K: Naming> Engine<D, K> {
     /// The core, which was opened on what K names.
     pub fn core(&self) -> &Core<D>
         ensures core { result.now ≡ self.now.core }
-        ensures behind { IsBehind D.honest D.state K.start self.now.core }
+        ensures behind { IsBehind D.PageDisk K.start self.now.core }
     {
         // Called for its contract alone: that the history is legal.
         self.core.progress();

@@ -63,7 +63,7 @@ impl<D: PageDisk, K: Naming> Node<D, K> {
 
     /// A new purse, whose seat sees the frontier of that moment. Refused 35 WornOut past 2^63 - 1 purses.
     pub fn purse<R: Wait>(&self, rt: &R, alloc: Global) -> Result<Purse<K>, Refusal>
-        ensures ok { IfOk result (λ purse. WhileLocked D.honest D.state K.start (λ old new. (purse ≡ empty old.store.frontier) × (new ≡ old))) }
+        ensures ok { IfOk result (λ purse. WhileLocked D.PageDisk K.start (λ old new. (purse ≡ empty old.store.frontier) × (new ≡ old))) }
         ensures err { IfErr result (λ r. r ≡ Refusal.WornOut) }
     {
         self.lock.take(rt).give(&self.board, alloc)
@@ -82,7 +82,7 @@ impl<D: PageDisk, K: Naming> Node<D, K> {
     ) -> Result<Ticket<K>, Refusal>
         ensures ok { IfOk result (λ ticket. Adds purse.old (Event.Put id bytes) (Reply.Accepted ticket) purse.new) }
         ensures err { IfErr result (λ r. Refuses purse.old (Event.Put id bytes) r purse.new) }
-        ensures step { WhileLocked D.honest D.state K.start (λ old new. IsAnswered D.honest D.state old purse.old (Event.Put id bytes) (λ n. Reply.Accepted n) result new purse.new) }
+        ensures step { WhileLocked D.PageDisk K.start (λ old new. IsAnswered D.PageDisk old purse.old (Event.Put id bytes) (λ n. Reply.Accepted n) result new purse.new) }
     {
         self.put_with(rt, purse, id, bytes, &Open)
     }
@@ -98,7 +98,7 @@ impl<D: PageDisk, K: Naming> Node<D, K> {
     ) -> Result<Ticket<K>, Refusal>
         ensures ok { IfOk result (λ ticket. Adds purse.old (Event.Put id bytes) (Reply.Accepted ticket) purse.new) }
         ensures err { IfErr result (λ r. Refuses purse.old (Event.Put id bytes) r purse.new) }
-        ensures step { WhileLocked D.honest D.state K.start (λ old new. IsAnswered D.honest D.state old purse.old (Event.Put id bytes) (λ n. Reply.Accepted n) result new purse.new) }
+        ensures step { WhileLocked D.PageDisk K.start (λ old new. IsAnswered D.PageDisk old purse.old (Event.Put id bytes) (λ n. Reply.Accepted n) result new purse.new) }
     {
         self.lock
             .take(rt)
@@ -118,7 +118,7 @@ impl<D: PageDisk, K: Naming> Node<D, K> {
     ) -> Result<Option<Bytes>, Refusal>
         ensures ok { IfOk result (λ found. Adds purse.old (Event.Get id) (got found) purse.new) }
         ensures err { IfErr result (λ r. Refuses purse.old (Event.Get id) r purse.new) }
-        ensures step { WhileLocked D.honest D.state K.start (λ old new. IsAnswered D.honest D.state old purse.old (Event.Get id) got result new purse.new) }
+        ensures step { WhileLocked D.PageDisk K.start (λ old new. IsAnswered D.PageDisk old purse.old (Event.Get id) got result new purse.new) }
     {
         let there = self
             .lock
@@ -145,7 +145,7 @@ impl<D: PageDisk, K: Naming> Node<D, K> {
     ) -> Result<Option<Ticket<K>>, Refusal>
         ensures ok { IfOk result (λ ticket. Adds purse.old (Event.Delete id) (deleted ticket) purse.new) }
         ensures err { IfErr result (λ r. Refuses purse.old (Event.Delete id) r purse.new) }
-        ensures step { WhileLocked D.honest D.state K.start (λ old new. IsAnswered D.honest D.state old purse.old (Event.Delete id) deleted result new purse.new) }
+        ensures step { WhileLocked D.PageDisk K.start (λ old new. IsAnswered D.PageDisk old purse.old (Event.Delete id) deleted result new purse.new) }
     {
         self.lock
             .take(rt)
@@ -157,7 +157,7 @@ impl<D: PageDisk, K: Naming> Node<D, K> {
     /// for 41 HistoryFull and 9 OutOfMemory.
     pub fn settle<R: Wait>(&self, rt: &R, purse: &mut Purse<K>, ticket: Ticket<K>) -> Settled<K>
         ensures told { Settles purse.old ticket result purse.new }
-        ensures step { WhileLocked D.honest D.state K.start (λ old new. IsSettledBy D.honest D.state old purse.old ticket result new purse.new) }
+        ensures step { WhileLocked D.PageDisk K.start (λ old new. IsSettledBy D.PageDisk old purse.old ticket result new purse.new) }
     {
         self.lock
             .take(rt)

@@ -47,7 +47,7 @@ impl<K: Naming> Pilot<K> {
     fn see<D: PageDisk>(&mut self, board: &NamedBoard<D, K>) -> u64
         ensures seen { self.new ≡ result }
         ensures later { self.old ≤ result }
-        ensures frontier { WasFrontier D.honest D.state K.start result }
+        ensures frontier { WasFrontier D.PageDisk K.start result }
     {
         board.look(&mut self.reader)
     }
@@ -62,7 +62,7 @@ impl<K: Naming> Pilot<K> {
         node: &Node<D, K>,
         gate: &G,
     ) -> Result<Step, Refusal>
-        ensures turn { WhileLocked D.honest D.state K.start (λ old new. IsTurn D.honest D.state old result new) }
+        ensures turn { WhileLocked D.PageDisk K.start (λ old new. IsTurn D.PageDisk old result new) }
         ensures seen { self.new ≡ self.old }
     {
         node.lock.take(rt).engine.turn(&node.board, gate)
@@ -76,7 +76,7 @@ impl<K: Naming> Pilot<K> {
         gate: &G,
     ) -> Result<(), Refusal>
         ensures ok { IfOk result (λ _. G.ended gate.now) }
-        ensures err { IfErr result (λ r. WhileLocked D.honest D.state K.start (λ old new. IsTurnRefused D.honest D.state old r new)) }
+        ensures err { IfErr result (λ r. WhileLocked D.PageDisk K.start (λ old new. IsTurnRefused D.PageDisk old r new)) }
         ensures seen { self.new ≡ self.old }
     {
         for _ in rt.forever() {
@@ -94,7 +94,7 @@ impl<K: Naming> Pilot<K> {
 impl<D: PageDisk, K: Naming> Node<D, K> {
     /// The pilot, whose seat sees the frontier of that moment; None once it was given.
     pub fn pilot<R: Wait>(&self, rt: &R) -> Option<Pilot<K>>
-        ensures { IfSome result (λ pilot. WhileLocked D.honest D.state K.start (λ old new. (pilot ≡ old.store.frontier) × (new ≡ old))) }
+        ensures { IfSome result (λ pilot. WhileLocked D.PageDisk K.start (λ old new. (pilot ≡ old.store.frontier) × (new ≡ old))) }
     {
         self.lock.take(rt).hire(&self.board)
     }
@@ -105,10 +105,10 @@ impl<D: PageDisk, K: Naming> Node<D, K> {
     ///
     /// Refused as one of its events is, 9 OutOfMemory and 41 HistoryFull. The events before that stand.
     pub fn sync<R: Wait>(&self, rt: &R, pilot: &mut Pilot<K>) -> Result<u64, Refusal>
-        ensures ok { IfOk result (λ frontier. (frontier ≡ pilot.new) × Syncs D.honest D.state K.start frontier) }
+        ensures ok { IfOk result (λ frontier. (frontier ≡ pilot.new) × Syncs D.PageDisk K.start frontier) }
         ensures later { pilot.old ≤ pilot.new }
-        ensures frontier { IfOk result (λ frontier. WasFrontier D.honest D.state K.start frontier) }
-        ensures err { IfErr result (λ r. WhileLocked D.honest D.state K.start (λ old new. IsSyncRefused D.honest D.state old r new)) }
+        ensures frontier { IfOk result (λ frontier. WasFrontier D.PageDisk K.start frontier) }
+        ensures err { IfErr result (λ r. WhileLocked D.PageDisk K.start (λ old new. IsSyncRefused D.PageDisk old r new)) }
     {
         let target = self.lock.take(rt).engine.stage(&self.board)?;
         for _ in rt.forever() {

@@ -22,7 +22,7 @@ impl<K: Naming> Purse<K> {
     pub fn poll<D: PageDisk>(&mut self, node: &Node<D, K>, ticket: Ticket<K>) -> Polled<K>
         ensures told { Tells (max self.new.seen (floor_of self.old.calls)) ticket result }
         ensures later { self.old.seen ≤ self.new.seen }
-        ensures frontier { WasFrontier D.honest D.state K.start self.new.seen }
+        ensures frontier { WasFrontier D.PageDisk K.start self.new.seen }
         ensures same { self.new ≡ record self.old { seen = self.new.seen } }
     {
         let word = node.board.look(&mut self.reader);

@@ -66,7 +66,7 @@ impl<K: Naming> Reclaimer<K> {
         node: &Node<D, K>,
         gate: &G,
     ) -> Result<Step, Refusal>
-        ensures { WhileLocked D.honest D.state K.start (λ old new. IsSweepTurn D.honest D.state old self.old result new self.new) }
+        ensures { WhileLocked D.PageDisk K.start (λ old new. IsSweepTurn D.PageDisk old self.old result new self.new) }
     {
         node.lock.take(rt).engine.sweep(&node.board, self, gate)
     }
@@ -81,9 +81,9 @@ impl<K: Naming> Reclaimer<K> {
     ) -> Result<(), Refusal>
         ensures ok { IfOk result (λ _. HasSwept self.new ⊎ G.ended gate.now) }
         ensures err { IfErr result (λ r. (r ≡ Refusal.Halted) ⊎ (r ≡ Refusal.HistoryFull)) }
-        ensures refused { IfErr result (λ r. WhileLocked D.honest D.state K.start (λ old new. (was : Reclaiming) × IsSweepRefused D.honest D.state old was r new self.new)) }
+        ensures refused { IfErr result (λ r. WhileLocked D.PageDisk K.start (λ old new. (was : Reclaiming) × IsSweepRefused D.PageDisk old was r new self.new)) }
         ensures left { self.new.left ≤ self.old.left }
-        ensures turns { (n : ℕ) × IsAfterTurns D.honest D.state K.start n self.old self.new }
+        ensures turns { (n : ℕ) × IsAfterTurns D.PageDisk K.start n self.old self.new }
     {
         for _ in rt.forever() {
             if self.has_swept() || !gate.before() {
@@ -166,7 +166,7 @@ impl<D: PageDisk, K: Naming> Engine<D, K> {
         gate: &G,
     ) -> Result<Step, Refusal>
         requires fresh { self.old.fresh ≡ true }
-        ensures turn { IsSweepTurn D.honest D.state self.old.core reclaimer.old result self.new.core reclaimer.new }
+        ensures turn { IsSweepTurn D.PageDisk self.old.core reclaimer.old result self.new.core reclaimer.new }
     {
         let Some(event) = reclaimer.next_event(self.core()) else {
             return Ok(Step::Idle);

@@ -63,7 +63,7 @@ pub struct Closed<D> {
 impl<D: PageDisk, K: Naming> Node<D, K> {
     /// Opens the lock, for which no other thread may have the node.
     pub fn rest(self) -> Rest<D, K>
-        ensures { IsBehind D.honest D.state K.start result.core }
+        ensures { IsBehind D.PageDisk K.start result.core }
     {
         let Node { lock, board } = self;
         let locked = lock.into_inner();
@@ -77,7 +77,7 @@ impl<D: PageDisk, K: Naming> Rest<D, K> {
     /// Its core, which was opened on what K names.
     pub fn core(&self) -> &Core<D>
         ensures core { result.now ≡ self.now.core }
-        ensures behind { IsBehind D.honest D.state K.start self.now.core }
+        ensures behind { IsBehind D.PageDisk K.start self.now.core }
     {
         self.locked.engine.core()
     }
@@ -106,7 +106,7 @@ impl<D: PageDisk, K: Naming> Rest<D, K> {
     pub fn close(self, alloc: Global, purses: Vec<Purse<K>>) -> Result<Closed<D>, NotClosed<D, K>>
         ensures closed { IfOk result (λ c. IsClosed self purses.items c) }
         ensures acknowledged { D.honest self.core.disk → IfOk result (λ c. (x : ℕ) → acknowledged_by c.acknowledged x purses.items ≡ once_to c.acknowledged x) }
-        ensures behind { IsBehind D.honest D.state K.start self.core }
+        ensures behind { IsBehind D.PageDisk K.start self.core }
         // A crash of its disk leaves the map after the first n commands, n not below any number that was acknowledged.
         ensures left { D.honest self.core.disk → IfOk result (λ c. Leaves (D.state c.disk) (IsPrefix (shape_at K.start) (page K.start.opened) (commands_said c.history.items) c.acknowledged c.accepted)) }
         ensures err { IfErr result (λ e. (e.rest ≡ self) × (e.purses.items ≡ purses.items) × Fails self purses.items e.why) }

@@ -60,7 +60,7 @@ impl<K: Naming> Stream<K> {
         node: &Node<D, K>,
         gate: &G,
     ) -> Result<Step, Refusal>
-        ensures turn { WhileLocked D.honest D.state K.start (λ old new. IsStreamTurn D.honest D.state old result new) }
+        ensures turn { WhileLocked D.PageDisk K.start (λ old new. IsStreamTurn D.PageDisk old result new) }
         ensures seen { self.new ≡ self.old }
     {
         node.lock.take(rt).engine.stream(&node.board, gate)
@@ -74,7 +74,7 @@ impl<K: Naming> Stream<K> {
         gate: &G,
     ) -> Result<(), Refusal>
         ensures ok { IfOk result (λ _. G.ended gate.now) }
-        ensures err { IfErr result (λ r. WhileLocked D.honest D.state K.start (λ old new. IsStreamRefused D.honest D.state old r new)) }
+        ensures err { IfErr result (λ r. WhileLocked D.PageDisk K.start (λ old new. IsStreamRefused D.PageDisk old r new)) }
         ensures seen { self.new ≡ self.old }
     {
         for _ in rt.forever() {
@@ -109,7 +109,7 @@ impl<D: PageDisk, K: Naming> Engine<D, K> {
     /// Does the event of writeback that is due in a stream. Refused as the event is, 9 OutOfMemory and 41 HistoryFull.
     pub fn stream<G: Gate>(&mut self, board: &NamedBoard<D, K>, gate: &G) -> Result<Step, Refusal>
         requires fresh { self.old.fresh ≡ true }
-        ensures turn { IsStreamTurn D.honest D.state self.old.core result self.new.core }
+        ensures turn { IsStreamTurn D.PageDisk self.old.core result self.new.core }
     {
         let Some(event) = next_event(self.core()) else {
             return Ok(Step::Idle);

@@ -51,10 +51,10 @@ impl<D: PageDisk, K: Naming> Engine<D, K> {
         gate: &G,
     ) -> Result<Reply, Refusal>
         requires fresh { self.old.fresh ≡ true }
-        ensures step { IfOk result (λ reply. IsStep D.honest D.state self.old.core event.now reply self.new.core) }
+        ensures step { IfOk result (λ reply. IsStep D.PageDisk self.old.core event.now reply self.new.core) }
         ensures answers { IfOk result (λ reply. MayAnswer event.now reply) }
         ensures done { IfOk result IsDone }
-        ensures refused { IfErr result (λ r. IsRefused D.honest D.state self.old.core event.now r self.new.core) }
+        ensures refused { IfErr result (λ r. IsRefused D.PageDisk self.old.core event.now r self.new.core) }
     {
         match self.record(board, event, gate)? {
             Reply::Refused(refusal) => Err(refusal),
@@ -65,7 +65,7 @@ impl<D: PageDisk, K: Naming> Engine<D, K> {
     /// Does the event of writeback that is due. Refused as the event is, 9 OutOfMemory and 41 HistoryFull.
     pub fn turn<G: Gate>(&mut self, board: &NamedBoard<D, K>, gate: &G) -> Result<Step, Refusal>
         requires fresh { self.old.fresh ≡ true }
-        ensures turn { IsTurn D.honest D.state self.old.core result self.new.core }
+        ensures turn { IsTurn D.PageDisk self.old.core result self.new.core }
     {
         let Some(event) = due(self.core()) else {
             return Ok(Step::Idle);
@@ -79,7 +79,7 @@ impl<D: PageDisk, K: Naming> Engine<D, K> {
     /// Stages what has changed, and gives how many commands were accepted then.
     pub fn stage(&mut self, board: &NamedBoard<D, K>) -> Result<u64, Refusal>
         requires fresh { self.old.fresh ≡ true }
-        ensures staged { IsStaged D.honest D.state self.old.core result self.new.core }
+        ensures staged { IsStaged D.PageDisk self.old.core result self.new.core }
     {
         self.work(board, &Event::Stage, &Open)?;
         Ok(self.core().accepted())
@@ -88,7 +88,7 @@ impl<D: PageDisk, K: Naming> Engine<D, K> {
     /// Does the event of writeback that is due where fewer commands are persistent than are wanted.
     pub fn advance(&mut self, board: &NamedBoard<D, K>, target: u64) -> Result<(), Refusal>
         requires fresh { self.old.fresh ≡ true }
-        ensures advance { IsAdvance D.honest D.state self.old.core target result self.new.core }
+        ensures advance { IsAdvance D.PageDisk self.old.core target result self.new.core }
     {
         if self.core().frontier() < target {
             self.turn(board, &Open)?;

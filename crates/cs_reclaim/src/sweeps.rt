@@ -133,7 +133,7 @@ impl Sweep {
         ensures limit { index.new.limit ≡ index.old.limit }
 
         // The disk is only read.
-        ensures disk { OnlyReads D.honest D.state D.page_count D.failure_count D.moment D.left_since disk.old disk.new }
+        ensures disk { OnlyReads D.PageDisk disk.old disk.new }
         ensures cause { IsCaused (D.failure_count disk.old) (D.failure_count disk.new) result }
     {
         let Some(live) = index.first_live(self.extent) else {
@@ -244,7 +244,7 @@ fn move_live<D: PageDisk>(
     ensures families { length graph.new.staging.latest ≡ length graph.old.staging.latest }
     ensures shape { shape extents.new ≡ shape extents.old }
     ensures limit { index.new.limit ≡ index.old.limit }
-    ensures disk { OnlyReads D.honest D.state D.page_count D.failure_count D.moment D.left_since disk.old disk.new }
+    ensures disk { OnlyReads D.PageDisk disk.old disk.new }
     ensures cause { IsCaused (D.failure_count disk.old) (D.failure_count disk.new) result }
 {
     let payload = match read_frame(alloc, extents, graph, disk, FrameKind::Chunk, live.place) {

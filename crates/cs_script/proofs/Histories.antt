@@ -3,6 +3,7 @@ use Rattle.std.proofs.Common.{◌≡◌, ◌∙◌, ◌+◌, ◌≤◌, List, []
 use Rattle.std.specs.Prelude.{◌↔◌}
 use Rattle.cs_deps.specs.declared.refusals.Refusal.{Refusal}
 use Rattle.cs_deps.specs.declared.refusals.Refusal.TheVariants.{HistoryFull}
+use Rattle.cs_disk.specs.declared.disk.PageDisk.{Ghosts as PageDisk}
 use Rattle.cs_disk.specs.Disk.{State as DiskState}
 use Rattle.cs_core.specs.declared.events.Event.{Event}
 use Rattle.cs_core.specs.declared.events.Reply.{Reply}
@@ -14,11 +15,11 @@ use Rattle.cs_script.specs.Histories.{Goes, IsNoRefusal, IsStopped, IsUnrecorded
 same_refusal : (r s : Refusal) → Refused r ≡ Refused s → r ≡ s
 same_refusal r s e = cc
 
-module _ {D : Type 0} (honest : D → Type 0) (state : D → DiskState) where
-  pub stays_same : (v : View D) → Stays honest state v v
+module _ {D : Type 0} (disks : PageDisk D) where
+  pub stays_same : (v : View D) → Stays disks v v
   stays_same v = (record { opened = refl; found = refl; store = refl; history = refl; limit = refl; disk = λ h. refl }, (λ h. h, λ h. h))
 
-  pub stays_then : (a b c : View D) → Stays honest state a b → Stays honest state b c → Stays honest state a c
+  pub stays_then : (a b c : View D) → Stays disks a b → Stays disks b c → Stays disks a c
   stays_then a b c p q = (
     record {
       opened = q.0.opened ∙ p.0.opened;
@@ -31,24 +32,24 @@ module _ {D : Type 0} (honest : D → Type 0) (state : D → DiskState) where
     (λ h. q.1.0 (p.1.0 h), λ h. p.1.1 (q.1.1 h)),
   )
 
-  pub went_later : (xs : List (Event × Reply)) (a b c : View D) → Stays honest state a b → Went honest state b xs c → Went honest state a xs c
+  pub went_later : (xs : List (Event × Reply)) (a b c : View D) → Stays disks a b → Went disks b xs c → Went disks a xs c
   went_later [] a b c p q = stays_then a b c p q
   went_later (x ∷ xs) a b c p (before, after, s, g, w) = (before, after, stays_then a b before p s, g, w)
 
-  pub went_then : (xs ys : List (Event × Reply)) (a b c : View D) → Went honest state a xs b → Went honest state b ys c → Went honest state a (xs ++ ys) c
+  pub went_then : (xs ys : List (Event × Reply)) (a b c : View D) → Went disks a xs b → Went disks b ys c → Went disks a (xs ++ ys) c
   went_then [] ys a b c p q = went_later ys a b c p q
   went_then (x ∷ xs) ys a b c (before, after, s, g, w) q = (before, after, s, g, went_then xs ys after b c w q)
 
-  pub went_one : (a b : View D) (event : Event) (reply : Reply) → Goes honest state a event reply b → Went honest state a ((event, reply) ∷ []) b
+  pub went_one : (a b : View D) (event : Event) (reply : Reply) → Goes disks a event reply b → Went disks a ((event, reply) ∷ []) b
   went_one a b event reply g = (a, b, stays_same a, g, stays_same b)
 
   -- what was there between the first events and the others
-  pub went_parts : (xs ys : List (Event × Reply)) (a c : View D) → Went honest state a (xs ++ ys) c → (b : View D) × Went honest state a xs b × Went honest state b ys c
+  pub went_parts : (xs ys : List (Event × Reply)) (a c : View D) → Went disks a (xs ++ ys) c → (b : View D) × Went disks a xs b × Went disks b ys c
   went_parts [] ys a c w = (a, stays_same a, w)
   went_parts (x ∷ xs) ys a c (before, after, s, g, w) = let r = went_parts xs ys after c w in (r.0, (before, after, s, g, r.1), r.2)
 
   -- each event has its place in the history
-  pub went_count : (xs : List (Event × Reply)) (a b : View D) → Went honest state a xs b → length b.history ≡ length a.history + length xs
+  pub went_count : (xs : List (Event × Reply)) (a b : View D) → Went disks a xs b → length b.history ≡ length a.history + length xs
   went_count [] a b s = let e : length b.history ≡ length a.history = ap length s.0.history in omega (arith, e)
   went_count (x ∷ xs) a b (before, after, s, g, w) =
       let rest : length b.history ≡ length after.history + length xs = went_count xs after b w in
@@ -57,25 +58,25 @@ module _ {D : Type 0} (honest : D → Type 0) (state : D → DiskState) where
       let one : length (before.history ++ x ∷ []) ≡ length before.history + length (x ∷ []) = length-append before.history (x ∷ []) in
       omega (arith, rest, same, more, one)
 
-  pub went_limit : (xs : List (Event × Reply)) (a b : View D) → Went honest state a xs b → b.limit ≡ a.limit
+  pub went_limit : (xs : List (Event × Reply)) (a b : View D) → Went disks a xs b → b.limit ≡ a.limit
   went_limit [] a b s = s.0.limit
   went_limit (x ∷ xs) a b (before, after, s, g, w) = went_limit xs after b w ∙ g.step.limit ∙ s.0.limit
 
   -- after so many events nothing more is recorded
-  pub went_full : (xs : List (Event × Reply)) (a b : View D) → Went honest state a xs b → a.limit ≤ length xs → b.limit ≤ length b.history
+  pub went_full : (xs : List (Event × Reply)) (a b : View D) → Went disks a xs b → a.limit ≤ length xs → b.limit ≤ length b.history
   went_full xs a b w few = omega (arith, went_count xs a b w, went_limit xs a b w, few)
 
   pub stopped_later : (done more : List (Event × Reply)) (a b c : View D) (event : Event) (r : Refusal)
-      → Went honest state a done b → IsStopped honest state b more event r c → IsStopped honest state a (done ++ more) event r c
+      → Went disks a done b → IsStopped disks b more event r c → IsStopped disks a (done ++ more) event r c
   stopped_later done more a b c event r w s = record {
     added = s.added;
-    went = subst (λ (l : List (Event × Reply)). Went honest state a l c) (sym (append_assoc done more s.added)) (went_then done (more ++ s.added) a b c w s.went);
+    went = subst (λ (l : List (Event × Reply)). Went disks a l c) (sym (append_assoc done more s.added)) (went_then done (more ++ s.added) a b c w s.went);
     refused = s.refused;
   }
 
   -- the event was refused right after these
   pub stopped_next : (done : List (Event × Reply)) (a b c : View D) (event : Event) (r : Refusal)
-      → Went honest state a done b → IsStopped honest state b [] event r c → IsStopped honest state a done event r c
+      → Went disks a done b → IsStopped disks b [] event r c → IsStopped disks a done event r c
   stopped_next done a b c event r w s = record {
     added = s.added;
     went = went_then done s.added a b c w s.went;
@@ -84,7 +85,7 @@ module _ {D : Type 0} (honest : D → Type 0) (state : D → DiskState) where
 
   -- it would be refused after these, for a reason that stands
   pub stopped_unrecorded : (done : List (Event × Reply)) (a b : View D) (event : Event) (r : Refusal)
-      → Went honest state a done b → IsUnrecorded b r → IsStopped honest state a done event r b
+      → Went disks a done b → IsUnrecorded b r → IsStopped disks a done event r b
   stopped_unrecorded done a b event r w why = record {
     added = [];
     went = went_then done [] a b b w (stays_same b);
@@ -92,17 +93,17 @@ module _ {D : Type 0} (honest : D → Type 0) (state : D → DiskState) where
   }
 
   -- an event that isn't refused
-  pub goes_on : (old : View D) (event : Event) (reply : Reply) (new : View D) → IsNoRefusal reply → Applies honest state old event reply new
-      → WritesBack old.store event reply new.store → honest old.disk ↔ honest new.disk → Goes honest state old event reply new
+  pub goes_on : (old : View D) (event : Event) (reply : Reply) (new : View D) → IsNoRefusal reply → Applies disks old event reply new
+      → WritesBack old.store event reply new.store → disks.honest old.disk ↔ disks.honest new.disk → Goes disks old event reply new
   goes_on old event reply new none (inl full) writeback same = absurd (subst IsNoRefusal full.reply_is none)
   goes_on old event reply new none (inr step) writeback same = record { step = step; writeback = writeback; stays_honest = same }
 
   -- an event that is refused
-  refusal : (old : View D) (event : Event) (r : Refusal) (new : View D) → Applies honest state old event (Refused r) new
-      → WritesBack old.store event (Refused r) new.store → honest old.disk ↔ honest new.disk → IsStopped honest state old [] event r new
+  refusal : (old : View D) (event : Event) (r : Refusal) (new : View D) → Applies disks old event (Refused r) new
+      → WritesBack old.store event (Refused r) new.store → disks.honest old.disk ↔ disks.honest new.disk → IsStopped disks old [] event r new
   refusal old event r new (inl full) writeback same = record {
     added = [];
-    went = subst (Stays honest state old) (sym full.same) (stays_same old);
+    went = subst (Stays disks old) (sym full.same) (stays_same old);
     refused = inr (refl, inr (same_refusal r HistoryFull full.reply_is, subst (λ (v : View D). v.limit ≤ length v.history) (sym full.same) full.full));
   }
   refusal old event r new (inr step) writeback same = record {
@@ -111,15 +112,15 @@ module _ {D : Type 0} (honest : D → Type 0) (state : D → DiskState) where
     refused = inl refl;
   }
 
-  pub declined : (old : View D) (event : Event) (reply : Reply) (r : Refusal) (new : View D) → reply ≡ Refused r → Applies honest state old event reply new
-      → WritesBack old.store event reply new.store → honest old.disk ↔ honest new.disk → IsStopped honest state old [] event r new
+  pub declined : (old : View D) (event : Event) (reply : Reply) (r : Refusal) (new : View D) → reply ≡ Refused r → Applies disks old event reply new
+      → WritesBack old.store event reply new.store → disks.honest old.disk ↔ disks.honest new.disk → IsStopped disks old [] event r new
   declined old event reply r new is applies writeback same =
-      refusal old event r new (subst (λ (x : Reply). Applies honest state old event x new) is applies) (subst (λ (x : Reply). WritesBack old.store event x new.store) is writeback) same
+      refusal old event r new (subst (λ (x : Reply). Applies disks old event x new) is applies) (subst (λ (x : Reply). WritesBack old.store event x new.store) is writeback) same
 
   -- one event, with its reply, in other words
-  pub went_as : (old new : View D) (event event' : Event) (reply reply' : Reply) → event ≡ event' → reply ≡ reply' → Goes honest state old event reply new → Went honest state old ((event', reply') ∷ []) new
+  pub went_as : (old new : View D) (event event' : Event) (reply reply' : Reply) → event ≡ event' → reply ≡ reply' → Goes disks old event reply new → Went disks old ((event', reply') ∷ []) new
   went_as old new event event' reply reply' e r g =
-      subst (λ (x : Event). Went honest state old ((x, reply') ∷ []) new) e (subst (λ (x : Reply). Went honest state old ((event, x) ∷ []) new) r (went_one old new event reply g))
+      subst (λ (x : Event). Went disks old ((x, reply') ∷ []) new) e (subst (λ (x : Reply). Went disks old ((event, x) ∷ []) new) r (went_one old new event reply g))
 
-  pub stopped_as : (old new : View D) (event event' : Event) (r : Refusal) → event ≡ event' → IsStopped honest state old [] event r new → IsStopped honest state old [] event' r new
-  stopped_as old new event event' r e s = subst (λ (x : Event). IsStopped honest state old [] x r new) e s
+  pub stopped_as : (old new : View D) (event event' : Event) (r : Refusal) → event ≡ event' → IsStopped disks old [] event r new → IsStopped disks old [] event' r new
+  stopped_as old new event event' r e s = subst (λ (x : Event). IsStopped disks old [] x r new) e s

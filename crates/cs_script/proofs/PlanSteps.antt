@@ -13,6 +13,7 @@ use Rattle.cs_deps.specs.Staging.{IsKept, Staging}
 use Rattle.cs_deps.specs.State.{everything}
 use Rattle.cs_deps.specs.Turns.{LeadTo}
 use Rattle.cs_deps.proofs.InTurn.{are_queues, everything_is_all, in_turn_is_a_plan}
+use Rattle.cs_disk.specs.declared.disk.PageDisk.{Ghosts as PageDisk}
 use Rattle.cs_plan.specs.Best.{IsBestPlan}
 use Rattle.cs_disk.specs.Disk.{State as DiskState}
 use Rattle.cs_core.specs.declared.events.Event.TheVariants.{Stage}
@@ -61,12 +62,12 @@ pub on_ok : {T E : Type 0} (r : Result T E) (P : Type 0) → P → OnOk r P
 on_ok (Ok v) P p = p
 on_ok (Err e) P p = tt
 
-module _ {D : Type 0} (honest : D → Type 0) (state : D → DiskState) where
+module _ {D : Type 0} (disks : PageDisk D) where
   -- the Stage before a plan
-  pub stages : (old new : View D) (reply : Reply) → old.store.out ≡ None → Goes honest state old Stage reply new → MayAnswer Stage reply → IsNoRefusal reply → Stages honest state old new
-  stages old new reply none g may done = (none, reply, staged_of reply may done, went_one honest state old new Stage reply g)
+  pub stages : (old new : View D) (reply : Reply) → old.store.out ≡ None → Goes disks old Stage reply new → MayAnswer Stage reply → IsNoRefusal reply → Stages disks old new
+  stages old new reply none g may done = (none, reply, staged_of reply may done, went_one disks old new Stage reply g)
 
   -- there is no memory for the plan
-  pub plan_refused : {T : Type 0} (old new : View D) (result : Result T Refusal) → Stages honest state old new → IfErr result (λ r. r ≡ OutOfMemory) → IfErr result (λ r. IsPlanRefused honest state old new r)
+  pub plan_refused : {T : Type 0} (old new : View D) (result : Result T Refusal) → Stages disks old new → IfErr result (λ r. r ≡ OutOfMemory) → IfErr result (λ r. IsPlanRefused disks old new r)
   plan_refused old new (Ok v) staged is = tt
   plan_refused old new (Err r) staged is = inr (inr (staged, is))

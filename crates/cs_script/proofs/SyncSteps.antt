@@ -7,6 +7,7 @@ use Rattle.cs_deps.specs.declared.elements.Element.{Element}
 use Rattle.cs_deps.specs.declared.refusals.Refusal.{Refusal}
 use Rattle.cs_deps.specs.declared.refusals.Refusal.TheVariants.{HistoryFull, OutOfMemory}
 use Rattle.cs_deps.specs.Staging.{IsKept}
+use Rattle.cs_disk.specs.declared.disk.PageDisk.{Ghosts as PageDisk}
 use Rattle.cs_disk.specs.Disk.{State as DiskState}
 use Rattle.cs_core.specs.declared.events.Event.{Event}
 use Rattle.cs_core.specs.declared.events.Event.TheVariants.{Begin, End, Stage}
@@ -57,26 +58,26 @@ pub if_same : {T : Type 0} (result : Result T Stop) (P : Stop → Type 0) (old :
 if_same (Ok v) P old is p = tt
 if_same (Err stop) P old is p = subst P (sym is) p
 
-module _ {D : Type 0} (honest : D → Type 0) (state : D → DiskState) where
+module _ {D : Type 0} (disks : PageDisk D) where
   -- so many rounds were written and printed
   pub record RoundsSoFar (old new : View D) (before after : Option (List ℕ)) (ended : ℕ) : Type 0 where
     pub turns : List Turn
     pub counted : ended ≡ length turns
-    pub went : Went honest state old (events_of_all turns) new
+    pub went : Went disks old (events_of_all turns) new
     pub lines : Appends before after (round_lines 1 (rounds_of turns))
 
   pub so_far_more : (a b c : View D) (before mid after : Option (List ℕ)) (ended : ℕ) (round : List Element) → RoundsSoFar a b before mid ended
-      → (turn : Turn) × (elements_of turn ≡ round) × Went honest state b (events_of turn) c → Appends mid after (round_line (ended + 1) round) → RoundsSoFar a c before after (ended + 1)
+      → (turn : Turn) × (elements_of turn ≡ round) × Went disks b (events_of turn) c → Appends mid after (round_line (ended + 1) round) → RoundsSoFar a c before after (ended + 1)
   so_far_more a b c before mid after ended round so (turn, is, w) printed =
       let rounds = rounds_of so.turns in
-      let all : Went honest state a (events_of_all so.turns ++ events_of turn) c = went_then honest state (events_of_all so.turns) (events_of turn) a b c so.went w in
+      let all : Went disks a (events_of_all so.turns ++ events_of turn) c = went_then disks (events_of_all so.turns) (events_of turn) a b c so.went w in
       let one : length (so.turns ++ turn ∷ []) ≡ length so.turns + length (turn ∷ []) = length-append so.turns (turn ∷ []) in
       let same : length rounds ≡ length so.turns = Rattle.std.proofs.lemmas.List.length-map so.turns elements_of in
       let number : ended + 1 ≡ 1 + length rounds = omega (arith, so.counted, same) in
       let more : rounds_of (so.turns ++ turn ∷ []) ≡ rounds ++ round ∷ [] = map-append elements_of so.turns (turn ∷ []) ∙ ap (λ (l : List Element). rounds ++ l ∷ []) is in record {
         turns = so.turns ++ turn ∷ [];
         counted = omega (arith, so.counted, one);
-        went = subst (λ (l : List (Event × Reply)). Went honest state a l c) (sym (all_more so.turns turn)) all;
+        went = subst (λ (l : List (Event × Reply)). Went disks a l c) (sym (all_more so.turns turn)) all;
         lines = appends_same before after (round_lines 1 rounds ++ round_line (ended + 1) round) (round_lines 1 (rounds_of (so.turns ++ turn ∷ [])))
             (ap (λ n. round_lines 1 rounds ++ round_line n round) number ∙ sym (round_lines_more 1 rounds round) ∙ ap (round_lines 1) (sym more))
             (appends_then before mid after (round_lines 1 rounds) (round_line (ended + 1) round) so.lines printed);
@@ -84,51 +85,51 @@ module _ {D : Type 0} (honest : D → Type 0) (state : D → DiskState) where
 
   -- an event of the next round is refused
   pub stops_in_rounds : (a b c : View D) (before after : Option (List ℕ)) (ended : ℕ) (r : Refusal) → RoundsSoFar a b before after ended
-      → (part : List (Event × Reply)) × (event : Event) × IsPart part event × IsStopped honest state b part event r c → StopsInRounds honest state a c before after (Refused r)
+      → (part : List (Event × Reply)) × (event : Event) × IsPart part event × IsStopped disks b part event r c → StopsInRounds disks a c before after (Refused r)
   stops_in_rounds a b c before after ended r so (part, event, is, s) =
-      (so.turns, part, event, is, stopped_later honest state (events_of_all so.turns) part a b c event r so.went s, so.lines)
+      (so.turns, part, event, is, stopped_later disks (events_of_all so.turns) part a b c event r so.went s, so.lines)
 
   -- the next round can't begin, since the history stands at its limit
   pub stops_full : (a b : View D) (before after : Option (List ℕ)) (ended limit : ℕ) → limit ≡ a.limit → limit ≤ ended → RoundsSoFar a b before after ended
-      → StopsInRounds honest state a b before after (Refused HistoryFull)
+      → StopsInRounds disks a b before after (Refused HistoryFull)
   stops_full a b before after ended limit is few so =
-      let full : b.limit ≤ length b.history = went_full honest state (events_of_all so.turns) a b so.went (omega (arith, is, few, so.counted, count_all so.turns)) in
-      let all : Went honest state a (events_of_all so.turns ++ []) b = went_then honest state (events_of_all so.turns) [] a b b so.went (stays_same honest state b) in
-      (so.turns, [], Begin, inl (refl, refl), stopped_unrecorded honest state (events_of_all so.turns ++ []) a b Begin HistoryFull all (inr (refl, full)), so.lines)
+      let full : b.limit ≤ length b.history = went_full disks (events_of_all so.turns) a b so.went (omega (arith, is, few, so.counted, count_all so.turns)) in
+      let all : Went disks a (events_of_all so.turns ++ []) b = went_then disks (events_of_all so.turns) [] a b b so.went (stays_same disks b) in
+      (so.turns, [], Begin, inl (refl, refl), stopped_unrecorded disks (events_of_all so.turns ++ []) a b Begin HistoryFull all (inr (refl, full)), so.lines)
 
   -- the round that was out is ended
-  pub finishes_none : (old ended : View D) (out : List ℕ) → Finishes honest state old ended out → ended.store.out ≡ None
+  pub finishes_none : (old ended : View D) (out : List ℕ) → Finishes disks old ended out → ended.store.out ≡ None
   finishes_none old ended out (inl (none, stays, is)) = ap (λ (v : Stored). v.out) stays.0.store ∙ none
   finishes_none old ended out (inr (some, members, frontier, w, is)) =
-      let last = (went_parts honest state (issues members) ((End, Ended frontier) ∷ []) old ended w).2 in
+      let last = (went_parts disks (issues members) ((End, Ended frontier) ∷ []) old ended w).2 in
       ap (λ (v : Stored). v.out) last.4.0.store ∙ last.3.writeback.out
 
   -- nothing is out after the Stage
-  pub none_staged : (old ended staged : View D) (before after : Option (List ℕ)) (reply : Reply) → (out : List ℕ) × Finishes honest state old ended out × Appends before after out
-      → Goes honest state ended Stage reply staged → MayAnswer Stage reply → IsNoRefusal reply → staged.store.out ≡ None
+  pub none_staged : (old ended staged : View D) (before after : Option (List ℕ)) (reply : Reply) → (out : List ℕ) × Finishes disks old ended out × Appends before after out
+      → Goes disks ended Stage reply staged → MayAnswer Stage reply → IsNoRefusal reply → staged.store.out ≡ None
   none_staged old ended staged before after reply (out, finishes, printed) g may none =
       (stage_does ended.store staged.store reply may none g.writeback).1 ∙ finishes_none old ended out finishes
 
   -- the Stage is refused
-  pub stops_at_stage : (old ended new : View D) (before after : Option (List ℕ)) (r : Refusal) → (out : List ℕ) × Finishes honest state old ended out × Appends before after out
-      → IsStopped honest state ended [] Stage r new → StopsAfter honest state old new before after (Refused r)
+  pub stops_at_stage : (old ended new : View D) (before after : Option (List ℕ)) (r : Refusal) → (out : List ℕ) × Finishes disks old ended out × Appends before after out
+      → IsStopped disks ended [] Stage r new → StopsAfter disks old new before after (Refused r)
   stops_at_stage old ended new before after r (out, finishes, printed) s =
       (out, inr (record { ended = ended; first = out; finishes = finishes; turns = []; stopped = inl (refl, s); printed = sym (append-nil out) }), printed)
 
   -- there is no memory for the plan
-  pub stops_at_plan : (old ended staged : View D) (before after : Option (List ℕ)) (reply : Reply) (r : Refusal) → (out : List ℕ) × Finishes honest state old ended out × Appends before after out
-      → Goes honest state ended Stage reply staged → MayAnswer Stage reply → IsNoRefusal reply → r ≡ OutOfMemory → StopsAfter honest state old staged before after (Refused r)
+  pub stops_at_plan : (old ended staged : View D) (before after : Option (List ℕ)) (reply : Reply) (r : Refusal) → (out : List ℕ) × Finishes disks old ended out × Appends before after out
+      → Goes disks ended Stage reply staged → MayAnswer Stage reply → IsNoRefusal reply → r ≡ OutOfMemory → StopsAfter disks old staged before after (Refused r)
   stops_at_plan old ended staged before after reply r (out, finishes, printed) g may none is =
-      let s : IsStopped honest state ended ((Stage, reply) ∷ []) Begin r staged =
-      stopped_unrecorded honest state ((Stage, reply) ∷ []) ended staged Begin r (went_one honest state ended staged Stage reply g) (inl is) in
+      let s : IsStopped disks ended ((Stage, reply) ∷ []) Begin r staged =
+      stopped_unrecorded disks ((Stage, reply) ∷ []) ended staged Begin r (went_one disks ended staged Stage reply g) (inl is) in
       (out, inr (record { ended = ended; first = out; finishes = finishes; turns = []; stopped = inr (reply, staged_of reply may none, [], Begin, inl (refl, refl), s); printed = sym (append-nil out) }), printed)
 
   -- an event of a round is refused
-  pub stops_later : (old ended staged new : View D) (before mid after : Option (List ℕ)) (reply : Reply) (stop : Stop) → (out : List ℕ) × Finishes honest state old ended out × Appends before mid out
-      → Goes honest state ended Stage reply staged → MayAnswer Stage reply → IsNoRefusal reply → StopsInRounds honest state staged new mid after stop → StopsAfter honest state old new before after stop
+  pub stops_later : (old ended staged new : View D) (before mid after : Option (List ℕ)) (reply : Reply) (stop : Stop) → (out : List ℕ) × Finishes disks old ended out × Appends before mid out
+      → Goes disks ended Stage reply staged → MayAnswer Stage reply → IsNoRefusal reply → StopsInRounds disks staged new mid after stop → StopsAfter disks old new before after stop
   stops_later old ended staged new before mid after reply (Refused r) (out, finishes, printed) g may none (turns, part, event, is, s, lines) =
-      let all : IsStopped honest state ended ((Stage, reply) ∷ events_of_all turns ++ part) event r new =
-      stopped_later honest state ((Stage, reply) ∷ []) (events_of_all turns ++ part) ended staged new event r (went_one honest state ended staged Stage reply g) s in (
+      let all : IsStopped disks ended ((Stage, reply) ∷ events_of_all turns ++ part) event r new =
+      stopped_later disks ((Stage, reply) ∷ []) (events_of_all turns ++ part) ended staged new event r (went_one disks ended staged Stage reply g) s in (
         out ++ round_lines 1 (rounds_of turns),
         inr (record { ended = ended; first = out; finishes = finishes; turns = turns; stopped = inr (reply, staged_of reply may none, part, event, is, all); printed = refl }),
         appends_then before mid after out (round_lines 1 (rounds_of turns)) printed lines,
@@ -136,23 +137,23 @@ module _ {D : Type 0} (honest : D → Type 0) (state : D → DiskState) where
   stops_later old ended staged new before mid after reply (Output e) first g may none rounds = tt
 
   -- the refusal is printed
-  pub stops : (old new : View D) (before mid after : Option (List ℕ)) (r : Refusal) → StopsAfter honest state old new before mid (Refused r) → Appends mid after (refusal_line r)
-      → (out : List ℕ) × Answers honest state says_sync old new out × Appends before after out
+  pub stops : (old new : View D) (before mid after : Option (List ℕ)) (r : Refusal) → StopsAfter disks old new before mid (Refused r) → Appends mid after (refusal_line r)
+      → (out : List ℕ) × Answers disks says_sync old new out × Appends before after out
   stops old new before mid after r (out, stopped, printed) last =
       (out ++ refusal_line r, inr (r, out, stopped, refl), appends_then before mid after out (refusal_line r) printed last)
 
   -- all is printed
   pub synced : (old ended staged new : View D) (c0 c1 c2 c3 c4 c5 : Option (List ℕ)) (reply : Reply) (planned : List (List Element)) (chain : List Element) (n m : ℕ)
-      → (out : List ℕ) × Finishes honest state old ended out × Appends c0 c1 out → Goes honest state ended Stage reply staged → MayAnswer Stage reply → IsNoRefusal reply
+      → (out : List ℕ) × Finishes disks old ended out × Appends c0 c1 out → Goes disks ended Stage reply staged → MayAnswer Stage reply → IsNoRefusal reply
       → IsKept staged.store.graph.staging → IsBestOfAll staged.store planned chain
-      → (turns : List Turn) × (n ≡ length turns) × Went honest state staged (events_of_all turns) new × Appends c1 c2 (round_lines 1 (rounds_of turns))
+      → (turns : List Turn) × (n ≡ length turns) × Went disks staged (events_of_all turns) new × Appends c1 c2 (round_lines 1 (rounds_of turns))
       → new.store.graph.staging.pending.waiting ≡ []
       → Appends c2 c3 (chain_line chain) → Appends c3 c4 (flushes_line n) → m ≡ new.store.frontier → Appends c4 c5 (acknowledged_line m)
-      → (out : List ℕ) × Syncs honest state old new out × Appends c0 c5 out
+      → (out : List ℕ) × Syncs disks old new out × Appends c0 c5 out
   synced old ended staged new c0 c1 c2 c3 c4 c5 reply planned chain n m (first, finishes, a) g may none kept best (turns, count, w, b) waits c d frontier e =
       let does = stage_does ended.store staged.store reply may none g.writeback in
       let out_none : staged.store.out ≡ None = does.1 ∙ finishes_none old ended first finishes in
-      let leads = went_turns honest state turns staged new w in
+      let leads = went_turns disks turns staged new w in
       let lines = first ++ round_lines 1 (rounds_of turns) in (
         ((lines ++ chain_line chain) ++ flushes_line n) ++ acknowledged_line m,
         record {
@@ -161,7 +162,7 @@ module _ {D : Type 0} (honest : D → Type 0) (state : D → DiskState) where
           finishes = finishes;
           staged = staged;
           reply = reply;
-          stages = went_one honest state ended staged Stage reply g;
+          stages = went_one disks ended staged Stage reply g;
           is_staged = staged_of reply may none;
           turns = turns;
           chain = chain;

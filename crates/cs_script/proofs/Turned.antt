@@ -8,6 +8,7 @@ use Rattle.cs_deps.specs.Pending.{Pending}
 use Rattle.cs_deps.specs.Staging.{Staging, settled}
 use Rattle.cs_deps.specs.State.{IsQueue}
 use Rattle.cs_deps.specs.Turns.{LeadTo}
+use Rattle.cs_disk.specs.declared.disk.PageDisk.{Ghosts as PageDisk}
 use Rattle.cs_disk.specs.Disk.{State as DiskState}
 use Rattle.cs_index.proofs.Sorted.{take_at_get}
 use Rattle.cs_core.specs.declared.events.Event.{Event}
@@ -82,17 +83,17 @@ turned v0 v1 v2 v3 round xs frontier begun issued ended =
       },
     )
 
-module _ {D : Type 0} (honest : D → Type 0) (state : D → DiskState) where
-  went_issues : (members : Members) (a b : View D) → Went honest state a (issues members) b → AreIssued a.store b.store (map (λ m. m.0) members)
+module _ {D : Type 0} (disks : PageDisk D) where
+  went_issues : (members : Members) (a b : View D) → Went disks a (issues members) b → AreIssued a.store b.store (map (λ m. m.0) members)
   went_issues [] a b s = subst (λ (v : Stored). AreIssued a.store v []) (sym s.0.store) (issued_none a.store)
   went_issues (m ∷ members) a b (before, after, s, g, w) =
       let one : IsMemberIssued m.0 a.store after.store = subst (λ (v : Stored). IsMemberIssued m.0 v after.store) s.0.store g.writeback in
       issued_more a.store after.store b.store m.0 (map (λ m. m.0) members) one (went_issues members after b w)
 
-  went_rest : (round : List Element) (members : Members) (frontier : ℕ) (v0 : Stored) (a b : View D) → IsRoundBegun round v0 a.store → Went honest state a (rest_of_round members frontier) b
+  went_rest : (round : List Element) (members : Members) (frontier : ℕ) (v0 : Stored) (a b : View D) → IsRoundBegun round v0 a.store → Went disks a (rest_of_round members frontier) b
       → (map (λ m. m.0) members ≡ round) × IsTurned v0 b.store round
   went_rest round members frontier v0 a b begun w =
-      let r = went_parts honest state (issues members) ((End, Ended frontier) ∷ []) a b w in
+      let r = went_parts disks (issues members) ((End, Ended frontier) ∷ []) a b w in
       let mid : View D = r.0 in
       let issued : AreIssued a.store mid.store (map (λ m. m.0) members) = went_issues members a mid r.1 in
       let last = r.2 in
@@ -101,28 +102,28 @@ module _ {D : Type 0} (honest : D → Type 0) (state : D → DiskState) where
       turned v0 a.store mid.store b.store round (map (λ m. m.0) members) frontier begun issued ended_then
 
   -- a turn does to the store what its round does
-  pub went_turn : (turn : Turn) (a b : View D) → Went honest state a (events_of turn) b → IsTurned a.store b.store (elements_of turn)
+  pub went_turn : (turn : Turn) (a b : View D) → Went disks a (events_of turn) b → IsTurned a.store b.store (elements_of turn)
   went_turn turn a b (before, after, s, g, w) =
       let begun : IsRoundBegun (elements_of turn) a.store after.store = subst (λ (v : Stored). IsRoundBegun (elements_of turn) v after.store) s.0.store g.writeback in
       (went_rest (elements_of turn) turn.members turn.frontier a.store after b begun w).1
 
   -- a round that began and was then finished is a turn of its members
-  pub turn_of : (round : List Element) (a b c : View D) → Goes honest state a Begin (Begun round) b → (frontier : ℕ) → (members : Members) × Went honest state b (rest_of_round members frontier) c
-      → (turn : Turn) × (elements_of turn ≡ round) × Went honest state a (events_of turn) c
+  pub turn_of : (round : List Element) (a b c : View D) → Goes disks a Begin (Begun round) b → (frontier : ℕ) → (members : Members) × Went disks b (rest_of_round members frontier) c
+      → (turn : Turn) × (elements_of turn ≡ round) × Went disks a (events_of turn) c
   turn_of round a b c g frontier (members, w) =
       let same : map (λ m. m.0) members ≡ round = (went_rest round members frontier a.store b c g.writeback w).0 in
-      let begin : Went honest state a ((Begin, Begun round) ∷ rest_of_round members frontier) c = (a, b, stays_same honest state a, g, w) in (
+      let begin : Went disks a ((Begin, Begun round) ∷ rest_of_round members frontier) c = (a, b, stays_same disks a, g, w) in (
         record { members = members; frontier = frontier },
         same,
-        subst (λ (l : List Element). Went honest state a ((Begin, Begun l) ∷ rest_of_round members frontier) c) (sym same) begin,
+        subst (λ (l : List Element). Went disks a ((Begin, Begun l) ∷ rest_of_round members frontier) c) (sym same) begin,
       )
 
   -- turns one after another lead from what waited to what waits
-  pub went_turns : (turns : List Turn) (a b : View D) → Went honest state a (events_of_all turns) b
+  pub went_turns : (turns : List Turn) (a b : View D) → Went disks a (events_of_all turns) b
       → LeadTo a.store.graph.staging.pending (rounds_of turns) b.store.graph.staging.pending × (a.store.out ≡ None → b.store.out ≡ None) × (b.store.index ≡ a.store.index)
   went_turns [] a b s = (ap (λ (v : Stored). v.graph.staging.pending) s.0.store, λ none. ap (λ (v : Stored). v.out) s.0.store ∙ none, ap (λ (v : Stored). v.index) s.0.store)
   went_turns (turn ∷ turns) a c w =
-      let parts = went_parts honest state (events_of turn) (events_of_all turns) a c w in
+      let parts = went_parts disks (events_of turn) (events_of_all turns) a c w in
       let b : View D = parts.0 in
       let t : IsTurned a.store b.store (elements_of turn) = went_turn turn a b parts.1 in
       let rest = went_turns turns b c parts.2 in (
@@ -132,49 +133,49 @@ module _ {D : Type 0} (honest : D → Type 0) (state : D → DiskState) where
       )
 
   -- one member more was issued
-  pub one_issue_more : (a b c : View D) (reply : Reply) → (members : Members) × Went honest state a (issues members) b → Goes honest state b Issue reply c
-      → MayAnswer Issue reply → IsNoRefusal reply → (members : Members) × Went honest state a (issues members) c
+  pub one_issue_more : (a b c : View D) (reply : Reply) → (members : Members) × Went disks a (issues members) b → Goes disks b Issue reply c
+      → MayAnswer Issue reply → IsNoRefusal reply → (members : Members) × Went disks a (issues members) c
   one_issue_more a b c reply (members, w) g may none =
       let r = issued_of reply may none in
-      let last : Went honest state b ((Issue, Issued r.0 r.1) ∷ []) c = subst (λ (x : Reply). Went honest state b ((Issue, x) ∷ []) c) r.2 (went_one honest state b c Issue reply g) in
-      let all = went_then honest state (issues members) ((Issue, Issued r.0 r.1) ∷ []) a b c w last in
+      let last : Went disks b ((Issue, Issued r.0 r.1) ∷ []) c = subst (λ (x : Reply). Went disks b ((Issue, x) ∷ []) c) r.2 (went_one disks b c Issue reply g) in
+      let all = went_then disks (issues members) ((Issue, Issued r.0 r.1) ∷ []) a b c w last in
       let more : issues (members ++ (r.0, r.1) ∷ []) ≡ issues members ++ (Issue, Issued r.0 r.1) ∷ [] = map-append (λ (m : Element × ℕ). (Issue, Issued m.0 m.1)) members ((r.0, r.1) ∷ []) in
-      (members ++ (r.0, r.1) ∷ [], subst (λ (l : List (Event × Reply)). Went honest state a l c) (sym more) all)
+      (members ++ (r.0, r.1) ∷ [], subst (λ (l : List (Event × Reply)). Went disks a l c) (sym more) all)
 
   -- the round has ended
-  pub finished : (a b c : View D) (reply : Reply) (frontier : ℕ) → reply ≡ Ended frontier → (members : Members) × Went honest state a (issues members) b
-      → Goes honest state b End reply c → (members : Members) × Went honest state a (rest_of_round members frontier) c
+  pub finished : (a b c : View D) (reply : Reply) (frontier : ℕ) → reply ≡ Ended frontier → (members : Members) × Went disks a (issues members) b
+      → Goes disks b End reply c → (members : Members) × Went disks a (rest_of_round members frontier) c
   finished a b c reply frontier is (members, w) g =
-      let last : Went honest state b ((End, Ended frontier) ∷ []) c = subst (λ (x : Reply). Went honest state b ((End, x) ∷ []) c) is (went_one honest state b c End reply g) in
-      (members, went_then honest state (issues members) ((End, Ended frontier) ∷ []) a b c w last)
+      let last : Went disks b ((End, Ended frontier) ∷ []) c = subst (λ (x : Reply). Went disks b ((End, x) ∷ []) c) is (went_one disks b c End reply g) in
+      (members, went_then disks (issues members) ((End, Ended frontier) ∷ []) a b c w last)
 
   -- an event of the round is refused
-  pub rest_refused : (a b c : View D) (event : Event) (r : Refusal) → IsOfRound event → (members : Members) × Went honest state a (issues members) b
-      → IsStopped honest state b [] event r c → (members : Members) × (event : Event) × IsOfRound event × IsStopped honest state a (issues members) event r c
-  rest_refused a b c event r is (members, w) s = (members, event, is, stopped_next honest state (issues members) a b c event r w s)
+  pub rest_refused : (a b c : View D) (event : Event) (r : Refusal) → IsOfRound event → (members : Members) × Went disks a (issues members) b
+      → IsStopped disks b [] event r c → (members : Members) × (event : Event) × IsOfRound event × IsStopped disks a (issues members) event r c
+  rest_refused a b c event r is (members, w) s = (members, event, is, stopped_next disks (issues members) a b c event r w s)
 
   -- the round ends where the End isn't refused
-  pub finished_if : (a b c : View D) (r : Result ℕ Refusal) → (members : Members) × Went honest state a (issues members) b
-      → IfOk r (λ frontier. Goes honest state b End (Ended frontier) c) → IfOk r (λ frontier. (members : Members) × Went honest state a (rest_of_round members frontier) c)
+  pub finished_if : (a b c : View D) (r : Result ℕ Refusal) → (members : Members) × Went disks a (issues members) b
+      → IfOk r (λ frontier. Goes disks b End (Ended frontier) c) → IfOk r (λ frontier. (members : Members) × Went disks a (rest_of_round members frontier) c)
   finished_if a b c (Ok frontier) so g = finished a b c (Ended frontier) frontier refl so g
   finished_if a b c (Err r) so g = tt
 
   -- and else it doesn't
-  pub end_refused_if : (a b c : View D) (r : Result ℕ Refusal) → (members : Members) × Went honest state a (issues members) b
-      → IfErr r (λ refusal. IsStopped honest state b [] End refusal c) → IfErr r (λ refusal. (members : Members) × (event : Event) × IsOfRound event × IsStopped honest state a (issues members) event refusal c)
+  pub end_refused_if : (a b c : View D) (r : Result ℕ Refusal) → (members : Members) × Went disks a (issues members) b
+      → IfErr r (λ refusal. IsStopped disks b [] End refusal c) → IfErr r (λ refusal. (members : Members) × (event : Event) × IsOfRound event × IsStopped disks a (issues members) event refusal c)
   end_refused_if a b c (Ok frontier) so s = tt
   end_refused_if a b c (Err r) so s = rest_refused a b c End r (inr refl) so s
 
   -- the same, with the reply to the Begin
-  pub turn_from : (round : List Element) (a b c : View D) (reply : Reply) → reply ≡ Begun round → Goes honest state a Begin reply b → (frontier : ℕ) → (members : Members) × Went honest state b (rest_of_round members frontier) c
-      → (turn : Turn) × (elements_of turn ≡ round) × Went honest state a (events_of turn) c
-  turn_from round a b c reply is g frontier rest = turn_of round a b c (subst (λ (x : Reply). Goes honest state a Begin x b) is g) frontier rest
+  pub turn_from : (round : List Element) (a b c : View D) (reply : Reply) → reply ≡ Begun round → Goes disks a Begin reply b → (frontier : ℕ) → (members : Members) × Went disks b (rest_of_round members frontier) c
+      → (turn : Turn) × (elements_of turn ≡ round) × Went disks a (events_of turn) c
+  turn_from round a b c reply is g frontier rest = turn_of round a b c (subst (λ (x : Reply). Goes disks a Begin x b) is g) frontier rest
 
   -- an event of the round that began is refused
-  pub part_refused : (round : List Element) (a b c : View D) (reply : Reply) (r : Refusal) → reply ≡ Begun round → Goes honest state a Begin reply b
-      → (members : Members) × (event : Event) × IsOfRound event × IsStopped honest state b (issues members) event r c
-      → (part : List (Event × Reply)) × (event : Event) × IsPart part event × IsStopped honest state a part event r c
+  pub part_refused : (round : List Element) (a b c : View D) (reply : Reply) (r : Refusal) → reply ≡ Begun round → Goes disks a Begin reply b
+      → (members : Members) × (event : Event) × IsOfRound event × IsStopped disks b (issues members) event r c
+      → (part : List (Event × Reply)) × (event : Event) × IsPart part event × IsStopped disks a part event r c
   part_refused round a b c reply r is g (members, event, of_round, s) =
-      let begun : Went honest state a ((Begin, Begun round) ∷ []) b = subst (λ (x : Reply). Went honest state a ((Begin, x) ∷ []) b) is (went_one honest state a b Begin reply g) in
-      let all : IsStopped honest state a ((Begin, Begun round) ∷ issues members) event r c = stopped_later honest state ((Begin, Begun round) ∷ []) (issues members) a b c event r begun s in
+      let begun : Went disks a ((Begin, Begun round) ∷ []) b = subst (λ (x : Reply). Went disks a ((Begin, x) ∷ []) b) is (went_one disks a b Begin reply g) in
+      let all : IsStopped disks a ((Begin, Begun round) ∷ issues members) event r c = stopped_later disks ((Begin, Begun round) ∷ []) (issues members) a b c event r begun s in
       ((Begin, Begun round) ∷ issues members, event, inr (round, members, refl, of_round), all)

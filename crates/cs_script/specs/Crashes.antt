@@ -3,6 +3,8 @@ use Rattle.std.specs.Prelude.{◌≡◌, ◌⊎◌, ◌++◌, ◌↔◌, ℕ, Bo
 use Rattle.cs_chunk.specs.Reads.{IsNoAnswer}
 use Rattle.cs_deps.specs.declared.refusals.Refusal.{Refusal}
 use Rattle.cs_deps.specs.declared.refusals.Refusal.TheVariants.{DeviceFault}
+use Rattle.cs_disk.specs.declared.disk.CrashDisk.{Ghosts as CrashDisk}
+use Rattle.cs_disk.specs.declared.disk.PageDisk.{Ghosts as PageDisk}
 use Rattle.cs_disk.specs.Disk.{Rises, State as DiskState, crashed, flushed, page, seen}
 use Rattle.cs_extent.specs.State.{shape}
 use Rattle.cs_core.specs.Openings.{IsOpened, IsOpeningRefusal, IsWhyNotOpened}
@@ -15,25 +17,25 @@ abbrev pub kept_count : List Bool → ℕ
 kept_count mask = count_by (λ b. b) mask
 
 -- a line `crash` that fits the disk: the disk can crash, and the line has one digit for each of its volatile writes
-abbrev pub IsCrash : {D : Type 0} → (can_crash : D → Type 0) → (volatile_count : D → ℕ) → Said → View D → List Bool → Type 0
-IsCrash can_crash volatile_count said v mask = (said ≡ says_crash mask) × can_crash v.disk × (length mask ≡ volatile_count v.disk)
+abbrev pub IsCrash : {D : Type 0} → (crashing : CrashDisk D) → Said → View D → List Bool → Type 0
+IsCrash crashing said v mask = (said ≡ says_crash mask) × crashing.can_crash v.disk × (length mask ≡ crashing.volatile_count v.disk)
 
-module _ {D : Type 0} (honest : D → Type 0) (state : D → DiskState) (page_count : D → ℕ) (can_crash : D → Type 0) (volatile_count : D → ℕ) (failure_count : D → ℕ) where
+module _ {D : Type 0} (disks : PageDisk D) (crashing : CrashDisk D) where
   -- The disk crashed, and kept those of its volatile writes for which the mask says true.
   pub record IsCrashed (mask : List Bool) (before after : D) : Type 0 where
-    pub image : honest before → state after ≡ crashed (state before) mask
-    pub stays_honest : honest before ↔ honest after
-    pub pages : page_count after ≡ page_count before
-    pub failures : failure_count after ≡ failure_count before
+    pub image : disks.honest before → disks.state after ≡ crashed (disks.state before) mask
+    pub stays_honest : disks.honest before ↔ disks.honest after
+    pub pages : disks.page_count after ≡ disks.page_count before
+    pub failures : disks.failure_count after ≡ disks.failure_count before
 
   -- The store on a disk is opened: a core with an empty history and the same limit, and with the numbers of the image.
   pub record IsReopened (disk : D) (limit : ℕ) (new : View D) : Type 0 where
     pub history : new.history ≡ []
     pub limit_is : new.limit ≡ limit
-    pub image : honest disk → (new.opened ≡ seen (state disk)) × (state new.disk ≡ flushed (state disk))
-    pub store : IsOpened (honest disk) new.opened new.found new.store
-    pub found : honest disk → IsFound (shape new.store.extents) new.opened new.found
-    pub stays_honest : honest disk ↔ honest new.disk
+    pub image : disks.honest disk → (new.opened ≡ seen (disks.state disk)) × (disks.state new.disk ≡ flushed (disks.state disk))
+    pub store : IsOpened (disks.honest disk) new.opened new.found new.store
+    pub found : disks.honest disk → IsFound (shape new.store.extents) new.opened new.found
+    pub stays_honest : disks.honest disk ↔ disks.honest new.disk
 
   -- the core that goes on after a crash
   abbrev pub Reopens : List Bool → (old new : View D) → Type 0
@@ -44,11 +46,11 @@ module _ {D : Type 0} (honest : D → Type 0) (state : D → DiskState) (page_co
   pub record IsOpeningRefused (disk : D) (r : Refusal) : Type 0 where
     pub after : D
     pub number : IsOpeningRefusal r
-    pub why : honest disk → IsNoAnswer r ⊎ IsWhyNotOpened (page_count disk) (page (seen (state disk))) r
-    pub kept : honest disk → (state after ≡ state disk) ⊎ (state after ≡ flushed (state disk))
-    pub stays_honest : honest disk ↔ honest after
-    pub pages : page_count after ≡ page_count disk
-    pub cause : r ≡ DeviceFault → Rises (failure_count disk) (failure_count after)
+    pub why : disks.honest disk → IsNoAnswer r ⊎ IsWhyNotOpened (disks.page_count disk) (page (seen (disks.state disk))) r
+    pub kept : disks.honest disk → (disks.state after ≡ disks.state disk) ⊎ (disks.state after ≡ flushed (disks.state disk))
+    pub stays_honest : disks.honest disk ↔ disks.honest after
+    pub pages : disks.page_count after ≡ disks.page_count disk
+    pub cause : r ≡ DeviceFault → Rises (disks.failure_count disk) (disks.failure_count after)
 
   -- no store is opened after a crash
   abbrev pub IsNotReopened : List Bool → View D → Refusal → Type 0
@@ -61,5 +63,5 @@ module _ {D : Type 0} (honest : D → Type 0) (state : D → DiskState) (page_co
 
   -- the disk crashes, and the store that is left isn't opened: that is printed
   abbrev pub CrashesForGood : Said → View D → List ℕ → Type 0
-  CrashesForGood said old out = (mask : List Bool) × IsCrash can_crash volatile_count said old mask × (r : Refusal) × IsNotReopened mask old r
+  CrashesForGood said old out = (mask : List Bool) × IsCrash crashing said old mask × (r : Refusal) × IsNotReopened mask old r
       × (out ≡ crash_line (kept_count mask) (length mask) ++ refusal_line r)

@@ -2,6 +2,7 @@
 use Rattle.std.specs.Prelude.{◌≡◌, ◌⊎◌, ◌↔◌, ◌≤◌, ◌∷◌, ◌++◌, List, [], length}
 use Rattle.cs_deps.specs.declared.refusals.Refusal.{Refusal}
 use Rattle.cs_deps.specs.declared.refusals.Refusal.TheVariants.{HistoryFull, OutOfMemory}
+use Rattle.cs_disk.specs.declared.disk.PageDisk.{Ghosts as PageDisk}
 use Rattle.cs_disk.specs.Disk.{State as DiskState}
 use Rattle.cs_core.specs.declared.events.Event.{Event}
 use Rattle.cs_core.specs.declared.events.Reply.{Reply}
@@ -22,16 +23,16 @@ IsUnrecorded new r = (r ≡ OutOfMemory) ⊎ ((r ≡ HistoryFull) × (new.limit 
 abbrev pub IsRefused : {D : Type 0} → (new : View D) → Event → Refusal → List (Event × Reply) → Type 0
 IsRefused new event r xs = (xs ≡ (event, Refused r) ∷ []) ⊎ ((xs ≡ []) × IsUnrecorded new r)
 
-module _ {D : Type 0} (honest : D → Type 0) (state : D → DiskState) where
+module _ {D : Type 0} (disks : PageDisk D) where
   -- nothing was recorded, and nothing has changed but for how much there is room
   abbrev pub Stays : (old new : View D) → Type 0
-  Stays old new = IsUntouched honest state old new × (honest old.disk ↔ honest new.disk)
+  Stays old new = IsUntouched disks old new × (disks.honest old.disk ↔ disks.honest new.disk)
 
   -- one event was recorded with this reply: the machine's step, and what it does to the graph
   pub record Goes (old : View D) (event : Event) (reply : Reply) (new : View D) : Type 0 where
-    pub step : IsStep honest state old event reply new
+    pub step : IsStep disks old event reply new
     pub writeback : WritesBack old.store event reply new.store
-    pub stays_honest : honest old.disk ↔ honest new.disk
+    pub stays_honest : disks.honest old.disk ↔ disks.honest new.disk
 
   -- these events were recorded with their replies, one after another, and no others
   abbrev pub Went : (old : View D) → List (Event × Reply) → (new : View D) → Type 0

@@ -2,6 +2,7 @@
 use Rattle.std.specs.Prelude.{◌≡◌, ◌⊎◌, ◌≤◌, ◌++◌, ℕ, Bool, List, Result, Ok, Err, codes, decimal}
 use Rattle.cs_deps.specs.declared.refusals.Refusal.{Refusal}
 use Rattle.cs_deps.specs.declared.refusals.Refusal.TheVariants.{OutOfMemory, WornOut}
+use Rattle.cs_disk.specs.declared.disk.PageDisk.{Ghosts as PageDisk}
 use Rattle.cs_disk.specs.Disk.{State as DiskState}
 use Rattle.cs_node.specs.declared.rests.Unclosed.{Unclosed}
 use Rattle.cs_node.specs.declared.rests.Unclosed.TheVariants.{Missing}
@@ -58,12 +59,12 @@ CloseAnswers rest purses (Ok n) = Accounted rest.core rest.given purses × (n �
 CloseAnswers rest purses (Err why) = Fails rest purses why
 
 -- a core with this start, whose history is a run of the store's machine where the disk is honest, was closed so
-pub record IsAnswer {D : Type 0} (honest : D → Type 0) (state : D → DiskState) (start : Start) (rest : RestView D) (purses : List Holdings) (answer : Result ℕ Unclosed) : Type 0 where
-  pub behind : IsBehind honest state start rest.core
+pub record IsAnswer {D : Type 0} (disks : PageDisk D) (start : Start) (rest : RestView D) (purses : List Holdings) (answer : Result ℕ Unclosed) : Type 0 where
+  pub behind : IsBehind disks start rest.core
   pub closed : CloseAnswers rest purses answer
 
 -- a node on a core with this start was closed over some purses, and what that answered was printed, below the counts
-abbrev pub Races : {D : Type 0} → (honest : D → Type 0) → (state : D → DiskState) → Start → ℕ → List ℕ → Type 0
-Races {D} honest state start status out = (rest : RestView D) × (purses : List Holdings) × (read : ℕ) × (answer : Result ℕ Unclosed)
-    × IsAnswer honest state start rest purses answer × (status ≡ answer_status answer)
+abbrev pub Races : {D : Type 0} → (disks : PageDisk D) → Start → ℕ → List ℕ → Type 0
+Races {D} disks start status out = (rest : RestView D) × (purses : List Holdings) × (read : ℕ) × (answer : Result ℕ Unclosed)
+    × IsAnswer disks start rest purses answer × (status ≡ answer_status answer)
     × (out ≡ counts_lines rest.core.store.accepted read ++ answer_line answer)

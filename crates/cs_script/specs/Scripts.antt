@@ -5,6 +5,8 @@ use Rattle.cs_deps.specs.declared.elements.Element.{Element}
 use Rattle.cs_deps.specs.declared.refusals.Refusal.{Refusal}
 use Rattle.cs_deps.specs.declared.refusals.Refusal.TheVariants as refusal
 use Rattle.cs_deps.specs.State.{everything}
+use Rattle.cs_disk.specs.declared.disk.CrashDisk.{Ghosts as CrashDisk}
+use Rattle.cs_disk.specs.declared.disk.PageDisk.{Ghosts as PageDisk}
 use Rattle.cs_plan.specs.Best.{IsBestPlan}
 use Rattle.cs_disk.specs.Disk.{State as DiskState}
 use Rattle.cs_frame.specs.declared.identifiers.ShardId.{ShardId}
@@ -71,19 +73,19 @@ IsDocumentRefused s r = ((s.out ≢ None) × (r ≡ refusal.InFlight)) ⊎ (r �
     ⊎ ((r ≡ refusal.BadDocument) × (rounds : List (List Element)) × (chain : List Element) × IsBestOfAll s rounds chain
     × (¬ HasDocument document_letters s.graph.staging.pending (everything s.graph.staging) rounds chain))
 
-module _ {D : Type 0} (honest : D → Type 0) (state : D → DiskState) where
+module _ {D : Type 0} (disks : PageDisk D) where
   -- the event is refused, and that is printed
   abbrev pub Declines : View D → Event → View D → List ℕ → Type 0
-  Declines old event new out = IsRefusalOf (λ r. IsStopped honest state old [] event r new) out
+  Declines old event new out = IsRefusalOf (λ r. IsStopped disks old [] event r new) out
 
   -- the event is recorded with this reply, and this line is printed
   abbrev pub Answered : View D → Event → Reply → View D → (printed out : List ℕ) → Type 0
-  Answered old event reply new printed out = Went honest state old ((event, reply) ∷ []) new × (out ≡ printed)
+  Answered old event reply new printed out = Went disks old ((event, reply) ∷ []) new × (out ≡ printed)
 
   -- a round that was out is ended first: what is left of it is issued, and it is printed how many commands are persistent then
   abbrev pub Finishes : View D → View D → List ℕ → Type 0
-  Finishes old ended out = ((old.store.out ≡ None) × Stays honest state old ended × (out ≡ []))
-      ⊎ ((old.store.out ≢ None) × (members : Members) × (frontier : ℕ) × Went honest state old (rest_of_round members frontier) ended × (out ≡ end_line frontier))
+  Finishes old ended out = ((old.store.out ≡ None) × Stays disks old ended × (out ≡ []))
+      ⊎ ((old.store.out ≢ None) × (members : Members) × (frontier : ℕ) × Went disks old (rest_of_round members frontier) ended × (out ≡ end_line frontier))
 
   -- A sync that ends well. A round that was out is ended, then the index's changes are staged, and then round after round is
   -- written. The rounds that are printed are those that were begun and ended, they are a best plan of what waited after the
@@ -94,11 +96,11 @@ module _ {D : Type 0} (honest : D → Type 0) (state : D → DiskState) where
     pub finishes : Finishes old ended first
     pub staged : View D
     pub reply : Reply
-    pub stages : Went honest state ended ((Stage, reply) ∷ []) staged
+    pub stages : Went disks ended ((Stage, reply) ∷ []) staged
     pub is_staged : IsStageDone reply
     pub turns : List Turn
     pub chain : List Element
-    pub turned : Went honest state staged (events_of_all turns) new
+    pub turned : Went disks staged (events_of_all turns) new
     pub best : IsBestOfAll staged.store (rounds_of turns) chain
     pub none_out : new.store.out ≡ None
     pub none_waiting : new.store.graph.staging.pending.waiting ≡ []
@@ -107,12 +109,12 @@ module _ {D : Type 0} (honest : D → Type 0) (state : D → DiskState) where
 
   -- an event of the round that was out is refused before that ended
   abbrev pub StopsFirst : View D → View D → Refusal → Type 0
-  StopsFirst old new r = (old.store.out ≢ None) × (members : Members) × (event : Event) × IsOfRound event × IsStopped honest state old (issues members) event r new
+  StopsFirst old new r = (old.store.out ≢ None) × (members : Members) × (event : Event) × IsOfRound event × IsStopped disks old (issues members) event r new
 
   -- an event of a later round is refused, after a Stage and these turns, or there is no memory to plan them
   abbrev pub StopsInTurn : View D → List Turn → View D → Refusal → Type 0
   StopsInTurn ended turns new r = (reply : Reply) × IsStageDone reply × (part : List (Event × Reply)) × (event : Event) × IsPart part event
-      × IsStopped honest state ended ((Stage, reply) ∷ events_of_all turns ++ part) event r new
+      × IsStopped disks ended ((Stage, reply) ∷ events_of_all turns ++ part) event r new
 
   -- A sync in which the Stage or a later event is refused, after some rounds, which are printed as they end.
   pub record StopsLater (old new : View D) (refusal : Refusal) (before : List ℕ) : Type 0 where
@@ -120,7 +122,7 @@ module _ {D : Type 0} (honest : D → Type 0) (state : D → DiskState) where
     pub first : List ℕ
     pub finishes : Finishes old ended first
     pub turns : List Turn
-    pub stopped : ((turns ≡ []) × IsStopped honest state ended [] Stage refusal new) ⊎ StopsInTurn ended turns new refusal
+    pub stopped : ((turns ≡ []) × IsStopped disks ended [] Stage refusal new) ⊎ StopsInTurn ended turns new refusal
     pub printed : before ≡ first ++ round_lines 1 (rounds_of turns)
 
   -- a sync in which an event is refused, after these lines
@@ -129,7 +131,7 @@ module _ {D : Type 0} (honest : D → Type 0) (state : D → DiskState) where
 
   -- the index's changes are staged where no round is out
   abbrev pub Stages : View D → View D → Type 0
-  Stages old new = (old.store.out ≡ None) × (reply : Reply) × IsStageDone reply × Went honest state old ((Stage, reply) ∷ []) new
+  Stages old new = (old.store.out ≡ None) × (reply : Reply) × IsStageDone reply × Went disks old ((Stage, reply) ∷ []) new
 
   -- the plan of all that waits after a Stage is printed
   abbrev pub Plans : View D → View D → List ℕ → Type 0
@@ -137,37 +139,37 @@ module _ {D : Type 0} (honest : D → Type 0) (state : D → DiskState) where
 
   -- a round is out, and nothing changes; or the Stage is refused; or there is no memory for the plan
   abbrev pub IsPlanRefused : View D → View D → Refusal → Type 0
-  IsPlanRefused old new r = ((old.store.out ≢ None) × (new ≡ old) × (r ≡ refusal.InFlight)) ⊎ IsStopped honest state old [] Stage r new ⊎ (Stages old new × (r ≡ refusal.OutOfMemory))
+  IsPlanRefused old new r = ((old.store.out ≢ None) × (new ≡ old) × (r ≡ refusal.InFlight)) ⊎ IsStopped disks old [] Stage r new ⊎ (Stages old new × (r ≡ refusal.OutOfMemory))
 
   -- The extent is swept: so many chunks are moved off it, and it is retired under this root.
   pub record Sweeps (extent : ℕ) (old new : View D) (out : List ℕ) : Type 0 where
     pub moved : List (ShardId × ℕ)
     pub root : ℕ
-    pub went : Went honest state old ((BeginSweep extent, Sweeping) ∷ moves extent moved ++ (MoveOne extent, NoneLive) ∷ (Retire extent, Retired root) ∷ []) new
+    pub went : Went disks old ((BeginSweep extent, Sweeping) ∷ moves extent moved ++ (MoveOne extent, NoneLive) ∷ (Retire extent, Retired root) ∷ []) new
     pub printed : out ≡ swept_line extent (length moved) root
 
   -- a sweep in which a move is refused, or the Retire once nothing live is left
   abbrev pub StopsSweep : ℕ → View D → View D → Refusal → Type 0
   StopsSweep extent begun mid r = (moved : List (ShardId × ℕ))
-      × (IsStopped honest state begun (moves extent moved) (MoveOne extent) r mid
-      ⊎ IsStopped honest state begun (moves extent moved ++ (MoveOne extent, NoneLive) ∷ []) (Retire extent) r mid)
+      × (IsStopped disks begun (moves extent moved) (MoveOne extent) r mid
+      ⊎ IsStopped disks begun (moves extent moved ++ (MoveOne extent, NoneLive) ∷ []) (Retire extent) r mid)
 
   -- a sweep that was refused so is abandoned, and that refusal is told; or the Abandon is refused too, and where that is for want
   -- of memory, it is what is told
   abbrev pub Abandons : ℕ → View D → View D → (refused told : Refusal) → Type 0
-  Abandons extent mid new r told = (Went honest state mid ((Abandon extent, Abandoned) ∷ []) new × (told ≡ r))
-      ⊎ ((why : Refusal) × IsStopped honest state mid [] (Abandon extent) why new
+  Abandons extent mid new r told = (Went disks mid ((Abandon extent, Abandoned) ∷ []) new × (told ≡ r))
+      ⊎ ((why : Refusal) × IsStopped disks mid [] (Abandon extent) why new
       × (((why ≡ refusal.OutOfMemory) × (told ≡ refusal.OutOfMemory)) ⊎ ((why ≢ refusal.OutOfMemory) × (told ≡ r))))
 
   -- the sweep can't begin, or it stops later and is abandoned
   abbrev pub IsSweepRefused : ℕ → View D → View D → Refusal → Type 0
-  IsSweepRefused extent old new told = IsStopped honest state old [] (BeginSweep extent) told new
-      ⊎ ((begun : View D) × (mid : View D) × (r : Refusal) × Went honest state old ((BeginSweep extent, Sweeping) ∷ []) begun × StopsSweep extent begun mid r
+  IsSweepRefused extent old new told = IsStopped disks old [] (BeginSweep extent) told new
+      ⊎ ((begun : View D) × (mid : View D) × (r : Refusal) × Went disks old ((BeginSweep extent, Sweeping) ∷ []) begun × StopsSweep extent begun mid r
       × Abandons extent mid new r told)
 
   -- the event of writeback that is due, with its reply
   abbrev pub Steps : View D → View D → List ℕ → Type 0
-  Steps old new out = (reply : Reply) × Went honest state old ((step_event old.store, reply) ∷ []) new × step_line reply out
+  Steps old new out = (reply : Reply) × Went disks old ((step_event old.store, reply) ∷ []) new × step_line reply out
 
   -- what a line does to the core, and what it prints. A line `crash` stands here for one that isn't readable
   abbrev pub Answers : Said → View D → View D → List ℕ → Type 0
@@ -199,17 +201,17 @@ status_after unreadable status = 1
 status_after (says_crash mask) status = 1
 status_after said status = status
 
-module _ {D : Type 0} (honest : D → Type 0) (state : D → DiskState) (page_count : D → ℕ) (can_crash : D → Type 0) (volatile_count : D → ℕ) (failure_count : D → ℕ) where
+module _ {D : Type 0} (disks : PageDisk D) (crashing : CrashDisk D) where
   -- a line is answered by the core, as what it says to the core's disk
   abbrev pub AnswersOver : Said → (old : View D) (status : ℕ) → (new : View D) (after : ℕ) → List ℕ → Type 0
   AnswersOver said old status new after out =
-      (can : Bool) × (IsTrue can ↔ can_crash old.disk) × Answers honest state (said_to can said) old new out × (after ≡ status_after (said_to can said) status)
+      (can : Bool) × (IsTrue can ↔ crashing.can_crash old.disk) × Answers disks (said_to can said) old new out × (after ≡ status_after (said_to can said) status)
 
   -- a line that isn't a readable `crash` is answered by the core; and after a crash the core goes on that is opened then
   abbrev pub GoesOn : Said → (old : View D) (status : ℕ) → (new : View D) (after : ℕ) → List ℕ → Type 0
   GoesOn said old status new after out =
-      (((mask : List Bool) → ¬ IsCrash can_crash volatile_count said old mask) × AnswersOver said old status new after out)
-      ⊎ ((mask : List Bool) × IsCrash can_crash volatile_count said old mask × Crashes honest state page_count can_crash volatile_count failure_count mask old new out × (after ≡ status))
+      (((mask : List Bool) → ¬ IsCrash crashing said old mask) × AnswersOver said old status new after out)
+      ⊎ ((mask : List Bool) × IsCrash crashing said old mask × Crashes disks crashing mask old new out × (after ≡ status))
 
   -- A script runs: nothing is left of it; or its first line is answered and the rest runs; or no store is opened after a crash, and
   -- it ends with no core. Each line ends with a line feed, the last one may end with the text.
@@ -220,5 +222,5 @@ module _ {D : Type 0} (honest : D → Type 0) (state : D → DiskState) (page_co
         → Runs (drop_through 10 text) mid after new last rest
         → Runs text old status new last (out ++ rest)
     unopened : (text : List ℕ) (old : View D) (status : ℕ) (out : List ℕ)
-        → text ≢ [] → CrashesForGood honest state page_count can_crash volatile_count failure_count (said_of (first_piece 10 text)) old out
+        → text ≢ [] → CrashesForGood disks crashing (said_of (first_piece 10 text)) old out
         → Runs text old status None 3 out

@@ -10,10 +10,10 @@ use cs_disk::PageDisk;
 /// Has the core do one event, and gives its reply. Refused as the event is, 41 HistoryFull where the history stands at its
 /// limit, and 9 OutOfMemory; these two aren't recorded.
 pub fn ask<D: PageDisk>(core: &mut Core<D>, event: &Event) -> Result<Reply, Refusal>
-    ensures done { IfOk result (λ reply. Goes D.honest D.state core.old event.now reply core.new) }
+    ensures done { IfOk result (λ reply. Goes D.PageDisk core.old event.now reply core.new) }
     ensures answers { IfOk result (λ reply. MayAnswer event.now reply) }
     ensures no_refusal { IfOk result (λ reply. IsNoRefusal reply) }
-    ensures refused { IfErr result (λ refusal. IsStopped D.honest D.state core.old [] event.now refusal core.new) }
+    ensures refused { IfErr result (λ refusal. IsStopped D.PageDisk core.old [] event.now refusal core.new) }
 {
     match core.apply(event) {
         Ok(Reply::Refused(refusal)) => Err(refusal),

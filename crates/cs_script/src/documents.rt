@@ -24,7 +24,7 @@ pub fn document<D: PageDisk, W: Write>(
     core: &Core<D>,
     writer: &mut W,
 ) -> io::Result<()>
-    ensures { OnOk result ((out : List ℕ) × Answers D.honest D.state says_document core.now core.now out × Appends (W.contents writer.old) (W.contents writer.new) out) }
+    ensures { OnOk result ((out : List ℕ) × Answers D.PageDisk says_document core.now core.now out × Appends (W.contents writer.old) (W.contents writer.new) out) }
 {
     match document_of(alloc, core) {
         Ok(text) => writeln!(writer, "{text}"),

@@ -18,7 +18,7 @@ use std::io::Write;
 /// Prints how all that was put would be made persistent: the rounds, the chain and the number of flushes. As a `sync` does,
 /// it stages the index's changes first; nothing is written back, and nothing is acknowledged.
 pub fn plan<D: PageDisk, W: Write>(core: &mut Core<D>, writer: &mut W) -> io::Result<()>
-    ensures { OnOk result ((out : List ℕ) × Answers D.honest D.state says_plan core.old core.new out × Appends (W.contents writer.old) (W.contents writer.new) out) }
+    ensures { OnOk result ((out : List ℕ) × Answers D.PageDisk says_plan core.old core.new out × Appends (W.contents writer.old) (W.contents writer.new) out) }
 {
     match stage_and_plan(core) {
         Ok(plan) => print_plan(writer, &plan),
@@ -31,9 +31,9 @@ pub fn plan<D: PageDisk, W: Write>(core: &mut Core<D>, writer: &mut W) -> io::Re
 /// Refused 5 InFlight where a round is out, with nothing staged; then as Stage is. Where the plan itself finds no memory, 9
 /// OutOfMemory, the changes stay staged.
 fn stage_and_plan<D: PageDisk>(core: &mut Core<D>) -> Result<Plan, Refusal>
-    ensures staged { OnOk result (Stages D.honest D.state core.old core.new) }
+    ensures staged { OnOk result (Stages D.PageDisk core.old core.new) }
     ensures best { IfOk result (λ plan. IsBestOfAll core.new.store (rounds_of plan) plan.chain.items) }
-    ensures refused { IfErr result (λ refusal. IsPlanRefused D.honest D.state core.old core.new refusal) }
+    ensures refused { IfErr result (λ refusal. IsPlanRefused D.PageDisk core.old core.new refusal) }
 {
     if core.round().is_some() {
         return Err(Refusal::InFlight);

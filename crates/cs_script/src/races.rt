@@ -115,7 +115,7 @@ pub fn run_race<D: PageDisk + Send + Drop, R: Threads + Wait + Sync, W: Write>(
     writer: &mut W,
 ) -> u8
     requires { (core.history ≡ []) × (core.store.accepted ≡ 0) × (core.store.frontier ≡ 0) }
-    ensures closes { result < 3 → (out : List ℕ) × Races D.honest D.state (start_of core) result out × Appends (W.contents writer.old) (W.contents writer.new) out }
+    ensures closes { result < 3 → (out : List ℕ) × Races D.PageDisk (start_of core) result out × Appends (W.contents writer.old) (W.contents writer.new) out }
     ensures refused { result ≡ 3 → (r : Why) × IsNoRace r × Appends (W.contents writer.old) (W.contents writer.new) (refusal_line r) }
     ensures status { (result ≤ 1) ⊎ (result ≡ 3) ⊎ (result ≡ 4) }
 {
@@ -146,7 +146,7 @@ fn race_on<D: PageDisk + Send + Drop, K: Naming + Send + Sync, R: Threads + Wait
 ) -> u8
     requires named { (board ≡ K.table) × (start_of core ≡ K.start) }
     requires new { (core.history ≡ []) × (core.store.accepted ≡ 0) × (core.store.frontier ≡ 0) }
-    ensures closes { result < 3 → (out : List ℕ) × Races D.honest D.state (start_of core) result out × Appends (W.contents writer.old) (W.contents writer.new) out }
+    ensures closes { result < 3 → (out : List ℕ) × Races D.PageDisk (start_of core) result out × Appends (W.contents writer.old) (W.contents writer.new) out }
     ensures refused { result ≡ 3 → (r : Why) × IsNoRace r × Appends (W.contents writer.old) (W.contents writer.new) (refusal_line r) }
     ensures status { (result ≤ 1) ⊎ (result ≡ 3) ⊎ (result ≡ 4) }
 {
@@ -213,7 +213,7 @@ fn close<D: PageDisk + Drop, K: Naming, W: Write>(
     left: Left<D, K>,
     writer: &mut W,
 ) -> io::Result<u8>
-    ensures closes { IfOk result (λ status. (out : List ℕ) × Races D.honest D.state K.start status out × Appends (W.contents writer.old) (W.contents writer.new) out) }
+    ensures closes { IfOk result (λ status. (out : List ℕ) × Races D.PageDisk K.start status out × Appends (W.contents writer.old) (W.contents writer.new) out) }
     ensures status { IfOk result (λ status. status ≤ 1) }
 {
     let Left {
@@ -235,7 +235,7 @@ fn answer_of<D: PageDisk + Drop, K: Naming>(
     alloc: Global,
     purses: Vec<Purse<K>>,
 ) -> Result<u64, Unclosed>
-    ensures { IsAnswer D.honest D.state K.start rest purses.items result }
+    ensures { IsAnswer D.PageDisk K.start rest purses.items result }
 {
     match rest.close(alloc, purses) {
         Ok(closed) => Ok(closed.acknowledged),

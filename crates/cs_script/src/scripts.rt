@@ -46,7 +46,7 @@ pub fn run_script<D: CrashDisk + Drop, R: Read + Drop, W: Write>(
 ) -> Ran<D>
     // Each line is answered and printed as it says, by the events that it names or by a crash.
     ensures script { (text : List ℕ) → R.remaining reader ≡ Some text → result.status < 4 → (out : List ℕ)
-        × Runs D.honest D.state D.page_count D.can_crash D.volatile_count D.failure_count text core 0 result.core result.status out
+        × Runs D.PageDisk D.CrashDisk text core 0 result.core result.status out
         × Appends (W.contents writer.old) (W.contents writer.new) out }
 
     ensures status { (result.status ≤ 1) ⊎ (result.status ≡ 3) ⊎ (result.status ≡ 4) }
@@ -69,7 +69,7 @@ fn run_lines<D: CrashDisk + Drop, B: BufRead, W: Write>(
     writer: &mut W,
 ) -> Ran<D>
     ensures script { (text : List ℕ) → B.remaining reader.old ≡ Some text → result.status < 4 → (out : List ℕ)
-        × Runs D.honest D.state D.page_count D.can_crash D.volatile_count D.failure_count text core 0 result.core result.status out
+        × Runs D.PageDisk D.CrashDisk text core 0 result.core result.status out
         × Appends (W.contents writer.old) (W.contents writer.new) out }
     ensures status { (result.status ≤ 1) ⊎ (result.status ≡ 3) ⊎ (result.status ≡ 4) }
     ensures core { (result.status ≤ 1 → IsSome result.core) × (result.status ≡ 3 → result.core ≡ None) }
@@ -121,10 +121,10 @@ fn run_line<D: CrashDisk + Drop, W: Write>(
     status: u8,
     writer: &mut W,
 ) -> Result<(Core<D>, u8), Ran<D>>
-    ensures on { IfOk result (λ on. (out : List ℕ) × GoesOn D.honest D.state D.page_count D.can_crash D.volatile_count D.failure_count (said_of text.now) core status on.0 on.1 out
+    ensures on { IfOk result (λ on. (out : List ℕ) × GoesOn D.PageDisk D.CrashDisk (said_of text.now) core status on.0 on.1 out
         × Appends (W.contents writer.old) (W.contents writer.new) out) }
     ensures ended { IfErr result (λ ran. ((ran.status ≡ 3) × (ran.core ≡ None)
-        × ((out : List ℕ) × CrashesForGood D.honest D.state D.page_count D.can_crash D.volatile_count D.failure_count (said_of text.now) core out × Appends (W.contents writer.old) (W.contents writer.new) out))
+        × ((out : List ℕ) × CrashesForGood D.PageDisk D.CrashDisk (said_of text.now) core out × Appends (W.contents writer.old) (W.contents writer.new) out))
         ⊎ (ran.status ≡ 4)) }
 {
     let Ok(line) = Line::read(alloc, text) else {
@@ -162,7 +162,7 @@ fn answer_line<D: PageDisk, W: Write>(
     status: u8,
     writer: &mut W,
 ) -> Result<(Core<D>, u8), Ran<D>>
-    ensures on { IfOk result (λ on. (on.1 ≡ status_after (said_by line) status) × ((out : List ℕ) × Answers D.honest D.state (said_by line) core on.0 out
+    ensures on { IfOk result (λ on. (on.1 ≡ status_after (said_by line) status) × ((out : List ℕ) × Answers D.PageDisk (said_by line) core on.0 out
         × Appends (W.contents writer.old) (W.contents writer.new) out)) }
     ensures ended { IfErr result (λ ran. ran.status ≡ 4) }
 {
@@ -184,7 +184,7 @@ fn answer_and_flush<D: PageDisk, W: Write>(
     status: u8,
     writer: &mut W,
 ) -> io::Result<u8>
-    ensures answers { OnOk result ((out : List ℕ) × Answers D.honest D.state (said_by line) core.old core.new out × Appends (W.contents writer.old) (W.contents writer.new) out) }
+    ensures answers { OnOk result ((out : List ℕ) × Answers D.PageDisk (said_by line) core.old core.new out × Appends (W.contents writer.old) (W.contents writer.new) out) }
     ensures status { IfOk result (λ after. after ≡ status_after (said_by line) status) }
 {
     let after = answer(alloc, core, line, status, writer)?;
@@ -200,7 +200,7 @@ fn answer<D: PageDisk, W: Write>(
     status: u8,
     writer: &mut W,
 ) -> io::Result<u8>
-    ensures answers { OnOk result ((out : List ℕ) × Answers D.honest D.state (said_by line) core.old core.new out × Appends (W.contents writer.old) (W.contents writer.new) out) }
+    ensures answers { OnOk result ((out : List ℕ) × Answers D.PageDisk (said_by line) core.old core.new out × Appends (W.contents writer.old) (W.contents writer.new) out) }
     ensures status { IfOk result (λ after. after ≡ status_after (said_by line) status) }
 {
     match line {
@@ -230,7 +230,7 @@ fn put<D: PageDisk, W: Write>(
     bytes: Vec<u8>,
     writer: &mut W,
 ) -> io::Result<()>
-    ensures { OnOk result ((out : List ℕ) × Answers D.honest D.state (says_put id bytes.items) core.old core.new out × Appends (W.contents writer.old) (W.contents writer.new) out) }
+    ensures { OnOk result ((out : List ℕ) × Answers D.PageDisk (says_put id bytes.items) core.old core.new out × Appends (W.contents writer.old) (W.contents writer.new) out) }
 {
     match Bytes::new(alloc, bytes) {
         Ok(bytes) => put_bytes(core, id, bytes, writer),
@@ -245,7 +245,7 @@ fn put_bytes<D: PageDisk, W: Write>(
     bytes: Bytes,
     writer: &mut W,
 ) -> io::Result<()>
-    ensures { OnOk result ((out : List ℕ) × Answers D.honest D.state (says_put id bytes) core.old core.new out × Appends (W.contents writer.old) (W.contents writer.new) out) }
+    ensures { OnOk result ((out : List ℕ) × Answers D.PageDisk (says_put id bytes) core.old core.new out × Appends (W.contents writer.old) (W.contents writer.new) out) }
 {
     match ask(core, &Event::Put(ShardId(id), bytes)) {
         Ok(Reply::Accepted(number)) => print_put(writer, number),
@@ -256,7 +256,7 @@ fn put_bytes<D: PageDisk, W: Write>(
 
 /// Gets a shard.
 fn get<D: PageDisk, W: Write>(core: &mut Core<D>, id: [u8; 16], writer: &mut W) -> io::Result<()>
-    ensures { OnOk result ((out : List ℕ) × Answers D.honest D.state (says_get id) core.old core.new out × Appends (W.contents writer.old) (W.contents writer.new) out) }
+    ensures { OnOk result ((out : List ℕ) × Answers D.PageDisk (says_get id) core.old core.new out × Appends (W.contents writer.old) (W.contents writer.new) out) }
 {
     match ask(core, &Event::Get(ShardId(id))) {
         Ok(Reply::Found(bytes)) => print_value(writer, bytes.as_slice()),
@@ -268,7 +268,7 @@ fn get<D: PageDisk, W: Write>(core: &mut Core<D>, id: [u8; 16], writer: &mut W) 
 
 /// Deletes a shard.
 fn delete<D: PageDisk, W: Write>(core: &mut Core<D>, id: [u8; 16], writer: &mut W) -> io::Result<()>
-    ensures { OnOk result ((out : List ℕ) × Answers D.honest D.state (says_delete id) core.old core.new out × Appends (W.contents writer.old) (W.contents writer.new) out) }
+    ensures { OnOk result ((out : List ℕ) × Answers D.PageDisk (says_delete id) core.old core.new out × Appends (W.contents writer.old) (W.contents writer.new) out) }
 {
     match ask(core, &Event::Delete(ShardId(id))) {
         Ok(Reply::Accepted(number)) => print_delete(writer, number),

@@ -14,7 +14,7 @@ use std::io::Write;
 /// Makes one event of writeback and prints what it did: the next member of the round that is out is issued, or the round
 /// ends where all are, or a round begins where none is out.
 pub fn step<D: PageDisk, W: Write>(core: &mut Core<D>, writer: &mut W) -> io::Result<()>
-    ensures { OnOk result ((out : List ℕ) × Answers D.honest D.state says_step core.old core.new out × Appends (W.contents writer.old) (W.contents writer.new) out) }
+    ensures { OnOk result ((out : List ℕ) × Answers D.PageDisk says_step core.old core.new out × Appends (W.contents writer.old) (W.contents writer.new) out) }
 {
     let event = next_event(core);
     match ask(core, &event) {

@@ -35,7 +35,7 @@ pub fn sweep<D: PageDisk, W: Write>(
     extent: usize,
     writer: &mut W,
 ) -> io::Result<()>
-    ensures { OnOk result ((out : List ℕ) × Answers D.honest D.state (says_sweep extent) core.old core.new out × Appends (W.contents writer.old) (W.contents writer.new) out) }
+    ensures { OnOk result ((out : List ℕ) × Answers D.PageDisk (says_sweep extent) core.old core.new out × Appends (W.contents writer.old) (W.contents writer.new) out) }
 {
     match sweep_extent(core, extent) {
         Ok(swept) => print_swept(writer, extent, swept),
@@ -45,8 +45,8 @@ pub fn sweep<D: PageDisk, W: Write>(
 
 /// The events of a sweep.
 fn sweep_extent<D: PageDisk>(core: &mut Core<D>, extent: usize) -> Result<Swept, Refusal>
-    ensures done { IfOk result (λ swept. Sweeps D.honest D.state extent core.old core.new (swept_line extent swept.moved swept.root)) }
-    ensures refused { IfErr result (λ refusal. IsSweepRefused D.honest D.state extent core.old core.new refusal) }
+    ensures done { IfOk result (λ swept. Sweeps D.PageDisk extent core.old core.new (swept_line extent swept.moved swept.root)) }
+    ensures refused { IfErr result (λ refusal. IsSweepRefused D.PageDisk extent core.old core.new refusal) }
 {
     match ask(core, &Event::BeginSweep(extent)) {
         Ok(_) => empty_or_abandon(core, extent),
@@ -57,8 +57,8 @@ fn sweep_extent<D: PageDisk>(core: &mut Core<D>, extent: usize) -> Result<Swept,
 /// The events of a sweep that began. Where one is refused, the sweep is abandoned.
 fn empty_or_abandon<D: PageDisk>(core: &mut Core<D>, extent: usize) -> Result<Swept, Refusal>
     ensures done { IfOk result (λ swept. (moved : List (ShardId × ℕ)) × (swept.moved ≡ length moved)
-        × Went D.honest D.state core.old (moves extent moved ++ (MoveOne extent, NoneLive) ∷ (Retire extent, Retired swept.root) ∷ []) core.new) }
-    ensures refused { IfErr result (λ told. (mid : View D) × (r : Why) × StopsSweep D.honest D.state extent core.old mid r × Abandons D.honest D.state extent mid core.new r told) }
+        × Went D.PageDisk core.old (moves extent moved ++ (MoveOne extent, NoneLive) ∷ (Retire extent, Retired swept.root) ∷ []) core.new) }
+    ensures refused { IfErr result (λ told. (mid : View D) × (r : Why) × StopsSweep D.PageDisk extent core.old mid r × Abandons D.PageDisk extent mid core.new r told) }
 {
     match empty_extent(core, extent) {
         Ok(swept) => Ok(swept),
@@ -69,7 +69,7 @@ fn empty_or_abandon<D: PageDisk>(core: &mut Core<D>, extent: usize) -> Result<Sw
 /// Abandons a sweep that was refused, and gives the refusal to tell: that one, also where the Abandon is refused too, but 9
 /// OutOfMemory where there was no memory for it.
 fn abandon<D: PageDisk>(core: &mut Core<D>, extent: usize, refusal: Refusal) -> Refusal
-    ensures { Abandons D.honest D.state extent core.old core.new refusal result }
+    ensures { Abandons D.PageDisk extent core.old core.new refusal result }
 {
     match ask(core, &Event::Abandon(extent)) {
         Ok(_) => refusal,
@@ -81,8 +81,8 @@ fn abandon<D: PageDisk>(core: &mut Core<D>, extent: usize, refusal: Refusal) -> 
 /// Moves what is live on an extent that is being swept, and retires it.
 fn empty_extent<D: PageDisk>(core: &mut Core<D>, extent: usize) -> Result<Swept, Refusal>
     ensures done { IfOk result (λ swept. (moved : List (ShardId × ℕ)) × (swept.moved ≡ length moved)
-        × Went D.honest D.state core.old (moves extent moved ++ (MoveOne extent, NoneLive) ∷ (Retire extent, Retired swept.root) ∷ []) core.new) }
-    ensures refused { IfErr result (λ refusal. StopsSweep D.honest D.state extent core.old core.new refusal) }
+        × Went D.PageDisk core.old (moves extent moved ++ (MoveOne extent, NoneLive) ∷ (Retire extent, Retired swept.root) ∷ []) core.new) }
+    ensures refused { IfErr result (λ refusal. StopsSweep D.PageDisk extent core.old core.new refusal) }
 {
     let moved = match move_all(core, extent) {
         Ok(moved) => moved,
@@ -98,8 +98,8 @@ fn empty_extent<D: PageDisk>(core: &mut Core<D>, extent: usize) -> Result<Swept,
 /// Moves chunk after chunk off an extent until none is live there, and gives how many they were.
 fn move_all<D: PageDisk>(core: &mut Core<D>, extent: usize) -> Result<usize, Refusal>
     ensures done { IfOk result (λ count. (moved : List (ShardId × ℕ)) × (count ≡ length moved)
-        × Went D.honest D.state core.old (moves extent moved ++ (MoveOne extent, NoneLive) ∷ []) core.new) }
-    ensures refused { IfErr result (λ refusal. (moved : List (ShardId × ℕ)) × IsStopped D.honest D.state core.old (moves extent moved) (MoveOne extent) refusal core.new) }
+        × Went D.PageDisk core.old (moves extent moved ++ (MoveOne extent, NoneLive) ∷ []) core.new) }
+    ensures refused { IfErr result (λ refusal. (moved : List (ShardId × ℕ)) × IsStopped D.PageDisk core.old (moves extent moved) (MoveOne extent) refusal core.new) }
 {
     for moved in 0..core.limit() {
         match ask(core, &Event::MoveOne(extent)) {

@@ -48,7 +48,7 @@ impl From<io::Error> for Stop {
 
 /// Makes all accepted commands persistent, and prints each round as it ends.
 pub fn sync<D: PageDisk, W: Write>(core: &mut Core<D>, writer: &mut W) -> io::Result<()>
-    ensures { OnOk result ((out : List ℕ) × Answers D.honest D.state says_sync core.old core.new out × Appends (W.contents writer.old) (W.contents writer.new) out) }
+    ensures { OnOk result ((out : List ℕ) × Answers D.PageDisk says_sync core.old core.new out × Appends (W.contents writer.old) (W.contents writer.new) out) }
 {
     match write_back(core, writer) {
         Ok(()) => Ok(()),
@@ -59,8 +59,8 @@ pub fn sync<D: PageDisk, W: Write>(core: &mut Core<D>, writer: &mut W) -> io::Re
 
 /// The events of a `sync`.
 fn write_back<D: PageDisk, W: Write>(core: &mut Core<D>, writer: &mut W) -> Result<(), Stop>
-    ensures done { OnOk result ((out : List ℕ) × Syncs D.honest D.state core.old core.new out × Appends (W.contents writer.old) (W.contents writer.new) out) }
-    ensures stopped { IfErr result (StopsAfter D.honest D.state core.old core.new (W.contents writer.old) (W.contents writer.new)) }
+    ensures done { OnOk result ((out : List ℕ) × Syncs D.PageDisk core.old core.new out × Appends (W.contents writer.old) (W.contents writer.new) out) }
+    ensures stopped { IfErr result (StopsAfter D.PageDisk core.old core.new (W.contents writer.old) (W.contents writer.new)) }
 {
     end_round(core, writer)?;
     ask(core, &Event::Stage)?;
@@ -75,8 +75,8 @@ fn write_back<D: PageDisk, W: Write>(core: &mut Core<D>, writer: &mut W) -> Resu
 
 /// Ends the round that is out, if there is one.
 fn end_round<D: PageDisk, W: Write>(core: &mut Core<D>, writer: &mut W) -> Result<(), Stop>
-    ensures done { OnOk result ((out : List ℕ) × Finishes D.honest D.state core.old core.new out × Appends (W.contents writer.old) (W.contents writer.new) out) }
-    ensures stopped { IfErr result (StopsAtFirst D.honest D.state core.old core.new (W.contents writer.old) (W.contents writer.new)) }
+    ensures done { OnOk result ((out : List ℕ) × Finishes D.PageDisk core.old core.new out × Appends (W.contents writer.old) (W.contents writer.new) out) }
+    ensures stopped { IfErr result (StopsAtFirst D.PageDisk core.old core.new (W.contents writer.old) (W.contents writer.new)) }
 {
     if core.round().is_some() {
         let frontier = finish_round(core)?;
@@ -87,10 +87,10 @@ fn end_round<D: PageDisk, W: Write>(core: &mut Core<D>, writer: &mut W) -> Resul
 
 /// Runs round after round, until nothing waits, and gives how many they were.
 fn run_rounds<D: PageDisk, W: Write>(core: &mut Core<D>, writer: &mut W) -> Result<usize, Stop>
-    ensures done { IfOk result (λ count. (turns : List Turn) × (count ≡ length turns) × Went D.honest D.state core.old (events_of_all turns) core.new
+    ensures done { IfOk result (λ count. (turns : List Turn) × (count ≡ length turns) × Went D.PageDisk core.old (events_of_all turns) core.new
         × Appends (W.contents writer.old) (W.contents writer.new) (round_lines 1 (rounds_of turns))) }
     ensures none { OnOk result (core.new.store.graph.staging.pending.waiting ≡ []) }
-    ensures stopped { IfErr result (StopsInRounds D.honest D.state core.old core.new (W.contents writer.old) (W.contents writer.new)) }
+    ensures stopped { IfErr result (StopsInRounds D.PageDisk core.old core.new (W.contents writer.old) (W.contents writer.new)) }
 {
     for ended in 0..core.limit() {
         if !core.has_waiting() {

@@ -15,8 +15,8 @@ use cs_disk::PageDisk;
 
 /// Issues what is left of the round that is out and ends it, and gives how many commands are persistent then.
 pub fn finish_round<D: PageDisk>(core: &mut Core<D>) -> Result<u64, Refusal>
-    ensures done { IfOk result (λ frontier. (members : Members) × Went D.honest D.state core.old (rest_of_round members frontier) core.new) }
-    ensures refused { IfErr result (λ refusal. (members : Members) × (event : Asked) × IsOfRound event × IsStopped D.honest D.state core.old (issues members) event refusal core.new) }
+    ensures done { IfOk result (λ frontier. (members : Members) × Went D.PageDisk core.old (rest_of_round members frontier) core.new) }
+    ensures refused { IfErr result (λ refusal. (members : Members) × (event : Asked) × IsOfRound event × IsStopped D.PageDisk core.old (issues members) event refusal core.new) }
 {
     match issue_rest(core) {
         Ok(()) => end(core),
@@ -26,8 +26,8 @@ pub fn finish_round<D: PageDisk>(core: &mut Core<D>) -> Result<u64, Refusal>
 
 /// Issues what is left of the round that is out.
 fn issue_rest<D: PageDisk>(core: &mut Core<D>) -> Result<(), Refusal>
-    ensures done { OnOk result ((members : Members) × Went D.honest D.state core.old (issues members) core.new) }
-    ensures refused { IfErr result (λ refusal. (members : Members) × IsStopped D.honest D.state core.old (issues members) Issue refusal core.new) }
+    ensures done { OnOk result ((members : Members) × Went D.PageDisk core.old (issues members) core.new) }
+    ensures refused { IfErr result (λ refusal. (members : Members) × IsStopped D.PageDisk core.old (issues members) Issue refusal core.new) }
 {
     for _ in 0..unissued(core) {
         match ask(core, &Event::Issue) {
@@ -41,8 +41,8 @@ fn issue_rest<D: PageDisk>(core: &mut Core<D>) -> Result<(), Refusal>
 
 /// Ends the round that is out, and gives how many commands are persistent then.
 fn end<D: PageDisk>(core: &mut Core<D>) -> Result<u64, Refusal>
-    ensures done { IfOk result (λ frontier. Goes D.honest D.state core.old End (Ended frontier) core.new) }
-    ensures refused { IfErr result (λ refusal. IsStopped D.honest D.state core.old [] End refusal core.new) }
+    ensures done { IfOk result (λ frontier. Goes D.PageDisk core.old End (Ended frontier) core.new) }
+    ensures refused { IfErr result (λ refusal. IsStopped D.PageDisk core.old [] End refusal core.new) }
 {
     match ask(core, &Event::End) {
         Ok(Reply::Ended(frontier)) => Ok(frontier),
@@ -64,8 +64,8 @@ fn unissued<D: PageDisk>(core: &Core<D>) -> usize
 /// Begins the next round, issues its members and ends it, and gives the members.
 pub fn run_round<D: PageDisk>(core: &mut Core<D>) -> Result<Elements, Refusal>
     requires { core.old.store.graph.staging.pending.waiting ≢ [] }
-    ensures done { IfOk result (λ round. (turn : Turn) × (elements_of turn ≡ round) × Went D.honest D.state core.old (events_of turn) core.new) }
-    ensures refused { IfErr result (λ refusal. (part : List (Asked × Answer)) × (event : Asked) × IsPart part event × IsStopped D.honest D.state core.old part event refusal core.new) }
+    ensures done { IfOk result (λ round. (turn : Turn) × (elements_of turn ≡ round) × Went D.PageDisk core.old (events_of turn) core.new) }
+    ensures refused { IfErr result (λ refusal. (part : List (Asked × Answer)) × (event : Asked) × IsPart part event × IsStopped D.PageDisk core.old part event refusal core.new) }
 {
     match ask(core, &Event::Begin) {
         Ok(Reply::Begun(round)) => match finish_round(core) {

@@ -8,7 +8,7 @@ use Rattle.cs_chunk.proofs.OnlyRead.{reads_on}
 use Rattle.cs_chunk.proofs.reads.read_frame_pages.Goals as goal
 
 pub returns-in-Ok-decode_frame_header-clause-disk : goal.returns-in-Ok-decode_frame_header-clause-disk
-returns-in-Ok-decode_frame_header-clause-disk g c = reads_on g.D.PageDisk.honest g.D.PageDisk.state g.D.PageDisk.page_count g.D.PageDisk.failure_count g.D.PageDisk.moment g.D.PageDisk.left_since c.args.disk.now c.read_page.new.disk c.read_pages.new.disk c.read_page.ensures.disk c.read_pages.ensures.disk
+returns-in-Ok-decode_frame_header-clause-disk g c = reads_on g.D.PageDisk c.args.disk.now c.read_page.new.disk c.read_pages.new.disk c.read_page.ensures.disk c.read_pages.ensures.disk
 
 pub returns-in-Ok-decode_frame_header-clause-pages : goal.returns-in-Ok-decode_frame_header-clause-pages
 returns-in-Ok-decode_frame_header-clause-pages g c = λ h view are.

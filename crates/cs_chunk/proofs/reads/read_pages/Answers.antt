@@ -5,14 +5,14 @@ use Rattle.cs_chunk.proofs.OnlyRead.{read_pushed, reads_on}
 use Rattle.cs_chunk.proofs.reads.read_pages.Goals as goal
 
 pub returns-in-Err-clause-disk : goal.returns-in-Err-clause-disk
-returns-in-Err-clause-disk g c = reads_on g.D.PageDisk.honest g.D.PageDisk.state g.D.PageDisk.page_count g.D.PageDisk.failure_count g.D.PageDisk.moment g.D.PageDisk.left_since c.args.disk.now c.loop-i.disk c.read_page.new.disk c.loop-i.invariant.disk c.read_page.ensures.disk
+returns-in-Err-clause-disk g c = reads_on g.D.PageDisk c.args.disk.now c.loop-i.disk c.read_page.new.disk c.loop-i.invariant.disk c.read_page.ensures.disk
 
 pub returns-in_err-push-clause-disk : goal.returns-in_err-push-clause-disk
-returns-in_err-push-clause-disk g c = reads_on g.D.PageDisk.honest g.D.PageDisk.state g.D.PageDisk.page_count g.D.PageDisk.failure_count g.D.PageDisk.moment g.D.PageDisk.left_since c.args.disk.now c.loop-i.disk c.read_page.new.disk c.loop-i.invariant.disk c.read_page.ensures.disk
+returns-in_err-push-clause-disk g c = reads_on g.D.PageDisk c.args.disk.now c.loop-i.disk c.read_page.new.disk c.loop-i.invariant.disk c.read_page.ensures.disk
 
 pub loop-i-preserved : goal.loop-i-preserved
 loop-i-preserved g c = record {
-  disk = reads_on g.D.PageDisk.honest g.D.PageDisk.state g.D.PageDisk.page_count g.D.PageDisk.failure_count g.D.PageDisk.moment g.D.PageDisk.left_since c.args.disk.now c.loop-i.disk c.read_page.new.disk c.loop-i.invariant.disk c.read_page.ensures.disk;
+  disk = reads_on g.D.PageDisk c.args.disk.now c.loop-i.disk c.read_page.new.disk c.loop-i.invariant.disk c.read_page.ensures.disk;
   size = omega (arith, c.in_ok-push.ensures.len, c.loop-i.invariant.size, c.push.new.self.ok.0, c.loop-i.pages.ok.0);
   pages = λ h first.
       let read = subst (λ (s : State). IsReadAs c.args.graph.now (seen s) (c.args.first + c.loop-i.i) c.read_page.new.buffer) (c.loop-i.invariant.disk.same h) (c.in-Ok.ensures.page (c.loop-i.invariant.disk.honesty.0 h)) in

@@ -6,7 +6,7 @@ use Rattle.cs_chunk.proofs.reads.read_pages.Given as goal
 
 abbrev pub invariant-loop-i : goal.invariant-loop-i
 invariant-loop-i g l = record {
-  disk : OnlyReads g.D.PageDisk.honest g.D.PageDisk.state g.D.PageDisk.page_count g.D.PageDisk.failure_count g.D.PageDisk.moment g.D.PageDisk.left_since l.fn.disk l.disk;
+  disk : OnlyReads g.D.PageDisk l.fn.disk l.disk;
   size : length l.pages.items ≡ l.i;
   pages : g.D.PageDisk.honest l.fn.disk → IsReadAs l.graph (seen (g.D.PageDisk.state l.fn.disk)) l.first l.page → AreReadAs l.graph (seen (g.D.PageDisk.state l.fn.disk)) l.first l.i l.pages.items;
 }

@@ -25,7 +25,7 @@ inside g c = λ k l at. subst (λ (m : Locator). m.page < c.args.extents.now.pag
 pub loop-k-preserved : goal.loop-k-preserved
 loop-k-preserved g c =
     let r = (goal.at.loop-k-preserved g c).After-read_frame in record {
-      disk = reads_on g.D.PageDisk.honest g.D.PageDisk.state g.D.PageDisk.page_count g.D.PageDisk.failure_count g.D.PageDisk.moment g.D.PageDisk.left_since c.args.disk.now c.loop-k.disk c.read_frame.new.disk c.loop-k.invariant.disk c.read_frame.ensures.disk;
+      disk = reads_on g.D.PageDisk c.args.disk.now c.loop-k.disk c.read_frame.new.disk c.loop-k.invariant.disk c.read_frame.ensures.disk;
       read = λ h view are.
           one_more (shape c.args.extents.now) view c.args.locators.now c.loop-k.k (at_place c.args.locators.now c.loop-k.k) c.loop-k.bytes.items c.extend_from_slice.new.self.items c.in-Ok.chunk.items c.deref.result.now
           c.loop-k-test.true (get_or_default c.args.locators.now c.loop-k.k _ _ c.loop-k-test.true) (c.loop-k.invariant.read h view are)
@@ -33,10 +33,10 @@ loop-k-preserved g c =
     }
 
 pub returns-in_err-extend_from_slice-in-Ok-clause-disk : goal.returns-in_err-extend_from_slice-in-Ok-clause-disk
-returns-in_err-extend_from_slice-in-Ok-clause-disk g c = reads_on g.D.PageDisk.honest g.D.PageDisk.state g.D.PageDisk.page_count g.D.PageDisk.failure_count g.D.PageDisk.moment g.D.PageDisk.left_since c.args.disk.now c.loop-k.disk c.read_frame.new.disk c.loop-k.invariant.disk c.read_frame.ensures.disk
+returns-in_err-extend_from_slice-in-Ok-clause-disk g c = reads_on g.D.PageDisk c.args.disk.now c.loop-k.disk c.read_frame.new.disk c.loop-k.invariant.disk c.read_frame.ensures.disk
 
 pub returns-in-Err-clause-disk : goal.returns-in-Err-clause-disk
-returns-in-Err-clause-disk g c = reads_on g.D.PageDisk.honest g.D.PageDisk.state g.D.PageDisk.page_count g.D.PageDisk.failure_count g.D.PageDisk.moment g.D.PageDisk.left_since c.args.disk.now c.loop-k.disk c.read_frame.new.disk c.loop-k.invariant.disk c.read_frame.ensures.disk
+returns-in-Err-clause-disk g c = reads_on g.D.PageDisk c.args.disk.now c.loop-k.disk c.read_frame.new.disk c.loop-k.invariant.disk c.read_frame.ensures.disk
 
 pub returns-in-Err-clause-fault : goal.returns-in-Err-clause-fault
 returns-in-Err-clause-fault g c = λ h view are.

@@ -8,6 +8,6 @@ use Rattle.cs_chunk.proofs.shards.read_chunks.Given as goal
 
 abbrev pub invariant-loop-k : goal.invariant-loop-k
 invariant-loop-k g l = record {
-  disk : OnlyReads g.D.PageDisk.honest g.D.PageDisk.state g.D.PageDisk.page_count g.D.PageDisk.failure_count g.D.PageDisk.moment g.D.PageDisk.left_since l.fn.disk l.disk;
+  disk : OnlyReads g.D.PageDisk l.fn.disk l.disk;
   read : g.D.PageDisk.honest l.fn.disk → (view : ℕ → List ℕ) → AreNewest l.graph (seen (g.D.PageDisk.state l.fn.disk)) view → IsRead (shape l.extents) view l.locators l.k l.bytes.items;
 }

@@ -3,4 +3,4 @@ use Rattle.cs_core.proofs.laws.a_crash_of_a_run_leaves_a_prefix.Goals as goal
 
 pub returns : goal.returns
 returns g c = λ old new between core honest calls. let s = core.legal honest in
-    calls_leave g.D.PageDisk.honest g.D.PageDisk.state g.D.PageDisk.moment g.D.PageDisk.left_since between old new s.0 honest calls s.1
+    calls_leave g.D.PageDisk between old new s.0 honest calls s.1

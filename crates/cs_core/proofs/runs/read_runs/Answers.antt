@@ -24,7 +24,7 @@ loop-k-preserved g c =
     let items : c.push.new.self.items ≡ c.loop-k.runs.items ++ c.in-Ok.run' ∷ [] = c.in_ok-push-in-Ok.ensures.items in
     let at : slice_get c.args.places.now c.loop-k.k ≡ Some (at_place c.args.places.now c.loop-k.k) = slice_get-get_or c.args.places.now c.loop-k.k (record { extent = 0; page = 0; generation = 0 }) c.loop-k-test.true in
     record {
-      disk = reads_on g.D.PageDisk.honest g.D.PageDisk.state g.D.PageDisk.page_count g.D.PageDisk.failure_count g.D.PageDisk.moment g.D.PageDisk.left_since c.args.disk.now c.loop-k.disk c.read_run.new.disk c.loop-k.invariant.disk c.read_run.ensures.disk;
+      disk = reads_on g.D.PageDisk c.args.disk.now c.loop-k.disk c.read_run.new.disk c.loop-k.invariant.disk c.read_run.ensures.disk;
       size = omega (arith, c.in_ok-push-in-Ok.ensures.len, c.loop-k.invariant.size, c.push.new.self.ok.0, c.loop-k.runs.ok.0);
       runs = subst (λ (rs : List StoredRun). AllByRecursion (λ run. IsRun (record { entries = run.entries })) rs) (sym items)
           (all_append (λ run. IsRun (record { entries = run.entries })) c.loop-k.runs.items (c.in-Ok.run' ∷ []) c.loop-k.invariant.runs (c.in-Ok.ensures.run, tt));
@@ -38,10 +38,10 @@ loop-k-preserved g c =
     }
 
 pub returns-in_err-push-in-Ok-clause-disk : goal.returns-in_err-push-in-Ok-clause-disk
-returns-in_err-push-in-Ok-clause-disk g c = reads_on g.D.PageDisk.honest g.D.PageDisk.state g.D.PageDisk.page_count g.D.PageDisk.failure_count g.D.PageDisk.moment g.D.PageDisk.left_since c.args.disk.now c.loop-k.disk c.read_run.new.disk c.loop-k.invariant.disk c.read_run.ensures.disk
+returns-in_err-push-in-Ok-clause-disk g c = reads_on g.D.PageDisk c.args.disk.now c.loop-k.disk c.read_run.new.disk c.loop-k.invariant.disk c.read_run.ensures.disk
 
 pub returns-in-Err-clause-disk : goal.returns-in-Err-clause-disk
-returns-in-Err-clause-disk g c = reads_on g.D.PageDisk.honest g.D.PageDisk.state g.D.PageDisk.page_count g.D.PageDisk.failure_count g.D.PageDisk.moment g.D.PageDisk.left_since c.args.disk.now c.loop-k.disk c.read_run.new.disk c.loop-k.invariant.disk c.read_run.ensures.disk
+returns-in-Err-clause-disk g c = reads_on g.D.PageDisk c.args.disk.now c.loop-k.disk c.read_run.new.disk c.loop-k.invariant.disk c.read_run.ensures.disk
 
 pub returns-in-Err-clause-why : goal.returns-in-Err-clause-why
 returns-in-Err-clause-why g c = λ h.

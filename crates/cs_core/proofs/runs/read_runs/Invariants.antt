@@ -8,7 +8,7 @@ use Rattle.cs_core.proofs.runs.read_runs.Given as goal
 
 abbrev pub invariant-loop-k : goal.invariant-loop-k
 invariant-loop-k g l = record {
-  disk : OnlyReads g.D.PageDisk.honest g.D.PageDisk.state g.D.PageDisk.page_count g.D.PageDisk.failure_count g.D.PageDisk.moment g.D.PageDisk.left_since l.fn.disk l.disk;
+  disk : OnlyReads g.D.PageDisk l.fn.disk l.disk;
   size : length l.runs.items ≡ l.k;
   runs : AllByRecursion (λ run. IsRun (record { entries = run.entries })) l.runs.items;
   read : g.D.PageDisk.honest l.fn.disk → AreRunsRead l.extents (page (seen (g.D.PageDisk.state l.fn.disk))) l.places l.runs.items;

@@ -8,4 +8,4 @@ pub returns-in-Ok-close-clause-closes : goal.returns-in-Ok-close-clause-closes
 returns-in-Ok-close-clause-closes g c small =
     let before = g.W.Write.contents c.args.writer.now in
     let after = g.W.Write.contents c.close.new.writer in
-    subst (λ (s : Start). (out : List ℕ) × Races g.D.PageDisk.honest g.D.PageDisk.state s c.in-Ok-close.status out × Appends before after out) (sym c.requires.named.1) c.in-Ok-close.ensures.closes
+    subst (λ (s : Start). (out : List ℕ) × Races g.D.PageDisk s c.in-Ok-close.status out × Appends before after out) (sym c.requires.named.1) c.in-Ok-close.ensures.closes

@@ -12,11 +12,11 @@ use Rattle.cs_script.proofs.scripts.put.Goals as goal
 
 pub returns-in-Ok : goal.returns-in-Ok
 returns-in-Ok g c =
-    subst (λ (l : List ℕ). OnOk c.put_bytes.result ((out : List ℕ) × Answers g.D.PageDisk.honest g.D.PageDisk.state (says_put c.args.id l) c.args.core.now c.put_bytes.new.core out × Appends (g.W.Write.contents c.args.writer.now) (g.W.Write.contents c.put_bytes.new.writer) out))
+    subst (λ (l : List ℕ). OnOk c.put_bytes.result ((out : List ℕ) × Answers g.D.PageDisk (says_put c.args.id l) c.args.core.now c.put_bytes.new.core out × Appends (g.W.Write.contents c.args.writer.now) (g.W.Write.contents c.put_bytes.new.writer) out))
     c.in-Ok.ensures c.put_bytes.ensures
 
 pub returns-in-Err : goal.returns-in-Err
 returns-in-Err g c =
     let old = c.args.core.now in
-    prints c.print_refusal.result (g.W.Write.contents c.args.writer.now) (g.W.Write.contents c.print_refusal.new.writer) (refusal_line OutOfMemory) (Answers g.D.PageDisk.honest g.D.PageDisk.state (says_put c.args.id c.args.bytes.items) old old)
-    (inr (OutOfMemory, stopped_unrecorded g.D.PageDisk.honest g.D.PageDisk.state [] old old (Put (record { 0 = c.args.id }) c.args.bytes.items) OutOfMemory (stays_same g.D.PageDisk.honest g.D.PageDisk.state old) (inl refl), refl)) c.print_refusal.ensures
+    prints c.print_refusal.result (g.W.Write.contents c.args.writer.now) (g.W.Write.contents c.print_refusal.new.writer) (refusal_line OutOfMemory) (Answers g.D.PageDisk (says_put c.args.id c.args.bytes.items) old old)
+    (inr (OutOfMemory, stopped_unrecorded g.D.PageDisk [] old old (Put (record { 0 = c.args.id }) c.args.bytes.items) OutOfMemory (stays_same g.D.PageDisk old) (inl refl), refl)) c.print_refusal.ensures

@@ -12,12 +12,12 @@ pub returns-in-Ok-Accepted : goal.returns-in-Ok-Accepted
 returns-in-Ok-Accepted g c =
     let old = c.args.core.now in
     let new = c.ask.new.core in
-    prints c.print_put.result (g.W.Write.contents c.args.writer.now) (g.W.Write.contents c.print_put.new.writer) (put_line c.in-Ok-Accepted.number) (Answers g.D.PageDisk.honest g.D.PageDisk.state (says_put c.args.id c.args.bytes) old new)
-    (inl (c.in-Ok-Accepted.number, (went_as g.D.PageDisk.honest g.D.PageDisk.state old new (Put (record { 0 = c.args.id }) c.args.bytes) (Put (record { 0 = c.args.id }) c.args.bytes) c.in-Ok-Accepted.field-0 (Accepted c.in-Ok-Accepted.number) refl c.in-Ok-Accepted.field-0-is c.in-Ok-Accepted.ensures.done, refl))) c.print_put.ensures
+    prints c.print_put.result (g.W.Write.contents c.args.writer.now) (g.W.Write.contents c.print_put.new.writer) (put_line c.in-Ok-Accepted.number) (Answers g.D.PageDisk (says_put c.args.id c.args.bytes) old new)
+    (inl (c.in-Ok-Accepted.number, (went_as g.D.PageDisk old new (Put (record { 0 = c.args.id }) c.args.bytes) (Put (record { 0 = c.args.id }) c.args.bytes) c.in-Ok-Accepted.field-0 (Accepted c.in-Ok-Accepted.number) refl c.in-Ok-Accepted.field-0-is c.in-Ok-Accepted.ensures.done, refl))) c.print_put.ensures
 
 pub returns : goal.returns
 returns g c =
     let old = c.args.core.now in
     let new = c.ask.new.core in
-    prints c.print_refusal.result (g.W.Write.contents c.args.writer.now) (g.W.Write.contents c.print_refusal.new.writer) (refusal_line c.in-Err.refusal) (Answers g.D.PageDisk.honest g.D.PageDisk.state (says_put c.args.id c.args.bytes) old new)
-    (inr (c.in-Err.refusal, stopped_as g.D.PageDisk.honest g.D.PageDisk.state old new (Put (record { 0 = c.args.id }) c.args.bytes) (Put (record { 0 = c.args.id }) c.args.bytes) c.in-Err.refusal refl c.in-Err.ensures.refused, refl)) c.print_refusal.ensures
+    prints c.print_refusal.result (g.W.Write.contents c.args.writer.now) (g.W.Write.contents c.print_refusal.new.writer) (refusal_line c.in-Err.refusal) (Answers g.D.PageDisk (says_put c.args.id c.args.bytes) old new)
+    (inr (c.in-Err.refusal, stopped_as g.D.PageDisk old new (Put (record { 0 = c.args.id }) c.args.bytes) (Put (record { 0 = c.args.id }) c.args.bytes) c.in-Err.refusal refl c.in-Err.ensures.refused, refl)) c.print_refusal.ensures

@@ -4,9 +4,9 @@ use Rattle.cs_script.proofs.sweeps.sweep_extent.Goals as goal
 pub returns-in-Ok-clause-done : goal.returns-in-Ok-clause-done
 returns-in-Ok-clause-done g c =
     let e = c.in-Ok.ensures in
-    sweep_done g.D.PageDisk.honest g.D.PageDisk.state c.args.extent c.args.core.now c.ask.new.core c.empty_or_abandon.new.core c.in-Ok.field-0 c.empty_or_abandon.result e.done e.answers e.no_refusal c.empty_or_abandon.ensures.done
+    sweep_done g.D.PageDisk c.args.extent c.args.core.now c.ask.new.core c.empty_or_abandon.new.core c.in-Ok.field-0 c.empty_or_abandon.result e.done e.answers e.no_refusal c.empty_or_abandon.ensures.done
 
 pub returns-in-Ok-clause-refused : goal.returns-in-Ok-clause-refused
 returns-in-Ok-clause-refused g c =
     let e = c.in-Ok.ensures in
-    sweep_stopped g.D.PageDisk.honest g.D.PageDisk.state c.args.extent c.args.core.now c.ask.new.core c.empty_or_abandon.new.core c.in-Ok.field-0 c.empty_or_abandon.result e.done e.answers e.no_refusal c.empty_or_abandon.ensures.refused
+    sweep_stopped g.D.PageDisk c.args.extent c.args.core.now c.ask.new.core c.empty_or_abandon.new.core c.in-Ok.field-0 c.empty_or_abandon.result e.done e.answers e.no_refusal c.empty_or_abandon.ensures.refused

@@ -13,17 +13,17 @@ pub returns-in_err-round-clause-stopped : goal.returns-in_err-round-clause-stopp
 returns-in_err-round-clause-stopped g c =
     let before = g.W.Write.contents c.args.writer.now in
     let after = g.W.Write.contents c.loop-ended.writer in
-    if_refused c.from_residual.result (StopsInRounds g.D.PageDisk.honest g.D.PageDisk.state c.args.core.now c.run_round.new.core before after) c.in_err-round.field-0.0 c.from_residual.ensures.1
-    (stops_in_rounds g.D.PageDisk.honest g.D.PageDisk.state c.args.core.now c.loop-ended.core c.run_round.new.core before after c.loop-ended.ended c.in_err-round.field-0.0 c.loop-ended.invariant c.in_err-round.ensures.refused)
+    if_refused c.from_residual.result (StopsInRounds g.D.PageDisk c.args.core.now c.run_round.new.core before after) c.in_err-round.field-0.0 c.from_residual.ensures.1
+    (stops_in_rounds g.D.PageDisk c.args.core.now c.loop-ended.core c.run_round.new.core before after c.loop-ended.ended c.in_err-round.field-0.0 c.loop-ended.invariant c.in_err-round.ensures.refused)
 
 pub loop-ended-preserved : goal.loop-ended-preserved
 loop-ended-preserved g c =
     let before = g.W.Write.contents c.args.writer.now in
     let mid = g.W.Write.contents c.loop-ended.writer in
     let after = g.W.Write.contents c.print_round.new.writer in
-    so_far_more g.D.PageDisk.honest g.D.PageDisk.state c.args.core.now c.loop-ended.core c.run_round.new.core before mid after c.loop-ended.ended c.in_ok-round.round c.loop-ended.invariant c.in_ok-round.ensures.done
+    so_far_more g.D.PageDisk c.args.core.now c.loop-ended.core c.run_round.new.core before mid after c.loop-ended.ended c.in_ok-round.round c.loop-ended.invariant c.in_ok-round.ensures.done
     (subst (λ (l : List Element). Appends mid after (round_line (c.loop-ended.ended + 1) l)) c.as_slice.ensures c.in_ok-print_round.ensures)
 
 pub returns-clause-stopped : goal.returns-clause-stopped
 returns-clause-stopped g c =
-    stops_full g.D.PageDisk.honest g.D.PageDisk.state c.args.core.now c.loop-ended.core (g.W.Write.contents c.args.writer.now) (g.W.Write.contents c.loop-ended.writer) c.loop-ended.ended c.limit-ended-end.result c.limit-ended-end.ensures c.loop-ended-test.false c.loop-ended.invariant
+    stops_full g.D.PageDisk c.args.core.now c.loop-ended.core (g.W.Write.contents c.args.writer.now) (g.W.Write.contents c.loop-ended.writer) c.loop-ended.ended c.limit-ended-end.result c.limit-ended-end.ensures c.loop-ended-test.false c.loop-ended.invariant

@@ -14,6 +14,6 @@ returns-in-Err-Refused g c =
     let before = g.W.Write.contents c.args.writer.now in
     let mid = g.W.Write.contents c.write_back.new.writer in
     let after = g.W.Write.contents c.print_refusal.new.writer in
-    on_ok_map c.print_refusal.result (Appends mid after (refusal_line c.in-Err-Refused.refusal)) ((out : List ℕ) × Answers g.D.PageDisk.honest g.D.PageDisk.state says_sync old new out × Appends before after out)
-    (stops g.D.PageDisk.honest g.D.PageDisk.state old new before mid after c.in-Err-Refused.refusal (subst (StopsAfter g.D.PageDisk.honest g.D.PageDisk.state old new before mid) c.in-Err-Refused.field-0-is c.in-Err-Refused.ensures.stopped))
+    on_ok_map c.print_refusal.result (Appends mid after (refusal_line c.in-Err-Refused.refusal)) ((out : List ℕ) × Answers g.D.PageDisk says_sync old new out × Appends before after out)
+    (stops g.D.PageDisk old new before mid after c.in-Err-Refused.refusal (subst (StopsAfter g.D.PageDisk old new before mid) c.in-Err-Refused.field-0-is c.in-Err-Refused.ensures.stopped))
     c.print_refusal.ensures

@@ -3,8 +3,8 @@ use Rattle.cs_script.proofs.turns.finish_round.Goals as goal
 
 pub returns-in-Ok-clause-done : goal.returns-in-Ok-clause-done
 returns-in-Ok-clause-done g c =
-    finished_if g.D.PageDisk.honest g.D.PageDisk.state c.args.core.now c.issue_rest.new.core c.end.new.core c.end.result c.in-Ok.ensures.done c.end.ensures.done
+    finished_if g.D.PageDisk c.args.core.now c.issue_rest.new.core c.end.new.core c.end.result c.in-Ok.ensures.done c.end.ensures.done
 
 pub returns-in-Ok-clause-refused : goal.returns-in-Ok-clause-refused
 returns-in-Ok-clause-refused g c =
-    end_refused_if g.D.PageDisk.honest g.D.PageDisk.state c.args.core.now c.issue_rest.new.core c.end.new.core c.end.result c.in-Ok.ensures.done c.end.ensures.refused
+    end_refused_if g.D.PageDisk c.args.core.now c.issue_rest.new.core c.end.new.core c.end.result c.in-Ok.ensures.done c.end.ensures.refused

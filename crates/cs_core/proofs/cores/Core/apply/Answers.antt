@@ -46,6 +46,7 @@ returns-clause-step g c = rw (← c.self.view_is) (
       found = refl;
       limit = refl;
       same_shape = c.serve.ensures.served.same_shape;
+      cause = c.in_ok-reply.ensures.served.cause;
       step = λ honest s was.
           let d = goes g.D.PageDisk.state c.self.inside.store c.serve.new.self c.self.inside.disk c.serve.new.disk (g.D.PageDisk.state c.self.inside.opened.value).durable c.self.inside.found c.self.inside.history.items c.self.inside.limit c.self.inside.limit c.args.event.now c.in_ok-reply.reply c.serve.ensures.served.same_shape (c.in_ok-reply.ensures.served.step honest) s was in
           (d.0, d.1, d.2, d.3, subst (λ (h : List (Asked × Told)). IsIn g.D.PageDisk.state (record { disk = c.serve.new.disk; opened = (g.D.PageDisk.state c.self.inside.opened.value).durable; found = c.self.inside.found; store = but_for_room c.serve.new.self; history = h; limit = c.self.inside.limit }) d.1) (sym hist) d.4);

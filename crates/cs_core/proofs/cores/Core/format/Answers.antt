@@ -11,7 +11,7 @@ pub invariant_of-result : goal.invariant_of-result
 invariant_of-result g c =
     let size : g.D.PageDisk.page_count c.args.disk ≡ 2 + c.args.geometry.extents * c.args.geometry.pages = search rules in
     let written = c.write_new-written in
-    new_core g.D.PageDisk.honest g.D.PageDisk.state g.D.PageDisk.page_count written.new.disk (g.D.PageDisk.state c.of.result.value).durable c.in-Ok.made.store _ _
+    new_core g.D.PageDisk written.new.disk (g.D.PageDisk.state c.of.result.value).durable c.in-Ok.made.store _ _
     c.args.geometry.extents c.args.geometry.pages c.in-Ok.made.superblock c.in-Ok.made.root c.in-Ok.ensures (search rules) (written.ensures.pages ∙ size)
     (ap (λ d. (g.D.PageDisk.state d).durable) c.of.ensures) (λ h. g.met.D.PageDisk.sized written.new.disk h) (g.D.PageDisk.state c.args.disk)
     (λ h.

@@ -6,7 +6,7 @@ pub invariant_of-result : goal.invariant_of-result
 invariant_of-result g c =
     let read = c.open_store-read in
     let made = c.in-Ok.ensures.made in
-    opened_core g.D.PageDisk.honest g.D.PageDisk.state g.D.PageDisk.page_count read.new.disk (g.D.PageDisk.state c.args.disk) (g.D.PageDisk.honest c.args.disk) made.0 made.1 made.2 c.in-Ok.found.commands c.in-Ok.found.live c.in-Ok.found.store
+    opened_core g.D.PageDisk read.new.disk (g.D.PageDisk.state c.args.disk) (g.D.PageDisk.honest c.args.disk) made.0 made.1 made.2 c.in-Ok.found.commands c.in-Ok.found.live c.in-Ok.found.store
     (read.ensures.pages ∙ made.3) made.4 (λ h. read.ensures.honest.1 h) (λ h. c.in-Ok.ensures.state (read.ensures.honest.1 h)) (λ h. g.met.D.PageDisk.whole read.new.disk h) (λ h. g.met.D.PageDisk.sized read.new.disk h)
     (g.D.PageDisk.state c.of.result.value).durable c.new.result.items c.args.limits.history (ap (λ d. (g.D.PageDisk.state d).durable) c.of.ensures) c.new.ensures.items
 

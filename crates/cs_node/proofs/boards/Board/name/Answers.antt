@@ -9,8 +9,8 @@ store-requires g c =
     let number = ap (λ m. m.0.number) i.3 in (
       i.1,
       search rules,
-      raise_keeps _ _ _ _ _ _ _ i.2
+      raise_keeps _ _ _ _ _ _ i.2
           (omega (arith, number))
-          (c.args.core.now, is_behind _ _ _ _ c.requires.start c.progress.ensures.legal c.progress.ensures.left, c.requires.frontier)
+          (c.args.core.now, is_behind _ _ _ c.requires.start c.progress.ensures.legal c.progress.ensures.left, c.requires.frontier)
           (inr (ap (λ m. m.0.start) i.3)),
     )

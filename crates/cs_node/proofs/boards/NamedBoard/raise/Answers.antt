@@ -9,8 +9,8 @@ store-requires g c =
     let f = c.progress-frontier.ensures.frontier in (
       seat.0 ∙ sym c.args.self.now.named,
       search rules,
-      raise_keeps _ _ _ _ _ _ _ seat.1
+      raise_keeps _ _ _ _ _ _ seat.1
           (subst (λ (n : ℕ). c.args.keeper.now.me.0.number ≤ n) (sym f) c.requires.later)
-          (c.args.core.now, is_behind _ _ _ _ c.requires.start c.progress-frontier.ensures.legal c.progress-frontier.ensures.left, sym f)
+          (c.args.core.now, is_behind _ _ _ c.requires.start c.progress-frontier.ensures.legal c.progress-frontier.ensures.left, sym f)
           (inl (ap (λ m. m.0.start) seat.2)),
     )

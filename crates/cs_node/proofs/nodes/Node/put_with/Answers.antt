@@ -3,4 +3,4 @@ use Rattle.cs_node.proofs.Going.{behind_at}
 use Rattle.cs_node.proofs.nodes.Node.put_with.Goals as goal
 
 pub returns-clause-step : goal.returns-clause-step
-returns-clause-step g c = (c.behind-take.inside.engine.core, c.put.new.self.core, behind_at _ _ _ _ _ (c.behind-take.view_is ∙ c.deref_mut.ensures.value) c.take.ensures.behind, c.put.ensures.step)
+returns-clause-step g c = (c.behind-take.inside.engine.core, c.put.new.self.core, behind_at _ _ _ _ (c.behind-take.view_is ∙ c.deref_mut.ensures.value) c.take.ensures.behind, c.put.ensures.step)

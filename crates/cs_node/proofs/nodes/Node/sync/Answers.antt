@@ -7,13 +7,13 @@ use Rattle.cs_node.proofs.nodes.Node.sync.Goals as goal
 
 pub returns-in_err-target-clause-err : goal.returns-in_err-target-clause-err
 returns-in_err-target-clause-err g c =
-    if_same c.from_residual.result (λ (r : Refusal). WhileLocked g.D.PageDisk.honest g.D.PageDisk.state g.K.Naming.start (λ old new. IsSyncRefused g.D.PageDisk.honest g.D.PageDisk.state old r new)) c.in_err-target.field-0.0 c.from_residual.ensures.1
-    (c.behind-take.inside.engine.core, c.stage.new.self.core, behind_at _ _ _ _ _ (c.behind-take.view_is ∙ c.deref_mut.ensures.value) c.take.ensures.behind, inl c.in_err-target.ensures.staged)
+    if_same c.from_residual.result (λ (r : Refusal). WhileLocked g.D.PageDisk g.K.Naming.start (λ old new. IsSyncRefused g.D.PageDisk old r new)) c.in_err-target.field-0.0 c.from_residual.ensures.1
+    (c.behind-take.inside.engine.core, c.stage.new.self.core, behind_at _ _ _ _ (c.behind-take.view_is ∙ c.deref_mut.ensures.value) c.take.ensures.behind, inl c.in_err-target.ensures.staged)
 
 pub returns-in_err-advance-clause-err : goal.returns-in_err-advance-clause-err
 returns-in_err-advance-clause-err g c =
-    if_same c.from_residual-in_err-advance.result (λ (r : Refusal). WhileLocked g.D.PageDisk.honest g.D.PageDisk.state g.K.Naming.start (λ old new. IsSyncRefused g.D.PageDisk.honest g.D.PageDisk.state old r new)) c.in_err-advance.field-0.0 c.from_residual-in_err-advance.ensures.1
-    (c.behind-take-in-loop.inside.engine.core, c.advance.new.self.core, behind_at _ _ _ _ _ (c.behind-take-in-loop.view_is ∙ c.deref_mut-in-loop.ensures.value) c.take-in-loop.ensures.behind, inr c.in_err-advance.ensures.advance.1)
+    if_same c.from_residual-in_err-advance.result (λ (r : Refusal). WhileLocked g.D.PageDisk g.K.Naming.start (λ old new. IsSyncRefused g.D.PageDisk old r new)) c.in_err-advance.field-0.0 c.from_residual-in_err-advance.ensures.1
+    (c.behind-take-in-loop.inside.engine.core, c.advance.new.self.core, behind_at _ _ _ _ (c.behind-take-in-loop.view_is ∙ c.deref_mut-in-loop.ensures.value) c.take-in-loop.ensures.behind, inr c.in_err-advance.ensures.advance.1)
 
 pub returns-in_err-advance-clause-later : goal.returns-in_err-advance-clause-later
 returns-in_err-advance-clause-later g c = omega (arith, c.loop.invariant.2, c.see-frontier.ensures.later, c.see-frontier.ensures.seen)
@@ -24,7 +24,7 @@ returns-then-target-frontier-clause-ok g c = (
   (
     c.in_ok-target.target,
     c.if-target-frontier.true,
-    (c.behind-take.inside.engine.core, c.stage.new.self.core, behind_at _ _ _ _ _ (c.behind-take.view_is ∙ c.deref_mut.ensures.value) c.take.ensures.behind, c.in_ok-target.ensures.staged),
+    (c.behind-take.inside.engine.core, c.stage.new.self.core, behind_at _ _ _ _ (c.behind-take.view_is ∙ c.deref_mut.ensures.value) c.take.ensures.behind, c.in_ok-target.ensures.staged),
   ),
 )
 

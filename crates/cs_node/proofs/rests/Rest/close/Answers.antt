@@ -24,4 +24,4 @@ returns-in-Ok-None-clause-acknowledged g c = λ honest.
 pub returns-in-Ok-None-clause-left : goal.returns-in-Ok-None-clause-left
 returns-in-Ok-None-clause-left g c = λ honest.
     let e = c.end.ensures in
-    left_of_parts g.D.PageDisk.state g.K.Naming.start c.args.self.core c.end.result.disk c.end.result.history.items c.end.result.acknowledged c.end.result.accepted e.disk e.history e.acknowledged e.accepted (c.core.ensures.behind.left honest)
+    left_of_parts g.D.PageDisk g.K.Naming.start c.args.self.core c.end.result.disk c.end.result.history.items c.end.result.acknowledged c.end.result.accepted e.disk e.history e.acknowledged e.accepted (c.core.ensures.behind.left honest)
