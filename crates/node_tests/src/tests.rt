@@ -1,9 +1,15 @@
 //! What no contract says: that calls succeed with ample memory, and what they answer then.
 ghost use Rattle.std.specs.Prelude.{◌≡◌, [], IfOk};
 
+mod asks;
 mod failures;
+mod gates;
+mod histories;
 mod losses;
+mod orders;
+mod rivals;
 mod sweeps;
+mod syncs;
 mod threads;
 mod together;
 mod trials;

@@ -1,5 +1,5 @@
 //! Two threads on one node, each of which waits for the other at most a bounded number of loads.
-use super::together::{Together, run};
+use super::together::{Ended, Together, run};
 use super::{bytes_of, id, new_core, put, sync};
 use cs_core::Bytes;
 use cs_disk::PageDisk;
@@ -371,7 +371,7 @@ pub fn new_rides<D: PageDisk, K: Naming, R: Wait + Abort>(
 #[test]
 fn two_ramps_lead_to_one_dock(rt: HostRuntime) -> Result<(), Fail> {
     let end = run(&rt, rt.alloc(), new_core(rt.alloc(), 64)?, Together::Rides);
-    assert!(rt; matches!(end, Ok((4, _))));
+    assert!(rt; matches!(end, Ok(Ended { accepted: 4, .. })));
     Ok(())
 }
 
@@ -411,6 +411,15 @@ fn jobs_answer_in_their_order(rt: HostRuntime) -> Result<(), Fail> {
         new_core(rt.alloc(), 64)?,
         Together::Numbers,
     );
-    assert!(rt; matches!(end, Ok((0, 0))));
+    assert!(rt;
+        matches!(
+            end,
+            Ok(Ended {
+                accepted: 0,
+                acknowledged: 0,
+                ..
+            })
+        )
+    );
     Ok(())
 }

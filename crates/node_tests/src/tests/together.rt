@@ -4,8 +4,10 @@ ghost use Rattle.std.specs.Prelude.{◌≡◌, []};
 ghost use Rattle.cs_node.specs.Starts.{start_of};
 
 use super::losses::put_beside;
+use super::orders::tell_beside;
+use super::rivals::contend;
 use super::threads::{new_rides, numbers_in_order, polls_beside_a_put, puts_beside_a_round};
-use cs_core::Core;
+use cs_core::{Core, Event, Reply};
 use cs_disk::{MemoryDisk, PageDisk};
 use cs_node::*;
 use std::alloc::Global;
@@ -23,10 +25,29 @@ pub enum Together {
     Rides,
     Losses,
     Numbers,
+    Rivals,
+    Orders,
 }
 
-/// How many commands a node that was closed accepted, and how many of them are acknowledged, or why it wasn't closed.
-pub type End = Result<(u64, u64), Unclosed>;
+/// What the threads give back: their purses, if they do, and a number, 0 where they count nothing.
+#[derive(Drop)]
+pub struct Gave<K: Naming> {
+    pub purses: Vec<Purse<K>>,
+    pub number: u64,
+}
+
+/// How many commands a node that was closed accepted, and how many of them are acknowledged, its history, and the number that the threads
+/// gave back.
+#[derive(Drop)]
+pub struct Ended {
+    pub accepted: u64,
+    pub acknowledged: u64,
+    pub history: Vec<(Event, Reply)>,
+    pub number: u64,
+}
+
+/// What is left of a node that was closed, or why it wasn't.
+pub type End = Result<Ended, Unclosed>;
 
 /// Does this on a node of the core, which did nothing yet, and closes the node.
 pub fn run<R: Threads + Wait + Abort + Sync>(
@@ -54,10 +75,32 @@ fn run_named<K: Naming + Send + Sync, R: Threads + Wait + Abort + Sync>(
     requires new { (core.history ≡ []) × (core.store.accepted ≡ 0) × (core.store.frontier ≡ 0) }
 {
     let node = Node::<MemoryDisk, K>::new(board, core);
-    let purses = purses_of(rt, alloc, &node, together);
+    let Gave { purses, number } = given_by(rt, alloc, &node, together);
     match node.rest().close(alloc, purses) {
-        Ok(closed) => Ok((closed.accepted, closed.acknowledged)),
+        Ok(closed) => Ok(Ended {
+            accepted: closed.accepted,
+            acknowledged: closed.acknowledged,
+            history: closed.history,
+            number,
+        }),
         Err(not) => Err(not.why),
+    }
+}
+
+/// What the threads give back.
+fn given_by<D: PageDisk + Send, K: Naming + Send + Sync, R: Threads + Wait + Abort + Sync>(
+    rt: &R,
+    alloc: Global,
+    node: &Node<D, K>,
+    together: Together,
+) -> Gave<K> {
+    match together {
+        Together::Rivals => contend(rt, alloc, node),
+        Together::Orders => tell_beside(rt, alloc, node),
+        _ => Gave {
+            purses: purses_of(rt, alloc, node, together),
+            number: 0,
+        },
     }
 }
 
@@ -86,5 +129,6 @@ fn purses_of<D: PageDisk + Send, K: Naming + Send + Sync, R: Threads + Wait + Ab
             numbers_in_order(rt, alloc, node);
             Vec::new(alloc)
         }
+        Together::Rivals | Together::Orders => Vec::new(alloc),
     }
 }
