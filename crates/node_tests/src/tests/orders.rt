@@ -11,9 +11,11 @@ use std::process::Abort;
 use std::sync::atomic::{AtomicU64, Ordering};
 use std::sync::{Arc, Wait};
 use std::test::*;
+use std::thread;
 use std::thread::Threads;
 
-/// A gate that mixes what it is told into one number, by a load and a store: were two threads told at a time, one of them would be lost.
+/// A gate that mixes what it is told into one number, by a load, a while for other threads, and a store: were two threads told at a time, one
+/// of them would be lost.
 #[derive(Drop)]
 struct Mixes {
     told: Arc<AtomicU64, Global>,
@@ -26,6 +28,7 @@ impl Gate for Mixes {
 
     fn within(&self, step: Step) {
         let before = self.told.load(Ordering::SeqCst);
+        thread::yield_now();
         self.told.store(mixed(before, step), Ordering::SeqCst);
     }
 }
