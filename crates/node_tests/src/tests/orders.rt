@@ -63,7 +63,7 @@ impl<D: PageDisk + Send, K: Naming + Send + Sync> Job<Node<D, K>> for Puts<K> {
             gate,
             alloc,
         } = self;
-        for last in 0..200u8 {
+        for last in 0..100u8 {
             if let Some(bytes) = bytes_of(alloc, last)
                 && let Ok(ticket) = node.put_with(rt, &mut purse, id(last), bytes, &gate)
             {
@@ -74,7 +74,7 @@ impl<D: PageDisk + Send, K: Naming + Send + Sync> Job<Node<D, K>> for Puts<K> {
     }
 }
 
-/// Writes back with that gate.
+/// Writes back with that gate, for so many turns that most of them have nothing to do.
 #[derive(Drop)]
 struct Writes<K: Naming> {
     pilot: Pilot<K>,
@@ -87,8 +87,9 @@ impl<D: PageDisk + Send, K: Naming + Send + Sync> Job<Node<D, K>> for Writes<K> 
     fn run<R: Wait>(self, rt: &R, node: &Node<D, K>) -> bool {
         let Writes { mut pilot, gate } = self;
         let mut works = true;
-        for _ in 0..600 {
+        for _ in 0..20_000 {
             works = works && pilot.turn(rt, node, &gate).is_ok();
+            thread::yield_now();
         }
         works
     }

@@ -13,13 +13,13 @@ use std::sync::Wait;
 use std::test::*;
 use std::thread::Threads;
 
-/// A core that did nothing yet, over a new store of sixteen extents of four pages.
+/// A core that did nothing yet, over a new store of 64 extents of four pages.
 pub fn wide_core(alloc: Global) -> Result<Core<MemoryDisk>, Fail>
     ensures { IfOk result (λ core. (core.history ≡ []) × (core.store.accepted ≡ 0) × (core.store.frontier ≡ 0)) }
 {
-    let geometry = Geometry::new(16, 4)?;
-    let disk = MemoryDisk::new(alloc, 66)?;
-    match Core::format(alloc, disk, geometry, Limits { history: 1000 }) {
+    let geometry = Geometry::new(64, 4)?;
+    let disk = MemoryDisk::new(alloc, 258)?;
+    match Core::format(alloc, disk, geometry, Limits { history: 2000 }) {
         Ok(core) => Ok(core),
         Err(_) => Err(Fail::from("no core")),
     }
