@@ -45,12 +45,14 @@ reply_of told (Ok x) = told x
 reply_of told (Err r) = Refused r
 
 -- A call that does an event with this result writes and flushes as its reply has it, and no more: an honest disk counts so many
--- calls and holds that then, and a 1 comes of a failure that the disk counted. Its honesty and its size stay.
+-- calls and holds that then. Its honesty and its size stay.
 pub record WritesAsTold {D T : Type 0} (disks : PageDisk D)
     (old : Stored) (before : D) (event : Event) (told : T → Reply) (result : Result T Refusal) (after : D) : Type 0 where
   pub calls : disks.honest before → CountsCalls event (reply_of told result) (disks.moment before) (disks.moment after)
   pub device : disks.honest before → IsDiskAfter (but_for_room old) (disks.state before) event (reply_of told result) (disks.state after)
+  -- 1 is answered only where the disk's count of failures rose, or stood at its end
   pub cause : IsCaused (disks.failure_count before) (disks.failure_count after) result
+  -- a crash meanwhile leaves what one before it or after it might have left
   pub time : GoesOn disks.honest disks.state disks.moment disks.left_since before after
   pub honesty : disks.honest before ↔ disks.honest after
   pub pages : disks.page_count after ≡ disks.page_count before

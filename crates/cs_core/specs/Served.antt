@@ -37,7 +37,7 @@ pub record IsServed {D : Type 0} (disks : PageDisk D)
   pub quiet : disks.honest before → (event ≡ Issue) ⊎ (event ≡ End) ⊎ (disks.state after ≡ disks.state before)
   pub rises : old.frontier ≤ new.frontier
   pub same_shape : shape new.extents ≡ shape old.extents
-  -- what crashes in the meantime may leave is told by the disk before and after; its honesty and its size stay
+  -- a crash meanwhile leaves what one before it or after it might have left; the disk's honesty and its size stay
   pub time : GoesOn disks.honest disks.state disks.moment disks.left_since before after
   pub honesty : disks.honest before ↔ disks.honest after
   pub pages : disks.page_count after ≡ disks.page_count before

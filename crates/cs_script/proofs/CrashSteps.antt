@@ -3,7 +3,6 @@ use Rattle.std.proofs.Common.{◌≡◌, ◌⊎◌, ℕ, Bool, List, ◌++◌, l
 use Rattle.std.specs.Prelude.{Option, ◌↔◌}
 use Rattle.std.specs.Io.KnownBytes.{Appends}
 use Rattle.cs_deps.specs.declared.refusals.Refusal.{Refusal}
-use Rattle.cs_disk.specs.declared.disk.CrashDisk.{Ghosts as CrashDisk}
 use Rattle.cs_disk.specs.declared.disk.PageDisk.{Ghosts as PageDisk}
 use Rattle.cs_disk.specs.Disk.{State as DiskState, crashed}
 use Rattle.cs_core.specs.Views.{View}
@@ -12,16 +11,16 @@ use Rattle.cs_script.specs.Lines.{says_crash}
 use Rattle.cs_script.specs.Outputs.{crash_line, open_line, refusal_line}
 use Rattle.cs_script.proofs.Appended.{appends_then}
 
-module _ {D : Type 0} (disks : PageDisk D) (crashing : CrashDisk D) where
-  pub crashed_of : (mask : List Bool) (before d after : D) → d ≡ before → crashing.can_crash before → (disks.honest d → crashing.can_crash d → disks.state after ≡ crashed (disks.state d) mask) → disks.honest d ↔ disks.honest after
-      → disks.page_count after ≡ disks.page_count d → disks.failure_count after ≡ disks.failure_count d → IsCrashed disks crashing mask before after
+module _ {D : Type 0} (disks : PageDisk D) (can_crash : D → Type 0) (volatile_count : D → ℕ) where
+  pub crashed_of : (mask : List Bool) (before d after : D) → d ≡ before → can_crash before → (disks.honest d → can_crash d → disks.state after ≡ crashed (disks.state d) mask) → disks.honest d ↔ disks.honest after
+      → disks.page_count after ≡ disks.page_count d → disks.failure_count after ≡ disks.failure_count d → IsCrashed disks can_crash volatile_count mask before after
   crashed_of mask before d after e can image same pages failures =
-      subst (λ x. IsCrashed disks crashing mask x after) e (record { image = λ h. image h (subst crashing.can_crash (sym e) can); stays_honest = same; pages = pages; failures = failures })
+      subst (λ x. IsCrashed disks can_crash volatile_count mask x after) e (record { image = λ h. image h (subst can_crash (sym e) can); stays_honest = same; pages = pages; failures = failures })
 
   -- the core that goes on, and the two lines that are printed
   pub goes_on : (mask : List Bool) (old new : View D) (count : ℕ) (a b c : Option (List ℕ)) → count ≡ kept_count mask → Appends a b (crash_line count (length mask))
-      → Appends b c (open_line new.found.0 new.found.1) → Reopens disks crashing mask old new
-      → (out : List ℕ) × Crashes disks crashing mask old new out × Appends a c out
+      → Appends b c (open_line new.found.0 new.found.1) → Reopens disks can_crash volatile_count mask old new
+      → (out : List ℕ) × Crashes disks can_crash volatile_count mask old new out × Appends a c out
   goes_on mask old new count a b c e first second reopens = (
     crash_line (kept_count mask) (length mask) ++ open_line new.found.0 new.found.1,
     (reopens, refl),
@@ -30,9 +29,9 @@ module _ {D : Type 0} (disks : PageDisk D) (crashing : CrashDisk D) where
 
   -- no core goes on
   pub ends : {T : Type 0} (mask : List Bool) (old : View D) (r : Refusal) (count status : ℕ) (a b c : Option (List ℕ)) → count ≡ kept_count mask → Appends a b (crash_line count (length mask))
-      → IsCrash crashing (says_crash mask) old mask → IsNotReopened disks crashing mask old r
+      → IsCrash can_crash volatile_count (says_crash mask) old mask → IsNotReopened disks can_crash volatile_count mask old r
       → ((status ≡ 3) × Appends b c (refusal_line r)) ⊎ (status ≡ 4)
-      → ((status ≡ 3) × (◌≡◌ {A = Option T} None None) × ((out : List ℕ) × CrashesForGood disks crashing (says_crash mask) old out × Appends a c out)) ⊎ (status ≡ 4)
+      → ((status ≡ 3) × (◌≡◌ {A = Option T} None None) × ((out : List ℕ) × CrashesForGood disks can_crash volatile_count (says_crash mask) old out × Appends a c out)) ⊎ (status ≡ 4)
   ends mask old r count status a b c e first is_crash why (inl (is, second)) = inl (
     is,
     refl,

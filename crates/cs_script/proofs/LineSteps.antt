@@ -4,7 +4,6 @@ use Rattle.std.specs.Prelude.{Option, Result, Ok, Err, IfErr, IfOk, IfSome, IsTr
 use Rattle.std.proofs.lemmas.List.{append-nil}
 use Rattle.std.specs.Io.BufRead.{strip_last, take_through, drop_through, first_piece, DropsThrough}
 use Rattle.std.specs.Io.KnownBytes.{Appends, IsAtEnd}
-use Rattle.cs_disk.specs.declared.disk.CrashDisk.{Ghosts as CrashDisk}
 use Rattle.cs_disk.specs.declared.disk.PageDisk.{Ghosts as PageDisk}
 use Rattle.cs_script.specs.Lines.{Said, says_put, says_get, says_delete, says_sweep, says_sync, says_step, says_plan, says_document, says_crash, says_nothing, unreadable, said_of}
 use Rattle.cs_disk.specs.Disk.{State as DiskState}
@@ -31,15 +30,15 @@ pub if_some_map : (o : Option (List ℕ)) (P Q : List ℕ → Type 0) → ((xs :
 if_some_map None P Q f p = tt
 if_some_map (Some xs) P Q f p = f xs p
 
-module _ {D : Type 0} (disks : PageDisk D) (crashing : CrashDisk D) where
+module _ {D : Type 0} (disks : PageDisk D) (can_crash : D → Type 0) (volatile_count : D → ℕ) where
   abbrev pub RunsFrom : List ℕ → View D → ℕ → Option (View D) → ℕ → List ℕ → Type 0
-  RunsFrom text old status new last out = Runs disks crashing text old status new last out
+  RunsFrom text old status new last out = Runs disks can_crash volatile_count text old status new last out
 
   abbrev pub GoesOnWith : Said → View D → ℕ → View D → ℕ → List ℕ → Type 0
-  GoesOnWith said old status new after out = GoesOn disks crashing said old status new after out
+  GoesOnWith said old status new after out = GoesOn disks can_crash volatile_count said old status new after out
 
   abbrev pub EndsWith : Said → View D → List ℕ → Type 0
-  EndsWith said old out = CrashesForGood disks crashing said old out
+  EndsWith said old out = CrashesForGood disks can_crash volatile_count said old out
 
   small_then : (said : Said) (old new : View D) (status after : ℕ) (out : List ℕ) → status ≤ 1 → GoesOnWith said old status new after out → after ≤ 1
   small_then said old new status after out h (inl (not, (can, tells, answers, is))) = subst (λ n. n ≤ 1) (sym is) (small_after (said_to can said) status h)
@@ -115,22 +114,22 @@ module _ {D : Type 0} (disks : PageDisk D) (crashing : CrashDisk D) where
 
   -- a readable `crash`
   pub on_crash : {E : Type 0} (said said' : Said) (mask : List Bool) (old : View D) (status : ℕ) (a b : Option (List ℕ)) (r : Result (View D × ℕ) E) → said ≡ said'
-      → IsCrash crashing said old mask
-      → IfOk r (λ on. (on.1 ≡ status) × ((out : List ℕ) × Crashes disks crashing mask old on.0 out × Appends a b out))
+      → IsCrash can_crash volatile_count said old mask
+      → IfOk r (λ on. (on.1 ≡ status) × ((out : List ℕ) × Crashes disks can_crash volatile_count mask old on.0 out × Appends a b out))
       → IfOk r (λ on. (out : List ℕ) × GoesOnWith said' old status on.0 on.1 out × Appends a b out)
   on_crash said said' mask old status a b (Ok on) e is_crash (is, (out, crashes, printed)) =
-      (out, inr (mask, subst (λ s. IsCrash crashing s old mask) e is_crash, crashes, is), printed)
+      (out, inr (mask, subst (λ s. IsCrash can_crash volatile_count s old mask) e is_crash, crashes, is), printed)
   on_crash said said' mask old status a b (Err x) e is_crash h = tt
 
   pub ended_crash : {A : Type 0} (said said' : Said) (mask : List Bool) (old : View D) (a b : Option (List ℕ)) (r : Result A (Ran D)) → said ≡ said'
-      → IsCrash crashing said old mask
+      → IsCrash can_crash volatile_count said old mask
       → IfErr r (Ended (says_crash mask) old a b) → IfErr r (Ended said' old a b)
   ended_crash said said' mask old a b r e is_crash h = subst (λ s. IfErr r (Ended s old a b)) (sym is_crash.0 ∙ e) h
 
   -- any other line
   pub on_answer : {E : Type 0} (said said' heard : Said) (can : Bool) (old : View D) (status : ℕ) (a b : Option (List ℕ)) (r : Result (View D × ℕ) E) → said ≡ said'
-      → ((mask : List Bool) → ¬ IsCrash crashing said old mask)
-      → (IsTrue can ↔ crashing.can_crash old.disk) → heard ≡ said_to can said
+      → ((mask : List Bool) → ¬ IsCrash can_crash volatile_count said old mask)
+      → (IsTrue can ↔ can_crash old.disk) → heard ≡ said_to can said
       → IfOk r (λ on. (on.1 ≡ status_after heard status) × ((out : List ℕ) × Answers disks heard old on.0 out × Appends a b out))
       → IfOk r (λ on. (out : List ℕ) × GoesOnWith said' old status on.0 on.1 out × Appends a b out)
   on_answer said said' heard can old status a b (Ok on) e not tells is_heard (is, (out, answers, printed)) = (

@@ -3,7 +3,6 @@ use Rattle.std.specs.Prelude.{◌≡◌, ◌⊎◌, ◌++◌, ◌↔◌, ℕ, Bo
 use Rattle.cs_chunk.specs.Reads.{IsNoAnswer}
 use Rattle.cs_deps.specs.declared.refusals.Refusal.{Refusal}
 use Rattle.cs_deps.specs.declared.refusals.Refusal.TheVariants.{DeviceFault}
-use Rattle.cs_disk.specs.declared.disk.CrashDisk.{Ghosts as CrashDisk}
 use Rattle.cs_disk.specs.declared.disk.PageDisk.{Ghosts as PageDisk}
 use Rattle.cs_disk.specs.Disk.{Rises, State as DiskState, crashed, flushed, page, seen}
 use Rattle.cs_extent.specs.State.{shape}
@@ -17,10 +16,10 @@ abbrev pub kept_count : List Bool → ℕ
 kept_count mask = count_by (λ b. b) mask
 
 -- a line `crash` that fits the disk: the disk can crash, and the line has one digit for each of its volatile writes
-abbrev pub IsCrash : {D : Type 0} → (crashing : CrashDisk D) → Said → View D → List Bool → Type 0
-IsCrash crashing said v mask = (said ≡ says_crash mask) × crashing.can_crash v.disk × (length mask ≡ crashing.volatile_count v.disk)
+abbrev pub IsCrash : {D : Type 0} → (can_crash : D → Type 0) → (volatile_count : D → ℕ) → Said → View D → List Bool → Type 0
+IsCrash can_crash volatile_count said v mask = (said ≡ says_crash mask) × can_crash v.disk × (length mask ≡ volatile_count v.disk)
 
-module _ {D : Type 0} (disks : PageDisk D) (crashing : CrashDisk D) where
+module _ {D : Type 0} (disks : PageDisk D) (can_crash : D → Type 0) (volatile_count : D → ℕ) where
   -- The disk crashed, and kept those of its volatile writes for which the mask says true.
   pub record IsCrashed (mask : List Bool) (before after : D) : Type 0 where
     pub image : disks.honest before → disks.state after ≡ crashed (disks.state before) mask
@@ -63,5 +62,5 @@ module _ {D : Type 0} (disks : PageDisk D) (crashing : CrashDisk D) where
 
   -- the disk crashes, and the store that is left isn't opened: that is printed
   abbrev pub CrashesForGood : Said → View D → List ℕ → Type 0
-  CrashesForGood said old out = (mask : List Bool) × IsCrash crashing said old mask × (r : Refusal) × IsNotReopened mask old r
+  CrashesForGood said old out = (mask : List Bool) × IsCrash can_crash volatile_count said old mask × (r : Refusal) × IsNotReopened mask old r
       × (out ≡ crash_line (kept_count mask) (length mask) ++ refusal_line r)

@@ -5,7 +5,6 @@ use Rattle.cs_deps.specs.declared.elements.Element.{Element}
 use Rattle.cs_deps.specs.declared.refusals.Refusal.{Refusal}
 use Rattle.cs_deps.specs.declared.refusals.Refusal.TheVariants as refusal
 use Rattle.cs_deps.specs.State.{everything}
-use Rattle.cs_disk.specs.declared.disk.CrashDisk.{Ghosts as CrashDisk}
 use Rattle.cs_disk.specs.declared.disk.PageDisk.{Ghosts as PageDisk}
 use Rattle.cs_plan.specs.Best.{IsBestPlan}
 use Rattle.cs_disk.specs.Disk.{State as DiskState}
@@ -201,17 +200,17 @@ status_after unreadable status = 1
 status_after (says_crash mask) status = 1
 status_after said status = status
 
-module _ {D : Type 0} (disks : PageDisk D) (crashing : CrashDisk D) where
+module _ {D : Type 0} (disks : PageDisk D) (can_crash : D → Type 0) (volatile_count : D → ℕ) where
   -- a line is answered by the core, as what it says to the core's disk
   abbrev pub AnswersOver : Said → (old : View D) (status : ℕ) → (new : View D) (after : ℕ) → List ℕ → Type 0
   AnswersOver said old status new after out =
-      (can : Bool) × (IsTrue can ↔ crashing.can_crash old.disk) × Answers disks (said_to can said) old new out × (after ≡ status_after (said_to can said) status)
+      (can : Bool) × (IsTrue can ↔ can_crash old.disk) × Answers disks (said_to can said) old new out × (after ≡ status_after (said_to can said) status)
 
   -- a line that isn't a readable `crash` is answered by the core; and after a crash the core goes on that is opened then
   abbrev pub GoesOn : Said → (old : View D) (status : ℕ) → (new : View D) (after : ℕ) → List ℕ → Type 0
   GoesOn said old status new after out =
-      (((mask : List Bool) → ¬ IsCrash crashing said old mask) × AnswersOver said old status new after out)
-      ⊎ ((mask : List Bool) × IsCrash crashing said old mask × Crashes disks crashing mask old new out × (after ≡ status))
+      (((mask : List Bool) → ¬ IsCrash can_crash volatile_count said old mask) × AnswersOver said old status new after out)
+      ⊎ ((mask : List Bool) × IsCrash can_crash volatile_count said old mask × Crashes disks can_crash volatile_count mask old new out × (after ≡ status))
 
   -- A script runs: nothing is left of it; or its first line is answered and the rest runs; or no store is opened after a crash, and
   -- it ends with no core. Each line ends with a line feed, the last one may end with the text.
@@ -222,5 +221,5 @@ module _ {D : Type 0} (disks : PageDisk D) (crashing : CrashDisk D) where
         → Runs (drop_through 10 text) mid after new last rest
         → Runs text old status new last (out ++ rest)
     unopened : (text : List ℕ) (old : View D) (status : ℕ) (out : List ℕ)
-        → text ≢ [] → CrashesForGood disks crashing (said_of (first_piece 10 text)) old out
+        → text ≢ [] → CrashesForGood disks can_crash volatile_count (said_of (first_piece 10 text)) old out
         → Runs text old status None 3 out

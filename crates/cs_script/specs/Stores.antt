@@ -1,7 +1,6 @@
 -- The stores that scripts run over.
 use Rattle.std.specs.Prelude.{◌≡◌, ℕ, List, [], Option, Result, Ok, Err}
 use Rattle.cs_deps.specs.declared.refusals.Refusal.{Refusal}
-use Rattle.cs_disk.specs.declared.disk.CrashDisk.{Ghosts as CrashDisk}
 use Rattle.cs_disk.specs.declared.disk.PageDisk.{Ghosts as PageDisk}
 use Rattle.cs_disk.specs.Disk.{State as DiskState}
 use Rattle.cs_core.specs.Openings.{IsOpened}
@@ -22,8 +21,8 @@ IsJustOpened core = IsUnused core × IsOpened ⊥ core.opened core.found core.st
 abbrev pub IsNew : {D : Type 0} → (extents pages : ℕ) → View D → Type 0
 IsNew extents pages core = IsUnused core × (core.store ≡ new_stored extents pages)
 
-module _ {D : Type 0} (disks : PageDisk D) (crashing : CrashDisk D) where
+module _ {D : Type 0} (disks : PageDisk D) (can_crash : D → Type 0) (volatile_count : D → ℕ) where
   -- a script runs over the store that there is; or there is none, and that is printed
   abbrev pub RunsOver : Result (View D) Refusal → List ℕ → ℕ → List ℕ → Type 0
-  RunsOver (Ok core) text status out = (left : Option (View D)) × Runs disks crashing text core 0 left status out
+  RunsOver (Ok core) text status out = (left : Option (View D)) × Runs disks can_crash volatile_count text core 0 left status out
   RunsOver (Err refusal) text status out = (status ≡ 3) × (out ≡ refusal_line refusal)

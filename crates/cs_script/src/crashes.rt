@@ -18,8 +18,8 @@ use std::io::Write;
 
 /// The mask of a line `crash`, where the disk can crash and the mask has a digit for each volatile write.
 pub fn mask_of<'a, D: CrashDisk>(core: &Core<D>, line: &'a Line) -> Option<&'a [bool]>
-    ensures { MatchOption result ((mask : List Bool) → ¬ IsCrash D.CrashDisk (said_by line.now) core.now mask)
-        (λ mask. IsCrash D.CrashDisk (said_by line.now) core.now mask.now) }
+    ensures { MatchOption result ((mask : List Bool) → ¬ IsCrash D.can_crash D.volatile_count (said_by line.now) core.now mask)
+        (λ mask. IsCrash D.can_crash D.volatile_count (said_by line.now) core.now mask.now) }
 {
     match line {
         Line::Crash { mask } => fitting(core.disk(), mask),
@@ -48,11 +48,11 @@ pub fn crash<D: CrashDisk + Drop, W: Write>(
     status: u8,
     writer: &mut W,
 ) -> Result<(Core<D>, u8), Ran<D>>
-    requires { IsCrash D.CrashDisk (says_crash mask.now) core mask.now }
-    ensures on { IfOk result (λ on. (on.1 ≡ status) × ((out : List ℕ) × Crashes D.PageDisk D.CrashDisk mask.now core on.0 out
+    requires { IsCrash D.can_crash D.volatile_count (says_crash mask.now) core mask.now }
+    ensures on { IfOk result (λ on. (on.1 ≡ status) × ((out : List ℕ) × Crashes D.PageDisk D.can_crash D.volatile_count mask.now core on.0 out
         × Appends (W.contents writer.old) (W.contents writer.new) out)) }
     ensures ended { IfErr result (λ ran. ((ran.status ≡ 3) × (ran.core ≡ None)
-        × ((out : List ℕ) × CrashesForGood D.PageDisk D.CrashDisk (says_crash mask.now) core out × Appends (W.contents writer.old) (W.contents writer.new) out))
+        × ((out : List ℕ) × CrashesForGood D.PageDisk D.can_crash D.volatile_count (says_crash mask.now) core out × Appends (W.contents writer.old) (W.contents writer.new) out))
         ⊎ (ran.status ≡ 4)) }
 {
     match print_crash(writer, count_kept(mask), mask.len()) {
@@ -90,9 +90,9 @@ fn reopen<D: CrashDisk + Drop>(
     core: Core<D>,
     mask: &[bool],
 ) -> Result<Core<D>, Refusal>
-    requires { IsCrash D.CrashDisk (says_crash mask.now) core mask.now }
-    ensures opened { IfOk result (λ new. Reopens D.PageDisk D.CrashDisk mask.now core new) }
-    ensures refused { IfErr result (λ refusal. IsNotReopened D.PageDisk D.CrashDisk mask.now core refusal) }
+    requires { IsCrash D.can_crash D.volatile_count (says_crash mask.now) core mask.now }
+    ensures opened { IfOk result (λ new. Reopens D.PageDisk D.can_crash D.volatile_count mask.now core new) }
+    ensures refused { IfErr result (λ refusal. IsNotReopened D.PageDisk D.can_crash D.volatile_count mask.now core refusal) }
 {
     let limits = Limits {
         history: core.limit(),
@@ -111,7 +111,7 @@ fn reopen<D: CrashDisk + Drop>(
 /// The core's disk, after a crash that kept of its volatile writes what the mask says.
 fn crashed_disk<D: CrashDisk>(core: Core<D>, mask: &[bool]) -> D
     requires { D.can_crash core.disk × (length mask.now ≡ D.volatile_count core.disk) }
-    ensures { IsCrashed D.PageDisk D.CrashDisk mask.now core.disk result }
+    ensures { IsCrashed D.PageDisk D.can_crash D.volatile_count mask.now core.disk result }
 {
     core.into_disk().crash(mask)
 }

@@ -139,7 +139,7 @@ pub fn new_core(alloc: Global) -> Result<Core<MemoryDisk>, Refusal>
 fn race_on<D: PageDisk + Send + Drop, K: Naming + Send + Sync, R: Threads + Wait + Sync, W: Write>(
     rt: &R,
     alloc: Global,
-    board: Board,
+    board: Board<D>,
     core: Core<D>,
     race: Race,
     writer: &mut W,

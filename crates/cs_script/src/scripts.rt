@@ -46,7 +46,7 @@ pub fn run_script<D: CrashDisk + Drop, R: Read + Drop, W: Write>(
 ) -> Ran<D>
     // Each line is answered and printed as it says, by the events that it names or by a crash.
     ensures script { (text : List ℕ) → R.remaining reader ≡ Some text → result.status < 4 → (out : List ℕ)
-        × Runs D.PageDisk D.CrashDisk text core 0 result.core result.status out
+        × Runs D.PageDisk D.can_crash D.volatile_count text core 0 result.core result.status out
         × Appends (W.contents writer.old) (W.contents writer.new) out }
 
     ensures status { (result.status ≤ 1) ⊎ (result.status ≡ 3) ⊎ (result.status ≡ 4) }
@@ -69,7 +69,7 @@ fn run_lines<D: CrashDisk + Drop, B: BufRead, W: Write>(
     writer: &mut W,
 ) -> Ran<D>
     ensures script { (text : List ℕ) → B.remaining reader.old ≡ Some text → result.status < 4 → (out : List ℕ)
-        × Runs D.PageDisk D.CrashDisk text core 0 result.core result.status out
+        × Runs D.PageDisk D.can_crash D.volatile_count text core 0 result.core result.status out
         × Appends (W.contents writer.old) (W.contents writer.new) out }
     ensures status { (result.status ≤ 1) ⊎ (result.status ≡ 3) ⊎ (result.status ≡ 4) }
     ensures core { (result.status ≤ 1 → IsSome result.core) × (result.status ≡ 3 → result.core ≡ None) }
@@ -121,10 +121,10 @@ fn run_line<D: CrashDisk + Drop, W: Write>(
     status: u8,
     writer: &mut W,
 ) -> Result<(Core<D>, u8), Ran<D>>
-    ensures on { IfOk result (λ on. (out : List ℕ) × GoesOn D.PageDisk D.CrashDisk (said_of text.now) core status on.0 on.1 out
+    ensures on { IfOk result (λ on. (out : List ℕ) × GoesOn D.PageDisk D.can_crash D.volatile_count (said_of text.now) core status on.0 on.1 out
         × Appends (W.contents writer.old) (W.contents writer.new) out) }
     ensures ended { IfErr result (λ ran. ((ran.status ≡ 3) × (ran.core ≡ None)
-        × ((out : List ℕ) × CrashesForGood D.PageDisk D.CrashDisk (said_of text.now) core out × Appends (W.contents writer.old) (W.contents writer.new) out))
+        × ((out : List ℕ) × CrashesForGood D.PageDisk D.can_crash D.volatile_count (said_of text.now) core out × Appends (W.contents writer.old) (W.contents writer.new) out))
         ⊎ (ran.status ≡ 4)) }
 {
     let Ok(line) = Line::read(alloc, text) else {

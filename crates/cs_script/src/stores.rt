@@ -31,7 +31,7 @@ pub fn run_over<D: CrashDisk + Drop, R: Read + Drop, W: Write>(
     writer: &mut W,
 ) -> u8
     ensures script { (text : List ℕ) → R.remaining reader ≡ Some text → result < 4 → (out : List ℕ)
-        × RunsOver D.PageDisk D.CrashDisk store text result out
+        × RunsOver D.PageDisk D.can_crash D.volatile_count store text result out
         × Appends (W.contents writer.old) (W.contents writer.new) out }
     ensures refused { IfErr store (λ r. ((result ≡ 3) × Appends (W.contents writer.old) (W.contents writer.new) (refusal_line r)) ⊎ (result ≡ 4)) }
     ensures status { (result ≤ 1) ⊎ (result ≡ 3) ⊎ (result ≡ 4) }

@@ -91,7 +91,7 @@ fn new_core(alloc: Global) -> Result<Core<MemoryDisk>, Fault>
 fn run<K: Naming + Send + Sync, R: Threads + Wait + Sync + Clock + Print + AllocGlobal>(
     rt: &R,
     alloc: Global,
-    board: Board,
+    board: Board<MemoryDisk>,
     core: Core<MemoryDisk>,
     task: Task,
 ) -> Result<(), Fault>

@@ -67,7 +67,7 @@ pub fn run<R: Threads + Wait + Abort + Sync>(
 fn run_named<K: Naming + Send + Sync, R: Threads + Wait + Abort + Sync>(
     rt: &R,
     alloc: Global,
-    board: Board,
+    board: Board<MemoryDisk>,
     core: Core<MemoryDisk>,
     together: Together,
 ) -> End

@@ -133,7 +133,7 @@ fn try_named<
     K: Naming + Send + Sync,
     R: Threads + Wait + Abort + Sync,
     T: Trial,
->(rt: &R, alloc: Global, board: Board, core: Core<D>, trial: T)
+>(rt: &R, alloc: Global, board: Board<D>, core: Core<D>, trial: T)
     requires named { (board ≡ K.table) × (start_of core ≡ K.start) }
     requires new { (core.history ≡ []) × (core.store.accepted ≡ 0) × (core.store.frontier ≡ 0) }
 {

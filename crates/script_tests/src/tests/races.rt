@@ -86,7 +86,7 @@ fn racers_run_one_after_another(rt: HostRuntime) -> Result<(), Fail> {
 fn one_after_another<K: Naming + Send + Sync, R: Wait + Abort>(
     rt: &R,
     alloc: Global,
-    board: Board,
+    board: Board<MemoryDisk>,
     core: Core<MemoryDisk>,
 )
     requires named { (board ≡ K.table) × (start_of core ≡ K.start) }

@@ -4,5 +4,5 @@ use Rattle.cs_script.proofs.scripts.run_line.Goals as goal
 
 pub returns-in-Some-clause-on : goal.returns-in-Some-clause-on
 returns-in-Some-clause-on g c =
-    on_crash g.D.PageDisk g.D.CrashDisk (said_by c.in-Ok.line) (said_of c.args.text.now) c.in-Some.mask.now c.args.core c.args.status
+    on_crash g.D.PageDisk g.D.CrashDisk.can_crash g.D.CrashDisk.volatile_count (said_by c.in-Ok.line) (said_of c.args.text.now) c.in-Some.mask.now c.args.core c.args.status
     (g.W.Write.contents c.args.writer.now) (g.W.Write.contents c.crash.new.writer) c.crash.result c.in-Ok.ensures c.in-Some.ensures c.crash.ensures.on
