@@ -1,5 +1,8 @@
 //! The image of a store, and what is read of it page by page: what a new store writes and what an opening reads are what
 //! the store's machine recovers, and the other way round. No code, but laws.
+//!
+//! In its laws `x` is extents, `S` a shape and `F` formats, `n` a number of commands and `m` a map; `view` and `img` are what each page
+//! of the image reads as.
 #![tactic(auto)]
 
 mod openings;

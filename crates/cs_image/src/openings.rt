@@ -21,6 +21,7 @@ pub fn new_stores_are_new()
     ensures new { (view : ℕ → List ℕ) (extents pages : ℕ)
         → SpellsSuperblock (view 0) 1 pages (replicate extents (0, 0)) → SpellsRoot (view 1) 1 0 []
         → (let x = extents_at pages (replicate extents (0, 0)) in IsNew (shape x) (formats_of (shape x)) view) }
+    // It recovers no command and no shard, and is found to be these extents, both versions 1, and no runs.
     ensures found { (view : ℕ → List ℕ) (extents pages : ℕ)
         → SpellsSuperblock (view 0) 1 pages (replicate extents (0, 0)) → SpellsRoot (view 1) 1 0 []
         → (let x = extents_at pages (replicate extents (0, 0)) in
@@ -40,23 +41,28 @@ pub fn what_is_read_recovers()
 
 /// What is recovered of an image can be read: no decoder refuses it, and each locator passes its tests.
 pub fn what_is_recovered_can_be_read()
+    // Page 0 spells a superblock with the geometry's pages and as many extents as it has.
     ensures superblock { (view : ℕ → List ℕ) (extents pages n : ℕ) (m : Map) → IsGeometry extents pages
         → (let S = shape_of extents pages 1 extents 1 in Recovers S (formats_of S) view n m
         → (version : ℕ) × (written : List (ℕ × ℕ)) × SpellsSuperblock (view 0) version pages written
         × (length written ≡ extents)) }
-    ensures geometry { (view : ℕ → List ℕ) (extents pages n : ℕ) (m : Map) (version p : ℕ) (written : List (ℕ × ℕ))
+    // Whatever superblock page 0 spells has the geometry's pages and as many extents as it has.
+    ensures geometry { (view : ℕ → List ℕ) (extents pages n : ℕ) (m : Map) (version pages_read : ℕ) (written : List (ℕ × ℕ))
         → IsGeometry extents pages
         → (let S = shape_of extents pages 1 extents 1 in Recovers S (formats_of S) view n m
-        → SpellsSuperblock (view 0) version p written → (p ≡ pages) × (length written ≡ extents)) }
+        → SpellsSuperblock (view 0) version pages_read written → (pages_read ≡ pages) × (length written ≡ extents)) }
+    // Page 1 spells a root, with as many commands as are recovered.
     ensures root { (view : ℕ → List ℕ) (extents pages n : ℕ) (m : Map) → IsGeometry extents pages
         → (let S = shape_of extents pages 1 extents 1 in Recovers S (formats_of S) view n m
         → (version : ℕ) × (places : List Locator) × SpellsRoot (view 1) version n places) }
+    // Whatever root page 1 spells has as many commands as are recovered, and at each of its places a frame has a run.
     ensures runs { (view : ℕ → List ℕ) (version pages : ℕ) (written : List (ℕ × ℕ)) (root commands : ℕ)
         (places : List Locator) (n : ℕ) (m : Map)
         → SpellsSuperblock (view 0) version pages written → ArePages (2 + length written * pages) view
         → SpellsRoot (view 1) root commands places
         → (let x = extents_at pages written in Recovers (shape x) (formats_of (shape x)) view n m
         → (commands ≡ n) × AllByRecursion (λ place. IsReadable x view place) places) }
+    // Where page 1 spells a root over these runs, each of which was read where its place says, the whole store was read.
     ensures store { (view : ℕ → List ℕ) (version pages : ℕ) (written : List (ℕ × ℕ)) (root commands : ℕ)
         (runs : List StoredRun) (n : ℕ) (m : Map)
         → SpellsSuperblock (view 0) version pages written → ArePages (2 + length written * pages) view

@@ -17,23 +17,28 @@ ghost use Rattle.cs_model.specs.Recovery.{Recovers};
 /// of its runs, and an index can be made of them.
 pub fn runs_are_read_one_by_one()
     ensures none { (x : ExtentsState) (view : ℕ → List ℕ) (places : List Locator) → AreRunsRead x view places [] }
+    // The run at the next place, once it is read, joins those that were read.
     ensures next { (x : ExtentsState) (view : ℕ → List ℕ) (places : List Locator) (runs : List StoredRun) (run : StoredRun)
         → AreRunsRead x view places runs → slice_get places (length runs) ≡ Some run.place → IsRunRead x view run
         → AreRunsRead x view places (runs ++ run ∷ []) }
+    // Where there are as many runs as places they are those at the places, and each was read.
     ensures all { (x : ExtentsState) (view : ℕ → List ℕ) (places : List Locator) (runs : List StoredRun)
         → AreRunsRead x view places runs → length runs ≡ length places
         → (map (λ run. run.place) runs ≡ places) × AllByRecursion (IsRunRead x view) runs }
+    // Each run that was read has some entries, of at most eight locators each, by rising identifiers.
     ensures loads { (x : ExtentsState) (view : ℕ → List ℕ) (runs : List StoredRun) → AllByRecursion (IsRunRead x view) runs
         → AllByRecursion (λ run. IsRun (record { entries = run.entries })) runs }
-    // A place that is located can be read.
+    // Of a place that is located extent and page are there.
     ensures inside { (x : ExtentsState) (place : Locator) → IsWhole x → IsLocated x place
         → (place.extent < (shape x).extents) × (place.page < (shape x).pages) }
 {}
 
 /// As many identifiers have locators as the map has.
 pub fn live_identifiers_are_those_of_the_map()
+    // An identifier has locators exactly where the map has it.
     ensures each { (S : Shape) (F : Formats) (img : ℕ → Page) (n : ℕ) (m : Map) (found : Recovers S F img n m) (id : ℕ)
         → (live_at (entries_of found.runs) id ≡ []) ↔ (m id ≡ None) }
+    // So many have locators exactly where the map has so many.
     ensures count { (S : Shape) (F : Formats) (img : ℕ → Page) (n : ℕ) (m : Map) (found : Recovers S F img n m)
         (count : ℕ) → HasCount (λ id. live_at (entries_of found.runs) id ≢ []) count ↔ HasCount (λ id. m id ≢ None) count }
 {}

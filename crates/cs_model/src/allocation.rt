@@ -21,8 +21,8 @@ pub fn a_frame_goes_to_one_extent()
 
 /// An append gives one locator and one world.
 pub fn appends_are_deterministic()
-    ensures { (S : Shape) (w v u : World) (purpose : Purpose) (bs : List Page) (l k : Locator)
-        → Append S w purpose bs l v → Append S w purpose bs k u → (l ≡ k) × (v ≡ u) }
+    ensures { (S : Shape) (w v u : World) (purpose : Purpose) (bs : List Page) (l other : Locator)
+        → Append S w purpose bs l v → Append S w purpose bs other u → (l ≡ other) × (v ≡ u) }
 {}
 
 /// What an append does to the extents: one pointer rises, and its extent is open where it isn't full. It takes a number
@@ -31,6 +31,7 @@ pub fn an_append_takes_pages()
     ensures extents { (S : Shape) (w : World) (e need : ℕ) (bs : List Page) → IsShape S → e < S.extents
         → w.extents.pointer e + length bs ≤ S.pages
         → (appended S w e need bs).extents ≡ taken S w.extents e (length bs) }
+    // The last number of a plain write rises by the number of pages, and the last version of the extent's section by one.
     ensures numbers { (S : Shape) (w : World) (e need : ℕ) (bs : List Page) → IsShape S
         → ((appended S w e need bs).written ≡ w.written + length bs)
         × ((appended S w e need bs).superblocks
@@ -55,6 +56,7 @@ pub fn a_frame_is_appended_or_the_extents_are_full()
 /// A frame that is appended is read where it begins, what was read before is read as before, and the state stays sound;
 /// the chunks of a put are read in their order.
 pub fn what_is_appended_is_read()
+    // The state is sound where no number is past its greatest after the append, which all four clauses ask for.
     ensures sound { (S : Shape) (F : Formats) (s t : State) (purpose : Purpose) (kind : FrameKind)
         (payload : List ℕ) (l : Locator)
         → IsShape S → IsFormat S F → Sound S F s → (PastGreatest S t.world → ⊥)
@@ -63,11 +65,13 @@ pub fn what_is_appended_is_read()
         (payload : List ℕ) (l : Locator)
         → IsShape S → IsFormat S F → Sound S F s → (PastGreatest S t.world → ⊥)
         → AppendsFrame S F s purpose kind payload l t → ReadsNow S F t l kind payload }
-    ensures before { (S : Shape) (F : Formats) (s t : State) (purpose : Purpose) (kind old : FrameKind)
-        (payload bytes : List ℕ)
-        (l k : Locator) → IsShape S → IsFormat S F → Sound S F s → (PastGreatest S t.world → ⊥)
-        → AppendsFrame S F s purpose kind payload l t → ReadsNow S F s k old bytes → ReadsNow S F t k old bytes }
-    ensures chunks { (S : Shape) (F : Formats) (s t : State) (cs : List (List ℕ)) (ls : List Locator)
-        → IsShape S → IsFormat S F → Sound S F s → (PastGreatest S t.world → ⊥) → AppendsChunks S F s cs ls t
-        → Chunks S F t.opening (newest_page t) t.world.extents.pointer t.world.extents.generation ls cs }
+    // A frame that was read at a locator before is read there as before.
+    ensures before { (S : Shape) (F : Formats) (s t : State) (purpose : Purpose) (kind old_kind : FrameKind)
+        (payload old_payload : List ℕ) (l old : Locator)
+        → IsShape S → IsFormat S F → Sound S F s → (PastGreatest S t.world → ⊥)
+        → AppendsFrame S F s purpose kind payload l t → ReadsNow S F s old old_kind old_payload
+        → ReadsNow S F t old old_kind old_payload }
+    ensures chunks { (S : Shape) (F : Formats) (s t : State) (chunks : List (List ℕ)) (ls : List Locator)
+        → IsShape S → IsFormat S F → Sound S F s → (PastGreatest S t.world → ⊥) → AppendsChunks S F s chunks ls t
+        → Chunks S F t.opening (newest_page t) t.world.extents.pointer t.world.extents.generation ls chunks }
 {}

@@ -34,8 +34,10 @@ pub fn any_moment_of_an_event()
 
 /// A store that is opened on an image that gives a map starts sound, and so do all histories from there end.
 pub fn every_history_is_safe()
+    // The state at open is sound, and its numbers keep to their bounds.
     ensures sound { (S : Shape) (F : Formats) (img : ℕ → Page) (n : ℕ) (m : Map) (gives : Recovers S F img n m)
         → IsShape S → Sound S F (opened_state S F img n m gives) × Bounded S F (opened_state S F img n m gives) }
+    // A crash after any history from there leaves the map after some commands, no fewer than the frontier's.
     ensures prefix { (S : Shape) (F : Formats) (img : ℕ → Page) (n : ℕ) (m : Map) (gives : Recovers S F img n m)
         (history : List (Event × Reply)) (t : State) (mask : List Bool)
         → IsShape S → IsFormat S F → History S F (opened_state S F img n m gives) history t
@@ -45,13 +47,16 @@ pub fn every_history_is_safe()
 /// A history that is kept from a checkpoint on is as safe as a whole one, and a checkpoint comes where all commands are
 /// persistent.
 pub fn checkpoints_are_safe()
+    // A crash after a history that is kept so leaves the map after some commands, no fewer than the frontier's.
     ensures prefix { (S : Shape) (F : Formats) (img : ℕ → Page) (n : ℕ) (m : Map)
         (gives : Recovers S F img n m) (base : ℕ)
         (history : List (Event × Reply)) (t : State) (mask : List Bool)
         → IsShape S → IsFormat S F → LegalFrom S F (opened_state S F img n m gives) base history t
         → LeavesPrefix S F t mask }
-    ensures frontier { (S : Shape) (F : Formats) (s : State) (f : ℕ) → Sound S F s → AtRest s → IsFrontier S F s f
-        → f ≡ length s.commands }
+    // Where a sound state is at rest the frontier is all commands.
+    ensures frontier { (S : Shape) (F : Formats) (s : State) (frontier : ℕ) → Sound S F s → AtRest s
+        → IsFrontier S F s frontier → frontier ≡ length s.commands }
+    // From a state at rest a history can be kept anew: all events up to it are replaced.
     ensures again { (S : Shape) (F : Formats) (opened s t : State) (base : ℕ) (history : List (Event × Reply))
         → LegalFrom S F opened base history s → AtRest s → LegalFrom S F opened (base + length history) [] s }
 {}

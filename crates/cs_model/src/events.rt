@@ -35,45 +35,46 @@ pub fn commands_go_on()
 
 /// Command n depends on a persistent root exactly where n is at most the frontier.
 pub fn the_frontier_is_exact()
-    ensures { (S : Shape) (F : Formats) (s : State) (f n : ℕ) → Sound S F s → IsFrontier S F s f
-        → ((r : Root) × DependsOn S F s n r × (r.version ≤ s.world.persistent.root)) ↔ (n ≤ f) }
+    ensures { (S : Shape) (F : Formats) (s : State) (frontier n : ℕ) → Sound S F s → IsFrontier S F s frontier
+        → ((r : Root) × DependsOn S F s n r × (r.version ≤ s.world.persistent.root)) ↔ (n ≤ frontier) }
 {}
 
 /// A sound state has a frontier.
 pub fn there_is_a_frontier()
-    ensures { (S : Shape) (F : Formats) (s : State) → Sound S F s → (f : ℕ) × (f ≤ length s.commands)
-        × IsFrontier S F s f }
+    ensures { (S : Shape) (F : Formats) (s : State) → Sound S F s
+        → (frontier : ℕ) × (frontier ≤ length s.commands) × IsFrontier S F s frontier }
 {}
 
 /// Where nothing waits and the table is empty, all commands are persistent.
 pub fn all_is_persistent_at_rest()
-    ensures { (S : Shape) (F : Formats) (s : State) (f : ℕ) → Sound S F s → NothingWaits s.world → s.table ≡ []
-        → IsFrontier S F s f → f ≡ length s.commands }
+    ensures { (S : Shape) (F : Formats) (s : State) (frontier : ℕ) → Sound S F s → NothingWaits s.world
+        → s.table ≡ [] → IsFrontier S F s frontier → frontier ≡ length s.commands }
 {}
 
 /// In every sound state there is a round of what is ready, and a list of its members, each once.
 pub fn there_is_a_round()
     ensures { (S : Shape) (F : Formats) (s : State) → Sound S F s
         → (R : Cut) × IsRound S s.world R × (members : List Element)
-        × ((m : Element) → m ∈ members ↔ IsMember S (record s.world { round = R }) m) × AreDistinct members }
+        × ((member : Element) → member ∈ members ↔ IsMember S (record s.world { round = R }) member)
+        × AreDistinct members }
 {}
 
 /// What a put, a delete, a Stage, a move or a Retire does leads to one state, and every Begin takes the same members.
 pub fn events_are_deterministic()
-    ensures put { (S : Shape) (F : Formats) (s t u : State) (id : ℕ) (bytes : List ℕ) (r q : Reply)
+    ensures put { (S : Shape) (F : Formats) (s t u : State) (id : ℕ) (bytes : List ℕ) (reply other : Reply)
         → IsShape S → IsFormat S F
-        → Does S F s (Put id bytes) r t → Does S F s (Put id bytes) q u → u ≡ t }
-    ensures delete { (S : Shape) (F : Formats) (s t u : State) (id : ℕ) (r q : Reply) → IsShape S → IsFormat S F
-        → Does S F s (Delete id) r t → Does S F s (Delete id) q u → u ≡ t }
-    ensures stage { (S : Shape) (F : Formats) (s t u : State) (r q : Reply) → IsShape S → IsFormat S F
-        → Does S F s Stage r t → Does S F s Stage q u → u ≡ t }
-    ensures move_one { (S : Shape) (F : Formats) (s t u : State) (e : ℕ) (r q : Reply) → IsShape S → IsFormat S F
-        → Does S F s (MoveOne e) r t → Does S F s (MoveOne e) q u → u ≡ t }
-    ensures retire { (S : Shape) (F : Formats) (s t u : State) (e : ℕ) (r q : Reply) → IsShape S → IsFormat S F
-        → Does S F s (Retire e) r t → Does S F s (Retire e) q u → u ≡ t }
+        → Does S F s (Put id bytes) reply t → Does S F s (Put id bytes) other u → u ≡ t }
+    ensures delete { (S : Shape) (F : Formats) (s t u : State) (id : ℕ) (reply other : Reply) → IsShape S → IsFormat S F
+        → Does S F s (Delete id) reply t → Does S F s (Delete id) other u → u ≡ t }
+    ensures stage { (S : Shape) (F : Formats) (s t u : State) (reply other : Reply) → IsShape S → IsFormat S F
+        → Does S F s Stage reply t → Does S F s Stage other u → u ≡ t }
+    ensures move_one { (S : Shape) (F : Formats) (s t u : State) (e : ℕ) (reply other : Reply) → IsShape S → IsFormat S F
+        → Does S F s (MoveOne e) reply t → Does S F s (MoveOne e) other u → u ≡ t }
+    ensures retire { (S : Shape) (F : Formats) (s t u : State) (e : ℕ) (reply other : Reply) → IsShape S → IsFormat S F
+        → Does S F s (Retire e) reply t → Does S F s (Retire e) other u → u ≡ t }
     ensures begin { (S : Shape) (F : Formats) (s t u : State) (members others : List Element)
         → Does S F s Begin (Begun members) t → Does S F s Begin (Begun others) u
-        → (m : Element) → m ∈ members ↔ m ∈ others }
+        → (member : Element) → member ∈ members ↔ member ∈ others }
 {}
 
 /// What an event leaves as it was: the round that is out, unless it is one of writeback; the roots, unless it staged one;
@@ -97,6 +98,6 @@ pub fn the_frontier_rises()
 
 /// An Issue takes a member that wasn't issued in this round before, and that isn't among those left after it.
 pub fn each_member_is_issued_once()
-    ensures { (S : Shape) (F : Formats) (s t : State) (m : Element) → Sound S F s → Does S F s Issue (Issued m) t
-        → (m ∈ s.issued → ⊥) × (m ∈ t.left → ⊥) }
+    ensures { (S : Shape) (F : Formats) (s t : State) (member : Element) → Sound S F s
+        → Does S F s Issue (Issued member) t → (member ∈ s.issued → ⊥) × (member ∈ t.left → ⊥) }
 {}

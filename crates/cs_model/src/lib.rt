@@ -1,5 +1,10 @@
 //! The machine of a store that orders its writeback by needs. Its definitions are in `specs`, and each function here
 //! has a law over them as its contract and an empty body.
+//!
+//! In its laws `S` is a shape and `F` formats; `s` and `t` are states before and after, `w` and `v` worlds, `u` is another one that
+//! might come after; `x` is extents, `X` and `R` are sets of elements, `R` one that a round makes, and `r` is a root. `e` and `d` are
+//! numbers of extents, `i` is a page's number in its extent, and `p` one on the device; `l` is a locator, `ls` are several, and
+//! `bs` a frame's pages. `n` and `k` are numbers of commands, or `n` that of one; `m` and `o` are maps, and `f` is a refusal.
 #![tactic(auto)]
 
 mod allocation;

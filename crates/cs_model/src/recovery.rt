@@ -28,10 +28,10 @@ pub fn a_new_store_is_empty()
 
 /// What stands at a place is the frame of one payload, where the first page tells the payload's length.
 pub fn frames_tell_their_payload()
-    ensures { (S : Shape) (F : Formats) (img : ℕ → Page) (e i : ℕ) (kind : FrameKind) (a b : List ℕ)
+    ensures { (S : Shape) (F : Formats) (img : ℕ → Page) (e i : ℕ) (kind : FrameKind) (payload other : List ℕ)
         → IsFrameFormat F.frame S.pages
-        → length (F.frame kind a) ≤ S.pages → length (F.frame kind b) ≤ S.pages
-        → Stand S F img e i (F.frame kind a) → Stand S F img e i (F.frame kind b) → a ≡ b }
+        → length (F.frame kind payload) ≤ S.pages → length (F.frame kind other) ≤ S.pages
+        → Stand S F img e i (F.frame kind payload) → Stand S F img e i (F.frame kind other) → payload ≡ other }
 {}
 
 /// An extent that wasn't empty at open holds what it held then until it is reset. So a chunk that was damaged at open
@@ -53,11 +53,13 @@ pub fn what_was_there_at_open_stays()
 /// What an image recovers lies on the pages of the store: two images that have those alike recover alike. Of a geometry
 /// these are the first pages, the two before the extents, those of the extents, and one for each further section.
 pub fn recovery_looks_at_the_pages_of_the_store()
-    ensures alike { (S : Shape) (F : Formats) (count : ℕ) (a b : ℕ → Page) (n : ℕ) (m : Map)
-        → LiesBelow S count → AgreeBelow count a b → Recovers S F a n m → Recovers S F b n m }
+    ensures alike { (S : Shape) (F : Formats) (count : ℕ) (img other : ℕ → Page) (n : ℕ) (m : Map)
+        → LiesBelow S count → AgreeBelow count img other → Recovers S F img n m → Recovers S F other n m }
+    // So do they by what is known of another image.
     ensures alike_but { (S : Shape) (F : Formats) (opening : (pointers generations : ℕ → ℕ) → Opening) (count : ℕ)
-        (a b : ℕ → Page) (n : ℕ) (m : Map)
-        → LiesBelow S count → AgreeBelow count a b → RecoversBut S F opening a n m → RecoversBut S F opening b n m }
+        (img other : ℕ → Page) (n : ℕ) (m : Map)
+        → LiesBelow S count → AgreeBelow count img other → RecoversBut S F opening img n m
+        → RecoversBut S F opening other n m }
     ensures geometries { (extents pages sections per_section format : ℕ) → IsGeometry extents pages sections per_section
         → LiesBelow (shape_of extents pages sections per_section format) (1 + extents * pages + sections) }
 {}

@@ -17,9 +17,9 @@ ghost use Rattle.std.specs.Prelude.{true, ◌≡◌, ◌↔◌, ℕ, Bool, List}
 /// A closed set's image has all that its root covers, just as it was staged; the set's own superblock has each such
 /// place below the pointer and in that generation.
 pub fn closed_sets_are_intact()
-    ensures { (S : Shape) (log : Log) (opened : ℕ → Page) (X : Cut) (r : Root) (h : Place)
+    ensures { (S : Shape) (log : Log) (opened : ℕ → Page) (X : Cut) (r : Root) (place : Place)
         → Closed S log X → r ∈ log.roots → r.version ≡ X.root
-        → Needed S log r (S.extent h.page) → Guarded S log r h → Intact S log opened X h r }
+        → Needed S log r (S.extent place.page) → Guarded S log r place → Intact S log opened X place r }
 {}
 
 /// Every set between the persistent one and the round that is out is closed.
@@ -34,7 +34,7 @@ pub fn crashes_leave_sets()
     ensures { (S : Shape) (F : Formats) (opening : Opening) (opened : ℕ → Page) (w : World) (issued : List Element)
         (mask : List Bool)
         → IsShape S → Safe S (RootGives S F opening) opening.frozen opened w
-        → ((m : Element) → m ∈ issued → IsMember S w m)
+        → ((member : Element) → member ∈ issued → IsMember S w member)
         → (X : Cut) × (Within w.persistent X) × (Within X w.round)
         × ((p : ℕ) → applied (image S F w.persistent opened (log_of w.elements))
         (kept_of mask (page_writes S F issued)) p ≡ image S F X opened (log_of w.elements) p) }
@@ -50,14 +50,15 @@ pub fn nothing_ready_is_nothing_waits()
 /// family.
 pub fn one_list_of_elements()
     ensures { (S : Shape) (F : Formats) (X : Cut) (opened : ℕ → Page) (p : ℕ) (elements : List Element)
-        → IsShape S → ((m : Element) → m ∈ elements → InPlace S m)
+        → IsShape S → ((element : Element) → element ∈ elements → InPlace S element)
         → image_of S F X opened elements p ≡ image S F X opened (log_of elements) p }
 {}
 
 /// In a closed set every need of what it has is satisfied.
 pub fn needs_are_met_in_closed_sets()
-    ensures { (S : Shape) (elements : List Element) (X : Cut) (x y : Element) → Closed S (log_of elements) X
-        → x ∈ elements → y ∈ elements → satisfied X x ≡ true → Needs S x y → satisfied X y ≡ true }
+    ensures { (S : Shape) (elements : List Element) (X : Cut) (element need : Element) → Closed S (log_of elements) X
+        → element ∈ elements → need ∈ elements → satisfied X element ≡ true → Needs S element need
+        → satisfied X need ≡ true }
 {}
 
 /// Every move that may come keeps a world safe.

@@ -9,10 +9,10 @@ ghost use Rattle.std.specs.Prelude.{◌≡◌, ◌++◌, ◌∷◌, [], ℕ, Boo
 
 /// A write that is issued leaves what a crash might have left before, with the write or without.
 pub fn an_issue_adds_one_write()
-    ensures { (S : Shape) (F : Formats) (s : State) (m : Element) (mask : List Bool) (k : Bool)
-        → (more : List Bool) × (crashed S F (record s { issued = s.issued ++ m ∷ [] }) more
-        ≡ (if k then written (crashed S F s mask) (page_write S F m).0
-        (page_write S F m).1 else crashed S F s mask)) }
+    ensures { (S : Shape) (F : Formats) (s : State) (element : Element) (mask : List Bool) (kept : Bool)
+        → (more : List Bool) × (crashed S F (record s { issued = s.issued ++ element ∷ [] }) more
+        ≡ (if kept then written (crashed S F s mask) (page_write S F element).0
+        (page_write S F element).1 else crashed S F s mask)) }
 {}
 
 /// Once all of a round is issued, a flush makes the image of what is persistent then.

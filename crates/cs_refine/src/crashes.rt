@@ -15,22 +15,23 @@ ghost use Rattle.cs_model.specs.State.{Command, State};
 /// store was opened, no fewer than the frontier's.
 pub fn what_a_crash_leaves_recovers()
     ensures size { (disk : DiskState) (left : Image) → MayLeave disk left → length left ≡ length disk.durable }
+    // In the words of the state: by what is known at open, and by the image itself where no shard was damaged at open.
     ensures left { (x : ExtentsState) (s : State) (disk : DiskState) (left : Image)
         → IsWhole x → Sound (shape x) (formats_of (shape x)) s → IsDiskOf (shape x) (formats_of (shape x)) s disk
         → length disk.durable ≡ 2 + (shape x).extents * (shape x).pages → MayLeave disk left
         → LeavesPrefixOn (shape x) (formats_of (shape x)) s left }
     // In the words of the image at open, where what that recovers is the start of the state.
-    ensures prefix { (x : ExtentsState) (s : State) (disk : DiskState) (left : Image) (f : ℕ)
+    ensures prefix { (x : ExtentsState) (s : State) (disk : DiskState) (left : Image) (frontier : ℕ)
         → IsWhole x → Sound (shape x) (formats_of (shape x)) s → IsDiskOf (shape x) (formats_of (shape x)) s disk
         → length disk.durable ≡ 2 + (shape x).extents * (shape x).pages → MayLeave disk left
         → Recovers (shape x) (formats_of (shape x)) s.opened s.count s.start
-        → IsFrontier (shape x) (formats_of (shape x)) s f
-        → IsPrefix (shape x) s.opened s.commands f (length s.commands) left }
-    // What lies between two numbers of commands lies between two that are further apart, and it stays one of these maps
-    // as commands are added.
+        → IsFrontier (shape x) (formats_of (shape x)) s frontier
+        → IsPrefix (shape x) s.opened s.commands frontier (length s.commands) left }
+    // What lies between two numbers of commands lies between two that are further apart.
     ensures wider { (S : Shape) (opened : ℕ → Page) (commands : List Command) (least most low high : ℕ) (left : Image)
         → low ≤ least → most ≤ high → IsPrefix S opened commands least most left
         → IsPrefix S opened commands low high left }
+    // What gives one of these maps still does as commands are added.
     ensures later { (S : Shape) (opened : ℕ → Page) (more commands : List Command) (least most : ℕ) (left : Image)
         → most ≤ length commands → IsPrefix S opened commands least most left
         → IsPrefix S opened (more ++ commands) least most left }

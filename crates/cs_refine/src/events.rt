@@ -28,14 +28,19 @@ pub fn index_queries_agree()
         → (id : ℕ) → lookup id (index_of i) ≡ lookup id (table ++ entries_of runs) }
     ensures named { (i : IndexState) (table : List Entry) (runs : List Run) → IsIndexOf i table runs
         → names (index_of i) ≡ names (table ++ entries_of runs) }
+    // The table of the one is empty exactly where that of the other is.
     ensures empty { (i : IndexState) (table : List Entry) (runs : List Run) → IsIndexOf i table runs
         → (i.table ≡ []) ↔ (table ≡ []) }
+    // The same entries are those of the run of the table.
     ensures table_run { (i : IndexState) (table : List Entry) (runs : List Run) (entries : List Entry) → IsIndexOf i table runs
         → IsTableRun i.table entries ↔ IsTableRun table entries }
+    // The same entries are those of the run of all that is live.
     ensures merged_run { (i : IndexState) (table : List Entry) (runs : List Run) (entries : List Entry) → IsIndexOf i table runs
         → IsMergedRun (index_of i) entries ↔ IsMergedRun (table ++ entries_of runs) entries }
+    // The same chunk is the first live one on an extent.
     ensures first { (i : IndexState) (table : List Entry) (runs : List Run) (e id chunk : ℕ) (l : Place) → IsIndexOf i table runs
         → FirstLive (index_of i) e id chunk l ↔ FirstLive (table ++ entries_of runs) e id chunk l }
+    // No live chunk is on an extent by the one exactly where none is by the other.
     ensures nothing { (i : IndexState) (table : List Entry) (runs : List Run) (e : ℕ) → IsIndexOf i table runs
         → NothingLive (index_of i) e ↔ NothingLive (table ++ entries_of runs) e }
 {}
@@ -53,6 +58,7 @@ pub fn put_refines_put()
 
 /// An entry without locators is the machine's Delete, and an identifier has locators exactly where the map has it.
 pub fn delete_refines_delete()
+    // An identifier that the map has gets an entry without locators: that is the machine's Delete.
     ensures deleted { (x : ExtentsState) (g : GraphState) (i j : IndexState) (s : State) (id : ℕ)
         → ArePartsOf x g i s → map_now s id ≢ None → IsSet i id [] j
         → (t : State) × Does (shape x) (formats_of (shape x)) s (Delete id) (Accepted (suc (length s.commands))) t
@@ -63,10 +69,12 @@ pub fn delete_refines_delete()
 
 /// The run and the root that an index stages are the machine's Stage.
 pub fn stage_refines_stage()
+    // Where there are fewer than four runs, the table becomes one.
     ensures table { (x y : ExtentsState) (g h : GraphState) (i j : IndexState) (s : State) (v : ℕ)
         → IsWhole x → ArePartsOf x g i s → i.table ≢ [] → length i.runs < 4
         → IsTableStaged i x g v (s.count + length s.commands) j y h
         → (t : State) × Does (shape x) (formats_of (shape x)) s Stage (Staged v) t × ArePartsOf y h j t }
+    // Where there are four or more, one run of all that is live takes the place of everything, or none where nothing is live.
     ensures merged { (x y : ExtentsState) (g h : GraphState) (i j : IndexState) (s : State) (v : ℕ)
         → IsWhole x → ArePartsOf x g i s → i.table ≢ [] → 4 ≤ length i.runs
         → IsMergeStaged i x g ForRun v (s.count + length s.commands) j y h

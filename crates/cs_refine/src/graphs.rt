@@ -22,26 +22,29 @@ ghost use Rattle.cs_refine.specs.Bridge.{name, family_of, NeedsName, IsPendingOf
 pub fn rounds_are_first_rounds()
     ensures { (S : Shape) (F : Formats) (s : State) (R : Cut) (g : Pending) (target : Named) (z : Name)
         → Sound S F s → IsPendingOf S s.world g → NamesAll g target → IsRound S s.world R
-        → IsTaken g target 1 z ↔ ((m : Element) × IsMember S (record s.world { round = R }) m × (name m ≡ z)) }
+        → IsTaken g target 1 z ↔ ((member : Element) × IsMember S (record s.world { round = R }) member × (name member ≡ z)) }
 {}
 
 /// What is closed in the machine is closed in the graph, and the other way round.
 pub fn closed_sets_agree()
     ensures { (S : Shape) (F : Formats) (s : State) (g : Pending) (members : List Element) (names : List Name) (X : Cut)
-        → Sound S F s → IsPendingOf S s.world g → ((m : Element) → m ∈ members → IsWaiting s.world m) → IsCutOf s.world.persistent members X → AreNames members names
+        → Sound S F s → IsPendingOf S s.world g → ((member : Element) → member ∈ members → IsWaiting s.world member) → IsCutOf s.world.persistent members X → AreNames members names
         → Closed S (log_of s.world.elements) X ↔ IsClosed g names }
 {}
 
 /// What the machine stages is staged in the graph, last, with its needs.
 pub fn staging_refines_staging()
-    ensures page { (S : Shape) (F : Formats) (s : State) (g : Pending) (p : ℕ) (b : Page) (d : Named) → Sound S F s → IsPendingOf S s.world g
-        → (let x : Write = record { number = suc s.world.written; page = p; bytes = b; root = s.world.extents.reset (S.extent p) } in
-        ((z : Name) → Names d z ↔ NeedsName S (A_write x ∷ s.world.elements) (A_write x) z)
-        → IsPendingOf S (happens S s.world (StagePage p b)) (staged_after g (Plain (suc s.world.written)) d)) }
+    // A page of a frame is staged as the next plain write, with needs that name exactly what it needs.
+    ensures page { (S : Shape) (F : Formats) (s : State) (g : Pending) (p : ℕ) (bytes : Page) (d : Named) → Sound S F s → IsPendingOf S s.world g
+        → (let write : Write = record { number = suc s.world.written; page = p; bytes = bytes; root = s.world.extents.reset (S.extent p) } in
+        ((z : Name) → Names d z ↔ NeedsName S (A_write write ∷ s.world.elements) (A_write write) z)
+        → IsPendingOf S (happens S s.world (StagePage p bytes)) (staged_after g (Plain (suc s.world.written)) d)) }
+    // The next version of a section of the superblock is staged as that of the section's family, with its needs.
     ensures superblock { (S : Shape) (F : Formats) (s : State) (g : Pending) (u : Superblock) (d : Named) (next : World) → Sound S F s → IsPendingOf S s.world g
         → u.version ≡ suc (s.world.superblocks u.section) → next.elements ≡ A_superblock u ∷ s.world.elements → next.persistent ≡ s.world.persistent
         → ((z : Name) → Names d z ↔ NeedsName S (A_superblock u ∷ s.world.elements) (A_superblock u) z)
         → IsPendingOf S next (staged_after g (Version (family_of u.section) u.version) d) }
+    // The next version of the root is staged as that of family 1, with its needs.
     ensures root { (S : Shape) (F : Formats) (s : State) (g : Pending) (r : Root) (d : Named) (next : World) → Sound S F s → IsPendingOf S s.world g
         → r.version ≡ suc s.world.root → next.elements ≡ A_root r ∷ s.world.elements → next.persistent ≡ s.world.persistent
         → ((z : Name) → Names d z ↔ NeedsName S (A_root r ∷ s.world.elements) (A_root r) z)

@@ -29,7 +29,7 @@ ghost use Rattle.cs_refine.specs.Bridge.{name, AreNames, IsWaiting};
 pub fn append_refines_append()
     ensures { (x y : ExtentsState) (g h : GraphState) (w : World) (reason : Reason) (frame : List (List ℕ)) (l : Locator)
         → IsWhole x → IsWorldOf x g w → IsAppended x g reason frame l y h
-        → (v : World) × Append (shape x) w reason frame (place_of l) v × IsWorldOf y h v }
+        → (after : World) × Append (shape x) w reason frame (place_of l) after × IsWorldOf y h after }
 {}
 
 /// What a reset does to the extents of a store, under the last version of the root, the machine's reset does to its world.
@@ -51,24 +51,28 @@ pub fn root_refines_root()
 pub fn appends_refine_appends()
     ensures { (x y : ExtentsState) (g h : GraphState) (w : World) (reason : Reason) (frames : List (List (List ℕ))) (ls : List Locator)
         → IsWhole x → IsWorldOf x g w → AreAppended x g reason frames ls y h
-        → (v : World) × AppendAll (shape x) w reason frames (map place_of ls) v × IsWorldOf y h v }
+        → (after : World) × AppendAll (shape x) w reason frames (map place_of ls) after × IsWorldOf y h after }
 {}
 
 /// A store keeps its world as a round goes out and ends, and as an extent is marked.
 pub fn stores_keep_their_worlds()
+    // A round goes out: what was staged stays as it is, and no write is kept that wasn't kept before.
     ensures begun { (x : ExtentsState) (g h : GraphState) (w : World) (R : Cut) → IsWorldOf x g w → h.staging ≡ g.staging → AddsNone g h → IsWorldOf x h (happens (shape x) w (BeginRound R)) }
+    // A round ends: its members are settled, and no write is kept that wasn't kept before.
     ensures ended { (F : Formats) (s : State) (x : ExtentsState) (g h : GraphState) (round : List Name) → Sound (shape x) F s → IsWorldOf x g s.world → AreMemberNames (shape x) s.world round
         → h.staging ≡ record { pending = settled g.staging.pending round; staged = g.staging.staged; latest = g.staging.latest } → AddsNone g h → IsWorldOf x h (happens (shape x) s.world EndRound) }
+    // The names of those left of a round that is out and of those issued are the names of its members.
     ensures members { (S : Shape) (F : Formats) (s : State) (round : List Name) → Sound S F s → s.round_out ≡ true → AreNames (s.left ++ s.issued) round → AreMemberNames S s.world round }
-    ensures marked { (x y : ExtentsState) (g : GraphState) (w : World) (e : ℕ) (b : Bool) → IsWorldOf x g w → shape y ≡ shape x → extents_of y ≡ marked (extents_of x) e b
-        → IsWorldOf y g (record w { extents = marked w.extents e b }) }
+    // An extent is marked as being swept, or no longer.
+    ensures marked { (x y : ExtentsState) (g : GraphState) (w : World) (e : ℕ) (mark : Bool) → IsWorldOf x g w → shape y ≡ shape x → extents_of y ≡ marked (extents_of x) e mark
+        → IsWorldOf y g (record w { extents = marked w.extents e mark }) }
 {}
 
 /// What is kept for an element that waits and keeps its bytes is what the machine writes for it, and each version of the
 /// superblock that waits needs staged plain writes, and no later version of the root than the next one.
 pub fn what_waits_is_of_the_world()
-    ensures writes { (x : ExtentsState) (g : GraphState) (w : World) (m : Element) → IsWorldOf x g w → IsWholeGraph g → IsWaiting w m → KeepsBytes g (name m)
-        → write_of g (name m) ≡ Some (page_write (shape x) (formats_of (shape x)) m) }
+    ensures writes { (x : ExtentsState) (g : GraphState) (w : World) (element : Element) → IsWorldOf x g w → IsWholeGraph g → IsWaiting w element → KeepsBytes g (name element)
+        → write_of g (name element) ≡ Some (page_write (shape x) (formats_of (shape x)) element) }
     ensures needs { (x : ExtentsState) (g : GraphState) (w : World) → IsWorldOf x g w → AreNeedsWithin g.staging (need_of x) }
 {}
 

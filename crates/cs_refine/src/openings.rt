@@ -34,6 +34,7 @@ pub fn new_store_refines_start()
         (found : Recovers (shape x) (formats_of (shape x)) (page image) 0 (λ id. None))
         × IsStartOf x (graph_at 1 1) (index_at [] limit) image
         (opened_state (shape x) (formats_of (shape x)) (page image) 0 (λ id. None) found)) }
+    // Of an image that has such pages 0 and 1.
     ensures image { (image : Image) (extents pages limit : ℕ)
         → SpellsSuperblock (page image 0) 1 pages (replicate extents (0, 0)) → SpellsRoot (page image 1) 1 0 []
         → (let x = extents_at pages (replicate extents (0, 0)) in

@@ -34,12 +34,15 @@ pub fn pages_are_read()
 /// A live chunk is damaged exactly where reading its frame fails, with the refusal of that fault; else what is read is what
 /// the machine reads.
 pub fn live_chunks_are_read()
+    // Where a test of the frame fails, the machine has the chunk as damaged, with the refusal of that fault.
     ensures damaged { (x : ExtentsState) (i : IndexState) (s : State) (held : Image) (id : ℕ) (l : Place) (f : FormatFault)
         → IsWhole x → Sound (shape x) (formats_of (shape x)) s → IsIndexOf i s.table s.runs → l ∈ live_at (index_of i) id
         → fault_at (shape x) (pages_now (shape x) s held) Chunk (as_locator l) ≡ Some f → s.opening.damage l ≡ Some (refusal_of f) }
+    // Where none fails, the machine doesn't have it as damaged.
     ensures whole { (x : ExtentsState) (i : IndexState) (s : State) (held : Image) (id : ℕ) (l : Place)
         → IsWhole x → Sound (shape x) (formats_of (shape x)) s → IsIndexOf i s.table s.runs → l ∈ live_at (index_of i) id
         → fault_at (shape x) (pages_now (shape x) s held) Chunk (as_locator l) ≡ None → s.opening.damage l ≡ None }
+    // Where the frame of a payload lies there, the machine reads that payload.
     ensures payload { (x : ExtentsState) (i : IndexState) (s : State) (held : Image) (id : ℕ) (l : Place) (payload : List ℕ)
         → IsWhole x → Sound (shape x) (formats_of (shape x)) s → IsIndexOf i s.table s.runs → l ∈ live_at (index_of i) id
         → IsFrameAt (shape x) (pages_now (shape x) s held) ChunkFrame (as_locator l) payload
@@ -48,10 +51,12 @@ pub fn live_chunks_are_read()
 
 /// A shard's chunks are the bytes that the map has; the first that is damaged is the damage that the map has.
 pub fn get_refines_get()
+    // The shard has chunks, and the frames of all of them are there: the map has their bytes.
     ensures found { (x : ExtentsState) (i : IndexState) (s : State) (held : Image) (id : ℕ) (chunks : List (List ℕ))
         → IsWhole x → Sound (shape x) (formats_of (shape x)) s → IsIndexOf i s.table s.runs → live_at (index_of i) id ≢ []
         → AreChunksAt (shape x) (pages_now (shape x) s held) (map as_locator (live_at (index_of i) id)) chunks
         → map_now s id ≡ Some (Bytes (joined chunks)) }
+    // The chunks before place k are there, and a test of the frame at k fails: the map has the refusal of that fault.
     ensures damaged { (x : ExtentsState) (i : IndexState) (s : State) (held : Image) (id k : ℕ) (l : Locator)
         (chunks : List (List ℕ)) (f : FormatFault)
         → IsWhole x → Sound (shape x) (formats_of (shape x)) s → IsIndexOf i s.table s.runs

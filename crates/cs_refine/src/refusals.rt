@@ -33,17 +33,19 @@ ghost use Rattle.cs_refine.specs.Refusals.{refusal_for};
 /// There is no room for a put where its chunks don't fit, and it would take a number past its greatest where its writes, its
 /// versions of the superblock or the commands would.
 pub fn put_refusals_agree()
+    // The machine has no room exactly where, in whatever chunks the bytes are, their frames don't fit.
     ensures full { (x : ExtentsState) (g : GraphState) (i : IndexState) (s : State) (bytes : List ℕ)
         → IsWhole x → ArePartsOf x g i s
         → NoRoomToPut (shape x) (formats_of (shape x)) s bytes
-        ↔ ((cs : List (List ℕ)) → Chunked (shape x).chunk_bytes bytes cs
-        → ¬ Fits (shape x) (extents_of x) ForPut (page_counts (chunk_frames (shape x) (formats_of (shape x)) cs))) }
+        ↔ ((chunks : List (List ℕ)) → Chunked (shape x).chunk_bytes bytes chunks
+        → ¬ Fits (shape x) (extents_of x) ForPut (page_counts (chunk_frames (shape x) (formats_of (shape x)) chunks))) }
+    // A number would pass its greatest exactly where the frames fit, and one of theirs or that of the commands would.
     ensures worn { (x : ExtentsState) (g : GraphState) (i : IndexState) (s : State) (id : ℕ) (bytes : List ℕ)
         → IsWhole x → ArePartsOf x g i s → Sound (shape x) (formats_of (shape x)) s → Bounded (shape x) (formats_of (shape x)) s
         → WouldPass (shape x) (formats_of (shape x)) s (Put id bytes)
-        ↔ ((cs : List (List ℕ)) × Chunked (shape x).chunk_bytes bytes cs
-        × Fits (shape x) (extents_of x) ForPut (page_counts (chunk_frames (shape x) (formats_of (shape x)) cs))
-        × (IsPutWorn g.staging (page_counts (chunk_frames (shape x) (formats_of (shape x)) cs))
+        ↔ ((chunks : List (List ℕ)) × Chunked (shape x).chunk_bytes bytes chunks
+        × Fits (shape x) (extents_of x) ForPut (page_counts (chunk_frames (shape x) (formats_of (shape x)) chunks))
+        × (IsPutWorn g.staging (page_counts (chunk_frames (shape x) (formats_of (shape x)) chunks))
         ⊎ (2 ^ 63 ≤ s.count + length s.commands + 1))) }
 {}
 
@@ -58,10 +60,12 @@ pub fn delete_refusals_agree()
 /// There is no room for a Stage where there is no place for the run that it writes. Where there is room, it would take a
 /// number past its greatest where the root would, or what is staged with the run.
 pub fn stage_refusals_agree()
+    // The machine has no room for the run that a Stage writes exactly where no extent takes that of the index.
     ensures full { (x : ExtentsState) (g : GraphState) (i : IndexState) (s : State) → IsWhole x → ArePartsOf x g i s
         → ((s.table ≢ []) × (((length s.runs < 4) × NoRoomForTable (shape x) (formats_of (shape x)) s)
         ⊎ ((4 ≤ length s.runs) × NoRoomForRun (shape x) (formats_of (shape x)) s ForRun)))
         ↔ IsFull (WritesRun i) x ForRun }
+    // Where there is room, a number would pass its greatest exactly where the table isn't empty and one that is staged would.
     ensures worn { (x : ExtentsState) (g : GraphState) (i : IndexState) (s : State)
         → IsWhole x → ArePartsOf x g i s → Sound (shape x) (formats_of (shape x)) s → Bounded (shape x) (formats_of (shape x)) s
         → ¬ IsFull (WritesRun i) x ForRun
@@ -73,6 +77,7 @@ pub fn stage_refusals_agree()
 pub fn retire_refusals_agree()
     ensures full { (x : ExtentsState) (g : GraphState) (i : IndexState) (s : State) → IsWhole x → ArePartsOf x g i s
         → NoRoomForRun (shape x) (formats_of (shape x)) s ForMove ↔ IsRetireFull i x }
+    // The extent is being swept, nothing is live on it, and there is room.
     ensures worn { (x : ExtentsState) (g : GraphState) (i : IndexState) (s : State) (e : ℕ)
         → IsWhole x → ArePartsOf x g i s → Sound (shape x) (formats_of (shape x)) s → Bounded (shape x) (formats_of (shape x)) s
         → s.world.extents.swept e ≡ true → NothingLive (index_of i) e → ¬ IsRetireFull i x
@@ -82,11 +87,13 @@ pub fn retire_refusals_agree()
 /// There is no room for a MoveOne where there is no place for the frame of the chunk that is moved. Where there is room, it
 /// would take a number past its greatest where what is staged with the frame would.
 pub fn move_refusals_agree()
+    // There is no room exactly where no extent takes the frame of the first live chunk, which can be read.
     ensures full { (x : ExtentsState) (g : GraphState) (i : IndexState) (s : State) (e id chunk : ℕ) (l : Place) (payload : List ℕ)
         → IsWhole x → ArePartsOf x g i s → FirstLive (index_of i) e id chunk l
         → ReadsNow (shape x) (formats_of (shape x)) s l ChunkFrame payload
         → NoRoomToMove (shape x) (formats_of (shape x)) s e
         ↔ NoPlace (shape x) (extents_of x) ForMove (length (chunk_frame x payload)) }
+    // The extent is being swept, its first live chunk can be read and isn't damaged, and there is room.
     ensures worn { (x : ExtentsState) (g : GraphState) (i : IndexState) (s : State) (e id chunk : ℕ) (l : Place) (payload : List ℕ)
         → IsWhole x → ArePartsOf x g i s → Sound (shape x) (formats_of (shape x)) s → Bounded (shape x) (formats_of (shape x)) s
         → FirstLive (index_of i) e id chunk l → ReadsNow (shape x) (formats_of (shape x)) s l ChunkFrame payload

@@ -24,14 +24,17 @@ ghost use Rattle.cs_refine.specs.Rounds.{IsRoundOf, members_of};
 /// A round that is what waits at height 1 is the machine's Begin, with its members in the order of the round. Where nothing
 /// waits in the graph nothing does in the machine.
 pub fn begin_refines_begin()
+    // The graph takes such a round, which isn't empty: the machine begins one of the same members, none of them issued.
     ensures begun { (x : ExtentsState) (g h : GraphState) (i : IndexState) (s : State) (round : List Name)
         → IsWholeGraph g → ArePartsOf x g i s → Sound (shape x) (formats_of (shape x)) s → IsRoundOf g s → s.halted ≡ false → g.round ≡ None
         → IsQueue g.staging.pending 1 round → round ≢ [] → h.staging ≡ g.staging → AddsNone g h → h.round ≡ Some round
         → (members : List Element) × (t : State) × (map name members ≡ round) × (t.left ≡ members) × (t.issued ≡ [])
         × Step (shape x) (formats_of (shape x)) s Begin (Begun members) t × ArePartsOf x h i t × IsRoundOf h t }
+    // Where nothing waits in the graph, Begin answers that there is nothing, and leaves the state.
     ensures idle { (x : ExtentsState) (g : GraphState) (i : IndexState) (s : State)
         → ArePartsOf x g i s → Sound (shape x) (formats_of (shape x)) s → IsRoundOf g s → s.halted ≡ false → g.round ≡ None
         → g.staging.pending.waiting ≡ [] → Step (shape x) (formats_of (shape x)) s Begin Nothing s }
+    // Nothing waits in the graph exactly where nothing does in the machine.
     ensures nothing { (S : Shape) (F : Formats) (g : GraphState) (s : State) → Sound S F s → IsPendingOf S s.world g.staging.pending
         → (g.staging.pending.waiting ≡ []) ↔ NothingWaits s.world }
 {}
@@ -40,12 +43,14 @@ pub fn begin_refines_begin()
 /// volatile ones or not, is the machine's Issue refused.
 pub fn issue_refines_issue()
     ensures kept { (g : GraphState) (k : ℕ) (z : Name) → IsWholeGraph g → slice_get (members_of g.round) k ≡ Some z → KeepsBytes g z }
+    // The next member is written to the disk: it is issued in the machine, and the disk is that of the state after it.
     ensures issued { (x : ExtentsState) (g : GraphState) (i : IndexState) (s : State) (disk : DiskState) (z : Name) (p : ℕ) (bytes : Page)
         → ArePartsOf x g i s → Sound (shape x) (formats_of (shape x)) s → IsRoundOf g s → s.halted ≡ false
         → slice_get (members_of g.round) (length s.issued) ≡ Some z → write_of g z ≡ Some (p, bytes) → IsDiskOf (shape x) (formats_of (shape x)) s disk
-        → (m : Element) × (t : State) × (name m ≡ z) × ((page_write (shape x) (formats_of (shape x)) m).0 ≡ p)
-        × Step (shape x) (formats_of (shape x)) s Issue (Issued m) t × ArePartsOf x g i t × IsRoundOf g t × (length t.issued ≡ suc (length s.issued))
+        → (member : Element) × (t : State) × (name member ≡ z) × ((page_write (shape x) (formats_of (shape x)) member).0 ≡ p)
+        × Step (shape x) (formats_of (shape x)) s Issue (Issued member) t × ArePartsOf x g i t × IsRoundOf g t × (length t.issued ≡ suc (length s.issued))
         × IsDiskOf (shape x) (formats_of (shape x)) t (written disk p bytes) }
+    // Its write fails, and the disk has it or not: Issue is refused as a device fault, which halts the machine.
     ensures failed { (x : ExtentsState) (g : GraphState) (i : IndexState) (s : State) (disk later : DiskState) (z : Name) (p : ℕ) (bytes : Page)
         → ArePartsOf x g i s → Sound (shape x) (formats_of (shape x)) s → IsRoundOf g s → s.halted ≡ false
         → slice_get (members_of g.round) (length s.issued) ≡ Some z → write_of g z ≡ Some (p, bytes) → IsDiskOf (shape x) (formats_of (shape x)) s disk
@@ -57,6 +62,7 @@ pub fn issue_refines_issue()
 /// A flush after the last of the round, and the round settled in the graph, are the machine's End, with the frontier that is
 /// counted by the roots; a flush that fails is the machine's End refused.
 pub fn end_refines_end()
+    // After the last member the disk is flushed and the round settled: End answers the frontier that the roots count.
     ensures ended { (x : ExtentsState) (g h : GraphState) (i : IndexState) (s : State) (disk : DiskState) (round : List Name) (roots : List Noted) (n : ℕ)
         → IsWhole x → ArePartsOf x g i s → Sound (shape x) (formats_of (shape x)) s → IsRoundOf g s → s.halted ≡ false
         → g.round ≡ Some round → length s.issued ≡ length round
@@ -64,6 +70,7 @@ pub fn end_refines_end()
         → AreRootsOf roots s → IsFrontierOf h.staging roots n → IsDiskOf (shape x) (formats_of (shape x)) s disk
         → (t : State) × Step (shape x) (formats_of (shape x)) s End (Ended n) t × ArePartsOf x h i t × IsRoundOf h t × (t.issued ≡ [])
         × IsDiskOf (shape x) (formats_of (shape x)) t (flushed disk) }
+    // The flush fails, and the disk stays as it was: End is refused as a device fault, which halts the machine.
     ensures failed { (x : ExtentsState) (g : GraphState) (i : IndexState) (s : State) (disk : DiskState) (round : List Name)
         → ArePartsOf x g i s → IsRoundOf g s → s.halted ≡ false → g.round ≡ Some round → length s.issued ≡ length round
         → IsDiskOf (shape x) (formats_of (shape x)) s disk
@@ -75,6 +82,7 @@ pub fn end_refines_end()
 /// is refused or not.
 pub fn disk_refines_device()
     ensures reads { (S : Shape) (F : Formats) (s : State) (disk : DiskState) → IsDiskOf S F s disk → IsDeviceOf S F s (seen disk) }
+    // Each page that a crash leaves reads as in what the machine's crash leaves with some mask.
     ensures crash { (S : Shape) (F : Formats) (s : State) (disk : DiskState) (left : Image) → IsDiskOf S F s disk → MayLeave disk left
         → (mask : List Bool) × ((p : ℕ) → p < length left → page left p ≡ crashed S F s mask p) }
     ensures stays { (S : Shape) (F : Formats) (s t : State) (event : Event) (reply : Reply) (disk : DiskState)
