@@ -11,7 +11,7 @@ use Rattle.cs_core.specs.declared.events.Event.{Event}
 use Rattle.cs_core.specs.declared.events.Reply.{Reply}
 use Rattle.cs_core.specs.declared.events.Reply.TheVariants.{Found}
 use Rattle.cs_node.specs.declared.logs.Call.{Call}
-use Rattle.cs_node.specs.Told.{Below, IsAbove, Rising, call, floor_of, found_in, found_last, told_by}
+use Rattle.cs_node.specs.Told.{Below, IsLeastAbove, Rising, call, floor_of, found_in, found_last, told_by}
 
 pub floor_of-push : (cs : List Call) (c : Call) → floor_of (cs ++ c ∷ []) ≡ max (floor_of cs) (told_by c.event c.reply)
 floor_of-push [] c = omega arith
@@ -24,8 +24,8 @@ pub Below-push : (place : ℕ) (cs : List Call) (e : Event) (r : Reply) → Belo
 Below-push place cs e r h = All-push (λ (c : Call). c.place < place + 1) cs (call place e r) (below_more place (place + 1) cs (omega arith) h) (omega arith)
 
 -- the place behind that of the call that was added is the least above all
-pub IsAbove-push : (place : ℕ) (cs : List Call) (e : Event) (r : Reply) → Below place cs → IsAbove (place + 1) (cs ++ call place e r ∷ [])
-IsAbove-push place cs e r h = record {
+pub IsLeastAbove-push : (place : ℕ) (cs : List Call) (e : Event) (r : Reply) → Below place cs → IsLeastAbove (place + 1) (cs ++ call place e r ∷ [])
+IsLeastAbove-push place cs e r h = record {
   below = Below-push place cs e r h;
   least = λ m below.
       let all : length (cs ++ call place e r ∷ []) ≡ length cs + 1 = length-append cs (call place e r ∷ []) in

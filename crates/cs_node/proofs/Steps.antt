@@ -8,7 +8,7 @@ use lib.ListN.{get_elem?}
 use Rattle.atomic_table.specs.Table.{Me, Act, Allows, Splits, Valid, homes_after, carried_after, keeps}
 use Rattle.atomic_table.proofs.Lists.{at_set, at_snoc, at_longer, set_here, set_else, set_again}
 use Rattle.cs_disk.specs.declared.disk.PageDisk.{Ghosts as PageDisk}
-use Rattle.cs_node.specs.Behind.{WasFrontier}
+use Rattle.cs_node.specs.Behind.{IsFrontierOfSome}
 use Rattle.cs_node.specs.Mirror.{IsBeside, IsMirror, Knowledge, Mirrors, Sights, knows, nothing}
 use Rattle.cs_node.specs.Starts.{Start}
 
@@ -71,18 +71,18 @@ module _ {D : Type 0} (disks : PageDisk D) (start : Start) where
       )
 
   -- the keeper's view is beside itself
-  itself : (f : ℕ) → WasFrontier disks start f → IsBeside disks (knows start f) (knows start f)
+  itself : (f : ℕ) → IsFrontierOfSome disks start f → IsBeside disks (knows start f) (knows start f)
   itself f was = record {
     within = omega arith;
     same = refl;
-    frontier = λ other e. let is : start ≡ other = cc in subst (λ (s : Start). WasFrontier disks s f) is was;
+    frontier = λ other e. let is : start ≡ other = cc in subst (λ (s : Start). IsFrontierOfSome disks s f) is was;
   }
 
   -- another view stays beside the keeper's as that rises; before the board is a node's there is none
   beside : (keeper view : Knowledge) (f : ℕ) → keeper.number ≤ f → keeper.start ≡ Some start → IsBeside disks keeper view → IsBeside disks (knows start f) view
   beside keeper view f le named b = record { within = let w = b.within in omega arith; same = b.same ∙ named; frontier = b.frontier }
 
-  raises : (keeper : Knowledge) (views : List Knowledge) (f : ℕ) → keeper.number ≤ f → WasFrontier disks start f → (keeper.start ≡ Some start) ⊎ (keeper.start ≡ None) → Mirrors disks keeper views
+  raises : (keeper : Knowledge) (views : List Knowledge) (f : ℕ) → keeper.number ≤ f → IsFrontierOfSome disks start f → (keeper.start ≡ Some start) ⊎ (keeper.start ≡ None) → Mirrors disks keeper views
       → Mirrors disks (knows start f) (set views 0 (knows start f))
   raises keeper views f le was from m = record {
     first = set_here views 0 (knows start f) (filled views 0 keeper m.first);
@@ -96,7 +96,7 @@ module _ {D : Type 0} (disks : PageDisk D) (start : Start) where
     alone = λ none. absurd (not_both (Some start) start refl none);
   }
 
-  raise_first : {S : Type 0} → (slots f : ℕ) (me : Me S Knowledge) → me.0.number ≤ f → WasFrontier disks start f → (me.0.start ≡ Some start) ⊎ (me.0.start ≡ None)
+  raise_first : {S : Type 0} → (slots f : ℕ) (me : Me S Knowledge) → me.0.number ≤ f → IsFrontierOfSome disks start f → (me.0.start ≡ Some start) ⊎ (me.0.start ≡ None)
       → Allows (IsMirror disks) slots 0 me 0 (λ _. f) (λ _. Sights disks start me f)
   raise_first {S} slots f me le was from s h len at fits =
       let keeper = h.0 in
@@ -108,7 +108,7 @@ module _ {D : Type 0} (disks : PageDisk D) (start : Start) where
       subst P (sym h.1) (knows start f, keeps, tt, (knows start f, refl, risen), record { view = refl; later = le; frontier = was })
 
   -- the keeper raises the word to what was a frontier, and may say so the first time whose commands it counts
-  pub raise_keeps : {S : Type 0} → (slots id f : ℕ) (me : Me S Knowledge) → id ≡ 0 → me.0.number ≤ f → WasFrontier disks start f → (me.0.start ≡ Some start) ⊎ (me.0.start ≡ None)
+  pub raise_keeps : {S : Type 0} → (slots id f : ℕ) (me : Me S Knowledge) → id ≡ 0 → me.0.number ≤ f → IsFrontierOfSome disks start f → (me.0.start ≡ Some start) ⊎ (me.0.start ≡ None)
       → Allows (IsMirror disks) slots id me 0 (λ _. f) (λ _. Sights disks start me f)
   raise_keeps slots id f me first le was from = subst (λ (i : ℕ). Allows (IsMirror disks) slots i me 0 (λ _. f) (λ _. Sights disks start me f)) (sym first) (raise_first slots f me le was from)
 

@@ -17,7 +17,7 @@ use Rattle.cs_node.specs.Behind.{IsBehind}
 use Rattle.cs_node.specs.Starts.{Start}
 use Rattle.cs_node.specs.Told.{Holdings, call, is_unrecorded}
 
--- There is a core that lay behind the lock once, of this start, and one that it was after the call, of which `goes` holds. Which cores these
+-- There is a core such as lies behind the lock, of this start, and one that it was after the call, of which `goes` holds. Which cores these
 -- were isn't told: the first may be an earlier one than the call found.
 abbrev pub WhileLocked : {D : Type 0} → (disks : PageDisk D) → Start → (View D → View D → Type 0) → Type 0
 WhileLocked {D} disks start goes = (old new : View D) × IsBehind disks start old × goes old new

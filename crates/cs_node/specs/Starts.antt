@@ -6,11 +6,13 @@ use Rattle.cs_model.specs.Device.{Shape}
 use Rattle.cs_model.specs.Geometry.{shape_of}
 use Rattle.cs_core.specs.Views.{View}
 
--- the image that was on the disk when the core was opened, and how many extents the store has, of how many pages
+-- the image that was on the disk when the core was opened, how many extents the store has, of how many pages, and how many events its
+-- history may have
 pub record Start : Type 0 where
   pub opened : Image
   pub extents : ℕ
   pub pages : ℕ
+  pub limit : ℕ
 
 -- the shape of such a store
 abbrev pub shape_at : Start → Shape
@@ -18,8 +20,8 @@ shape_at start = shape_of start.extents start.pages 1 start.extents 1
 
 -- what this core was opened on
 abbrev pub start_of : {D : Type 0} → View D → Start
-start_of v = record { opened = v.opened; extents = (shape v.store.extents).extents; pages = (shape v.store.extents).pages }
+start_of v = record { opened = v.opened; extents = (shape v.store.extents).extents; pages = (shape v.store.extents).pages; limit = v.limit }
 
 -- the start of no core
 abbrev pub no_start : Start
-no_start = record { opened = []; extents = 4; pages = 2 }
+no_start = record { opened = []; extents = 4; pages = 2; limit = 0 }

@@ -44,7 +44,7 @@ abbrev pub Below : ℕ → List Call → Type 0
 Below n calls = All (λ c. c.place < n) calls
 
 -- the least number that all calls are at places below
-pub record IsAbove (n : ℕ) (calls : List Call) : Type 0 where
+pub record IsLeastAbove (n : ℕ) (calls : List Call) : Type 0 where
   pub below : Below n calls
   pub least : (m : ℕ) → Below m calls → n ≤ m
 

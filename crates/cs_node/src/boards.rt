@@ -1,6 +1,6 @@
 //! The board: one word that tells how many commands are persistent.
 ghost use Rattle.std.specs.Prelude.{◌≡◌, ◌≤◌, [], IfOk, Some};
-ghost use Rattle.cs_node.specs.Behind.{WasFrontier};
+ghost use Rattle.cs_node.specs.Behind.{IsFrontierOfSome};
 ghost use Rattle.cs_node.specs.Mirror.{knows};
 ghost use Rattle.cs_node.specs.Starts.{start_of};
 
@@ -20,6 +20,7 @@ pub trait Naming {
     ghost start: { Start };
 }
 
+// No board has this name, which has no word: where a call says `Brand`, its proof picks the board and the start.
 impl Naming for Brand {
     ghost use Rattle.cs_node.specs.Mirror.{no_table};
     ghost use Rattle.cs_node.specs.Starts.{no_start};
@@ -43,7 +44,8 @@ impl Model for Sight {
     ghost view = { λ s. record { number = s.number; start = None } };
 }
 
-/// The rule of the board: the keeper's view is the word, no view exceeds it, and each was the frontier of a core behind the lock.
+/// The rule of the board: the keeper's view is the word, and no view exceeds it. Once the board is a node's, each view is the frontier of
+/// some core of the node's start.
 pub struct Mirror<D: PageDisk> {
     of: PhantomData<D>,
 }
@@ -56,7 +58,7 @@ impl<D: PageDisk> TableRule<(), Sight, ()> for Mirror<D> {
     ghost first = { λ _. nothing };
 }
 
-/// The keeper raises the word, or a reader loads it: the view is the word then, and counts commands of the core that K names.
+/// The keeper raises the word, or a reader loads it: the view is the word then, and counts commands of a core of the start that K names.
 pub struct Sees<D: PageDisk, K: Naming> {
     disk: PhantomData<D>,
     of: PhantomData<K>,
@@ -107,7 +109,7 @@ impl<D: PageDisk, K: Naming> NamedBoard<D, K> {
         requires { (seat.old.table_id ≡ K.table) × (seat.old.me ≡ (knows K.start seat.old.me.0.number, [])) }
         ensures seat { (seat.new.table_id ≡ K.table) × (seat.new.me ≡ (knows K.start result, [])) }
         ensures later { seat.old.me.0.number ≤ result }
-        ensures frontier { WasFrontier D.PageDisk K.start result }
+        ensures frontier { IsFrontierOfSome D.PageDisk K.start result }
     {
         self.words.shared.load::<Sees<D, K>>(seat, 0)
     }

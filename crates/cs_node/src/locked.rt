@@ -1,8 +1,8 @@
 //! What lies under the lock, and the lock.
 //!
 //! Under one lock at most one event is done. `Engine::apply`, the one function that has the core do an event, requires that none was done since
-//! the lock was taken, and afterwards one was. That none was is known of what `Lock::take` gives, and of nothing else: the mutex, the core
-//! and the mark are private to this file. So a function that does a second event without taking the lock again isn't proved.
+//! the lock was taken, and afterwards one was. Outside this file that none was is known of what `Lock::take` gives, and of nothing else: the
+//! mutex, the core and the mark are private to it. So a function that does a second event without taking the lock again isn't proved.
 ghost use Rattle.std.specs.Prelude.{◌≡◌, ◌≢◌, ◌⊎◌, ◌+◌, ◌^◌, ◌≤◌, [], IfErr, IfOk, MatchOption, OnErr, false, true};
 ghost use Rattle.std.specs.Sync.Mutex.{mutex_guard_value};
 ghost use Rattle.cs_core.specs.Replies.{MayAnswer};
@@ -139,7 +139,7 @@ impl<D: PageDisk, K: Naming> Engine<D, K> {
         Ok(reply)
     }
 
-    /// Does one event, after which the gate is asked, and gives its reply, a refusal too. Refused 9 OutOfMemory and
+    /// Does one event, of which the gate is told, and gives its reply, a refusal too. Refused 9 OutOfMemory and
     /// 41 HistoryFull; nothing is recorded then.
     pub fn record<G: Gate>(
         &mut self,

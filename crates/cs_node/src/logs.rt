@@ -26,13 +26,13 @@ pub struct Log {
 
 impl Model for Log {
     ghost use Rattle.std.specs.Prelude.{◌≡◌, ◌-◌, length, vec_capacity};
-    ghost use Rattle.cs_node.specs.Told.{IsAbove, Logged, Rising, floor_of};
+    ghost use Rattle.cs_node.specs.Told.{IsLeastAbove, Logged, Rising, floor_of};
 
     ghost Value = { Logged };
 
     ghost view = { λ l. record { calls = l.calls.items; room = vec_capacity l.calls - length l.calls.items } };
 
-    ghost invariant = { λ l. IsAbove l.next l.calls.items × Rising l.calls.items × (l.floor ≡ floor_of l.calls.items) };
+    ghost invariant = { λ l. IsLeastAbove l.next l.calls.items × Rising l.calls.items × (l.floor ≡ floor_of l.calls.items) };
 }
 
 impl Log {

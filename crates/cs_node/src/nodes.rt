@@ -87,7 +87,7 @@ impl<D: PageDisk, K: Naming> Node<D, K> {
         self.put_with(rt, purse, id, bytes, &Open)
     }
 
-    /// The same with a gate, which is asked under the lock after the event.
+    /// The same with a gate, which is told of the event under the lock.
     pub fn put_with<G: Gate, R: Wait>(
         &self,
         rt: &R,

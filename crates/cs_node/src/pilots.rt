@@ -1,6 +1,6 @@
 //! Who writes back.
 ghost use Rattle.std.specs.Prelude.{◌≡◌, ◌≤◌, [], IfErr, IfOk, IfSome};
-ghost use Rattle.cs_node.specs.Behind.{WasFrontier};
+ghost use Rattle.cs_node.specs.Behind.{IsFrontierOfSome};
 ghost use Rattle.cs_node.specs.Dues.{IsSyncRefused, IsTurn, IsTurnRefused, Syncs};
 ghost use Rattle.cs_node.specs.Locks.{WhileLocked};
 ghost use Rattle.cs_node.specs.Mirror.{knows};
@@ -14,7 +14,8 @@ use std::marker::{Model, PhantomData};
 use std::sync::Wait;
 use std::thread;
 
-/// Who does a node's writeback; there is one. Contracts see the view of its seat at the board: the number that it last loaded.
+/// Who does a node's writeback; there is one. Contracts see the view of its seat at the board: the number that it last saw there, at first what
+/// the keeper's seat knew.
 #[derive(Drop)]
 pub struct Pilot<K: Naming> {
     reader: Reader,
@@ -47,7 +48,7 @@ impl<K: Naming> Pilot<K> {
     fn see<D: PageDisk>(&mut self, board: &NamedBoard<D, K>) -> u64
         ensures seen { self.new ≡ result }
         ensures later { self.old ≤ result }
-        ensures frontier { WasFrontier D.PageDisk K.start result }
+        ensures frontier { IsFrontierOfSome D.PageDisk K.start result }
     {
         board.look(&mut self.reader)
     }
@@ -107,7 +108,7 @@ impl<D: PageDisk, K: Naming> Node<D, K> {
     pub fn sync<R: Wait>(&self, rt: &R, pilot: &mut Pilot<K>) -> Result<u64, Refusal>
         ensures ok { IfOk result (λ frontier. (frontier ≡ pilot.new) × Syncs D.PageDisk K.start frontier) }
         ensures later { pilot.old ≤ pilot.new }
-        ensures frontier { IfOk result (λ frontier. WasFrontier D.PageDisk K.start frontier) }
+        ensures frontier { IfOk result (λ frontier. IsFrontierOfSome D.PageDisk K.start frontier) }
         ensures err { IfErr result (λ r. WhileLocked D.PageDisk K.start (λ old new. IsSyncRefused D.PageDisk old r new)) }
     {
         let target = self.lock.take(rt).engine.stage(&self.board)?;

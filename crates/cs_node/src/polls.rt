@@ -1,7 +1,7 @@
 //! Asking the board, without the lock.
 ghost use Rattle.std.specs.Prelude.{◌≡◌, ◌≤◌, max};
 ghost use Rattle.cs_node.specs.Answers.{Tells};
-ghost use Rattle.cs_node.specs.Behind.{WasFrontier};
+ghost use Rattle.cs_node.specs.Behind.{IsFrontierOfSome};
 ghost use Rattle.cs_node.specs.Told.{floor_of};
 
 use crate::boards::Naming;
@@ -18,11 +18,12 @@ pub enum Polled<K: Naming> {
 }
 
 impl<K: Naming> Purse<K> {
-    /// Asks the board whether a command is persistent. It takes no lock and no memory, waits for nobody and loads one word.
+    /// Tells whether a command is known to be persistent, by the board or by what the purse's calls told. It takes no lock and no memory,
+    /// waits for nobody and loads one word.
     pub fn poll<D: PageDisk>(&mut self, node: &Node<D, K>, ticket: Ticket<K>) -> Polled<K>
         ensures told { Tells (max self.new.seen (floor_of self.old.calls)) ticket result }
         ensures later { self.old.seen ≤ self.new.seen }
-        ensures frontier { WasFrontier D.PageDisk K.start self.new.seen }
+        ensures frontier { IsFrontierOfSome D.PageDisk K.start self.new.seen }
         ensures same { self.new ≡ record self.old { seen = self.new.seen } }
     {
         let word = node.board.look(&mut self.reader);

@@ -12,7 +12,7 @@ use std::alloc::{AllocError, AllocFailed, Global};
 use std::marker::{Model, PhantomData};
 
 /// The calls of a thread, with its tickets and acks. Contracts see these, and the view of its seat at the board: the number that it
-/// last loaded.
+/// last saw there, at first what the keeper's seat knew.
 #[derive(Drop)]
 pub struct Purse<K: Naming> {
     pub(crate) log: Log,

@@ -42,7 +42,7 @@ pub fn due<D: PageDisk>(core: &Core<D>) -> Option<Event>
 }
 
 impl<D: PageDisk, K: Naming> Engine<D, K> {
-    /// Does one event of the node's own, after which the gate is asked, and gives its reply. Refused as the event is, which is
+    /// Does one event of the node's own, of which the gate is told, and gives its reply. Refused as the event is, which is
     /// recorded, and 9 OutOfMemory and 41 HistoryFull, which aren't.
     pub fn work<G: Gate>(
         &mut self,
