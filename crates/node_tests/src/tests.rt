@@ -263,16 +263,35 @@ impl Calls for GetsAndDeletes {
         node: &Node<D, K>,
         purse: &mut Purse<K>,
     ) {
-        assert!(rt; matches!(node.delete(rt, purse, id(10)), Ok(None)));
-        assert!(rt; matches!(node.get(rt, purse, id(10)), Ok(None)));
+        is_absent(rt, node, purse, 10);
         let first = put(rt, alloc, node, purse, 10).expect(rt, "a put");
         assert_eq!(rt; first.number(), 1);
         is_found(rt, node, purse, 10, &[10]);
-        let Ok(Some(ticket)) = node.delete(rt, purse, id(10)) else {
-            panic!(rt; "a delete")
-        };
+        let ticket = delete(rt, node, purse, 10).expect(rt, "a ticket");
         assert_eq!(rt; ticket.number(), 2);
     }
+}
+
+/// Deletes what is under the identifier that ends with this byte.
+fn delete<D: PageDisk, K: Naming, R: Wait + Abort>(
+    rt: &R,
+    node: &Node<D, K>,
+    purse: &mut Purse<K>,
+    last: u8,
+) -> Option<Ticket<K>> {
+    node.delete(rt, purse, id(last)).expect(rt, "a delete")
+}
+
+/// Asserts that nothing is deleted or got under the identifier that ends with this byte.
+fn is_absent<D: PageDisk, K: Naming, R: Wait + Abort>(
+    rt: &R,
+    node: &Node<D, K>,
+    purse: &mut Purse<K>,
+    last: u8,
+) {
+    assert!(rt; delete(rt, node, purse, last).is_none());
+    let found = node.get(rt, purse, id(last)).expect(rt, "a get");
+    assert!(rt; found.is_none());
 }
 
 /// Asserts the content of the shard under the identifier that ends with this byte.
@@ -283,9 +302,8 @@ fn is_found<D: PageDisk, K: Naming, R: Wait + Abort>(
     last: u8,
     content: &[u8],
 ) {
-    let Ok(Some(found)) = node.get(rt, purse, id(last)) else {
-        panic!(rt; "a get")
-    };
+    let found = node.get(rt, purse, id(last)).expect(rt, "a get");
+    let found = found.expect(rt, "a shard");
     assert_eq!(rt; found.as_slice(), content);
 }
 

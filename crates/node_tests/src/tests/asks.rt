@@ -1,6 +1,7 @@
 //! Polls from within a gate, while the lock is held.
 use super::histories::are_steps;
 use super::trials::{Calls, Lends, try_on};
+use super::workers::stream_steps;
 use super::{new_core, put};
 use cs_disk::PageDisk;
 use cs_node::*;
@@ -60,17 +61,23 @@ impl<'a, D: PageDisk, K: Naming> Gate for Asks<'a, D, K> {
     }
 }
 
+/// The first turns of a stream behind a put.
+const FIRST_TURNS: &[Step] = &[Step::Stage, Step::Begin, Step::Issue, Step::Issue];
+
+/// The turns of each of the two rounds that come then.
+const ROUND_TURNS: &[Step] = &[Step::End, Step::Begin, Step::Issue];
+
 /// Takes eleven turns of a stream, which make a put persistent, and one that has nothing to do.
-fn stream_ten<D: PageDisk, K: Naming, R: Wait + Abort, G: Gate>(
+fn stream_eleven<D: PageDisk, K: Naming, R: Wait + Abort, G: Gate>(
     rt: &R,
     node: &Node<D, K>,
     gate: &G,
 ) {
     let mut stream = Stream::new(node.pilot(rt).expect(rt, "the pilot"));
-    for _ in 0..11 {
-        assert!(rt; stream.turn(rt, node, gate).is_ok());
-    }
-    assert_eq!(rt; stream.turn(rt, node, gate), Ok(Step::Idle));
+    stream_steps(rt, node, &mut stream, gate, FIRST_TURNS);
+    stream_steps(rt, node, &mut stream, gate, ROUND_TURNS);
+    stream_steps(rt, node, &mut stream, gate, ROUND_TURNS);
+    stream_steps(rt, node, &mut stream, gate, &[Step::End, Step::Idle]);
 }
 
 /// Asserts that a put became persistent by the End of the third round, which the gate knew as it was told of that.
@@ -101,7 +108,7 @@ impl Calls for PollsWithin {
                 after: None,
             }),
         };
-        stream_ten(rt, node, &gate);
+        stream_eleven(rt, node, &gate);
         let Ok(asked) = gate.asked.try_borrow() else {
             panic!(rt; "a gate that is in use")
         };

@@ -1,6 +1,7 @@
 //! What gates are told, and when.
-use super::histories::{are_steps, is_history};
-use super::trials::{Trial, try_on};
+use super::histories::{Prints, are_steps};
+use super::trials::{Calls, Looks, try_on};
+use super::workers::{pilot_steps, stream_steps};
 use super::{bytes_of, id, new_core};
 use cs_core::Bytes;
 use cs_deps::Refusal;
@@ -85,12 +86,15 @@ fn sweep_told<D: PageDisk, K: Naming, R: Wait + Abort>(rt: &R, node: &Node<D, K>
 /// Asserts what two turns of the pilot do, and three of a stream behind them.
 fn write_told<D: PageDisk, K: Naming, R: Wait + Abort>(rt: &R, node: &Node<D, K>, gate: &Keeps) {
     let mut pilot = node.pilot(rt).expect(rt, "the pilot");
-    assert_eq!(rt; pilot.turn(rt, node, gate), Ok(Step::Begin));
-    assert_eq!(rt; pilot.turn(rt, node, gate), Ok(Step::Issue));
+    pilot_steps(rt, node, &mut pilot, gate, &[Step::Begin, Step::Issue]);
     let mut stream = Stream::new(pilot);
-    assert_eq!(rt; stream.turn(rt, node, gate), Ok(Step::Issue));
-    assert_eq!(rt; stream.turn(rt, node, gate), Ok(Step::Issue));
-    assert_eq!(rt; stream.turn(rt, node, gate), Ok(Step::End));
+    stream_steps(
+        rt,
+        node,
+        &mut stream,
+        gate,
+        &[Step::Issue, Step::Issue, Step::End],
+    );
 }
 
 /// All that the gate is told of, which is the whole history: a refused put is recorded, and a turn with nothing to do isn't.
@@ -100,24 +104,22 @@ const TOLD: &str = "[Put, Put, Put, BeginSweep, MoveOne, Begin, Issue, Issue, Is
 #[derive(Drop)]
 struct TellsAll;
 
-impl Trial for TellsAll {
-    fn run<D: PageDisk + Send + Drop, K: Naming + Send + Sync, R: Threads + Wait + Abort + Sync>(
+impl Calls for TellsAll {
+    fn call<D: PageDisk + Send, K: Naming + Send + Sync, R: Threads + Wait + Abort + Sync>(
         self,
         rt: &R,
         alloc: Global,
-        node: Node<D, K>,
+        node: &Node<D, K>,
+        purse: &mut Purse<K>,
     ) {
         let gate = Keeps::new(alloc);
-        let mut purse = node.purse(rt, alloc).expect(rt, "a purse");
-        put_told(rt, alloc, &node, &mut purse, 10, &gate);
-        put_told(rt, alloc, &node, &mut purse, 11, &gate);
-        put_too_many(rt, alloc, &node, &mut purse, &gate, Refusal::TooLarge);
-        sweep_told(rt, &node, &gate);
-        write_told(rt, &node, &gate);
-        put_too_many(rt, alloc, &node, &mut purse, &gate, Refusal::HistoryFull);
+        put_told(rt, alloc, node, purse, 10, &gate);
+        put_told(rt, alloc, node, purse, 11, &gate);
+        put_too_many(rt, alloc, node, purse, &gate, Refusal::TooLarge);
+        sweep_told(rt, node, &gate);
+        write_told(rt, node, &gate);
+        put_too_many(rt, alloc, node, purse, &gate, Refusal::HistoryFull);
         are_told(rt, alloc, &gate);
-        let rest = node.rest();
-        is_history(rt, alloc, rest.core().history(), TOLD);
     }
 }
 
@@ -132,6 +134,10 @@ fn are_told<R: Abort>(rt: &R, alloc: Global, gate: &Keeps) {
 #[test]
 fn a_gate_is_told_of_all_that_is_recorded(rt: HostRuntime) -> Result<(), Fail> {
     let core = new_core(rt.alloc(), 10)?;
-    try_on(&rt, rt.alloc(), core, TellsAll);
+    let trial = Looks {
+        calls: TellsAll,
+        look: Prints(TOLD),
+    };
+    try_on(&rt, rt.alloc(), core, trial);
     Ok(())
 }

@@ -1,6 +1,6 @@
 //! Sweeps by one reclaimer, turn by turn and to their end.
-use super::trials::{Calls, Lends, Trial, try_on};
-use super::workers::Counts;
+use super::trials::{Calls, Lends, Look, Looks, try_on};
+use super::workers::{Counts, pilot_steps};
 use super::{new_core, put_two};
 use cs_core::Event;
 use cs_disk::PageDisk;
@@ -55,8 +55,7 @@ impl Calls for TakesTurns {
     ) {
         sweep(rt, alloc, node, purse, 1);
         let mut pilot = node.pilot(rt).expect(rt, "the pilot");
-        assert_eq!(rt; pilot.turn(rt, node, &Open), Ok(Step::Begin));
-        assert_eq!(rt; pilot.turn(rt, node, &Open), Ok(Step::Issue));
+        pilot_steps(rt, node, &mut pilot, &Open, &[Step::Begin, Step::Issue]);
     }
 }
 
@@ -75,29 +74,41 @@ fn began<D: PageDisk, K: Naming>(rest: &Rest<D, K>, place: usize, extent: usize)
     }
 }
 
-/// Sweeps twice, and looks at what was swept.
+/// Sweeps twice.
 #[derive(Drop)]
 struct SweepsTwice;
 
-impl Trial for SweepsTwice {
-    fn run<D: PageDisk + Send + Drop, K: Naming + Send + Sync, R: Threads + Wait + Abort + Sync>(
+impl Calls for SweepsTwice {
+    fn call<D: PageDisk + Send, K: Naming + Send + Sync, R: Threads + Wait + Abort + Sync>(
         self,
         rt: &R,
         alloc: Global,
-        node: Node<D, K>,
+        node: &Node<D, K>,
+        purse: &mut Purse<K>,
     ) {
-        let mut purse = node.purse(rt, alloc).expect(rt, "a purse");
-        sweep(rt, alloc, &node, &mut purse, 2);
-        let rest = node.rest();
-        assert!(rt; began(&rest, 2, 0));
-        assert!(rt; began(&rest, 7, 1));
+        sweep(rt, alloc, node, purse, 2);
+    }
+}
+
+/// Asserts what was swept by two sweeps.
+#[derive(Drop)]
+struct BothExtents;
+
+impl Look for BothExtents {
+    fn look<D: PageDisk, K: Naming, R: Abort>(self, rt: &R, _alloc: Global, rest: &Rest<D, K>) {
+        assert!(rt; began(rest, 2, 0));
+        assert!(rt; began(rest, 7, 1));
     }
 }
 
 #[test]
 fn a_second_sweep_is_of_the_next_extent(rt: HostRuntime) -> Result<(), Fail> {
     let core = new_core(rt.alloc(), 64)?;
-    try_on(&rt, rt.alloc(), core, SweepsTwice);
+    let trial = Looks {
+        calls: SweepsTwice,
+        look: BothExtents,
+    };
+    try_on(&rt, rt.alloc(), core, trial);
     Ok(())
 }
 

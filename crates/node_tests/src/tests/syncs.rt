@@ -1,6 +1,7 @@
 //! What a sync does, event by event, where a round is out as it begins.
-use super::histories::is_history;
-use super::trials::{Trial, try_on};
+use super::histories::Prints;
+use super::trials::{Calls, Looks, try_on};
+use super::workers::{pilot_steps, stream_steps};
 use super::{new_core, put, put_two};
 use cs_disk::PageDisk;
 use cs_node::*;
@@ -9,18 +10,6 @@ use std::process::Abort;
 use std::sync::Wait;
 use std::test::*;
 use std::thread::Threads;
-
-/// Asserts what so many turns of a pilot do, which is nothing but these steps.
-fn turns<D: PageDisk, K: Naming, R: Wait + Abort>(
-    rt: &R,
-    node: &Node<D, K>,
-    pilot: &mut Pilot<K>,
-    steps: &[Step],
-) {
-    for step in steps {
-        assert_eq!(rt; pilot.turn(rt, node, &Open), Ok(*step));
-    }
-}
 
 /// Puts once more, and syncs all.
 fn put_and_sync<D: PageDisk, K: Naming, R: Wait + Abort>(
@@ -37,47 +26,36 @@ fn put_and_sync<D: PageDisk, K: Naming, R: Wait + Abort>(
     assert_eq!(rt; pilot.turn(rt, node, &Open), Ok(Step::Idle));
 }
 
-/// Asserts the history of a node.
-fn rests<D: PageDisk + Drop, K: Naming, R: Abort>(
-    rt: &R,
-    alloc: Global,
-    node: Node<D, K>,
-    history: &str,
-) {
-    let rest = node.rest();
-    is_history(rt, alloc, rest.core().history(), history);
-}
-
 /// Syncs while a round is out whose only member is written: that round ends, then come the chunk and the index's page with the superblock of
 /// the chunk before, then the next superblock, then the root.
 #[derive(Drop)]
 struct SyncsBeforeAnEnd;
 
-impl Trial for SyncsBeforeAnEnd {
-    fn run<D: PageDisk + Send + Drop, K: Naming + Send + Sync, R: Threads + Wait + Abort + Sync>(
+impl Calls for SyncsBeforeAnEnd {
+    fn call<D: PageDisk + Send, K: Naming + Send + Sync, R: Threads + Wait + Abort + Sync>(
         self,
         rt: &R,
         alloc: Global,
-        node: Node<D, K>,
+        node: &Node<D, K>,
+        purse: &mut Purse<K>,
     ) {
-        let mut purse = node.purse(rt, alloc).expect(rt, "a purse");
         let mut pilot = node.pilot(rt).expect(rt, "the pilot");
-        assert!(rt; put(rt, alloc, &node, &mut purse, 10).is_some());
-        turns(rt, &node, &mut pilot, &[Step::Begin, Step::Issue]);
-        put_and_sync(rt, alloc, &node, &mut purse, &mut pilot, 2);
-        rests(
-            rt,
-            alloc,
-            node,
-            "[Put, Begin, Issue, Put, Stage, End, Begin, Issue, Issue, Issue, End, Begin, Issue, End, Begin, Issue, End]",
-        );
+        assert!(rt; put(rt, alloc, node, purse, 10).is_some());
+        pilot_steps(rt, node, &mut pilot, &Open, &[Step::Begin, Step::Issue]);
+        put_and_sync(rt, alloc, node, purse, &mut pilot, 2);
     }
 }
 
 #[test]
 fn a_sync_ends_the_round_that_is_out(rt: HostRuntime) -> Result<(), Fail> {
     let core = new_core(rt.alloc(), 64)?;
-    try_on(&rt, rt.alloc(), core, SyncsBeforeAnEnd);
+    let trial = Looks {
+        calls: SyncsBeforeAnEnd,
+        look: Prints(
+            "[Put, Begin, Issue, Put, Stage, End, Begin, Issue, Issue, Issue, End, Begin, Issue, End, Begin, Issue, End]",
+        ),
+    };
+    try_on(&rt, rt.alloc(), core, trial);
     Ok(())
 }
 
@@ -85,31 +63,31 @@ fn a_sync_ends_the_round_that_is_out(rt: HostRuntime) -> Result<(), Fail> {
 #[derive(Drop)]
 struct SyncsBetweenIssues;
 
-impl Trial for SyncsBetweenIssues {
-    fn run<D: PageDisk + Send + Drop, K: Naming + Send + Sync, R: Threads + Wait + Abort + Sync>(
+impl Calls for SyncsBetweenIssues {
+    fn call<D: PageDisk + Send, K: Naming + Send + Sync, R: Threads + Wait + Abort + Sync>(
         self,
         rt: &R,
         alloc: Global,
-        node: Node<D, K>,
+        node: &Node<D, K>,
+        purse: &mut Purse<K>,
     ) {
-        let mut purse = node.purse(rt, alloc).expect(rt, "a purse");
         let mut pilot = node.pilot(rt).expect(rt, "the pilot");
-        put_two(rt, alloc, &node, &mut purse);
-        turns(rt, &node, &mut pilot, &[Step::Begin, Step::Issue]);
-        put_and_sync(rt, alloc, &node, &mut purse, &mut pilot, 3);
-        rests(
-            rt,
-            alloc,
-            node,
-            "[Put, Put, Begin, Issue, Put, Stage, Issue, End, Begin, Issue, Issue, Issue, End, Begin, Issue, End, Begin, Issue, End]",
-        );
+        put_two(rt, alloc, node, purse);
+        pilot_steps(rt, node, &mut pilot, &Open, &[Step::Begin, Step::Issue]);
+        put_and_sync(rt, alloc, node, purse, &mut pilot, 3);
     }
 }
 
 #[test]
 fn a_sync_goes_on_with_a_round_that_is_half_written(rt: HostRuntime) -> Result<(), Fail> {
     let core = new_core(rt.alloc(), 64)?;
-    try_on(&rt, rt.alloc(), core, SyncsBetweenIssues);
+    let trial = Looks {
+        calls: SyncsBetweenIssues,
+        look: Prints(
+            "[Put, Put, Begin, Issue, Put, Stage, Issue, End, Begin, Issue, Issue, Issue, End, Begin, Issue, End, Begin, Issue, End]",
+        ),
+    };
+    try_on(&rt, rt.alloc(), core, trial);
     Ok(())
 }
 
@@ -119,33 +97,37 @@ fn a_sync_goes_on_with_a_round_that_is_half_written(rt: HostRuntime) -> Result<(
 #[derive(Drop)]
 struct SyncsBehindARoot;
 
-impl Trial for SyncsBehindARoot {
-    fn run<D: PageDisk + Send + Drop, K: Naming + Send + Sync, R: Threads + Wait + Abort + Sync>(
+impl Calls for SyncsBehindARoot {
+    fn call<D: PageDisk + Send, K: Naming + Send + Sync, R: Threads + Wait + Abort + Sync>(
         self,
         rt: &R,
         alloc: Global,
-        node: Node<D, K>,
+        node: &Node<D, K>,
+        purse: &mut Purse<K>,
     ) {
-        let mut purse = node.purse(rt, alloc).expect(rt, "a purse");
         let mut stream = Stream::new(node.pilot(rt).expect(rt, "the pilot"));
-        assert!(rt; put(rt, alloc, &node, &mut purse, 10).is_some());
-        assert_eq!(rt; stream.turn(rt, &node, &Open), Ok(Step::Stage));
-        assert_eq!(rt; stream.turn(rt, &node, &Open), Ok(Step::Begin));
-        assert_eq!(rt; stream.turn(rt, &node, &Open), Ok(Step::Issue));
-        let mut pilot = stream.into_pilot();
-        put_and_sync(rt, alloc, &node, &mut purse, &mut pilot, 2);
-        rests(
+        assert!(rt; put(rt, alloc, node, purse, 10).is_some());
+        stream_steps(
             rt,
-            alloc,
             node,
-            "[Put, Stage, Begin, Issue, Put, Stage, Issue, End, Begin, Issue, Issue, Issue, End, Begin, Issue, Issue, End, Begin, Issue, End]",
+            &mut stream,
+            &Open,
+            &[Step::Stage, Step::Begin, Step::Issue],
         );
+        let mut pilot = stream.into_pilot();
+        put_and_sync(rt, alloc, node, purse, &mut pilot, 2);
     }
 }
 
 #[test]
 fn a_sync_outlasts_a_root_without_the_last_put(rt: HostRuntime) -> Result<(), Fail> {
     let core = new_core(rt.alloc(), 64)?;
-    try_on(&rt, rt.alloc(), core, SyncsBehindARoot);
+    let trial = Looks {
+        calls: SyncsBehindARoot,
+        look: Prints(
+            "[Put, Stage, Begin, Issue, Put, Stage, Issue, End, Begin, Issue, Issue, Issue, End, Begin, Issue, Issue, End, Begin, Issue, End]",
+        ),
+    };
+    try_on(&rt, rt.alloc(), core, trial);
     Ok(())
 }

@@ -75,8 +75,14 @@ fn run_named<K: Naming + Send + Sync, R: Threads + Wait + Abort + Sync>(
     requires new { (core.history ≡ []) × (core.store.accepted ≡ 0) × (core.store.frontier ≡ 0) }
 {
     let node = Node::<MemoryDisk, K>::new(board, core);
-    let Gave { purses, number } = given_by(rt, alloc, &node, together);
-    match node.rest().close(alloc, purses) {
+    let gave = given_by(rt, alloc, &node, together);
+    end_of(alloc, node.rest(), gave)
+}
+
+/// Closes a node over what the threads gave back.
+fn end_of<K: Naming>(alloc: Global, rest: Rest<MemoryDisk, K>, gave: Gave<K>) -> End {
+    let Gave { purses, number } = gave;
+    match rest.close(alloc, purses) {
         Ok(closed) => Ok(Ended {
             accepted: closed.accepted,
             acknowledged: closed.acknowledged,

@@ -78,6 +78,32 @@ impl<C: Calls> Trial for Closes<C> {
     }
 }
 
+/// What a test looks at on a node that rests.
+pub trait Look {
+    fn look<D: PageDisk, K: Naming, R: Abort>(self, rt: &R, alloc: Global, rest: &Rest<D, K>);
+}
+
+/// Does the calls, and looks at the node then.
+pub struct Looks<C, L> {
+    pub calls: C,
+    pub look: L,
+}
+
+impl<C: Calls, L: Look> Trial for Looks<C, L> {
+    fn run<D: PageDisk + Send + Drop, K: Naming + Send + Sync, R: Threads + Wait + Abort + Sync>(
+        self,
+        rt: &R,
+        alloc: Global,
+        node: Node<D, K>,
+    ) {
+        let Looks { calls, look } = self;
+        let mut purse = node.purse(rt, alloc).expect(rt, "a purse");
+        calls.call(rt, alloc, &node, &mut purse);
+        let rest = node.rest();
+        look.look(rt, alloc, &rest);
+    }
+}
+
 /// A list of one purse.
 pub fn list_of<K: Naming, R: Abort>(rt: &R, alloc: Global, purse: Purse<K>) -> Vec<Purse<K>> {
     let mut purses = Vec::new(alloc);

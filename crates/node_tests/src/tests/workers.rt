@@ -77,15 +77,29 @@ fn a_gate_counts_events(rt: HostRuntime) -> Result<(), Fail> {
     Ok(())
 }
 
-/// Asserts what a stream does, turn by turn.
-fn stream_steps<D: PageDisk, K: Naming, R: Wait + Abort>(
+/// Asserts what a pilot does, turn by turn.
+pub fn pilot_steps<D: PageDisk, K: Naming, R: Wait + Abort, G: Gate>(
     rt: &R,
     node: &Node<D, K>,
-    stream: &mut Stream<K>,
+    pilot: &mut Pilot<K>,
+    gate: &G,
     steps: &[Step],
 ) {
     for step in steps {
-        assert_eq!(rt; stream.turn(rt, node, &Open), Ok(*step));
+        assert_eq!(rt; pilot.turn(rt, node, gate), Ok(*step));
+    }
+}
+
+/// Asserts what a stream does, turn by turn.
+pub fn stream_steps<D: PageDisk, K: Naming, R: Wait + Abort, G: Gate>(
+    rt: &R,
+    node: &Node<D, K>,
+    stream: &mut Stream<K>,
+    gate: &G,
+    steps: &[Step],
+) {
+    for step in steps {
+        assert_eq!(rt; stream.turn(rt, node, gate), Ok(*step));
     }
 }
 
@@ -109,9 +123,9 @@ impl Calls for Streams {
     ) {
         assert!(rt; put(rt, alloc, node, purse, 10).is_some());
         let mut stream = Stream::new(node.pilot(rt).expect(rt, "the pilot"));
-        stream_steps(rt, node, &mut stream, FIRST_STEPS);
+        stream_steps(rt, node, &mut stream, &Open, FIRST_STEPS);
         assert!(rt; put(rt, alloc, node, purse, 11).is_some());
-        stream_steps(rt, node, &mut stream, LATER_STEPS);
+        stream_steps(rt, node, &mut stream, &Open, LATER_STEPS);
         let mut pilot = stream.into_pilot();
         assert!(rt; matches!(node.sync(rt, &mut pilot), Ok(2)));
     }
