@@ -103,6 +103,32 @@ fn settle_in_vain<D: PageDisk, K: Naming, R: Wait + Abort>(
     ticket
 }
 
+/// The ack that a settle gives for a ticket, since its command is persistent.
+fn settle_done<D: PageDisk, K: Naming, R: Wait + Abort>(
+    rt: &R,
+    node: &Node<D, K>,
+    purse: &mut Purse<K>,
+    ticket: Ticket<K>,
+) -> Ack<K> {
+    let Settled::Done(ack) = node.settle(rt, purse, ticket) else {
+        panic!(rt; "a settle after")
+    };
+    ack
+}
+
+/// The ack that a poll gives for a ticket, since its command is persistent.
+fn poll_done<D: PageDisk, K: Naming, R: Abort>(
+    rt: &R,
+    node: &Node<D, K>,
+    purse: &mut Purse<K>,
+    ticket: Ticket<K>,
+) -> Ack<K> {
+    let Polled::Done(ack) = purse.poll(node, ticket) else {
+        panic!(rt; "a poll after")
+    };
+    ack
+}
+
 /// Syncs by the pilot, which is given once, and asserts how many commands are persistent then.
 fn sync<D: PageDisk, K: Naming, R: Wait + Abort>(rt: &R, node: &Node<D, K>, persistent: u64) {
     let mut pilot = node.pilot(rt).expect(rt, "the pilot");
@@ -139,9 +165,7 @@ impl Calls for Settles {
         let ticket = put_first(rt, alloc, node, purse);
         let ticket = settle_in_vain(rt, node, purse, ticket);
         sync(rt, node, 1);
-        let Settled::Done(ack) = node.settle(rt, purse, ticket) else {
-            panic!(rt; "a settle after")
-        };
+        let ack = settle_done(rt, node, purse, ticket);
         keep_first(rt, alloc, purse, ack, &[0, 1, 13]);
     }
 }
@@ -172,9 +196,7 @@ impl Calls for Polls {
     ) {
         let ticket = put_first(rt, alloc, node, purse);
         sync(rt, node, 1);
-        let Polled::Done(ack) = purse.poll(node, ticket) else {
-            panic!(rt; "a poll after")
-        };
+        let ack = poll_done(rt, node, purse, ticket);
         keep_first(rt, alloc, purse, ack, &[0]);
     }
 }
@@ -202,19 +224,37 @@ impl Trial for LosesOne {
         alloc: Global,
         node: Node<D, K>,
     ) {
-        let mut purse = node.purse(rt, alloc).expect(rt, "a purse");
-        assert!(rt; put(rt, alloc, &node, &mut purse, 10).is_some());
-        let purses = list_of(rt, alloc, purse);
+        let purses = put_lost(rt, alloc, &node);
         let NotClosed {
             why: _,
             rest,
-            mut purses,
+            purses,
         } = miss(rt, alloc, node.rest(), purses, 1);
-        let node = rest.resume();
-        let mut purse = purses.pop().expect(rt, "the purse");
-        let ticket = put(rt, alloc, &node, &mut purse, 11).expect(rt, "a put");
-        assert_eq!(rt; ticket.number(), 2);
+        put_next(rt, alloc, &rest.resume(), purses);
     }
+}
+
+/// The purse of a put whose ticket is lost, alone in a list.
+fn put_lost<D: PageDisk, K: Naming, R: Wait + Abort>(
+    rt: &R,
+    alloc: Global,
+    node: &Node<D, K>,
+) -> Vec<Purse<K>> {
+    let mut purse = node.purse(rt, alloc).expect(rt, "a purse");
+    assert!(rt; put(rt, alloc, node, &mut purse, 10).is_some());
+    list_of(rt, alloc, purse)
+}
+
+/// Puts a second shard for the one purse of a list.
+fn put_next<D: PageDisk, K: Naming, R: Wait + Abort>(
+    rt: &R,
+    alloc: Global,
+    node: &Node<D, K>,
+    mut purses: Vec<Purse<K>>,
+) {
+    let mut purse = purses.pop().expect(rt, "the purse");
+    let ticket = put(rt, alloc, node, &mut purse, 11).expect(rt, "a put");
+    assert_eq!(rt; ticket.number(), 2);
 }
 
 #[test]

@@ -61,10 +61,10 @@ impl<'a, D: PageDisk, K: Naming> Gate for Asks<'a, D, K> {
     }
 }
 
-/// The first turns of a stream behind a put.
+/// The turns of a stream behind a put up to the last write of the first round.
 const FIRST_TURNS: &[Step] = &[Step::Stage, Step::Begin, Step::Issue, Step::Issue];
 
-/// The turns of each of the two rounds that come then.
+/// The end of a round, and the next one up to its last write.
 const ROUND_TURNS: &[Step] = &[Step::End, Step::Begin, Step::Issue];
 
 /// Takes eleven turns of a stream, which make a put persistent, and one that has nothing to do.

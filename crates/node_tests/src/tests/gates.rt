@@ -1,8 +1,8 @@
 //! What gates are told, and when.
 use super::histories::{Prints, are_steps};
 use super::trials::{Calls, Looks, try_on};
-use super::workers::{pilot_steps, stream_steps};
-use super::{bytes_of, id, new_core};
+use super::workers::{pilot_steps, put_told, stream_steps};
+use super::{id, new_core};
 use cs_core::Bytes;
 use cs_deps::Refusal;
 use cs_disk::PageDisk;
@@ -38,19 +38,6 @@ impl Gate for Keeps {
             let _ = told.push(step);
         }
     }
-}
-
-/// Puts a shard with a gate.
-fn put_told<D: PageDisk, K: Naming, R: Wait + Abort>(
-    rt: &R,
-    alloc: Global,
-    node: &Node<D, K>,
-    purse: &mut Purse<K>,
-    last: u8,
-    gate: &Keeps,
-) {
-    let bytes = bytes_of(alloc, last).expect(rt, "bytes");
-    assert!(rt; node.put_with(rt, purse, id(last), bytes, gate).is_ok());
 }
 
 /// More bytes than eight chunks of two pages have.

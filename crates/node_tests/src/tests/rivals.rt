@@ -1,7 +1,7 @@
 //! Threads that put, get and delete the same shards.
 ghost use Rattle.std.specs.Prelude.{◌≡◌, [], IfOk};
 
-use super::together::{Gave, Together, run};
+use super::together::{Ended, Gave, Together, run};
 use super::{bytes_of, id, sync};
 use cs_core::{Bytes, Core, Event, Limits, Reply};
 use cs_disk::{MemoryDisk, PageDisk};
@@ -199,17 +199,23 @@ fn accepted_in<R: Abort>(rt: &R, history: &[(Event, Reply)]) -> u64 {
     last
 }
 
+/// Asserts that all accepted commands are counted and persistent, and that all three shards were answered by what was put and deleted.
+fn is_agreed<R: Abort>(rt: &R, ended: &Ended) {
+    let accepted = accepted_in(rt, ended.history.as_slice());
+    assert_eq!(rt; ended.number, accepted);
+    assert_eq!(rt; ended.accepted, accepted);
+    assert_eq!(rt; ended.acknowledged, accepted);
+    for last in 0..3 {
+        is_as_put(rt, ended.history.as_slice(), last);
+    }
+}
+
 #[test]
 fn threads_agree_on_the_shards_that_all_of_them_put(rt: HostRuntime) -> Result<(), Fail> {
     let end = run(&rt, rt.alloc(), wide_core(rt.alloc())?, Together::Rivals);
     let Ok(ended) = end else {
         panic!(&rt; "a close")
     };
-    let accepted = accepted_in(&rt, ended.history.as_slice());
-    assert_eq!(rt; ended.number, accepted);
-    assert_eq!(rt; (ended.accepted, ended.acknowledged), (accepted, accepted));
-    for last in 0..3 {
-        is_as_put(&rt, ended.history.as_slice(), last);
-    }
+    is_agreed(&rt, &ended);
     Ok(())
 }

@@ -8,7 +8,6 @@ use cs_node::*;
 use std::alloc::Global;
 use std::process::Abort;
 use std::sync::Wait;
-use std::sync::atomic::Ordering;
 use std::test::*;
 use std::thread::Threads;
 
@@ -128,8 +127,7 @@ impl Calls for RunsTwoSweeps {
         let gate = Counts::new(64);
         let mut reclaimer = Reclaimer::new(2);
         assert!(rt; reclaimer.run(rt, node, &gate).is_ok());
-        assert_eq!(rt; gate.events.load(Ordering::SeqCst), 10);
-        assert_eq!(rt; gate.turns.load(Ordering::SeqCst), 54);
+        gate.are_left(rt, 54, 10);
     }
 }
 

@@ -1,6 +1,6 @@
 //! Gates that count, a stream, and a node that rests between two purses.
 use super::trials::{Calls, Lends, Trial, close, list_of, miss, try_on};
-use super::{bytes_of, id, new_core, put, sync};
+use super::{bytes_of, id, new_core, poll_done, put, sync};
 use cs_disk::PageDisk;
 use cs_node::*;
 use std::alloc::Global;
@@ -24,6 +24,12 @@ impl Counts {
             events: AtomicU64::new(0),
         }
     }
+
+    /// Asserts how many turns it still lets through, and how many events it counted.
+    pub fn are_left<R: Abort>(&self, rt: &R, turns: u64, events: u64) {
+        assert_eq!(rt; self.turns.load(Ordering::SeqCst), turns);
+        assert_eq!(rt; self.events.load(Ordering::SeqCst), events);
+    }
 }
 
 impl Gate for Counts {
@@ -41,6 +47,19 @@ impl Gate for Counts {
     }
 }
 
+/// Puts a shard with a gate.
+pub fn put_told<D: PageDisk, K: Naming, R: Wait + Abort, G: Gate>(
+    rt: &R,
+    alloc: Global,
+    node: &Node<D, K>,
+    purse: &mut Purse<K>,
+    last: u8,
+    gate: &G,
+) {
+    let bytes = bytes_of(alloc, last).expect(rt, "bytes");
+    assert!(rt; node.put_with(rt, purse, id(last), bytes, gate).is_ok());
+}
+
 /// Puts and flies with a gate that counts.
 #[derive(Drop)]
 struct CountsEvents;
@@ -54,12 +73,11 @@ impl Calls for CountsEvents {
         purse: &mut Purse<K>,
     ) {
         let gate = Counts::new(3);
-        let bytes = bytes_of(alloc, 6).expect(rt, "bytes");
-        assert!(rt; node.put_with(rt, purse, id(10), bytes, &gate).is_ok());
-        assert_eq!(rt; gate.events.load(Ordering::SeqCst), 1);
+        put_told(rt, alloc, node, purse, 10, &gate);
+        gate.are_left(rt, 3, 1);
         let mut pilot = node.pilot(rt).expect(rt, "the pilot");
         assert!(rt; pilot.run(rt, node, &gate).is_ok());
-        assert_eq!(rt; gate.events.load(Ordering::SeqCst), 4);
+        gate.are_left(rt, 0, 4);
     }
 }
 
@@ -154,11 +172,8 @@ impl Calls for StreamsToItsEnd {
         let mut stream = Stream::new(node.pilot(rt).expect(rt, "the pilot"));
         let gate = Counts::new(64);
         assert!(rt; stream.run(rt, node, &gate).is_ok());
-        assert_eq!(rt; gate.turns.load(Ordering::SeqCst), 0);
-        assert_eq!(rt; gate.events.load(Ordering::SeqCst), 11);
-        let Polled::Done(ack) = purse.poll(node, ticket) else {
-            panic!(rt; "a poll after")
-        };
+        gate.are_left(rt, 0, 11);
+        let ack = poll_done(rt, node, purse, ticket);
         assert_eq!(rt; ack.number(), 1);
     }
 }
@@ -188,23 +203,42 @@ impl Trial for Rests {
         alloc: Global,
         node: Node<D, K>,
     ) {
-        let first = node.purse(rt, alloc).expect(rt, "a purse");
-        assert!(rt; node.pilot(rt).is_some());
+        let first = purse_with_pilot(rt, alloc, &node, true);
         let rest = node.rest();
         assert_eq!(rt; rest.given(), 1);
         let node = rest.resume();
-        assert!(rt; node.pilot(rt).is_none());
-        let second = node.purse(rt, alloc).expect(rt, "a purse");
-        let purses = list_of(rt, alloc, second);
-        let NotClosed {
-            why: _,
-            rest,
-            mut purses,
-        } = miss(rt, alloc, node.rest(), purses, 0);
-        assert_eq!(rt; rest.given(), 2);
-        assert!(rt; purses.push(first).is_ok());
-        assert_eq!(rt; close(rt, alloc, rest, purses), (0, 0));
+        let second = purse_with_pilot(rt, alloc, &node, false);
+        let not = miss(rt, alloc, node.rest(), list_of(rt, alloc, second), 0);
+        close_over_both(rt, alloc, not, first);
     }
+}
+
+/// A purse, where the pilot is given too or isn't.
+fn purse_with_pilot<D: PageDisk, K: Naming, R: Wait + Abort>(
+    rt: &R,
+    alloc: Global,
+    node: &Node<D, K>,
+    given: bool,
+) -> Purse<K> {
+    assert_eq!(rt; node.pilot(rt).is_some(), given);
+    node.purse(rt, alloc).expect(rt, "a purse")
+}
+
+/// Closes a node that gave two purses, and wasn't closed over one of them, over both.
+fn close_over_both<D: PageDisk + Drop, K: Naming, R: Abort>(
+    rt: &R,
+    alloc: Global,
+    not: NotClosed<D, K>,
+    purse: Purse<K>,
+) {
+    let NotClosed {
+        why: _,
+        rest,
+        mut purses,
+    } = not;
+    assert_eq!(rt; rest.given(), 2);
+    assert!(rt; purses.push(purse).is_ok());
+    assert_eq!(rt; close(rt, alloc, rest, purses), (0, 0));
 }
 
 #[test]
