@@ -1,8 +1,8 @@
 -- The faults of frames, as refusals.
-use Rattle.std.proofs.Common.{◌≡◌, ◌≢◌, ◌∙◌, ℕ, ◌≤◌, ◌⊎◌, Bool, true, false, List, [], ◌∷◌, codes, length, Option, Some, None, refl, ap, subst, inl, inr, ⊎_elim, arith, bytes_eq, nat_le, drop, ◌+◌, slice_index}
+use Rattle.std.proofs.Common.{◌≡◌, ◌≢◌, ◌∙◌, ℕ, ◌≤◌, ◌⊎◌, Bool, true, false, List, [], ◌∷◌, codes, length, Option, Some, None, refl, sym, ap, subst, inl, inr, ⊎_elim, arith, bytes_eq, nat_le, drop, ◌+◌, slice_index}
 use Rattle.std.specs.Prelude.{◌==◌}
 use Rattle.std.proofs.lemmas.Option.{same_Some}
-use Rattle.cs_chunk.specs.Reads.{IsNoAnswer, IsOfFault, refusal_for}
+use Rattle.cs_chunk.specs.Reads.{IsNoAnswer, IsOfFault, IsReadRefusal, refusal_for}
 use Rattle.cs_deps.specs.declared.refusals.Refusal.{Refusal}
 use Rattle.cs_deps.specs.declared.refusals.Refusal.TheVariants.{OutOfMemory as NoMemory}
 use Rattle.cs_deps.specs.Refusals.{number_of}
@@ -10,7 +10,7 @@ use Rattle.cs_frame.specs.declared.faults.FormatFault.{FormatFault}
 use Rattle.cs_frame.specs.declared.faults.FormatFault.TheVariants.{BadGeometry, OutOfMemory, BadMagic, BadDigest, BadLength, BadPadding, BadVersion, OutOfOrder}
 use Rattle.cs_frame.specs.Bytes.{all_zero, field}
 use Rattle.cs_frame.specs.Faults.{fault_number, first_fault, unless}
-use Rattle.cs_frame.specs.Frames.{bytes_in, first_page, frame_count, frame_fault, kind_test, payload_length, payload_test, rest_test, room_test}
+use Rattle.cs_frame.specs.Frames.{bytes_in, first_page, frame_count, frame_fault, header_fault, kind_test, page_count, payload_length, payload_test, rest_test, room_test}
 use Rattle.cs_frame.specs.Pages.{magic_test, version_test}
 
 -- the faults that a frame may have
@@ -92,3 +92,17 @@ decode_refusal kind pages f r is h = ⊎_elim
     let number : number_of r ≡ fault_number f = ap number_of is ∙ same_number f in
     inr (omega (arith, number, range.0), omega (arith, number, range.1)))
     (memory_or f)
+
+-- so is what a header is refused for
+header_in_range : (kind : ℕ) (first : List ℕ) (there : ℕ) (f : FormatFault) → header_fault kind first there ≡ Some f → IsInRange f
+header_in_range kind first there =
+    more (magic_test (codes "CSF") first) BadMagic (version_test first ∷ kind_test kind first ∷ room_test first there ∷ []) (fails_so (bytes_eq (field 0 3 first) (codes "CSF")) BadMagic) (omega arith, omega arith)
+    (more (version_test first) BadVersion (kind_test kind first ∷ room_test first there ∷ []) (fails_so (slice_index first 3 == 49) BadVersion) (omega arith, omega arith)
+    (more (kind_test kind first) BadVersion (room_test first there ∷ []) (fails_so (slice_index first 4 == kind) BadVersion) (omega arith, omega arith)
+    (more (room_test first there) BadLength [] (fails_so (nat_le (page_count (payload_length first)) there) BadLength) (omega arith, omega arith)
+    (λ f h. absurd (cc h)))))
+
+pub header_refusal : (kind : ℕ) (first : List ℕ) (there : ℕ) (f : FormatFault) (r : Refusal) → number_of r ≡ fault_number f → Some f ≡ header_fault kind first there → IsReadRefusal r
+header_refusal kind first there f r is found =
+    let range = header_in_range kind first there f (sym found) in
+    inr (omega (arith, is, range.0), omega (arith, is, range.1))

@@ -1,9 +1,10 @@
 -- Reads one after another.
-use Rattle.std.proofs.Common.{◌≡◌, ◌∙◌, ℕ, ◌+◌, ◌≤◌, List, sym, ap, subst, inl, inr, ⊎_elim, arith, ◌++◌, ◌∷◌, [], ◌<◌, get_or}
+use Rattle.std.proofs.Common.{◌≡◌, ◌∙◌, ◌⊎◌, ℕ, ◌+◌, ◌≤◌, List, sym, ap, subst, inl, inr, ⊎_elim, arith, ◌++◌, ◌∷◌, [], ◌<◌, get_or, length, IfErr, IfOk, Ok, Err, Result}
 use Rattle.std.proofs.lemmas.Bool.{cases_lt}
 use Rattle.std.proofs.lemmas.List.{get_or_append_left, get_or_push, length_push}
 use Rattle.cs_chunk.specs.Newest.{IsReadAs}
-use Rattle.cs_chunk.specs.Reads.{AreReadAs, OnlyReads}
+use Rattle.cs_chunk.specs.Reads.{AreReadAs, IsCaused, IsNoAnswer, IsReadRefusal, OnlyReads}
+use Rattle.cs_deps.specs.declared.refusals.Refusal.{Refusal}
 use Rattle.cs_deps.specs.State.{State as Graph}
 use Rattle.cs_disk.specs.declared.disk.PageDisk.{Ghosts as PageDisk}
 use Rattle.cs_disk.specs.Disk.{Image, MayLeave, State}
@@ -45,3 +46,25 @@ read_more g image first count pages page was is = record {
 
 pub read_pushed : (g : Graph) (image : Image) (first count : ℕ) (pages new : List (List ℕ)) (page : List ℕ) → new ≡ pages ++ page ∷ [] → AreReadAs g image first count pages → IsReadAs g image (first + count) page → AreReadAs g image first (count + 1) new
 read_pushed g image first count pages new page pushed was is = subst (λ ps. AreReadAs g image first (count + 1) ps) (sym pushed) (read_more g image first count pages page was is)
+
+-- ---- answers of reads one after another
+
+pub caused_on : {T U : Type 0} (a b c : ℕ) (first : Result U Refusal) (more : Result T Refusal) → IsCaused a b first → IsCaused b c more → IsCaused a c more
+caused_on a b c first more one two = record { later = omega (arith, one.later, two.later); failed = λ is. let rise = two.failed is in omega (arith, rise, one.later) }
+
+pub read_refusal : {T : Type 0} (r : Result T Refusal) → IfErr r IsNoAnswer → IfErr r IsReadRefusal
+read_refusal (Ok t) none = tt
+read_refusal (Err e) none = inl none
+
+pub no_fault : {T : Type 0} (r : Result T Refusal) (Fault : Refusal → Type 0) → IfErr r IsNoAnswer → IfErr r (λ e. IsNoAnswer e ⊎ Fault e)
+no_fault (Ok t) Fault none = tt
+no_fault (Err e) Fault none = inl none
+
+-- as many pages as were counted
+pub some_read : {V : Type 0} (r : Result V Refusal) (items : V → List (List ℕ)) (count : ℕ) → 1 ≤ count → IfOk r (λ v. length (items v) ≡ count) → IfOk r (λ v. 0 < length (items v))
+some_read (Ok v) items count some size = omega (arith, some, size)
+some_read (Err e) items count some size = tt
+
+pub all_fit_in : {V : Type 0} (r : Result V Refusal) (items : V → List (List ℕ)) (count from pages : ℕ) → from + count ≤ pages → IfOk r (λ v. length (items v) ≡ count) → IfOk r (λ v. from + length (items v) ≤ pages)
+all_fit_in (Ok v) items count from pages fit size = omega (arith, fit, size)
+all_fit_in (Err e) items count from pages fit size = tt

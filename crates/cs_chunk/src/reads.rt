@@ -69,7 +69,7 @@ fn read_pages<D: PageDisk>(
             Ok(()) => {}
             Err(refusal) => return Err(refusal),
         }
-        pages.push(buffer)?;
+        pages.push_reserved(buffer);
     }
     Ok(pages)
 }

@@ -1,10 +1,13 @@
-use Rattle.std.proofs.Common.{◌≡◌, ◌∙◌, ◌-◌, ap, arith, subst, sym, inr, IfOk}
+use Rattle.std.proofs.Common.{◌≡◌, ◌∙◌, ◌-◌, ap, arith, subst, sym, inl, inr, IfOk}
 use Rattle.cs_chunk.specs.Newest.{IsReadAs}
-use Rattle.cs_chunk.specs.Reads.{AreReadAs}
+use Rattle.cs_chunk.specs.Reads.{AreReadAs, IsOfFault, fault_at}
+use Rattle.cs_deps.specs.declared.refusals.Refusal.{Refusal}
 use Rattle.cs_disk.specs.Disk.{State, seen}
+use Rattle.cs_extent.specs.State.{shape}
 use Rattle.cs_frame.specs.Frames.{header_fault, kind_byte, page_count}
 use Rattle.cs_chunk.proofs.Framed.{header_refused, fronts_read}
-use Rattle.cs_chunk.proofs.OnlyRead.{reads_on}
+use Rattle.cs_chunk.proofs.FrameFaults.{header_refusal}
+use Rattle.cs_chunk.proofs.OnlyRead.{all_fit_in, caused_on, no_fault, read_refusal, reads_on, some_read}
 use Rattle.cs_chunk.proofs.reads.read_frame_pages.Goals as goal
 
 pub returns-in-Ok-decode_frame_header-clause-disk : goal.returns-in-Ok-decode_frame_header-clause-disk
@@ -30,3 +33,29 @@ returns-in-Err-decode_frame_header-clause-fault g c = λ h view are.
           (ap (λ n. header_fault (kind_byte c.args.kind) c.read_page.new.buffer n) there ∙ sym c.in-Err-decode_frame_header.ensures.fault),
       c.refusal_of_fault.ensures.same,
     )
+
+pub returns-in-Err-clause-fault : goal.returns-in-Err-clause-fault
+returns-in-Err-clause-fault g c = λ h view are. inl c.in-Err.ensures.refusals
+
+pub returns-in-Err-clause-refusals : goal.returns-in-Err-clause-refusals
+returns-in-Err-clause-refusals g c = inl c.in-Err.ensures.refusals
+
+pub returns-in-Ok-decode_frame_header-clause-fault : goal.returns-in-Ok-decode_frame_header-clause-fault
+returns-in-Ok-decode_frame_header-clause-fault g c = λ h view are. no_fault c.read_pages.result (IsOfFault (fault_at (shape c.args.extents.now) view c.args.kind c.args.locator)) c.read_pages.ensures.refusals
+
+pub returns-in-Ok-decode_frame_header-clause-refusals : goal.returns-in-Ok-decode_frame_header-clause-refusals
+returns-in-Ok-decode_frame_header-clause-refusals g c = read_refusal c.read_pages.result c.read_pages.ensures.refusals
+
+pub returns-in-Ok-decode_frame_header-clause-some : goal.returns-in-Ok-decode_frame_header-clause-some
+returns-in-Ok-decode_frame_header-clause-some g c = some_read c.read_pages.result (λ v. v.items) c.pages.result (omega (arith, c.pages.ensures)) c.read_pages.ensures.size
+
+pub returns-in-Ok-decode_frame_header-clause-fits : goal.returns-in-Ok-decode_frame_header-clause-fits
+returns-in-Ok-decode_frame_header-clause-fits g c =
+    all_fit_in c.read_pages.result (λ v. v.items) c.pages.result c.args.locator.page c.args.extents.now.pages
+    (omega (arith, c.pages.ensures, c.in-Ok-decode_frame_header.ensures.room, c.from.ensures, c.extent_pages.ensures, c.requires.page)) c.read_pages.ensures.size
+
+pub returns-in-Ok-decode_frame_header-clause-cause : goal.returns-in-Ok-decode_frame_header-clause-cause
+returns-in-Ok-decode_frame_header-clause-cause g c = caused_on _ _ _ c.read_page.result c.read_pages.result c.read_page.ensures.cause c.read_pages.ensures.cause
+
+pub returns-in-Err-decode_frame_header-clause-refusals : goal.returns-in-Err-decode_frame_header-clause-refusals
+returns-in-Err-decode_frame_header-clause-refusals g c = header_refusal (kind_byte c.args.kind) c.read_page.new.buffer (c.extent_pages.result - c.from.result) c.in-Err-decode_frame_header.fault c.refusal_of_fault.result c.refusal_of_fault.ensures.number c.in-Err-decode_frame_header.ensures.fault

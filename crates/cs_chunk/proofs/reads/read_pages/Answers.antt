@@ -7,14 +7,12 @@ use Rattle.cs_chunk.proofs.reads.read_pages.Goals as goal
 pub returns-in-Err-clause-disk : goal.returns-in-Err-clause-disk
 returns-in-Err-clause-disk g c = reads_on g.D.PageDisk c.args.disk.now c.loop-i.disk c.read_page.new.disk c.loop-i.invariant.disk c.read_page.ensures.disk
 
-pub returns-in_err-push-clause-disk : goal.returns-in_err-push-clause-disk
-returns-in_err-push-clause-disk g c = reads_on g.D.PageDisk c.args.disk.now c.loop-i.disk c.read_page.new.disk c.loop-i.invariant.disk c.read_page.ensures.disk
-
 pub loop-i-preserved : goal.loop-i-preserved
 loop-i-preserved g c = record {
   disk = reads_on g.D.PageDisk c.args.disk.now c.loop-i.disk c.read_page.new.disk c.loop-i.invariant.disk c.read_page.ensures.disk;
-  size = omega (arith, c.in_ok-push.ensures.len, c.loop-i.invariant.size, c.push.new.self.ok.0, c.loop-i.pages.ok.0);
+  size = omega (arith, c.push_reserved-in-loop-i.ensures.len, c.loop-i.invariant.size, c.push_reserved-in-loop-i.new.self.ok.0, c.loop-i.pages.ok.0);
+  room = omega (arith, c.loop-i.invariant.room, c.push_reserved-in-loop-i.ensures.capacity);
   pages = λ h first.
       let read = subst (λ (s : State). IsReadAs c.args.graph.now (seen s) (c.args.first + c.loop-i.i) c.read_page.new.buffer) (c.loop-i.invariant.disk.same h) (c.in-Ok.ensures.page (c.loop-i.invariant.disk.honesty.0 h)) in
-      read_pushed c.args.graph.now (seen (g.D.PageDisk.state c.args.disk.now)) c.args.first c.loop-i.i c.loop-i.pages.items c.push.new.self.items c.read_page.new.buffer c.in_ok-push.ensures.items (c.loop-i.invariant.pages h first) read;
+      read_pushed c.args.graph.now (seen (g.D.PageDisk.state c.args.disk.now)) c.args.first c.loop-i.i c.loop-i.pages.items c.push_reserved-in-loop-i.new.self.items c.read_page.new.buffer c.push_reserved-in-loop-i.ensures.items (c.loop-i.invariant.pages h first) read;
 }
