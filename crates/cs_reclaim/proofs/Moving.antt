@@ -1,8 +1,8 @@
 -- A chunk that is moved, and why it isn't.
-use Rattle.std.proofs.Common.{◌≡◌, inl, inr, ⊎_elim, ℕ, ◌+◌, ◌^◌, ◌<◌, ◌≤◌, List, Option, None, Some, Result, Ok, Err, IfErr, OnOk, length, ap, subst, arith}
+use Rattle.std.proofs.Common.{◌≡◌, ◌⊎◌, ◌↔◌, refl, sym, inl, inr, ⊎_elim, ℕ, ◌+◌, ◌^◌, ◌<◌, ◌≤◌, List, Option, None, Some, Result, Ok, Err, IfErr, IfOk, OnOk, length, ap, subst, arith}
 use Rattle.std.proofs.lemmas.Option.{same_Some}
 use Rattle.cs_chunk.proofs.Chunkings.{length-spelled}
-use Rattle.cs_chunk.specs.Reads.{IsReadRefusal}
+use Rattle.cs_chunk.specs.Reads.{IsCaused, IsReadRefusal}
 use Rattle.cs_deps.specs.declared.refusals.Refusal.{Refusal}
 use Rattle.cs_deps.specs.declared.refusals.Refusal.TheVariants.{DeviceFault, Full, OutOfMemory, WornOut}
 use Rattle.cs_deps.specs.Staging.{Staging}
@@ -10,6 +10,7 @@ use Rattle.cs_deps.specs.State.{State as GraphState}
 use Rattle.cs_extent.specs.Appended.{IsAppended}
 use Rattle.cs_extent.specs.Frames.{IsWorn}
 use Rattle.cs_extent.specs.State.{State as ExtentsState, extents_of, shape}
+use Rattle.cs_frame.specs.declared.faults.FormatFault.{FormatFault}
 use Rattle.cs_frame.specs.declared.identifiers.ShardId.{ShardId}
 use Rattle.cs_frame.specs.declared.locators.Locator.{Locator}
 use Rattle.cs_frame.specs.Formats.{as_locator, place_of}
@@ -21,7 +22,7 @@ use Rattle.cs_model.specs.Extents.{ForMove, NoPlace}
 use Rattle.cs_model.specs.Index.{FirstLive, live_at}
 use Rattle.cs_model.specs.Lists.{replaced}
 use Rattle.cs_index.specs.declared.live.LiveChunk.{LiveChunk}
-use Rattle.cs_reclaim.specs.Moves.{AnswersPlace, IsMoveFull, IsMoveWorn, IsMoved, chunk_frame}
+use Rattle.cs_reclaim.specs.Moves.{AnswersMove, AnswersPlace, IsMoveFull, IsMoveWorn, IsMoved, chunk_frame}
 
 -- what lies in an extent is short
 pub small_payload : (page pages : ℕ) (payload : List ℕ) → pages ≤ 256 → page + length (spelled_frame 0 payload) ≤ pages → length payload < 2 ^ 32
@@ -102,3 +103,59 @@ module _ (s t : State) (x y : ExtentsState) (g h : GraphState) (e : ℕ) (live :
     record { from = place_of live.place; to = found.1; first = first; appended = found.2; entry = found.3 },
     found.4,
   )
+
+-- ---- how an append and a move are refused
+
+-- an append is refused 30 exactly where there is no place, and 35 where there is one and a number would pass its greatest
+module _ (Placed : ℕ → Type 0) (Worn : Type 0) where
+  abbrev Nowhere : Type 0
+  Nowhere = (e : ℕ) → Placed e → ⊥
+
+  pub append_why : {T : Type 0} (r : Result T Refusal) (place : T → ℕ) → (r ≡ Err Full) ↔ Nowhere → (r ≡ Err WornOut) ↔ (((e : ℕ) × Placed e) × Worn)
+      → IfErr r (λ f. (f ≡ Full) ⊎ (f ≡ WornOut) ⊎ (f ≡ OutOfMemory)) → IfOk r (λ t. Placed (place t)) → IsExact r Nowhere Worn
+  append_why (Ok t) place full worn refusals placed = ((λ none. none (place t) placed), (λ w. absurd (cc (worn.1 ((place t, placed), w)))))
+  append_why (Err f) place full worn refusals placed = ⊎_elim
+      (λ (is : f ≡ Full). subst (λ g. IsWhy g Nowhere Worn) (sym is) (full.0 (ap Err is)))
+      (λ (rest : (f ≡ WornOut) ⊎ (f ≡ OutOfMemory)). ⊎_elim
+      (λ (is : f ≡ WornOut). let why = worn.0 (ap Err is) in subst (λ g. IsWhy g Nowhere Worn) (sym is) ((λ none. none why.0.0 why.0.1), why.1))
+      (λ (is : f ≡ OutOfMemory). subst (λ g. IsWhy g Nowhere Worn) (sym is) tt)
+      rest)
+      refusals
+
+module _ (No Worn : Type 0) where
+  why_refusal : (f : Refusal) → IsWhy f No Worn → (f ≡ Full) ⊎ (f ≡ WornOut) ⊎ (f ≡ OutOfMemory)
+  why_refusal Full why = inl refl
+  why_refusal WornOut why = inr (inl refl)
+  why_refusal OutOfMemory why = inr (inr refl)
+  why_refusal _ why = absurd why
+
+  pub no_memory_why : (f : Refusal) → f ≡ OutOfMemory → IsWhy f No Worn
+  no_memory_why f is = subst (λ g. IsWhy g No Worn) (sym is) tt
+
+  pub exact_answers : {T : Type 0} (r : Result T Refusal) (found : Option FormatFault) → found ≡ None → IsExact r No Worn → AnswersMove found r
+  exact_answers (Ok t) found none exact = none
+  exact_answers (Err f) found none exact = ⊎_elim
+      (λ (is : f ≡ Full). inr (inr (none, inl is)))
+      (λ (rest : (f ≡ WornOut) ⊎ (f ≡ OutOfMemory)). ⊎_elim
+      (λ (is : f ≡ WornOut). inr (inr (none, inr is)))
+      (λ (is : f ≡ OutOfMemory). inl (inr is))
+      rest)
+      (why_refusal f exact)
+
+  pub exact_refusals : {T : Type 0} (r : Result T Refusal) → IsExact r No Worn → IfErr r (λ f. IsReadRefusal f ⊎ (f ≡ Full) ⊎ (f ≡ WornOut))
+  exact_refusals (Ok t) exact = tt
+  exact_refusals (Err f) exact = ⊎_elim
+      (λ (is : f ≡ Full). inr (inl is))
+      (λ (rest : (f ≡ WornOut) ⊎ (f ≡ OutOfMemory)). ⊎_elim (λ (is : f ≡ WornOut). inr (inr is)) (λ (is : f ≡ OutOfMemory). inl (inl (inr is))) rest)
+      (why_refusal f exact)
+
+  pub exact_cause : {T U : Type 0} (a b : ℕ) (read : Result U Refusal) (r : Result T Refusal) → IsCaused a b read → IsExact r No Worn → IsCaused a b r
+  exact_cause a b read (Ok t) caused exact = record { later = caused.later; failed = λ is. absurd (cc is) }
+  exact_cause a b read (Err f) caused exact = record { later = caused.later; failed = λ is. absurd (subst (λ g. IsWhy g No Worn) (err_same f DeviceFault is) exact) }
+    where
+      err_of : {X Y : Type 0} → Y → Result X Y → Y
+      err_of d (Ok x) = d
+      err_of d (Err y) = y
+
+      err_same : {X Y : Type 0} (f g : Y) → ◌≡◌ {A = Result X Y} (Err f) (Err g) → f ≡ g
+      err_same f g is = ap (err_of f) is

@@ -1,8 +1,9 @@
 -- Answers with a refusal alone, and with the sweep beside it.
-use Rattle.std.proofs.Common.{◌≡◌, ℕ, List, Result, Ok, Err, ap, subst}
+use Rattle.std.proofs.Common.{◌≡◌, ◌⊎◌, ℕ, List, Result, Ok, Err, ap, inl, inr, refl, subst, sym, ⊎_elim}
 use Rattle.std.specs.Prelude.{◌↔◌}
 use Rattle.cs_deps.specs.declared.refusals.Refusal.{Refusal}
-use Rattle.cs_deps.specs.declared.refusals.Refusal.TheVariants.{OutOfMemory, StillLive}
+use Rattle.cs_deps.specs.declared.refusals.Refusal.TheVariants.{Full, OutOfMemory, StillLive, WornOut}
+use Rattle.cs_index.specs.Staged.{IsWhy}
 use Rattle.cs_model.specs.Element.{Entry}
 use Rattle.cs_model.specs.Index.{NothingLive}
 
@@ -25,4 +26,29 @@ module _ {V : Type 0} (v : V) (index : List Entry) (d e : ℕ) (is : d ≡ e) wh
   alive_ok t h = (
     (λ same. absurd (cc same)),
     (λ none. absurd (cc (h.1 (λ nothing. none (subst (NothingLive index) is nothing))))),
+  )
+
+-- ---- how a retire is refused where nothing is live
+
+module _ (No Worn : Type 0) where
+  -- an extent of the greatest generation
+  pub worn_why : (f : Refusal) → ((f ≡ WornOut) × (No → ⊥)) ⊎ ((f ≡ Full) × No) ⊎ (f ≡ OutOfMemory) → Worn → IsWhy f No Worn
+  worn_why f which worn = ⊎_elim
+      (λ (w : (f ≡ WornOut) × (No → ⊥)). subst (λ g. IsWhy g No Worn) (sym w.0) (w.1, worn))
+      (λ (rest : ((f ≡ Full) × No) ⊎ (f ≡ OutOfMemory)). ⊎_elim
+      (λ (full : (f ≡ Full) × No). subst (λ g. IsWhy g No Worn) (sym full.0) full.1)
+      (λ (is : f ≡ OutOfMemory). subst (λ g. IsWhy g No Worn) (sym is) tt)
+      rest)
+      which
+
+  pub why_refusals : (f : Refusal) → IsWhy f No Worn → (f ≡ StillLive) ⊎ (f ≡ Full) ⊎ (f ≡ WornOut) ⊎ (f ≡ OutOfMemory)
+  why_refusals Full why = inr (inl refl)
+  why_refusals WornOut why = inr (inr (inl refl))
+  why_refusals OutOfMemory why = inr (inr (inr refl))
+  why_refusals _ why = absurd why
+
+  pub why_alive : (f : Refusal) (Nothing : Type 0) → IsWhy f No Worn → Nothing → (◌≡◌ {A = Result ℕ Refusal} (Err f) (Err StillLive)) ↔ (Nothing → ⊥)
+  why_alive f Nothing why nothing = (
+    (λ is. absurd (subst (λ g. IsWhy g No Worn) (ap alone is) why)),
+    (λ some. absurd (some nothing)),
   )

@@ -280,13 +280,42 @@ fn move_to(
     ensures shape { shape extents.new ≡ shape extents.old }
     ensures limit { index.new.limit ≡ index.old.limit }
 {
-    index.reserve(1)?;
-    let before = places_of(alloc, index, live.id)?;
+    let before = match places_with_room(alloc, index, live.id) {
+        Ok(places) => places,
+        Err(refusal) => return Err(refusal),
+    };
     let mut after = Vec::from_slice(alloc, &before)?;
-    let (place, _) = extents.append(graph, frame, Purpose::Move)?;
+    let place = match append_moved(extents, graph, frame) {
+        Ok(place) => place,
+        Err(refusal) => return Err(refusal),
+    };
     set_place(&mut after, live.chunk, place);
     point_at(index, live.id, &before, after);
     Ok(())
+}
+
+/// Appends a frame for a move, and answers where it begins.
+fn append_moved(
+    extents: &mut Extents,
+    graph: &mut Graph,
+    frame: &[[u8; 4096]],
+) -> Result<Locator, Refusal>
+    requires pages { (1 ≤ length frame.now) × (length frame.now ≤ (shape extents.old).pages) }
+    requires families { root_family < length graph.old.staging.latest }
+    requires resets { AreResetsStaged (extents_of extents.old) graph.old.staging }
+    ensures appended { IfOk result (λ to. IsAppended extents.old graph.old ForMove frame.now to extents.new graph.new) }
+    ensures why { IsExact result (NoPlace (shape extents.old) (extents_of extents.old) ForMove (length frame.now)) (IsWorn graph.old.staging (length frame.now)) }
+    ensures unwritten { OnErr result (extents.new ≡ extents.old) }
+    ensures unstaged { OnErr result (graph.new ≡ record graph.old { room = graph.new.room }) }
+    ensures resets { AreResetsStaged (extents_of extents.new) graph.new.staging }
+    ensures families { length graph.new.staging.latest ≡ length graph.old.staging.latest }
+    ensures shape { shape extents.new ≡ shape extents.old }
+{
+    let made = match extents.append(graph, frame, Purpose::Move) {
+        Ok(made) => made,
+        Err(refusal) => return Err(refusal),
+    };
+    Ok(made.0)
 }
 
 /// Gives one chunk another place.
@@ -308,6 +337,18 @@ fn point_at(index: &mut Index, id: ShardId, before: &[Locator], after: Vec<Locat
         Ok(_) => {}
         Err(_) => unreachable!(),
     }
+}
+
+/// Where the chunks of a shard are, with room in the index for another entry of it.
+fn places_with_room(alloc: Global, index: &mut Index, id: ShardId) -> Result<Vec<Locator>, Refusal>
+    ensures places { IfOk result (λ places. map place_of places.items ≡ live_at (index_of index.old) (id_number id)) }
+    ensures short { IfOk result (λ places. length places.items ≤ 8) }
+    ensures room { OnOk result (0 < index.new.room) }
+    ensures rest { index.new ≡ record index.old { room = index.new.room } }
+    ensures refusals { IfErr result (λ r. r ≡ Refusal.OutOfMemory) }
+{
+    index.reserve(1)?;
+    places_of(alloc, index, id)
 }
 
 /// Where the chunks of a shard are.
@@ -353,7 +394,7 @@ fn retire_extent(
         return Err(Refusal::StillLive);
     }
     if extents.generation(extent) == LAST_GENERATION {
-        return Err(why_worn(index, extents)?);
+        return Err(why_worn(index, extents));
     }
     let root = index.stage_merged(extents, graph, commands, Purpose::Move)?;
     match extents.reset(extent, root) {
@@ -364,14 +405,14 @@ fn retire_extent(
     Ok(root)
 }
 
-/// Why an extent of the greatest generation isn't retired: 30 `Full` comes before 35 `WornOut`.
-fn why_worn(index: &Index, extents: &Extents) -> Result<Refusal, Refusal>
+/// Why an extent of the greatest generation isn't retired: 30 `Full` comes before 35 `WornOut`, and 9 where memory ran out.
+fn why_worn(index: &Index, extents: &Extents) -> Refusal
     requires { index.now.limit ≡ (shape extents.now).most_names }
-    ensures { MatchResult result (λ r. ((r ≡ Refusal.WornOut) × (IsRetireFull index.now extents.now → ⊥)) ⊎ ((r ≡ Refusal.Full) × IsRetireFull index.now extents.now)) (λ r. r ≡ Refusal.OutOfMemory) }
+    ensures { ((result ≡ Refusal.WornOut) × (IsRetireFull index.now extents.now → ⊥)) ⊎ ((result ≡ Refusal.Full) × IsRetireFull index.now extents.now) ⊎ (result ≡ Refusal.OutOfMemory) }
 {
-    if index.merged_fits(extents, Purpose::Move)? {
-        Ok(Refusal::WornOut)
-    } else {
-        Ok(Refusal::Full)
+    match index.merged_fits(extents, Purpose::Move) {
+        Ok(true) => Refusal::WornOut,
+        Ok(false) => Refusal::Full,
+        Err(_) => Refusal::OutOfMemory,
     }
 }

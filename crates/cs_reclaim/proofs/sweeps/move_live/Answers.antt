@@ -6,7 +6,7 @@ use Rattle.cs_frame.specs.declared.frames.FrameKind.TheVariants.{Chunk}
 use Rattle.cs_frame.specs.Frames.{spelled_frame}
 use Rattle.cs_model.specs.Extents.{ForMove}
 use Rattle.cs_reclaim.specs.Moves.{chunk_frame}
-use Rattle.cs_reclaim.proofs.Moving.{exact_place, full_move, not_full, not_worn, on_ok, small_payload, worn_move}
+use Rattle.cs_reclaim.proofs.Moving.{exact_answers, exact_cause, exact_place, exact_refusals, full_move, not_full, not_worn, on_ok, small_payload, worn_move}
 use Rattle.cs_reclaim.proofs.sweeps.move_live.Given.{Over}
 use Rattle.cs_reclaim.proofs.sweeps.move_live.Goals as goal
 use Rattle.cs_reclaim.proofs.sweeps.move_live.Goals.{After-drop-payload}
@@ -61,3 +61,13 @@ pub returns-in-Ok-encode_frame-clause-why : goal.returns-in-Ok-encode_frame-clau
 returns-in-Ok-encode_frame-clause-why g c = λ h view payload are there.
     exact_place c.args.extents.now c.args.graph.now.staging c.move_to.result c.deref-in-Ok-encode_frame.result.now payload
     (frame_is g (goal.at.returns-in-Ok-encode_frame-clause-why g c).After-drop-payload ∙ ap (chunk_frame c.args.extents.now) (c.in-Ok.ensures.read h view payload are there)) c.move_to.ensures.why
+
+pub returns-in-Ok-encode_frame-clause-damaged : goal.returns-in-Ok-encode_frame-clause-damaged
+returns-in-Ok-encode_frame-clause-damaged g c = λ h view are.
+    exact_answers _ _ c.move_to.result (fault_at (shape c.args.extents.now) view Chunk c.args.live.now.place) (c.in-Ok.ensures.fault h view are) c.move_to.ensures.why
+
+pub returns-in-Ok-encode_frame-clause-refusals : goal.returns-in-Ok-encode_frame-clause-refusals
+returns-in-Ok-encode_frame-clause-refusals g c = exact_refusals _ _ c.move_to.result c.move_to.ensures.why
+
+pub returns-in-Ok-encode_frame-clause-cause : goal.returns-in-Ok-encode_frame-clause-cause
+returns-in-Ok-encode_frame-clause-cause g c = exact_cause _ _ _ _ c.read_frame.result c.move_to.result c.read_frame.ensures.cause c.move_to.ensures.why

@@ -11,13 +11,13 @@ pub returns-clause-moved : goal.returns-clause-moved
 returns-clause-moved c =
     let id = id_number c.args.live.now.id in
     let k = c.args.live.now.chunk in
-    let p = c.in_ok-place.place in
+    let p = c.in-Ok-append_moved.place in
     let before : map place_of c.in_ok-after.after.items ≡ live_at (index_of c.args.index.now) (id_number c.args.live.now.id) =
-    ap (map place_of) (c.in_ok-after.ensures.items ∙ c.deref.ensures.value) ∙ c.in_ok-before.ensures.places ∙ ap (λ (s : State). live_at (index_of s) (id_number c.args.live.now.id)) c.in_ok-reserve.ensures.rest in (
+    ap (map place_of) (c.in_ok-after.ensures.items ∙ c.deref.ensures.value) ∙ c.in-Ok.ensures.places in (
       p,
-      c.in_ok-place.ensures.appended,
-      set_from c.args.index.now c.reserve.new.self c.point_at.new.index id (map place_of c.set_place.new.places.items) (replaced (live_at (index_of c.args.index.now) id) k (place_of p))
-          c.in_ok-reserve.ensures.rest
+      c.in-Ok-append_moved.ensures.appended,
+      set_from c.args.index.now c.places_with_room.new.index c.point_at.new.index id (map place_of c.set_place.new.places.items) (replaced (live_at (index_of c.args.index.now) id) k (place_of p))
+          c.places_with_room.ensures.rest
           (ap (map place_of) c.set_place.ensures ∙ replaced_map c.in_ok-after.after.items k p ∙ ap (λ (ls : List Place). replaced ls k (place_of p)) before)
           c.point_at.ensures,
     )

@@ -8,6 +8,7 @@ use Rattle.cs_model.specs.Extents.{ForMove}
 use Rattle.cs_model.specs.Index.{NothingLive}
 use Rattle.cs_index.specs.declared.live.LiveChunk.{LiveChunk}
 use Rattle.cs_reclaim.proofs.Living.{alive, dead}
+use Rattle.cs_reclaim.proofs.Retiring.{why_alive, why_refusals}
 use Rattle.cs_reclaim.proofs.Sweeping.{merge_generation, merge_root, merge_stays, resets_emptied}
 use Rattle.cs_reclaim.proofs.sweeps.retire_extent.Goals as goal
 use Rattle.cs_reclaim.proofs.sweeps.retire_extent.Goals.{Then-is_some}
@@ -49,5 +50,15 @@ returns-clause-resets c =
 pub returns-in_err-root-clause-why : goal.returns-in_err-root-clause-why
 returns-in_err-root-clause-why c =
     let why = rw (c.first_live.ensures.same) at c.in_err-root.ensures.why in
-    let p = err_from_is_err_and c.from_residual-in_err-root.result c.from_residual-in_err-root.ensures.1 in
+    let p = err_from_is_err_and c.from_residual.result c.from_residual.ensures.1 in
     rw (p.1, p.2) (λ none. why_same c.in_err-root.field-0.0 _ _ _ _ (λ full. full) (λ full. full) (λ worn. inl worn) why)
+
+pub returns-in_err-root-clause-alive : goal.returns-in_err-root-clause-alive
+returns-in_err-root-clause-alive c =
+    let p = err_from_is_err_and c.from_residual.result c.from_residual.ensures.1 in
+    rw (p.1, p.2) (why_alive _ _ c.in_err-root.field-0.0 (NothingLive (index_of c.args.index.now) c.args.extent) c.in_err-root.ensures.why (dead c.first_live.result _ _ c.first_live.ensures.found (sym c.is_some.ensures ∙ c.if-is_some.false)))
+
+pub returns-in_err-root-clause-refusals : goal.returns-in_err-root-clause-refusals
+returns-in_err-root-clause-refusals c =
+    let p = err_from_is_err_and c.from_residual.result c.from_residual.ensures.1 in
+    rw (p.1, p.2) (why_refusals _ _ c.in_err-root.field-0.0 c.in_err-root.ensures.why)
