@@ -35,12 +35,12 @@ ghost use Rattle.cs_core.specs.Writebacks.{WritesBack};
 
 use crate::contents::Bytes;
 use crate::events::{Event, OutOfMemory, Reply};
-use crate::formats::{new_store, write_new};
+use crate::formats::start_store;
 use crate::openings::open_store;
 use crate::replays::replay_events;
 use crate::stores::Store;
 use cs_deps::{Dependency, Element, GraphView, Plan, Refusal};
-use cs_disk::{DiskFault, PageDisk};
+use cs_disk::PageDisk;
 use cs_frame::{Geometry, ShardId};
 use cs_reclaim::is_sweepable;
 use std::alloc::{AllocError, Global};
@@ -110,23 +110,19 @@ impl<D: PageDisk> Core<D> {
         if disk.pages() != geometry.device_pages() {
             return Err((Refusal::NotAStore, disk));
         }
-        let Ok(made) = new_store(alloc, geometry) else {
-            return Err((Refusal::OutOfMemory, disk));
-        };
         let mut disk = disk;
-        let written = write_new(&mut disk, &made.superblock, &made.root);
-        match written {
-            Ok(()) => Ok(Core {
+        let made = start_store(alloc, &mut disk, geometry);
+        match made {
+            Ok(store) => Ok(Core {
                 alloc,
                 opened: Snapshot::of(&disk),
                 disk,
                 found: (0, 0),
-                store: made.store,
+                store,
                 history: Vec::new(alloc),
                 limit: limits.history,
             }),
-            Err(DiskFault::DeviceFault) => Err((Refusal::DeviceFault, disk)),
-            Err(DiskFault::OutOfMemory) => Err((Refusal::OutOfMemory, disk)),
+            Err(fault) => Err((fault, disk)),
         }
     }
 

@@ -1,12 +1,12 @@
 //! Stores that are made of what was read.
-ghost use Rattle.std.specs.Prelude.{◌≡◌, ◌≢◌, ◌⊎◌, ◌+◌, ◌-◌, ◌^◌, ◌<◌, ◌≤◌, ℕ, List, [], IfErr, IfOk, OnOk, length, map};
+ghost use Rattle.std.specs.Prelude.{◌≡◌, ◌≢◌, ◌⊎◌, ◌+◌, ◌-◌, ◌^◌, ◌<◌, ◌≤◌, ℕ, List, [], ◌∷◌, IfErr, IfOk, OnErr, OnOk, length, map};
 ghost use Rattle.std.specs.List.{AllByRecursion};
 ghost use Rattle.cs_extent.specs.State.{shape};
 ghost use Rattle.cs_frame.specs.Formats.{place_of};
 ghost use Rattle.cs_frame.specs.Runs.{IsRun};
 ghost use Rattle.cs_frame.specs.Superblocks.{SpellsSuperblock};
 ghost use Rattle.cs_image.specs.Counts.{HasCount};
-ghost use Rattle.cs_image.specs.Openings.{graph_at};
+ghost use Rattle.cs_image.specs.Openings.{graph_at, index_at};
 ghost use Rattle.cs_image.specs.Reads.{AreLocated, extents_at};
 ghost use Rattle.cs_index.specs.Sorted.{live_entry};
 ghost use Rattle.cs_index.specs.State.{index_of, newest_first};
@@ -20,7 +20,7 @@ use cs_deps::{Graph, Refusal};
 use cs_extent::Extents;
 use cs_frame::{Locator, Root};
 use cs_index::{Index, StoredRun};
-use std::alloc::Global;
+use std::alloc::{AllocError, Global};
 
 /// A store that was opened, how many commands its root counts, and how many shards it has.
 #[derive(Drop)]
@@ -51,6 +51,38 @@ fn live_count(index: &Index) -> usize
     count
 }
 
+/// The index of runs whose places are located. Refused 43 NotAStore where they aren't, or name too many identifiers.
+fn load_index(alloc: Global, extents: &Extents, runs: Vec<StoredRun>) -> Result<Index, Refusal>
+    requires few { length runs.items ≤ 4 }
+    requires runs { AllByRecursion (λ run. IsRun (record { entries = run.entries })) runs.items }
+    ensures loaded { IfOk result (λ index. index ≡ index_at (newest_first runs.items) (shape extents.now).most_names) }
+    ensures located { OnOk result (AreLocated extents.now runs.items) }
+    ensures named { OnOk result (names (entries_of (newest_first runs.items)) ≤ (shape extents.now).most_names) }
+    ensures refusals { IfErr result (λ r. r ≡ Refusal.NotAStore) }
+    ensures why { OnErr result ((¬ AreLocated extents.now runs.items) ⊎ ((shape extents.now).most_names < names (entries_of (newest_first runs.items)))) }
+{
+    if !are_located(extents, &runs) {
+        return Err(Refusal::NotAStore);
+    }
+    let limit = extents.geometry().named_limit();
+    match Index::load(alloc, limit, runs) {
+        Ok(index) => Ok(index),
+        Err(refusal) => Err(refusal),
+    }
+}
+
+/// A root as a store that starts on it notes it.
+fn noted(alloc: Global, root: &Root) -> Result<Vec<Noted>, AllocError>
+    ensures { IfOk result (λ roots. roots.items ≡ record { version = root.now.version; commands = 0 } ∷ []) }
+{
+    let mut roots = Vec::new(alloc);
+    roots.push(Noted {
+        version: root.version,
+        commands: 0,
+    })?;
+    Ok(roots)
+}
+
 /// A store of these extents and this graph, on which nothing was staged, and of this root's runs, oldest first.
 ///
 /// Refused 43 NotAStore where a locator of an entry isn't located or the runs name more identifiers than one run may, and 9
@@ -76,20 +108,15 @@ pub fn load_store(
     ensures number { IfErr result IsOpeningRefusal }
     ensures why { IfErr result (λ r. (r ≡ Refusal.OutOfMemory) ⊎ ((r ≡ Refusal.NotAStore) × ((¬ AreLocated extents runs.items) ⊎ ((shape extents).most_names < names (entries_of (newest_first runs.items)))))) }
 {
-    if !are_located(&extents, &runs) {
-        return Err(Refusal::NotAStore);
-    }
-    let limit = extents.geometry().named_limit();
-    let index = match Index::load(alloc, limit, runs) {
+    let index = match load_index(alloc, &extents, runs) {
         Ok(index) => index,
         Err(refusal) => return Err(refusal),
     };
     let live = live_count(&index);
-    let mut roots = Vec::new(alloc);
-    roots.push(Noted {
-        version: root.version,
-        commands: 0,
-    })?;
+    let roots = match noted(alloc, root) {
+        Ok(roots) => roots,
+        Err(_) => return Err(Refusal::OutOfMemory),
+    };
     Ok(OpenedStore {
         store: Store {
             alloc,

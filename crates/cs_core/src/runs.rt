@@ -130,10 +130,10 @@ pub fn read_runs<D: PageDisk>(
     ensures disk { OnlyReads D.PageDisk disk.old disk.new }
     ensures cause { IsCaused (D.failure_count disk.old) (D.failure_count disk.new) result }
 {
-    let mut runs = Vec::new(alloc);
+    let mut runs = Vec::with_capacity(alloc, places.len())?;
     for k in 0..places.len() {
         match read_run(alloc, extents, graph, disk, places[k]) {
-            Ok(run) => runs.push(run)?,
+            Ok(run) => runs.push_reserved(run),
             Err(refusal) => return Err(refusal),
         }
     }

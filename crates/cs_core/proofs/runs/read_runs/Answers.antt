@@ -21,11 +21,12 @@ at_place ls k = get_or ls k (record { extent = 0; page = 0; generation = 0 })
 
 pub loop-k-preserved : goal.loop-k-preserved
 loop-k-preserved g c =
-    let items : c.push.new.self.items ≡ c.loop-k.runs.items ++ c.in-Ok.run' ∷ [] = c.in_ok-push-in-Ok.ensures.items in
+    let items : c.push_reserved.new.self.items ≡ c.loop-k.runs.items ++ c.in-Ok.run' ∷ [] = c.push_reserved.ensures.items in
     let at : slice_get c.args.places.now c.loop-k.k ≡ Some (at_place c.args.places.now c.loop-k.k) = slice_get-get_or c.args.places.now c.loop-k.k (record { extent = 0; page = 0; generation = 0 }) c.loop-k-test.true in
     record {
       disk = reads_on g.D.PageDisk c.args.disk.now c.loop-k.disk c.read_run.new.disk c.loop-k.invariant.disk c.read_run.ensures.disk;
-      size = omega (arith, c.in_ok-push-in-Ok.ensures.len, c.loop-k.invariant.size, c.push.new.self.ok.0, c.loop-k.runs.ok.0);
+      size = omega (arith, c.push_reserved.ensures.len, c.loop-k.invariant.size, c.push_reserved.new.self.ok.0, c.loop-k.runs.ok.0);
+      room = omega (arith, c.loop-k.invariant.room, c.push_reserved.ensures.capacity);
       runs = subst (λ (rs : List StoredRun). AllByRecursion (λ run. IsRun (record { entries = run.entries })) rs) (sym items)
           (all_append (λ run. IsRun (record { entries = run.entries })) c.loop-k.runs.items (c.in-Ok.run' ∷ []) c.loop-k.invariant.runs (c.in-Ok.ensures.run, tt));
       read = λ h.
@@ -37,9 +38,6 @@ loop-k-preserved g c =
           (subst (λ (l : Locator). slice_get c.args.places.now c.loop-k.k ≡ Some l) (sym c.in-Ok.ensures.place) at)) here);
     }
 
-pub returns-in_err-push-in-Ok-clause-disk : goal.returns-in_err-push-in-Ok-clause-disk
-returns-in_err-push-in-Ok-clause-disk g c = reads_on g.D.PageDisk c.args.disk.now c.loop-k.disk c.read_run.new.disk c.loop-k.invariant.disk c.read_run.ensures.disk
-
 pub returns-in-Err-clause-disk : goal.returns-in-Err-clause-disk
 returns-in-Err-clause-disk g c = reads_on g.D.PageDisk c.args.disk.now c.loop-k.disk c.read_run.new.disk c.loop-k.invariant.disk c.read_run.ensures.disk
 
@@ -50,3 +48,6 @@ returns-in-Err-clause-why g c = λ h.
     no_runs c.args.extents.now view c.args.places.now c.loop-k.runs.items c.loop-k.k place c.in-Err.refusal (c.loop-k.invariant.read h) c.loop-k.invariant.size
     (slice_get-get_or c.args.places.now c.loop-k.k (record { extent = 0; page = 0; generation = 0 }) c.loop-k-test.true)
     (subst (λ (s : State). IsNoAnswer c.in-Err.refusal ⊎ IsWhyNotRead c.args.extents.now (page (seen s)) place c.in-Err.refusal) (c.loop-k.invariant.disk.same h) (c.in-Err.ensures.why (c.loop-k.invariant.disk.honesty.0 h)))
+
+pub returns-in-Err-clause-number : goal.returns-in-Err-clause-number
+returns-in-Err-clause-number g c = c.in-Err.ensures.number

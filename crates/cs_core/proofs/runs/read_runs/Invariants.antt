@@ -1,4 +1,4 @@
-use Rattle.std.proofs.Common.{◌≡◌, length}
+use Rattle.std.proofs.Common.{◌≡◌, ◌≤◌, length, vec_capacity}
 use Rattle.std.specs.List.{AllByRecursion}
 use Rattle.cs_chunk.specs.Reads.{OnlyReads}
 use Rattle.cs_disk.specs.Disk.{page, seen}
@@ -10,6 +10,7 @@ abbrev pub invariant-loop-k : goal.invariant-loop-k
 invariant-loop-k g l = record {
   disk : OnlyReads g.D.PageDisk l.fn.disk l.disk;
   size : length l.runs.items ≡ l.k;
+  room : length l.places ≤ vec_capacity l.runs;
   runs : AllByRecursion (λ run. IsRun (record { entries = run.entries })) l.runs.items;
   read : g.D.PageDisk.honest l.fn.disk → AreRunsRead l.extents (page (seen (g.D.PageDisk.state l.fn.disk))) l.places l.runs.items;
 }
