@@ -1,6 +1,6 @@
 -- When staging is refused, and what it gives.
 use Rattle.std.proofs.Common.{◌≡◌, ◌≢◌, ◌⊎◌, inl, inr, ⊎_elim, ℕ, ◌<◌, ◌≤◌, List, [], ◌∷◌, length, map, refl, sym, ap, subst, ◌∙◌, arith, append-nil}
-use Rattle.std.specs.Prelude.{Bool, MatchBool, Result, Ok, Err, false, true}
+use Rattle.std.specs.Prelude.{◌↔◌, Bool, MatchBool, MatchResult, Result, Ok, Err, false, true}
 use Rattle.cs_deps.specs.declared.refusals.Refusal.{Refusal}
 use Rattle.cs_deps.specs.declared.refusals.Refusal.TheVariants.{Full, OutOfMemory, WornOut}
 use Rattle.cs_deps.specs.Staging.{Staging}
@@ -158,3 +158,20 @@ some_of f (x ∷ xs) is none = let e : f x ∷ map f xs ≡ [] = none in cc
 
 pub no_runs : (s t : State) (runs : List Run) → runs ≡ [] → t ≡ record { table = []; runs = runs; limit = s.limit; room = 0 } → t ≡ record { table = []; runs = []; limit = s.limit; room = 0 }
 no_runs s t runs none is = subst (λ (rs : List Run). t ≡ record { table = []; runs = rs; limit = s.limit; room = 0 }) none is
+
+-- ---- the append of a run for which there are a place and room
+
+pub append_worn : {T : Type 0} (r : Result T Refusal) (f : Refusal) (P : ℕ → Type 0) (Worn : Type 0) → r ≡ Err f → (r ≡ Err Full) ↔ ((e : ℕ) → P e → ⊥) → (r ≡ Err WornOut) ↔ (((e : ℕ) × P e) × Worn) → (r ≡ Err OutOfMemory → ⊥)
+    → (f ≡ Full) ⊎ (f ≡ WornOut) ⊎ (f ≡ OutOfMemory) → (e : ℕ) × P e → (f ≡ WornOut) × Worn
+append_worn r f P Worn is full worn memory refusals place = ⊎_elim
+    (λ (e : f ≡ Full). absurd (full.0 (is ∙ ap Err e) place.0 place.1))
+    (λ (rest : (f ≡ WornOut) ⊎ (f ≡ OutOfMemory)). ⊎_elim
+    (λ (e : f ≡ WornOut). (e, (worn.0 (is ∙ ap Err e)).1))
+    (λ (e : f ≡ OutOfMemory). absurd (memory (is ∙ ap Err e)))
+    rest)
+    refusals
+
+-- it is refused 35 alone
+pub written_why : {T : Type 0} (r : Result T Refusal) (No Root Worn : Type 0) → (No → ⊥) → (Root → ⊥) → MatchResult r (λ _. Worn → ⊥) (λ f. (f ≡ WornOut) × Worn) → IsExact r No (Root ⊎ Worn)
+written_why (Ok t) No Root Worn placed below worn = (placed, λ w. ⊎_elim below worn w)
+written_why (Err f) No Root Worn placed below worn = subst (λ g. IsWhy g No (Root ⊎ Worn)) (sym worn.0) (placed, inr worn.1)

@@ -1,6 +1,6 @@
 use Rattle.std.proofs.Common.{◌≡◌, ◌∙◌, List, ap, map}
 use Rattle.cs_frame.specs.Formats.{place_of}
-use Rattle.cs_index.specs.State.{State, id_number, index_of}
+use Rattle.cs_index.specs.State.{id_number, index_of}
 use Rattle.cs_model.specs.Element.{Locator as Place}
 use Rattle.cs_model.specs.Index.{live_at}
 use Rattle.cs_model.specs.Lists.{replaced}
