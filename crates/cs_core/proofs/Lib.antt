@@ -33,3 +33,4 @@ pub mod ServeSteps
 pub mod StageSteps
 pub mod Starting
 pub mod SweepSteps
+pub mod Causes

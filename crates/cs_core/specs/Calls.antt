@@ -3,7 +3,7 @@ use Rattle.std.specs.Prelude.{List, [], ◌∷◌, ◌≡◌, ◌≤◌, ◌⊎�
 use Rattle.std.specs.List.{AllByRecursion}
 use Rattle.cs_deps.specs.declared.elements.Element.{Element as Name}
 use Rattle.cs_disk.specs.declared.disk.PageDisk.{Ghosts as PageDisk}
-use Rattle.cs_disk.specs.Disk.{Image, LeavesOnly, State as DiskState, page}
+use Rattle.cs_disk.specs.Disk.{LeavesOnly, page}
 use Rattle.cs_extent.specs.State.{shape}
 use Rattle.cs_refine.specs.Crashes.{IsPrefix}
 use Rattle.cs_core.specs.declared.events.Event.{Event}

@@ -6,7 +6,7 @@ use Rattle.cs_deps.specs.declared.refusals.Refusal.{Refusal}
 use Rattle.cs_deps.specs.declared.refusals.Refusal.TheVariants.{DeviceFault, OutOfMemory}
 use Rattle.cs_deps.specs.State.{write_of}
 use Rattle.cs_disk.specs.declared.disk.PageDisk.{Ghosts as PageDisk}
-use Rattle.cs_disk.specs.Disk.{GoesOn, Image, State as DiskState, flushed, written}
+use Rattle.cs_disk.specs.Disk.{GoesOn, State as DiskState, flushed, written}
 use Rattle.cs_core.specs.declared.events.Event.{Event}
 use Rattle.cs_core.specs.declared.events.Event.TheVariants.{End, Issue}
 use Rattle.cs_core.specs.declared.events.Reply.{Reply}

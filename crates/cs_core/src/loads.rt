@@ -83,6 +83,32 @@ fn noted(alloc: Global, root: &Root) -> Result<Vec<Noted>, AllocError>
     Ok(roots)
 }
 
+/// What a store has beside its extents and its graph: the index of these runs, and the root as it notes it.
+fn load_parts(
+    alloc: Global,
+    extents: &Extents,
+    root: &Root,
+    runs: Vec<StoredRun>,
+) -> Result<(Index, Vec<Noted>), Refusal>
+    requires few { length runs.items ≤ 4 }
+    requires runs { AllByRecursion (λ run. IsRun (record { entries = run.entries })) runs.items }
+    ensures loaded { IfOk result (λ made. made.0 ≡ index_at (newest_first runs.items) (shape extents.now).most_names) }
+    ensures noted { IfOk result (λ made. made.1.items ≡ record { version = root.now.version; commands = 0 } ∷ []) }
+    ensures located { OnOk result (AreLocated extents.now runs.items) }
+    ensures named { OnOk result (names (entries_of (newest_first runs.items)) ≤ (shape extents.now).most_names) }
+    ensures number { IfErr result IsOpeningRefusal }
+    ensures why { IfErr result (λ r. (r ≡ Refusal.OutOfMemory) ⊎ ((r ≡ Refusal.NotAStore) × ((¬ AreLocated extents.now runs.items) ⊎ ((shape extents.now).most_names < names (entries_of (newest_first runs.items)))))) }
+{
+    let index = match load_index(alloc, extents, runs) {
+        Ok(index) => index,
+        Err(refusal) => return Err(refusal),
+    };
+    match noted(alloc, root) {
+        Ok(roots) => Ok((index, roots)),
+        Err(_) => Err(Refusal::OutOfMemory),
+    }
+}
+
 /// A store of these extents and this graph, on which nothing was staged, and of this root's runs, oldest first.
 ///
 /// Refused 43 NotAStore where a locator of an entry isn't located or the runs name more identifiers than one run may, and 9
@@ -108,15 +134,11 @@ pub fn load_store(
     ensures number { IfErr result IsOpeningRefusal }
     ensures why { IfErr result (λ r. (r ≡ Refusal.OutOfMemory) ⊎ ((r ≡ Refusal.NotAStore) × ((¬ AreLocated extents runs.items) ⊎ ((shape extents).most_names < names (entries_of (newest_first runs.items)))))) }
 {
-    let index = match load_index(alloc, &extents, runs) {
-        Ok(index) => index,
+    let (index, roots) = match load_parts(alloc, &extents, root, runs) {
+        Ok(made) => made,
         Err(refusal) => return Err(refusal),
     };
     let live = live_count(&index);
-    let roots = match noted(alloc, root) {
-        Ok(roots) => roots,
-        Err(_) => return Err(Refusal::OutOfMemory),
-    };
     Ok(OpenedStore {
         store: Store {
             alloc,

@@ -99,8 +99,14 @@ fn read_index<D: PageDisk>(
     ensures disk { OnlyReads D.PageDisk disk.old disk.new }
     ensures cause { IsCaused (D.failure_count disk.old) (D.failure_count disk.new) result }
 {
-    let extents = Extents::of(alloc, superblock)?;
-    let graph = Graph::new(alloc, &[superblock.version, root.version])?;
+    let extents = match Extents::of(alloc, superblock) {
+        Ok(extents) => extents,
+        Err(_) => return Err(Refusal::OutOfMemory),
+    };
+    let graph = match Graph::new(alloc, &[superblock.version, root.version]) {
+        Ok(graph) => graph,
+        Err(_) => return Err(Refusal::OutOfMemory),
+    };
     match read_runs(alloc, &extents, &graph, disk, &root.runs) {
         Ok(runs) => load_store(alloc, extents, graph, root, runs),
         Err(refusal) => Err(refusal),

@@ -1,4 +1,4 @@
-use Rattle.std.proofs.Common.{List, Ok, ap, subst}
+use Rattle.std.proofs.Common.{List, subst}
 use Rattle.cs_frame.specs.declared.locators.Locator.{Locator}
 use Rattle.cs_frame.specs.Roots.{SpellsRoot}
 use Rattle.cs_core.proofs.Heads.{heads_written}
