@@ -1,16 +1,14 @@
 -- What the tests show of a plan: it respects the dependencies, and no schedule has fewer sets.
-use Rattle.std.proofs.Common.{◌≡◌, ℕ, zero, suc, ◌+◌, ◌-◌, ◌<◌, ◌≤◌, List, [], ◌∷◌, ◌++◌, length, slice_index, take, refl, sym, ◌∙◌, subst, inl, inr, ⊎_elim, arith, Vec}
+use Rattle.std.proofs.Common.{◌≡◌, ℕ, zero, suc, ◌+◌, ◌-◌, ◌<◌, List, [], ◌∷◌, ◌++◌, length, slice_index, take, sym, ◌∙◌, subst, inl, inr, ⊎_elim, arith, Vec}
 use Rattle.std.specs.Prelude.{Contains, slice_index_or}
 use Rattle.std.specs.Global.{Global}
-use Rattle.std.proofs.Math.Seq.{take-length}
 use Rattle.std.proofs.lemmas.Option.{slice_get-get_or}
-use Rattle.std.proofs.lemmas.List.Elements.{Contains-append_cases, Contains-append_left, Contains-push, All-cons, All-nil, All-contains}
+use Rattle.std.proofs.lemmas.List.Elements.{Contains-append_cases, Contains-append_left, All-contains}
 use Rattle.cs_deps.specs.declared.elements.Element.{Element}
 use Rattle.cs_deps.specs.declared.elements.Element.TheVariants.{Plain, Version}
-use Rattle.cs_deps.specs.Named.{Named, Names, StandsFor}
+use Rattle.cs_deps.specs.Named.{Named, StandsFor}
 use Rattle.cs_deps.specs.Pending.{Pending, WaitsAt, Waits, Needs, IsPersistent, SatisfiedBy, Satisfied}
-use Rattle.cs_deps.specs.Schedule.{IsSchedule, all_of, CrashLeaves, Respects, Covers, IsFewest}
-use Rattle.cs_deps.specs.Chain.{IsChain, LastIs, IsChainOf}
+use Rattle.cs_deps.specs.Schedule.{all_of, Respects, IsFewest}
 use Rattle.cs_deps.proofs.LowerBound.{Orders, no_fewer_sets_than_a_chain}
 use Rattle.cs_deps.proofs.Sets.{no_element, place_of, within}
 use Rattle.cs_check.specs.Listing.{IsListing, WaitsBefore}

@@ -10,7 +10,9 @@ use Rattle.cs_deps.specs.Named.{Named}
 use Rattle.cs_deps.specs.Pending.{Pending}
 use Rattle.cs_check.specs.Listing.{IsWellFormed}
 use Rattle.cs_check.specs.Names.{AreLetters, IsName}
+use Rattle.serde_json.specs.Data.{number, unsigned}
 use Rattle.cs_check.specs.Documents.{HasMember, AreEntries, IsDocumentOf, IsDocument, NamesThese, NamesToo, elements_in, names_data, numbers_data, letters_data, rounds_data}
+use Rattle.cs_check.specs.Parts.{HasFamilies, HasPersistent, HasElements, HasTarget, HasRounds, HasChain}
 use Rattle.cs_check.proofs.ValueSteps.{arrays_same, same_letters, same_numbers, same_names, same_rounds}
 use Rattle.cs_check.proofs.Entries.{same_elements, same_name_of, entry_at, data_at}
 use Rattle.cs_check.proofs.Alike.{AreAlike, NamesWithin, well_formed_alike}
@@ -95,3 +97,28 @@ said_well_formed d letters vs es ws target xs rounds chain persistent elements a
     let one_chain : s.3 ≡ chain = same_names letters distinct s.3 chain s.4.links.0 linked (same_Some (names_data letters s.3) (names_data letters chain) (sym s.4.links.1 ∙ links)) in
     let old : IsWellFormed g s.1 rounds chain = subst (λ zs. IsWellFormed g s.1 rounds zs) one_chain (subst (λ rs. IsWellFormed g s.1 rs s.3) one_rounds s.4.well_formed) in
     well_formed_alike g h alike s.1 target (λ y n. (s.4.named.4 y).1 (subst (λ (zs : List Element). (z : Element) × Contains zs z × NamesToo z y) one_target ((these y).0 n))) rounds chain old
+
+-- ---- what was read of all its members
+
+pub said_by_parts : (d : Data) (letters vs : List ℕ) (ws : List (Element × Named)) (target : Named) (rounds : List (List Element)) (chain : List Element)
+    → HasFamilies d letters → HasPersistent d letters vs → HasElements d letters ws → HasTarget d letters ws target → HasRounds d letters rounds → HasChain d letters chain
+    → IsDocument d → IsWellFormed (record { persistent = vs; waiting = ws }) target rounds chain
+said_by_parts d letters vs ws target rounds chain families persistent elements aim taken links p =
+    said_well_formed d letters vs elements.entries ws target aim.names rounds chain persistent.member elements.member elements.are aim.named aim.member aim.these taken.named taken.member links.named links.member
+    (said d letters families.member p)
+
+pub document_of : (d : Data) (letters vs : List ℕ) (ws : List (Element × Named)) (target : Named) (rounds : List (List Element)) (chain : List Element) → HasMember d (codes "format") (number (unsigned 1))
+    → HasFamilies d letters → HasPersistent d letters vs → HasElements d letters ws → HasTarget d letters ws target → HasRounds d letters rounds → HasChain d letters chain
+    → IsWellFormed (record { persistent = vs; waiting = ws }) target rounds chain → IsDocumentOf d letters (record { persistent = vs; waiting = ws }) target rounds chain
+document_of d letters vs ws target rounds chain format families persistent elements aim taken links well = record {
+  format = format;
+  families = families.member;
+  distinct = families.distinct;
+  persistent = persistent.member;
+  count = persistent.count;
+  elements = (elements.entries, elements.member, elements.are);
+  named = (aim.names, aim.named, aim.listed, aim.member, aim.these);
+  taken = (taken.named, taken.member);
+  links = (links.named, links.member);
+  well_formed = well;
+}

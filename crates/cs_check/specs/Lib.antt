@@ -5,3 +5,4 @@ pub mod Progress
 pub mod Names
 pub mod Documents
 pub mod Written
+pub mod Parts

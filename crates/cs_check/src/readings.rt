@@ -8,6 +8,8 @@ ghost use Rattle.cs_deps.specs.View.{pending_of, rounds_of};
 ghost use Rattle.cs_check.specs.Documents.{HasMember, IsEntry, AreEntries, IsDocument, IsDocumentOf, NamesThese, names_data, elements_in};
 ghost use Rattle.cs_check.specs.Faults.{Blames};
 ghost use Rattle.cs_check.specs.Names.{AreLetters, IsName};
+ghost use Rattle.cs_check.specs.Parts.{HasFamilies, HasPersistent, HasElements, HasTarget, HasRounds, HasChain};
+ghost use Rattle.cs_check.specs.Progress.{elements_of};
 
 use crate::documents::Document;
 use crate::faults::CheckFault;
@@ -104,6 +106,78 @@ fn is_format(value: &Value) -> bool
     }
 }
 
+/// The letters of the families.
+fn families(alloc: Global, value: &Value) -> Result<Vec<char>, CheckFault>
+    ensures ok { IfOk result (λ letters. HasFamilies (view value.now) letters.items) }
+    ensures err { IfErr result (λ fault. Blames fault (IsDocument (view value.now))) }
+{
+    let letters = letters(alloc, member(value, "families")?)?;
+    Ok(letters)
+}
+
+/// What is persistent of each family.
+fn persistent(alloc: Global, letters: &[char], value: &Value) -> Result<Vec<u64>, CheckFault>
+    requires { HasFamilies (view value.now) letters.now }
+    ensures ok { IfOk result (λ versions. HasPersistent (view value.now) letters.now versions.items) }
+    ensures err { IfErr result (λ fault. Blames fault (IsDocument (view value.now))) }
+{
+    let versions = versions(alloc, member(value, "persistent")?)?;
+    if versions.len() != letters.len() {
+        return Err(CheckFault::BadDocument);
+    }
+    Ok(versions)
+}
+
+/// What waits.
+fn waits(
+    alloc: Global,
+    letters: &[char],
+    value: &Value,
+) -> Result<Vec<(Element, Dependency)>, CheckFault>
+    requires { HasFamilies (view value.now) letters.now }
+    ensures ok { IfOk result (λ waiting. HasElements (view value.now) letters.now waiting.items) }
+    ensures err { IfErr result (λ fault. Blames fault (IsDocument (view value.now))) }
+{
+    let waiting = entries(alloc, letters, member(value, "elements")?)?;
+    Ok(waiting)
+}
+
+/// What the target names.
+fn aim(
+    alloc: Global,
+    letters: &[char],
+    waiting: &[(Element, Dependency)],
+    value: &Value,
+) -> Result<Dependency, CheckFault>
+    requires families { HasFamilies (view value.now) letters.now }
+    requires elements { HasElements (view value.now) letters.now waiting.now }
+    ensures ok { IfOk result (λ target. HasTarget (view value.now) letters.now waiting.now target) }
+    ensures err { IfErr result (λ fault. Blames fault (IsDocument (view value.now))) }
+{
+    let target = target(alloc, letters, waiting, member(value, "target")?)?;
+    Ok(target)
+}
+
+/// The rounds.
+fn schedule(alloc: Global, letters: &[char], value: &Value) -> Result<Vec<Vec<Element>>, CheckFault>
+    requires { HasFamilies (view value.now) letters.now }
+    ensures ok { IfOk result (λ rounds. HasRounds (view value.now) letters.now (elements_of rounds.items)) }
+    ensures err { IfErr result (λ fault. Blames fault (IsDocument (view value.now))) }
+{
+    let rounds = rounds(alloc, letters, member(value, "rounds")?)?;
+    Ok(rounds)
+}
+
+/// The chain.
+fn links(alloc: Global, letters: &[char], value: &Value) -> Result<Vec<Element>, CheckFault>
+    requires { HasFamilies (view value.now) letters.now }
+    ensures ok { IfOk result (λ chain. HasChain (view value.now) letters.now chain.items) }
+    ensures err { IfErr result (λ fault. Blames fault (IsDocument (view value.now))) }
+{
+    let chain = elements(alloc, letters, member(value, "chain")?)?;
+    Ok(chain)
+}
+
 /// The document that a value says.
 pub fn document(alloc: Global, value: &Value) -> Result<Document, CheckFault>
     ensures ok { IfOk result (λ doc. IsDocumentOf (view value.now) doc.letters.items (pending_of doc.view) doc.target (rounds_of doc.plan) doc.plan.chain.items) }
@@ -112,15 +186,12 @@ pub fn document(alloc: Global, value: &Value) -> Result<Document, CheckFault>
     if !is_format(value) {
         return Err(CheckFault::BadDocument);
     }
-    let letters = letters(alloc, member(value, "families")?)?;
-    let persistent = versions(alloc, member(value, "persistent")?)?;
-    if persistent.len() != letters.len() {
-        return Err(CheckFault::BadDocument);
-    }
-    let waiting = entries(alloc, &letters, member(value, "elements")?)?;
-    let target = target(alloc, &letters, &waiting, member(value, "target")?)?;
-    let rounds = rounds(alloc, &letters, member(value, "rounds")?)?;
-    let chain = elements(alloc, &letters, member(value, "chain")?)?;
+    let letters = families(alloc, value)?;
+    let persistent = persistent(alloc, &letters, value)?;
+    let waiting = waits(alloc, &letters, value)?;
+    let target = aim(alloc, &letters, &waiting, value)?;
+    let rounds = schedule(alloc, &letters, value)?;
+    let chain = links(alloc, &letters, value)?;
     let view = GraphView {
         persistent,
         waiting,
