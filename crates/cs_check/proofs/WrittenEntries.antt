@@ -4,7 +4,9 @@ use Rattle.std.proofs.lemmas.Option.{slice_get-map, slice_get_within, same_Some}
 use Rattle.std.proofs.lemmas.List.{length-map}
 use Rattle.std.proofs.lemmas.Bool.{or_from}
 use Rattle.std.specs.Global.{Global}
-use Rattle.serde_json.specs.Data.{Data, string, number, unsigned, depth, items_depth}
+use Rattle.std.specs.Prelude.{codes}
+use Rattle.serde_json.specs.Data.{Data, Members, string, number, unsigned, object, no_members, put, depth, items_depth}
+use Rattle.serde_json.proofs.OnLiterals.{serde_json_on_literals}
 use Rattle.serde_json.specs.Read.{read, max_depth}
 use Rattle.serde_json.specs.View.{view, items_of}
 use Rattle.serde_json.specs.Written.{compact_text, has_float, items_have_float}
@@ -126,5 +128,19 @@ text_of_document letters g target rounds chain entries named v (Ok s) are list i
 )
 text_of_document letters g target rounds chain entries named v (Err e) are list is text back = tt
 
-pub same_parts : {a b c d e f a' b' c' d' e' f' : Data} → a ≡ a' → b ≡ b' → c ≡ c' → d ≡ d' → e ≡ e' → f ≡ f' → object_data a b c d e f ≡ object_data a' b' c' d' e' f'
-same_parts p q r s t u = cc (p, q, r, s, t, u)
+-- ---- members that are put one after another
+
+members_in_order : (a b c d e f : Data) → object (put (codes "target") f (put (codes "rounds") e (put (codes "persistent") d (put (codes "format") (number (unsigned 1)) (put (codes "families") c (put (codes "elements") b (put (codes "chain") a no_members))))))) ≡ object_data a b c d e f
+unfolding serde_json_on_literals
+members_in_order a b c d e f = refl
+
+pub two_put : (k l : List ℕ) (m n o : Members) (a a' b b' : Data) → n ≡ put k a' m → a' ≡ a → o ≡ put l b' n → b' ≡ b → o ≡ put l b (put k a m)
+two_put k l m n o a a' b b' first is second too = second ∙ ap (put l b') first ∙ ap (λ d. put l d (put k a' m)) too ∙ ap (λ d. put l b (put k d m)) is
+
+pub members_written : (v : Data) (m n o p : Members) (a b c d e f : Data) → v ≡ object p → m ≡ no_members → n ≡ put (codes "elements") b (put (codes "chain") a m) → o ≡ put (codes "persistent") d (put (codes "format") (number (unsigned 1)) (put (codes "families") c n)) → p ≡ put (codes "target") f (put (codes "rounds") e o) → v ≡ object_data a b c d e f
+members_written v m n o p a b c d e f is none first second third =
+    is ∙ ap object third
+    ∙ ap (λ ms. object (put (codes "target") f (put (codes "rounds") e ms))) second
+    ∙ ap (λ ms. object (put (codes "target") f (put (codes "rounds") e (put (codes "persistent") d (put (codes "format") (number (unsigned 1)) (put (codes "families") c ms)))))) first
+    ∙ ap (λ ms. object (put (codes "target") f (put (codes "rounds") e (put (codes "persistent") d (put (codes "format") (number (unsigned 1)) (put (codes "families") c (put (codes "elements") b (put (codes "chain") a ms)))))))) none
+    ∙ members_in_order a b c d e f
