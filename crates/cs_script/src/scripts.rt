@@ -187,39 +187,44 @@ fn answer_and_flush<D: PageDisk, W: Write>(
     ensures answers { OnOk result ((out : List ℕ) × Answers D.PageDisk (said_by line) core.old core.new out × Appends (W.contents writer.old) (W.contents writer.new) out) }
     ensures status { IfOk result (λ after. after ≡ status_after (said_by line) status) }
 {
-    let after = answer(alloc, core, line, status, writer)?;
+    let after = after_line(&line, status);
+    answer(alloc, core, line, writer)?;
     writer.flush()?;
     Ok(after)
 }
 
-/// Answers a line that is no `crash` that fits the disk, and gives the exit status so far.
+/// The exit status so far after a line that is no `crash` that fits the disk.
+fn after_line(line: &Line, status: u8) -> u8
+    ensures { result ≡ status_after (said_by line.now) status }
+{
+    match line {
+        Line::Crash { mask: _ } | Line::Bad => statuses::BAD_LINE,
+        _ => status,
+    }
+}
+
+/// Answers a line that is no `crash` that fits the disk.
 fn answer<D: PageDisk, W: Write>(
     alloc: Global,
     core: &mut Core<D>,
     line: Line,
-    status: u8,
     writer: &mut W,
-) -> io::Result<u8>
-    ensures answers { OnOk result ((out : List ℕ) × Answers D.PageDisk (said_by line) core.old core.new out × Appends (W.contents writer.old) (W.contents writer.new) out) }
-    ensures status { IfOk result (λ after. after ≡ status_after (said_by line) status) }
+) -> io::Result<()>
+    ensures { OnOk result ((out : List ℕ) × Answers D.PageDisk (said_by line) core.old core.new out × Appends (W.contents writer.old) (W.contents writer.new) out) }
 {
     match line {
-        Line::Put { id, bytes } => put(alloc, core, id, bytes, writer)?,
-        Line::Get { id } => get(core, id, writer)?,
-        Line::Delete { id } => delete(core, id, writer)?,
-        Line::Sweep { extent } => sweep(core, extent, writer)?,
-        Line::Sync => sync(core, writer)?,
-        Line::Step => step(core, writer)?,
-        Line::Plan => plan(core, writer)?,
-        Line::Document => document(alloc, core, writer)?,
-        Line::Nothing => {}
+        Line::Put { id, bytes } => put(alloc, core, id, bytes, writer),
+        Line::Get { id } => get(core, id, writer),
+        Line::Delete { id } => delete(core, id, writer),
+        Line::Sweep { extent } => sweep(core, extent, writer),
+        Line::Sync => sync(core, writer),
+        Line::Step => step(core, writer),
+        Line::Plan => plan(core, writer),
+        Line::Document => document(alloc, core, writer),
+        Line::Nothing => Ok(()),
         // A `crash` that fits was taken by `run_line`.
-        Line::Crash { mask: _ } | Line::Bad => {
-            print_bad_line(writer)?;
-            return Ok(statuses::BAD_LINE);
-        }
+        Line::Crash { mask: _ } | Line::Bad => print_bad_line(writer),
     }
-    Ok(status)
 }
 
 /// Puts a shard.

@@ -1,0 +1,7 @@
+use Rattle.cs_script.proofs.scripts.answer.Goals as goal
+
+pub returns-in-Put : goal.returns-in-Put
+returns-in-Put g c = rw (c.in-Put.is) c.put.ensures
+
+pub returns-in-Get : goal.returns-in-Get
+returns-in-Get g c = rw (c.in-Get.is) c.get.ensures
