@@ -8,53 +8,72 @@
 ghost use Rattle.std.specs.Prelude.{None, ◌≡◌};
 
 use crate::faults::Fault;
-use crate::words::{number_at, word_at};
-use cs_deps::{Dependency, Graph};
+use crate::words::{Asked, Work};
+use cs_deps::{Dependency, Graph, Plan, Refusal};
 use cs_plan::{next_round, plan, plan_all};
 use std::alloc::Global;
 use std::io;
-use std::rt::Env;
 
 const PAGE: [u8; 4096] = [0; 4096];
 
-/// What is to be done with the puts.
-#[derive(Drop)]
-enum Work {
-    Plan,
-    Target,
-    Steady,
-    Gets,
-}
-
 /// Does what the command line asks for, and prints what came of it.
-pub fn time_graph<R: Env + AllocGlobal + Print>(rt: &R) -> Result<(), Fault> {
-    let work = work_wanted(rt)?;
-    let puts = number_at(rt, 3, 250)?;
-    let alloc = rt.alloc();
+pub fn time_graph<R: Print>(rt: &R, alloc: Global, asked: Asked) -> Result<(), Fault> {
     let mut graph = Graph::new(alloc, &[1, 1])?;
+    run(
+        rt,
+        alloc,
+        &mut graph,
+        asked.work,
+        asked.count.unwrap_or(250),
+    )
+}
+
+/// Does the work with so many puts, and prints what came of it.
+fn run<R: Print>(
+    rt: &R,
+    alloc: Global,
+    graph: &mut Graph,
+    work: Work,
+    puts: u64,
+) -> Result<(), Fault> {
     match work {
-        Work::Plan => plan_puts(rt, alloc, &mut graph, puts),
-        Work::Target => plan_superblock(rt, alloc, &mut graph, puts),
-        Work::Steady => put_steadily(rt, alloc, &mut graph, puts),
-        Work::Gets => get_beside(rt, alloc, &mut graph, puts),
+        Work::Target => {
+            stage_all(alloc, graph, puts)?;
+            print_size(rt, puts, superblock_size(alloc, graph)?)
+        }
+        Work::Steady => put_steadily(rt, alloc, graph, puts),
+        Work::Gets => get_beside(rt, alloc, graph, puts),
+        _ => {
+            stage_all(alloc, graph, puts)?;
+            print_size(rt, puts, size_of(plan_all(alloc, graph))?)
+        }
     }
 }
 
-/// The work that the command line asks for.
-fn work_wanted(rt: &(impl Env + AllocGlobal)) -> Result<Work, Fault> {
-    match word_at(rt, 2)? {
-        Some(text) => match text.as_str() {
-            "target" => Ok(Work::Target),
-            "steady" => Ok(Work::Steady),
-            "gets" => Ok(Work::Gets),
-            _ => Ok(Work::Plan),
-        },
-        None => Ok(Work::Plan),
-    }
+/// How many rounds a plan has, and how long its chain is.
+#[derive(Clone, Copy)]
+struct Size {
+    rounds: usize,
+    chain: usize,
+}
+
+/// The size of a plan.
+fn size_of(plan: Result<Plan, Refusal>) -> Result<Size, Refusal> {
+    let plan = plan?;
+    Ok(Size {
+        rounds: plan.rounds.len(),
+        chain: plan.chain.len(),
+    })
+}
+
+/// Prints the size of a plan.
+fn print_size<R: Print>(rt: &R, puts: u64, size: Size) -> Result<(), Fault> {
+    println!(rt; "puts {puts} rounds {} chain {}", size.rounds, size.chain)?;
+    Ok(())
 }
 
 /// Stages a put: a plain write to this page, and a superblock version that needs all plain writes so far.
-fn stage_put(alloc: Global, graph: &mut Graph, page: u64) -> Result<(), Fault> {
+fn stage_put(alloc: Global, graph: &mut Graph, page: u64) -> Result<(), Refusal> {
     let number = graph.stage_plain(page, &PAGE, Dependency::none(alloc))?;
     if graph.families() == 2 {
         graph.stage_version(0, 0, &PAGE, Dependency::through(alloc, number))?;
@@ -63,7 +82,7 @@ fn stage_put(alloc: Global, graph: &mut Graph, page: u64) -> Result<(), Fault> {
 }
 
 /// Stages a root that needs the latest superblock version.
-fn stage_root(alloc: Global, graph: &mut Graph) -> Result<(), Fault> {
+fn stage_root(alloc: Global, graph: &mut Graph) -> Result<(), Refusal> {
     if graph.families() == 2 {
         let superblock = Dependency::on_version(alloc, 0, graph.last_version(0))?;
         graph.stage_version(1, 1, &PAGE, superblock)?;
@@ -71,42 +90,21 @@ fn stage_root(alloc: Global, graph: &mut Graph) -> Result<(), Fault> {
     Ok(())
 }
 
-/// All puts wait, and are planned.
-fn plan_puts<R: Print>(rt: &R, alloc: Global, graph: &mut Graph, puts: u64) -> Result<(), Fault> {
+/// Stages so many puts, and a root.
+fn stage_all(alloc: Global, graph: &mut Graph, puts: u64) -> Result<(), Refusal> {
     for _ in 0..puts {
         stage_put(alloc, graph, 2)?;
     }
-    stage_root(alloc, graph)?;
-    let plan = plan_all(alloc, graph)?;
-    println!(rt;
-        "puts {puts} rounds {} chain {}",
-        plan.rounds.len(),
-        plan.chain.len()
-    )?;
-    Ok(())
+    stage_root(alloc, graph)
 }
 
-/// All puts wait, and what is planned is the latest superblock version and what it needs.
-fn plan_superblock<R: Print>(
-    rt: &R,
-    alloc: Global,
-    graph: &mut Graph,
-    puts: u64,
-) -> Result<(), Fault> {
-    for _ in 0..puts {
-        stage_put(alloc, graph, 2)?;
+/// The size of the plan of the latest superblock version and what it needs.
+fn superblock_size(alloc: Global, graph: &Graph) -> Result<Size, Refusal> {
+    if graph.families() != 2 {
+        return Err(Refusal::NotStaged);
     }
-    stage_root(alloc, graph)?;
-    if graph.families() == 2 {
-        let target = Dependency::on_version(alloc, 0, graph.last_version(0))?;
-        let plan = plan(alloc, graph, &target)?;
-        println!(rt;
-            "puts {puts} rounds {} chain {}",
-            plan.rounds.len(),
-            plan.chain.len()
-        )?;
-    }
-    Ok(())
+    let target = Dependency::on_version(alloc, 0, graph.last_version(0))?;
+    size_of(plan(alloc, graph, &target))
 }
 
 /// Ends the round that is out, if one is.
@@ -119,7 +117,7 @@ fn end_round(graph: &mut Graph)
 }
 
 /// Ends the round that is out, and takes the next.
-fn turn(alloc: Global, graph: &mut Graph) -> Result<(), Fault> {
+fn turn(alloc: Global, graph: &mut Graph) -> Result<(), Refusal> {
     end_round(graph);
     let round = next_round(alloc, graph)?;
     graph.take_round(round);

@@ -6,102 +6,116 @@
 //! - `polls`: threads poll a ticket beside a pilot that ends rounds;
 //! - `settles`: threads settle a ticket beside a pilot that ends rounds.
 mod batches;
+mod calls;
 mod jobs;
 
-ghost use Rattle.std.specs.Prelude.{◌≡◌, [], IfOk};
+ghost use Rattle.std.specs.Prelude.{◌≡◌, []};
 ghost use Rattle.cs_node.specs.Starts.{start_of};
 
 use crate::faults::Fault;
-use crate::words::{number_at, word_at};
+use crate::stores::new_core;
+use crate::words::{Asked, Work};
 use batches::count_flushes;
-use cs_core::{Core, Limits};
+use cs_core::Core;
 use cs_disk::MemoryDisk;
-use cs_frame::Geometry;
 use cs_node::{Board, Naming, Node};
 use jobs::time_jobs;
 use std::alloc::Global;
+use std::io;
 use std::marker::Brand;
-use std::rt::Env;
 use std::sync::Wait;
 use std::thread::Threads;
 use std::time::Clock;
 
-/// How many events the core may record.
-const HISTORY: usize = 65_536;
-
-/// What is to be done.
-#[derive(Clone, Copy, Debug)]
-pub enum Work {
-    Stream,
-    Pilot,
-    Puts,
-    Polls,
-    Settles,
-}
-
 /// What is to be done, how often in all, and with how many threads.
-#[derive(Clone, Copy, Debug)]
+#[derive(Clone, Copy)]
 pub struct Task {
     pub work: Work,
     pub count: u64,
     pub threads: u64,
 }
 
+/// What was measured.
+#[derive(Clone, Copy)]
+pub enum Done {
+    /// So many puts and batches; so many flushes until the last batch was staged, and in all.
+    Batches {
+        puts: u64,
+        batches: u64,
+        before: u64,
+        flushes: u64,
+    },
+    /// So often, in so many microseconds.
+    Times(u64, u128),
+}
+
 /// Does what the command line asks for.
-pub fn time_node<R: Threads + Wait + Sync + Clock + Print + Env + AllocGlobal>(
+pub fn time_node<R: Threads + Wait + Sync + Clock + Print>(
     rt: &R,
+    alloc: Global,
+    asked: Asked,
 ) -> Result<(), Fault> {
     let task = Task {
-        work: work_wanted(rt)?,
-        count: number_at(rt, 3, 50)?,
-        threads: number_at(rt, 4, 1)?.max(1),
+        work: asked.work,
+        count: asked.count.unwrap_or(50),
+        threads: asked.second.unwrap_or(1).max(1),
     };
-    let board = Board::new(rt.alloc())?;
-    let core = new_core(rt.alloc())?;
-    run::<Brand, R>(rt, rt.alloc(), board, core, task)
+    let board = Board::new(alloc)?;
+    let core = new_core(alloc, 512, 64)?;
+    let (done, persistent) = run::<Brand, R>(rt, alloc, board, core, task);
+    print_done(rt, done?, persistent)
 }
 
-/// The work that the command line asks for.
-fn work_wanted(rt: &(impl Env + AllocGlobal)) -> Result<Work, Fault> {
-    match word_at(rt, 2)? {
-        Some(text) => match text.as_str() {
-            "pilot" => Ok(Work::Pilot),
-            "puts" => Ok(Work::Puts),
-            "polls" => Ok(Work::Polls),
-            "settles" => Ok(Work::Settles),
-            _ => Ok(Work::Stream),
-        },
-        None => Ok(Work::Stream),
-    }
-}
-
-/// A core that did nothing yet, over a new store of 512 extents of 64 pages.
-fn new_core(alloc: Global) -> Result<Core<MemoryDisk>, Fault>
-    ensures { IfOk result (λ core. (core.history ≡ []) × (core.store.accepted ≡ 0) × (core.store.frontier ≡ 0)) }
-{
-    let geometry = Geometry::new(512, 64)?;
-    let disk = MemoryDisk::new(alloc, geometry.device_pages())?;
-    match Core::format(alloc, disk, geometry, Limits { history: HISTORY }) {
-        Ok(core) => Ok(core),
-        Err((refusal, _)) => Err(Fault::Refused(refusal)),
-    }
-}
-
-/// Does the task on a node of this board and this core, and prints what was measured.
-fn run<K: Naming + Send + Sync, R: Threads + Wait + Sync + Clock + Print + AllocGlobal>(
+/// Does the task on a node of this board and this core. Gives what was measured, and how many puts are persistent.
+fn run<K: Naming + Send + Sync, R: Threads + Wait + Sync + Clock>(
     rt: &R,
     alloc: Global,
     board: Board<MemoryDisk>,
     core: Core<MemoryDisk>,
     task: Task,
-) -> Result<(), Fault>
+) -> (Result<Done, Fault>, u64)
     requires named { (board ≡ K.table) × (start_of core ≡ K.start) }
     requires new { (core.history ≡ []) × (core.store.accepted ≡ 0) × (core.store.frontier ≡ 0) }
 {
     let node = Node::<MemoryDisk, K>::new(board, core);
+    let done = work_on(rt, alloc, &node, task);
+    (done, persistent_of(node))
+}
+
+/// Does the task on a node.
+fn work_on<K: Naming + Send + Sync, R: Threads + Wait + Sync + Clock>(
+    rt: &R,
+    alloc: Global,
+    node: &Node<MemoryDisk, K>,
+    task: Task,
+) -> Result<Done, Fault> {
     match task.work {
-        Work::Stream => count_flushes(rt, alloc, node, task.count, true),
+        Work::Puts | Work::Polls | Work::Settles => time_jobs(rt, alloc, node, task),
         Work::Pilot => count_flushes(rt, alloc, node, task.count, false),
-        _ => time_jobs(rt, alloc, node, task),
+        _ => count_flushes(rt, alloc, node, task.count, true),
     }
+}
+
+/// How many puts of a node are persistent.
+fn persistent_of<K: Naming>(node: Node<MemoryDisk, K>) -> u64 {
+    let rest = node.rest();
+    rest.core().frontier()
+}
+
+/// Prints what was measured.
+fn print_done<R: Print>(rt: &R, done: Done, persistent: u64) -> Result<(), Fault> {
+    match done {
+        Done::Batches {
+            puts,
+            batches,
+            before,
+            flushes,
+        } => {
+            println!(rt;
+                "puts {puts} persistent {persistent} batches {batches} flushes {before} and {flushes} in all"
+            )?;
+        }
+        Done::Times(total, micros) => println!(rt; "{total} in {micros} us")?,
+    }
+    Ok(())
 }

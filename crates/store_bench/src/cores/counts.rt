@@ -7,7 +7,7 @@ use cs_deps::Element;
 const RUNS: u64 = 4;
 
 /// What was put and written so far.
-#[derive(Clone, Copy, Debug)]
+#[derive(Clone, Copy)]
 pub struct Counts {
     pub puts: u64,
     pub plain: u64,
@@ -30,35 +30,32 @@ impl Counts {
         }
     }
 
-    /// With one more member of a round.
-    pub fn with_member(self, member: Element) -> Self {
-        match member {
-            Element::Plain(_) => Counts {
-                plain: self.plain.saturating_add(1),
-                ..self
-            },
-            Element::Version(0, _) => Counts {
-                superblocks: self.superblocks.saturating_add(1),
-                ..self
-            },
-            Element::Version(_, _) => Counts {
-                roots: self.roots.saturating_add(1),
-                ..self
-            },
+    /// Of so many chunks and nothing else.
+    pub fn of_chunks(puts: u64) -> Self {
+        Counts {
+            puts,
+            ..Counts::new()
         }
     }
 
-    /// With a batch of puts that was staged: its run has what the batch put, or all that was put so far where it is merged of all
+    /// Counts one more member of a round.
+    pub fn add_member(&mut self, member: Element) {
+        let counted = match member {
+            Element::Plain(_) => &mut self.plain,
+            Element::Version(0, _) => &mut self.superblocks,
+            Element::Version(_, _) => &mut self.roots,
+        };
+        *counted = counted.saturating_add(1);
+    }
+
+    /// Counts a batch of puts that was staged: its run has what the batch put, or all that was put so far where it is merged of all
     /// that stand.
-    pub fn with_batch(self, puts: u64) -> Self {
+    pub fn add_batch(&mut self, puts: u64) {
         let all = self.puts.saturating_add(puts);
         let is_merged = self.runs > 0 && self.runs % RUNS == 0;
         let entries = if is_merged { all } else { puts };
-        Counts {
-            puts: all,
-            runs: self.runs.saturating_add(1),
-            entries: self.entries.saturating_add(entries.min(SHARDS)),
-            ..self
-        }
+        self.puts = all;
+        self.runs = self.runs.saturating_add(1);
+        self.entries = self.entries.saturating_add(entries.min(SHARDS));
     }
 }

@@ -10,7 +10,7 @@ use std::alloc::Global;
 const ROOT: usize = 53;
 
 /// The digests of these texts, each of so many bytes, one of them after another. Gives how many.
-pub fn digest_texts(alloc: Global, count: u64, bytes: usize) -> Result<u64, Fault> {
+fn digest_texts(alloc: Global, count: u64, bytes: usize) -> Result<u64, Fault> {
     let mut text = Vec::new(alloc);
     text.resize(bytes, 0x61)?;
     let mut done: u64 = 0;
@@ -25,7 +25,7 @@ pub fn digest_texts(alloc: Global, count: u64, bytes: usize) -> Result<u64, Faul
     Ok(done)
 }
 
-/// The digests of all that these puts wrote. Gives how many there are.
+/// The digests of all that was written or read. Gives how many there are.
 pub fn digest_puts(alloc: Global, counts: Counts, task: Task) -> Result<u64, Fault> {
     let chunks = digest_texts(alloc, counts.puts, task.bytes)?;
     let superblock = (task.extents as usize).saturating_mul(6).saturating_add(16);

@@ -20,21 +20,32 @@ fn payload(alloc: Global, task: Task) -> Result<Bytes, Fault> {
 
 /// Puts so often, and writes back after each batch and at the end.
 pub fn put_all(alloc: Global, core: &mut Core<MemoryDisk>, task: Task) -> Result<Counts, Fault> {
-    let bytes = payload(alloc, task)?;
     let mut counts = Counts::new();
+    let bytes = payload(alloc, task)?;
+    put_batches(core, &bytes, task, &mut counts)?;
+    Ok(counts)
+}
+
+/// Puts these bytes so often, writes back after each batch and at the end, and counts.
+fn put_batches(
+    core: &mut Core<MemoryDisk>,
+    bytes: &Bytes,
+    task: Task,
+    counts: &mut Counts,
+) -> Result<(), Fault> {
     let mut waiting: u64 = 0;
     for number in 0..task.count {
         put(core, number % SHARDS, bytes.share()?)?;
         waiting = waiting.saturating_add(1);
         if waiting >= task.batch {
-            counts = write_back(core, counts.with_batch(waiting))?;
+            write_back(core, waiting, counts)?;
             waiting = 0;
         }
     }
     if waiting > 0 {
-        counts = write_back(core, counts.with_batch(waiting))?;
+        write_back(core, waiting, counts)?;
     }
-    Ok(counts)
+    Ok(())
 }
 
 /// Puts so often under as many other identifiers, and writes nothing back.

@@ -2,19 +2,15 @@
 
 use super::Task;
 use super::counts::Counts;
-use super::digests::{digest_puts, digest_texts};
+use super::digests::digest_puts;
 use super::loads::{SHARDS, get_all, put_all, put_waiting};
+use crate::clocks::{micros_since, now};
 use crate::faults::Fault;
 use cs_core::Core;
 use cs_disk::MemoryDisk;
 use std::alloc::Global;
 use std::io;
-use std::time::{Clock, Instant};
-
-/// How many microseconds have gone by.
-fn micros_since<R: Clock>(rt: &R, start: Instant) -> Result<u128, Fault> {
-    Ok(start.elapsed(rt)?.as_micros())
-}
+use std::time::Clock;
 
 /// Prints what was written.
 fn print_counts<R: Print>(rt: &R, counts: Counts, persistent: u64) -> Result<(), Fault> {
@@ -32,8 +28,17 @@ fn print_counts<R: Print>(rt: &R, counts: Counts, persistent: u64) -> Result<(),
     Ok(())
 }
 
-/// Prints how long something took, and how long its digests did.
-fn print_times<R: Print>(rt: &R, took: u128, digests: u64, alone: u128) -> Result<(), Fault> {
+/// Prints how long something took that wrote or read so much, and how long its digests alone take.
+fn print_times<R: Print + Clock>(
+    rt: &R,
+    alloc: Global,
+    took: u128,
+    counts: Counts,
+    task: Task,
+) -> Result<(), Fault> {
+    let start = now(rt)?;
+    let digests = digest_puts(alloc, counts, task)?;
+    let alone = micros_since(rt, start)?;
     println!(rt; "in {took} us, its {digests} digests alone in {alone} us")?;
     Ok(())
 }
@@ -56,7 +61,7 @@ fn timed_puts<R: Clock>(
     core: &mut Core<MemoryDisk>,
     task: Task,
 ) -> Result<(Counts, u128), Fault> {
-    let start = Instant::now(rt)?;
+    let start = now(rt)?;
     let counts = put_all(alloc, core, task)?;
     Ok((counts, micros_since(rt, start)?))
 }
@@ -70,9 +75,7 @@ pub fn time_puts<R: Print + Clock>(
 ) -> Result<(), Fault> {
     let (counts, took) = timed_puts(rt, alloc, core, task)?;
     print_counts(rt, counts, core.frontier())?;
-    let start = Instant::now(rt)?;
-    let digests = digest_puts(alloc, counts, task)?;
-    print_times(rt, took, digests, micros_since(rt, start)?)
+    print_times(rt, alloc, took, counts, task)
 }
 
 /// Gets, and gives how many shards were found and how long it took.
@@ -82,7 +85,7 @@ fn timed_gets<R: Clock>(
     first: u64,
     count: u64,
 ) -> Result<(u64, u128), Fault> {
-    let start = Instant::now(rt)?;
+    let start = now(rt)?;
     let found = get_all(core, first, count)?;
     Ok((found, micros_since(rt, start)?))
 }
@@ -97,9 +100,7 @@ pub fn time_gets<R: Print + Clock>(
     put_all(alloc, core, task)?;
     let (found, took) = timed_gets(rt, core, 0, task.count)?;
     println!(rt; "gets {} found {found}", task.count)?;
-    let start = Instant::now(rt)?;
-    let digests = digest_texts(alloc, found, task.bytes)?;
-    print_times(rt, took, digests, micros_since(rt, start)?)
+    print_times(rt, alloc, took, Counts::of_chunks(found), task)
 }
 
 /// Times as many gets as there are shards, of what was written back and of what waits, beside so many puts that wait.

@@ -1,18 +1,18 @@
 //! What threads do, and how long it takes them.
 
-use super::{Task, Work};
+use super::calls::{Heard, poll, put, settle};
+use super::{Done, Task};
+use crate::clocks::{micros_since, now};
 use crate::faults::Fault;
-use cs_core::Bytes;
+use crate::words::Work;
 use cs_deps::Refusal;
-use cs_disk::PageDisk;
-use cs_frame::ShardId;
-use cs_node::{Gate, Job, Naming, Node, Pilot, Polled, Purse, Settled, Step, Ticket, Why};
-use std::alloc::{AllocError, Global};
-use std::io;
+use cs_disk::MemoryDisk;
+use cs_node::{Gate, Job, Naming, Node, Pilot, Purse, Step, Ticket};
+use std::alloc::Global;
 use std::sync::atomic::{AtomicU64, Ordering};
 use std::sync::{Arc, Wait};
 use std::thread::Threads;
-use std::time::{Clock, Instant};
+use std::time::Clock;
 
 /// How many threads are at work.
 type Busy = Arc<AtomicU64, Global>;
@@ -27,13 +27,19 @@ enum Worker<K: Naming> {
 /// What one thread of those that are timed does so often.
 #[derive(Drop)]
 struct Works<K: Naming> {
+    chore: Chore,
+    purse: Purse<K>,
+    ticket: Ticket<K>,
+    busy: Busy,
+}
+
+/// What is done, how often, and the number of the first identifier that is put.
+#[derive(Clone, Copy)]
+struct Chore {
     alloc: Global,
     work: Work,
     count: u64,
     first: u64,
-    purse: Purse<K>,
-    ticket: Ticket<K>,
-    busy: Busy,
 }
 
 /// A gate that is open while threads are at work.
@@ -50,176 +56,191 @@ impl Gate for While {
     fn within(&self, _step: Step) {}
 }
 
-impl<D: PageDisk + Send, K: Naming + Send + Sync> Job<Node<D, K>> for Worker<K> {
+impl<K: Naming + Send + Sync> Job<Node<MemoryDisk, K>> for Worker<K> {
     type Out = u64;
 
-    fn run<R: Wait>(self, rt: &R, node: &Node<D, K>) -> u64 {
+    fn run<R: Wait>(self, rt: &R, node: &Node<MemoryDisk, K>) -> u64 {
         match self {
-            Worker::Works(works) => works.run(rt, node),
-            Worker::Flies(mut pilot, gate) => {
-                let _ = pilot.run(rt, node, &gate);
-                0
-            }
+            Worker::Works(works) => do_chore(rt, node, works),
+            Worker::Flies(pilot, gate) => fly(rt, node, pilot, gate),
         }
     }
 }
 
-impl<K: Naming> Works<K> {
-    /// Does its work, and gives how often it was done.
-    fn run<D: PageDisk, R: Wait>(self, rt: &R, node: &Node<D, K>) -> u64 {
-        let Works {
-            alloc,
-            work,
-            count,
-            first,
-            mut purse,
-            ticket,
-            busy,
-        } = self;
-        let done = match work {
-            Work::Polls => polls(rt, alloc, node, &mut purse, ticket, count),
-            Work::Settles => settles(rt, alloc, node, &mut purse, ticket, count),
-            _ => puts(rt, alloc, node, &mut purse, first, count),
-        };
-        busy.fetch_sub(1, Ordering::SeqCst);
-        done
-    }
+/// Writes back while the gate is open.
+fn fly<K: Naming, R: Wait>(
+    rt: &R,
+    node: &Node<MemoryDisk, K>,
+    pilot: Pilot<K>,
+    gate: While,
+) -> u64 {
+    let mut pilot = pilot;
+    let _ = pilot.run(rt, node, &gate);
+    0
 }
 
-fn puts<D: PageDisk, K: Naming, R: Wait>(
+/// Does its work, and gives how often it was done.
+fn do_chore<K: Naming, R: Wait>(rt: &R, node: &Node<MemoryDisk, K>, works: Works<K>) -> u64 {
+    let Works {
+        chore,
+        mut purse,
+        ticket,
+        busy,
+    } = works;
+    let done = match chore.work {
+        Work::Puts => puts(rt, node, &mut purse, chore),
+        _ => asks(rt, node, &mut purse, ticket, chore),
+    };
+    busy.fetch_sub(1, Ordering::SeqCst);
+    done
+}
+
+/// Puts so often, and gives how many were accepted.
+fn puts<K: Naming, R: Wait>(
     rt: &R,
-    alloc: Global,
-    node: &Node<D, K>,
+    node: &Node<MemoryDisk, K>,
     purse: &mut Purse<K>,
-    first: u64,
-    count: u64,
+    chore: Chore,
 ) -> u64 {
     let mut done = 0u64;
-    for i in 0..count {
-        if put(rt, alloc, node, purse, first.wrapping_add(i % 50)).is_ok() {
+    for i in 0..chore.count {
+        let number = chore.first.wrapping_add(i % 50);
+        if put(rt, chore.alloc, node, purse, number).is_ok() {
             done = done.saturating_add(1);
         }
     }
     done
 }
 
-/// The identifier of a number.
-fn identifier(number: u64) -> ShardId {
-    let mut id = [0; 16];
-    id[8..].copy_from_slice(&number.to_be_bytes());
-    ShardId(id)
-}
-
-/// The eight bytes of a number.
-fn bytes_of(alloc: Global, number: u64) -> Result<Bytes, AllocError> {
-    let bytes = Vec::from_slice(alloc, &number.to_be_bytes())?;
-    Bytes::new(alloc, bytes)
-}
-
-/// Puts the bytes of a number under its identifier.
-pub fn put<D: PageDisk, K: Naming, R: Wait>(
+/// Polls or settles so often, and puts anew whenever a command is persistent. It ends where the history is full.
+fn asks<K: Naming, R: Wait>(
     rt: &R,
-    alloc: Global,
-    node: &Node<D, K>,
+    node: &Node<MemoryDisk, K>,
     purse: &mut Purse<K>,
+    ticket: Ticket<K>,
+    chore: Chore,
+) -> u64 {
+    let mut ticket = ticket;
+    for i in 0..chore.count {
+        match ask(rt, node, purse, ticket, chore, i % 50) {
+            Some(next) => ticket = next,
+            None => return i,
+        }
+    }
+    chore.count
+}
+
+/// Polls or settles a ticket, and puts this number where its command is persistent. Gives the ticket that is next.
+fn ask<K: Naming, R: Wait>(
+    rt: &R,
+    node: &Node<MemoryDisk, K>,
+    purse: &mut Purse<K>,
+    ticket: Ticket<K>,
+    chore: Chore,
     number: u64,
-) -> Result<Ticket<K>, Refusal> {
-    let bytes = bytes_of(alloc, number)?;
-    node.put(rt, purse, identifier(number), bytes)
-}
-
-/// Polls so often, and puts anew whenever a command is persistent.
-fn polls<D: PageDisk, K: Naming, R: Wait>(
-    rt: &R,
-    alloc: Global,
-    node: &Node<D, K>,
-    purse: &mut Purse<K>,
-    ticket: Ticket<K>,
-    count: u64,
-) -> u64 {
-    let mut ticket = ticket;
-    for i in 0..count {
-        match purse.poll(node, ticket) {
-            Polled::Back(back, _) => ticket = back,
-            Polled::Done(_) => match put(rt, alloc, node, purse, i % 50) {
-                Ok(next) => ticket = next,
-                Err(_) => return i,
-            },
-        }
+) -> Option<Ticket<K>> {
+    let heard = match chore.work {
+        Work::Settles => settle(rt, node, purse, ticket),
+        _ => poll(node, purse, ticket),
+    };
+    match heard {
+        Heard::Back(back) => Some(back),
+        Heard::Persistent => put(rt, chore.alloc, node, purse, number).ok(),
+        Heard::Ended => None,
     }
-    count
-}
-
-/// Settles so often, and puts anew whenever a command is persistent. It ends where the history is full.
-fn settles<D: PageDisk, K: Naming, R: Wait>(
-    rt: &R,
-    alloc: Global,
-    node: &Node<D, K>,
-    purse: &mut Purse<K>,
-    ticket: Ticket<K>,
-    count: u64,
-) -> u64 {
-    let mut ticket = ticket;
-    for i in 0..count {
-        match node.settle(rt, purse, ticket) {
-            Settled::Back(back, Why::NotYet(_)) => ticket = back,
-            Settled::Back(_, _) => return i,
-            Settled::Done(_) => match put(rt, alloc, node, purse, i % 50) {
-                Ok(next) => ticket = next,
-                Err(_) => return i,
-            },
-        }
-    }
-    count
 }
 
 /// The threads of a task: those that are timed, and a pilot that flies while they are at work.
-fn workers<D: PageDisk, K: Naming, R: Wait>(
+fn workers<K: Naming, R: Wait>(
     rt: &R,
     alloc: Global,
-    node: &Node<D, K>,
+    node: &Node<MemoryDisk, K>,
     task: Task,
 ) -> Result<Vec<Worker<K>>, Refusal> {
     let busy = Arc::new(alloc, AtomicU64::new(task.threads))?;
     let mut workers = Vec::new(alloc);
-    for thread in 0..task.threads {
-        let first = thread.wrapping_mul(50);
-        let mut purse = node.purse(rt, alloc)?;
-        let ticket = put(rt, alloc, node, &mut purse, first)?;
-        let busy = Arc::try_clone(&busy)?;
-        workers.reserve(1)?;
-        workers.push_reserved(Worker::Works(Works {
-            alloc,
-            work: task.work,
-            count: task.count / task.threads.max(1),
-            first,
-            purse,
-            ticket,
-            busy,
-        }));
-    }
-    if let Some(pilot) = node.pilot(rt) {
-        workers.reserve(1)?;
-        workers.push_reserved(Worker::Flies(pilot, While { busy }));
-    }
+    add_workers(rt, alloc, node, task, &busy, &mut workers)?;
     Ok(workers)
 }
 
-/// Times the task, and prints how often it was done in how many microseconds.
-pub fn time_jobs<
-    D: PageDisk + Send + Drop,
-    K: Naming + Send + Sync,
-    R: Threads + Wait + Sync + Clock + Print,
->(rt: &R, alloc: Global, node: Node<D, K>, task: Task) -> Result<(), Fault> {
-    let workers = workers(rt, alloc, &node, task)?;
-    let start = Instant::now(rt)?;
-    let done = node.abreast(rt, workers)?;
-    let took = start.elapsed(rt)?;
-    let mut total = 0u64;
-    for count in done {
-        total = total.saturating_add(count);
+/// Adds them.
+fn add_workers<K: Naming, R: Wait>(
+    rt: &R,
+    alloc: Global,
+    node: &Node<MemoryDisk, K>,
+    task: Task,
+    busy: &Busy,
+    workers: &mut Vec<Worker<K>>,
+) -> Result<(), Refusal> {
+    for thread in 0..task.threads {
+        let chore = Chore {
+            alloc,
+            work: task.work,
+            count: task.count / task.threads.max(1),
+            first: thread.wrapping_mul(50),
+        };
+        add(workers, new_worker(rt, node, chore, busy)?)?;
     }
-    let micros = took.as_micros();
-    println!(rt; "{total} in {micros} us")?;
+    add(workers, new_flier(rt, node, busy)?)
+}
+
+/// Adds one.
+fn add<K: Naming>(workers: &mut Vec<Worker<K>>, worker: Worker<K>) -> Result<(), Refusal> {
+    workers.reserve(1)?;
+    workers.push_reserved(worker);
     Ok(())
+}
+
+/// A thread that is timed.
+fn new_worker<K: Naming, R: Wait>(
+    rt: &R,
+    node: &Node<MemoryDisk, K>,
+    chore: Chore,
+    busy: &Busy,
+) -> Result<Worker<K>, Refusal> {
+    let busy = Arc::try_clone(busy)?;
+    let mut purse = node.purse(rt, chore.alloc)?;
+    let ticket = put(rt, chore.alloc, node, &mut purse, chore.first)?;
+    Ok(Worker::Works(Works {
+        chore,
+        purse,
+        ticket,
+        busy,
+    }))
+}
+
+/// A pilot that flies while threads are at work.
+fn new_flier<K: Naming, R: Wait>(
+    rt: &R,
+    node: &Node<MemoryDisk, K>,
+    busy: &Busy,
+) -> Result<Worker<K>, Refusal> {
+    let busy = Arc::try_clone(busy)?;
+    match node.pilot(rt) {
+        Some(pilot) => Ok(Worker::Flies(pilot, While { busy })),
+        None => Err(Refusal::WornOut),
+    }
+}
+
+/// The sum of what threads gave.
+fn sum(counts: &[u64]) -> u64 {
+    let mut total = 0u64;
+    for count in counts {
+        total = total.saturating_add(*count);
+    }
+    total
+}
+
+/// Times the task: how often it was done in how many microseconds.
+pub fn time_jobs<K: Naming + Send + Sync, R: Threads + Wait + Sync + Clock>(
+    rt: &R,
+    alloc: Global,
+    node: &Node<MemoryDisk, K>,
+    task: Task,
+) -> Result<Done, Fault> {
+    let workers = workers(rt, alloc, node, task)?;
+    let start = now(rt);
+    let total = sum(&node.abreast(rt, workers)?);
+    let micros = micros_since(rt, start?)?;
+    Ok(Done::Times(total, micros))
 }
