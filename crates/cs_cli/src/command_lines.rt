@@ -5,7 +5,7 @@ use crate::progress::{takes_time, tell_ended, tell_making};
 use clap::ArgMatches;
 use cs_core::Core;
 use cs_deps::Refusal;
-use cs_disk::{FileDisk, MemoryDisk};
+use cs_disk::{CrashDisk, FileDisk, MemoryDisk};
 use cs_options::{command, geometry_of, race_of};
 use cs_script::{
     new_core as new_race_core, new_in_file, new_in_memory, open_in_file, print_no_store, run_check,
@@ -13,7 +13,7 @@ use cs_script::{
 };
 use std::alloc::Global;
 use std::fs::File;
-use std::io::BufWriter;
+use std::io::{BufWriter, Write};
 use std::rt::{Env, Files};
 use std::sync::Wait;
 use std::thread::Threads;
@@ -27,31 +27,12 @@ where
     R::Reader: Drop,
     ensures { result ≤ 4 }
 {
-    let words = match words_given(rt) {
-        Ok(words) => words,
+    match words_given(rt) {
+        Ok(words) => run_words(rt, &words, terminal),
         Err(error) => {
             let _ = eprintln!(rt; "{error}");
-            return statuses::COMMAND_LINE;
+            statuses::COMMAND_LINE
         }
-    };
-    let Ok(command) = command(rt.alloc()) else {
-        let _ = eprintln!(rt; "out of memory");
-        return statuses::COMMAND_LINE;
-    };
-    match command.try_get_matches_from(words.as_slice()) {
-        // A subcommand is required, and there are but three.
-        Ok(matches) => match matches.subcommand_matches("run") {
-            Some(options) => run_standard_input(rt, options, terminal),
-            None => match matches.subcommand_matches("race") {
-                Some(options) => race_threads(rt, options),
-                None => check_standard_input(rt),
-            },
-        },
-        Err(error) => match error.print(rt) {
-            Ok(()) if error.use_stderr() => statuses::COMMAND_LINE,
-            Ok(()) => statuses::DONE,
-            Err(_) => statuses::STREAM,
-        },
     }
 }
 
@@ -64,6 +45,54 @@ fn words_given<R: Env + AllocGlobal>(rt: &R) -> io::Result<Vec<String>> {
     Ok(words)
 }
 
+/// Does what these words ask for, and gives the exit status.
+fn run_words<R: AllocGlobal + Files<File = File> + Input + Print + Eprint + Threads + Wait + Sync>(
+    rt: &R,
+    words: &[String],
+    terminal: bool,
+) -> u8
+where
+    R::Reader: Drop,
+    ensures { result ≤ 4 }
+{
+    let Ok(command) = command(rt.alloc()) else {
+        let _ = eprintln!(rt; "out of memory");
+        return statuses::COMMAND_LINE;
+    };
+    match command.try_get_matches_from(words) {
+        Ok(matches) => run_matches(rt, &matches, terminal),
+        Err(error) => print_error(rt, &error),
+    }
+}
+
+/// Prints what the words aren't, or the help that they ask for, and gives the exit status.
+fn print_error<R: Print + Eprint>(rt: &R, error: &clap::Error) -> u8
+    ensures { result ≤ 4 }
+{
+    match error.print(rt) {
+        Ok(()) if error.use_stderr() => statuses::COMMAND_LINE,
+        Ok(()) => statuses::DONE,
+        Err(_) => statuses::STREAM,
+    }
+}
+
+/// Does what the words were found to ask for, and gives the exit status. A subcommand is required, and there are but three.
+fn run_matches<
+    R: AllocGlobal + Files<File = File> + Input + Print + Eprint + Threads + Wait + Sync,
+>(rt: &R, matches: &ArgMatches, terminal: bool) -> u8
+where
+    R::Reader: Drop,
+    ensures { result ≤ 4 }
+{
+    if let Some(options) = matches.subcommand_matches("run") {
+        return run_standard_input(rt, options, terminal);
+    }
+    match matches.subcommand_matches("race") {
+        Some(options) => race_threads(rt, options),
+        None => check_standard_input(rt),
+    }
+}
+
 /// Runs the script on standard input over the store that the options name.
 fn run_standard_input<R: AllocGlobal + Files<File = File> + Input + Print + Eprint>(
     rt: &R,
@@ -74,17 +103,40 @@ where
     R::Reader: Drop,
     ensures { result ≤ 4 }
 {
-    let alloc = rt.alloc();
-    let Ok(mut writer) = BufWriter::new(alloc, io::writer(rt)) else {
-        return print_no_store(&mut io::writer(rt), Refusal::OutOfMemory);
-    };
-    match options.get_str("file") {
-        None => run_over(alloc, in_memory(alloc, options), rt.reader(), &mut writer),
-        Some(path) => {
-            let store = in_file(rt, path, options, terminal);
-            run_over(alloc, store, rt.reader(), &mut writer)
-        }
+    match BufWriter::new(rt.alloc(), io::writer(rt)) {
+        Ok(mut writer) => run_on(rt, options, terminal, &mut writer),
+        Err(_) => print_no_store(&mut io::writer(rt), Refusal::OutOfMemory),
     }
+}
+
+/// The same with this writer.
+fn run_on<R: AllocGlobal + Files<File = File> + Input + Eprint, W: Write>(
+    rt: &R,
+    options: &ArgMatches,
+    terminal: bool,
+    writer: &mut W,
+) -> u8
+where
+    R::Reader: Drop,
+    ensures { result ≤ 4 }
+{
+    match options.get_str("file") {
+        None => run_over_a(rt, in_memory(rt.alloc(), options), writer),
+        Some(path) => run_over_a(rt, in_file(rt, path, options, terminal), writer),
+    }
+}
+
+/// Runs the script on standard input over this store.
+fn run_over_a<D: CrashDisk + Drop, R: AllocGlobal + Input, W: Write>(
+    rt: &R,
+    store: Result<Core<D>, Refusal>,
+    writer: &mut W,
+) -> u8
+where
+    R::Reader: Drop,
+    ensures { result ≤ 4 }
+{
+    run_over(rt.alloc(), store, rt.reader(), writer)
 }
 
 /// A new store in memory, of the geometry that the options ask for. Refused 7 BadGeometry, and 9 OutOfMemory.

@@ -5,47 +5,29 @@ use cs_frame::Geometry;
 use cs_script::Race;
 use std::alloc::{AllocError, Global};
 
-/// The command line that is understood.
-pub fn command<'a>(alloc: Global) -> Result<Command<'a>, AllocError> {
-    let check = Command::new(alloc, "check").about("Checks a plan document from standard input");
-    Command::new(alloc, "cs_cli")
-        .about("A shard store that writes back with the fewest flushes")
-        .subcommand_required(true)
-        .subcommand(run_command(alloc)?)?
-        .subcommand(race_command(alloc)?)?
-        .subcommand(check)
+/// A command: its name, what it does, what help says after its options, and these.
+#[derive(Clone, Copy)]
+struct Form {
+    name: &'static str,
+    about: &'static str,
+    after: Option<&'static str>,
+    options: &'static [Choice],
 }
 
-/// The command that runs a script.
-fn run_command<'a>(alloc: Global) -> Result<Command<'a>, AllocError> {
-    Command::new(alloc, "run")
-        .about("Runs a script from standard input over a store in memory, or in a file")
-        .after_help(RUN_EXAMPLES)
-        .arg(number(
-            alloc,
-            "extents",
-            "6",
-            "How many extents a new store has, 4 to 512",
-        ))?
-        .arg(number(
-            alloc,
-            "pages",
-            "2",
-            "How many pages of 4,096 bytes an extent of a new store has, 2 to 256",
-        ))?
-        .arg(
-            Arg::new(alloc, "file")
-                .long("file")
-                .value_name("PATH")
-                .action(ArgAction::Set)
-                .help("The file that the store is in; without it the store is in memory"),
-        )?
-        .arg(
-            Arg::new(alloc, "new")
-                .long("new")
-                .action(ArgAction::SetTrue)
-                .help("Makes a new store in the file, and loses what is in it"),
-        )
+/// An option: its name, what it takes, and what help says of it.
+#[derive(Clone, Copy)]
+struct Choice {
+    name: &'static str,
+    takes: Takes,
+    help: &'static str,
+}
+
+/// What an option takes: a number, this one where it isn't there; a path; or nothing.
+#[derive(Clone, Copy)]
+enum Takes {
+    Number(&'static str),
+    Path,
+    Nothing,
 }
 
 /// What help says after the options of `run`.
@@ -56,39 +38,125 @@ const RUN_EXAMPLES: &str = "Examples:
 
 With --file alone the geometry is the store's own. Without --file, --new has no effect.";
 
-/// The command that runs a race.
-fn race_command<'a>(alloc: Global) -> Result<Command<'a>, AllocError> {
-    Command::new(alloc, "race")
-        .about("Runs threads that put, get back and poll on one store in memory, and closes it")
-        .arg(number(alloc, "threads", "4", "How many threads put, 1 to 64"))?
-        .arg(number(
-            alloc,
-            "puts",
-            "10",
-            "How many shards each of them puts, 0 to 1,000",
-        ))?
-        .arg(number(
-            alloc,
-            "drop",
-            "0",
-            "How many of its first tickets the first thread drops, at most as many as it puts",
-        ))?
-        .arg(
-            Arg::new(alloc, "stream")
-                .long("stream")
-                .action(ArgAction::SetTrue)
-                .help("Stages ahead of each round, so that rounds of several syncs overlap"),
-        )
+/// The three commands.
+const FORMS: &[Form] = &[
+    Form {
+        name: "run",
+        about: "Runs a script from standard input over a store in memory, or in a file",
+        after: Some(RUN_EXAMPLES),
+        options: &[
+            Choice {
+                name: "extents",
+                takes: Takes::Number("6"),
+                help: "How many extents a new store has, 4 to 512",
+            },
+            Choice {
+                name: "pages",
+                takes: Takes::Number("2"),
+                help: "How many pages of 4,096 bytes an extent of a new store has, 2 to 256",
+            },
+            Choice {
+                name: "file",
+                takes: Takes::Path,
+                help: "The file that the store is in; without it the store is in memory",
+            },
+            Choice {
+                name: "new",
+                takes: Takes::Nothing,
+                help: "Makes a new store in the file, and loses what is in it",
+            },
+        ],
+    },
+    Form {
+        name: "race",
+        about: "Runs threads that put, get back and poll on one store in memory, and closes it",
+        after: None,
+        options: &[
+            Choice {
+                name: "threads",
+                takes: Takes::Number("4"),
+                help: "How many threads put, 1 to 64",
+            },
+            Choice {
+                name: "puts",
+                takes: Takes::Number("10"),
+                help: "How many shards each of them puts, 0 to 1,000",
+            },
+            Choice {
+                name: "drop",
+                takes: Takes::Number("0"),
+                help: "How many of its first tickets the first thread drops, at most as many as it puts",
+            },
+            Choice {
+                name: "stream",
+                takes: Takes::Nothing,
+                help: "Stages ahead of each round, so that rounds of several syncs overlap",
+            },
+        ],
+    },
+    Form {
+        name: "check",
+        about: "Checks a plan document from standard input",
+        after: None,
+        options: &[],
+    },
+];
+
+/// The command line that is understood.
+pub fn command<'a>(alloc: Global) -> Result<Command<'a>, AllocError> {
+    let forms = commands_of(alloc, FORMS)?;
+    Command::new(alloc, "cs_cli")
+        .about("A shard store that writes back with the fewest flushes")
+        .subcommand_required(true)
+        .subcommands(forms)
 }
 
-/// An option that takes a number.
-fn number<'a>(alloc: Global, name: &'a str, default: &'a str, help: &'a str) -> Arg<'a> {
-    Arg::new(alloc, name)
-        .long(name)
-        .action(ArgAction::Set)
-        .value_parser(clap::value_parser!(u64))
-        .default_value(default)
-        .help(help)
+/// These commands.
+fn commands_of<'a>(alloc: Global, forms: &[Form]) -> Result<Vec<Command<'a>>, AllocError> {
+    let mut commands = Vec::new(alloc);
+    for form in forms {
+        commands.push(command_of(alloc, form)?)?;
+    }
+    Ok(commands)
+}
+
+/// A command.
+fn command_of<'a>(alloc: Global, form: &Form) -> Result<Command<'a>, AllocError> {
+    let options = options_of(alloc, form.options)?;
+    named(alloc, form).args(options)
+}
+
+/// A command without its options.
+fn named<'a>(alloc: Global, form: &Form) -> Command<'a> {
+    let command = Command::new(alloc, form.name).about(form.about);
+    match form.after {
+        Some(text) => command.after_help(text),
+        None => command,
+    }
+}
+
+/// These options.
+fn options_of<'a>(alloc: Global, choices: &[Choice]) -> Result<Vec<Arg<'a>>, AllocError> {
+    let mut options = Vec::new(alloc);
+    for choice in choices {
+        options.push(option_of(alloc, choice))?;
+    }
+    Ok(options)
+}
+
+/// An option.
+fn option_of<'a>(alloc: Global, choice: &Choice) -> Arg<'a> {
+    let option = Arg::new(alloc, choice.name)
+        .long(choice.name)
+        .help(choice.help);
+    match choice.takes {
+        Takes::Number(default) => option
+            .action(ArgAction::Set)
+            .value_parser(clap::value_parser!(u64))
+            .default_value(default),
+        Takes::Path => option.value_name("PATH").action(ArgAction::Set),
+        Takes::Nothing => option.action(ArgAction::SetTrue),
+    }
 }
 
 /// The geometry that the options ask for. Refused 7 BadGeometry.
