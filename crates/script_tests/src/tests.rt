@@ -1,5 +1,4 @@
 //! What scripts and documents print and leave behind, by worked rows.
-mod crashes;
 mod cuts;
 mod damage;
 mod documents;
@@ -11,10 +10,8 @@ mod options;
 mod plans;
 mod puts;
 mod races;
-mod rounds;
 mod stops;
 mod streams;
-mod sweeps;
 
 use cs_core::{Core, Limits};
 use cs_disk::{CrashDisk, MemoryDisk};
@@ -112,16 +109,16 @@ fn core_of<D: CrashDisk>(rt: &impl Abort, ran: Ran<D>) -> Core<D> {
     }
 }
 
-/// The disk that a script leaves of a new store with so many extents of 2 pages, and what it printed.
+/// The disk that a script leaves of a new store with so many extents of 2 pages.
 fn disk_after(
     rt: &(impl Abort + AllocGlobal),
     extents: u64,
     text: &str,
-) -> Result<(MemoryDisk, Vec<u8>), Fail> {
+) -> Result<MemoryDisk, Fail> {
     let core = new_core(rt, extents)?;
     let mut output = Vec::new(rt.alloc());
     let ran = run_script(rt.alloc(), core, text.as_bytes(), &mut output);
-    Ok((core_of(rt, ran).into_disk(), output))
+    Ok(core_of(rt, ran).into_disk())
 }
 
 impl Ended {
@@ -179,19 +176,6 @@ fn prints_text(
     Ok(())
 }
 
-/// The same for a script and lines that are written as rows are.
-fn prints(
-    rt: &(impl Abort + AllocGlobal),
-    script: &str,
-    lines: &str,
-    status: u8,
-    persistent: u64,
-) -> Result<(), Fail> {
-    let text = script_text(rt.alloc(), script)?;
-    let wanted = printed(rt.alloc(), lines)?;
-    prints_text(rt, &text, &wanted, status, persistent)
-}
-
 /// The document of one put and the index changes over it, with its words without their quotes.
 const DOCUMENT: &str =
     "{chain:[w1,s3,r2],elements:[{e:w1,needs:[]},{e:s2,needs:[w1]},{e:w2,needs:[]},{e:s3,needs:[w1,w2]},{e:r2,needs:[s3]}],families:[s,r],format:1,persistent:[1,1],rounds:[[w1,w2],[s3],[r2]],target:[w1,w2,s3,r2]}";
@@ -209,52 +193,4 @@ fn document_text(alloc: Global) -> Result<String, Fail> {
         in_word = word;
     }
     Ok(text)
-}
-
-#[test]
-fn rows(rt: HostRuntime) -> Result<(), Fail> {
-    prints(
-        &rt,
-        "put @a 61 / sync",
-        "put 1 / round 1: [w1, w2] / round 2: [s3] / round 3: [r2] / chain: [w1, s3, r2] / flushes 3 / acknowledged 1",
-        0,
-        1,
-    )?;
-    prints_text(&rt, "sync", "chain: -\nflushes 0\nacknowledged 0\n", 0, 0)?;
-    prints(
-        &rt,
-        "put @a 61 / put @b 62 / put @c 63 / sync",
-        "put 1 / put 2 / put 3 / round 1: [w1, w2, w3, w4] / round 2: [s5] / round 3: [r2] / chain: [w1, s5, r2] / flushes 3 / acknowledged 3",
-        0,
-        3,
-    )
-}
-
-#[test]
-fn bad_lines(rt: HostRuntime) -> Result<(), Fail> {
-    prints(
-        &rt,
-        "put @a 6 / frob / put @a 61",
-        "bad line / bad line / put 1",
-        1,
-        0,
-    )
-}
-
-#[test]
-fn lines(rt: HostRuntime) -> Result<(), Fail> {
-    prints_text(
-        &rt,
-        "\n# a remark\n  put  {0000000000000000000000000000000a}   -  \n put 0000000000000000000000000000000A aBcD\n   \n # no remark\nsync\r\nsync sync\nput\tsync\nputt\nput 00000000-0000-0000-0000-00000000000a 61 -\n",
-        "bad line\nput 1\nbad line\nbad line\nbad line\nbad line\nbad line\nbad line\nbad line\n",
-        1,
-        0,
-    )?;
-    prints_text(
-        &rt,
-        "put 00000000-0000-0000-0000-00000000000a 61\n",
-        "put 1\n",
-        0,
-        0,
-    )
 }

@@ -10,7 +10,7 @@ use std::test::{Fail, *};
 /// The image of one put and a sync: superblock, root, the put's frame and its run's on pages 0 to 3.
 fn image(rt: &(impl Abort + AllocGlobal)) -> Result<Vec<u8>, Fail> {
     let text = script_text(rt.alloc(), "put @a 61 / sync")?;
-    let (disk, _) = disk_after(rt, 6, &text)?;
+    let disk = disk_after(rt, 6, &text)?;
     Ok(Vec::from_slice(rt.alloc(), disk.image())?)
 }
 

@@ -1,11 +1,11 @@
 //! One call on the device that fails, whichever it is: a put, a sync, another put and a get, then a crash.
-use super::crashes::fails;
 use super::damage::why_not_opened;
-use super::new_core;
+use super::{end_of, new_core, printed, script_text};
+use cs_core::{Core, Limits};
 use cs_deps::Refusal;
-use cs_disk::FailAt;
+use cs_disk::{FailAt, MemoryDisk};
 use std::process::Abort;
-use std::test::Fail;
+use std::test::{Fail, *};
 
 /// The three calls that open the store.
 #[test]
@@ -16,6 +16,68 @@ fn opening_fails(rt: HostRuntime) -> Result<(), Fail> {
         assert_eq!(rt; refusal, Some(Refusal::DeviceFault));
     }
     Ok(())
+}
+
+/// A new store of 6 extents of 2 pages, opened on a disk of which a call fails, counted from the one that opens it on.
+fn core_that_fails(
+    rt: &(impl Abort + AllocGlobal),
+    call: u64,
+) -> Result<Core<FailAt<MemoryDisk>>, Fail> {
+    let disk = new_core(rt, 6)?.into_disk();
+    match Core::open(
+        rt.alloc(),
+        FailAt::new(disk, call),
+        Limits { history: 1000 },
+    ) {
+        Ok(core) => Ok(core),
+        Err((refusal, _)) => panic!(rt; "{}", refusal.name()),
+    }
+}
+
+/// Asserts what a script prints on a disk of which a call fails, and its exit status, and that it leaves a core or none.
+fn fails(
+    rt: &(impl Abort + AllocGlobal),
+    call: u64,
+    script: &str,
+    lines: &str,
+    status: u8,
+) -> Result<(), Fail> {
+    let alloc = rt.alloc();
+    let text = script_text(alloc, script)?;
+    let wanted = printed(alloc, lines)?;
+    let ended = end_of(alloc, core_that_fails(rt, call)?, &text);
+    ended.printed(rt, &wanted, status, script);
+    assert_eq!(rt; ended.left.is_none(), status == 3);
+    Ok(())
+}
+
+/// The flush of the second round fails. The store halts, and a crash leaves the one before, with the volatile superblock or
+/// without.
+#[test]
+fn a_crash_after_a_failed_flush(rt: HostRuntime) -> Result<(), Fail> {
+    for (digit, kept) in [("0", 0), ("1", 1)] {
+        let alloc = rt.alloc();
+        let script = format!(in alloc;
+            "put @a 61 / sync / put @b 62 / get @a / crash {digit} / get @a"
+        )?;
+        let lines = format!(in alloc;
+            "put 1 / round 1: [w1, w2] / refused 1 DeviceFault / refused 40 Halted / value 61 / crash kept {kept} of 1 / open commands 0 shards 0 / absent"
+        )?;
+        fails(&rt, 8, &script, &lines, 0)?;
+    }
+    Ok(())
+}
+
+/// A store that isn't opened ends the script.
+#[test]
+fn a_crash_after_which_no_store_is_opened(rt: HostRuntime) -> Result<(), Fail> {
+    fails(
+        &rt,
+        4,
+        "frob / crash - / put @a 61",
+        "bad line / crash kept 0 of 0 / refused 1 DeviceFault",
+        3,
+    )
 }
 
 /// A call that fails, which rounds are printed before, and for a crash then its mask, what it keeps, and how many commands it leaves.

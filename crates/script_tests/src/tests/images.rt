@@ -1,5 +1,5 @@
 //! What stands on the device's pages.
-use super::{disk_after, printed, script_text};
+use super::{disk_after, script_text};
 use std::process::Abort;
 use std::test::Fail;
 
@@ -52,7 +52,7 @@ const ZEROS: &[(usize, usize)] = &[(22, 30), (84, 4012), (12350, 64), (16384, 40
 #[test]
 fn pages(rt: HostRuntime) -> Result<(), Fail> {
     let text = script_text(rt.alloc(), "put @a 61 / sync")?;
-    let (disk, _) = disk_after(&rt, 6, &text)?;
+    let disk = disk_after(&rt, 6, &text)?;
     assert_eq!(rt; disk.image().len(), 14 * 4096);
     for (from, bytes) in PIECES {
         stands(&rt, disk.image(), *from, bytes);
@@ -63,19 +63,15 @@ fn pages(rt: HostRuntime) -> Result<(), Fail> {
     Ok(())
 }
 
-/// Asserts how a script's output ends, with so many extents of 2 pages, and what stands on the root's page behind its
-/// commands.
+/// Asserts what stands on the root's page behind its commands, with so many extents of 2 pages.
 fn leaves(
     rt: &(impl Abort + AllocGlobal),
     extents: u64,
     script: &str,
-    end: &str,
     runs: &[u8],
 ) -> Result<(), Fail> {
     let text = script_text(rt.alloc(), script)?;
-    let wanted = printed(rt.alloc(), end)?;
-    let (disk, output) = disk_after(rt, extents, &text)?;
-    assert!(rt; output.as_slice().ends_with(wanted.as_bytes()));
+    let disk = disk_after(rt, extents, &text)?;
     stands(rt, disk.image(), 4116, runs);
     Ok(())
 }
@@ -87,7 +83,6 @@ fn merges(rt: HostRuntime) -> Result<(), Fail> {
         &rt,
         12,
         "put @a 01 / sync / put @a 02 / sync / put @a 03 / sync / put @a 04 / sync / put @a 05 / sync",
-        "put 5 / round 1: [w9, w10] / round 2: [s11] / round 3: [r6] / chain: [w9, s11, r6] / flushes 3 / acknowledged 5",
         b"\x01\0\x04\0\x01\0\0\0\0",
     )
 }
@@ -99,7 +94,6 @@ fn merges_of_nothing(rt: HostRuntime) -> Result<(), Fail> {
         &rt,
         6,
         "put @a 01 / sync / del @a / sync / put @a 02 / sync / del @a / sync / put @a 03 / del @a / sync",
-        "put 5 / del 6 / round 1: [w7] / round 2: [s8] / round 3: [r6] / chain: [w7, s8, r6] / flushes 3 / acknowledged 6",
         b"\0",
     )
 }

@@ -37,8 +37,7 @@ fn stopped(rt: &(impl Abort + AllocGlobal), steps: u64) -> Result<MemoryDisk, Fa
     for _ in 0..steps {
         text.push_str("step\n")?;
     }
-    let (disk, _) = disk_after(rt, 6, &text)?;
-    Ok(disk)
+    disk_after(rt, 6, &text)
 }
 
 /// The mask that a number stands for, its lowest digit first.

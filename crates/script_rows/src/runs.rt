@@ -1,0 +1,57 @@
+//! A script's run.
+use cs_core::Core;
+use cs_deps::Refusal;
+use cs_disk::{CrashDisk, MemoryDisk};
+use cs_frame::Geometry;
+use cs_script::{new_in_memory, run_script};
+use std::alloc::Global;
+
+/// What a script printed and left behind.
+#[derive(Drop)]
+pub struct Ended {
+    pub output: Vec<u8>,
+    pub status: u8,
+    /// None where no store could be opened after a crash.
+    pub left: Option<Counts>,
+}
+
+/// How many commands the store found when it was opened, how many it accepted since, how many of these are persistent, and how many writes
+/// are volatile.
+#[derive(Clone, Copy)]
+pub struct Counts {
+    pub found: u64,
+    pub accepted: u64,
+    pub persistent: u64,
+    pub volatile: usize,
+}
+
+/// Runs a script over a new store in memory. Refused 9 OutOfMemory alone.
+pub fn run_over_new(alloc: Global, geometry: Geometry, script: &str) -> Result<Ended, Refusal> {
+    match new_in_memory(alloc, geometry) {
+        Ok(core) => Ok(run(alloc, core, script)),
+        Err(refusal) => Err(refusal),
+    }
+}
+
+/// Runs a script over a store, which is let go here alone.
+fn run(alloc: Global, core: Core<MemoryDisk>, script: &str) -> Ended {
+    let mut output = Vec::new(alloc);
+    let ran = run_script(alloc, core, script.as_bytes(), &mut output);
+    Ended {
+        output,
+        status: ran.status,
+        left: counts_of(&ran.core),
+    }
+}
+
+fn counts_of(core: &Option<Core<MemoryDisk>>) -> Option<Counts> {
+    match core {
+        Some(core) => Some(Counts {
+            found: core.opened().0,
+            accepted: core.accepted(),
+            persistent: core.frontier(),
+            volatile: core.disk().volatile(),
+        }),
+        None => None,
+    }
+}
