@@ -1,0 +1,435 @@
+//! The formats by their bytes, and by each byte that is damaged.
+use cs_frame::{
+    FormatFault, FrameHeader, FrameKind, Geometry, Locator, Root, Run, ShardId, Superblock,
+    decode_frame, decode_frame_header, decode_root, decode_run, decode_superblock, encode_frame,
+    encode_root, encode_run, encode_superblock, frame_has_one_spelling,
+    frame_is_read_by_its_header, frame_pages, root_has_one_spelling, run_has_one_spelling,
+    superblock_has_one_spelling, these_formats_are_formats,
+};
+use std::process::Abort;
+
+// The expected pages are from the layouts, with digests by sha256sum.
+
+// A superblock as a store of 6 extents of 2 pages begins.
+const FORMAT_SUPERBLOCK: [u8; 84] = [
+    0x43, 0x53, 0x53, 0x31, 0x00, 0x00, 0x00, 0x00, 0x00, 0x00, 0x00, 0x01, 0x00, 0x06, 0x00, 0x02,
+    0x00, 0x00, 0x00, 0x00, 0x00, 0x00, 0x00, 0x00, 0x00, 0x00, 0x00, 0x00, 0x00, 0x00, 0x00, 0x00,
+    0x00, 0x00, 0x00, 0x00, 0x00, 0x00, 0x00, 0x00, 0x00, 0x00, 0x00, 0x00, 0x00, 0x00, 0x00, 0x00,
+    0x00, 0x00, 0x00, 0x00, 0x53, 0xde, 0x10, 0x0a, 0xa5, 0x6e, 0xae, 0xf3, 0x51, 0x95, 0x26, 0x6b,
+    0xcb, 0x33, 0x88, 0x7f, 0x53, 0xd4, 0x67, 0xc5, 0x2d, 0xd1, 0x24, 0xdf, 0xd9, 0xca, 0x5d, 0xb6,
+    0xd5, 0xb5, 0x95, 0x53,
+];
+
+// One put later.
+const SUPERBLOCK: [u8; 84] = [
+    0x43, 0x53, 0x53, 0x31, 0x00, 0x00, 0x00, 0x00, 0x00, 0x00, 0x00, 0x03, 0x00, 0x06, 0x00, 0x02,
+    0x00, 0x02, 0x00, 0x00, 0x00, 0x00, 0x00, 0x00, 0x00, 0x00, 0x00, 0x00, 0x00, 0x00, 0x00, 0x00,
+    0x00, 0x00, 0x00, 0x00, 0x00, 0x00, 0x00, 0x00, 0x00, 0x00, 0x00, 0x00, 0x00, 0x00, 0x00, 0x00,
+    0x00, 0x00, 0x00, 0x00, 0x1f, 0xe2, 0xc4, 0xcb, 0x0b, 0x99, 0x98, 0x63, 0xd2, 0xe2, 0x83, 0xe9,
+    0x16, 0xcc, 0x8d, 0x8e, 0x2a, 0xfd, 0x79, 0x34, 0xc7, 0xfe, 0xb1, 0xcf, 0x30, 0x27, 0xd1, 0xa7,
+    0x95, 0x6d, 0xbe, 0xef,
+];
+
+const FORMAT_ROOT: [u8; 53] = [
+    0x43, 0x53, 0x52, 0x31, 0x00, 0x00, 0x00, 0x00, 0x00, 0x00, 0x00, 0x01, 0x00, 0x00, 0x00, 0x00,
+    0x00, 0x00, 0x00, 0x00, 0x00, 0xa7, 0x03, 0x2c, 0xf5, 0xea, 0xe3, 0x80, 0x27, 0x5d, 0x1c, 0x5e,
+    0xda, 0xd4, 0xc2, 0x3a, 0x42, 0x0d, 0x94, 0x47, 0x65, 0x34, 0xb0, 0xd1, 0x36, 0xfd, 0x7d, 0x48,
+    0x78, 0x3f, 0x19, 0x5b, 0xf3,
+];
+
+const ROOT: [u8; 61] = [
+    0x43, 0x53, 0x52, 0x31, 0x00, 0x00, 0x00, 0x00, 0x00, 0x00, 0x00, 0x02, 0x00, 0x00, 0x00, 0x00,
+    0x00, 0x00, 0x00, 0x01, 0x01, 0x00, 0x00, 0x00, 0x01, 0x00, 0x00, 0x00, 0x00, 0xad, 0xc0, 0x11,
+    0xf4, 0xa1, 0x2b, 0x76, 0x64, 0xbe, 0x5d, 0xf6, 0x5e, 0xbc, 0xc3, 0xec, 0x5f, 0x43, 0x83, 0xf9,
+    0xe4, 0xa0, 0x25, 0x93, 0xa1, 0xf6, 0xf9, 0x2f, 0xff, 0xb8, 0x8f, 0xe5, 0x70,
+];
+
+// A chunk of the byte 61.
+const CHUNK: [u8; 42] = [
+    0x43, 0x53, 0x46, 0x31, 0x00, 0x00, 0x00, 0x00, 0x01, 0xca, 0x97, 0x81, 0x12, 0xca, 0x1b, 0xbd,
+    0xca, 0xfa, 0xc2, 0x31, 0xb3, 0x9a, 0x23, 0xdc, 0x4d, 0xa7, 0x86, 0xef, 0xf8, 0x14, 0x7c, 0x4e,
+    0x72, 0xb9, 0x80, 0x77, 0x85, 0xaf, 0xee, 0x48, 0xbb, 0x61,
+];
+
+// A run of one identifier.
+const RUN: [u8; 126] = [
+    0x43, 0x53, 0x46, 0x31, 0x01, 0x00, 0x00, 0x00, 0x55, 0x08, 0xe3, 0x07, 0xea, 0x1b, 0xcb, 0x07,
+    0x73, 0xad, 0x46, 0x47, 0x6b, 0x52, 0x05, 0xf9, 0x73, 0x87, 0xca, 0x92, 0xb3, 0x83, 0x0d, 0x16,
+    0x0f, 0x48, 0x3f, 0xd2, 0xf4, 0xfa, 0xb0, 0x6b, 0x30, 0x00, 0x00, 0x00, 0x01, 0x00, 0x00, 0x00,
+    0x00, 0x00, 0x00, 0x00, 0x00, 0x00, 0x00, 0x00, 0x00, 0x00, 0x00, 0x00, 0x0a, 0x01, 0x00, 0x00,
+    0x00, 0x00, 0x00, 0x00, 0x00, 0x00, 0x00, 0x00, 0x00, 0x00, 0x00, 0x00, 0x00, 0x00, 0x00, 0x00,
+    0x00, 0x00, 0x00, 0x00, 0x00, 0x00, 0x00, 0x00, 0x00, 0x00, 0x00, 0x00, 0x00, 0x00, 0x00, 0x00,
+    0x00, 0x00, 0x00, 0x00, 0x00, 0x00, 0x00, 0x00, 0x00, 0x00, 0x00, 0x00, 0x00, 0x00, 0x00, 0x00,
+    0x00, 0x00, 0x00, 0x00, 0x00, 0x00, 0x00, 0x00, 0x00, 0x00, 0x00, 0x00, 0x00, 0x00,
+];
+
+// A chunk of no byte.
+const EMPTY_CHUNK: [u8; 41] = [
+    0x43, 0x53, 0x46, 0x31, 0x00, 0x00, 0x00, 0x00, 0x00, 0xe3, 0xb0, 0xc4, 0x42, 0x98, 0xfc, 0x1c,
+    0x14, 0x9a, 0xfb, 0xf4, 0xc8, 0x99, 0x6f, 0xb9, 0x24, 0x27, 0xae, 0x41, 0xe4, 0x64, 0x9b, 0x93,
+    0x4c, 0xa4, 0x95, 0x99, 0x1b, 0x78, 0x52, 0xb8, 0x55,
+];
+
+const FIRST: Locator = Locator {
+    extent: 0,
+    page: 0,
+    generation: 0,
+};
+
+const SECOND: Locator = Locator {
+    extent: 0,
+    page: 1,
+    generation: 0,
+};
+
+// The page begins with these bytes, and zeros follow.
+fn is_page(page: &[u8; 4096], start: &[u8]) -> bool {
+    page.strip_prefix(start)
+        .is_some_and(|rest| rest.iter().all(|byte| *byte == 0))
+}
+
+/// The page that begins with these bytes.
+fn page_of(rt: &impl Abort, start: &[u8]) -> [u8; 4096] {
+    assert!(rt; start.len() <= 4096);
+    let mut page = [0; 4096];
+    page[..start.len()].copy_from_slice(start);
+    page
+}
+
+/// Asserts what a page that is a superblock says.
+fn is_superblock(rt: &(impl Abort + AllocGlobal), page: &[u8; 4096], version: u64) {
+    let read = decode_superblock(rt.alloc(), page).expect(rt, "a superblock");
+    assert_eq!(rt; read.version, version);
+    assert_eq!(rt; read.pages, 2);
+    assert_eq!(rt; read.extents.len(), 6);
+}
+
+#[test]
+fn superblocks(rt: HostRuntime) {
+    let extents = vec![in rt.alloc(); (0, 0), (0, 0), (0, 0), (0, 0), (0, 0), (0, 0)];
+    let first = Superblock {
+        version: 1,
+        pages: 2,
+        extents: extents.expect(&rt, "memory"),
+    };
+    assert!(rt; is_page(&encode_superblock(&first), &FORMAT_SUPERBLOCK));
+    let extents = vec![in rt.alloc(); (2, 0), (0, 0), (0, 0), (0, 0), (0, 0), (0, 0)];
+    let later = Superblock {
+        version: 3,
+        pages: 2,
+        extents: extents.expect(&rt, "memory"),
+    };
+    let page = encode_superblock(&later);
+    assert!(rt; is_page(&page, &SUPERBLOCK));
+    is_superblock(&rt, &page, 3);
+}
+
+/// Asserts that a page is a root of one run.
+fn is_root_of_one(rt: &(impl Abort + AllocGlobal), page: &[u8; 4096]) {
+    let read = decode_root(rt.alloc(), page).expect(rt, "a root");
+    assert_eq!(rt; read.version, 2);
+    assert_eq!(rt; read.commands, 1);
+    assert_eq!(rt; read.runs.as_slice(), [SECOND].as_slice());
+}
+
+#[test]
+fn roots(rt: HostRuntime) {
+    let first = Root {
+        version: 1,
+        commands: 0,
+        runs: Vec::new(rt.alloc()),
+    };
+    assert!(rt; is_page(&encode_root(&first), &FORMAT_ROOT));
+    let later = Root {
+        version: 2,
+        commands: 1,
+        runs: vec![in rt.alloc(); SECOND].expect(&rt, "memory"),
+    };
+    let page = encode_root(&later);
+    assert!(rt; is_page(&page, &ROOT));
+    is_root_of_one(&rt, &page);
+}
+
+/// The pages of a frame.
+fn encoded(rt: &(impl Abort + AllocGlobal), kind: FrameKind, payload: &[u8]) -> Vec<[u8; 4096]> {
+    assert!(rt; payload.len() < 5000);
+    encode_frame(rt.alloc(), kind, payload).expect(rt, "a frame")
+}
+
+/// The payload of a frame.
+fn decoded(
+    rt: &(impl Abort + AllocGlobal),
+    kind: FrameKind,
+    pages: &[[u8; 4096]],
+) -> Result<Vec<u8>, FormatFault> {
+    assert!(rt; 0 < pages.len());
+    decode_frame(rt.alloc(), kind, pages)
+}
+
+/// What the first of so many pages says of a frame.
+fn header(kind: FrameKind, page: &[u8; 4096], there: usize) -> Result<FrameHeader, FormatFault> {
+    decode_frame_header(kind, page, there)
+}
+
+/// Asserts which payload is read of a frame.
+fn is_payload(
+    rt: &(impl Abort + AllocGlobal),
+    kind: FrameKind,
+    pages: &[[u8; 4096]],
+    payload: &[u8],
+) {
+    let read = decoded(rt, kind, pages).expect(rt, "bytes");
+    assert_eq!(rt; read.as_slice(), payload);
+}
+
+/// Asserts how the one page of a chunk begins, and what it says of so many bytes.
+fn is_chunk_page(rt: &impl Abort, pages: &[[u8; 4096]], count: usize, start: &[u8]) {
+    assert_eq!(rt; pages.len(), 1);
+    assert!(rt; is_page(&pages[0], start));
+    let header = header(FrameKind::Chunk, &pages[0], 1).expect(rt, "a header");
+    assert_eq!(rt; header.payload_len as usize, count);
+    assert_eq!(rt; header.pages(), 1);
+}
+
+/// Asserts how a chunk begins whose frame has one page, and that it is read back.
+fn is_chunk(rt: &(impl Abort + AllocGlobal), payload: &[u8], start: &[u8]) {
+    let pages = encoded(rt, FrameKind::Chunk, payload);
+    is_chunk_page(rt, pages.as_slice(), payload.len(), start);
+    is_payload(rt, FrameKind::Chunk, pages.as_slice(), payload);
+}
+
+#[test]
+fn frames(rt: HostRuntime) {
+    is_chunk(&rt, b"a", &CHUNK);
+    is_chunk(&rt, b"", &EMPTY_CHUNK);
+}
+
+/// Asserts which byte is at a place of a page.
+fn has_byte(rt: &impl Abort, pages: &[[u8; 4096]], page: usize, place: usize, wanted: u8) {
+    let page = pages.get(page).expect(rt, "a page");
+    assert_eq!(rt; page.get(place), Some(&wanted));
+}
+
+/// Asserts that a page alone isn't the frame of a run.
+fn is_too_short(rt: &impl Abort, page: &[u8; 4096]) {
+    let header = header(FrameKind::Run, page, 1);
+    assert!(rt; matches!(header, Err(FormatFault::BadLength)));
+}
+
+/// Asserts that the last byte of a frame's payload alone, of sevens, lies on its second page, and that its first one isn't enough.
+fn are_two_pages(rt: &impl Abort, pages: &[[u8; 4096]]) {
+    assert_eq!(rt; pages.len(), 2);
+    has_byte(rt, pages, 0, 4095, 7);
+    has_byte(rt, pages, 1, 0, 7);
+    has_byte(rt, pages, 1, 1, 0);
+    is_too_short(rt, &pages[0]);
+}
+
+#[test]
+fn frames_of_two_pages(rt: HostRuntime) {
+    let payload = vec![in rt.alloc(); 7; 4056].expect(&rt, "memory");
+    assert_eq!(rt; frame_pages(4055), 1);
+    assert_eq!(rt; frame_pages(4056), 2);
+    let pages = encoded(&rt, FrameKind::Run, payload.as_slice());
+    are_two_pages(&rt, pages.as_slice());
+    is_payload(&rt, FrameKind::Run, pages.as_slice(), payload.as_slice());
+}
+
+/// What a page is read as.
+#[derive(Clone, Copy)]
+enum Format {
+    Superblock,
+    Root,
+    // the first of two pages
+    Chunk,
+    // alone
+    Run,
+}
+
+/// The number of a refusal, 0 for none.
+fn number_of<T: Drop>(read: Result<T, FormatFault>) -> u8 {
+    match read {
+        Ok(_) => 0,
+        Err(fault) => fault.number(),
+    }
+}
+
+/// Why a page isn't read, 0 where it is.
+fn fault_of(rt: &(impl Abort + AllocGlobal), format: Format, page: &[u8; 4096]) -> u8 {
+    match format {
+        Format::Superblock => number_of(decode_superblock(rt.alloc(), page)),
+        Format::Root => number_of(decode_root(rt.alloc(), page)),
+        Format::Chunk => number_of(decoded(rt, FrameKind::Chunk, &[*page, *page])),
+        Format::Run => number_of(decoded(rt, FrameKind::Run, &[*page])),
+    }
+}
+
+/// The number of the first entry whose offset is above i: the fault that a change of byte i has.
+fn expected(table: &[(usize, u8)], i: usize) -> u8 {
+    table
+        .iter()
+        .find(|entry| i < entry.0)
+        .map_or(0, |entry| entry.1)
+}
+
+/// Turns the lowest bit of a byte.
+fn turn(rt: &impl Abort, bytes: &mut [u8], place: usize) {
+    assert!(rt; place < bytes.len());
+    bytes[place] ^= 1;
+}
+
+/// Asserts why the page that begins with these bytes isn't read where the lowest bit of one of its bytes is turned, byte by byte.
+fn damaged(rt: &(impl Abort + AllocGlobal), format: Format, start: &[u8], table: &[(usize, u8)]) {
+    let mut page = page_of(rt, start);
+    for i in 0..4096 {
+        turn(rt, &mut page, i);
+        let found = fault_of(rt, format, &page);
+        assert_eq!(rt; found, expected(table, i), "at {i}");
+        turn(rt, &mut page, i);
+    }
+}
+
+#[test]
+fn damaged_superblocks(rt: HostRuntime) {
+    let table = [(3, 20), (4, 24), (14, 21), (15, 22), (84, 21), (4096, 23)];
+    damaged(&rt, Format::Superblock, &SUPERBLOCK, &table);
+}
+
+#[test]
+fn damaged_roots(rt: HostRuntime) {
+    let table = [(3, 20), (4, 24), (61, 21), (4096, 23)];
+    damaged(&rt, Format::Root, &ROOT, &table);
+}
+
+#[test]
+fn damaged_frames(rt: HostRuntime) {
+    let chunk = [(3, 20), (5, 24), (7, 22), (42, 21), (4096, 23)];
+    damaged(&rt, Format::Chunk, &CHUNK, &chunk);
+    let run = [(3, 20), (5, 24), (7, 22), (126, 21), (4096, 23)];
+    damaged(&rt, Format::Run, &RUN, &run);
+}
+
+/// The identifier that ends with 0a, which is printed in small letters.
+fn tenth(rt: &(impl Abort + AllocGlobal)) -> ShardId {
+    let id = ShardId::parse("00000000-0000-0000-0000-00000000000A").expect(rt, "an identifier");
+    let text = format!(in rt.alloc(); "{id}").expect(rt, "memory");
+    assert_eq!(rt; text.as_str(), "00000000-0000-0000-0000-00000000000a");
+    id
+}
+
+/// The payload of a run of one identifier with one locator.
+fn encoded_run(rt: &(impl Abort + AllocGlobal), id: ShardId) -> Vec<u8> {
+    let alloc = rt.alloc();
+    let locators = vec![in alloc; FIRST].expect(rt, "memory");
+    let mut entries = Vec::with_capacity(alloc, 1).expect(rt, "memory");
+    entries.push_reserved((id, locators));
+    encode_run(alloc, &Run { entries }).expect(rt, "bytes")
+}
+
+/// What a payload is read as.
+fn decoded_run(rt: &impl AllocGlobal, payload: &[u8]) -> Result<Run, FormatFault> {
+    decode_run(rt.alloc(), payload)
+}
+
+/// Asserts that an entry has one locator.
+fn is_entry(rt: &impl Abort, (found, locators): &(ShardId, Vec<Locator>), id: ShardId) {
+    assert_eq!(rt; *found, id);
+    assert_eq!(rt; locators.as_slice(), [FIRST].as_slice());
+}
+
+/// Asserts that a run has one identifier with one locator.
+fn is_one_entry(rt: &impl Abort, run: &Run, id: ShardId) {
+    assert_eq!(rt; run.entries.len(), 1);
+    for entry in &run.entries {
+        is_entry(rt, entry, id);
+    }
+}
+
+#[test]
+fn runs(rt: HostRuntime) {
+    let id = tenth(&rt);
+    let payload = encoded_run(&rt, id);
+    assert_eq!(rt; payload.as_slice(), &RUN[41..]);
+    let read = decoded_run(&rt, payload.as_slice()).expect(&rt, "a run");
+    is_one_entry(&rt, &read, id);
+}
+
+/// The faults of two entries of one locator each.
+const TWO_ENTRIES: [(usize, u8); 10] = [
+    (4, 22),
+    (20, 25),
+    (21, 23),
+    (29, 0),
+    (85, 23),
+    (100, 0),
+    (101, 25),
+    (102, 23),
+    (110, 0),
+    (166, 23),
+];
+
+/// Two entries of one locator each, by the identifiers 0a and 0b.
+fn two_entries() -> [u8; 166] {
+    let mut payload = [0; 166];
+    payload[3] = 2;
+    payload[19] = 10;
+    payload[20] = 1;
+    payload[24] = 1;
+    payload[100] = 11;
+    payload[101] = 1;
+    payload[105] = 1;
+    payload
+}
+
+#[test]
+fn damaged_runs(rt: HostRuntime) {
+    let mut payload = two_entries();
+    for i in 0..166 {
+        turn(&rt, &mut payload, i);
+        let found = number_of(decoded_run(&rt, &payload));
+        assert_eq!(rt; found, expected(&TWO_ENTRIES, i), "at {i}");
+        turn(&rt, &mut payload, i);
+    }
+}
+
+/// A geometry, which has to be one.
+fn geometry(rt: &impl Abort, extents: u64, pages: u64) -> Geometry {
+    Geometry::new(extents, pages).expect(rt, "a geometry")
+}
+
+/// Asserts how many extents of how many pages a geometry has.
+fn is_geometry(rt: &impl Abort, geometry: Geometry, extents: u16, pages: u16) {
+    assert_eq!(rt; geometry.extents(), extents);
+    assert_eq!(rt; geometry.pages(), pages);
+}
+
+/// Asserts where a page of an extent lies.
+fn lies_on(rt: &impl Abort, geometry: Geometry, (extent, page): (u16, u16), wanted: u64) {
+    assert!(rt; extent < geometry.extents());
+    assert!(rt; page < geometry.pages());
+    assert_eq!(rt; geometry.device_page(extent, page), wanted);
+}
+
+#[test]
+fn geometries(rt: HostRuntime) {
+    let six = geometry(&rt, 6, 2);
+    is_geometry(&rt, six, 6, 2);
+    assert_eq!(rt; six.device_pages(), 14);
+    lies_on(&rt, six, (5, 1), 13);
+    assert_eq!(rt; six.payload_bytes(), 8151);
+    assert_eq!(rt; six.named_limit(), 100);
+    let largest = geometry(&rt, 512, 256);
+    assert_eq!(rt; largest.named_limit(), 12944);
+    let refused = Geometry::new(3, 2).err().map(|fault| fault.number());
+    assert_eq!(rt; refused, Some(7));
+}
+
+#[test]
+fn laws() {
+    superblock_has_one_spelling();
+    root_has_one_spelling();
+    run_has_one_spelling();
+    frame_has_one_spelling();
+    frame_is_read_by_its_header();
+    these_formats_are_formats();
+}
