@@ -1,4 +1,6 @@
 //! The folder that rows stand in: `NAME.script`, `NAME.stdout`, and where they aren't as mostly `NAME.args` and `NAME.status`.
+use std::alloc::{AllocError, Global};
+use std::fs::DirEntry;
 use std::io::ErrorKind;
 use std::rt::Files;
 use std::{fs, io};
@@ -19,13 +21,24 @@ pub fn names_of_rows<R: Files + AllocGlobal + Clone + Drop>(
 ) -> io::Result<Vec<String>> {
     let mut names = Vec::new(rt.alloc());
     for entry in fs::read_dir(rt, folder)? {
-        let entry = entry?;
-        if let Some(name) = entry.file_name().strip_suffix(".script") {
-            names.push(String::from_str(rt.alloc(), name)?)?;
-        }
+        push_name(&mut names, &entry?)?;
     }
     names.sort()?;
     Ok(names)
+}
+
+/// Adds the name of a row where its script is found.
+fn push_name<R: Files>(
+    names: &mut Vec<String>,
+    entry: &DirEntry<R, Global>,
+) -> Result<(), AllocError> {
+    match entry.file_name().strip_suffix(".script") {
+        Some(name) => {
+            let name = String::from_str(*names.allocator(), name)?;
+            Ok(names.push(name)?)
+        }
+        None => Ok(()),
+    }
 }
 
 /// The text of a row's file with this ending.

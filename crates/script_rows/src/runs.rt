@@ -37,21 +37,22 @@ pub fn run_over_new(alloc: Global, geometry: Geometry, script: &str) -> Result<E
 fn run(alloc: Global, core: Core<MemoryDisk>, script: &str) -> Ended {
     let mut output = Vec::new(alloc);
     let ran = run_script(alloc, core, script.as_bytes(), &mut output);
+    let left = match &ran.core {
+        Some(core) => Some(counts_of(core)),
+        None => None,
+    };
     Ended {
         output,
         status: ran.status,
-        left: counts_of(&ran.core),
+        left,
     }
 }
 
-fn counts_of(core: &Option<Core<MemoryDisk>>) -> Option<Counts> {
-    match core {
-        Some(core) => Some(Counts {
-            found: core.opened().0,
-            accepted: core.accepted(),
-            persistent: core.frontier(),
-            volatile: core.disk().volatile(),
-        }),
-        None => None,
+fn counts_of<D: CrashDisk>(core: &Core<D>) -> Counts {
+    Counts {
+        found: core.opened().0,
+        accepted: core.accepted(),
+        persistent: core.frontier(),
+        volatile: core.disk().volatile(),
     }
 }
