@@ -101,9 +101,14 @@ fn run_on(rt: &(impl Abort + AllocGlobal), extents: u64, text: &str) -> Result<E
     Ok(end_of(rt.alloc(), core, text))
 }
 
-/// The core that a script left behind.
-fn core_of<D: CrashDisk>(rt: &impl Abort, ran: Ran<D>) -> Core<D> {
-    match ran.core {
+/// The core that a script's text leaves behind.
+fn core_after<D: CrashDisk + Drop>(
+    rt: &(impl Abort + AllocGlobal),
+    core: Core<D>,
+    text: &str,
+) -> Core<D> {
+    let mut output = Vec::new(rt.alloc());
+    match run_script(rt.alloc(), core, text.as_bytes(), &mut output).core {
         Some(core) => core,
         None => panic!(rt; "no core is left"),
     }
@@ -116,9 +121,7 @@ fn disk_after(
     text: &str,
 ) -> Result<MemoryDisk, Fail> {
     let core = new_core(rt, extents)?;
-    let mut output = Vec::new(rt.alloc());
-    let ran = run_script(rt.alloc(), core, text.as_bytes(), &mut output);
-    Ok(core_of(rt, ran).into_disk())
+    Ok(core_after(rt, core, text).into_disk())
 }
 
 impl Ended {
@@ -176,21 +179,6 @@ fn prints_text(
     Ok(())
 }
 
-/// The document of one put and the index changes over it, with its words without their quotes.
+/// The document of one put and the index changes over it.
 const DOCUMENT: &str =
-    "{chain:[w1,s3,r2],elements:[{e:w1,needs:[]},{e:s2,needs:[w1]},{e:w2,needs:[]},{e:s3,needs:[w1,w2]},{e:r2,needs:[s3]}],families:[s,r],format:1,persistent:[1,1],rounds:[[w1,w2],[s3],[r2]],target:[w1,w2,s3,r2]}";
-
-/// The document, with quotes around each word of letters and digits that a letter begins.
-fn document_text(alloc: Global) -> Result<String, Fail> {
-    let mut text = String::new(alloc);
-    let mut in_word = false;
-    for c in DOCUMENT.chars() {
-        let word = c.is_ascii_alphabetic() || in_word && c.is_ascii_digit();
-        if word != in_word {
-            text.push('"')?;
-        }
-        text.push(c)?;
-        in_word = word;
-    }
-    Ok(text)
-}
+    r#"{"chain":["w1","s3","r2"],"elements":[{"e":"w1","needs":[]},{"e":"s2","needs":["w1"]},{"e":"w2","needs":[]},{"e":"s3","needs":["w1","w2"]},{"e":"r2","needs":["s3"]}],"families":["s","r"],"format":1,"persistent":[1,1],"rounds":[["w1","w2"],["s3"],["r2"]],"target":["w1","w2","s3","r2"]}"#;

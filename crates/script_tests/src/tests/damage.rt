@@ -82,14 +82,21 @@ fn a_sweep_over_a_damaged_shard(rt: HostRuntime) -> Result<(), Fail> {
     )
 }
 
+/// A disk with the first bytes of this image, so many.
+fn shortened(
+    rt: &(impl Abort + AllocGlobal),
+    image: &[u8],
+    length: usize,
+) -> Result<MemoryDisk, Fail> {
+    let bytes = image.get(..length).expect(rt, "so many bytes");
+    Ok(MemoryDisk::of_image(rt.alloc(), Vec::from_slice(rt.alloc(), bytes)?)?)
+}
+
 /// A disk of which the last page is cut off.
 #[test]
 fn a_shorter_disk(rt: HostRuntime) -> Result<(), Fail> {
-    let alloc = rt.alloc();
-    let mut image = image(&rt)?;
-    image.truncate(13 * 4096);
-    let disk = MemoryDisk::of_image(alloc, image)?;
-    let refusal = why_not_opened(alloc, disk);
+    let image = image(&rt)?;
+    let refusal = why_not_opened(rt.alloc(), shortened(&rt, &image, 13 * 4096)?);
     assert_eq!(rt; refusal, Some(Refusal::NotAStore));
     Ok(())
 }

@@ -1,5 +1,5 @@
 //! Documents, as they are judged.
-use super::document_text;
+use super::DOCUMENT;
 use cs_script::run_check;
 use std::process::Abort;
 use std::test::Fail;
@@ -20,8 +20,7 @@ fn checks(
 
 #[test]
 fn documents(rt: HostRuntime) -> Result<(), Fail> {
-    let document = document_text(rt.alloc())?;
-    checks(&rt, document.as_bytes(), "optimal 3\n", 0)?;
+    checks(&rt, DOCUMENT.as_bytes(), "optimal 3\n", 0)?;
     checks(&rt, b"{", "refused 10 BadDocument\n", 1)?;
     checks(&rt, b"\xff", "refused 10 BadDocument\n", 1)
 }

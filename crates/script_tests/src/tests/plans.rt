@@ -1,9 +1,8 @@
 //! Plans of a long list of commands, each judged by the check.
-use super::{core_of, new_core_of, script_text};
+use super::{core_after, new_core_of, script_text};
 use cs_check::check;
 use cs_core::Core;
 use cs_disk::MemoryDisk;
-use cs_script::run_script;
 use std::alloc::Global;
 use std::process::Abort;
 use std::test::{Fail, *};
@@ -40,17 +39,6 @@ fn lines(alloc: Global, count: usize) -> Result<Vec<String>, Fail> {
     Ok(lines)
 }
 
-/// The core after one line more.
-fn after_line(
-    rt: &(impl Abort + AllocGlobal),
-    core: Core<MemoryDisk>,
-    line: &str,
-) -> Core<MemoryDisk> {
-    let mut output = Vec::new(rt.alloc());
-    let ran = run_script(rt.alloc(), core, line.as_bytes(), &mut output);
-    core_of(rt, ran)
-}
-
 /// Asserts that the check accepts the plan of all that waits, where no round is out. It tells whether there was one.
 fn judge(rt: &(impl Abort + AllocGlobal), core: &Core<MemoryDisk>) -> bool {
     if core.round().is_some() {
@@ -69,7 +57,7 @@ fn the_check_accepts_each_plan(rt: HostRuntime) -> Result<(), Fail> {
     let mut core = new_core_of(&rt, 6, 8192)?;
     let mut plans: u64 = 0;
     for line in lines.iter() {
-        core = after_line(&rt, core, line);
+        core = core_after(&rt, core, line);
         if judge(&rt, &core) {
             plans = plans.saturating_add(1);
         }
