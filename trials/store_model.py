@@ -5,7 +5,8 @@ import json
 
 PAGE = 4096
 ENTRY = 81
-FAMILIES = ("s", "r")
+# The families by number: section 0 of the superblock, the root, and the sections behind the first one.
+LETTERS = "srabcdefg"
 
 
 class Refused(Exception):
@@ -43,37 +44,55 @@ class Disk:
 
 
 class Element:
-    """A page write: a plain one (family "w") or a version; it needs plain writes through a number, and versions up to one each."""
+    """A page write: a plain one (family "w") or a version; it needs the plain writes of its section through a number, and versions up to one each."""
 
-    def __init__(self, family, number, page, content, through=0, versions=(0, 0)):
+    def __init__(self, family, number, page, content, section=None, through=0, versions=()):
         self.family, self.number, self.page, self.content = family, number, page, content
-        self.through, self.versions = through, versions
+        self.section, self.through, self.versions = section, through, versions
         self.name = f"{family}{number}"
 
     def needs(self, other):
         if other.family == "w":
-            return other.number <= self.through
-        return other.number <= self.versions[FAMILIES.index(other.family)]
+            return other.section == self.section and other.number <= self.through
+        return other.number <= self.versions[LETTERS.index(other.family)]
 
 
 class Store:
-    def __init__(self, extents, pages):
+    def __init__(self, extents, pages, sections=1):
+        self.extents, self.pages, self.sections = extents, pages, sections
+        self.families = LETTERS[:sections + 1]
         self.disk = Disk()
-        self.disk.durable = {
-            0: (1, [0] * extents, [0] * extents),
-            1: (1, 0, []),
-        }
-        self.extents, self.pages = extents, pages
+        self.disk.durable = {1: (1, 0, [])}
+        for section in range(sections):
+            there = len(self.extents_of(section))
+            self.disk.durable[self.section_page(section)] = (1, [0] * there, [0] * there)
         self.open()
 
+    def extents_of(self, section):
+        most = -(-self.extents // self.sections)
+        return range(section * most, min(self.extents, (section + 1) * most))
+
+    def section_of(self, extent):
+        return extent // -(-self.extents // self.sections)
+
+    def section_page(self, section):
+        return 0 if section == 0 else 1 + self.extents * self.pages + section
+
+    def family_of(self, section):
+        return 0 if section == 0 else section + 1
+
     def open(self):
-        version, pointers, generations = self.disk.durable[0]
         root, count, locators = self.disk.durable[1]
-        self.pointer, self.generation = list(pointers), list(generations)
+        self.latest = [0, root] + [0] * (self.sections - 1)
+        self.pointer, self.generation = [], []
+        for section in range(self.sections):
+            version, pointers, generations = self.disk.durable[self.section_page(section)]
+            self.latest[self.family_of(section)] = version
+            self.pointer += pointers
+            self.generation += generations
         self.reset_root = [0] * self.extents
         self.open_extent, self.swept = None, set()
-        self.latest = [version, root]
-        self.persistent = [version, root]
+        self.persistent = list(self.latest)
         self.persistent_plain = set()
         self.written = 0
         self.elements = []
@@ -117,7 +136,7 @@ class Store:
         if before:
             last = before[-1]
             element.through = max(element.through, last.through)
-            element.versions = tuple(max(a, b) for a, b in zip(element.versions, last.versions))
+            element.versions = [max(a, b) for a, b in zip(element.versions, last.versions)]
         self.elements.append(element)
 
     def room(self, sizes, left):
@@ -145,19 +164,32 @@ class Store:
         for step in range(size):
             self.written += 1
             where = 2 + extent * self.pages + page + step
-            need = self.reset_root[extent]
-            self.elements.append(Element("w", self.written, where, content if step == 0 else None, 0, (0, need)))
+            needs = self.versions_with(1, self.reset_root[extent])
+            section = self.section_of(extent)
+            self.elements.append(Element("w", self.written, where, content if step == 0 else None, section, 0, needs))
         self.pointer[extent] += size
         self.open_extent = None if self.pointer[extent] == self.pages else extent
-        self.latest[0] += 1
-        record = (self.latest[0], list(self.pointer), list(self.generation))
-        self.stage(Element("s", self.latest[0], 0, record, self.written, (0, max(self.reset_root))))
+        self.stage_section(self.section_of(extent))
         return locator
+
+    def versions_with(self, family, version):
+        """Versions up to this one of a family, and none of the others."""
+        return [version if number == family else 0 for number in range(len(self.families))]
+
+    def stage_section(self, section):
+        family = self.family_of(section)
+        self.latest[family] += 1
+        there = self.extents_of(section)
+        record = (self.latest[family], [self.pointer[e] for e in there], [self.generation[e] for e in there])
+        needs = self.versions_with(1, max(self.reset_root[e] for e in there))
+        page = self.section_page(section)
+        self.stage(Element(self.families[family], self.latest[family], page, record, section, self.written, needs))
 
     def stage_root(self):
         self.latest[1] += 1
         record = (self.latest[1], self.base + self.accepted, [locator for _, locator in self.runs])
-        self.stage(Element("r", self.latest[1], 1, record, 0, (self.latest[0], 0)))
+        needs = [0 if number == 1 else latest for number, latest in enumerate(self.latest)]
+        self.stage(Element("r", self.latest[1], 1, record, None, 0, needs))
         self.root_counts[self.latest[1]] = self.accepted
         return self.latest[1]
 
@@ -221,7 +253,7 @@ class Store:
     def is_persistent(self, element):
         if element.family == "w":
             return element.number in self.persistent_plain
-        return element.number <= self.persistent[FAMILIES.index(element.family)]
+        return element.number <= self.persistent[LETTERS.index(element.family)]
 
     def waiting(self):
         return [e for e in self.elements if not self.is_persistent(e)]
@@ -240,7 +272,7 @@ class Store:
         for height in range(1, max(level.values(), default=0) + 1):
             members = [e for e in waiting if level[e] == height]
             chosen = [e for e in members if e.family == "w"]
-            for family in FAMILIES:
+            for family in self.families:
                 chosen += [e for e in members if e.family == family][-1:]
             rounds.append(chosen)
         chain = []
@@ -274,7 +306,7 @@ class Store:
             if element.family == "w":
                 self.persistent_plain.add(element.number)
             else:
-                self.persistent[FAMILIES.index(element.family)] = element.number
+                self.persistent[LETTERS.index(element.family)] = element.number
         self.round = None
         return self.frontier()
 
@@ -387,14 +419,14 @@ class Store:
 
         def listed(needs):
             found = [e.name for e in waiting if e.family == "w" and needs(e)]
-            for family in FAMILIES:
+            for family in self.families:
                 found += [e.name for e in waiting if e.family == family and needs(e)][-1:]
             return found
 
         return json.dumps({
             "chain": [e.name for e in chain],
             "elements": [{"e": e.name, "needs": listed(e.needs)} for e in waiting],
-            "families": list(FAMILIES),
+            "families": list(self.families),
             "format": 1,
             "persistent": self.persistent,
             "rounds": [[e.name for e in members] for members in rounds],
@@ -406,7 +438,7 @@ def pick(elements):
     plain = [e for e in elements if e.family == "w"]
     if plain:
         return plain[0]
-    for family in FAMILIES:
+    for family in LETTERS:
         versions = [e for e in elements if e.family == family]
         if versions:
             return versions[-1]
