@@ -1,9 +1,8 @@
 //! What gates are told, and when.
-use super::histories::{Prints, are_steps};
-use super::trials::{Calls, Looks, try_on};
-use super::workers::{pilot_steps, put_told, stream_steps};
-use super::{id, new_core};
-use cs_core::Bytes;
+use super::acts::{Act, new_hand, plays};
+use super::histories::are_steps;
+use super::tasks::{Gave, Task, given};
+use super::{Store, Wanted, tries};
 use cs_deps::Refusal;
 use cs_disk::PageDisk;
 use cs_node::*;
@@ -11,21 +10,11 @@ use std::alloc::Global;
 use std::cell::RefCell;
 use std::process::Abort;
 use std::sync::Wait;
-use std::test::*;
-use std::thread::Threads;
 
 /// A gate that keeps what it is told.
 #[derive(Drop)]
 struct Keeps {
     told: RefCell<Vec<Step>>,
-}
-
-impl Keeps {
-    fn new(alloc: Global) -> Self {
-        Keeps {
-            told: RefCell::new(Vec::new(alloc)),
-        }
-    }
 }
 
 impl Gate for Keeps {
@@ -41,73 +30,46 @@ impl Gate for Keeps {
 }
 
 /// More bytes than eight chunks of two pages have.
-fn too_many(alloc: Global) -> Option<Bytes> {
-    let bytes = vec![in alloc; 0u8; 70_000].ok()?;
-    Bytes::new(alloc, bytes).ok()
-}
+const TOO_MANY: usize = 70_000;
 
-/// Puts too many bytes with a gate, which is refused.
-fn put_too_many<D: PageDisk, K: Naming, R: Wait + Abort>(
-    rt: &R,
-    alloc: Global,
-    node: &Node<D, K>,
-    purse: &mut Purse<K>,
-    gate: &Keeps,
-    refusal: Refusal,
-) {
-    let bytes = too_many(alloc).expect(rt, "bytes");
-    let Err(found) = node.put_with(rt, purse, id(12), bytes, gate) else {
-        panic!(rt; "a put of too many bytes")
-    };
-    assert_eq!(rt; found, refusal);
-}
-
-/// Asserts what two turns of a reclaimer do, and one of a reclaimer that has no sweep left.
-fn sweep_told<D: PageDisk, K: Naming, R: Wait + Abort>(rt: &R, node: &Node<D, K>, gate: &Keeps) {
-    let mut reclaimer = Reclaimer::new(1);
-    assert_eq!(rt; reclaimer.turn(rt, node, gate), Ok(Step::BeginSweep));
-    assert_eq!(rt; reclaimer.turn(rt, node, gate), Ok(Step::MoveOne));
-    assert_eq!(rt; Reclaimer::new(0).turn(rt, node, gate), Ok(Step::Idle));
-}
-
-/// Asserts what two turns of the pilot do, and three of a stream behind them.
-fn write_told<D: PageDisk, K: Naming, R: Wait + Abort>(rt: &R, node: &Node<D, K>, gate: &Keeps) {
-    let mut pilot = node.pilot(rt).expect(rt, "the pilot");
-    pilot_steps(rt, node, &mut pilot, gate, &[Step::Begin, Step::Issue]);
-    let mut stream = Stream::new(pilot);
-    stream_steps(
-        rt,
-        node,
-        &mut stream,
-        gate,
-        &[Step::Issue, Step::Issue, Step::End],
-    );
-}
+/// Fills a history of ten events with a gate, and asks for one more: puts, of which one is refused, two turns of a reclaimer, and one of a
+/// reclaimer that has no sweep left, two turns of the pilot, and three of a stream behind them.
+const FILLS_TEN: &[Act] = &[
+    Act::PutTold(10, 1, Ok(1)),
+    Act::KeepTicket,
+    Act::PutTold(11, 1, Ok(2)),
+    Act::KeepTicket,
+    Act::PutTold(12, TOO_MANY, Err(Refusal::TooLarge)),
+    Act::Reclaim(1),
+    Act::Sweep(Ok(Step::BeginSweep)),
+    Act::Sweep(Ok(Step::MoveOne)),
+    Act::Reclaim(0),
+    Act::Sweep(Ok(Step::Idle)),
+    Act::Hire(true),
+    Act::Fly(Step::Begin),
+    Act::Fly(Step::Issue),
+    Act::Stream(Step::Issue),
+    Act::Stream(Step::Issue),
+    Act::Stream(Step::End),
+    Act::PutTold(12, TOO_MANY, Err(Refusal::HistoryFull)),
+];
 
 /// All that the gate is told of, which is the whole history: a refused put is recorded, and a turn with nothing to do isn't.
 const TOLD: &str = "[Put, Put, Put, BeginSweep, MoveOne, Begin, Issue, Issue, Issue, End]";
 
-/// Fills a history of ten events with a gate, and asks for one more.
-#[derive(Drop)]
-struct TellsAll;
-
-impl Calls for TellsAll {
-    fn call<D: PageDisk + Send, K: Naming + Send + Sync, R: Threads + Wait + Abort + Sync>(
-        self,
-        rt: &R,
-        alloc: Global,
-        node: &Node<D, K>,
-        purse: &mut Purse<K>,
-    ) {
-        let gate = Keeps::new(alloc);
-        put_told(rt, alloc, node, purse, 10, &gate);
-        put_told(rt, alloc, node, purse, 11, &gate);
-        put_too_many(rt, alloc, node, purse, &gate, Refusal::TooLarge);
-        sweep_told(rt, node, &gate);
-        write_told(rt, node, &gate);
-        put_too_many(rt, alloc, node, purse, &gate, Refusal::HistoryFull);
-        are_told(rt, alloc, &gate);
-    }
+/// Fills a history with a gate that keeps what it is told.
+pub fn tells_all<D: PageDisk, K: Naming, R: Wait + Abort>(
+    rt: &R,
+    alloc: Global,
+    node: &Node<D, K>,
+) -> Gave<K> {
+    let gate = Keeps {
+        told: RefCell::new(Vec::new(alloc)),
+    };
+    let mut hand = new_hand(rt, alloc, node);
+    plays(rt, node, &mut hand, &gate, FILLS_TEN);
+    are_told(rt, alloc, &gate);
+    given(rt, alloc, hand)
 }
 
 /// Asserts what the gate was told.
@@ -119,12 +81,12 @@ fn are_told<R: Abort>(rt: &R, alloc: Global, gate: &Keeps) {
 }
 
 #[test]
-fn a_gate_is_told_of_all_that_is_recorded(rt: HostRuntime) -> Result<(), Fail> {
-    let core = new_core(rt.alloc(), 10)?;
-    let trial = Looks {
-        calls: TellsAll,
-        look: Prints(TOLD),
-    };
-    try_on(&rt, rt.alloc(), core, trial);
-    Ok(())
+fn a_gate_is_told_of_all_that_is_recorded(rt: HostRuntime) {
+    tries(
+        &rt,
+        rt.alloc(),
+        Store::Small(10),
+        Task::TellsAll,
+        Wanted::Prints(TOLD),
+    );
 }

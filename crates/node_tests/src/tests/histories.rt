@@ -1,11 +1,8 @@
 //! What a history has to be, told by its steps.
-use super::trials::Look;
 use cs_core::{Event, Reply};
-use cs_disk::PageDisk;
-use cs_node::{Naming, Rest, Step};
+use cs_node::Step;
 use std::alloc::Global;
 use std::process::Abort;
-use std::test::*;
 
 /// The event without its fields.
 fn step_of(event: &Event) -> Step {
@@ -40,14 +37,8 @@ pub fn are_steps<R: Abort>(rt: &R, alloc: Global, steps: &[Step], wanted: &str) 
     assert_eq!(rt; text.as_str(), wanted);
 }
 
-/// Asserts how the steps of a node's history print.
-#[derive(Drop)]
-pub struct Prints(pub &'static str);
-
-impl Look for Prints {
-    fn look<D: PageDisk, K: Naming, R: Abort>(self, rt: &R, alloc: Global, rest: &Rest<D, K>) {
-        let Prints(wanted) = self;
-        let steps = steps_of(rt, alloc, rest.core().history());
-        are_steps(rt, alloc, steps.as_slice(), wanted);
-    }
+/// Asserts how the steps of a history print.
+pub fn prints<R: Abort>(rt: &R, alloc: Global, history: &[(Event, Reply)], wanted: &str) {
+    let steps = steps_of(rt, alloc, history);
+    are_steps(rt, alloc, steps.as_slice(), wanted);
 }

@@ -1,16 +1,14 @@
 //! A gate that two threads share: it is told under the lock, in the order of the history.
+use super::acts::{Act, Player, new_hand, plays};
 use super::histories::steps_of;
-use super::rivals::wide_core;
-use super::together::{Gave, Together, run};
-use super::trials::list_of;
-use super::{bytes_of, id};
+use super::tasks::{Ended, Gave, Task, beside};
+use super::{Store, Wanted, tries};
 use cs_disk::PageDisk;
 use cs_node::*;
 use std::alloc::Global;
 use std::process::Abort;
 use std::sync::atomic::{AtomicU64, Ordering};
 use std::sync::{Arc, Wait};
-use std::test::*;
 use std::thread;
 use std::thread::Threads;
 
@@ -47,58 +45,18 @@ fn mixed(before: u64, step: Step) -> u64 {
 }
 
 /// Puts with that gate.
-#[derive(Drop)]
-struct Puts<K: Naming> {
-    purse: Purse<K>,
-    gate: Mixes,
-    alloc: Global,
-}
+const PUTS: &[Act] = &[Act::PutHundred];
 
-impl<D: PageDisk + Send, K: Naming + Send + Sync> Job<Node<D, K>> for Puts<K> {
-    type Out = Purse<K>;
+/// Writes back with that gate.
+const WRITES: &[Act] = &[Act::FlyOften];
 
-    fn run<R: Wait>(self, rt: &R, node: &Node<D, K>) -> Purse<K> {
-        let Puts {
-            mut purse,
-            gate,
-            alloc,
-        } = self;
-        for last in 0..100u8 {
-            if let Some(bytes) = bytes_of(alloc, last)
-                && let Ok(ticket) = node.put_with(rt, &mut purse, id(last), bytes, &gate)
-            {
-                let _ = purse.keep_ticket(ticket);
-            }
-        }
-        purse
-    }
-}
+/// The pilot for it.
+const HIRES: &[Act] = &[Act::Hire(true)];
 
-/// Writes back with that gate, for so many turns that most of them have nothing to do.
-#[derive(Drop)]
-struct Writes<K: Naming> {
-    pilot: Pilot<K>,
-    gate: Mixes,
-}
-
-impl<D: PageDisk + Send, K: Naming + Send + Sync> Job<Node<D, K>> for Writes<K> {
-    type Out = bool;
-
-    fn run<R: Wait>(self, rt: &R, node: &Node<D, K>) -> bool {
-        let Writes { mut pilot, gate } = self;
-        let mut works = true;
-        for _ in 0..20_000 {
-            works = works && pilot.turn(rt, node, &gate).is_ok();
-            thread::yield_now();
-        }
-        works
-    }
-}
-
-/// A gate that mixes into the same number as this one.
-fn another<R: Abort>(rt: &R, gate: &Mixes) -> Mixes {
+/// A gate that mixes into this number.
+fn mixing<R: Abort>(rt: &R, told: &Arc<AtomicU64, Global>) -> Mixes {
     Mixes {
-        told: Arc::try_clone(&gate.told).expect(rt, "a gate"),
+        told: Arc::try_clone(told).expect(rt, "a gate"),
     }
 }
 
@@ -111,34 +69,33 @@ pub fn tell_beside<D: PageDisk + Send, K: Naming + Send + Sync, R: Threads + Wai
     let Ok(told) = Arc::new(alloc, AtomicU64::new(0)) else {
         panic!(rt; "a number")
     };
-    let gate = Mixes { told };
-    let puts = Puts {
-        purse: node.purse(rt, alloc).expect(rt, "a purse"),
-        gate: another(rt, &gate),
-        alloc,
+    let mut hand = new_hand(rt, alloc, node);
+    plays(rt, node, &mut hand, &Open, HIRES);
+    let writes = Player {
+        hand,
+        gate: mixing(rt, &told),
+        acts: WRITES,
     };
-    let writes = Writes {
-        pilot: node.pilot(rt).expect(rt, "the pilot"),
-        gate: another(rt, &gate),
+    let puts = Player {
+        hand: new_hand(rt, alloc, node),
+        gate: mixing(rt, &told),
+        acts: PUTS,
     };
-    let (purse, works) = node.beside(rt, puts, writes);
-    assert!(rt; works);
-    Gave {
-        purses: list_of(rt, alloc, purse),
-        number: gate.told.load(Ordering::SeqCst),
+    let mut gave = beside(rt, alloc, node, puts, writes);
+    gave.number = told.load(Ordering::SeqCst);
+    gave
+}
+
+/// Asserts that what the gate was told is the history.
+pub fn are_told_in_order<R: Abort>(rt: &R, alloc: Global, ended: &Ended) {
+    let mut told = 0;
+    for step in steps_of(rt, alloc, ended.history.as_slice()) {
+        told = mixed(told, step);
     }
+    assert!(rt; ended.number == told);
 }
 
 #[test]
-fn a_gate_is_told_by_two_threads_in_the_order_of_the_history(rt: HostRuntime) -> Result<(), Fail> {
-    let end = run(&rt, rt.alloc(), wide_core(rt.alloc())?, Together::Orders);
-    let Ok(ended) = end else {
-        panic!(&rt; "a close")
-    };
-    let mut told = 0;
-    for step in steps_of(&rt, rt.alloc(), ended.history.as_slice()) {
-        told = mixed(told, step);
-    }
-    assert_eq!(rt; ended.number, told);
-    Ok(())
+fn a_gate_is_told_by_two_threads_in_the_order_of_the_history(rt: HostRuntime) {
+    tries(&rt, rt.alloc(), Store::Wide, Task::Orders, Wanted::InOrder);
 }

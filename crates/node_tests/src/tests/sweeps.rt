@@ -1,146 +1,105 @@
 //! Sweeps by one reclaimer, turn by turn and to their end.
-use super::trials::{Calls, Lends, Look, Looks, try_on};
-use super::workers::{Counts, pilot_steps};
-use super::{new_core, put_two};
-use cs_core::Event;
-use cs_disk::PageDisk;
-use cs_node::*;
-use std::alloc::Global;
+use super::acts::Act;
+use super::tasks::Task;
+use super::{Store, Wanted, tries};
+use cs_core::{Event, Reply};
+use cs_node::Step;
 use std::process::Abort;
-use std::sync::Wait;
-use std::test::*;
-use std::thread::Threads;
 
-/// One whole sweep of an extent with two shards.
-fn sweep_two<D: PageDisk, K: Naming, R: Wait + Abort>(
-    rt: &R,
-    node: &Node<D, K>,
-    reclaimer: &mut Reclaimer<K>,
-) {
-    assert_eq!(rt; reclaimer.turn(rt, node, &Open), Ok(Step::BeginSweep));
-    assert_eq!(rt; reclaimer.turn(rt, node, &Open), Ok(Step::MoveOne));
-    assert_eq!(rt; reclaimer.turn(rt, node, &Open), Ok(Step::MoveOne));
-    assert_eq!(rt; reclaimer.turn(rt, node, &Open), Ok(Step::MoveOne));
-    assert_eq!(rt; reclaimer.turn(rt, node, &Open), Ok(Step::Retire));
-}
-
-/// Puts two shards, makes so many sweeps, and then has nothing to do.
-fn sweep<D: PageDisk, K: Naming, R: Wait + Abort>(
-    rt: &R,
-    alloc: Global,
-    node: &Node<D, K>,
-    purse: &mut Purse<K>,
-    sweeps: u32,
-) {
-    put_two(rt, alloc, node, purse);
-    let mut reclaimer = Reclaimer::new(sweeps);
-    for _ in 0..sweeps {
-        sweep_two(rt, node, &mut reclaimer);
-    }
-    assert_eq!(rt; reclaimer.turn(rt, node, &Open), Ok(Step::Idle));
-}
-
-/// A sweep, and the two first turns of the pilot.
-#[derive(Drop)]
-struct TakesTurns;
-
-impl Calls for TakesTurns {
-    fn call<D: PageDisk + Send, K: Naming + Send + Sync, R: Threads + Wait + Abort + Sync>(
-        self,
-        rt: &R,
-        alloc: Global,
-        node: &Node<D, K>,
-        purse: &mut Purse<K>,
-    ) {
-        sweep(rt, alloc, node, purse, 1);
-        let mut pilot = node.pilot(rt).expect(rt, "the pilot");
-        pilot_steps(rt, node, &mut pilot, &Open, &[Step::Begin, Step::Issue]);
-    }
-}
+/// A sweep of an extent with two shards, and the two first turns of the pilot.
+const TAKES_TURNS: &[Act] = &[
+    Act::Put(10, Ok(1)),
+    Act::KeepTicket,
+    Act::Put(11, Ok(2)),
+    Act::KeepTicket,
+    Act::Reclaim(1),
+    Act::Sweep(Ok(Step::BeginSweep)),
+    Act::Sweep(Ok(Step::MoveOne)),
+    Act::Sweep(Ok(Step::MoveOne)),
+    Act::Sweep(Ok(Step::MoveOne)),
+    Act::Sweep(Ok(Step::Retire)),
+    Act::Sweep(Ok(Step::Idle)),
+    Act::Hire(true),
+    Act::Fly(Step::Begin),
+    Act::Fly(Step::Issue),
+];
 
 #[test]
-fn workers_take_turns(rt: HostRuntime) -> Result<(), Fail> {
-    let core = new_core(rt.alloc(), 64)?;
-    try_on(&rt, rt.alloc(), core, Lends { calls: TakesTurns });
-    Ok(())
+fn workers_take_turns(rt: HostRuntime) {
+    tries(
+        &rt,
+        rt.alloc(),
+        Store::Small(64),
+        Task::Plays(TAKES_TURNS),
+        Wanted::Counts(2, 0),
+    );
 }
 
+/// Two sweeps, the second of the extent to which the first moved the two shards.
+const SWEEPS_TWICE: &[Act] = &[
+    Act::Put(10, Ok(1)),
+    Act::KeepTicket,
+    Act::Put(11, Ok(2)),
+    Act::KeepTicket,
+    Act::Reclaim(2),
+    Act::Sweep(Ok(Step::BeginSweep)),
+    Act::Sweep(Ok(Step::MoveOne)),
+    Act::Sweep(Ok(Step::MoveOne)),
+    Act::Sweep(Ok(Step::MoveOne)),
+    Act::Sweep(Ok(Step::Retire)),
+    Act::Sweep(Ok(Step::BeginSweep)),
+    Act::Sweep(Ok(Step::MoveOne)),
+    Act::Sweep(Ok(Step::MoveOne)),
+    Act::Sweep(Ok(Step::MoveOne)),
+    Act::Sweep(Ok(Step::Retire)),
+    Act::Sweep(Ok(Step::Idle)),
+];
+
 /// Whether the event at this place begins a sweep of this extent.
-fn began<D: PageDisk, K: Naming>(rest: &Rest<D, K>, place: usize, extent: usize) -> bool {
-    match rest.core().history().get(place) {
+fn began(history: &[(Event, Reply)], place: usize, extent: usize) -> bool {
+    match history.get(place) {
         Some(entry) => matches!(&entry.0, Event::BeginSweep(swept) if *swept == extent),
         None => false,
     }
 }
 
-/// Sweeps twice.
-#[derive(Drop)]
-struct SweepsTwice;
-
-impl Calls for SweepsTwice {
-    fn call<D: PageDisk + Send, K: Naming + Send + Sync, R: Threads + Wait + Abort + Sync>(
-        self,
-        rt: &R,
-        alloc: Global,
-        node: &Node<D, K>,
-        purse: &mut Purse<K>,
-    ) {
-        sweep(rt, alloc, node, purse, 2);
-    }
-}
-
 /// Asserts what was swept by two sweeps.
-#[derive(Drop)]
-struct BothExtents;
-
-impl Look for BothExtents {
-    fn look<D: PageDisk, K: Naming, R: Abort>(self, rt: &R, _alloc: Global, rest: &Rest<D, K>) {
-        assert!(rt; began(rest, 2, 0));
-        assert!(rt; began(rest, 7, 1));
-    }
+pub fn are_both_swept<R: Abort>(rt: &R, history: &[(Event, Reply)]) {
+    assert!(rt; began(history, 2, 0));
+    assert!(rt; began(history, 7, 1));
 }
 
 #[test]
-fn a_second_sweep_is_of_the_next_extent(rt: HostRuntime) -> Result<(), Fail> {
-    let core = new_core(rt.alloc(), 64)?;
-    let trial = Looks {
-        calls: SweepsTwice,
-        look: BothExtents,
-    };
-    try_on(&rt, rt.alloc(), core, trial);
-    Ok(())
-}
-
-/// Runs until two sweeps are done.
-#[derive(Drop)]
-struct RunsTwoSweeps;
-
-impl Calls for RunsTwoSweeps {
-    fn call<D: PageDisk + Send, K: Naming + Send + Sync, R: Threads + Wait + Abort + Sync>(
-        self,
-        rt: &R,
-        alloc: Global,
-        node: &Node<D, K>,
-        purse: &mut Purse<K>,
-    ) {
-        put_two(rt, alloc, node, purse);
-        let gate = Counts::new(64);
-        let mut reclaimer = Reclaimer::new(2);
-        assert!(rt; reclaimer.run(rt, node, &gate).is_ok());
-        gate.are_left(rt, 54, 10);
-    }
-}
-
-#[test]
-fn a_reclaimer_runs_until_its_sweeps_are_done(rt: HostRuntime) -> Result<(), Fail> {
-    let core = new_core(rt.alloc(), 64)?;
-    try_on(
+fn a_second_sweep_is_of_the_next_extent(rt: HostRuntime) {
+    tries(
         &rt,
         rt.alloc(),
-        core,
-        Lends {
-            calls: RunsTwoSweeps,
-        },
+        Store::Small(64),
+        Task::Plays(SWEEPS_TWICE),
+        Wanted::BothExtents,
     );
-    Ok(())
+}
+
+/// Puts two shards, for two sweeps.
+const PUTS_TWO: &[Act] = &[
+    Act::Put(10, Ok(1)),
+    Act::KeepTicket,
+    Act::Put(11, Ok(2)),
+    Act::KeepTicket,
+    Act::Reclaim(2),
+];
+
+/// Runs until two sweeps are done.
+const RUNS: &[Act] = &[Act::RunReclaimer(None)];
+
+#[test]
+fn a_reclaimer_runs_until_its_sweeps_are_done(rt: HostRuntime) {
+    let task = Task::Counts(64, PUTS_TWO, 0, RUNS, 54, 10);
+    tries(
+        &rt,
+        rt.alloc(),
+        Store::Small(64),
+        task,
+        Wanted::Counts(2, 0),
+    );
 }

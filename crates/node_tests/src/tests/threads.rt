@@ -1,14 +1,13 @@
 //! Two threads on one node, each of which waits for the other at most a bounded number of loads.
-use super::together::{Ended, Together, run};
-use super::{bytes_of, id, new_core, put, sync};
-use cs_core::Bytes;
+use super::acts::{Act, Hand, Player, new_hand, plays};
+use super::tasks::{Gave, Task, abreast, beside, nothing};
+use super::{Store, Wanted, tries};
 use cs_disk::PageDisk;
 use cs_node::*;
 use std::alloc::{AllocError, Global};
 use std::process::Abort;
 use std::sync::atomic::{AtomicU64, Ordering};
 use std::sync::{Arc, Wait};
-use std::test::*;
 use std::thread::Threads;
 
 /// How often a flag is loaded at most.
@@ -16,16 +15,16 @@ const LOADS: u64 = 2_000_000_000;
 
 /// What two threads tell each other.
 #[derive(Drop)]
-struct Flags {
+pub struct Flags {
     // the gate was reached
-    reached: AtomicU64,
+    pub reached: AtomicU64,
     // the other thread was answered
-    answered: AtomicU64,
+    pub answered: AtomicU64,
     // the gate saw that
     seen: AtomicU64,
 }
 
-type Signals = Arc<Flags, Global>;
+pub type Signals = Arc<Flags, Global>;
 
 fn signals(alloc: Global) -> Result<Signals, AllocError> {
     let flags = Flags {
@@ -39,25 +38,13 @@ fn signals(alloc: Global) -> Result<Signals, AllocError> {
     }
 }
 
-/// What two threads share, and who looks at it then.
-#[derive(Drop)]
-struct Shared {
-    signals: Signals,
-    of_first: Signals,
-    of_second: Signals,
-}
-
-fn new_shared(alloc: Global) -> Result<Shared, AllocError> {
-    let signals = signals(alloc)?;
-    Ok(Shared {
-        of_first: Arc::try_clone(&signals)?,
-        of_second: Arc::try_clone(&signals)?,
-        signals,
-    })
+/// The same signals for one more.
+fn another<R: Abort>(rt: &R, signals: &Signals) -> Signals {
+    Arc::try_clone(signals).expect(rt, "signals")
 }
 
 /// Whether the flag was raised within so many loads.
-fn is_raised(flag: &AtomicU64) -> bool {
+pub fn is_raised(flag: &AtomicU64) -> bool {
     for _ in 0..LOADS {
         if flag.load(Ordering::SeqCst) == 1 {
             return true;
@@ -94,100 +81,73 @@ impl Gate for KeepsPut {
     }
 }
 
-/// Puts with that gate.
-#[derive(Drop)]
-struct Puts<K: Naming> {
-    purse: Purse<K>,
-    bytes: Bytes,
-    gate: KeepsPut,
-}
+/// Puts, and syncs.
+const PUT_AND_SYNC: &[Act] = &[
+    Act::Put(10, Ok(1)),
+    Act::Hire(true),
+    Act::Hire(false),
+    Act::Sync(Ok(1)),
+];
 
-impl<D: PageDisk + Send, K: Naming + Send + Sync> Job<Node<D, K>> for Puts<K> {
-    type Out = Option<Ticket<K>>;
-
-    fn run<R: Wait>(self, rt: &R, node: &Node<D, K>) -> Option<Ticket<K>> {
-        let Puts {
-            mut purse,
-            bytes,
-            gate,
-        } = self;
-        node.put_with(rt, &mut purse, id(11), bytes, &gate).ok()
-    }
-}
+/// Puts with the gate.
+const PUTS: &[Act] = &[Act::PutTold(11, 1, Ok(2))];
 
 /// Polls once the gate was reached.
-#[derive(Drop)]
-struct Polls<K: Naming> {
-    purse: Purse<K>,
-    ticket: Ticket<K>,
-    signals: Signals,
-}
-
-impl<D: PageDisk + Send, K: Naming + Send + Sync> Job<Node<D, K>> for Polls<K> {
-    type Out = Polled<K>;
-
-    fn run<R: Wait>(self, _rt: &R, node: &Node<D, K>) -> Polled<K> {
-        let Polls {
-            mut purse,
-            ticket,
-            signals,
-        } = self;
-        let _ = is_raised(&signals.reached);
-        let polled = purse.poll(node, ticket);
-        signals.answered.store(1, Ordering::SeqCst);
-        polled
-    }
-}
+const POLLS: &[Act] = &[Act::Await, Act::Poll(None), Act::Tell, Act::KeepAck(1)];
 
 /// Puts beside a poll that waits until the put has the lock.
 pub fn polls_beside_a_put<
     D: PageDisk + Send,
     K: Naming + Send + Sync,
     R: Threads + Wait + Abort + Sync,
->(rt: &R, alloc: Global, node: &Node<D, K>) {
-    let Shared {
-        signals,
-        of_first,
-        of_second,
-    } = new_shared(alloc).expect(rt, "signals");
-    let mut first = node.purse(rt, alloc).expect(rt, "a purse");
-    let ticket = put(rt, alloc, node, &mut first, 10).expect(rt, "a put");
-    sync(rt, node, 1);
-    let puts = Puts {
-        purse: first,
-        bytes: bytes_of(alloc, 7).expect(rt, "bytes"),
-        gate: KeepsPut { signals: of_first },
+>(rt: &R, alloc: Global, node: &Node<D, K>) -> Gave<K> {
+    let signals = signals(alloc).expect(rt, "signals");
+    let mut first = new_hand(rt, alloc, node);
+    plays(rt, node, &mut first, &Open, PUT_AND_SYNC);
+    let mut second = new_hand(rt, alloc, node);
+    second.ticket = first.ticket.take();
+    let puts = Player {
+        hand: first,
+        gate: KeepsPut {
+            signals: another(rt, &signals),
+        },
+        acts: PUTS,
     };
-    let polls = Polls {
-        purse: node.purse(rt, alloc).expect(rt, "a purse"),
-        ticket,
-        signals: of_second,
-    };
-    let (put, polled) = node.beside(rt, puts, polls);
-    is_second(rt, put);
-    let Polled::Done(ack) = polled else {
-        panic!(rt; "a poll beside")
-    };
-    assert_eq!(rt; ack.number(), 1);
-    assert_eq!(rt; signals.seen.load(Ordering::SeqCst), 1);
+    let polls = signalled(rt, second, &signals, POLLS);
+    let gave = beside(rt, alloc, node, puts, polls);
+    was_seen(rt, &signals);
+    gave
 }
 
-/// Asserts that this is the ticket of the second command.
-fn is_second<K: Naming, R: Abort>(rt: &R, put: Option<Ticket<K>>) {
-    let ticket = put.expect(rt, "a put beside");
-    assert_eq!(rt; ticket.number(), 2);
+/// A hand that does these acts in a thread, with the signals.
+fn signalled<K: Naming, R: Abort>(
+    rt: &R,
+    mut hand: Hand<K>,
+    signals: &Signals,
+    acts: &'static [Act],
+) -> Player<K, Open> {
+    hand.signals = Some(another(rt, signals));
+    Player {
+        hand,
+        gate: Open,
+        acts,
+    }
+}
+
+/// Asserts that the gate saw the other thread answered.
+fn was_seen<R: Abort>(rt: &R, signals: &Signals) {
+    assert!(rt; signals.seen.load(Ordering::SeqCst) == 1);
 }
 
 #[test]
-fn a_poll_answers_while_a_put_has_the_lock(rt: HostRuntime) -> Result<(), Fail> {
-    let end = run(
+fn a_poll_answers_while_a_put_has_the_lock(rt: HostRuntime) {
+    tries(
         &rt,
         rt.alloc(),
-        new_core(rt.alloc(), 64)?,
-        Together::PollsBesideAPut,
+        Store::Small(64),
+        Task::PollsBesideAPut,
+        Wanted::Unclosed,
     );
-    assert!(rt; end.is_err());
-    Ok(())
 }
 
 /// A gate that keeps a pilot between Begin and End, without the lock.
@@ -221,158 +181,114 @@ impl Gate for KeepsPilot {
 }
 
 /// Flies with that gate.
-#[derive(Drop)]
-struct Flies<K: Naming> {
-    pilot: Pilot<K>,
-    gate: KeepsPilot,
-}
+const FLIES: &[Act] = &[Act::RunPilot(None)];
 
-impl<D: PageDisk + Send, K: Naming + Send + Sync> Job<Node<D, K>> for Flies<K> {
-    type Out = bool;
-
-    fn run<R: Wait>(self, rt: &R, node: &Node<D, K>) -> bool {
-        let Flies { mut pilot, gate } = self;
-        pilot.run(rt, node, &gate).is_ok()
-    }
-}
+/// Puts, and has the pilot then.
+const PUT_AND_HIRE: &[Act] = &[Act::Put(10, Ok(1)), Act::Hire(true)];
 
 /// Puts once the gate was reached.
-#[derive(Drop)]
-struct PutsThen<K: Naming> {
-    purse: Purse<K>,
-    bytes: Bytes,
-    signals: Signals,
-}
-
-impl<D: PageDisk + Send, K: Naming + Send + Sync> Job<Node<D, K>> for PutsThen<K> {
-    type Out = Option<Ticket<K>>;
-
-    fn run<R: Wait>(self, rt: &R, node: &Node<D, K>) -> Option<Ticket<K>> {
-        let PutsThen {
-            mut purse,
-            bytes,
-            signals,
-        } = self;
-        let _ = is_raised(&signals.reached);
-        let ticket = node.put(rt, &mut purse, id(11), bytes).ok();
-        signals.answered.store(1, Ordering::SeqCst);
-        ticket
-    }
-}
+const PUTS_THEN: &[Act] = &[Act::Await, Act::Put(11, Ok(2)), Act::Tell];
 
 /// Flies beside a put that waits until a round is out.
 pub fn puts_beside_a_round<
     D: PageDisk + Send,
     K: Naming + Send + Sync,
     R: Threads + Wait + Abort + Sync,
->(rt: &R, alloc: Global, node: &Node<D, K>) {
-    let Shared {
-        signals,
-        of_first,
-        of_second,
-    } = new_shared(alloc).expect(rt, "signals");
-    let mut purse = node.purse(rt, alloc).expect(rt, "a purse");
-    assert!(rt; put(rt, alloc, node, &mut purse, 10).is_some());
-    let flies = Flies {
-        pilot: node.pilot(rt).expect(rt, "the pilot"),
+>(rt: &R, alloc: Global, node: &Node<D, K>) -> Gave<K> {
+    let signals = signals(alloc).expect(rt, "signals");
+    let mut first = new_hand(rt, alloc, node);
+    plays(rt, node, &mut first, &Open, PUT_AND_HIRE);
+    let flies = Player {
+        hand: first,
         gate: KeepsPilot {
-            signals: of_first,
+            signals: another(rt, &signals),
             began: AtomicU64::new(0),
             ended: AtomicU64::new(0),
         },
+        acts: FLIES,
     };
-    let puts = PutsThen {
-        purse,
-        bytes: bytes_of(alloc, 7).expect(rt, "bytes"),
-        signals: of_second,
-    };
-    let (flew, put) = node.beside(rt, flies, puts);
-    assert!(rt; flew);
-    is_second(rt, put);
-    assert_eq!(rt; signals.seen.load(Ordering::SeqCst), 1);
+    let puts = signalled(rt, new_hand(rt, alloc, node), &signals, PUTS_THEN);
+    let gave = beside(rt, alloc, node, flies, puts);
+    was_seen(rt, &signals);
+    gave
 }
 
 #[test]
-fn a_put_answers_while_a_round_is_out(rt: HostRuntime) -> Result<(), Fail> {
-    let end = run(
+fn a_put_answers_while_a_round_is_out(rt: HostRuntime) {
+    tries(
         &rt,
         rt.alloc(),
-        new_core(rt.alloc(), 64)?,
-        Together::PutsBesideARound,
+        Store::Small(64),
+        Task::PutsBesideARound,
+        Wanted::Unclosed,
     );
-    assert!(rt; end.is_err());
-    Ok(())
 }
 
-/// Puts and sends the tickets off, or takes them in.
-#[derive(Drop)]
-pub enum Rides<K: Naming> {
-    In(Purse<K>, Ramp<K>, u8, Global),
-    Out(Purse<K>, Dock<K>),
-}
+/// Puts two shards, and sends their tickets off.
+const FIRST_RIDES: &[Act] = &[
+    Act::PutAny(10),
+    Act::Carry,
+    Act::PutAny(11),
+    Act::Carry,
+    Act::EndRamp,
+];
 
-impl<D: PageDisk + Send, K: Naming + Send + Sync> Job<Node<D, K>> for Rides<K> {
-    type Out = Purse<K>;
+/// The same of two others.
+const SECOND_RIDES: &[Act] = &[
+    Act::PutAny(20),
+    Act::Carry,
+    Act::PutAny(21),
+    Act::Carry,
+    Act::EndRamp,
+];
 
-    fn run<R: Wait>(self, rt: &R, node: &Node<D, K>) -> Purse<K> {
-        match self {
-            Rides::In(purse, ramp, last, alloc) => sends(rt, alloc, node, purse, ramp, last),
-            Rides::Out(purse, dock) => takes(rt, purse, dock),
-        }
-    }
-}
-
-/// Puts two shards under the identifiers from this byte on, and sends their tickets off.
-fn sends<D: PageDisk, K: Naming, R: Wait>(
-    rt: &R,
-    alloc: Global,
-    node: &Node<D, K>,
-    mut purse: Purse<K>,
-    ramp: Ramp<K>,
-    last: u8,
-) -> Purse<K> {
-    for byte in [last, last | 1] {
-        if let Some(ticket) = put(rt, alloc, node, &mut purse, byte) {
-            let _ = ramp.carry(rt, ticket);
-        }
-    }
-    purse
-}
-
-/// Keeps all tickets that come.
-fn takes<K: Naming, R: Wait>(rt: &R, mut purse: Purse<K>, dock: Dock<K>) -> Purse<K> {
-    for _ in rt.forever() {
-        let Some(ticket) = dock.next(rt) else {
-            break;
-        };
-        let _ = purse.keep_ticket(ticket);
-    }
-    purse
-}
+/// Takes the tickets in.
+const TAKES: &[Act] = &[Act::TakeAll];
 
 /// Two threads that put and send, and one that takes.
-pub fn new_rides<D: PageDisk, K: Naming, R: Wait + Abort>(
+pub fn rides<D: PageDisk + Send, K: Naming + Send + Sync, R: Threads + Wait + Abort + Sync>(
     rt: &R,
     alloc: Global,
     node: &Node<D, K>,
-) -> Vec<Rides<K>> {
+) -> Gave<K> {
     let (ramp, dock) = ferry(alloc, 1).expect(rt, "a ferry");
-    let other = ramp.another().expect(rt, "a ramp");
-    let first = node.purse(rt, alloc).expect(rt, "a purse");
-    let second = node.purse(rt, alloc).expect(rt, "a purse");
-    let third = node.purse(rt, alloc).expect(rt, "a purse");
     let mut rides = Vec::new(alloc);
-    assert!(rt; rides.push(Rides::In(first, ramp, 10, alloc)).is_ok());
-    assert!(rt; rides.push(Rides::In(second, other, 20, alloc)).is_ok());
-    assert!(rt; rides.push(Rides::Out(third, dock)).is_ok());
-    rides
+    let mut hand = new_hand(rt, alloc, node);
+    hand.ramp = Some(ramp.another().expect(rt, "a ramp"));
+    add(rt, &mut rides, hand, FIRST_RIDES);
+    let mut hand = new_hand(rt, alloc, node);
+    hand.ramp = Some(ramp);
+    add(rt, &mut rides, hand, SECOND_RIDES);
+    let mut hand = new_hand(rt, alloc, node);
+    hand.dock = Some(dock);
+    add(rt, &mut rides, hand, TAKES);
+    abreast(rt, alloc, node, rides)
+}
+
+/// One hand more that does acts in a thread.
+pub fn add<K: Naming, R: Abort>(
+    rt: &R,
+    plays: &mut Vec<Player<K, Open>>,
+    hand: Hand<K>,
+    acts: &'static [Act],
+) {
+    let more = Player {
+        hand,
+        gate: Open,
+        acts,
+    };
+    assert!(rt; plays.push(more).is_ok());
 }
 
 #[test]
-fn two_ramps_lead_to_one_dock(rt: HostRuntime) -> Result<(), Fail> {
-    let end = run(&rt, rt.alloc(), new_core(rt.alloc(), 64)?, Together::Rides);
-    assert!(rt; matches!(end, Ok(Ended { accepted: 4, .. })));
-    Ok(())
+fn two_ramps_lead_to_one_dock(rt: HostRuntime) {
+    tries(
+        &rt,
+        rt.alloc(),
+        Store::Small(64),
+        Task::Rides,
+        Wanted::Counts(4, 0),
+    );
 }
 
 /// Gives its number.
@@ -388,38 +304,37 @@ impl<N> Job<N> for Numbered {
     }
 }
 
-/// Asserts that jobs give what they gave in their order.
+/// Asserts that jobs give what they gave in their order. No purse is given back.
 pub fn numbers_in_order<
     D: PageDisk + Send,
     K: Naming + Send + Sync,
     R: Threads + Wait + Abort + Sync,
->(rt: &R, alloc: Global, node: &Node<D, K>) {
+>(rt: &R, alloc: Global, node: &Node<D, K>) -> Gave<K> {
+    let jobs = three(rt, alloc);
+    let numbers = node.abreast(rt, jobs).expect(rt, "numbers");
+    assert!(rt; numbers.as_slice() == [1, 2, 3].as_slice());
+    let (fourth, fifth) = node.beside(rt, Numbered(4), Numbered(5));
+    assert!(rt; fourth == 4);
+    assert!(rt; fifth == 5);
+    nothing(alloc)
+}
+
+/// Jobs that give 1, 2 and 3.
+fn three<R: Abort>(rt: &R, alloc: Global) -> Vec<Numbered> {
     let mut jobs = Vec::new(alloc);
     for number in 1..4 {
         assert!(rt; jobs.push(Numbered(number)).is_ok());
     }
-    let numbers = node.abreast(rt, jobs).expect(rt, "numbers");
-    assert_eq!(rt; numbers.as_slice(), [1, 2, 3].as_slice());
-    assert_eq!(rt; node.beside(rt, Numbered(4), Numbered(5)), (4, 5));
+    jobs
 }
 
 #[test]
-fn jobs_answer_in_their_order(rt: HostRuntime) -> Result<(), Fail> {
-    let end = run(
+fn jobs_answer_in_their_order(rt: HostRuntime) {
+    tries(
         &rt,
         rt.alloc(),
-        new_core(rt.alloc(), 64)?,
-        Together::Numbers,
+        Store::Small(64),
+        Task::Numbers,
+        Wanted::Counts(0, 0),
     );
-    assert!(rt;
-        matches!(
-            end,
-            Ok(Ended {
-                accepted: 0,
-                acknowledged: 0,
-                ..
-            })
-        )
-    );
-    Ok(())
 }
