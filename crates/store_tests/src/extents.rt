@@ -1,7 +1,8 @@
 //! The worked rows of allocation, and each public function once.
-ghost use Rattle.std.specs.Prelude.{◌+◌, ◌^◌, ◌<◌};
+ghost use Rattle.std.specs.Prelude.{◌^◌, ◌<◌};
 
-use crate::stores::{Store, let_go, new_store};
+use crate::stores::{Store, new_store, plays};
+use crate::texts::{text_of, words_of};
 use cs_deps::{Dependency, Element, Refusal};
 use cs_extent::{Extents, Purpose};
 use cs_frame::{Locator, decode_superblock};
@@ -23,10 +24,20 @@ fn append(
     store.extents.append(&mut store.graph, frame, purpose)
 }
 
-/// Appends a frame of one page, and tells the page of the device that its plain write goes to.
-fn page_of(rt: &impl Abort, store: &mut Store, purpose: Purpose) -> Result<Option<u64>, Refusal> {
-    append(rt, store, &[[7; 4096]], purpose)?;
-    Ok(last_page(store))
+/// Appends a frame, and tells its extent, its page and its generation, and the page of the device that its last plain write goes to.
+fn place_of(
+    rt: &impl Abort,
+    store: &mut Store,
+    frame: &[[u8; 4096]],
+    purpose: Purpose,
+) -> Result<((u16, u16, u32), Option<u64>), Refusal> {
+    match append(rt, store, frame, purpose) {
+        Ok((place, _)) => Ok((
+            (place.extent, place.page, place.generation),
+            last_page(store),
+        )),
+        Err(refusal) => Err(refusal),
+    }
 }
 
 /// The page of the device that the last plain write goes to.
@@ -37,12 +48,11 @@ fn last_page(store: &Store) -> Option<u64> {
 }
 
 /// Stages the next version of the root.
-fn stage_root(rt: &impl Abort, alloc: Global, store: &mut Store) {
+fn stage_root(rt: &impl Abort, alloc: Global, store: &mut Store) -> Result<u64, Refusal> {
     let families = store.graph.families();
     assert!(rt; 1 < families);
     let needs = Dependency::none(alloc);
-    let staged = store.graph.stage_version(1, 1, &[0; 4096], needs);
-    assert!(rt; staged.is_ok());
+    store.graph.stage_version(1, 1, &[0; 4096], needs)
 }
 
 /// Empties an extent.
@@ -58,158 +68,129 @@ fn reset(rt: &impl Abort, store: &mut Store, extent: usize, root: u64) -> Result
     store.extents.reset(extent, root)
 }
 
-/// Makes room for frames.
-fn reserve(rt: &impl Abort, store: &mut Store, frames: usize, pages: usize)
-    requires { frames + pages < 2 ^ 64 }
-{
-    let reserved = store.extents.reserve(&mut store.graph, frames, pages);
-    assert!(rt; reserved.is_ok());
+/// Makes room for a frame of two pages.
+fn reserve(store: &mut Store) -> bool {
+    store.extents.reserve(&mut store.graph, 1, 2).is_ok()
 }
 
-/// The last version of the superblock that was staged.
-fn last_superblock(rt: &impl Abort, store: &Store) -> Element {
-    let families = store.graph.families();
-    assert!(rt; 0 < families);
-    Element::Version(0, store.graph.last_version(0))
+/// Whether the superblock that an append stages is named by what it answers.
+fn names_superblock(rt: &impl Abort, store: &mut Store) -> bool {
+    let (_, superblock) = append(rt, store, &[[7; 4096], [8; 4096]], Purpose::Put).expect(
+        rt, "a place",
+    );
+    superblock.names(Element::Version(0, 2))
 }
 
-/// Whether an element waits and needs another.
-fn needs(rt: &impl Abort, store: &Store, element: Element, other: Element) -> bool {
-    match store.graph.needs_of(element).expect(rt, "memory") {
-        Some(needs) => needs.names(other),
-        None => false,
-    }
-}
-
-/// Asserts that a frame of one page goes to this page of the device.
-fn goes_to(rt: &impl Abort, store: &mut Store, purpose: Purpose, page: u64) {
-    assert_eq!(rt; page_of(rt, store, purpose), Ok(Some(page)));
-}
-
-/// Asserts that there is no room for a frame of one page.
-fn is_full(rt: &impl Abort, store: &mut Store, purpose: Purpose) {
-    assert_eq!(rt; page_of(rt, store, purpose), Err(Refusal::Full));
-}
-
-/// Asserts that a frame of one page fits for a put, and neither two of them nor one of two pages.
-fn fits_one(rt: &impl Abort, store: &Store) {
+/// Whether a frame of one page fits for a put, whether two of them do, and whether one of two pages does.
+fn fits(rt: &impl Abort, store: &Store) -> (bool, bool, bool) {
     let pages = store.extents.extent_pages();
-    assert_eq!(rt; pages, 2);
-    assert!(rt; store.extents.fits(&[1], Purpose::Put));
-    assert!(rt; !store.extents.fits(&[1, 1], Purpose::Put));
-    assert!(rt; !store.extents.fits(&[2], Purpose::Put));
+    assert!(rt; pages == 2);
+    (
+        store.extents.fits(&[1], Purpose::Put),
+        store.extents.fits(&[1, 1], Purpose::Put),
+        store.extents.fits(&[2], Purpose::Put),
+    )
 }
 
-#[test]
-fn frames_fill_the_extents(rt: HostRuntime) {
-    let mut store = new_store(&rt, rt.alloc());
-    for page in 2..9 {
-        goes_to(&rt, &mut store, Purpose::Put, page);
-    }
-    fits_one(&rt, &store);
-    goes_to(&rt, &mut store, Purpose::Put, 9);
-    is_full(&rt, &mut store, Purpose::Put);
-    goes_to(&rt, &mut store, Purpose::Run, 10);
-    goes_to(&rt, &mut store, Purpose::Run, 11);
-    is_full(&rt, &mut store, Purpose::Run);
-    goes_to(&rt, &mut store, Purpose::Move, 12);
-    goes_to(&rt, &mut store, Purpose::Move, 13);
-    is_full(&rt, &mut store, Purpose::Move);
-    let_go(store);
-}
-
-/// Asserts that the first extent is empty again, in its next generation.
-fn is_emptied(rt: &impl Abort, store: &Store) {
+/// How many extents there are and how many of them are empty, and the pointer and the generation of an extent.
+fn state(rt: &impl Abort, store: &Store, extent: usize) -> ((usize, usize), (usize, u32)) {
     let count = store.extents.extent_count();
-    assert_eq!(rt; count, 6);
-    assert_eq!(rt; store.extents.pointer(0), 0);
-    assert_eq!(rt; store.extents.generation(0), 1);
-    assert_eq!(rt; store.extents.empty_count(), 5);
+    assert!(rt; extent < count);
+    let pointer = store.extents.pointer(extent);
+    let generation = store.extents.generation(extent);
+    ((count, store.extents.empty_count()), (pointer, generation))
 }
 
-/// Asserts on which page of the device an element lies.
-fn lies_on(rt: &impl Abort, store: &Store, element: Element, page: u64) {
-    assert_eq!(rt; store.graph.page_of(element), Some(page));
-}
-
-/// Asserts that the next frame lies in the first extent again, and needs the root that emptied it.
-fn appends_again(rt: &impl Abort, store: &mut Store) {
-    let (place, _) = append(rt, store, &[[7; 4096]], Purpose::Put).expect(rt, "a place");
-    assert_eq!(rt; place, first_page(1));
-    lies_on(rt, store, Element::Plain(5), 2);
-    assert!(rt; needs(rt, store, Element::Plain(5), Element::Version(1, 2)));
-}
-
-/// The first page of the first extent.
-fn first_page(generation: u32) -> Locator {
-    Locator {
-        extent: 0,
-        page: 0,
-        generation,
-    }
-}
-
-#[test]
-fn a_reset_extent_is_used_again(rt: HostRuntime) {
-    let mut store = new_store(&rt, rt.alloc());
-    for page in 2..5 {
-        goes_to(&rt, &mut store, Purpose::Put, page);
-    }
-    stage_root(&rt, rt.alloc(), &mut store);
-    assert_eq!(rt; reset(&rt, &mut store, 0, 2), Ok(()));
-    is_emptied(&rt, &store);
-    goes_to(&rt, &mut store, Purpose::Put, 5);
-    let superblock = last_superblock(&rt, &store);
-    assert!(rt; needs(&rt, &store, superblock, Element::Version(1, 2)));
-    assert!(rt; !needs(&rt, &store, Element::Plain(4), Element::Version(1, 2)));
-    appends_again(&rt, &mut store);
-    let_go(store);
-}
-
-/// Appends a frame of two pages, which is the first one.
-fn append_two(rt: &impl Abort, store: &mut Store) {
-    let appended = append(rt, store, &[[7; 4096], [8; 4096]], Purpose::Put);
-    let (place, superblock) = appended.expect(rt, "a place");
-    assert_eq!(rt; place, first_page(0));
-    assert!(rt; superblock.names(Element::Version(0, 2)));
-}
-
-/// Asserts on which pages of the device a frame of two pages and the superblock lie, and that the superblock needs it.
-fn records_two(rt: &impl Abort, store: &Store) {
-    lies_on(rt, store, Element::Plain(1), 2);
-    lies_on(rt, store, Element::Plain(2), 3);
-    lies_on(rt, store, Element::Version(0, 2), 0);
-    assert!(rt; needs(rt, store, Element::Version(0, 2), Element::Plain(2)));
-    let first = store.graph.bytes_of(Element::Plain(1)).expect(rt, "bytes");
-    assert_eq!(rt; first[0], 7);
-}
-
-/// Asserts what the superblock that waits says.
-fn is_spelled(rt: &impl Abort, alloc: Global, store: &Store) {
+/// What the superblock that waits says.
+fn spelled(rt: &(impl Abort + AllocGlobal), store: &Store) -> String {
     let page = store
         .graph
         .bytes_of(Element::Version(0, 2))
         .expect(rt, "a page");
-    let spelled = decode_superblock(alloc, page).expect(rt, "a superblock");
-    assert_eq!(rt; spelled.version, 2);
-    let wanted = [(2, 0), (0, 0), (0, 0), (0, 0), (0, 0), (0, 0)];
-    assert_eq!(rt; spelled.extents.as_slice(), wanted.as_slice());
+    let spelled = decode_superblock(rt.alloc(), page).expect(rt, "a superblock");
+    text_of(rt, &(spelled.version, &spelled.extents))
+}
+
+/// What comes of the words of a line, as text.
+pub fn said(rt: &(impl Abort + AllocGlobal), store: &mut Store, line: &str) -> String {
+    let (word, numbers) = words_of(line);
+    let extent = usize::from(numbers[0]);
+    match word {
+        "put" => text_of(rt, &place_of(rt, store, &[[7; 4096]], Purpose::Put)),
+        "run" => text_of(rt, &place_of(rt, store, &[[7; 4096]], Purpose::Run)),
+        "move" => text_of(rt, &place_of(rt, store, &[[7; 4096]], Purpose::Move)),
+        "reset" => text_of(rt, &reset(rt, store, extent, u64::from(numbers[1]))),
+        "state" => text_of(rt, &state(rt, store, extent)),
+        "fits" => text_of(rt, &fits(rt, store)),
+        "root" => text_of(rt, &stage_root(rt, rt.alloc(), store)),
+        "two" => text_of(rt, &names_superblock(rt, store)),
+        "reserve" => text_of(rt, &reserve(store)),
+        _ => spelled(rt, store),
+    }
 }
 
 #[test]
-fn a_frame_of_two_pages_is_recorded(rt: HostRuntime) {
-    let mut store = new_store(&rt, rt.alloc());
-    reserve(&rt, &mut store, 1, 2);
-    append_two(&rt, &mut store);
-    records_two(&rt, &store);
-    is_spelled(&rt, rt.alloc(), &store);
-    let_go(store);
+fn frames_fill_the_extents(rt: HostRuntime) {
+    plays(&rt, 0, FILL);
 }
+
+const FILL: &str = "extent put > Ok(((0, 0, 0), Some(2)))
+extent put > Ok(((0, 1, 0), Some(3)))
+extent put > Ok(((1, 0, 0), Some(4)))
+extent put > Ok(((1, 1, 0), Some(5)))
+extent put > Ok(((2, 0, 0), Some(6)))
+extent put > Ok(((2, 1, 0), Some(7)))
+extent put > Ok(((3, 0, 0), Some(8)))
+extent fits > (true, false, false)
+extent put > Ok(((3, 1, 0), Some(9)))
+extent put > Err(Full)
+extent run > Ok(((4, 0, 0), Some(10)))
+extent run > Ok(((4, 1, 0), Some(11)))
+extent run > Err(Full)
+extent move > Ok(((5, 0, 0), Some(12)))
+extent move > Ok(((5, 1, 0), Some(13)))
+extent move > Err(Full)";
+
+/// A frame in an extent that is emptied needs the root that emptied it, and so does the superblock of the frame before.
+#[test]
+fn a_reset_extent_is_used_again(rt: HostRuntime) {
+    plays(&rt, 0, RESET);
+}
+
+const RESET: &str = "extent put > Ok(((0, 0, 0), Some(2)))
+extent put > Ok(((0, 1, 0), Some(3)))
+extent put > Ok(((1, 0, 0), Some(4)))
+extent root > Ok(2)
+extent reset 0 2 > Ok(())
+extent state 0 > ((6, 5), (0, 1))
+extent put > Ok(((1, 1, 0), Some(5)))
+last > (4, 2, 5)
+names 0.5 1.2 > true
+names 4 1.2 > false
+extent put > Ok(((0, 0, 1), Some(2)))
+page 5 > Some(2)
+names 5 1.2 > true";
+
+/// A frame of two pages, and the superblock, which needs it.
+#[test]
+fn a_frame_of_two_pages_is_recorded(rt: HostRuntime) {
+    plays(&rt, 0, TWO_PAGES);
+}
+
+const TWO_PAGES: &str = "extent reserve > true
+extent two > true
+extent state 0 > ((6, 5), (2, 0))
+page 1 > Some(2)
+page 2 > Some(3)
+page 0.2 > Some(0)
+names 0.2 2 > true
+byte 1 > Some(7)
+extent spelled > (2, [(2, 0), (0, 0), (0, 0), (0, 0), (0, 0), (0, 0)])";
 
 /// Marks an extent as swept, and asserts that another one isn't.
 fn marks(rt: &impl Abort, extents: &mut Extents) {
     let count = extents.extent_count();
-    assert_eq!(rt; count, 6);
+    assert!(rt; count == 6);
     extents.set_swept(3, true);
     assert!(rt; extents.is_swept(3));
     assert!(rt; !extents.is_swept(2));
@@ -217,6 +198,6 @@ fn marks(rt: &impl Abort, extents: &mut Extents) {
 
 #[test]
 fn a_mark_is_that_of_one_extent(rt: HostRuntime) {
-    let mut extents = new_store(&rt, rt.alloc()).extents;
+    let mut extents = new_store(&rt, rt.alloc(), 100).extents;
     marks(&rt, &mut extents);
 }

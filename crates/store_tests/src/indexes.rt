@@ -1,7 +1,8 @@
 //! Worked rows of the index, and each public function once.
 ghost use Rattle.std.specs.Prelude.{◌<◌, ◌^◌};
 
-use crate::stores::{Store, id, let_go};
+use crate::stores::{Store, id, plays_large, plays_small};
+use crate::texts::{byte, text_of, words_of};
 use cs_deps::{Element, Graph, Refusal};
 use cs_extent::{Extents, Purpose};
 use cs_frame::{Locator, Superblock, decode_root};
@@ -18,13 +19,8 @@ fn place(page: u16) -> Locator {
     }
 }
 
-/// An empty index of at most so many identifiers.
-fn new_index(rt: &impl Abort, alloc: Global, limit: usize) -> Index {
-    Index::load(alloc, limit, Vec::new(alloc)).expect(rt, "an index")
-}
-
 /// An empty store of 12 extents of 2 pages, which take five runs.
-fn new_store(rt: &impl Abort, alloc: Global) -> Store {
+pub fn new_store(rt: &impl Abort, alloc: Global) -> Store {
     let superblock = Superblock {
         version: 1,
         pages: 2,
@@ -33,16 +29,13 @@ fn new_store(rt: &impl Abort, alloc: Global) -> Store {
     assert_eq!(rt; superblock.extents.len(), 12);
     let extents = Extents::of(alloc, &superblock).expect(rt, "memory");
     let graph = Graph::new(alloc, &[1, 1]).expect(rt, "memory");
-    let index = new_index(rt, alloc, 100);
+    let index = Index::load(alloc, 100, Vec::new(alloc)).expect(rt, "an index");
     Store {
         index,
         extents,
         graph,
     }
 }
-
-/// Lets an index go.
-fn let_index_go(_index: Index) {}
 
 /// Gives an identifier one locator.
 fn set(
@@ -55,11 +48,6 @@ fn set(
     let mut locators = Vec::with_capacity(alloc, 1).expect(rt, "memory");
     locators.push_reserved(place(page));
     index.set(id(last), locators)
-}
-
-/// Asserts that an identifier is given one locator.
-fn sets(rt: &impl Abort, alloc: Global, index: &mut Index, last: u8, page: u16) {
-    assert_eq!(rt; set(rt, alloc, index, last, page), Ok(()));
 }
 
 /// Replaces one locator of an identifier by another.
@@ -76,17 +64,6 @@ fn replace(
     index
         .replace_if(id(last), &[place(old)], locators)
         .expect(rt, "memory")
-}
-
-/// Erases an identifier, and asserts whether it was there.
-fn erases(rt: &impl Abort, index: &mut Index, last: u8, wanted: bool) {
-    assert_eq!(rt; index.erase(id(last)).expect(rt, "memory"), wanted);
-}
-
-/// Asserts how many identifiers and how many runs an index has.
-fn has(rt: &impl Abort, index: &Index, identifiers: usize, runs: usize) {
-    assert_eq!(rt; index.named_count(), identifiers);
-    assert_eq!(rt; index.run_count(), runs);
 }
 
 /// Stages the index, with so many commands.
@@ -122,14 +99,6 @@ fn merge(rt: &impl Abort, store: &mut Store, commands: u64) -> Result<u64, Refus
     )
 }
 
-/// How many locators the last entry of an identifier has.
-fn count(index: &Index, last: u8) -> Option<usize> {
-    match index.lookup(id(last)) {
-        Some(locators) => Some(locators.len()),
-        None => None,
-    }
-}
-
 /// The last byte of the next identifier.
 fn next(entries: &mut Entries) -> Option<u8> {
     match entries.next_entry() {
@@ -138,128 +107,134 @@ fn next(entries: &mut Entries) -> Option<u8> {
     }
 }
 
-/// Asserts how many locators the last entry of an identifier has.
-fn counts(rt: &impl Abort, index: &Index, last: u8, wanted: Option<usize>) {
-    assert_eq!(rt; count(index, last), wanted);
-}
-
-/// Asserts where the shard of an identifier is.
-fn lies_on(rt: &impl Abort, index: &Index, last: u8, page: u16) {
-    assert_eq!(rt; index.lookup(id(last)), Some([place(page)].as_slice()));
-}
-
-/// Asserts that the identifiers 1 and 2 are those of an index, in this order.
-fn lists_two(rt: &impl Abort, index: &Index) {
+/// The last bytes of the first three identifiers.
+fn listed(index: &Index) -> (Option<u8>, Option<u8>, Option<u8>) {
     let mut entries = index.entries();
-    assert_eq!(rt; next(&mut entries), Some(1));
-    assert_eq!(rt; next(&mut entries), Some(2));
-    assert_eq!(rt; next(&mut entries), None);
+    (next(&mut entries), next(&mut entries), next(&mut entries))
 }
 
-/// Makes room in an index that holds nothing in its table.
-fn reserve_three(rt: &impl Abort, index: &mut Index) {
-    assert!(rt; index.reserve(3).is_ok());
-    assert!(rt; index.is_table_empty());
+/// How many commands and how many runs a root has that is version 6.
+fn root(rt: &impl Abort, alloc: Global, graph: &Graph) -> (u64, usize) {
+    let page = graph.bytes_of(Element::Version(1, 6)).expect(rt, "a page");
+    let root = decode_root(alloc, page).expect(rt, "a root");
+    (root.commands, root.runs.len())
+}
+
+/// What comes of the words of a line, as text.
+pub fn said(rt: &(impl Abort + AllocGlobal), store: &mut Store, line: &str) -> String {
+    let (word, numbers) = words_of(line);
+    let alloc = rt.alloc();
+    match word {
+        "stage" => text_of(rt, &stage(rt, store, u64::from(numbers[0]))),
+        "merge" => text_of(rt, &merge(rt, store, u64::from(numbers[0]))),
+        "root" => text_of(rt, &root(rt, alloc, &store.graph)),
+        _ => said_of(rt, &mut store.index, word, numbers),
+    }
+}
+
+/// What comes of the words of a line for an index alone, as text.
+fn said_of(
+    rt: &(impl Abort + AllocGlobal),
+    index: &mut Index,
+    word: &str,
+    numbers: [u16; 4],
+) -> String {
+    let alloc = rt.alloc();
+    let last = byte(numbers[0]);
+    match word {
+        "set" => text_of(rt, &set(rt, alloc, index, last, numbers[1])),
+        "replace" => text_of(rt, &replace(rt, alloc, index, last, numbers[1], numbers[2])),
+        "erase" => text_of(rt, &index.erase(id(last)).expect(rt, "memory")),
+        "at" => text_of(rt, &index.lookup(id(last))),
+        "listed" => text_of(rt, &listed(index)),
+        "counts" => text_of(rt, &(index.named_count(), index.run_count())),
+        "reserve" => text_of(rt, &index.reserve(usize::from(numbers[0])).is_ok()),
+        _ => text_of(rt, &index.is_table_empty()),
+    }
 }
 
 #[test]
 fn a_deletion_is_an_entry(rt: HostRuntime) {
-    let mut index = new_index(&rt, rt.alloc(), 3);
-    reserve_three(&rt, &mut index);
-    sets(&rt, rt.alloc(), &mut index, 2, 5);
-    sets(&rt, rt.alloc(), &mut index, 1, 6);
-    lies_on(&rt, &index, 2, 5);
-    lists_two(&rt, &index);
-    erases(&rt, &mut index, 2, true);
-    erases(&rt, &mut index, 2, false);
-    erases(&rt, &mut index, 3, false);
-    counts(&rt, &index, 2, Some(0));
-    counts(&rt, &index, 3, None);
-    has(&rt, &index, 2, 0);
-    let_index_go(index);
+    plays_small(&rt, 3, DELETION);
 }
+
+const DELETION: &str = "index reserve 3 > true
+index empty > true
+index set 2 5 > Ok(())
+index set 1 6 > Ok(())
+index at 2 > Some([Locator { extent: 0, page: 5, generation: 0 }])
+index listed > (Some(1), Some(2), None)
+index erase 2 > true
+index erase 2 > false
+index erase 3 > false
+index at 2 > Some([])
+index at 3 > None
+index counts > (2, 0)";
 
 #[test]
 fn other_locators_stay(rt: HostRuntime) {
-    let mut index = new_index(&rt, rt.alloc(), 3);
-    sets(&rt, rt.alloc(), &mut index, 1, 5);
-    assert!(rt; !replace(&rt, rt.alloc(), &mut index, 1, 4, 6));
-    lies_on(&rt, &index, 1, 5);
-    assert!(rt; !replace(&rt, rt.alloc(), &mut index, 2, 5, 6));
-    assert!(rt; replace(&rt, rt.alloc(), &mut index, 1, 5, 6));
-    lies_on(&rt, &index, 1, 6);
-    let_index_go(index);
+    plays_small(&rt, 3, OTHERS);
 }
+
+const OTHERS: &str = "index set 1 5 > Ok(())
+index replace 1 4 6 > false
+index at 1 > Some([Locator { extent: 0, page: 5, generation: 0 }])
+index replace 2 5 6 > false
+index replace 1 5 6 > true
+index at 1 > Some([Locator { extent: 0, page: 6, generation: 0 }])";
 
 #[test]
 fn the_limit_is_for_new_identifiers(rt: HostRuntime) {
-    let mut index = new_index(&rt, rt.alloc(), 2);
-    sets(&rt, rt.alloc(), &mut index, 1, 5);
-    sets(&rt, rt.alloc(), &mut index, 2, 5);
-    erases(&rt, &mut index, 1, true);
-    let refused = set(&rt, rt.alloc(), &mut index, 3, 5);
-    assert_eq!(rt; refused, Err(Refusal::IndexFull));
-    sets(&rt, rt.alloc(), &mut index, 1, 7);
-    let_index_go(index);
+    plays_small(&rt, 2, LIMIT);
 }
 
-/// Asserts which root a stage of the index makes.
-fn stages(rt: &impl Abort, store: &mut Store, commands: u64, wanted: Option<u64>)
-    requires { commands < 2 ^ 63 }
-{
-    assert_eq!(rt; stage(rt, store, commands), Ok(wanted));
-}
-
-/// Asserts that nothing is in the table of an index, and how many runs it has.
-fn is_staged(rt: &impl Abort, index: &Index, runs: usize) {
-    assert!(rt; index.is_table_empty());
-    assert_eq!(rt; index.run_count(), runs);
-}
-
-/// Stages an identifier after so many others, each in a run of its own.
-fn stages_one(rt: &impl Abort, alloc: Global, store: &mut Store, last: u8) {
-    sets(rt, alloc, &mut store.index, last, 5);
-    assert!(rt; stage(rt, store, u64::from(last)).is_ok());
-    is_staged(rt, &store.index, usize::from(last));
-}
-
-/// Asserts what a root has that is version 6.
-fn is_root(rt: &impl Abort, alloc: Global, graph: &Graph) {
-    let page = graph.bytes_of(Element::Version(1, 6)).expect(rt, "a page");
-    let root = decode_root(alloc, page).expect(rt, "a root");
-    assert_eq!(rt; root.commands, 5);
-    assert_eq!(rt; root.runs.len(), 1);
-}
+const LIMIT: &str = "index set 1 5 > Ok(())
+index set 2 5 > Ok(())
+index erase 1 > true
+index set 3 5 > Err(IndexFull)
+index set 1 7 > Ok(())";
 
 #[test]
 fn five_stages_leave_one_run(rt: HostRuntime) {
-    let mut store = new_store(&rt, rt.alloc());
-    stages(&rt, &mut store, 0, None);
-    for k in 1..5 {
-        stages_one(&rt, rt.alloc(), &mut store, k);
-    }
-    erases(&rt, &mut store.index, 4, true);
-    stages(&rt, &mut store, 5, Some(6));
-    has(&rt, &store.index, 3, 1);
-    counts(&rt, &store.index, 3, Some(1));
-    counts(&rt, &store.index, 4, None);
-    is_root(&rt, rt.alloc(), &store.graph);
-    let_go(store);
+    plays_large(&rt, FIVE_STAGES);
 }
 
-/// Merges an index of deletions alone, and asserts that no write is staged for it.
-fn merges_to_nothing(rt: &impl Abort, store: &mut Store) {
-    let before = store.graph.last_plain();
-    assert_eq!(rt; merge(rt, store, 2), Ok(3));
-    assert_eq!(rt; store.graph.last_plain(), before);
-}
+const FIVE_STAGES: &str = "index stage 0 > Ok(None)
+index set 1 5 > Ok(())
+index stage 1 > Ok(Some(2))
+index empty > true
+index counts > (1, 1)
+index set 2 5 > Ok(())
+index stage 2 > Ok(Some(3))
+index empty > true
+index counts > (2, 2)
+index set 3 5 > Ok(())
+index stage 3 > Ok(Some(4))
+index empty > true
+index counts > (3, 3)
+index set 4 5 > Ok(())
+index stage 4 > Ok(Some(5))
+index empty > true
+index counts > (4, 4)
+index erase 4 > true
+index stage 5 > Ok(Some(6))
+index counts > (3, 1)
+index at 3 > Some([Locator { extent: 0, page: 5, generation: 0 }])
+index at 4 > None
+index root > (5, 1)";
 
+/// No write is staged for the run of an index of deletions alone.
 #[test]
 fn deletions_alone_leave_no_run(rt: HostRuntime) {
-    let mut store = new_store(&rt, rt.alloc());
-    stages_one(&rt, rt.alloc(), &mut store, 1);
-    erases(&rt, &mut store.index, 1, true);
-    merges_to_nothing(&rt, &mut store);
-    has(&rt, &store.index, 0, 0);
-    let_go(store);
+    plays_large(&rt, DELETIONS);
 }
+
+const DELETIONS: &str = "index set 1 5 > Ok(())
+index stage 1 > Ok(Some(2))
+index empty > true
+index counts > (1, 1)
+index erase 1 > true
+plains > 1
+index merge 2 > Ok(3)
+plains > 1
+index counts > (0, 0)";

@@ -1,13 +1,36 @@
-//! Tests of the parts of a store, by the public calls of the crates below alone, one file a subject.
+//! Tests of disks, formats, graphs, plans and their documents, of the parts of a store and of the core, by the public calls of the crates
+//! below alone, one file a subject. Most are scripts: a line each, with what is done or asked, and what is printed then.
 #![tactic(auto)]
 
 #[cfg(test)]
 mod chunks;
 #[cfg(test)]
+mod core_sweeps;
+#[cfg(test)]
+mod cores;
+#[cfg(test)]
+mod damage;
+#[cfg(test)]
+mod disks;
+#[cfg(test)]
+mod documents;
+#[cfg(test)]
 mod extents;
 #[cfg(test)]
+mod frames;
+#[cfg(test)]
+mod graphs;
+#[cfg(test)]
 mod indexes;
+#[cfg(test)]
+mod machines;
+#[cfg(test)]
+mod plans;
 #[cfg(test)]
 mod stores;
 #[cfg(test)]
 mod sweeps;
+#[cfg(test)]
+mod targets;
+#[cfg(test)]
+mod texts;

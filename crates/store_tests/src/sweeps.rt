@@ -8,10 +8,11 @@ ghost use Rattle.cs_model.specs.Index.{live_at};
 ghost use Rattle.cs_model.specs.Lists.{◌∈◌, nth};
 ghost use Rattle.cs_reclaim.specs.Sweeps.{IsSwept};
 
-use crate::stores::{Store, assert_large, id, let_go, new_store};
+use crate::stores::{Store, assert_large, id, plays};
+use crate::texts::{byte, text_of, words_of};
 use cs_chunk::put_chunks;
-use cs_deps::{Element, Graph, Refusal};
-use cs_disk::MemoryDisk;
+use cs_deps::Refusal;
+use cs_disk::PageDisk;
 use cs_extent::Extents;
 use cs_frame::{Locator, ShardId};
 use cs_index::Index;
@@ -106,11 +107,11 @@ fn abandon(rt: &impl Abort, store: &mut Store, sweep: Sweep) {
 }
 
 /// Moves the first live chunk.
-fn move_one(
+fn move_one<D: PageDisk>(
     rt: &impl Abort,
     alloc: Global,
     store: &mut Store,
-    disk: &mut MemoryDisk,
+    disk: &mut D,
     sweep: &Sweep,
 ) -> Result<Option<(ShardId, usize)>, Refusal> {
     assert_swept(rt, &store.extents, sweep);
@@ -141,116 +142,96 @@ fn retire(rt: &impl Abort, store: &mut Store, sweep: Sweep) -> Result<u64, (Refu
     sweep.retire(&mut store.index, &mut store.extents, &mut store.graph, 2)
 }
 
-/// Gives up a sweep of something that is live.
-fn fail_to_retire(rt: &impl Abort, store: &mut Store, sweep: Sweep) {
-    let Err((refusal, sweep)) = retire(rt, store, sweep) else {
-        panic!(rt; "retired")
-    };
-    assert_eq!(rt; refusal, Refusal::StillLive);
-    abandon(rt, store, sweep);
+/// The sweep of an extent that is swept.
+fn resumed(rt: &impl Abort, store: &Store, extent: usize) -> Sweep {
+    Sweep::resume(&store.extents, extent).expect(rt, "a sweep")
 }
 
-/// Asserts on which page an element's bytes wait, if they are kept.
-fn lies_on(rt: &impl Abort, graph: &Graph, element: Element, page: Option<u64>) {
-    assert_eq!(rt; graph.page_of(element), page);
-}
-
-/// Asserts how what waits prints.
-fn waits(rt: &(impl Abort + AllocGlobal), graph: &Graph, wanted: &str) {
-    let waiting = graph.waiting().expect(rt, "memory");
-    let shown = format!(in rt.alloc(); "{:?}", waiting.as_slice()).expect(rt, "memory");
-    assert_eq!(rt; shown.as_str(), wanted);
-}
-
-/// Asserts what two puts, two moves and a retired extent stage, and the page of it that is kept: all superblock versions wait at one
-/// level, so the last of them alone keeps one.
-fn assert_staged(rt: &(impl Abort + AllocGlobal), graph: &Graph) {
-    waits(
-        rt,
-        graph,
-        "[Plain(1), Version(0, 2), Plain(2), Version(0, 3), Plain(3), Version(0, 4), Plain(4), Version(0, 5), Plain(5), Version(0, 6), Version(1, 2)]",
-    );
-    for k in 1..6 {
-        lies_on(rt, graph, Element::Plain(k), Some(k + 1));
+/// Retires an extent, and tells by which root.
+fn retires(rt: &impl Abort, store: &mut Store, extent: usize) -> Result<u64, Refusal> {
+    let sweep = resumed(rt, store, extent);
+    match retire(rt, store, sweep) {
+        Ok(root) => Ok(root),
+        Err((refusal, _)) => Err(refusal),
     }
-    for k in 2..6 {
-        lies_on(rt, graph, Element::Version(0, k), None);
-    }
-    lies_on(rt, graph, Element::Version(0, 6), Some(0));
-    lies_on(rt, graph, Element::Version(1, 2), Some(1));
 }
 
-/// Asserts which chunk of which shard is moved, or that none is live.
-fn moves(
-    rt: &impl Abort,
-    alloc: Global,
+/// Begins to sweep an extent, and tells which.
+fn begins(store: &mut Store, extent: usize) -> Result<usize, Refusal> {
+    match begin(store, extent) {
+        Ok(sweep) => Ok(sweep.extent()),
+        Err(refusal) => Err(refusal),
+    }
+}
+
+/// What comes of the words of a line, as text.
+pub fn said<D: PageDisk>(
+    rt: &(impl Abort + AllocGlobal),
     store: &mut Store,
-    disk: &mut MemoryDisk,
-    sweep: &Sweep,
-    wanted: Option<(ShardId, usize)>,
-) {
-    let moved = move_one(rt, alloc, store, disk, sweep);
-    assert_eq!(rt; moved, Ok(wanted));
+    disk: &mut D,
+    line: &str,
+) -> String {
+    let (word, numbers) = words_of(line);
+    let extent = usize::from(numbers[0]);
+    let alloc = rt.alloc();
+    match word {
+        "shard" => text_of(
+            rt,
+            &put(rt, alloc, store, byte(numbers[0]), byte(numbers[1])),
+        ),
+        "begin" => text_of(rt, &begins(store, extent)),
+        "move" => {
+            let sweep = resumed(rt, store, extent);
+            text_of(rt, &move_one(rt, alloc, store, disk, &sweep))
+        }
+        "retire" => text_of(rt, &retires(rt, store, extent)),
+        _ => {
+            let sweep = resumed(rt, store, extent);
+            text_of(rt, &abandon(rt, store, sweep))
+        }
+    }
 }
 
-/// Asserts that a shard of one byte is put.
-fn puts(rt: &(impl Abort + AllocGlobal), store: &mut Store, last: u8, byte: u8) {
-    assert_eq!(rt; put(rt, rt.alloc(), store, last, byte), Ok(()));
-}
-
-/// The sweep of an extent, which has to begin.
-fn begun(rt: &impl Abort, store: &mut Store, extent: usize) -> Sweep {
-    begin(store, extent).expect(rt, "a sweep")
-}
-
-/// Asserts that an extent is retired, and by which root.
-fn retires(rt: &impl Abort, store: &mut Store, sweep: Sweep, root: u64) {
-    assert_eq!(rt; retire(rt, store, sweep).ok(), Some(root));
-}
-
-/// Moves one of two shards of the first extent, which isn't retired then.
-fn fails_behind_one(rt: &(impl Abort + AllocGlobal), store: &mut Store, disk: &mut MemoryDisk) {
-    let sweep = begun(rt, store, 0);
-    moves(rt, rt.alloc(), store, disk, &sweep, Some((id(10), 0)));
-    fail_to_retire(rt, store, sweep);
-}
-
-/// Moves the other one, and retires the extent.
-fn sweeps(rt: &(impl Abort + AllocGlobal), store: &mut Store, disk: &mut MemoryDisk) {
-    let sweep = begun(rt, store, 0);
-    moves(rt, rt.alloc(), store, disk, &sweep, Some((id(11), 0)));
-    moves(rt, rt.alloc(), store, disk, &sweep, None);
-    retires(rt, store, sweep, 2);
-}
-
+/// All superblock versions wait at one level, so the last of them alone keeps a page.
 #[test]
 fn what_lives_is_moved_before_an_extent_is_retired(rt: HostRuntime) {
-    let mut store = new_store(&rt, rt.alloc());
-    let mut disk = MemoryDisk::new(rt.alloc(), 14).expect(&rt, "a disk");
-    puts(&rt, &mut store, 10, 0x61);
-    puts(&rt, &mut store, 11, 0x62);
-    fails_behind_one(&rt, &mut store, &mut disk);
-    sweeps(&rt, &mut store, &mut disk);
-    assert_staged(&rt, &store.graph);
+    plays(&rt, 0, MOVED);
     a_swept_extent_stays();
     a_sweep_keeps_every_shard();
-    let_go(store);
 }
 
-/// Asserts that an extent isn't swept.
-fn refuses_to_begin(rt: &impl Abort, store: &mut Store, extent: usize) {
-    assert_eq!(rt; begin(store, extent).err(), Some(Refusal::NotSweepable));
-}
+const MOVED: &str = "sweep shard 10 97 > Ok(())
+sweep shard 11 98 > Ok(())
+sweep begin 0 > Ok(0)
+sweep move 0 > Ok(Some((ShardId([0, 0, 0, 0, 0, 0, 0, 0, 0, 0, 0, 0, 0, 0, 0, 10]), 0)))
+sweep retire 0 > Err(StillLive)
+sweep abandon 0 > ()
+sweep begin 0 > Ok(0)
+sweep move 0 > Ok(Some((ShardId([0, 0, 0, 0, 0, 0, 0, 0, 0, 0, 0, 0, 0, 0, 0, 11]), 0)))
+sweep move 0 > Ok(None)
+sweep retire 0 > Ok(2)
+waiting > [Plain(1), Version(0, 2), Plain(2), Version(0, 3), Plain(3), Version(0, 4), Plain(4), Version(0, 5), Plain(5), Version(0, 6), Version(1, 2)]
+page 1 > Some(2)
+page 2 > Some(3)
+page 3 > Some(4)
+page 4 > Some(5)
+page 5 > Some(6)
+page 0.2 > None
+page 0.3 > None
+page 0.4 > None
+page 0.5 > None
+page 0.6 > Some(0)
+page 1.2 > Some(1)";
 
 #[test]
 fn what_is_open_or_empty_or_swept_is_not_sweepable(rt: HostRuntime) {
-    let mut store = new_store(&rt, rt.alloc());
-    puts(&rt, &mut store, 10, 0x61);
-    refuses_to_begin(&rt, &mut store, 0);
-    refuses_to_begin(&rt, &mut store, 1);
-    refuses_to_begin(&rt, &mut store, 6);
-    puts(&rt, &mut store, 11, 0x62);
-    begun(&rt, &mut store, 0);
-    refuses_to_begin(&rt, &mut store, 0);
-    let_go(store);
+    plays(&rt, 0, NOT_SWEEPABLE);
 }
+
+const NOT_SWEEPABLE: &str = "sweep shard 10 97 > Ok(())
+sweep begin 0 > Err(NotSweepable)
+sweep begin 1 > Err(NotSweepable)
+sweep begin 6 > Err(NotSweepable)
+sweep shard 11 98 > Ok(())
+sweep begin 0 > Ok(0)
+sweep begin 0 > Err(NotSweepable)";

@@ -1,10 +1,11 @@
 //! The formats by their bytes, and by each byte that is damaged.
+use crate::texts::{is_said, prints};
 use cs_frame::{
-    FormatFault, FrameHeader, FrameKind, Geometry, Locator, Root, Run, ShardId, Superblock,
-    decode_frame, decode_frame_header, decode_root, decode_run, decode_superblock, encode_frame,
-    encode_root, encode_run, encode_superblock, frame_has_one_spelling,
-    frame_is_read_by_its_header, frame_pages, root_has_one_spelling, run_has_one_spelling,
-    superblock_has_one_spelling, these_formats_are_formats,
+    FormatFault, FrameKind, Geometry, Locator, Root, Run, ShardId, Superblock, decode_frame,
+    decode_frame_header, decode_root, decode_run, decode_superblock, encode_frame, encode_root,
+    encode_run, encode_superblock, frame_has_one_spelling, frame_is_read_by_its_header,
+    frame_pages, root_has_one_spelling, run_has_one_spelling, superblock_has_one_spelling,
+    these_formats_are_formats,
 };
 use std::process::Abort;
 
@@ -96,14 +97,6 @@ fn page_of(rt: &impl Abort, start: &[u8]) -> [u8; 4096] {
     page
 }
 
-/// Asserts what a page that is a superblock says.
-fn is_superblock(rt: &(impl Abort + AllocGlobal), page: &[u8; 4096], version: u64) {
-    let read = decode_superblock(rt.alloc(), page).expect(rt, "a superblock");
-    assert_eq!(rt; read.version, version);
-    assert_eq!(rt; read.pages, 2);
-    assert_eq!(rt; read.extents.len(), 6);
-}
-
 #[test]
 fn superblocks(rt: HostRuntime) {
     let extents = vec![in rt.alloc(); (0, 0), (0, 0), (0, 0), (0, 0), (0, 0), (0, 0)];
@@ -121,16 +114,13 @@ fn superblocks(rt: HostRuntime) {
     };
     let page = encode_superblock(&later);
     assert!(rt; is_page(&page, &SUPERBLOCK));
-    is_superblock(&rt, &page, 3);
+    let read = decode_superblock(rt.alloc(), &page).expect(&rt, "a superblock");
+    prints(&rt, &read, LATER);
 }
 
-/// Asserts that a page is a root of one run.
-fn is_root_of_one(rt: &(impl Abort + AllocGlobal), page: &[u8; 4096]) {
-    let read = decode_root(rt.alloc(), page).expect(rt, "a root");
-    assert_eq!(rt; read.version, 2);
-    assert_eq!(rt; read.commands, 1);
-    assert_eq!(rt; read.runs.as_slice(), [SECOND].as_slice());
-}
+/// How the later superblock prints.
+const LATER: &str =
+    "Superblock { version: 3, pages: 2, extents: [(2, 0), (0, 0), (0, 0), (0, 0), (0, 0), (0, 0)] }";
 
 #[test]
 fn roots(rt: HostRuntime) {
@@ -147,8 +137,13 @@ fn roots(rt: HostRuntime) {
     };
     let page = encode_root(&later);
     assert!(rt; is_page(&page, &ROOT));
-    is_root_of_one(&rt, &page);
+    let read = decode_root(rt.alloc(), &page).expect(&rt, "a root");
+    prints(&rt, &read, OF_ONE);
 }
+
+/// How a root of one run prints.
+const OF_ONE: &str =
+    "Root { version: 2, commands: 1, runs: [Locator { extent: 0, page: 1, generation: 0 }] }";
 
 /// The pages of a frame.
 fn encoded(rt: &(impl Abort + AllocGlobal), kind: FrameKind, payload: &[u8]) -> Vec<[u8; 4096]> {
@@ -166,11 +161,6 @@ fn decoded(
     decode_frame(rt.alloc(), kind, pages)
 }
 
-/// What the first of so many pages says of a frame.
-fn header(kind: FrameKind, page: &[u8; 4096], there: usize) -> Result<FrameHeader, FormatFault> {
-    decode_frame_header(kind, page, there)
-}
-
 /// Asserts which payload is read of a frame.
 fn is_payload(
     rt: &(impl Abort + AllocGlobal),
@@ -179,16 +169,16 @@ fn is_payload(
     payload: &[u8],
 ) {
     let read = decoded(rt, kind, pages).expect(rt, "bytes");
-    assert_eq!(rt; read.as_slice(), payload);
+    assert!(rt; read.as_slice() == payload);
 }
 
 /// Asserts how the one page of a chunk begins, and what it says of so many bytes.
 fn is_chunk_page(rt: &impl Abort, pages: &[[u8; 4096]], count: usize, start: &[u8]) {
-    assert_eq!(rt; pages.len(), 1);
+    assert!(rt; pages.len() == 1);
     assert!(rt; is_page(&pages[0], start));
-    let header = header(FrameKind::Chunk, &pages[0], 1).expect(rt, "a header");
-    assert_eq!(rt; header.payload_len as usize, count);
-    assert_eq!(rt; header.pages(), 1);
+    let header = decode_frame_header(FrameKind::Chunk, &pages[0], 1).expect(rt, "a header");
+    assert!(rt; header.payload_len as usize == count);
+    assert!(rt; header.pages() == 1);
 }
 
 /// Asserts how a chunk begins whose frame has one page, and that it is read back.
@@ -204,32 +194,21 @@ fn frames(rt: HostRuntime) {
     is_chunk(&rt, b"", &EMPTY_CHUNK);
 }
 
-/// Asserts which byte is at a place of a page.
-fn has_byte(rt: &impl Abort, pages: &[[u8; 4096]], page: usize, place: usize, wanted: u8) {
-    let page = pages.get(page).expect(rt, "a page");
-    assert_eq!(rt; page.get(place), Some(&wanted));
-}
-
-/// Asserts that a page alone isn't the frame of a run.
-fn is_too_short(rt: &impl Abort, page: &[u8; 4096]) {
-    let header = header(FrameKind::Run, page, 1);
-    assert!(rt; matches!(header, Err(FormatFault::BadLength)));
-}
-
 /// Asserts that the last byte of a frame's payload alone, of sevens, lies on its second page, and that its first one isn't enough.
 fn are_two_pages(rt: &impl Abort, pages: &[[u8; 4096]]) {
-    assert_eq!(rt; pages.len(), 2);
-    has_byte(rt, pages, 0, 4095, 7);
-    has_byte(rt, pages, 1, 0, 7);
-    has_byte(rt, pages, 1, 1, 0);
-    is_too_short(rt, &pages[0]);
+    assert!(rt; pages.len() == 2);
+    assert!(rt; pages[0][4095] == 7);
+    assert!(rt; pages[1][0] == 7);
+    assert!(rt; pages[1][1] == 0);
+    let header = decode_frame_header(FrameKind::Run, &pages[0], 1);
+    assert!(rt; matches!(header, Err(FormatFault::BadLength)));
 }
 
 #[test]
 fn frames_of_two_pages(rt: HostRuntime) {
     let payload = vec![in rt.alloc(); 7; 4056].expect(&rt, "memory");
-    assert_eq!(rt; frame_pages(4055), 1);
-    assert_eq!(rt; frame_pages(4056), 2);
+    assert!(rt; frame_pages(4055) == 1);
+    assert!(rt; frame_pages(4056) == 2);
     let pages = encoded(&rt, FrameKind::Run, payload.as_slice());
     are_two_pages(&rt, pages.as_slice());
     is_payload(&rt, FrameKind::Run, pages.as_slice(), payload.as_slice());
@@ -265,7 +244,7 @@ fn fault_of(rt: &(impl Abort + AllocGlobal), format: Format, page: &[u8; 4096]) 
 }
 
 /// The number of the first entry whose offset is above i: the fault that a change of byte i has.
-fn expected(table: &[(usize, u8)], i: usize) -> u8 {
+pub fn expected(table: &[(usize, u8)], i: usize) -> u8 {
     table
         .iter()
         .find(|entry| i < entry.0)
@@ -284,7 +263,7 @@ fn damaged(rt: &(impl Abort + AllocGlobal), format: Format, start: &[u8], table:
     for i in 0..4096 {
         turn(rt, &mut page, i);
         let found = fault_of(rt, format, &page);
-        assert_eq!(rt; found, expected(table, i), "at {i}");
+        assert!(rt; found == expected(table, i), "at {i}");
         turn(rt, &mut page, i);
     }
 }
@@ -313,7 +292,12 @@ fn damaged_frames(rt: HostRuntime) {
 fn tenth(rt: &(impl Abort + AllocGlobal)) -> ShardId {
     let id = ShardId::parse("00000000-0000-0000-0000-00000000000A").expect(rt, "an identifier");
     let text = format!(in rt.alloc(); "{id}").expect(rt, "memory");
-    assert_eq!(rt; text.as_str(), "00000000-0000-0000-0000-00000000000a");
+    is_said(
+        rt,
+        &text,
+        "00000000-0000-0000-0000-00000000000a",
+        "an identifier",
+    );
     id
 }
 
@@ -331,28 +315,18 @@ fn decoded_run(rt: &impl AllocGlobal, payload: &[u8]) -> Result<Run, FormatFault
     decode_run(rt.alloc(), payload)
 }
 
-/// Asserts that an entry has one locator.
-fn is_entry(rt: &impl Abort, (found, locators): &(ShardId, Vec<Locator>), id: ShardId) {
-    assert_eq!(rt; *found, id);
-    assert_eq!(rt; locators.as_slice(), [FIRST].as_slice());
-}
-
-/// Asserts that a run has one identifier with one locator.
-fn is_one_entry(rt: &impl Abort, run: &Run, id: ShardId) {
-    assert_eq!(rt; run.entries.len(), 1);
-    for entry in &run.entries {
-        is_entry(rt, entry, id);
-    }
-}
-
 #[test]
 fn runs(rt: HostRuntime) {
     let id = tenth(&rt);
     let payload = encoded_run(&rt, id);
-    assert_eq!(rt; payload.as_slice(), &RUN[41..]);
+    assert!(rt; payload.as_slice() == &RUN[41..]);
     let read = decoded_run(&rt, payload.as_slice()).expect(&rt, "a run");
-    is_one_entry(&rt, &read, id);
+    prints(&rt, &read, ONE_ENTRY);
 }
+
+/// How the run of that identifier prints.
+const ONE_ENTRY: &str =
+    "Run { entries: [(ShardId([0, 0, 0, 0, 0, 0, 0, 0, 0, 0, 0, 0, 0, 0, 0, 10]), [Locator { extent: 0, page: 0, generation: 0 }])] }";
 
 /// The faults of two entries of one locator each.
 const TWO_ENTRIES: [(usize, u8); 10] = [
@@ -387,7 +361,7 @@ fn damaged_runs(rt: HostRuntime) {
     for i in 0..166 {
         turn(&rt, &mut payload, i);
         let found = number_of(decoded_run(&rt, &payload));
-        assert_eq!(rt; found, expected(&TWO_ENTRIES, i), "at {i}");
+        assert!(rt; found == expected(&TWO_ENTRIES, i), "at {i}");
         turn(&rt, &mut payload, i);
     }
 }
@@ -397,31 +371,30 @@ fn geometry(rt: &impl Abort, extents: u64, pages: u64) -> Geometry {
     Geometry::new(extents, pages).expect(rt, "a geometry")
 }
 
-/// Asserts how many extents of how many pages a geometry has.
-fn is_geometry(rt: &impl Abort, geometry: Geometry, extents: u16, pages: u16) {
-    assert_eq!(rt; geometry.extents(), extents);
-    assert_eq!(rt; geometry.pages(), pages);
+/// How many extents of how many pages a geometry has, how many pages its device, how many bytes a chunk, and how many identifiers an index.
+fn figures(geometry: Geometry) -> ((u16, u16), u64, (usize, usize)) {
+    (
+        (geometry.extents(), geometry.pages()),
+        geometry.device_pages(),
+        (geometry.payload_bytes(), geometry.named_limit()),
+    )
 }
 
 /// Asserts where a page of an extent lies.
 fn lies_on(rt: &impl Abort, geometry: Geometry, (extent, page): (u16, u16), wanted: u64) {
     assert!(rt; extent < geometry.extents());
     assert!(rt; page < geometry.pages());
-    assert_eq!(rt; geometry.device_page(extent, page), wanted);
+    assert!(rt; geometry.device_page(extent, page) == wanted);
 }
 
 #[test]
 fn geometries(rt: HostRuntime) {
     let six = geometry(&rt, 6, 2);
-    is_geometry(&rt, six, 6, 2);
-    assert_eq!(rt; six.device_pages(), 14);
+    prints(&rt, &figures(six), "((6, 2), 14, (8151, 100))");
     lies_on(&rt, six, (5, 1), 13);
-    assert_eq!(rt; six.payload_bytes(), 8151);
-    assert_eq!(rt; six.named_limit(), 100);
-    let largest = geometry(&rt, 512, 256);
-    assert_eq!(rt; largest.named_limit(), 12944);
+    assert!(rt; geometry(&rt, 512, 256).named_limit() == 12944);
     let refused = Geometry::new(3, 2).err().map(|fault| fault.number());
-    assert_eq!(rt; refused, Some(7));
+    assert!(rt; refused == Some(7));
 }
 
 #[test]

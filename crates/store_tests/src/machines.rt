@@ -1,15 +1,13 @@
 //! Cores over disks in memory, and what they are told to do and to show by scripts: a line each, with the words of an event or of a
 //! question, and what is printed then.
+use crate::plans::text_of_plan;
+use crate::stores::id;
+use crate::texts::{byte, is_said, sides, text_of, words_of};
 use cs_core::{Bytes, Core, Event, Limits, Reply};
 use cs_deps::{Dependency, Plan, Refusal};
 use cs_disk::{FailAt, MemoryDisk, PageDisk};
-use cs_frame::{Geometry, ShardId};
+use cs_frame::Geometry;
 use std::process::Abort;
-
-/// An identifier whose last byte is this.
-pub fn id(last: u8) -> ShardId {
-    ShardId([0, 0, 0, 0, 0, 0, 0, 0, 0, 0, 0, 0, 0, 0, 0, last])
-}
 
 /// A new store of 6 extents of 2 pages, whose history may have so many events.
 pub fn new_core(rt: &(impl Abort + AllocGlobal), history: usize) -> Core<MemoryDisk> {
@@ -48,16 +46,6 @@ pub fn answer<D: PageDisk>(rt: &impl Abort, core: &mut Core<D>, event: &Event) -
     core.apply(event).expect(rt, "an answer")
 }
 
-/// What an event is answered, as text.
-fn answered<D: PageDisk>(
-    rt: &(impl Abort + AllocGlobal),
-    core: &mut Core<D>,
-    event: &Event,
-) -> String {
-    let reply = answer(rt, core, event);
-    format!(in rt.alloc(); "{reply:?}").expect(rt, "memory")
-}
-
 /// One byte.
 fn one_byte(rt: &(impl Abort + AllocGlobal), byte: u8) -> Bytes {
     let bytes = Vec::from_slice(rt.alloc(), &[byte]).expect(rt, "memory");
@@ -83,16 +71,6 @@ fn event_of(rt: &(impl Abort + AllocGlobal), word: &str, number: u8, byte: u8) -
     }
 }
 
-/// The rounds and the chain of a plan, or why there is none, as text.
-fn text_of_plan(rt: &(impl Abort + AllocGlobal), plan: Result<Plan, Refusal>) -> String {
-    match plan {
-        Ok(plan) => format!(in rt.alloc(); "{:?} {:?}", plan.rounds, plan.chain).expect(
-            rt, "memory",
-        ),
-        Err(refusal) => format!(in rt.alloc(); "{refusal:?}").expect(rt, "memory"),
-    }
-}
-
 /// The plan of all that waits.
 fn plan_of_all<D: PageDisk>(core: &Core<D>) -> Result<Plan, Refusal> {
     core.plan()
@@ -106,12 +84,6 @@ fn plan_of_superblock<D: PageDisk>(
 ) -> Result<Plan, Refusal> {
     let target = Dependency::on_version(rt.alloc(), 0, u64::from(version)).expect(rt, "memory");
     core.plan_for(&target)
-}
-
-/// What the first events changed, as text.
-fn replayed<D: PageDisk>(rt: &(impl Abort + AllocGlobal), core: &Core<D>, events: u8) -> String {
-    let changes = core.replay(usize::from(events)).expect(rt, "memory");
-    format!(in rt.alloc(); "{changes:?}").expect(rt, "memory")
 }
 
 /// A number that a core shows: how many pages it keeps in memory, how many commands it accepted, or how many events its history has.
@@ -134,43 +106,28 @@ fn shown<D: PageDisk>(
     match word {
         "plan" => text_of_plan(rt, plan_of_all(core)),
         "superblock" => text_of_plan(rt, plan_of_superblock(rt, core, number)),
-        "replay" => replayed(rt, core, number),
-        "halted" => format!(in rt.alloc(); "{}", core.is_halted()).expect(rt, "memory"),
-        "written" => format!(in rt.alloc(); "{}", writes_back(rt, core)).expect(rt, "memory"),
-        _ => format!(in rt.alloc(); "{}", count_of(rt, core, word)).expect(rt, "memory"),
-    }
-}
-
-/// The number that a word is, 0 where there is none.
-fn number_of(word: Option<&str>) -> u8 {
-    match word {
-        Some(word) => word.parse().unwrap_or(0),
-        None => 0,
+        "replay" => text_of(rt, &core.replay(usize::from(number)).expect(rt, "memory")),
+        "halted" => text_of(rt, &core.is_halted()),
+        "written" => text_of(rt, &writes_back(rt, core)),
+        _ => text_of(rt, &count_of(rt, core, word)),
     }
 }
 
 /// What comes of the words of a line, as text.
 fn said<D: PageDisk>(rt: &(impl Abort + AllocGlobal), core: &mut Core<D>, line: &str) -> String {
-    let mut words = line.split(' ');
-    let word = words.next().unwrap_or("");
-    let number = number_of(words.next());
-    match event_of(rt, word, number, number_of(words.next())) {
-        Some(event) => answered(rt, core, &event),
+    let (word, numbers) = words_of(line);
+    let number = byte(numbers[0]);
+    match event_of(rt, word, number, byte(numbers[1])) {
+        Some(event) => text_of(rt, &answer(rt, core, &event)),
         None => shown(rt, core, word, number),
     }
-}
-
-/// Does what a line says, and asserts what is printed then.
-fn play_line<D: PageDisk>(rt: &(impl Abort + AllocGlobal), core: &mut Core<D>, line: &str) {
-    let (words, wanted) = line.split_once(" > ").expect(rt, "a line");
-    let said = said(rt, core, words);
-    assert_eq!(rt; said.as_str(), wanted, "{line}");
 }
 
 /// Does what a script says.
 pub fn play<D: PageDisk>(rt: &(impl Abort + AllocGlobal), core: &mut Core<D>, script: &str) {
     for line in script.lines() {
-        play_line(rt, core, line);
+        let (words, wanted) = sides(rt, line);
+        is_said(rt, &said(rt, core, words), wanted, line);
     }
 }
 

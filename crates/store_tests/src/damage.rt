@@ -1,5 +1,7 @@
 //! The image of one put, each of its bytes damaged in turn, and cut.
-use crate::machines::{answer, disk_of_a_put, id, opened};
+use crate::frames::expected;
+use crate::machines::{answer, disk_of_a_put, opened};
+use crate::stores::id;
 use cs_core::{Core, Event, Limits, Reply};
 use cs_disk::{MemoryDisk, PageDisk};
 use std::alloc::Global;
@@ -57,14 +59,6 @@ fn is_refused(
     };
     assert_eq!(rt; found, wanted, "at {at}");
     same
-}
-
-/// The number of the first entry whose offset is above i: the fault that a change of byte i has.
-fn expected(table: &[(usize, u8)], i: usize) -> u8 {
-    table
-        .iter()
-        .find(|entry| i < entry.0)
-        .map_or(0, |entry| entry.1)
 }
 
 /// Asserts why a disk with one put isn't opened, or why its shard isn't got, where the lowest bit of one byte of this page is turned,

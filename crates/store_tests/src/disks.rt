@@ -1,0 +1,360 @@
+//! Disks: crashes, calls that fail, and files, by scripts. What a line says is done on a disk of any kind, and what is done with files
+//! stands in one function over any runtime, since a call that knows the runtime takes long to prove.
+use crate::texts::{byte, is_said, sides, text_of, words_of};
+use cs_disk::{
+    CrashDisk, DiskFault, FailAt, FileDisk, ImageFault, MemoryDisk, OpenFault, PageDisk,
+};
+use std::fs::File;
+use std::process::Abort;
+use std::rt::Files;
+
+/// Writes a page of this byte, which has to be there.
+fn write<D: PageDisk>(
+    rt: &impl Abort,
+    disk: &mut D,
+    number: u64,
+    byte: u8,
+) -> Result<(), DiskFault> {
+    assert!(rt; number < disk.pages());
+    disk.write(number, &[byte; 4096])
+}
+
+/// Reads a page, which has to be there, into a buffer of sevens, and tells the first and the last byte of that then.
+fn read<D: PageDisk>(
+    rt: &impl Abort,
+    disk: &mut D,
+    number: u64,
+) -> (Result<(), DiskFault>, u8, u8) {
+    let mut buffer = [7; 4096];
+    assert!(rt; number < disk.pages());
+    let read = disk.read(number, &mut buffer);
+    (read, buffer[0], buffer[4095])
+}
+
+/// What comes of the words of a line, as text.
+fn said<D: CrashDisk>(rt: &(impl Abort + AllocGlobal), disk: &mut D, line: &str) -> String {
+    let (word, numbers) = words_of(line);
+    let number = u64::from(numbers[0]);
+    match word {
+        "write" => text_of(rt, &write(rt, disk, number, byte(numbers[1]))),
+        "read" => text_of(rt, &read(rt, disk, number)),
+        "flush" => text_of(rt, &disk.flush()),
+        "failures" => text_of(rt, &disk.failures()),
+        "volatile" => text_of(rt, &disk.volatile()),
+        "crashable" => text_of(rt, &disk.crashable()),
+        _ => text_of(rt, &disk.pages()),
+    }
+}
+
+/// Does what a script says.
+fn play<D: CrashDisk>(rt: &(impl Abort + AllocGlobal), disk: &mut D, script: &str) {
+    for line in script.lines() {
+        let (words, wanted) = sides(rt, line);
+        is_said(rt, &said(rt, disk, words), wanted, line);
+    }
+}
+
+/// A disk after a crash that keeps the volatile writes that the mask says.
+fn crashed<D: CrashDisk>(rt: &impl Abort, disk: D, mask: &[bool]) -> D {
+    assert!(rt; disk.volatile() == mask.len());
+    disk.crash(mask)
+}
+
+/// Does what scripts say before a crash and after it.
+fn plays<D: CrashDisk>(
+    rt: &(impl Abort + AllocGlobal),
+    mut disk: D,
+    before: &str,
+    mask: &[bool],
+    after: &str,
+) -> D {
+    play(rt, &mut disk, before);
+    let mut disk = crashed(rt, disk, mask);
+    play(rt, &mut disk, after);
+    disk
+}
+
+/// An empty disk in memory.
+pub fn memory(rt: &(impl Abort + AllocGlobal), pages: u64) -> MemoryDisk {
+    MemoryDisk::new(rt.alloc(), pages).expect(rt, "a disk")
+}
+
+/// Asserts how many bytes there are, and which are at some places.
+fn are_at(rt: &impl Abort, bytes: &[u8], count: usize, wanted: &[(usize, u8)]) {
+    assert!(rt; bytes.len() == count);
+    for (place, byte) in wanted {
+        assert!(rt; bytes.get(*place) == Some(byte), "at {place}");
+    }
+}
+
+/// Asserts of which bytes the first and the last page are after a crash of a disk of three pages, of which these are written.
+fn crash_and_look(rt: &(impl Abort + AllocGlobal), mask: &[bool], first: u8, last: u8) {
+    let disk = plays(rt, memory(rt, 3), TWO_WRITES, mask, "");
+    let wanted = [(0, first), (4095, first), (4096, 0), (8192, last)];
+    are_at(rt, disk.image(), 12288, &wanted);
+}
+
+const TWO_WRITES: &str = "write 0 1 > Ok(())
+write 2 2 > Ok(())
+crashable > true
+volatile > 2";
+
+#[test]
+fn a_crash_keeps_what_the_mask_says(rt: HostRuntime) {
+    crash_and_look(&rt, &[false, true], 0, 2);
+    crash_and_look(&rt, &[true, false], 1, 0);
+}
+
+/// The disk that an image of nines is.
+fn of_image(rt: &(impl Abort + AllocGlobal), bytes: usize) -> Result<MemoryDisk, ImageFault> {
+    let nines = vec![in rt.alloc(); 9; bytes].expect(rt, "memory");
+    MemoryDisk::of_image(rt.alloc(), nines)
+}
+
+/// Does what a script says on the disk that an image of nines is, of two pages, and asserts which bytes those begin with then.
+fn plays_image(rt: &(impl Abort + AllocGlobal), script: &str, wanted: &[(usize, u8)]) {
+    let mut disk = of_image(rt, 8192).expect(rt, "a disk");
+    play(rt, &mut disk, script);
+    are_at(rt, disk.image(), 8192, wanted);
+}
+
+#[test]
+fn a_flush_makes_writes_durable(rt: HostRuntime) {
+    plays_image(&rt, FLUSHED, &[(0, 9), (4096, 2)]);
+    assert!(rt; matches!(of_image(&rt, 8191), Err(ImageFault::OddLength)));
+}
+
+const FLUSHED: &str = "pages > 2
+write 1 1 > Ok(())
+write 1 2 > Ok(())
+read 1 > (Ok(()), 2, 2)
+flush > Ok(())
+volatile > 0
+failures > 0";
+
+/// Does what scripts say on a disk of which a call fails, before a crash that keeps what the mask says and after it.
+fn plays_failing(
+    rt: &(impl Abort + AllocGlobal),
+    call: u64,
+    before: &str,
+    mask: &[bool],
+    after: &str,
+) {
+    let disk = FailAt::new(memory(rt, 2), call);
+    plays(rt, disk, before, mask, after);
+}
+
+/// A write, a read and a flush, of which a call fails so that it isn't seen below.
+#[test]
+fn the_chosen_call_fails(rt: HostRuntime) {
+    plays_failing(&rt, 0, NONE_FAILS, &[], "");
+    plays_failing(&rt, 1, WRITE_FAILS, &[], "");
+    plays_failing(&rt, 2, READ_FAILS, &[], "");
+    plays_failing(&rt, 3, FLUSH_FAILS, &[true], "");
+    plays_failing(&rt, 4, NONE_FAILS, &[], "");
+}
+
+const NONE_FAILS: &str = "write 0 1 > Ok(())
+read 0 > (Ok(()), 1, 1)
+flush > Ok(())
+volatile > 0
+failures > 0";
+
+const WRITE_FAILS: &str = "write 0 1 > Err(DeviceFault)
+read 0 > (Ok(()), 0, 0)
+flush > Ok(())
+volatile > 0
+failures > 1";
+
+const READ_FAILS: &str = "write 0 1 > Ok(())
+read 0 > (Err(DeviceFault), 7, 7)
+flush > Ok(())
+volatile > 0
+failures > 1";
+
+const FLUSH_FAILS: &str = "write 0 1 > Ok(())
+read 0 > (Ok(()), 1, 1)
+flush > Err(DeviceFault)
+volatile > 1
+failures > 1";
+
+/// The second call of a disk fails, where a crash comes before it.
+#[test]
+fn the_count_goes_on_through_a_crash(rt: HostRuntime) {
+    plays_failing(&rt, 2, BEFORE, &[true], AFTER);
+}
+
+const BEFORE: &str = "write 0 1 > Ok(())
+crashable > true
+volatile > 1";
+
+const AFTER: &str = "flush > Err(DeviceFault)
+read 0 > (Ok(()), 1, 1)
+failures > 1";
+
+/// Keeps a disk that was opened, and tells why another one wasn't.
+fn kept(
+    rt: &(impl Abort + AllocGlobal),
+    disk: &mut Option<FileDisk>,
+    opened: Result<FileDisk, OpenFault>,
+) -> String {
+    match opened {
+        Ok(opened) => {
+            *disk = Some(opened);
+            text_of(rt, &"open")
+        }
+        Err(fault) => text_of(rt, &fault),
+    }
+}
+
+/// The length of a file, and the first byte of each of its first four pages.
+fn file_of<R: Abort + AllocGlobal + Files<File = File>>(
+    rt: &R,
+    path: &str,
+) -> (usize, [Option<u8>; 4]) {
+    let bytes = std::fs::read(rt, path).expect(rt, "a file");
+    let firsts = [
+        bytes.get(0).copied(),
+        bytes.get(4096).copied(),
+        bytes.get(8192).copied(),
+        bytes.get(12288).copied(),
+    ];
+    (bytes.len(), firsts)
+}
+
+/// Crashes the disk that is open, which has no volatile write, and tells whether it is open still.
+fn crashes(rt: &impl Abort, disk: &mut Option<FileDisk>) -> bool {
+    let open = disk.take().expect(rt, "a disk");
+    *disk = Some(crashed(rt, open, &[]));
+    disk.is_some()
+}
+
+/// What comes of a line, as text: of words for files, and of others on the disk that is open.
+fn done<R: Abort + AllocGlobal + Files<File = File>>(
+    rt: &R,
+    disk: &mut Option<FileDisk>,
+    line: &str,
+) -> String {
+    let mut words = line.split(' ');
+    let word = words.next().unwrap_or("");
+    let path = words.next().unwrap_or("");
+    let last = words.next().unwrap_or("");
+    match word {
+        "create" => {
+            let pages = last.parse().unwrap_or(0);
+            kept(rt, disk, FileDisk::create(rt, rt.alloc(), path, pages))
+        }
+        "open" => kept(rt, disk, FileDisk::open(rt, rt.alloc(), path)),
+        "close" => text_of(rt, &disk.take().is_some()),
+        "crash" => text_of(rt, &crashes(rt, disk)),
+        "fill" => text_of(rt, &std::fs::write(rt, path, last).is_ok()),
+        "remove" => text_of(rt, &std::fs::remove_file(rt, path).is_ok()),
+        "file" => text_of(rt, &file_of(rt, path)),
+        _ => said(rt, disk.as_mut().expect(rt, "a disk"), line),
+    }
+}
+
+/// Does what a script says with files.
+fn plays_files<R: Abort + AllocGlobal + Files<File = File>>(rt: &R, script: &str) {
+    let mut disk = None;
+    for line in script.lines() {
+        let (words, wanted) = sides(rt, line);
+        is_said(rt, &done(rt, &mut disk, words), wanted, line);
+    }
+}
+
+/// A file that is there is emptied, and one that is opened has what was written to it. What isn't of whole pages isn't opened.
+#[test]
+fn a_file_keeps_its_pages(rt: HostRuntime) {
+    plays_files(&rt, KEEPS);
+}
+
+const KEEPS: &str = "fill cs_disk_pages full > true
+create cs_disk_pages 2 > \"open\"
+write 1 2 > Ok(())
+flush > Ok(())
+crashable > false
+crash > true
+failures > 0
+close > true
+open ./cs_disk_pages > \"open\"
+read 0 > (Ok(()), 0, 0)
+read 1 > (Ok(()), 2, 2)
+fill cs_disk_pages odd > true
+pages > 2
+read 1 > (Err(DeviceFault), 7, 7)
+failures > 1
+close > true
+open cs_disk_pages > OddLength
+remove cs_disk_pages > true
+open cs_disk_pages > DeviceFault";
+
+#[test]
+fn a_file_that_cannot_be_made(rt: HostRuntime) {
+    plays_files(&rt, NOT_MADE);
+}
+
+const NOT_MADE: &str = "create no_such_folder/pages 1 > DeviceFault
+open no_such_folder/pages > DeviceFault
+create cs_disk_too_long 1152921504606846976 > DeviceFault
+open cs_disk_too_long > DeviceFault
+create . 1 > DeviceFault
+open . > DeviceFault";
+
+/// Until a flush what is written is read, and isn't in the file. What wasn't flushed is lost.
+#[test]
+fn a_file_is_written_at_a_flush(rt: HostRuntime) {
+    plays_files(&rt, UNFLUSHED);
+}
+
+const UNFLUSHED: &str = "create cs_disk_unflushed 4 > \"open\"
+write 3 1 > Ok(())
+write 2 2 > Ok(())
+write 3 2 > Ok(())
+write 0 1 > Ok(())
+write 1 2 > Ok(())
+read 3 > (Ok(()), 2, 2)
+read 0 > (Ok(()), 1, 1)
+file cs_disk_unflushed > (16384, [Some(0), Some(0), Some(0), Some(0)])
+flush > Ok(())
+file cs_disk_unflushed > (16384, [Some(1), Some(2), Some(2), Some(2)])
+read 3 > (Ok(()), 2, 2)
+write 3 1 > Ok(())
+close > true
+open cs_disk_unflushed > \"open\"
+flush > Ok(())
+read 3 > (Ok(()), 2, 2)
+failures > 0
+close > true
+remove cs_disk_unflushed > true";
+
+/// While a file is open as a disk it is neither opened nor made, and it keeps its bytes.
+#[test]
+fn a_file_is_one_disk_at_a_time(rt: HostRuntime) {
+    plays_files(&rt, LOCKED);
+}
+
+const LOCKED: &str = "create cs_disk_locked 4 > \"open\"
+write 1 1 > Ok(())
+flush > Ok(())
+create cs_disk_locked 2 > DeviceFault
+open cs_disk_locked > DeviceFault
+close > true
+file cs_disk_locked > (16384, [Some(0), Some(1), Some(0), Some(0)])
+create cs_disk_locked 4 > \"open\"
+file cs_disk_locked > (16384, [Some(0), Some(0), Some(0), Some(0)])
+failures > 0
+close > true
+remove cs_disk_locked > true";
+
+/// A file of more pages than are written in one call.
+#[test]
+fn a_file_is_filled(rt: HostRuntime) {
+    plays_files(&rt, FILLED);
+}
+
+const FILLED: &str = "create cs_disk_filled 130 > \"open\"
+pages > 130
+file cs_disk_filled > (532480, [Some(0), Some(0), Some(0), Some(0)])
+close > true
+remove cs_disk_filled > true";
