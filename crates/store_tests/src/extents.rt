@@ -73,11 +73,14 @@ fn reserve(store: &mut Store) -> bool {
     store.extents.reserve(&mut store.graph, 1, 2).is_ok()
 }
 
-/// Whether the superblock that an append stages is named by what it answers.
+/// Whether the superblock that an append stages is named by what it answers. The frame begins the first extent.
 fn names_superblock(rt: &impl Abort, store: &mut Store) -> bool {
-    let (_, superblock) = append(rt, store, &[[7; 4096], [8; 4096]], Purpose::Put).expect(
+    let (place, superblock) = append(rt, store, &[[7; 4096], [8; 4096]], Purpose::Put).expect(
         rt, "a place",
     );
+    assert!(rt; place.extent == 0);
+    assert!(rt; place.page == 0);
+    assert!(rt; place.generation == 0);
     superblock.names(Element::Version(0, 2))
 }
 
