@@ -1,7 +1,7 @@
-use Rattle.std.proofs.Common.{◌∙◌, ◌≡◌, ◌+◌, arith, ap, length, get_or, ◌≤◌}
+use Rattle.std.proofs.Common.{◌∙◌, ◌≡◌, ◌+◌, ℕ, arith, ap, sym, subst, length, get_or, ◌≤◌}
 use Rattle.cs_model.specs.Extents.{Extents, taken}
-use Rattle.cs_extent.specs.Frames.{root_family, greatest}
-use Rattle.cs_extent.specs.State.{extents_of, shape}
+use Rattle.cs_extent.specs.Frames.{root_family, superblock_family, greatest}
+use Rattle.cs_extent.specs.State.{SpellsExtents, State, extents_of, shape}
 use Rattle.cs_extent.proofs.Changes.{greatest_within}
 use Rattle.cs_extent.proofs.Staged.{frame_families, frame_root, resets_still, written_pages}
 use Rattle.cs_extent.proofs.extents.Extents.give.Goals as goal
@@ -24,3 +24,11 @@ returns-clause-resets c =
 
 pub returns-clause-families : goal.returns-clause-families
 returns-clause-families c = frame_families c.args.graph.now.staging c.stage_frame.new.graph.staging (length c.args.frame.now) c.root_of-root.result c.need-need.result c.stage_frame.ensures.staged
+
+pub returns-clause-superblock : goal.returns-clause-superblock
+returns-clause-superblock c =
+    let page = c.superblock_page-superblock.result in
+    let number = ap (λ (n : ℕ). n + 1) c.last_version-version.ensures in
+    (page, c.stage_frame.ensures.write,
+    subst (λ (s : State). SpellsExtents s (get_or c.args.graph.now.staging.latest superblock_family 0 + 1) page) (sym c.superblock_page-superblock.ensures.same)
+    (subst (λ (n : ℕ). SpellsExtents c.take.new.self n page) number c.superblock_page-superblock.ensures.page))
