@@ -28,7 +28,9 @@ returns-clause-families c = frame_families c.args.graph.now.staging c.stage_fram
 pub returns-clause-superblock : goal.returns-clause-superblock
 returns-clause-superblock c =
     let page = c.superblock_page-superblock.result in
-    let number = ap (λ (n : ℕ). n + 1) c.last_version-version.ensures in
-    (page, c.stage_frame.ensures.write,
-    subst (λ (s : State). SpellsExtents s (get_or c.args.graph.now.staging.latest superblock_family 0 + 1) page) (sym c.superblock_page-superblock.ensures.same)
-    (subst (λ (n : ℕ). SpellsExtents c.take.new.self n page) number c.superblock_page-superblock.ensures.page))
+    let number = ap (λ (n : ℕ). n + 1) c.last_version-version.ensures in (
+      page,
+      c.stage_frame.ensures.write,
+      subst (λ (s : State). SpellsExtents s (get_or c.args.graph.now.staging.latest superblock_family 0 + 1) page) (sym c.superblock_page-superblock.ensures.same)
+          (subst (λ (n : ℕ). SpellsExtents c.take.new.self n page) number c.superblock_page-superblock.ensures.page),
+    )
