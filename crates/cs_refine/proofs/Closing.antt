@@ -14,7 +14,7 @@ use Rattle.cs_model.specs.Safe.{Safe}
 use Rattle.cs_model.specs.Formats.{Formats}
 use Rattle.cs_model.specs.Recovery.{RootGives}
 use Rattle.cs_model.proofs.Waiting.{Listed, listed, write_in}
-use Rattle.cs_refine.specs.Bridge.{family_of, name, NeedsName, IsPendingOf, IsWaiting, IsCutOf, AreNames}
+use Rattle.cs_refine.specs.Bridge.{family_of, name, MayLeaveOut, NeedsName, IsPendingOf, IsWaiting, IsCutOf, AreNames}
 use Rattle.cs_refine.proofs.Places.{not_one, one_family, one_write, waits_name, needs_name, name_needs}
 use Rattle.cs_refine.proofs.Heights.{write_waits}
 
@@ -37,6 +37,13 @@ module _ (S : Shape) (F : Formats) {opening : Opening} (opened : ℕ → Page) (
       (λ (old : w.persistent.writes n ≡ true). inl (λ wait. true≢false (sym old ∙ write_waits S F opened w g safe is n wait)))
       (λ new. inr (Plain new.0.number, (names (Plain new.0.number)).1 (A_write new.0, new.1, refl), new.2))
       (cut.writes n has)
+
+  -- what is left out is persistent
+  left_out : (m : Element) (y : Name) → MayLeaveOut S w.persistent m y → Satisfied g xs y
+  left_out (A_write x) y out = absurd out
+  left_out (A_superblock u) (Plain n) out = plain_sat n (cut.low.writes n out.1)
+  left_out (A_superblock u) (Version f v) out = absurd out
+  left_out (A_root r) y out = absurd out
 
   -- what the list holds is in X
   stands_root : (m : Element) → m ∈ ms → (n : ℕ) → StandsFor (name m) (Version 1 n) → n ≤ X.root
@@ -87,7 +94,10 @@ module _ (S : Shape) (F : Formats) {opening : Opening} (opened : ℕ → Page) (
 
   module _ (closed : IsClosed g xs) where
     need : (m : Element) → m ∈ ms → (y : Name) → NeedsName S w.elements m y → Satisfied g xs y
-    need m has y needs = closed (name m) y ((names (name m)).1 (m, has, refl)) (name_needs S F opened w g safe is m y (waits m has) needs)
+    need m has y needs = ⊎_elim
+        (λ (named : Needs g (name m) y). closed (name m) y ((names (name m)).1 (m, has, refl)) named)
+        (λ (out : MayLeaveOut S w.persistent m y). left_out m y out)
+        (name_needs S F opened w g safe is m y (waits m has) needs)
 
     root_of : (m : Element) → m ∈ ms → (n : ℕ) → ((v : ℕ) → 1 ≤ v → v ≤ n → NeedsName S w.elements m (Version 1 v)) → n ≤ X.root
     root_of m has n needs = elim (cases_eq n 0) [

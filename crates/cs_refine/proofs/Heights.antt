@@ -19,8 +19,8 @@ use Rattle.cs_model.specs.Recovery.{RootGives}
 use Rattle.cs_model.specs.Round.{WriteReady, SuperblockReady, RootReady, IsRound, IsMember}
 use Rattle.cs_model.proofs.ClosedSets.{gt-leb}
 use Rattle.cs_model.proofs.Waiting.{Listed, listed, write_in, superblock_in, root_in}
-use Rattle.cs_refine.specs.Bridge.{family_of, name, NeedsName, IsPendingOf, IsWaiting, NamesAll}
-use Rattle.cs_refine.proofs.Places.{not_one, one_family, one_write, one_superblock, one_root, waits_name, waits_from, needs_name, name_needs}
+use Rattle.cs_refine.specs.Bridge.{family_of, name, MayLeaveOut, NeedsName, IsPendingOf, IsWaiting, NamesAll}
+use Rattle.cs_refine.proofs.Places.{not_one, one_family, one_write, one_superblock, one_root, waits_name, waits_from, needs_name, name_needs, version_needs}
 
 -- nothing that waits is needed
 abbrev pub NoneWaits : Pending → Name → Type 0
@@ -61,7 +61,7 @@ module _ (S : Shape) (F : Formats) {opening : Opening} (opened : ℕ → Page) (
 
   root_met : (m : Element) (n : ℕ) → IsWaiting w m → NoneWaits g (name m) → n ≤ w.root → ((v : ℕ) → 1 ≤ v → v ≤ n → NeedsName S w.elements m (Version 1 v)) → n ≤ w.persistent.root
   root_met m n waits none staged needs = ⊎_elim
-      (λ (low : w.persistent.root < n). absurd (none (Version 1 n) (name_needs S F opened w g safe is m (Version 1 n) waits (needs n (omega arith) (le_refl _))) (root_waits n low staged)))
+      (λ (low : w.persistent.root < n). absurd (none (Version 1 n) (version_needs S F opened w g safe is m 1 n waits (needs n (omega arith) (le_refl _))) (root_waits n low staged)))
       (λ (met : n ≤ w.persistent.root). met)
       (cases_lt w.persistent.root n)
 
@@ -71,13 +71,15 @@ module _ (S : Shape) (F : Formats) {opening : Opening} (opened : ℕ → Page) (
     root_met (A_superblock u) u.root waits none (safe.superblock_roots u has) (λ v one le. (refl, one, le)),
     λ x has_x sec bound. elim (cases_Bool (w.persistent.writes x.number)) [
       | inl met ↦ met
-      | inr not ↦ absurd (none (Plain x.number) (name_needs S F opened w g safe is (A_superblock u) (Plain x.number) waits (x, has_x, sec, bound, refl))
-          (waits_name S F opened w g safe is (A_write x) (write_in w.elements x has_x, not)))
+      | inr not ↦ ⊎_elim
+          (λ (named : Needs g (name (A_superblock u)) (Plain x.number)). absurd (none (Plain x.number) named (waits_name S F opened w g safe is (A_write x) (write_in w.elements x has_x, not))))
+          (λ (out : MayLeaveOut S w.persistent (A_superblock u) (Plain x.number)). out.1)
+          (name_needs S F opened w g safe is (A_superblock u) (Plain x.number) waits (x, has_x, sec, bound, refl))
     ],
   )
   ready (A_root r) waits has none = λ j. ⊎_elim
       (λ (low : w.persistent.superblocks j < r.superblocks j). (let at = superblock_waits j (r.superblocks j) low ((safe.roots_below r has).1 j) in
-      absurd (none (Version (family_of j) (r.superblocks j)) (name_needs S F opened w g safe is (A_root r) (Version (family_of j) (r.superblocks j)) waits (j, at.0, refl, omega arith, le_refl _)) at.1)))
+      absurd (none (Version (family_of j) (r.superblocks j)) (version_needs S F opened w g safe is (A_root r) (family_of j) (r.superblocks j) waits (j, at.0, refl, omega arith, le_refl _)) at.1)))
       (λ (met : r.superblocks j ≤ w.persistent.superblocks j). met)
       (cases_lt (w.persistent.superblocks j) (r.superblocks j))
 

@@ -130,7 +130,7 @@ after_appends x y g h w reason (frame ∷ frames) (l ∷ ls) store is all =
 -- what waits in the world waits in its graph
 pub waits_in : (x : ExtentsState) (g : GraphState) (w : World) (m : Element) → IsWorldOf x g w → IsWaiting w m → Waits g.staging.pending (name m)
 waits_in x g w m is waits =
-    let at = match_in (shape x) w.elements (waiting_in w.persistent w.elements) g.staging.pending.waiting m is.staging.pending.waiting (to_waiting w.persistent w.elements m waits.0 waits.1) in
+    let at = match_in (shape x) w.persistent w.elements (waiting_in w.persistent w.elements) g.staging.pending.waiting m is.staging.pending.waiting (to_waiting w.persistent w.elements m waits.0 waits.1) in
     (at.0, at.1, at.2)
 
 -- what waits and keeps its bytes is kept as it is written

@@ -45,7 +45,7 @@ module _ (x : State) (g : GraphState) (F : Formats) (img : ℕ → Page) (n : �
       families = refl;
       root = refl;
       sections = λ j lt. subst (λ (i : ℕ). get_or versions (family_of i) 0 ≡ found.versions i) (let first : 0 ≡ j = omega arith in first) refl;
-      waiting = subst (λ (l : List Element). Matches (shape x) w.elements l []) (sym none_waits) tt;
+      waiting = subst (λ (l : List Element). Matches (shape x) w.persistent w.elements l []) (sym none_waits) tt;
     };
     written = refl;
     families = refl;

@@ -14,7 +14,7 @@ use Rattle.cs_model.specs.Safe.{Safe}
 use Rattle.cs_model.specs.Formats.{Formats}
 use Rattle.cs_model.specs.Recovery.{RootGives}
 use Rattle.cs_model.proofs.Waiting.{Listed, listed}
-use Rattle.cs_refine.specs.Bridge.{family_of, name, NeedsName, waiting_in, Matches, IsPendingOf, IsWaiting}
+use Rattle.cs_refine.specs.Bridge.{AreNeedsOf, family_of, name, MayLeaveOut, NeedsName, waiting_in, Matches, IsPendingOf, IsWaiting}
 
 in_push : (xs : List Element) (y m : Element) → m ∈ (xs ++ y ∷ []) → (m ∈ xs) ⊎ (m ≡ y)
 in_push [] y m (inl is) = inr is
@@ -53,24 +53,24 @@ to_waiting P (x ∷ older) m (inl is) waits = stays_step P x m older (satisfied 
 to_waiting P (x ∷ older) m (inr has) waits = stays_step P x m older (satisfied P x) refl waits (inr (to_waiting P older m has waits))
 
 -- an element and what the graph has of it
-abbrev pub At : Shape → List Element → Element → Name → Named → Type 0
-At S staged m y d = (y ≡ name m) × ((z : Name) → Names d z ↔ NeedsName S staged m z)
+abbrev pub At : Shape → Cut → List Element → Element → Name → Named → Type 0
+At S P staged m y d = (y ≡ name m) × AreNeedsOf S P staged m d
 
-pub match_at : (S : Shape) (staged xs : List Element) (ys : List (Name × Named)) (k : ℕ) (y : Name) (d : Named) → Matches S staged xs ys → slice_get ys k ≡ Some (y, d) → (m : Element) × (m ∈ xs) × At S staged m y d
-match_at S staged [] [] k y d all at = absurd (let e : None ≡ Some (y, d) = at in cc)
-match_at S staged [] (z ∷ ys) k y d all at = absurd all
-match_at S staged (x ∷ xs) [] k y d all at = absurd all
-match_at S staged (x ∷ xs) (z ∷ ys) zero y d all at =
+pub match_at : (S : Shape) (P : Cut) (staged xs : List Element) (ys : List (Name × Named)) (k : ℕ) (y : Name) (d : Named) → Matches S P staged xs ys → slice_get ys k ≡ Some (y, d) → (m : Element) × (m ∈ xs) × At S P staged m y d
+match_at S P staged [] [] k y d all at = absurd (let e : None ≡ Some (y, d) = at in cc)
+match_at S P staged [] (z ∷ ys) k y d all at = absurd all
+match_at S P staged (x ∷ xs) [] k y d all at = absurd all
+match_at S P staged (x ∷ xs) (z ∷ ys) zero y d all at =
     let is : z ≡ (y, d) = (let e : Some z ≡ Some (y, d) = at in cc) in
-    (x, inl refl, (sym (ap (λ (v : Name × Named). v.0) is) ∙ all.0.0, λ q. subst (λ (v : Name × Named). Names v.1 q ↔ NeedsName S staged x q) is (all.0.1 q)))
-match_at S staged (x ∷ xs) (z ∷ ys) (suc k) y d all at = let rest = match_at S staged xs ys k y d all.1 at in (rest.0, inr rest.1, rest.2)
+    (x, inl refl, (sym (ap (λ (v : Name × Named). v.0) is) ∙ all.0.0, subst (λ (v : Name × Named). AreNeedsOf S P staged x v.1) is all.0.1))
+match_at S P staged (x ∷ xs) (z ∷ ys) (suc k) y d all at = let rest = match_at S P staged xs ys k y d all.1 at in (rest.0, inr rest.1, rest.2)
 
-pub match_in : (S : Shape) (staged xs : List Element) (ys : List (Name × Named)) (m : Element) → Matches S staged xs ys → m ∈ xs → (k : ℕ) × (d : Named) × (slice_get ys k ≡ Some (name m, d)) × At S staged m (name m) d
-match_in S staged [] ys m all none = absurd none
-match_in S staged (x ∷ xs) [] m all has = absurd all
-match_in S staged (x ∷ xs) (z ∷ ys) m all (inl is) =
-    (0, z.1, ap (λ (n : Name). Some (n, z.1)) (all.0.0 ∙ ap name (sym is)), (refl, λ q. subst (λ (v : Element). Names z.1 q ↔ NeedsName S staged v q) (sym is) (all.0.1 q)))
-match_in S staged (x ∷ xs) (z ∷ ys) m all (inr has) = let rest = match_in S staged xs ys m all.1 has in (suc rest.0, rest.1, rest.2, rest.3)
+pub match_in : (S : Shape) (P : Cut) (staged xs : List Element) (ys : List (Name × Named)) (m : Element) → Matches S P staged xs ys → m ∈ xs → (k : ℕ) × (d : Named) × (slice_get ys k ≡ Some (name m, d)) × At S P staged m (name m) d
+match_in S P staged [] ys m all none = absurd none
+match_in S P staged (x ∷ xs) [] m all has = absurd all
+match_in S P staged (x ∷ xs) (z ∷ ys) m all (inl is) =
+    (0, z.1, ap (λ (n : Name). Some (n, z.1)) (all.0.0 ∙ ap name (sym is)), (refl, subst (λ (v : Element). AreNeedsOf S P staged v z.1) (sym is) all.0.1))
+match_in S P staged (x ∷ xs) (z ∷ ys) m all (inr has) = let rest = match_in S P staged xs ys m all.1 has in (suc rest.0, rest.1, rest.2, rest.3)
 
 -- one of two that stand in an order
 one_of : {A : Type 0} (Before : A → A → Type 0) (xs : List A) (x y : A) → Descends Before xs → x ∈ xs → y ∈ xs → (Before x y → ⊥) → (Before y x → ⊥) → x ≡ y
@@ -116,19 +116,28 @@ module _ (S : Shape) (F : Formats) {opening : Opening} (opened : ℕ → Page) (
   one_name (A_root x) (A_root y) a b same = ap A_root (one_root x y a b (let e : Version 1 x.version ≡ Version 1 y.version = same in cc))
 
   pub waits_name : (m : Element) → IsWaiting w m → Waits g (name m)
-  waits_name m waits = let at = match_in S w.elements (waiting_in w.persistent w.elements) g.waiting m is.waiting (to_waiting w.persistent w.elements m waits.0 waits.1) in (at.0, at.1, at.2)
+  waits_name m waits = let at = match_in S w.persistent w.elements (waiting_in w.persistent w.elements) g.waiting m is.waiting (to_waiting w.persistent w.elements m waits.0 waits.1) in (at.0, at.1, at.2)
 
   pub waits_from : (z : Name) → Waits g z → (m : Element) × IsWaiting w m × (z ≡ name m)
-  waits_from z waits = let at = match_at S w.elements (waiting_in w.persistent w.elements) g.waiting waits.0 z waits.1 is.waiting waits.2 in (at.0, from_waiting w.persistent w.elements at.0 at.1, at.2.0)
+  waits_from z waits = let at = match_at S w.persistent w.elements (waiting_in w.persistent w.elements) g.waiting waits.0 z waits.1 is.waiting waits.2 in (at.0, from_waiting w.persistent w.elements at.0 at.1, at.2.0)
 
   pub needs_name : (m : Element) (z : Name) → IsWaiting w m → Needs g (name m) z → NeedsName S w.elements m z
   needs_name m z waits needs =
-      let at = match_at S w.elements (waiting_in w.persistent w.elements) g.waiting needs.0 (name m) needs.1 is.waiting needs.2 in
+      let at = match_at S w.persistent w.elements (waiting_in w.persistent w.elements) g.waiting needs.0 (name m) needs.1 is.waiting needs.2 in
       let there : at.0 ∈ w.elements = (from_waiting w.persistent w.elements at.0 at.1).0 in
       let same : m ≡ at.0 = one_name m at.0 (listed w.elements m waits.0) (listed w.elements at.0 there) at.2.0 in
-      subst (λ (n : Element). NeedsName S w.elements n z) (sym same) ((at.2.1 z).0 needs.3)
+      subst (λ (n : Element). NeedsName S w.elements n z) (sym same) (at.2.1.only z needs.3)
 
-  pub name_needs : (m : Element) (z : Name) → IsWaiting w m → NeedsName S w.elements m z → Needs g (name m) z
+  pub name_needs : (m : Element) (z : Name) → IsWaiting w m → NeedsName S w.elements m z → Needs g (name m) z ⊎ MayLeaveOut S w.persistent m z
   name_needs m z waits needs =
-      let at = match_in S w.elements (waiting_in w.persistent w.elements) g.waiting m is.waiting (to_waiting w.persistent w.elements m waits.0 waits.1) in
-      (at.0, at.1, at.2, (at.3.1 z).1 needs)
+      let at = match_in S w.persistent w.elements (waiting_in w.persistent w.elements) g.waiting m is.waiting (to_waiting w.persistent w.elements m waits.0 waits.1) in
+      ⊎_elim (λ (names : Names at.1 z). inl (at.0, at.1, at.2, names)) (λ (out : MayLeaveOut S w.persistent m z). inr out) (at.3.1.all z needs)
+
+  -- a version is never left out
+  pub version_needs : (m : Element) (f v : ℕ) → IsWaiting w m → NeedsName S w.elements m (Version f v) → Needs g (name m) (Version f v)
+  version_needs m f v waits needs = ⊎_elim (λ (named : Needs g (name m) (Version f v)). named) (λ (out : MayLeaveOut S w.persistent m (Version f v)). absurd (never m out)) (name_needs m (Version f v) waits needs)
+    where
+      never : (n : Element) → MayLeaveOut S w.persistent n (Version f v) → ⊥
+      never (A_write x) out = out
+      never (A_superblock u) out = out
+      never (A_root r) out = out

@@ -30,10 +30,10 @@ module _ (S : Shape) (sections : S.sections ≡ 1) (need : ℕ) (w : World) (s :
       let first : needs.0 ≡ 0 = (let lt : needs.0 < S.sections = needs.1 in omega arith) in
       (needs.2 ∙ ap family_of first, needs.3, le_trans needs.4 (le_trans (le_of_eq (ap r.superblocks first)) low))
 
-  of_before : (z : Name) (m : Element) → m ∈ w.elements → (v : ℕ) (d : Named) → At S w.elements m (Version root_family v) d → Names d z → IsVersionUpTo superblock_family (get_or s.latest superblock_family 0) z
+  of_before : (z : Name) (m : Element) → m ∈ w.elements → (v : ℕ) (d : Named) → At S w.persistent w.elements m (Version root_family v) d → Names d z → IsVersionUpTo superblock_family (get_or s.latest superblock_family 0) z
   of_before z (A_write x) has v d at names = absurd (let e : Version root_family v ≡ Plain x.number = at.0 in cc)
   of_before z (A_superblock u) has v d at names = absurd (not_one u.section (sym (let e : Version root_family v ≡ Version (family_of u.section) u.version = at.0 in cc)))
-  of_before z (A_root r) has v d at names = needs_below r z (le_trans (is.roots r (listed w.elements (A_root r) has)).1 (le_of_eq is.superblock)) ((at.1 z).0 names)
+  of_before z (A_root r) has v d at names = needs_below r z (le_trans (is.roots r (listed w.elements (A_root r) has)).1 (le_of_eq is.superblock)) (at.1.only z names)
 
   module _ (v : ℕ) (own : Named) (new : Staging) (staged : IsVersionStaged s root_family v own new) (names : (z : Name) → Names own z ↔ IsVersionUpTo superblock_family (get_or s.latest superblock_family 0) z) where
     exact : (z : Name) → Names (staged.1) z ↔ IsVersionUpTo superblock_family (get_or s.latest superblock_family 0) z
@@ -41,7 +41,7 @@ module _ (S : Shape) (sections : S.sections ≡ 1) (need : ℕ) (w : World) (s :
       (λ h. ⊎_elim
           (λ (given : Names own z). (names z).0 given)
           (λ (before : (k : ℕ) × (d : Named) × (slice_get s.pending.waiting k ≡ Some (Version root_family staged.0, d)) × Names d z).
-          let from = match_at S w.elements (waiting_in w.persistent w.elements) s.pending.waiting before.0 (Version root_family staged.0) before.1 is.pending.waiting before.2 in
+          let from = match_at S w.persistent w.elements (waiting_in w.persistent w.elements) s.pending.waiting before.0 (Version root_family staged.0) before.1 is.pending.waiting before.2 in
           of_before z from.0 (from_waiting w.persistent w.elements from.0 from.1).0 staged.0 before.1 from.2 before.3)
           ((staged.4 z).0 h)),
       (λ h. (staged.4 z).1 (inl ((names z).1 h))),

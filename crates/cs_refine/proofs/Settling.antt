@@ -5,7 +5,7 @@ use Rattle.std.specs.Prelude.{Contains, filter}
 use Rattle.std.proofs.lemmas.Bool.{cases_Bool, cases_lt}
 use Rattle.cs_deps.specs.declared.elements.Element.{Element as Name}
 use Rattle.cs_deps.specs.declared.elements.Element.TheVariants.{Plain, Version}
-use Rattle.cs_deps.specs.Named.{Named, StandsFor}
+use Rattle.cs_deps.specs.Named.{Named, Names, StandsFor}
 use Rattle.cs_deps.specs.Pending.{Pending, SatisfiedBy}
 use Rattle.cs_deps.specs.Staging.{raised, settled, is_left_waiting}
 use Rattle.cs_deps.proofs.Settled.{none_stands, one_stands, raised_below, raised_count, raised_more, raised_reaches}
@@ -21,7 +21,7 @@ use Rattle.cs_model.specs.State.{State}
 use Rattle.cs_model.specs.Formats.{Formats}
 use Rattle.cs_model.specs.Recovery.{RootGives}
 use Rattle.cs_model.proofs.Waiting.{listed}
-use Rattle.cs_refine.specs.Bridge.{family_of, name, Matches, waiting_in, IsPendingOf, IsWaiting}
+use Rattle.cs_refine.specs.Bridge.{AreNeedsOf, family_of, name, Matches, MayLeaveOut, waiting_in, IsPendingOf, IsWaiting}
 use Rattle.cs_refine.specs.Stores.{AreMemberNames}
 use Rattle.cs_refine.proofs.Places.{not_one, one_family, from_waiting}
 
@@ -63,20 +63,30 @@ left_is P R low (x ∷ older) = ap (λ (l : List Element). if satisfied R x then
 abbrev pub Tells : List Name → Cut → Element → Type 0
 Tells round R m = (b : Bool) → satisfied R m ≡ b → (d : Named) → is_left_waiting round (name m, d) ≡ cond b false true
 
-matches_left : (S : Shape) (staged : List Element) (round : List Name) (R : Cut) (xs : List Element) (ys : List (Name × Named)) → ((m : Element) → m ∈ xs → Tells round R m) → Matches S staged xs ys
-    → Matches S staged (left_in R xs) (filter (is_left_waiting round) ys)
-matches_left S staged round R [] [] tells all = tt
-matches_left S staged round R [] (y ∷ ys) tells all = absurd all
-matches_left S staged round R (x ∷ xs) [] tells all = absurd all
-matches_left S staged round R (x ∷ xs) (y ∷ ys) tells all =
-    subst (λ (b : Bool). Matches S staged (left_in R (x ∷ xs)) (cond b (y ∷ filter (is_left_waiting round) ys) (filter (is_left_waiting round) ys)))
-    (sym (ap (λ (z : Name). is_left_waiting round (z, y.1)) all.0.0 ∙ tells x (inl refl) (satisfied R x) refl y.1))
-    (choose (satisfied R x) (matches_left S staged round R xs ys (λ m has. tells m (inr has)) all.1))
+-- what may be left out may be left out once more is persistent
+needs_later : (S : Shape) (P R : Cut) (staged : List Element) (x : Element) (d : Named) → Within P R → AreNeedsOf S P staged x d → AreNeedsOf S R staged x d
+needs_later S P R staged x d low are = record { only = are.only; all = λ z needs. ⊎_elim (λ (names : Names d z). inl names) (λ (out : MayLeaveOut S P x z). inr (later x z out)) (are.all z needs) }
   where
-    choose : (b : Bool) → Matches S staged (left_in R xs) (filter (is_left_waiting round) ys)
-        → Matches S staged (if b then left_in R xs else x ∷ left_in R xs) (cond (cond b false true) (y ∷ filter (is_left_waiting round) ys) (filter (is_left_waiting round) ys))
+    later : (m : Element) (z : Name) → MayLeaveOut S P m z → MayLeaveOut S R m z
+    later (A_write y) z out = absurd out
+    later (A_superblock u) (Plain n) out = (out.0, low.writes n out.1)
+    later (A_superblock u) (Version f v) out = absurd out
+    later (A_root r) z out = absurd out
+
+matches_left : (S : Shape) (P : Cut) (staged : List Element) (round : List Name) (R : Cut) (xs : List Element) (ys : List (Name × Named)) → Within P R → ((m : Element) → m ∈ xs → Tells round R m) → Matches S P staged xs ys
+    → Matches S R staged (left_in R xs) (filter (is_left_waiting round) ys)
+matches_left S P staged round R [] [] low tells all = tt
+matches_left S P staged round R [] (y ∷ ys) low tells all = absurd all
+matches_left S P staged round R (x ∷ xs) [] low tells all = absurd all
+matches_left S P staged round R (x ∷ xs) (y ∷ ys) low tells all =
+    subst (λ (b : Bool). Matches S R staged (left_in R (x ∷ xs)) (cond b (y ∷ filter (is_left_waiting round) ys) (filter (is_left_waiting round) ys)))
+    (sym (ap (λ (z : Name). is_left_waiting round (z, y.1)) all.0.0 ∙ tells x (inl refl) (satisfied R x) refl y.1))
+    (choose (satisfied R x) (matches_left S P staged round R xs ys low (λ m has. tells m (inr has)) all.1))
+  where
+    choose : (b : Bool) → Matches S R staged (left_in R xs) (filter (is_left_waiting round) ys)
+        → Matches S R staged (if b then left_in R xs else x ∷ left_in R xs) (cond (cond b false true) (y ∷ filter (is_left_waiting round) ys) (filter (is_left_waiting round) ys))
     choose true rest = rest
-    choose false rest = (all.0, rest)
+    choose false rest = ((all.0.0, needs_later S P R staged x y.1 low all.0.1), rest)
 
 family_below : (j n : ℕ) → j < n → family_of j < suc n
 family_below zero n lt = omega arith
@@ -179,8 +189,8 @@ module _ (S : Shape) (F : Formats) {opening : Opening} (opened : ℕ → Page) (
     sections = λ j lt. raised_to (family_of j) (w.round.superblocks j) (le_trans (family_below j S.sections lt) (le_of_eq (sym is.families)))
         (le_trans (le_of_eq (is.sections j lt)) (safe.within.superblocks j)) (superblock_named j)
         (λ low. superblock_in_round j (le_trans (le_of_eq (ap suc (sym (is.sections j lt)))) low));
-    waiting = subst (λ (l : List Element). Matches S w.elements l (filter (is_left_waiting round) g.waiting)) (sym (left_is w.persistent w.round safe.within w.elements))
-        (matches_left S w.elements round w.round (waiting_in w.persistent w.elements) g.waiting (λ m has. tells m (from_waiting w.persistent w.elements m has)) is.waiting);
+    waiting = subst (λ (l : List Element). Matches S w.round w.elements l (filter (is_left_waiting round) g.waiting)) (sym (left_is w.persistent w.round safe.within w.elements))
+        (matches_left S w.persistent w.elements round w.round (waiting_in w.persistent w.elements) g.waiting safe.within (λ m has. tells m (from_waiting w.persistent w.elements m has)) is.waiting);
   }
 
 pub some_section : (S : Shape) (F : Formats) (s : State) → Sound S F s → 0 < S.sections

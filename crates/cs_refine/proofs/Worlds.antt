@@ -21,7 +21,7 @@ use Rattle.cs_extent.specs.Frames.{AreNeedsWithin, IsSuperblockNeed, IsSuperbloc
 use Rattle.cs_refine.specs.Bridge.{IsPendingOf, NeedsName, waiting_in}
 use Rattle.cs_refine.specs.Stores.{IsStagingOf}
 use Rattle.cs_refine.proofs.Places.{At, from_waiting, match_at}
-use Rattle.cs_refine.proofs.Stagings.{page_staged, version_staged}
+use Rattle.cs_refine.proofs.Stagings.{exact_needs, page_staged, version_staged}
 
 -- stagings with the same fields
 pub same_staging : (s : Staging) (ps : List ℕ) (ws : List (Name × Named)) (n : ℕ) (ls : List ℕ) → s.pending.persistent ≡ ps → s.pending.waiting ≡ ws → s.staged ≡ n → s.latest ≡ ls
@@ -128,20 +128,20 @@ module _ (S : Shape) (need : ℕ) where
 
   -- a version of the superblock
   module _ (w : World) (s : Staging) (is : IsStagingOf S need w s) where
-    named : (z : Name) (m : Element) → m ∈ w.elements → (v : ℕ) (d : Named) → At S w.elements m (Version superblock_family v) d → Names d z → IsSuperblockNeed s.staged need z
+    named : (z : Name) (m : Element) → m ∈ w.elements → (v : ℕ) (d : Named) → At S w.persistent w.elements m (Version superblock_family v) d → Names d z → IsSuperblockNeed s.staged need z
     named z (A_write x) has v d at names = absurd (let e : Version superblock_family v ≡ Plain x.number = at.0 in cc)
     named z (A_root r) has v d at names = absurd (let e : Version superblock_family v ≡ Version 1 r.version = at.0 in let f : superblock_family ≡ 1 = cc in omega arith)
     named (Plain n) (A_superblock u) has v d at names =
-        let from = (at.1 (Plain n)).0 names in
+        let from = at.1.only (Plain n) names in
         let low = (is.numbers n).1 (from.0, from.1, from.4) in
         (low.0, le_trans low.1 (le_of_eq is.written))
     named (Version f k) (A_superblock u) has v d at names =
-        let from = (at.1 (Version f k)).0 names in
+        let from = at.1.only (Version f k) names in
         (from.0, from.1, le_trans from.2 (is.superblocks u (listed w.elements (A_superblock u) has)).3)
 
     pub needs_within : AreNeedsWithin s need
     needs_within k v d x at names =
-        let from = match_at S w.elements (waiting_in w.persistent w.elements) s.pending.waiting k (Version superblock_family v) d is.pending.waiting at in
+        let from = match_at S w.persistent w.elements (waiting_in w.persistent w.elements) s.pending.waiting k (Version superblock_family v) d is.pending.waiting at in
         named x from.0 (from_waiting w.persistent w.elements from.0 from.1).0 v d from.2 names
 
     module _ (one : (e : ℕ) → S.section e ≡ 0) (new : Staging) (staged : IsSuperblockStaged s new need) (u : Superblock) (at : u.section ≡ 0) (writes : u.writes ≡ w.written) (root : u.root ≡ need) where
@@ -166,7 +166,8 @@ module _ (S : Shape) (need : ℕ) where
     superblock_step one new staged = subst (λ (t : Staging). IsStagingOf S need (happens S w (StageSuperblock 0 need)) t) (sym staged.version.5) (record {
       pending = subst (λ (v : ℕ). IsPendingOf S (happens S w (StageSuperblock 0 need)) (staged_after s.pending (Version 0 v) staged.version.1)) version
           (version_staged S w s.pending is.persistent (λ u has. (is.superblocks u has).2) is.pending (superblock_now S w 0 need) staged.version.1 (happens S w (StageSuperblock 0 need)) refl refl refl
-          (superblock_needs one new staged (superblock_now S w 0 need) refl refl refl));
+          (exact_needs S w.persistent (A_superblock (superblock_now S w 0 need) ∷ w.elements) (A_superblock (superblock_now S w 0 need)) staged.version.1
+          (superblock_needs one new staged (superblock_now S w 0 need) refl refl refl)));
       written = is.written;
       families = length-set s.latest superblock_family (get_or s.latest superblock_family 0 + 1) ∙ is.families;
       superblock = version ∙ sym (get_or-set_same s.latest superblock_family (get_or s.latest superblock_family 0 + 1) 0 (let n : length s.latest ≡ 2 = is.families in omega arith));

@@ -35,19 +35,32 @@ abbrev pub waiting_in : Cut → List Element → List Element
 waiting_in P [] = []
 waiting_in P (x ∷ older) = if satisfied P x then waiting_in P older else waiting_in P older ++ x ∷ []
 
+-- what may be left out of an element's needs, where P is persistent: where there are several sections, a version of one may leave out plain
+-- writes that are persistent
+abbrev pub MayLeaveOut : Shape → Cut → Element → Name → Type 0
+MayLeaveOut S P (A_write x) z = ⊥
+MayLeaveOut S P (A_superblock u) (Plain n) = (1 < S.sections) × (P.writes n ≡ true)
+MayLeaveOut S P (A_superblock u) (Version f v) = ⊥
+MayLeaveOut S P (A_root r) z = ⊥
+
+-- d names nothing that x doesn't need, and all that it needs but what may be left out
+pub record AreNeedsOf (S : Shape) (P : Cut) (staged : List Element) (x : Element) (d : Named) : Type 0 where
+  pub only : (z : Name) → Names d z → NeedsName S staged x z
+  pub all : (z : Name) → NeedsName S staged x z → Names d z ⊎ MayLeaveOut S P x z
+
 -- each element stands in the graph by its name, with its needs
-abbrev pub Matches : Shape → List Element → List Element → List (Name × Named) → Type 0
-Matches S staged [] [] = Unit {0}
-Matches S staged (x ∷ xs) (y ∷ ys) = ((y.0 ≡ name x) × ((z : Name) → Names y.1 z ↔ NeedsName S staged x z)) × Matches S staged xs ys
-Matches S staged [] (y ∷ ys) = ⊥
-Matches S staged (x ∷ xs) [] = ⊥
+abbrev pub Matches : Shape → Cut → List Element → List Element → List (Name × Named) → Type 0
+Matches S P staged [] [] = Unit {0}
+Matches S P staged (x ∷ xs) (y ∷ ys) = ((y.0 ≡ name x) × AreNeedsOf S P staged x y.1) × Matches S P staged xs ys
+Matches S P staged [] (y ∷ ys) = ⊥
+Matches S P staged (x ∷ xs) [] = ⊥
 
 -- the graph of a world
 pub record IsPendingOf (S : Shape) (w : World) (g : Pending) : Type 0 where
   pub families : length g.persistent ≡ suc S.sections
   pub root : slice_index g.persistent 1 ≡ w.persistent.root
   pub sections : (j : ℕ) → j < S.sections → slice_index g.persistent (family_of j) ≡ w.persistent.superblocks j
-  pub waiting : Matches S w.elements (waiting_in w.persistent w.elements) g.waiting
+  pub waiting : Matches S w.persistent w.elements (waiting_in w.persistent w.elements) g.waiting
 
 -- X is P with these elements
 pub record IsCutOf (P : Cut) (ms : List Element) (X : Cut) : Type 0 where

@@ -16,7 +16,7 @@ ghost use Rattle.cs_model.specs.State.{State};
 ghost use Rattle.cs_model.specs.Sound.{Sound};
 ghost use Rattle.cs_model.specs.Round.{IsRound, IsMember};
 ghost use Rattle.cs_refine.specs.Stores.{AreMemberNames};
-ghost use Rattle.cs_refine.specs.Bridge.{name, family_of, NeedsName, IsPendingOf, IsCutOf, AreNames, IsWaiting, NamesAll};
+ghost use Rattle.cs_refine.specs.Bridge.{AreNeedsOf, name, family_of, NeedsName, IsPendingOf, IsCutOf, AreNames, IsWaiting, NamesAll};
 
 /// What a round of the machine takes is the first round of the plan of all that waits.
 pub fn rounds_are_first_rounds()
@@ -39,10 +39,11 @@ pub fn staging_refines_staging()
         → (let write : Write = record { number = suc s.world.written; page = p; bytes = bytes; root = s.world.extents.reset (S.extent p) } in
         ((z : Name) → Names d z ↔ NeedsName S (A_write write ∷ s.world.elements) (A_write write) z)
         → IsPendingOf S (happens S s.world (StagePage p bytes)) (staged_after g (Plain (suc s.world.written)) d)) }
-    // The next version of a section of the superblock is staged as that of the section's family, with its needs.
+    // The next version of a section of the superblock is staged as that of the section's family, with its needs, of which it may leave out
+    // plain writes that are persistent where there are several sections.
     ensures superblock { (S : Shape) (F : Formats) (s : State) (g : Pending) (u : Superblock) (d : Named) (next : World) → Sound S F s → IsPendingOf S s.world g
         → u.version ≡ suc (s.world.superblocks u.section) → next.elements ≡ A_superblock u ∷ s.world.elements → next.persistent ≡ s.world.persistent
-        → ((z : Name) → Names d z ↔ NeedsName S (A_superblock u ∷ s.world.elements) (A_superblock u) z)
+        → AreNeedsOf S s.world.persistent (A_superblock u ∷ s.world.elements) (A_superblock u) d
         → IsPendingOf S next (staged_after g (Version (family_of u.section) u.version) d) }
     // The next version of the root is staged as that of family 1, with its needs.
     ensures root { (S : Shape) (F : Formats) (s : State) (g : Pending) (r : Root) (d : Named) (next : World) → Sound S F s → IsPendingOf S s.world g
