@@ -4,7 +4,10 @@ pub mod TestLaws
 pub mod PageLaws
 pub mod LocatorLaws
 pub mod RootLaws
+pub mod GeometryLaws
+pub mod ExtentPageLaws
 pub mod SuperblockLaws
+pub mod SectionLaws
 pub mod FrameLaws
 pub mod RunLaws
 pub mod FormatLaws

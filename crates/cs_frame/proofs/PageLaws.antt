@@ -9,8 +9,8 @@ use Rattle.cs_frame.proofs.Fields.{field_1, field_at, take-field}
 use Rattle.cs_frame.proofs.TestLaws.{all_zeros, all_zero-zeros}
 
 -- the fourth byte after the first three
-pub four_bytes : (page magic : List ℕ) → 4 ≤ length page → field 0 3 page ≡ magic → slice_index page 3 ≡ 49 → take 4 page ≡ magic ++ 49 ∷ []
-four_bytes page magic long three fourth =
+pub four_bytes : (page magic : List ℕ) (digit : ℕ) → 4 ≤ length page → field 0 3 page ≡ magic → slice_index page 3 ≡ digit → take 4 page ≡ magic ++ digit ∷ []
+four_bytes page magic digit long three fourth =
     take-field page 3 4 (omega arith) ∙ ap (λ (xs : List ℕ). xs ++ field 3 4 page) three ∙ ap (λ (xs : List ℕ). magic ++ xs) (field_1 page 3 4 refl long ∙ ap (λ (b : ℕ). b ∷ []) fourth)
 
 -- a page with its digest and zeros after it is what was read before the digest, sealed and padded

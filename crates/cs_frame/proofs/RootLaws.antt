@@ -10,7 +10,7 @@ use Rattle.cs_frame.specs.declared.locators.Locator.{Locator}
 use Rattle.cs_frame.specs.Bytes.{IsBytes, IsPage, all_zero, field, number, zeros}
 use Rattle.cs_frame.specs.Locators.{FitsLocator, locators_in, spelled_locators}
 use Rattle.cs_frame.specs.Pages.{padded, sealed, digest_test, padding_test, version_test}
-use Rattle.cs_frame.specs.Roots.{FitsRoot, SpellsRoot, root_end, root_fault, root_fields, root_length_test, root_range_test, root_tests, runs_in, spelled_root}
+use Rattle.cs_frame.specs.Roots.{FitsRoot, SpellsRoot, greatest_runs, root_end, root_fault, root_fields, root_length_test, root_range_test, root_tests, runs_in, spelled_root}
 use Rattle.cs_frame.proofs.Fields.{after_field, byte_at_front, field_1, field_8, field_at, number_at, take_more, length-field, IsBytes-field}
 use Rattle.cs_frame.proofs.TestLaws.{Passes, passed, and_passes, no_test, same_bytes, equal_bytes}
 use Rattle.cs_frame.proofs.PageLaws.{four_bytes, page_is_padded, digest_of_padded, zeros_of_padded}
@@ -19,7 +19,7 @@ use Rattle.cs_frame.proofs.LocatorLaws.{fit-locators_in, length-locators_in, len
 -- what the tests of a root say
 pub record IsSoundRoot (page : List ℕ) : Type 0 where
   pub magic : take 4 page ≡ codes "CSR1"
-  pub count : slice_index page 20 ≤ 4
+  pub count : slice_index page 20 ≤ greatest_runs
   pub digest : field (root_end page) (root_end page + 32) page ≡ sha256 (take (root_end page) page)
   pub first_version : 1 ≤ number 4 12 page
   pub last_version : number 4 12 page < 2 ^ 63
@@ -30,14 +30,14 @@ pub sound : (page : List ℕ) → length page ≡ 4096 → root_fault page ≡ N
 sound page size h =
     let p = passed (bytes_eq (field 0 3 page) (codes "CSR")) BadMagic (version_test page ∷ root_length_test page ∷ digest_test (root_end page) page ∷ root_range_test page ∷ padding_test (root_end page + 32) page ∷ []) h in
     let q = passed (slice_index page 3 == 49) BadVersion _ p.1 in
-    let r = passed (nat_le (slice_index page 20) 4) BadLength _ q.1 in
+    let r = passed (nat_le (slice_index page 20) greatest_runs) BadLength _ q.1 in
     let s = passed (bytes_eq (field (root_end page) (root_end page + 32) page) (sha256 (take (root_end page) page))) BadDigest _ r.1 in
     let t = passed (nat_le 1 (number 4 12 page) && nat_lt (number 4 12 page) (2 ^ 63) && nat_lt (number 12 20 page) (2 ^ 63)) BadVersion _ s.1 in
     let u = passed (all_zero (drop (root_end page + 32) page)) BadPadding _ t.1 in
     let low = and_parts _ _ t.0 in
     let high = and_parts _ _ low.0 in
     record {
-      magic = four_bytes page (codes "CSR") (omega arith) (same_bytes _ _ p.0) (eqb-true _ _ q.0);
+      magic = four_bytes page (codes "CSR") 49 (omega arith) (same_bytes _ _ p.0) (eqb-true _ _ q.0);
       count = leb-true _ _ r.0;
       digest = same_bytes _ _ s.0;
       first_version = leb-true _ _ high.0;
@@ -146,7 +146,7 @@ spells page version commands runs p h v c r =
     let bound : root_end page + 32 ≤ 4096 = omega (arith, it.count) in
     let part : List ℕ = field 21 (root_end page) page in
     let long : length part ≡ 8 * slice_index page 20 = length-field page 21 (root_end page) (omega arith) (omega arith) ∙ omega arith in
-    let count : length (runs_in page) ≤ 4 = omega (arith, length-locators_in (slice_index page 20) part long, it.count) in
+    let count : length (runs_in page) ≤ greatest_runs = omega (arith, length-locators_in (slice_index page 20) part long, it.count) in
     let each : AllByRecursion FitsLocator (runs_in page) = fit-locators_in (slice_index page 20) part (IsBytes-field page 21 (root_end page) p.bytes) long in
     record {
       fits = record { first_version = omega (arith, v, it.first_version); last_version = omega (arith, v, it.last_version); last_command = omega (arith, c, it.last_command); count = omega (arith, ap length r, count); each = subst (λ (ls : List Locator). AllByRecursion FitsLocator ls) (sym r) each };

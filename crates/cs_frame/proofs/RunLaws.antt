@@ -11,7 +11,7 @@ use Rattle.cs_frame.specs.declared.faults.FormatFault.TheVariants.{BadLength, Ba
 use Rattle.cs_frame.specs.Bytes.{IsBytes, all_zero, field, number, zeros}
 use Rattle.cs_frame.specs.Faults.{first_fault, unless}
 use Rattle.cs_frame.specs.Locators.{locators_in, spelled_locators}
-use Rattle.cs_frame.specs.Runs.{Entry, FitsEntry, Rises, SpellsRun, count_test, entries_in, entries_tests, entry_end, entry_in, entry_tests, id_in, is_before, order_test, pieces_in, run_fault, run_tests, spelled_entry, spelled_run, zeros_test}
+use Rattle.cs_frame.specs.Runs.{Entry, FitsEntry, Rises, SpellsRun, count_test, entries_in, entries_tests, entry_end, entry_in, entry_tests, greatest_chunks, id_in, is_before, order_test, pieces_in, run_fault, run_tests, spelled_entry, spelled_run, zeros_test}
 use Rattle.cs_frame.proofs.Fields.{IsBytes-drop, IsBytes-field, IsBytes-take, after_field, byte_at_front, field_1, field_4, field_at, length-field, number_at, number_below, take_more}
 use Rattle.cs_frame.proofs.FrameLaws.{first_of_more}
 use Rattle.cs_frame.proofs.LocatorLaws.{fit-locators_in, length-locators_in, length-spelled_locators, locators_in-spelled, spelled-locators_in}
@@ -61,14 +61,14 @@ not_of_run payload h = no_memory _ BadLength (entries_tests None (pieces_in payl
 
 -- what the tests of an entry say beside the order
 pub record IsSoundPiece (piece : List ℕ) : Type 0 where
-  pub count : slice_index piece 16 ≤ 8
+  pub count : slice_index piece 16 ≤ greatest_chunks
   pub padding : all_zero (drop (entry_end piece) piece) ≡ true
 
 each_is_sound : (previous : Option (List ℕ)) (pieces : List (List ℕ)) → first_fault (entries_tests previous pieces) ≡ None → AllByRecursion IsSoundPiece pieces
 each_is_sound previous [] h = tt
 each_is_sound previous (p ∷ ps) h =
     let order = none_rest (order_test previous (id_in p)) (count_test p ∷ zeros_test p ∷ entries_tests (Some (id_in p)) ps) h in
-    let count = passed (nat_le (slice_index p 16) 8) BadLength (zeros_test p ∷ entries_tests (Some (id_in p)) ps) order.1 in
+    let count = passed (nat_le (slice_index p 16) greatest_chunks) BadLength (zeros_test p ∷ entries_tests (Some (id_in p)) ps) order.1 in
     let padding = passed (all_zero (drop (entry_end p) p)) BadPadding (entries_tests (Some (id_in p)) ps) count.1 in
     (record { count = leb-true _ _ count.0; padding = padding.0 }, each_is_sound (Some (id_in p)) ps padding.1)
 
@@ -97,7 +97,7 @@ spelled-entry_in piece is it =
     let c : ℕ = slice_index piece 16 in
     let end : ℕ = entry_end piece in
     let size = is.size in
-    let few : c ≤ 8 = it.count in
+    let few : c ≤ greatest_chunks = it.count in
     let part : List ℕ = field 17 (entry_end piece) piece in
     let are : IsBytes part = IsBytes-field piece 17 (entry_end piece) is.bytes in
     let long : length part ≡ 8 * c = length-field piece 17 (entry_end piece) (omega arith) (omega arith) ∙ omega arith in
@@ -154,12 +154,12 @@ spells payload entries are h e =
     subst (λ (es : List Entry). SpellsRun payload es) (sym (e ∙ ap (λ (ps : List (List ℕ)). map entry_in ps) pieces)) it
 
 -- each count of a payload without a fault is at most 8
-pub counts : (payload : List ℕ) → run_fault payload ≡ None → (i : ℕ) → i < length (pieces_in payload) → slice_index (get_or (pieces_in payload) i []) 16 ≤ 8
+pub counts : (payload : List ℕ) → run_fault payload ≡ None → (i : ℕ) → i < length (pieces_in payload) → slice_index (get_or (pieces_in payload) i []) 16 ≤ greatest_chunks
 counts payload h i inside =
     let p = passed (nat_le 4 (length payload) && nat_le 1 (number 0 4 payload) && length payload == 4 + 81 * number 0 4 payload) BadLength (entries_tests None (pieces_in payload)) h in
     at (pieces_in payload) i (each_is_sound None (pieces_in payload) p.1) inside
   where
-    at : (ps : List (List ℕ)) (i : ℕ) → AllByRecursion IsSoundPiece ps → i < length ps → slice_index (get_or ps i []) 16 ≤ 8
+    at : (ps : List (List ℕ)) (i : ℕ) → AllByRecursion IsSoundPiece ps → i < length ps → slice_index (get_or ps i []) 16 ≤ greatest_chunks
     at [] i all inside = absurd (omega arith)
     at (p ∷ ps) zero all inside = all.0.count
     at (p ∷ ps) (suc i) all inside = at ps i all.1 (omega arith)

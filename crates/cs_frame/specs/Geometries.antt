@@ -1,14 +1,76 @@
--- The dimensions of a store.
-use Rattle.std.specs.Prelude.{ℕ, ◌≤◌}
+-- The dimensions of a store, the bounds of them, and which extents a section of its superblock has.
+use Rattle.std.specs.Prelude.{ℕ, ◌+◌, ◌-◌, ◌*◌, ◌/◌, ◌<◌, ◌≤◌, ◌&&◌, min, Bool, nat_le, nat_lt}
+
+-- the least number of extents of a store
+abbrev pub least_extents : ℕ
+least_extents = 4
+
+-- the greatest number of extents of a store
+abbrev pub greatest_extents : ℕ
+greatest_extents = 2048
+
+-- the greatest number of extents of a section
+abbrev pub greatest_section_extents : ℕ
+greatest_section_extents = 512
+
+-- the greatest number of extents of a superblock of the first format
+abbrev pub greatest_superblock_extents : ℕ
+greatest_superblock_extents = 512
+
+-- the greatest number of sections of a superblock
+abbrev pub greatest_sections : ℕ
+greatest_sections = 8
+
+-- the least number of pages of an extent
+abbrev pub least_pages : ℕ
+least_pages = 2
+
+-- the greatest number of pages of an extent
+abbrev pub greatest_pages : ℕ
+greatest_pages = 256
 
 -- how many extents there are, and how many pages each has
 pub record Dimensions : Type 0 where
   pub extents : ℕ
   pub pages : ℕ
 
--- 4 to 512 extents of 2 to 256 pages
+-- a store of these dimensions has a superblock of the first format
 pub record IsGeometry (extents pages : ℕ) : Type 0 where
-  pub fewest_extents : 4 ≤ extents
-  pub most_extents : extents ≤ 512
-  pub fewest_pages : 2 ≤ pages
-  pub most_pages : pages ≤ 256
+  pub fewest_extents : least_extents ≤ extents
+  pub most_extents : extents ≤ greatest_superblock_extents
+  pub fewest_pages : least_pages ≤ pages
+  pub most_pages : pages ≤ greatest_pages
+
+-- the extents of a section: so many as are needed where all sections but the last have as many
+abbrev pub section_size : (extents sections : ℕ) → ℕ
+section_size extents sections = (extents + (sections - 1)) / sections
+
+-- the first extent of a section
+abbrev pub section_start : (extents sections section : ℕ) → ℕ
+section_start extents sections section = section * section_size extents sections
+
+-- how many extents a section has: what is left, where that is less
+abbrev pub section_length : (extents sections section : ℕ) → ℕ
+section_length extents sections section = min (section_size extents sections) (extents - section_start extents sections section)
+
+-- the store's dimensions, where its superblock has so many sections
+pub record IsSectioned (extents pages sections : ℕ) : Type 0 where
+  pub fewest_extents : least_extents ≤ extents
+  pub most_extents : extents ≤ greatest_extents
+  pub fewest_pages : least_pages ≤ pages
+  pub most_pages : pages ≤ greatest_pages
+  pub fewest_sections : 1 ≤ sections
+  pub most_sections : sections ≤ greatest_sections
+  pub section_fits : section_size extents sections ≤ greatest_section_extents
+  pub none_empty : section_start extents sections (sections - 1) < extents
+
+-- so many extents of so many pages, where the greatest number of extents is this
+abbrev pub in_bounds : (greatest extents pages : ℕ) → Bool
+in_bounds greatest extents pages =
+    nat_le least_extents extents && nat_le extents greatest && nat_le least_pages pages && nat_le pages greatest_pages
+
+-- so many sections have so many extents, none too many, and the last of them some
+abbrev pub is_divided : (extents sections : ℕ) → Bool
+is_divided extents sections =
+    nat_le 1 sections && nat_le sections greatest_sections
+    && nat_le (section_size extents sections) greatest_section_extents && nat_lt (section_start extents sections (sections - 1)) extents

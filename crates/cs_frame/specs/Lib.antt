@@ -5,6 +5,7 @@ pub mod Buffers
 pub mod Locators
 pub mod Roots
 pub mod Superblocks
+pub mod Sections
 pub mod Frames
 pub mod Runs
 pub mod Geometries

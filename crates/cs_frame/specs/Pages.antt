@@ -18,9 +18,13 @@ padded text = text ++ zeros (4096 - length text)
 abbrev pub magic_test : List ℕ → List ℕ → Option FormatFault
 magic_test magic bytes = unless (bytes_eq (field 0 3 bytes) magic) BadMagic
 
+-- the fourth byte is this digit
+abbrev pub digit_test : ℕ → List ℕ → Option FormatFault
+digit_test digit bytes = unless (slice_index bytes 3 == digit) BadVersion
+
 -- the fourth byte is the digit 1
 abbrev pub version_test : List ℕ → Option FormatFault
-version_test bytes = unless (slice_index bytes 3 == 49) BadVersion
+version_test bytes = digit_test 49 bytes
 
 -- the 32 bytes from this offset on are the digest of all bytes before
 abbrev pub digest_test : ℕ → List ℕ → Option FormatFault

@@ -11,6 +11,10 @@ use Rattle.cs_frame.specs.Faults.{first_fault, unless}
 use Rattle.cs_frame.specs.Locators.{FitsLocator, locators_in, spelled_locators}
 use Rattle.cs_frame.specs.Pages.{digest_test, magic_test, padded, padding_test, sealed, version_test}
 
+-- the greatest number of runs of a root
+abbrev pub greatest_runs : ℕ
+greatest_runs = 4
+
 -- |  0 | 4     | CSR1                                         |
 -- |  4 | 8     | version                                      |
 -- | 12 | 8     | number of commands                           |
@@ -30,7 +34,7 @@ pub record FitsRoot (version commands : ℕ) (runs : List Locator) : Type 0 wher
   pub first_version : 1 ≤ version
   pub last_version : version < 2 ^ 63
   pub last_command : commands < 2 ^ 63
-  pub count : length runs ≤ 4
+  pub count : length runs ≤ greatest_runs
   pub each : AllByRecursion FitsLocator runs
 
 -- the bytes are the spelling of these
@@ -43,7 +47,7 @@ pub record IsRoot (root : Root) : Type 0 where
   pub first_version : 1 ≤ root.version
   pub last_version : root.version < 2 ^ 63
   pub last_command : root.commands < 2 ^ 63
-  pub count : length root.runs.items ≤ 4
+  pub count : length root.runs.items ≤ greatest_runs
 
 -- where the digest begins
 abbrev pub root_end : List ℕ → ℕ
@@ -53,9 +57,9 @@ root_end bytes = 21 + 8 * slice_index bytes 20
 abbrev pub runs_in : List ℕ → List Locator
 runs_in bytes = locators_in (field 21 (root_end bytes) bytes)
 
--- at most four runs
+-- not too many runs
 abbrev pub root_length_test : List ℕ → Option FormatFault
-root_length_test bytes = unless (nat_le (slice_index bytes 20) 4) BadLength
+root_length_test bytes = unless (nat_le (slice_index bytes 20) greatest_runs) BadLength
 
 -- version and number of commands are in range
 abbrev pub root_range_test : List ℕ → Option FormatFault

@@ -16,6 +16,10 @@ use Rattle.cs_frame.specs.Bytes.{IsBytes, all_zero, field, number, zeros}
 use Rattle.cs_frame.specs.Faults.{first_fault, unless}
 use Rattle.cs_frame.specs.Locators.{FitsLocator, locators_in, spelled_locators}
 
+-- the greatest number of chunks of a shard
+abbrev pub greatest_chunks : ℕ
+greatest_chunks = 8
+
 -- an entry without where it lies in memory: the bytes of its identifier, and its locators, none for a deletion
 pub record Entry : Type 0 where
   pub id : List ℕ
@@ -56,7 +60,7 @@ Rises (x ∷ y ∷ entries) = (is_before x.id y.id ≡ true) × Rises (y ∷ ent
 pub record FitsEntry (entry : Entry) : Type 0 where
   pub size : length entry.id ≡ 16
   pub bytes : IsBytes entry.id
-  pub count : length entry.locators ≤ 8
+  pub count : length entry.locators ≤ greatest_chunks
   pub each : AllByRecursion FitsLocator entry.locators
 
 -- what has a spelling
@@ -75,7 +79,7 @@ pub record SpellsRun (bytes : List ℕ) (entries : List Entry) : Type 0 where
 pub record IsRun (run : Run) : Type 0 where
   pub some : 1 ≤ length run.entries.items
   pub most : length run.entries.items < 2 ^ 32
-  pub counts : AllByRecursion (λ entry. length entry.1.items ≤ 8) run.entries.items
+  pub counts : AllByRecursion (λ entry. length entry.1.items ≤ greatest_chunks) run.entries.items
   pub rising : Rises (entries_of run.entries.items)
 
 -- the pieces of 81 bytes, one for each entry
@@ -108,9 +112,9 @@ abbrev pub order_test : (previous : Option (List ℕ)) → (id : List ℕ) → O
 order_test None id = None
 order_test (Some previous) id = unless (is_before previous id) OutOfOrder
 
--- at most eight locators
+-- not too many locators
 abbrev pub count_test : List ℕ → Option FormatFault
-count_test piece = unless (nat_le (slice_index piece 16) 8) BadLength
+count_test piece = unless (nat_le (slice_index piece 16) greatest_chunks) BadLength
 
 -- after the locators there are zeros alone
 abbrev pub zeros_test : List ℕ → Option FormatFault

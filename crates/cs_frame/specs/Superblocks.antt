@@ -8,6 +8,7 @@ use Rattle.cs_frame.specs.declared.faults.FormatFault.TheVariants.{BadLength, Ba
 use Rattle.cs_frame.specs.declared.superblocks.Superblock.{Superblock}
 use Rattle.cs_frame.specs.Bytes.{field, number}
 use Rattle.cs_frame.specs.Faults.{first_fault, unless}
+use Rattle.cs_frame.specs.Geometries.{greatest_pages, greatest_superblock_extents, in_bounds, least_extents, least_pages}
 use Rattle.cs_frame.specs.Pages.{digest_test, magic_test, padded, padding_test, sealed, version_test}
 
 -- | 0 | 2 | pointer: how many pages are given   |
@@ -46,10 +47,10 @@ pub record FitsGeneration (extent : ℕ × ℕ) : Type 0 where
 pub record FitsSuperblock (version pages : ℕ) (extents : List (ℕ × ℕ)) : Type 0 where
   pub first_version : 1 ≤ version
   pub last_version : version < 2 ^ 63
-  pub fewest_extents : 4 ≤ length extents
-  pub most_extents : length extents ≤ 512
-  pub fewest_pages : 2 ≤ pages
-  pub most_pages : pages ≤ 256
+  pub fewest_extents : least_extents ≤ length extents
+  pub most_extents : length extents ≤ greatest_superblock_extents
+  pub fewest_pages : least_pages ≤ pages
+  pub most_pages : pages ≤ greatest_pages
   pub each : AllByRecursion (FitsExtent pages) extents
 
 -- the bytes are the spelling of these
@@ -61,10 +62,10 @@ pub record SpellsSuperblock (bytes : List ℕ) (version pages : ℕ) (extents : 
 pub record IsSuperblock (superblock : Superblock) : Type 0 where
   pub first_version : 1 ≤ superblock.version
   pub last_version : superblock.version < 2 ^ 63
-  pub fewest_extents : 4 ≤ length superblock.extents.items
-  pub most_extents : length superblock.extents.items ≤ 512
-  pub fewest_pages : 2 ≤ superblock.pages
-  pub most_pages : superblock.pages ≤ 256
+  pub fewest_extents : least_extents ≤ length superblock.extents.items
+  pub most_extents : length superblock.extents.items ≤ greatest_superblock_extents
+  pub fewest_pages : least_pages ≤ superblock.pages
+  pub most_pages : superblock.pages ≤ greatest_pages
   pub pointers : AllByRecursion (λ extent. extent.0 ≤ superblock.pages) superblock.extents.items
 
 -- where the digest begins
@@ -83,18 +84,21 @@ extents_from bytes = map extent_in (first_chunks 6 (length bytes / 6) bytes)
 abbrev pub extents_in : List ℕ → List (ℕ × ℕ)
 extents_in bytes = extents_from (field 16 (superblock_end bytes) bytes)
 
--- 4 to 512 extents of 2 to 256 pages
+-- so many extents of so many pages have a superblock
 abbrev pub geometry_test : List ℕ → Option FormatFault
-geometry_test bytes =
-    unless (nat_le 4 (number 12 14 bytes) && nat_le (number 12 14 bytes) 512 && nat_le 2 (number 14 16 bytes) && nat_le (number 14 16 bytes) 256) BadLength
+geometry_test bytes = unless (in_bounds greatest_superblock_extents (number 12 14 bytes) (number 14 16 bytes)) BadLength
 
 -- the version is in range
 abbrev pub superblock_range_test : List ℕ → Option FormatFault
 superblock_range_test bytes = unless (nat_le 1 (number 4 12 bytes) && nat_lt (number 4 12 bytes) (2 ^ 63)) BadVersion
 
+-- no pointer is past so many pages
+abbrev pub pointers_test : (pages : ℕ) → List (ℕ × ℕ) → Option FormatFault
+pointers_test pages extents = unless (list_all (λ extent. nat_le extent.0 pages) extents) BadLength
+
 -- no pointer is past the extent's pages
 abbrev pub pointer_test : List ℕ → Option FormatFault
-pointer_test bytes = unless (list_all (λ extent. nat_le extent.0 (number 14 16 bytes)) (extents_in bytes)) BadLength
+pointer_test bytes = pointers_test (number 14 16 bytes) (extents_in bytes)
 
 -- the tests of a superblock in order
 abbrev pub superblock_tests : List ℕ → List (Option FormatFault)

@@ -13,6 +13,7 @@ ghost use Rattle.cs_frame.specs.Frames.{SpellsFrame, bytes_in, first_page, frame
 ghost use Rattle.cs_frame.specs.Geometries.{IsGeometry};
 ghost use Rattle.cs_frame.specs.Roots.{SpellsRoot, root_fault};
 ghost use Rattle.cs_frame.specs.Runs.{Entry, SpellsRun, run_fault};
+ghost use Rattle.cs_frame.specs.Sections.{SpellsSection, section_fault};
 ghost use Rattle.cs_frame.specs.Superblocks.{SpellsSuperblock, superblock_fault};
 
 /// A page is a superblock's spelling exactly where no test fails, and of one superblock alone.
@@ -25,6 +26,21 @@ pub fn superblock_has_one_spelling()
     ensures one_superblock { (page : List ℕ) (version w pages p : ℕ) (extents es : List (ℕ × ℕ))
         → SpellsSuperblock page version pages extents → SpellsSuperblock page w p es
         → (version ≡ w) × (pages ≡ p) × (extents ≡ es) }
+{}
+
+/// A page is a section's spelling exactly where no test fails, and of one section alone.
+pub fn section_has_one_spelling()
+    ensures exact { (page : List ℕ) → IsPage page
+        → (section_fault page ≡ None)
+        ↔ ((version : ℕ) × (extents : ℕ) × (pages : ℕ) × (sections : ℕ) × (section : ℕ) × (written : List (ℕ × ℕ))
+        × SpellsSection page version extents pages sections section written) }
+    ensures one_page { (page other : List ℕ) (version extents pages sections section : ℕ) (written : List (ℕ × ℕ))
+        → SpellsSection page version extents pages sections section written
+        → SpellsSection other version extents pages sections section written → page ≡ other }
+    ensures one_section { (page : List ℕ)
+        (version w extents e pages p sections s section j : ℕ) (written es : List (ℕ × ℕ))
+        → SpellsSection page version extents pages sections section written → SpellsSection page w e p s j es
+        → (version ≡ w) × (extents ≡ e) × (pages ≡ p) × (sections ≡ s) × (section ≡ j) × (written ≡ es) }
 {}
 
 /// A page is a root's spelling exactly where no test fails, and of one root alone.

@@ -13,19 +13,25 @@ mod locators;
 mod pages;
 mod roots;
 mod runs;
+mod sections;
 mod superblocks;
 
 pub use faults::FormatFault;
 pub use frames::{
     FrameHeader, FrameKind, decode_frame, decode_frame_header, encode_frame, frame_pages,
 };
-pub use geometries::Geometry;
+pub use geometries::{
+    GREATEST_EXTENTS, GREATEST_PAGES, GREATEST_SECTION_EXTENTS, GREATEST_SECTIONS,
+    GREATEST_SUPERBLOCK_EXTENTS, Geometry, LEAST_EXTENTS, LEAST_PAGES,
+};
 pub use identifiers::ShardId;
 pub use laws::{
     frame_has_one_spelling, frame_is_read_by_its_header, root_has_one_spelling,
-    run_has_one_spelling, superblock_has_one_spelling, these_formats_are_formats,
+    run_has_one_spelling, section_has_one_spelling, superblock_has_one_spelling,
+    these_formats_are_formats,
 };
 pub use locators::Locator;
-pub use roots::{Root, decode_root, encode_root};
-pub use runs::{Run, decode_run, encode_run};
+pub use roots::{GREATEST_RUNS, Root, decode_root, encode_root};
+pub use runs::{GREATEST_CHUNKS, Run, decode_run, encode_run};
+pub use sections::{Section, decode_section, encode_section};
 pub use superblocks::{Superblock, decode_superblock, encode_superblock};

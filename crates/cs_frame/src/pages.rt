@@ -3,7 +3,7 @@
 ghost use Rattle.std.specs.Prelude.{◌≡◌, ◌+◌, ◌-◌, ◌≤◌, ◌++◌, [], length, drop};
 ghost use Rattle.cs_frame.specs.Bytes.{all_zero, zeros};
 ghost use Rattle.cs_frame.specs.Faults.{fault_in};
-ghost use Rattle.cs_frame.specs.Pages.{digest_test, magic_test, padded, padding_test, sealed, version_test};
+ghost use Rattle.cs_frame.specs.Pages.{digest_test, digit_test, magic_test, padded, padding_test, sealed, version_test};
 
 use crate::faults::FormatFault;
 use sha2::{Digest, Sha256};
@@ -66,15 +66,22 @@ pub(crate) fn check_magic(bytes: &[u8; 4096], magic: &[u8; 3]) -> Result<(), For
     }
 }
 
-/// The fourth byte is the digit 1.
-pub(crate) fn check_version(bytes: &[u8; 4096]) -> Result<(), FormatFault>
-    ensures { fault_in result ≡ version_test bytes.now }
+/// The fourth byte is this digit.
+pub(crate) fn check_digit(bytes: &[u8; 4096], digit: u8) -> Result<(), FormatFault>
+    ensures { fault_in result ≡ digit_test digit bytes.now }
 {
-    if bytes[3] == b'1' {
+    if bytes[3] == digit {
         Ok(())
     } else {
         Err(FormatFault::BadVersion)
     }
+}
+
+/// The fourth byte is the digit 1.
+pub(crate) fn check_version(bytes: &[u8; 4096]) -> Result<(), FormatFault>
+    ensures { fault_in result ≡ version_test bytes.now }
+{
+    check_digit(bytes, b'1')
 }
 
 /// The 32 bytes from `end` on are the digest of all bytes before.

@@ -3,7 +3,7 @@
 ghost use Rattle.std.specs.Prelude.{◌≡◌, ℕ, List, None, Ok, Err, IfOk, ◌≤◌, slice_index};
 ghost use Rattle.cs_frame.specs.declared.locators.Locator.{Locator as Place};
 ghost use Rattle.cs_frame.specs.Faults.{HasFault, OkUnlessMemory, fault_in};
-ghost use Rattle.cs_frame.specs.Roots.{IsRoot, SpellsRoot, root_fault, root_range_test, runs_in};
+ghost use Rattle.cs_frame.specs.Roots.{IsRoot, SpellsRoot, greatest_runs, root_fault, root_range_test, runs_in};
 ghost use Rattle.cs_frame.specs.Bytes.{IsPage, number};
 
 use crate::faults::FormatFault;
@@ -11,6 +11,9 @@ use crate::locators::{Locator, append_locators, locators_from};
 use crate::pages::{PageBuffer, check_digest, check_magic, check_padding, check_version};
 use byteorder::{BigEndian, ByteOrder};
 use std::alloc::{AllocError, Global};
+
+/// The greatest number of runs of a root.
+pub const GREATEST_RUNS: usize = 4;
 
 /// What page 1 spells: the index as of one version.
 #[derive(Debug, Drop)]
@@ -58,11 +61,11 @@ fn check_root(page: &[u8; 4096]) -> Result<(), FormatFault>
 {
     check_magic(page, b"CSR")?;
     check_version(page)?;
-    let count = page[20];
-    if count > 4 {
+    let count = usize::from(page[20]);
+    if count > GREATEST_RUNS {
         return Err(FormatFault::BadLength);
     }
-    let end = 21 + 8 * usize::from(count);
+    let end = 21 + 8 * count;
     check_digest(page, end)?;
     check_range(page)?;
     check_padding(page, end + 32)
@@ -70,7 +73,7 @@ fn check_root(page: &[u8; 4096]) -> Result<(), FormatFault>
 
 /// The root that a page without a fault spells.
 fn root_from(alloc: Global, page: &[u8; 4096]) -> Result<Root, AllocError>
-    requires { slice_index page.now 20 ≤ 4 }
+    requires { slice_index page.now 20 ≤ greatest_runs }
     ensures version { IfOk result (λ root. root.version ≡ number 4 12 page.now) }
     ensures commands { IfOk result (λ root. root.commands ≡ number 12 20 page.now) }
     ensures runs { IfOk result (λ root. root.runs.items ≡ runs_in page.now) }

@@ -5,7 +5,7 @@ ghost use Rattle.cs_frame.specs.Bytes.{IsBytes};
 ghost use Rattle.cs_frame.specs.Locators.{FitsLocator, spelled_locators};
 ghost use Rattle.std.specs.List.{AllByRecursion};
 ghost use Rattle.cs_frame.specs.Faults.{HasFault, OkUnlessMemory, fault_in, first_fault};
-ghost use Rattle.cs_frame.specs.Runs.{Entry, FitsEntry, IsRun, SpellsRun, entries_of, entries_tests, entry_in, entry_of, entry_tests, id_in, order_test, pieces_in, run_fault, run_length_test, spelled_entry};
+ghost use Rattle.cs_frame.specs.Runs.{Entry, FitsEntry, IsRun, SpellsRun, entries_of, entries_tests, entry_in, entry_of, entry_tests, greatest_chunks, id_in, order_test, pieces_in, run_fault, run_length_test, spelled_entry};
 
 use crate::faults::FormatFault;
 use crate::identifiers::ShardId;
@@ -13,6 +13,9 @@ use crate::locators::{Locator, locators_from};
 use crate::pages::is_zero;
 use byteorder::{BigEndian, ByteOrder};
 use std::alloc::{AllocError, Global};
+
+/// The greatest number of chunks of a shard.
+pub const GREATEST_CHUNKS: usize = 8;
 
 /// A run of the index: what some commands changed.
 #[derive(Debug, Drop)]
@@ -70,11 +73,11 @@ fn check_entry(previous: Option<ShardId>, piece: &[u8; 81]) -> Result<ShardId, F
 {
     let id = id_from(piece);
     check_order(previous, id)?;
-    let count = piece[16];
-    if count > 8 {
+    let count = usize::from(piece[16]);
+    if count > GREATEST_CHUNKS {
         return Err(FormatFault::BadLength);
     }
-    if !is_zero(&piece[17 + 8 * usize::from(count)..]) {
+    if !is_zero(&piece[17 + 8 * count..]) {
         return Err(FormatFault::BadPadding);
     }
     Ok(id)
@@ -111,7 +114,7 @@ fn check_run(payload: &[u8]) -> Result<(), FormatFault>
 }
 
 fn entry_from(alloc: Global, piece: &[u8; 81]) -> Result<(ShardId, Vec<Locator>), AllocError>
-    requires { slice_index piece.now 16 ≤ 8 }
+    requires { slice_index piece.now 16 ≤ greatest_chunks }
     ensures { IfOk result (λ entry. entry_of entry ≡ entry_in piece.now) }
 {
     let end = 17 + 8 * usize::from(piece[16]);
@@ -123,7 +126,7 @@ fn entries_from(
     alloc: Global,
     pieces: &[[u8; 81]],
 ) -> Result<Vec<(ShardId, Vec<Locator>)>, AllocError>
-    requires { (i : ℕ) → i < length pieces.now → slice_index (slice_index_or pieces.now i []) 16 ≤ 8 }
+    requires { (i : ℕ) → i < length pieces.now → slice_index (slice_index_or pieces.now i []) 16 ≤ greatest_chunks }
     ensures { IfOk result (λ v. entries_of v.items ≡ map entry_in pieces.now) }
 {
     let mut entries = Vec::new(alloc);
@@ -144,7 +147,7 @@ fn append_locators(payload: &mut Vec<u8>, locators: &[Locator]) -> Result<(), Al
 }
 
 fn append_entry(payload: &mut Vec<u8>, entry: &(ShardId, Vec<Locator>)) -> Result<(), AllocError>
-    requires { length entry.now.1.items ≤ 8 }
+    requires { length entry.now.1.items ≤ greatest_chunks }
     ensures spelled { OnOk result (payload.new.items ≡ payload.old.items ++ spelled_entry (entry_of entry.now)) }
     ensures fits { OnOk result (FitsEntry (entry_of entry.now)) }
 {

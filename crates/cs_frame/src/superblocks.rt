@@ -6,9 +6,10 @@ ghost use Rattle.std.specs.Simd.{first_chunks};
 ghost use Rattle.cs_frame.specs.Buffers.{text_of};
 ghost use Rattle.cs_frame.specs.Bytes.{IsPage, number};
 ghost use Rattle.cs_frame.specs.Faults.{HasFault, OkUnlessMemory, fault_in};
-ghost use Rattle.cs_frame.specs.Superblocks.{FitsGeneration, IsSuperblock, SpellsSuperblock, extent_in, extents_from, extents_in, geometry_test, pointer_test, spelled_extent, spelled_extents, superblock_end, superblock_fault, superblock_range_test};
+ghost use Rattle.cs_frame.specs.Superblocks.{FitsGeneration, IsSuperblock, SpellsSuperblock, extent_in, extents_from, extents_in, geometry_test, pointer_test, pointers_test, spelled_extent, spelled_extents, superblock_end, superblock_fault, superblock_range_test};
 
 use crate::faults::FormatFault;
+use crate::geometries::{GREATEST_SUPERBLOCK_EXTENTS, are_in_bounds};
 use crate::pages::{PageBuffer, check_digest, check_magic, check_padding, check_version};
 use byteorder::{BigEndian, ByteOrder};
 use std::alloc::{AllocError, Global};
@@ -34,7 +35,8 @@ fn append_extent(page: &mut PageBuffer, extent: (u16, u32))
     page.append(&extent.1.to_be_bytes());
 }
 
-fn append_extents(page: &mut PageBuffer, extents: &[(u16, u32)])
+/// Appends what spells these pointers and generations.
+pub(crate) fn append_extents(page: &mut PageBuffer, extents: &[(u16, u32)])
     requires { length (text_of page.old) + 6 * length extents.now ≤ 4096 }
     ensures text { text_of page.new ≡ text_of page.old ++ spelled_extents extents.now }
     ensures generations { AllByRecursion FitsGeneration extents.now }
@@ -66,14 +68,18 @@ fn end_of(page: &[u8; 4096]) -> usize
     16 + 6 * usize::from(BigEndian::read_u16(&page[12..14]))
 }
 
-/// 4 to 512 extents of 2 to 256 pages.
+/// So many extents of so many pages have a superblock.
 fn check_geometry(page: &[u8; 4096]) -> Result<(), FormatFault>
     ensures fault { fault_in result ≡ geometry_test page.now }
     ensures end { IfOk result (λ _. superblock_end page.now ≤ 3088) }
 {
     let extents = BigEndian::read_u16(&page[12..14]);
     let pages = BigEndian::read_u16(&page[14..16]);
-    if 4 <= extents && extents <= 512 && 2 <= pages && pages <= 256 {
+    if are_in_bounds(
+        GREATEST_SUPERBLOCK_EXTENTS,
+        u64::from(extents),
+        u64::from(pages),
+    ) {
         Ok(())
     } else {
         Err(FormatFault::BadLength)
@@ -81,7 +87,7 @@ fn check_geometry(page: &[u8; 4096]) -> Result<(), FormatFault>
 }
 
 /// The version is in range.
-fn check_range(page: &[u8; 4096]) -> Result<(), FormatFault>
+pub(crate) fn check_range(page: &[u8; 4096]) -> Result<(), FormatFault>
     ensures { fault_in result ≡ superblock_range_test page.now }
 {
     let version = BigEndian::read_u64(&page[4..12]);
@@ -111,7 +117,7 @@ fn has_pointers(bytes: &[u8], pages: u16) -> bool
 }
 
 /// The pointers and generations that these bytes spell, 6 bytes each.
-fn extents_of(alloc: Global, bytes: &[u8]) -> Result<Vec<(u16, u32)>, AllocError>
+pub(crate) fn extents_of(alloc: Global, bytes: &[u8]) -> Result<Vec<(u16, u32)>, AllocError>
     ensures { IfOk result (λ v. v.items ≡ extents_from bytes.now) }
 {
     let (spelled, _) = bytes.as_chunks::<6>();
@@ -121,17 +127,24 @@ fn extents_of(alloc: Global, bytes: &[u8]) -> Result<Vec<(u16, u32)>, AllocError
         .collect(alloc)
 }
 
+/// No pointer that these bytes spell is above `pages`.
+pub(crate) fn check_pointers_in(bytes: &[u8], pages: u16) -> Result<(), FormatFault>
+    ensures { fault_in result ≡ pointers_test pages (extents_from bytes.now) }
+{
+    if has_pointers(bytes, pages) {
+        Ok(())
+    } else {
+        Err(FormatFault::BadLength)
+    }
+}
+
 /// No pointer is past the extent's pages.
 fn check_pointers(page: &[u8; 4096]) -> Result<(), FormatFault>
     requires { superblock_end page.now ≤ 3088 }
     ensures { fault_in result ≡ pointer_test page.now }
 {
     let pages = BigEndian::read_u16(&page[14..16]);
-    if has_pointers(&page[16..end_of(page)], pages) {
-        Ok(())
-    } else {
-        Err(FormatFault::BadLength)
-    }
+    check_pointers_in(&page[16..end_of(page)], pages)
 }
 
 /// Makes the tests of a superblock in order.

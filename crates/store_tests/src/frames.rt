@@ -1,10 +1,11 @@
 //! The formats by their bytes, and by each byte that is damaged.
 use crate::texts::{is_said, prints};
 use cs_frame::{
-    FormatFault, FrameKind, Geometry, Locator, Root, Run, ShardId, Superblock, decode_frame,
-    decode_frame_header, decode_root, decode_run, decode_superblock, encode_frame, encode_root,
-    encode_run, encode_superblock, frame_has_one_spelling, frame_is_read_by_its_header,
-    frame_pages, root_has_one_spelling, run_has_one_spelling, superblock_has_one_spelling,
+    FormatFault, FrameKind, Geometry, Locator, Root, Run, Section, ShardId, Superblock,
+    decode_frame, decode_frame_header, decode_root, decode_run, decode_section, decode_superblock,
+    encode_frame, encode_root, encode_run, encode_section, encode_superblock,
+    frame_has_one_spelling, frame_is_read_by_its_header, frame_pages, root_has_one_spelling,
+    run_has_one_spelling, section_has_one_spelling, superblock_has_one_spelling,
     these_formats_are_formats,
 };
 use std::process::Abort;
@@ -29,6 +30,16 @@ const SUPERBLOCK: [u8; 84] = [
     0x00, 0x00, 0x00, 0x00, 0x1f, 0xe2, 0xc4, 0xcb, 0x0b, 0x99, 0x98, 0x63, 0xd2, 0xe2, 0x83, 0xe9,
     0x16, 0xcc, 0x8d, 0x8e, 0x2a, 0xfd, 0x79, 0x34, 0xc7, 0xfe, 0xb1, 0xcf, 0x30, 0x27, 0xd1, 0xa7,
     0x95, 0x6d, 0xbe, 0xef,
+];
+
+// The one section of a store of 6 extents of 2 pages, of which two are full.
+const SECTION: [u8; 86] = [
+    0x43, 0x53, 0x53, 0x32, 0x00, 0x00, 0x00, 0x00, 0x00, 0x00, 0x00, 0x05, 0x00, 0x06, 0x00, 0x02,
+    0x01, 0x00, 0x00, 0x02, 0x00, 0x00, 0x00, 0x00, 0x00, 0x02, 0x00, 0x00, 0x00, 0x00, 0x00, 0x00,
+    0x00, 0x00, 0x00, 0x00, 0x00, 0x00, 0x00, 0x00, 0x00, 0x00, 0x00, 0x00, 0x00, 0x00, 0x00, 0x00,
+    0x00, 0x00, 0x00, 0x00, 0x00, 0x00, 0xe0, 0x8f, 0x72, 0xaa, 0x12, 0x51, 0x06, 0x9d, 0xfc, 0xc1,
+    0xa1, 0x89, 0xeb, 0xb4, 0x00, 0xf6, 0xcf, 0x45, 0xc1, 0x53, 0xe3, 0x09, 0xf8, 0xb5, 0x09, 0x4f,
+    0x93, 0xbe, 0xb3, 0xc0, 0x9e, 0x84,
 ];
 
 const FORMAT_ROOT: [u8; 53] = [
@@ -121,6 +132,27 @@ fn superblocks(rt: HostRuntime) {
 /// How the later superblock prints.
 const LATER: &str =
     "Superblock { version: 3, pages: 2, extents: [(2, 0), (0, 0), (0, 0), (0, 0), (0, 0), (0, 0)] }";
+
+#[test]
+fn sections(rt: HostRuntime) {
+    let extents = vec![in rt.alloc(); (2, 0), (2, 0), (0, 0), (0, 0), (0, 0), (0, 0)];
+    let section = Section {
+        version: 5,
+        extent_count: 6,
+        pages: 2,
+        sections: 1,
+        section: 0,
+        extents: extents.expect(&rt, "memory"),
+    };
+    let page = encode_section(&section);
+    assert!(rt; is_page(&page, &SECTION));
+    let read = decode_section(rt.alloc(), &page).expect(&rt, "a section");
+    prints(&rt, &read, ONE_SECTION);
+}
+
+/// How that section prints.
+const ONE_SECTION: &str =
+    "Section { version: 5, extent_count: 6, pages: 2, sections: 1, section: 0, extents: [(2, 0), (2, 0), (0, 0), (0, 0), (0, 0), (0, 0)] }";
 
 #[test]
 fn roots(rt: HostRuntime) {
@@ -218,6 +250,7 @@ fn frames_of_two_pages(rt: HostRuntime) {
 #[derive(Clone, Copy)]
 enum Format {
     Superblock,
+    Section,
     Root,
     // the first of two pages
     Chunk,
@@ -237,6 +270,7 @@ fn number_of<T: Drop>(read: Result<T, FormatFault>) -> u8 {
 fn fault_of(rt: &(impl Abort + AllocGlobal), format: Format, page: &[u8; 4096]) -> u8 {
     match format {
         Format::Superblock => number_of(decode_superblock(rt.alloc(), page)),
+        Format::Section => number_of(decode_section(rt.alloc(), page)),
         Format::Root => number_of(decode_root(rt.alloc(), page)),
         Format::Chunk => number_of(decoded(rt, FrameKind::Chunk, &[*page, *page])),
         Format::Run => number_of(decoded(rt, FrameKind::Run, &[*page])),
@@ -272,6 +306,31 @@ fn damaged(rt: &(impl Abort + AllocGlobal), format: Format, start: &[u8], table:
 fn damaged_superblocks(rt: HostRuntime) {
     let table = [(3, 20), (4, 24), (14, 21), (15, 22), (84, 21), (4096, 23)];
     damaged(&rt, Format::Superblock, &SUPERBLOCK, &table);
+}
+
+#[test]
+fn damaged_sections(rt: HostRuntime) {
+    let table = [
+        (3, 20),
+        (4, 24),
+        (14, 21),
+        (15, 22),
+        (16, 21),
+        (18, 22),
+        (86, 21),
+        (4096, 23),
+    ];
+    damaged(&rt, Format::Section, &SECTION, &table);
+}
+
+#[test]
+fn formats_of_superblocks(rt: HostRuntime) {
+    let first = page_of(&rt, &SUPERBLOCK);
+    let found = fault_of(&rt, Format::Section, &first);
+    assert!(rt; found == 24);
+    let second = page_of(&rt, &SECTION);
+    let found = fault_of(&rt, Format::Superblock, &second);
+    assert!(rt; found == 24);
 }
 
 #[test]
@@ -400,6 +459,7 @@ fn geometries(rt: HostRuntime) {
 #[test]
 fn laws() {
     superblock_has_one_spelling();
+    section_has_one_spelling();
     root_has_one_spelling();
     run_has_one_spelling();
     frame_has_one_spelling();

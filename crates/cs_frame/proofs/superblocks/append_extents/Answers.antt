@@ -5,7 +5,7 @@ use Rattle.std.proofs.lemmas.Grind.{common_steps}
 use Rattle.cs_frame.proofs.Pieces.{all_more}
 use Rattle.cs_frame.specs.Superblocks.{FitsGeneration}
 use Rattle.cs_frame.specs.Buffers.{text_of}
-use Rattle.cs_frame.proofs.SuperblockLaws.{length-spelled_extents}
+use Rattle.cs_frame.proofs.ExtentPageLaws.{length-spelled_extents}
 use Rattle.cs_frame.proofs.superblocks.append_extents.Goals as goal
 
 pub append_extent-requires : goal.append_extent-requires

@@ -1,0 +1,182 @@
+-- A page without a fault as a section is spelled, and what is spelled has no fault and is read as it was.
+use Rattle.std.proofs.Common.{◌≡◌, ℕ, ◌+◌, ◌-◌, ◌*◌, ◌≤◌, ◌<◌, true, Bool, List, [], ◌∷◌, ◌++◌, length, take, drop, slice_index, codes, None, refl, sym, ap, subst, ◌∙◌, arith, append_assoc, length-append, ◌&&◌, nat_lt}
+use Rattle.std.proofs.lemmas.Bool.{and_parts, and_from, ltb-true, lt-ltb}
+use Rattle.byteorder.specs.Endian.{big_bytes}
+use Rattle.sha2.specs.Sha256.{sha256}
+use Rattle.cs_frame.specs.Bytes.{IsPage, number, zeros}
+use Rattle.cs_frame.specs.Geometries.{IsSectioned, greatest_extents, in_bounds, is_divided, section_length}
+use Rattle.cs_frame.specs.Pages.{padded, sealed}
+use Rattle.cs_frame.specs.Sections.{FitsSection, SpellsSection, section_count, section_end, section_extents_in, section_fault, section_fields, spelled_section}
+use Rattle.cs_frame.specs.Superblocks.{extents_from, spelled_extents}
+use Rattle.cs_frame.proofs.ExtentPageLaws.{are_read, count_again, extents_from-spelled, head_is_spelled, length-spelled_extents, pages_again, sound, sound_passes, spelled_is_sound, tail_again, version_again}
+use Rattle.cs_frame.proofs.Fields.{after_field, byte_at_front, field_1, field_at, take_more}
+use Rattle.cs_frame.proofs.GeometryLaws.{in_bounds-sectioned, is_divided-sectioned, sectioned, section_length-le}
+use Rattle.cs_frame.proofs.PageLaws.{page_is_padded}
+
+-- ---- a page without a fault
+
+-- the numbers of extents, pages and sections pass
+abbrev passes : (extents pages sections section : ℕ) → Bool
+passes extents pages sections section = in_bounds greatest_extents extents pages && is_divided extents sections && nat_lt section sections
+
+abbrev counts : List ℕ → Bool
+counts page = passes (number 12 14 page) (number 14 16 page) (slice_index page 16) (slice_index page 17)
+
+-- what they say
+pub record IsCounted (extents pages sections section : ℕ) : Type 0 where
+  pub sectioned : IsSectioned extents pages sections
+  pub one_of_them : section < sections
+
+pub counted : (extents pages sections section : ℕ) → passes extents pages sections section ≡ true → IsCounted extents pages sections section
+counted extents pages sections section h =
+    let two = and_parts (in_bounds greatest_extents extents pages && is_divided extents sections) (nat_lt section sections) h in
+    let one = and_parts (in_bounds greatest_extents extents pages) (is_divided extents sections) two.0 in
+    record { sectioned = sectioned extents pages sections one.0 one.1; one_of_them = ltb-true section sections two.1 }
+
+pub counted_passes : (extents pages sections section : ℕ) → IsSectioned extents pages sections → section < sections → passes extents pages sections section ≡ true
+counted_passes extents pages sections section s inside =
+    and_from _ _ (and_from _ _ (in_bounds-sectioned extents pages sections s) (is_divided-sectioned extents pages sections s)) (lt-ltb section sections inside)
+
+-- the digest lies in the page
+pub end_in_page : (extents pages sections section : ℕ) → IsSectioned extents pages sections → 18 + 6 * section_length extents sections section + 32 ≤ 4096
+end_in_page extents pages sections section s = omega (arith, section_length-le extents sections section, s.section_fits)
+
+-- a page without a fault spells what is read from it
+spells_itself : (page : List ℕ) → IsPage page → section_fault page ≡ None → SpellsSection page (number 4 12 page) (number 12 14 page) (number 14 16 page) (slice_index page 16) (slice_index page 17) (section_extents_in page)
+spells_itself page p h =
+    let it = sound page 50 (counts page) (section_end page) (section_extents_in page) p.size h in
+    let numbers = counted (number 12 14 page) (number 14 16 page) (slice_index page 16) (slice_index page 17) it.counted in
+    let size = p.size in
+    let bound : section_end page + 32 ≤ 4096 = end_in_page _ _ _ _ numbers.sectioned in
+    let there = are_read page (number 14 16 page) 18 (section_end page) (section_count page) p refl (omega arith) it.pointers in
+    let head : take 16 page ≡ codes "CSS2" ++ big_bytes 8 (number 4 12 page) ++ big_bytes 2 (number 12 14 page) ++ big_bytes 2 (number 14 16 page) = head_is_spelled page (codes "CSS2") p it.magic in
+    let divided : take 17 page ≡ codes "CSS2" ++ big_bytes 8 (number 4 12 page) ++ big_bytes 2 (number 12 14 page) ++ big_bytes 2 (number 14 16 page) ++ slice_index page 16 ∷ [] = take_more page _ _ 16 17 (omega arith) head (field_1 page 16 17 refl (omega arith)) in
+    let fields : take (section_end page) page ≡ section_fields (number 4 12 page) (number 12 14 page) (number 14 16 page) (slice_index page 16) (slice_index page 17) (section_extents_in page) =
+    take_more page _ _ 18 (section_end page) (omega arith) (take_more page _ _ 17 18 (omega arith) divided (field_1 page 17 18 refl (omega arith))) (sym there.spelled) in
+    record {
+      fits = record {
+        first_version = it.first_version;
+        last_version = it.last_version;
+        sectioned = numbers.sectioned;
+        one_of_them = numbers.one_of_them;
+        count = there.counted;
+        each = there.each;
+      };
+      spelled = page_is_padded page (section_end page) size (omega arith) it.digest it.padding ∙ ap (λ (xs : List ℕ). padded (sealed xs)) fields;
+    }
+
+pub spells : (page : List ℕ) (version extents pages sections section : ℕ) (written : List (ℕ × ℕ)) → IsPage page → section_fault page ≡ None
+    → version ≡ number 4 12 page → extents ≡ number 12 14 page → pages ≡ number 14 16 page → sections ≡ slice_index page 16 → section ≡ slice_index page 17 → written ≡ section_extents_in page
+    → SpellsSection page version extents pages sections section written
+spells page version extents pages sections section written p h a b c d e f =
+    subst (λ (n : ℕ). SpellsSection page n extents pages sections section written) (sym a)
+    (subst (λ (n : ℕ). SpellsSection page (number 4 12 page) n pages sections section written) (sym b)
+    (subst (λ (n : ℕ). SpellsSection page (number 4 12 page) (number 12 14 page) n sections section written) (sym c)
+    (subst (λ (n : ℕ). SpellsSection page (number 4 12 page) (number 12 14 page) (number 14 16 page) n section written) (sym d)
+    (subst (λ (n : ℕ). SpellsSection page (number 4 12 page) (number 12 14 page) (number 14 16 page) (slice_index page 16) n written) (sym e)
+    (subst (λ (es : List (ℕ × ℕ)). SpellsSection page (number 4 12 page) (number 12 14 page) (number 14 16 page) (slice_index page 16) (slice_index page 17) es) (sym f)
+    (spells_itself page p h))))))
+
+-- ---- what is spelled
+
+pub length-section_fields : (version extents pages sections section : ℕ) (written : List (ℕ × ℕ)) → length (section_fields version extents pages sections section written) ≡ 18 + 6 * length written
+length-section_fields version extents pages sections section written =
+    omega (arith, length-append (codes "CSS2" ++ big_bytes 8 version ++ big_bytes 2 extents ++ big_bytes 2 pages ++ sections ∷ [] ++ section ∷ []) (spelled_extents written), length-spelled_extents written)
+
+module _ (version extents pages sections section : ℕ) (written : List (ℕ × ℕ)) (fits : FitsSection version extents pages sections section written) where
+  -- what is spelled before the digest, and what of it follows the first 16 bytes
+  abbrev text : List ℕ
+  text = section_fields version extents pages sections section written
+
+  abbrev tail : List ℕ
+  tail = sections ∷ section ∷ spelled_extents written
+
+  abbrev bytes : List ℕ
+  bytes = spelled_section version extents pages sections section written
+
+  split : text ≡ codes "CSS2" ++ big_bytes 8 version ++ big_bytes 2 extents ++ big_bytes 2 pages ++ tail
+  split =
+      append_assoc (codes "CSS2" ++ big_bytes 8 version ++ big_bytes 2 extents ++ big_bytes 2 pages ++ sections ∷ []) (section ∷ []) (spelled_extents written)
+      ∙ append_assoc (codes "CSS2" ++ big_bytes 8 version ++ big_bytes 2 extents ++ big_bytes 2 pages) (sections ∷ []) (section ∷ spelled_extents written)
+
+  short : length text + 32 ≤ 4096
+  short = omega (arith, length-section_fields version extents pages sections section written, fits.count, end_in_page extents pages sections section fits.sectioned)
+
+  -- what is spelled is read again
+  version_is_read : number 4 12 bytes ≡ version
+  version_is_read = version_again 50 version extents pages tail text split short fits.last_version
+
+  extents_are_read : number 12 14 bytes ≡ extents
+  extents_are_read = count_again 50 version extents pages tail text split short (omega (arith, fits.sectioned.most_extents))
+
+  pages_are_read : number 14 16 bytes ≡ pages
+  pages_are_read = pages_again 50 version extents pages tail text split short (omega (arith, fits.sectioned.most_pages))
+
+  at_sections : drop 16 bytes ≡ tail ++ (sha256 text ++ zeros (4096 - length (sealed text)))
+  at_sections = tail_again 50 version extents pages tail text split short
+
+  at_section : drop 17 bytes ≡ (section ∷ spelled_extents written) ++ (sha256 text ++ zeros (4096 - length (sealed text)))
+  at_section = after_field bytes (sections ∷ []) _ 16 17 at_sections refl
+
+  at_extents : drop 18 bytes ≡ spelled_extents written ++ (sha256 text ++ zeros (4096 - length (sealed text)))
+  at_extents = after_field bytes (section ∷ []) _ 17 18 at_section refl
+
+  sections_are_read : slice_index bytes 16 ≡ sections
+  sections_are_read = byte_at_front bytes _ 16 sections at_sections
+
+  section_is_read : slice_index bytes 17 ≡ section
+  section_is_read = byte_at_front bytes _ 17 section at_section
+
+  -- and of as many extents
+  count_is_read : section_count bytes ≡ length written
+  count_is_read =
+      ap (λ (n : ℕ). section_length n (slice_index bytes 16) (slice_index bytes 17)) extents_are_read
+      ∙ ap (λ (n : ℕ). section_length extents n (slice_index bytes 17)) sections_are_read
+      ∙ ap (λ (n : ℕ). section_length extents sections n) section_is_read
+      ∙ sym fits.count
+
+  end_is_read : length text ≡ section_end bytes
+  end_is_read = length-section_fields version extents pages sections section written ∙ ap (λ (n : ℕ). 18 + 6 * n) (sym count_is_read)
+
+  written_is_read : section_extents_in bytes ≡ written
+  written_is_read =
+      ap extents_from (field_at bytes (spelled_extents written) _ 18 (section_end bytes) at_extents
+      (ap (λ (n : ℕ). 18 + n) (length-spelled_extents written) ∙ ap (λ (n : ℕ). 18 + 6 * n) (sym count_is_read)))
+      ∙ extents_from-spelled pages (omega (arith, fits.sectioned.most_pages)) written fits.each
+
+  -- and has no fault
+  section_fault-spelled : section_fault bytes ≡ None
+  section_fault-spelled =
+      let numbers : counts bytes ≡ true =
+      ap (λ (n : ℕ). passes n (number 14 16 bytes) (slice_index bytes 16) (slice_index bytes 17)) extents_are_read
+      ∙ ap (λ (n : ℕ). passes extents n (slice_index bytes 16) (slice_index bytes 17)) pages_are_read
+      ∙ ap (λ (n : ℕ). passes extents pages n (slice_index bytes 17)) sections_are_read
+      ∙ ap (λ (n : ℕ). passes extents pages sections n) section_is_read
+      ∙ counted_passes extents pages sections section fits.sectioned fits.one_of_them in
+      sound_passes bytes 50 (counts bytes) (section_end bytes) (section_extents_in bytes)
+      (spelled_is_sound 50 version extents pages tail text split short (counts bytes) (section_end bytes) written (section_extents_in bytes)
+      fits.first_version fits.last_version (omega (arith, fits.sectioned.most_pages)) end_is_read numbers fits.each written_is_read)
+
+-- what spells a section has no fault
+pub spelled_has_none : (page : List ℕ) (version extents pages sections section : ℕ) (written : List (ℕ × ℕ)) → SpellsSection page version extents pages sections section written → section_fault page ≡ None
+spelled_has_none page version extents pages sections section written s = ap section_fault s.spelled ∙ section_fault-spelled version extents pages sections section written s.fits
+
+-- what is read of a page
+pub record IsRead (page : List ℕ) (version extents pages sections section : ℕ) (written : List (ℕ × ℕ)) : Type 0 where
+  pub of_version : number 4 12 page ≡ version
+  pub of_extents : number 12 14 page ≡ extents
+  pub of_pages : number 14 16 page ≡ pages
+  pub of_sections : slice_index page 16 ≡ sections
+  pub of_section : slice_index page 17 ≡ section
+  pub of_written : section_extents_in page ≡ written
+
+-- and nothing else is read
+pub one_section : (page : List ℕ) (version extents pages sections section : ℕ) (written : List (ℕ × ℕ)) → SpellsSection page version extents pages sections section written → IsRead page version extents pages sections section written
+one_section page version extents pages sections section written s = record {
+  of_version = ap (number 4 12) s.spelled ∙ version_is_read version extents pages sections section written s.fits;
+  of_extents = ap (number 12 14) s.spelled ∙ extents_are_read version extents pages sections section written s.fits;
+  of_pages = ap (number 14 16) s.spelled ∙ pages_are_read version extents pages sections section written s.fits;
+  of_sections = ap (λ (xs : List ℕ). slice_index xs 16) s.spelled ∙ sections_are_read version extents pages sections section written s.fits;
+  of_section = ap (λ (xs : List ℕ). slice_index xs 17) s.spelled ∙ section_is_read version extents pages sections section written s.fits;
+  of_written = ap section_extents_in s.spelled ∙ written_is_read version extents pages sections section written s.fits;
+}

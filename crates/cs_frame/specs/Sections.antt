@@ -1,0 +1,91 @@
+-- The page of a section of a superblock, field by field, and the tests of its decoder in order.
+use Rattle.std.specs.Prelude.{◌≡◌, ℕ, ◌+◌, ◌*◌, ◌^◌, ◌<◌, ◌≤◌, ◌&&◌, List, [], ◌∷◌, ◌++◌, length, Option, codes, nat_lt, slice_index}
+use Rattle.std.specs.List.{AllByRecursion}
+use Rattle.byteorder.specs.Endian.{big_bytes}
+use Rattle.cs_frame.specs.declared.faults.FormatFault.{FormatFault}
+use Rattle.cs_frame.specs.declared.faults.FormatFault.TheVariants.{BadLength}
+use Rattle.cs_frame.specs.declared.sections.Section.{Section}
+use Rattle.cs_frame.specs.Bytes.{field, number}
+use Rattle.cs_frame.specs.Faults.{first_fault, unless}
+use Rattle.cs_frame.specs.Geometries.{IsSectioned, greatest_extents, in_bounds, is_divided, section_length}
+use Rattle.cs_frame.specs.Pages.{digest_test, digit_test, magic_test, padded, padding_test, sealed}
+use Rattle.cs_frame.specs.Superblocks.{FitsExtent, extents_from, pointers_test, spelled_extents, superblock_range_test}
+
+-- |  0 | 4     | CSS2                                               |
+-- |  4 | 8     | version                                            |
+-- | 12 | 2     | E, the number of extents, all sections together    |
+-- | 14 | 2     | P, the pages of an extent                          |
+-- | 16 | 1     | S, the number of sections                          |
+-- | 17 | 1     | j, which of them this is, from 0                   |
+-- | 18 | 6 * m | pointer and generation of each of its m extents    |
+abbrev pub section_fields : (version extents pages sections section : ℕ) → List (ℕ × ℕ) → List ℕ
+section_fields version extents pages sections section written =
+    codes "CSS2" ++ big_bytes 8 version ++ big_bytes 2 extents ++ big_bytes 2 pages ++ sections ∷ [] ++ section ∷ []
+    ++ spelled_extents written
+
+-- | 18 + 6 * m | 32 | digest of all bytes before |
+-- | 50 + 6 * m |    | zeros to the end           |
+abbrev pub spelled_section : (version extents pages sections section : ℕ) → List (ℕ × ℕ) → List ℕ
+spelled_section version extents pages sections section written =
+    padded (sealed (section_fields version extents pages sections section written))
+
+-- what has a spelling
+pub record FitsSection (version extents pages sections section : ℕ) (written : List (ℕ × ℕ)) : Type 0 where
+  pub first_version : 1 ≤ version
+  pub last_version : version < 2 ^ 63
+  pub sectioned : IsSectioned extents pages sections
+  pub one_of_them : section < sections
+  pub count : length written ≡ section_length extents sections section
+  pub each : AllByRecursion (FitsExtent pages) written
+
+-- the bytes are the spelling of these
+pub record SpellsSection (bytes : List ℕ) (version extents pages sections section : ℕ) (written : List (ℕ × ℕ)) : Type 0 where
+  pub fits : FitsSection version extents pages sections section written
+  pub spelled : bytes ≡ spelled_section version extents pages sections section written
+
+-- a section that can be spelled: what its type doesn't say of its numbers
+pub record IsSection (it : Section) : Type 0 where
+  pub first_version : 1 ≤ it.version
+  pub last_version : it.version < 2 ^ 63
+  pub sectioned : IsSectioned it.extent_count it.pages it.sections
+  pub one_of_them : it.section < it.sections
+  pub count : length it.extents.items ≡ section_length it.extent_count it.sections it.section
+  pub pointers : AllByRecursion (λ extent. extent.0 ≤ it.pages) it.extents.items
+
+-- how many extents a section has, by what its bytes say
+abbrev pub section_count : List ℕ → ℕ
+section_count bytes = section_length (number 12 14 bytes) (slice_index bytes 16) (slice_index bytes 17)
+
+-- where the digest begins
+abbrev pub section_end : List ℕ → ℕ
+section_end bytes = 18 + 6 * section_count bytes
+
+-- pointer and generation of each extent of the section, as its bytes spell them
+abbrev pub section_extents_in : List ℕ → List (ℕ × ℕ)
+section_extents_in bytes = extents_from (field 18 (section_end bytes) bytes)
+
+-- so many extents of so many pages have a superblock of so many sections, and this is one of them
+abbrev pub section_test : List ℕ → Option FormatFault
+section_test bytes =
+    unless (in_bounds greatest_extents (number 12 14 bytes) (number 14 16 bytes)
+    && is_divided (number 12 14 bytes) (slice_index bytes 16) && nat_lt (slice_index bytes 17) (slice_index bytes 16)) BadLength
+
+-- no pointer is past the extent's pages
+abbrev pub section_pointer_test : List ℕ → Option FormatFault
+section_pointer_test bytes = pointers_test (number 14 16 bytes) (section_extents_in bytes)
+
+-- the tests of a section in order
+abbrev pub section_tests : List ℕ → List (Option FormatFault)
+section_tests bytes =
+    magic_test (codes "CSS") bytes
+    ∷ digit_test 50 bytes
+    ∷ section_test bytes
+    ∷ digest_test (section_end bytes) bytes
+    ∷ superblock_range_test bytes
+    ∷ section_pointer_test bytes
+    ∷ padding_test (section_end bytes + 32) bytes
+    ∷ []
+
+-- what is wrong with a page as a section
+abbrev pub section_fault : List ℕ → Option FormatFault
+section_fault bytes = first_fault (section_tests bytes)
