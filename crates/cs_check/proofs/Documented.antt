@@ -12,9 +12,10 @@ use Rattle.serde_json.specs.Read.{read}
 use Rattle.cs_deps.specs.declared.elements.Element.{Element}
 use Rattle.cs_deps.specs.declared.elements.Element.TheVariants.{Plain, Version}
 use Rattle.cs_deps.specs.Entries.{nothing, union}
-use Rattle.cs_deps.specs.Named.{Named, Names}
+use Rattle.cs_deps.specs.Named.{Named, Names, IsInSpans}
 use Rattle.cs_deps.specs.Pending.{Pending, WaitsAt, Waits, IsPersistent}
 use Rattle.cs_deps.proofs.Entries.{names_of_union}
+use Rattle.cs_deps.proofs.InSpans.{in_none, in_one}
 use Rattle.cs_check.specs.Documents.{AreEntries, HasMember, IsDocument, IsDocumentOf, NamesThese, NamesToo, elements_in, names_data}
 use Rattle.cs_check.specs.Listing.{IsListing, WaitsBefore}
 use Rattle.cs_check.specs.Names.{IsName, name_of}
@@ -44,26 +45,23 @@ least_other (suc f) v zero other = refl
 least_other (suc f) v (suc g) other = least_other f v g (λ e. other (ap (λ n. suc n) e))
 
 one : Element → Named
-one (Plain n) = record { through = 0; plains = n ∷ []; least = [] }
-one (Version f v) = record { through = 0; plains = []; least = least_of f v }
-
-none_listed : (n : ℕ) → Contains [] n → ⊥
-none_listed n c = absurd (omega (arith, c.1))
+one (Plain n) = record { through = 0; spans = record { first = n; last = n } ∷ []; least = [] }
+one (Version f v) = record { through = 0; spans = []; least = least_of f v }
 
 one_names : (x y : Element) → Names (one x) y ↔ NamesToo x y
 unfolding one
 one_names (Plain m) (Plain n) = (
   (λ named. ⊎_elim
       (λ (b : (1 ≤ n) × (n ≤ 0)). absurd (omega (arith, b.0, b.1)))
-      (λ (c : Contains (m ∷ []) n). ⊎_elim (λ (e : Contains [] n). absurd (none_listed n e)) (λ (e : m ≡ n). e) (Contains-push_cases [] m n c))
+      (λ (c : IsInSpans (record { first = m; last = m } ∷ []) n). let h = (in_one (record { first = m; last = m }) n).0 c in omega (arith, h.0, h.1))
       named),
-  (λ same. inr (subst (λ k. Contains (m ∷ []) k) same (Contains-push [] m))),
+  (λ same. inr ((in_one (record { first = m; last = m }) n).1 (omega (arith, same), omega (arith, same)))),
 )
 one_names (Plain m) (Version g w) = ((λ named. absurd (omega (arith, named.0, named.1))), (λ wrong. absurd wrong))
 one_names (Version f v) (Plain n) = (
   (λ named. ⊎_elim
       (λ (b : (1 ≤ n) × (n ≤ 0)). absurd (omega (arith, b.0, b.1)))
-      (λ (c : Contains [] n). absurd (none_listed n c))
+      (λ (c : IsInSpans [] n). absurd (in_none n c))
       named),
   (λ wrong. absurd wrong),
 )
@@ -80,7 +78,7 @@ named_of [] = nothing
 named_of (x ∷ xs) = union (one x) (named_of xs)
 
 none_named : (y : Element) → Names nothing y → ⊥
-none_named (Plain n) named = ⊎_elim (λ (b : (1 ≤ n) × (n ≤ 0)). absurd (omega (arith, b.0, b.1))) (λ (c : Contains [] n). none_listed n c) named
+none_named (Plain n) named = ⊎_elim (λ (b : (1 ≤ n) × (n ≤ 0)). absurd (omega (arith, b.0, b.1))) (λ (c : IsInSpans [] n). in_none n c) named
 none_named (Version f v) named = absurd (omega (arith, named.0, named.1))
 
 these : (xs : List Element) → NamesThese (named_of xs) xs

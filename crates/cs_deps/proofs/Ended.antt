@@ -1,13 +1,12 @@
 -- What the kept levels say of what has ended: what neither waits nor is one of the round that is out.
 use Rattle.std.proofs.Common.{◌≡◌, ℕ, ◌+◌, ◌<◌, ◌≤◌, Bool, true, false, List, length, get_or, Option, Some, None, refl, sym, ◌∙◌, subst, inl, inr, ⊎_elim, arith}
-use Rattle.std.specs.Prelude.{Contains, All, ◌↔◌}
+use Rattle.std.specs.Prelude.{Contains, ◌↔◌}
 use Rattle.std.proofs.lemmas.Bool.{cases_lt, ltb-true}
-use Rattle.std.proofs.lemmas.List.Elements.{All-contains, Contains-get_or}
 use Rattle.cs_deps.specs.declared.elements.Element.{Element}
 use Rattle.cs_deps.specs.declared.elements.Element.TheVariants.{Plain, Version}
 use Rattle.cs_deps.specs.declared.levels.Kept.{Kept}
 use Rattle.cs_deps.specs.declared.levels.Levels.{Levels}
-use Rattle.cs_deps.specs.Named.{Named, Names, IsWithin, StandsFor}
+use Rattle.cs_deps.specs.Named.{Named, Names, IsInSpans, IsWithin, StandsFor}
 use Rattle.cs_deps.specs.Pending.{Waits}
 use Rattle.cs_deps.specs.Staging.{IsSatisfied, is_left_waiting, waits_still}
 use Rattle.cs_deps.specs.State.{State, after_round}
@@ -106,14 +105,14 @@ module _ (s : State) (whole : IsSound s) (l : Levels) (ix : IsIndexed s l) where
         (λ (le : d.through ≤ s.staging.staged). le)
         (cases_lt s.staging.staged d.through)
 
-    pub satisfied_where_ended : ((f v : ℕ) → Names d (Version f v) → v ≤ get_or s.staging.pending.persistent f 0) → top_of (kept_by l (Plain d.through)) ≤ l.ended → All (λ n. level_by l (Plain n) ≤ l.ended) d.plains → (x : Element) → Names d x → IsSatisfied s.staging x
+    pub satisfied_where_ended : ((f v : ℕ) → Names d (Version f v) → v ≤ get_or s.staging.pending.persistent f 0) → top_of (kept_by l (Plain d.through)) ≤ l.ended → ((n : ℕ) → IsInSpans d.spans n → level_by l (Plain n) ≤ l.ended) → (x : Element) → Names d x → IsSatisfied s.staging x
     satisfied_where_ended versions top listed (Version f v) named = (within (Version f v) named, versions f v named)
     satisfied_where_ended versions top listed (Plain n) named = (within (Plain n) named, λ w. (let hi = above_ended n w in omega (arith, hi, low)))
       where
         low : level_by l (Plain n) ≤ l.ended
         low = ⊎_elim
             (λ (t : (1 ≤ n) × (n ≤ d.through)). (ended_to d.through through_staged).0 top n t.0 t.1)
-            (λ (c : Contains d.plains n). All-contains (λ n. level_by l (Plain n) ≤ l.ended) d.plains n listed c)
+            (λ (c : IsInSpans d.spans n). listed n c)
             named
 
     module _ (all : (x : Element) → Names d x → IsSatisfied s.staging x) where
@@ -126,5 +125,5 @@ module _ (s : State) (whole : IsSound s) (l : Levels) (ix : IsIndexed s l) where
       pub top_where_satisfied : top_of (kept_by l (Plain d.through)) ≤ l.ended
       top_where_satisfied = (ended_to d.through through_staged).1 (λ n one le. low_where_named n (inl (one, le)))
 
-      pub listed_where_satisfied : All (λ n. level_by l (Plain n) ≤ l.ended) d.plains
-      listed_where_satisfied k x lt = low_where_named (get_or d.plains k x) (inr (Contains-get_or d.plains k x lt))
+      pub listed_where_satisfied : (n : ℕ) → IsInSpans d.spans n → level_by l (Plain n) ≤ l.ended
+      listed_where_satisfied n c = low_where_named n (inr c)

@@ -7,13 +7,14 @@ use Rattle.std.proofs.lemmas.List.Elements.{filter-append}
 use Rattle.std.proofs.lemmas.Option.{some_pair_parts, same_Some}
 use Rattle.cs_deps.specs.declared.elements.Element.{Element}
 use Rattle.cs_deps.specs.declared.elements.Element.TheVariants.{Plain, Version}
+use Rattle.cs_deps.specs.declared.spans.Span.{Span}
 use Rattle.cs_deps.specs.Named.{Named}
 use Rattle.cs_deps.specs.Staging.{stands_for}
 use Rattle.cs_deps.specs.Entries.{nothing, greater_at_each, union, joined_with, full_needs, entry_waits, waiting_of, AreCurrent}
 use Rattle.cs_deps.specs.declared.levels.Levels.{Levels}
 use Rattle.cs_deps.specs.Levels.{entry_live, AreLive}
 use Rattle.std.proofs.lemmas.Bool.{lt-ltb}
-use Rattle.cs_deps.specs.Spent.{is_small, is_spent, carried_with, IsFolded}
+use Rattle.cs_deps.specs.Spent.{is_foldable, is_spent, carried_with, IsFolded}
 use Rattle.cs_deps.proofs.Entries.{joined_push, map_same}
 use Rattle.cs_deps.proofs.Filtered.{came_from}
 use Rattle.cs_deps.proofs.Kept.{at_push}
@@ -36,26 +37,26 @@ greater_assoc (a ∷ bs) [] ds = refl
 greater_assoc (a ∷ bs) (c ∷ cs) [] = refl
 greater_assoc (a ∷ bs) (c ∷ cs) (d ∷ ds) = ap (λ n. n ∷ greater_at_each (greater_at_each bs cs) ds) (let e : max (max a c) d ≡ max a (max c d) = omega arith in e) ∙ ap (λ ns. max a (max c d) ∷ ns) (greater_assoc bs cs ds)
 
-named_same : (a b : Named) → a.through ≡ b.through → a.plains ≡ b.plains → a.least ≡ b.least → a ≡ b
-named_same a b t p l = ap (λ x. record { through = x; plains = a.plains; least = a.least }) t ∙ ap (λ x. record { through = b.through; plains = x; least = a.least }) p ∙ ap (λ x. record { through = b.through; plains = b.plains; least = x }) l
+named_same : (a b : Named) → a.through ≡ b.through → a.spans ≡ b.spans → a.least ≡ b.least → a ≡ b
+named_same a b t p l = ap (λ x. record { through = x; spans = a.spans; least = a.least }) t ∙ ap (λ x. record { through = b.through; spans = x; least = a.least }) p ∙ ap (λ x. record { through = b.through; spans = b.spans; least = x }) l
 
-union_swap : (a c d : Named) → c.plains ≡ [] → union (union a c) d ≡ union (union a d) c
+union_swap : (a c d : Named) → c.spans ≡ [] → union (union a c) d ≡ union (union a d) c
 union_swap a c d none = named_same (union (union a c) d) (union (union a d) c)
     (let e : max (max a.through c.through) d.through ≡ max (max a.through d.through) c.through = omega arith in e)
-    (ap (λ ps. (a.plains ++ ps) ++ d.plains) none ∙ ap (λ ps. ps ++ d.plains) (append-nil a.plains) ∙ sym (ap (λ ps. (a.plains ++ d.plains) ++ ps) none ∙ append-nil (a.plains ++ d.plains)))
+    (ap (λ ps. (a.spans ++ ps) ++ d.spans) none ∙ ap (λ ps. ps ++ d.spans) (append-nil a.spans) ∙ sym (ap (λ ps. (a.spans ++ d.spans) ++ ps) none ∙ append-nil (a.spans ++ d.spans)))
     (greater_swap a.least c.least d.least)
 
 union_assoc : (a c d : Named) → union (union a c) d ≡ union a (union c d)
 union_assoc a c d = named_same (union (union a c) d) (union a (union c d))
     (let e : max (max a.through c.through) d.through ≡ max a.through (max c.through d.through) = omega arith in e)
-    (append_assoc a.plains c.plains d.plains)
+    (append_assoc a.spans c.spans d.spans)
     (greater_assoc a.least c.least d.least)
 
--- what takes no memory lists nothing
-small_none : (d : Named) → is_small d ≡ true → d.plains ≡ []
-small_none d is = from d.plains (nat_le (length d.least) 16) is
+-- what is foldable lists no span
+foldable_none : (d : Named) → is_foldable d ≡ true → d.spans ≡ []
+foldable_none d is = from d.spans (nat_le (length d.least) 16) is
   where
-    from : (ps : List ℕ) (b : Bool) → ((length ps == 0) && b) ≡ true → ps ≡ []
+    from : (ps : List Span) (b : Bool) → ((length ps == 0) && b) ≡ true → ps ≡ []
     from [] b is = refl
     from (p ∷ ps) b is = absurd (cc (let e : (length (p ∷ ps) == 0) ≡ false = grind (arith, nat_tests) in e, is))
 
@@ -83,15 +84,15 @@ module _ (f v : ℕ) where
   one_left y a w l true = refl
   one_left y a w l false = refl
 
-  joined_left : (y : Element) → ((x : Element) → stands_for (Version f v) x ≡ true → stands_for y x ≡ true) → (a c : Named) → c.plains ≡ [] → (es : List (Element × Named)) → joined_with y (union a c) es ≡ union (joined_with y a (left es)) (carried_with f v c es)
+  joined_left : (y : Element) → ((x : Element) → stands_for (Version f v) x ≡ true → stands_for y x ≡ true) → (a c : Named) → c.spans ≡ [] → (es : List (Element × Named)) → joined_with y (union a c) es ≡ union (joined_with y a (left es)) (carried_with f v c es)
   joined_left y too a c none [] = refl
   joined_left y too a c none (w ∷ ws) = go (λ b e q. joined_left y too b e q ws) (is_spent f v w) (stands_for y w.0) refl refl ∙ ap (λ d. union d (carried_with f v (if is_spent f v w then union c w.1 else c) ws)) (sym (one_left y a w (left ws) (is_spent f v w)))
     where
-      go : ((b e : Named) → e.plains ≡ [] → joined_with y (union b e) ws ≡ union (joined_with y b (left ws)) (carried_with f v e ws)) → (p t : Bool) → is_spent f v w ≡ p → stands_for y w.0 ≡ t → joined_with y (if t then union (union a c) w.1 else union a c) ws ≡ union (cond p (joined_with y a (left ws)) (joined_with y (if t then union a w.1 else a) (left ws))) (carried_with f v (if p then union c w.1 else c) ws)
+      go : ((b e : Named) → e.spans ≡ [] → joined_with y (union b e) ws ≡ union (joined_with y b (left ws)) (carried_with f v e ws)) → (p t : Bool) → is_spent f v w ≡ p → stands_for y w.0 ≡ t → joined_with y (if t then union (union a c) w.1 else union a c) ws ≡ union (cond p (joined_with y a (left ws)) (joined_with y (if t then union a w.1 else a) (left ws))) (carried_with f v (if p then union c w.1 else c) ws)
       go rest true true is stands =
-          let b = both (stands_for (Version f v) w.0) (is_small w.1) is in
-          ap (λ d. joined_with y d ws) (union_assoc a c w.1) ∙ rest a (union c w.1) (ap (λ ps. ps ++ w.1.plains) none ∙ small_none w.1 b.1)
-      go rest true false is stands = let b = both (stands_for (Version f v) w.0) (is_small w.1) is in absurd (cc (sym (too w.0 b.0) ∙ stands))
+          let b = both (stands_for (Version f v) w.0) (is_foldable w.1) is in
+          ap (λ d. joined_with y d ws) (union_assoc a c w.1) ∙ rest a (union c w.1) (ap (λ ps. ps ++ w.1.spans) none ∙ foldable_none w.1 b.1)
+      go rest true false is stands = let b = both (stands_for (Version f v) w.0) (is_foldable w.1) is in absurd (cc (sym (too w.0 b.0) ∙ stands))
       go rest false true is stands = ap (λ d. joined_with y d ws) (union_swap a c w.1 none) ∙ rest (union a w.1) c none
       go rest false false is stands = rest a c none
 
@@ -100,7 +101,7 @@ module _ (f v : ℕ) where
   joined_apart y apart a (w ∷ ws) = go (λ b. joined_apart y apart b ws) (is_spent f v w) (stands_for y w.0) refl refl ∙ sym (one_left y a w (left ws) (is_spent f v w))
     where
       go : ((b : Named) → joined_with y b ws ≡ joined_with y b (left ws)) → (p t : Bool) → is_spent f v w ≡ p → stands_for y w.0 ≡ t → joined_with y (if t then union a w.1 else a) ws ≡ cond p (joined_with y a (left ws)) (joined_with y (if t then union a w.1 else a) (left ws))
-      go rest true true is stands = let b = both (stands_for (Version f v) w.0) (is_small w.1) is in absurd (cc (sym (apart w.0 b.0) ∙ stands))
+      go rest true true is stands = let b = both (stands_for (Version f v) w.0) (is_foldable w.1) is in absurd (cc (sym (apart w.0 b.0) ∙ stands))
       go rest true false is stands = rest a
       go rest false true is stands = rest (union a w.1)
       go rest false false is stands = rest a
@@ -140,7 +141,7 @@ module _ (f v : ℕ) where
     waits_left (w ∷ ws) = go (waits_left ws) (is_spent f v w) refl
       where
         go : filter (λ (w : Element × Named). entry_waits ps w.0) (left ws) ≡ filter (λ w. entry_waits ps w.0) ws → (p : Bool) → is_spent f v w ≡ p → filter test (cond (not p) (w ∷ left ws) (left ws)) ≡ cond (test w) (w ∷ filter test ws) (filter test ws)
-        go rest true is = let b = both (stands_for (Version f v) w.0) (is_small w.1) is in rest ∙ sym (ap (λ t. cond t (w ∷ filter test ws) (filter test ws)) (spent_waits w.0 b.0))
+        go rest true is = let b = both (stands_for (Version f v) w.0) (is_foldable w.1) is in rest ∙ sym (ap (λ t. cond t (w ∷ filter test ws) (filter test ws)) (spent_waits w.0 b.0))
         go rest false is = ap (λ us. cond (test w) (w ∷ us) us) rest
 
     pub waiting_folded : waiting_of ps folded ≡ waiting_of ps es
@@ -161,7 +162,7 @@ module _ (f v : ℕ) where
         let parts = some_pair_parts (Version f v) (Version g u) (carried_with f v nothing es) d (ap (λ p. Some p) o.1) in
         let fam : f ≡ g = cc parts.0 in
         let ver : v ≡ u = cc parts.0 in
-        let low = witness w.0 w.1 at (both (stands_for (Version f v) w.0) (is_small w.1) is).0 in
+        let low = witness w.0 w.1 at (both (stands_for (Version f v) w.0) (is_foldable w.1) is).0 in
         subst (λ h. (u ≤ get_or latest h 0) × (get_or ps h 0 < get_or latest h 0)) fam (omega (arith, sym ver, last, low), low))
         (at_push (left es) (Version f v, carried_with f v nothing es) (Version g u, d) j there)
       where
@@ -222,5 +223,5 @@ live_kept f v old new is l floors live = ⊎_elim
         (λ (o : slice_get (left f v old) j ≡ Some (x, d)). let c = came_from (λ (u : Element × Named). not (is_spent f v u)) old j (x, d) o in live c.0 x d c.1)
         (λ (o : (j ≡ length (left f v old)) × ((Version f v, carried_with f v nothing old) ≡ (x, d))).
         let e : Version f v ≡ x = ap (λ (u : Element × Named). u.0) o.1 in
-        subst (λ y. entry_live l floors y ≡ true) e (past w.0 (both (stands_for (Version f v) w.0) (is_small w.1) spent).0 (live k w.0 w.1 at)))
+        subst (λ y. entry_live l floors y ≡ true) e (past w.0 (both (stands_for (Version f v) w.0) (is_foldable w.1) spent).0 (live k w.0 w.1 at)))
         (at_push (left f v old) (Version f v, carried_with f v nothing old) (x, d) j there)

@@ -2,6 +2,7 @@ pub mod Sets
 pub mod LowerBound
 pub mod Chains
 pub mod ByHeight
+pub mod InSpans
 pub mod Plains
 pub mod Within
 pub mod Kept

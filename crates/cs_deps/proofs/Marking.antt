@@ -1,14 +1,14 @@
 -- What a target needs is found from the last entry to the first.
 use Rattle.std.proofs.Common.{◌≡◌, ◌∙◌, ℕ, zero, suc, ◌+◌, ◌<◌, ◌≤◌, ◌⊎◌, Bool, true, false, List, [], ◌∷◌, ◌++◌, length, get_or, take, take_all, Some, slice_get, refl, sym, ap, subst, inl, inr, ⊎_elim, arith}
-use Rattle.std.specs.Prelude.{Contains, ◌↔◌, ◌==◌, ◌&&◌, cond, filter, option_map, nat_le, slice_index_or, if◌then◌else◌}
+use Rattle.std.specs.Prelude.{◌↔◌, ◌==◌, ◌&&◌, cond, filter, option_map, nat_le, slice_index_or, if◌then◌else◌}
 use Rattle.std.proofs.lemmas.Bool.{cases_lt, lt-ltb}
 use Rattle.std.proofs.lemmas.Bool.Decides.{nat_tests}
 use Rattle.std.proofs.lemmas.List.{append-nil, length-append}
-use Rattle.std.proofs.lemmas.List.Elements.{Contains-append_left, Contains-append_right, Contains-append_cases}
 use Rattle.std.proofs.lemmas.Option.{some_pair_parts, same_Some, slice_get-map, slice_get_within}
 use Rattle.cs_deps.specs.declared.elements.Element.{Element}
 use Rattle.cs_deps.specs.declared.elements.Element.TheVariants.{Plain, Version}
-use Rattle.cs_deps.specs.Named.{Named, Names}
+use Rattle.cs_deps.specs.declared.spans.Span.{Span}
+use Rattle.cs_deps.specs.Named.{Named, Names, IsInSpan, IsInSpans}
 use Rattle.cs_deps.specs.Pending.{Pending, Waits, WaitsAt, Needs, IsPersistent, IsStaged}
 use Rattle.cs_deps.specs.Chain.{IsChain, LastIs}
 use Rattle.cs_deps.specs.Staging.{Staging, IsKept, stands_for}
@@ -21,44 +21,41 @@ use Rattle.cs_deps.proofs.Entries.{names_of_union, names_nothing, listed_now, li
 use Rattle.cs_deps.proofs.Filtered.{filter_keeps}
 use Rattle.cs_deps.proofs.Live.{filter_place}
 use Rattle.cs_deps.proofs.LowerBound.{waiting_not_persistent}
-use Rattle.cs_deps.proofs.Plains.{front_more}
+use Rattle.cs_deps.proofs.InSpans.{no_span, in_left, in_right, in_either, added_none, added_more, added_all}
 
 -- MARKS
-abbrev pub AreMarkedSo : ℕ → List Bool → List ℕ → ℕ → List Bool → Type 0
-AreMarkedSo start old numbers k new = (i : ℕ) → i < length old → (slice_index_or new i false ≡ true) ↔ ((slice_index_or old i false ≡ true) ⊎ Contains (take k numbers) (start + i + 1))
+-- places up to one are those up to another
+pub places_marked : (old new : Type 0) (from end place i : ℕ) → (from ≤ i → i < place → i < end) → (i < end → i < place) → new ↔ (old ⊎ ((from ≤ i) × (i < place))) → new ↔ (old ⊎ ((from ≤ i) × (i < end)))
+places_marked old new from end place i less more was = (
+  (λ m. ⊎_elim (λ (o : old). inl o) (λ (p : (from ≤ i) × (i < place)). inr (p.0, less p.0 p.1)) (was.0 m)),
+  (λ h. was.1 (⊎_elim (λ (o : old). inl o) (λ (p : (from ≤ i) × (i < end)). inr (p.0, more p.1)) h)),
+)
 
-pub marked_none : (start : ℕ) (old : List Bool) (numbers : List ℕ) → AreMarkedSo start old numbers 0 old
-marked_none start old numbers i lt = ((λ m. inl m), (λ h. ⊎_elim (λ (m : slice_index_or old i false ≡ true). m) (λ (c : Contains (take 0 numbers) (start + i + 1)). absurd (omega (arith, c.1))) h))
+abbrev pub AreMarkedSo : ℕ → List Bool → List Span → ℕ → List Bool → Type 0
+AreMarkedSo start old spans k new = (i : ℕ) → i < length old → (slice_index_or new i false ≡ true) ↔ ((slice_index_or old i false ≡ true) ⊎ IsInSpans (take k spans) (start + i + 1))
 
-pub marked_more : (start : ℕ) (old mid new : List Bool) (numbers : List ℕ) (k : ℕ) → k < length numbers → length mid ≡ length old → AreMarkedSo start old numbers k mid → ((i : ℕ) → i < length mid → (slice_index_or new i false ≡ true) ↔ ((slice_index_or mid i false ≡ true) ⊎ (get_or numbers k 0 ≡ start + i + 1))) → AreMarkedSo start old numbers (k + 1) new
-marked_more start old mid new numbers k lt count was step i inside =
-    let more = front_more numbers k (start + i + 1) lt in
-    let here = step i (omega (arith, inside, count)) in (
-      (λ m. ⊎_elim
-          (λ (o : slice_index_or mid i false ≡ true). ⊎_elim (λ (p : slice_index_or old i false ≡ true). inl p) (λ (c : Contains (take k numbers) (start + i + 1)). inr (more.1 (inl c))) ((was i inside).0 o))
-          (λ (e : get_or numbers k 0 ≡ start + i + 1). inr (more.1 (inr e)))
-          (here.0 m)),
-      (λ h. ⊎_elim
-          (λ (p : slice_index_or old i false ≡ true). here.1 (inl ((was i inside).1 (inl p))))
-          (λ (c : Contains (take (k + 1) numbers) (start + i + 1)). ⊎_elim (λ (b : Contains (take k numbers) (start + i + 1)). here.1 (inl ((was i inside).1 (inr b)))) (λ (e : get_or numbers k 0 ≡ start + i + 1). here.1 (inr e)) (more.0 c))
-          h),
-    )
+pub marked_none : (start : ℕ) (old : List Bool) (spans : List Span) → AreMarkedSo start old spans 0 old
+marked_none start old spans i lt = added_none spans (slice_index_or old i false ≡ true) (start + i + 1)
 
-pub marked_all : (start : ℕ) (old new : List Bool) (numbers : List ℕ) (k : ℕ) → length numbers ≤ k → AreMarkedSo start old numbers k new → (i : ℕ) → i < length old → (slice_index_or new i false ≡ true) ↔ ((slice_index_or old i false ≡ true) ⊎ Contains numbers (start + i + 1))
-marked_all start old new numbers k le was i lt = subst (λ l. (slice_index_or new i false ≡ true) ↔ ((slice_index_or old i false ≡ true) ⊎ Contains l (start + i + 1))) (take_all k numbers le) (was i lt)
+pub marked_more : (start : ℕ) (old mid new : List Bool) (spans : List Span) (k : ℕ) → k < length spans → length mid ≡ length old → AreMarkedSo start old spans k mid → ((i : ℕ) → i < length mid → (slice_index_or new i false ≡ true) ↔ ((slice_index_or mid i false ≡ true) ⊎ IsInSpan (start + i + 1) (get_or spans k no_span))) → AreMarkedSo start old spans (k + 1) new
+marked_more start old mid new spans k lt count was step i inside =
+    added_more spans k (start + i + 1) lt (slice_index_or old i false ≡ true) (slice_index_or mid i false ≡ true) (slice_index_or new i false ≡ true) (was i inside) (step i (omega (arith, inside, count)))
+
+pub marked_all : (start : ℕ) (old new : List Bool) (spans : List Span) (k : ℕ) → length spans ≤ k → AreMarkedSo start old spans k new → (i : ℕ) → i < length old → (slice_index_or new i false ≡ true) ↔ ((slice_index_or old i false ≡ true) ⊎ IsInSpans spans (start + i + 1))
+marked_all start old new spans k le was i lt = added_all spans k (start + i + 1) le (slice_index_or old i false ≡ true) (slice_index_or new i false ≡ true) (was i lt)
 
 -- the marks of two lists
-pub marked_both : (start : ℕ) (old new : List Bool) (a b : List ℕ) → AreMarked start old a → length new ≡ length old → ((i : ℕ) → i < length old → (slice_index_or new i false ≡ true) ↔ ((slice_index_or old i false ≡ true) ⊎ Contains b (start + i + 1))) → AreMarked start new (a ++ b)
+pub marked_both : (start : ℕ) (old new : List Bool) (a b : List Span) → AreMarked start old a → length new ≡ length old → ((i : ℕ) → i < length old → (slice_index_or new i false ≡ true) ↔ ((slice_index_or old i false ≡ true) ⊎ IsInSpans b (start + i + 1))) → AreMarked start new (a ++ b)
 marked_both start old new a b was count is i lt =
     let inside : i < length old = omega (arith, lt, count) in (
       (λ m. ⊎_elim
-          (λ (o : slice_index_or old i false ≡ true). Contains-append_left a b (start + i + 1) ((was i inside).0 o))
-          (λ (c : Contains b (start + i + 1)). Contains-append_right a b (start + i + 1) c)
+          (λ (o : slice_index_or old i false ≡ true). in_left a b (start + i + 1) ((was i inside).0 o))
+          (λ (c : IsInSpans b (start + i + 1)). in_right a b (start + i + 1) c)
           ((is i inside).0 m)),
       (λ c. ⊎_elim
-          (λ (l : Contains a (start + i + 1)). (is i inside).1 (inl ((was i inside).1 l)))
-          (λ (r : Contains b (start + i + 1)). (is i inside).1 (inr r))
-          (Contains-append_cases a b (start + i + 1) c)),
+          (λ (l : IsInSpans a (start + i + 1)). (is i inside).1 (inl ((was i inside).1 l)))
+          (λ (r : IsInSpans b (start + i + 1)). (is i inside).1 (inr r))
+          (in_either a b (start + i + 1) c)),
     )
 
 -- JOINED NEEDS

@@ -6,7 +6,7 @@ use Rattle.cs_deps.specs.declared.elements.Element.{Element}
 use Rattle.cs_deps.specs.declared.elements.Element.TheVariants.{Plain, Version}
 use Rattle.cs_deps.specs.declared.levels.Kept.{Kept}
 use Rattle.cs_deps.specs.declared.levels.Levels.{Levels}
-use Rattle.cs_deps.specs.Named.{Named, Names, IsWithin, StandsFor}
+use Rattle.cs_deps.specs.Named.{Named, Names, IsInSpans, IsWithin, StandsFor}
 use Rattle.cs_deps.specs.Pending.{Pending, Waits}
 use Rattle.cs_deps.specs.Staging.{IsKept, staged_after, is_left_waiting}
 use Rattle.cs_deps.specs.State.{State, after, after_round}
@@ -58,7 +58,7 @@ module _ (s : State) (whole : IsSound s) (l : Levels) (ix : IsIndexed s l) where
     above : (y : Element) → Names d y → Waits g y → level_by l y ≤ level
     above (Plain n) named w = ⊎_elim
         (λ (t : (1 ≤ n) × (n ≤ d.through)). at (kept_by l (Plain d.through)) refl t.1 (within (Plain d.through) (inl (omega (arith, t.0, t.1), omega arith))).1)
-        (λ (c : Contains d.plains n). best.listed n c)
+        (λ (c : IsInSpans d.spans n). best.listed n c)
         named
       where
         at : (o : Option Kept) → kept_by l (Plain d.through) ≡ o → n ≤ d.through → d.through ≤ s.staging.staged → level_by l (Plain n) ≤ level

@@ -15,7 +15,7 @@ use Rattle.cs_deps.specs.State.{State, Write, IsListed, IsOut}
 
 -- what names nothing
 abbrev pub nothing : Named
-nothing = record { through = 0; plains = []; least = [] }
+nothing = record { through = 0; spans = []; least = [] }
 
 -- the greater number at each place of two lists, as long as the longer one
 abbrev pub greater_at_each : List ℕ → List ℕ → List ℕ
@@ -25,7 +25,7 @@ greater_at_each (x ∷ xs) (y ∷ ys) = max x y ∷ greater_at_each xs ys
 
 -- what names all that either names, and nothing else
 abbrev pub union : Named → Named → Named
-union a b = record { through = max a.through b.through; plains = a.plains ++ b.plains; least = greater_at_each a.least b.least }
+union a b = record { through = max a.through b.through; spans = a.spans ++ b.spans; least = greater_at_each a.least b.least }
 
 -- d, with the own needs of each entry that y stands for
 abbrev pub joined_with : Element → Named → List (Element × Named) → Named

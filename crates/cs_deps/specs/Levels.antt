@@ -8,7 +8,7 @@ use Rattle.cs_deps.specs.declared.elements.Element.TheVariants.{Plain, Version}
 use Rattle.cs_deps.specs.declared.levels.Kept.{Kept}
 use Rattle.cs_deps.specs.declared.levels.Row.{Row}
 use Rattle.cs_deps.specs.declared.levels.Levels.{Levels}
-use Rattle.cs_deps.specs.Named.{Named, Names, IsPlain}
+use Rattle.cs_deps.specs.Named.{Named, Names, IsInSpans, IsPlain}
 use Rattle.cs_deps.specs.Pending.{Pending, Waits, Needs, IsPersistent}
 use Rattle.cs_deps.specs.Chain.{IsHeight}
 use Rattle.cs_deps.specs.Rounds.{IsListedBefore}
@@ -56,7 +56,7 @@ pub record IsTop (g : Pending) (base : ℕ) (level : Element → ℕ) (d : Named
   pub above : (y : Element) → Names d y → Waits g y → level y ≤ top
   pub reached : (top ≡ base) ⊎ ((y : Element) × Names d y × Waits g y × (level y ≡ top))
 
--- y is looked at for d, at this level: the least plain write of the greatest level up to `through`, a listed one, a least version
+-- y is looked at for d, at this level: the least plain write of the greatest level up to `through`, one of a listed span, a least version
 abbrev pub IsCandidate : (Element → Option Kept) → Named → Element → ℕ → Type 0
 IsCandidate kept d y n = ((k : Kept) × (kept (Plain d.through) ≡ Some k) × (y ≡ Plain k.least) × (n ≡ k.top)) ⊎ (Names d y × (level_of (kept y) ≡ n))
 
@@ -64,7 +64,7 @@ IsCandidate kept d y n = ((k : Kept) × (kept (Plain d.through) ≡ Some k) × (
 pub record IsBest (kept : Element → Option Kept) (base : ℕ) (d : Named) (level : ℕ) (before : Option Element) : Type 0 where
   pub low : base ≤ level
   pub through : (k : Kept) → kept (Plain d.through) ≡ Some k → k.top ≤ level
-  pub listed : (n : ℕ) → Contains d.plains n → level_of (kept (Plain n)) ≤ level
+  pub listed : (n : ℕ) → IsInSpans d.spans n → level_of (kept (Plain n)) ≤ level
   pub versions : (f : ℕ) → level_of (kept (Version f (slice_index d.least f))) ≤ level
   pub reached : (level ≡ base) ⊎ ((y : Element) × (before ≡ Some y) × IsCandidate kept d y level)
 

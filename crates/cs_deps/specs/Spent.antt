@@ -6,13 +6,13 @@ use Rattle.cs_deps.specs.Named.{Named}
 use Rattle.cs_deps.specs.Staging.{stands_for}
 use Rattle.cs_deps.specs.Entries.{nothing, union}
 
--- whether it takes no memory
-abbrev pub is_small : Named → Bool
-is_small d = (length d.plains == 0) && nat_le (length d.least) 16
+-- whether it lists no span and names versions of the first 16 families alone, so that many such together take no memory
+abbrev pub is_foldable : Named → Bool
+is_foldable d = (length d.spans == 0) && nat_le (length d.least) 16
 
--- whether an entry is that of version v of family f or of one before it, and its needs take no memory
+-- whether an entry is that of version v of family f or of one before it, and its needs are such
 abbrev pub is_spent : ℕ → ℕ → Element × Named → Bool
-is_spent f v w = stands_for (Version f v) w.0 && is_small w.1
+is_spent f v w = stands_for (Version f v) w.0 && is_foldable w.1
 
 -- d, with the needs of each such entry
 abbrev pub carried_with : ℕ → ℕ → Named → List (Element × Named) → Named

@@ -1,8 +1,9 @@
 -- What a target needs of what waits.
-use Rattle.std.specs.Prelude.{◌≡◌, ℕ, ◌+◌, ◌<◌, ◌≤◌, ◌==◌, ◌↔◌, List, Bool, true, false, Contains, Some, length, slice_get, slice_index, slice_index_or, if◌then◌else◌}
+use Rattle.std.specs.Prelude.{◌≡◌, ℕ, ◌+◌, ◌<◌, ◌≤◌, ◌==◌, ◌↔◌, List, Bool, true, false, Some, length, slice_get, slice_index, slice_index_or, if◌then◌else◌}
 use Rattle.cs_deps.specs.declared.elements.Element.{Element}
 use Rattle.cs_deps.specs.declared.elements.Element.TheVariants.{Plain, Version}
-use Rattle.cs_deps.specs.Named.{Named, Names}
+use Rattle.cs_deps.specs.declared.spans.Span.{Span}
+use Rattle.cs_deps.specs.Named.{Named, Names, IsInSpans}
 use Rattle.cs_deps.specs.Pending.{Pending, Waits}
 use Rattle.cs_deps.specs.Chain.{IsNeeded}
 use Rattle.cs_deps.specs.Entries.{nothing, joined_with, entry_waits}
@@ -11,9 +12,9 @@ use Rattle.cs_deps.specs.Entries.{nothing, joined_with, entry_waits}
 abbrev pub AreWanted : Pending → Named → Named → Type 0
 AreWanted g target d = (x : Element) → Waits g x → Names d x ↔ IsNeeded g target x
 
--- a mark stands at the place of each listed number that has one, where the places begin after `start`
-abbrev pub AreMarked : ℕ → List Bool → List ℕ → Type 0
-AreMarked start marks plains = (i : ℕ) → i < length marks → (slice_index_or marks i false ≡ true) ↔ Contains plains (start + i + 1)
+-- a mark stands at the place of each number of the spans that has one, where the places begin after `start`
+abbrev pub AreMarked : ℕ → List Bool → List Span → Type 0
+AreMarked start marks spans = (i : ℕ) → i < length marks → (slice_index_or marks i false ≡ true) ↔ IsInSpans spans (start + i + 1)
 
 -- what is taken in at an entry: of the first version of a family that waits all needs, of any other element its own
 abbrev pub taken_at : List ℕ → List (Element × Named) → Element → Named → Named

@@ -119,7 +119,8 @@ impl Graph {
     /// Stages a plain write with these needs. It gets the next number, and waits.
     ///
     /// Refused 2 UnknownNeed where the needs name what was not staged, else 35 WornOut where the last number is given.
-    /// 9 OutOfMemory is answered only where there is no room and no memory. The work is that of testing the needs.
+    /// 9 OutOfMemory is answered only where there is no room and no memory. The work is that of testing the needs, and one
+    /// look at what is kept for each write of a span that they list.
     pub fn stage_plain(
         &mut self,
         page: u64,
@@ -178,7 +179,8 @@ impl Graph {
     ///
     /// Refused 2 UnknownNeed where the needs name what was not staged, else 3 OwnFamily where they name a version of the
     /// same family, else 35 WornOut where the family's last number is given. 9 OutOfMemory is answered only where there is
-    /// no room and no memory. The work is that of testing the needs: nothing is joined until it is asked for.
+    /// no room and no memory. The work is that of testing the needs, and one look at what is kept for each write of a span that
+    /// they list: nothing is joined until it is asked for.
     pub fn stage_version(
         &mut self,
         family: usize,
@@ -510,8 +512,8 @@ impl Graph {
         needs.is_within(self.staged, &self.latest)
     }
 
-    /// Whether all that a dependency names is staged and persistent. The work is one look at what is kept for each plain write
-    /// that is listed, for all those up to a number together, and for each family; what waits is not gone through. It takes no
+    /// Whether all that a dependency names is staged and persistent. The work is one look at what is kept for each write of a
+    /// listed span, for all those up to a number together, and for each family; what waits is not gone through. It takes no
     /// memory.
     pub fn is_persistent(&self, needs: &Dependency) -> bool
         ensures { IsTrue result ↔ ((x : Item) → Names needs.now x → IsSatisfied self.now.staging x) }

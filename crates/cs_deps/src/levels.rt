@@ -1,15 +1,17 @@
 //! Levels that are kept as elements are staged, and the ready queue of each level.
 
-ghost use Rattle.std.specs.Prelude.{nat_lt, IsTrue, IsOk, IfOk, IfSome, OnOk, None, ◌≡◌, [], ◌^◌, ℕ, ◌+◌, ◌≤◌, ◌<◌, ◌⊎◌, ◌↔◌, All, Some, Contains, length, slice_index};
+ghost use Rattle.std.specs.Prelude.{nat_lt, IsTrue, IsOk, IfOk, IfSome, OnOk, None, ◌≡◌, [], ◌^◌, ℕ, ◌+◌, ◌≤◌, ◌<◌, ◌⊎◌, ◌↔◌, All, Some, length, slice_index};
 ghost use Rattle.std.specs.VecDeque.{deque_len, deque_capacity};
 ghost use Rattle.cs_deps.specs.declared.levels.Kept.{Kept as KeptOf};
 ghost use Rattle.cs_deps.specs.Trimmed.{IsTrimmed};
+ghost use Rattle.cs_deps.specs.Named.{IsInSpan, IsInSpans};
 ghost use Rattle.cs_deps.specs.Levels.{kept_by, top_of, family_at, level_by, row_at, IsBest, HasRoom, keyed, next_version, IsPlainPushed, IsVersionPushed, IsNew, IsSameBut, IsLevelsSettled};
 
 use crate::dependencies::{Dependency, version_at};
 use crate::elements::Element;
 use crate::keeps::{kept_at, keyed, level_at, link, next_plain, next_version};
 use crate::rows::{widen, with_plain, with_version};
+use crate::spans::Span;
 use crate::trimming::{trim_each, trim_list};
 use std::alloc::{AllocError, Global};
 use std::collections::VecDeque;
@@ -196,18 +198,36 @@ impl Levels {
         !self.is_above(number)
     }
 
-    /// Whether none of these plain writes waits or is one of the round that is out.
-    fn have_ended(&self, listed: &[u64]) -> bool
-        ensures { IsTrue result ↔ All (λ n. level_by self.now (Element.Plain n) ≤ self.now.ended) listed.now }
+    /// Whether none of a span's plain writes waits or is one of the round that is out. It looks at each until one does.
+    fn has_span_ended(&self, span: Span) -> bool
+        ensures { IsTrue result ↔ ((n : ℕ) → IsInSpan n span → level_by self.now (Element.Plain n) ≤ self.now.ended) }
     {
-        listed.iter().all(|n| self.has_ended(*n))
+        for number in span.first..=span.last {
+            if !self.has_ended(number) {
+                return false;
+            }
+        }
+        true
     }
 
-    /// Whether no plain write that a dependency names waits or is one of the round that is out.
-    pub fn have_named_ended(&self, needs: &Dependency) -> bool
-        ensures { IsTrue result ↔ ((top_of (kept_by self.now (Element.Plain needs.now.through)) ≤ self.now.ended) × All (λ n. level_by self.now (Element.Plain n) ≤ self.now.ended) needs.now.plains) }
+    /// Whether none of these spans' plain writes waits or is one of the round that is out.
+    fn have_ended(&self, spans: &[Span]) -> bool
+        ensures { IsTrue result ↔ ((n : ℕ) → IsInSpans spans.now n → level_by self.now (Element.Plain n) ≤ self.now.ended) }
     {
-        self.has_ended_through(needs.through_number()) && self.have_ended(needs.listed())
+        for span in spans {
+            if !self.has_span_ended(*span) {
+                return false;
+            }
+        }
+        true
+    }
+
+    /// Whether no plain write that a dependency names waits or is one of the round that is out. It takes one look for those up to
+    /// its number, and one for each write of a listed span.
+    pub fn have_named_ended(&self, needs: &Dependency) -> bool
+        ensures { IsTrue result ↔ ((top_of (kept_by self.now (Element.Plain needs.now.through)) ≤ self.now.ended) × ((n : ℕ) → IsInSpans needs.now.spans n → level_by self.now (Element.Plain n) ≤ self.now.ended)) }
+    {
+        self.has_ended_through(needs.through_number()) && self.have_ended(needs.spans())
     }
 
     /// The higher of what was found so far and the highest plain write up to a number.
@@ -239,15 +259,28 @@ impl Levels {
         }
     }
 
-    /// The highest of what was found so far and the listed plain writes.
-    fn top_listed(&self, best: Best, listed: &[u64]) -> Best
+    /// The highest of what was found so far and a span's plain writes.
+    fn top_span(&self, best: Best, span: Span) -> Best
         ensures low { best.level ≤ result.level }
-        ensures above { (n : ℕ) → Contains listed.now n → level_by self.now (Element.Plain n) ≤ result.level }
-        ensures reached { (result ≡ best) ⊎ ((n : ℕ) × Contains listed.now n × (result.before ≡ Some (Element.Plain n)) × (level_by self.now (Element.Plain n) ≡ result.level)) }
+        ensures above { (n : ℕ) → IsInSpan n span → level_by self.now (Element.Plain n) ≤ result.level }
+        ensures reached { (result ≡ best) ⊎ ((n : ℕ) × IsInSpan n span × (result.before ≡ Some (Element.Plain n)) × (level_by self.now (Element.Plain n) ≡ result.level)) }
     {
         let mut top = best;
-        for number in listed {
-            top = self.top_plain(top, *number);
+        for number in span.first..=span.last {
+            top = self.top_plain(top, number);
+        }
+        top
+    }
+
+    /// The highest of what was found so far and the plain writes of the listed spans.
+    fn top_listed(&self, best: Best, spans: &[Span]) -> Best
+        ensures low { best.level ≤ result.level }
+        ensures above { (n : ℕ) → IsInSpans spans.now n → level_by self.now (Element.Plain n) ≤ result.level }
+        ensures reached { (result ≡ best) ⊎ ((n : ℕ) × IsInSpans spans.now n × (result.before ≡ Some (Element.Plain n)) × (level_by self.now (Element.Plain n) ≡ result.level)) }
+    {
+        let mut top = best;
+        for span in spans {
+            top = self.top_span(top, *span);
         }
         top
     }
@@ -277,6 +310,7 @@ impl Levels {
 
     /// The greatest level of what is named, and an element that has it: the plain write of the smallest number, and where
     /// there is none the greatest version that is named of the first family that has one. The base, and none, where nothing that is named waits.
+    /// It takes one look for the plain writes up to its number, one for each write of a listed span, and one for each family.
     pub fn top(&self, needs: &Dependency) -> Best
         ensures { IsBest (kept_by self.now) self.now.base needs.now result.level result.before }
     {
@@ -285,7 +319,7 @@ impl Levels {
             before: None,
         };
         let some = self.top_through(none, needs.through_number());
-        let more = self.top_listed(some, needs.listed());
+        let more = self.top_listed(some, needs.spans());
         self.top_versions(more, needs)
     }
 

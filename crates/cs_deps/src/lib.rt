@@ -15,6 +15,7 @@ mod records;
 mod refusals;
 mod rounds;
 mod rows;
+mod spans;
 mod spent;
 mod trimming;
 mod views;
@@ -30,6 +31,7 @@ pub use laws::{
     each_waiting_element_has_a_height, rounds_in_turn_are_a_plan,
 };
 pub use refusals::Refusal;
+pub use spans::Span;
 pub use views::{GraphView, Plan};
 pub use waiting::find;
 pub use wanted::Wanted;

@@ -1,13 +1,15 @@
 //! Needs as a graph keeps them.
-ghost use Rattle.std.specs.Prelude.{◌≡◌, IfOk, IfSome};
+ghost use Rattle.std.specs.Prelude.{◌≡◌, [], ◌∷◌, IfOk, IfSome};
 ghost use Rattle.cs_deps.specs.Needs.{named_by};
-ghost use Rattle.cs_deps.specs.Spent.{is_small};
+ghost use Rattle.cs_deps.specs.Spent.{is_foldable};
 
 use crate::dependencies::Dependency;
+use crate::spans::Span;
 use std::alloc::{AllocError, Global};
 use std::marker::Model;
 
-/// What a dependency names, in four words where it lists no plain write and names versions of the first two families alone.
+/// What a dependency names, in four words where it lists no span and names versions of the first two families alone, and
+/// where it names one span and versions of the second family alone.
 #[derive(Drop)]
 pub enum Held {
     /// The plain writes from 1 to a number.
@@ -16,6 +18,8 @@ pub enum Held {
     One(u64, u64),
     /// And those of the second.
     Two(u64, u64, u64),
+    /// The plain writes from one number to another, and the versions from 1 to a third of the second family.
+    Span(u64, u64, u64),
     /// Anything else.
     Many(Box<Dependency>),
 }
@@ -35,19 +39,37 @@ impl Model for Needs {
     ghost view = { λ n. named_by n.held };
 }
 
-/// What a dependency names, in four words; None where that takes more.
-fn few(needs: &Dependency) -> Option<Held>
-    ensures { IfSome result (λ held. named_by held ≡ needs.now) }
+/// What a dependency names that lists no span, in four words; None where that takes more.
+fn unlisted(through: u64, least: &[u64]) -> Option<Held>
+    ensures { IfSome result (λ held. named_by held ≡ record { through = through; spans = []; least = least.now }) }
 {
-    if needs.listed().len() > 0 {
-        return None;
-    }
-    let through = needs.through_number();
-    let least = needs.versions();
     match least.len() {
         0 => Some(Held::Through(through)),
         1 => Some(Held::One(through, least[0])),
         2 => Some(Held::Two(through, least[0], least[1])),
+        _ => None,
+    }
+}
+
+/// What a dependency names that lists one span, in four words; None where that takes more.
+fn listed(through: u64, span: Span, least: &[u64]) -> Option<Held>
+    ensures { IfSome result (λ held. named_by held ≡ record { through = through; spans = span ∷ []; least = least.now }) }
+{
+    if through == 0 && least.len() == 2 && least[0] == 0 {
+        Some(Held::Span(span.first, span.last, least[1]))
+    } else {
+        None
+    }
+}
+
+/// What a dependency names, in four words; None where that takes more.
+fn few(needs: &Dependency) -> Option<Held>
+    ensures { IfSome result (λ held. named_by held ≡ needs.now) }
+{
+    let spans = needs.spans();
+    match spans.len() {
+        0 => unlisted(needs.through_number(), needs.versions()),
+        1 => listed(needs.through_number(), spans[0], needs.versions()),
         _ => None,
     }
 }
@@ -94,16 +116,25 @@ impl Needs {
             Held::Two(through, first, second) => {
                 Dependency::everything(alloc, *through, &[*first, *second])
             }
+            Held::Span(first, last, second) => Dependency::on_span(
+                alloc,
+                Span {
+                    first: *first,
+                    last: *last,
+                },
+                &[0, *second],
+            ),
             Held::Many(all) => all.copy(),
         }
     }
 
-    /// Whether the same takes no memory as a dependency.
-    pub fn is_small(&self) -> bool
-        ensures { result ≡ is_small self.now }
+    /// Whether it lists no span, and names versions of the first 16 families alone.
+    pub fn is_foldable(&self) -> bool
+        ensures { result ≡ is_foldable self.now }
     {
         match &self.held {
-            Held::Many(all) => all.is_small(),
+            Held::Span(_, _, _) => false,
+            Held::Many(all) => all.is_foldable(),
             _ => true,
         }
     }

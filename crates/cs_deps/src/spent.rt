@@ -13,11 +13,11 @@ use crate::needs::Needs;
 use crate::rounds::stands;
 use std::alloc::{AllocError, Global};
 
-/// Whether an entry is that of a version of a family up to this one, and its needs take no memory.
+/// Whether an entry is that of a version of a family up to this one, and its needs list no span and take no memory.
 fn is_spent(entry: &(Element, Needs), family: usize, version: u64) -> bool
     ensures { result ≡ is_spent family version entry.now }
 {
-    stands(Element::Version(family, version), entry.0) && entry.1.is_small()
+    stands(Element::Version(family, version), entry.0) && entry.1.is_foldable()
 }
 
 /// Whether there is such an entry.
@@ -80,8 +80,8 @@ fn fold_family(entries: &mut Vec<(Element, Needs)>, persistent: &[u64], family: 
     fold(entries, family, version_at(persistent, family));
 }
 
-/// Of each family puts one entry in the place of those of its persistent versions whose needs take no memory. What waits and what
-/// it needs stays. Where they need versions of more than two families, memory is taken for one entry before that of the others is
+/// Of each family puts one entry in the place of those of its persistent versions whose needs list no span and take no memory; the
+/// others stay until the family's floor rises. What waits and what it needs stays. Where they need versions of more than two families, memory is taken for one entry before that of the others is
 /// given back. It goes through the entries for each family.
 pub fn fold_all(entries: &mut Vec<(Element, Needs)>, persistent: &[u64])
     ensures waiting { waiting_of persistent.now entries.new.items ≡ waiting_of persistent.now entries.old.items }

@@ -1,10 +1,11 @@
 //! What a target needs of what waits.
-ghost use Rattle.std.specs.Prelude.{◌≡◌, ℕ, ◌+◌, ◌<◌, ◌↔◌, ◌⊎◌, true, false, Contains, IfOk, IfSome, IsTrue, length, slice_index, slice_index_or};
-ghost use Rattle.cs_deps.specs.Named.{Names};
+ghost use Rattle.std.specs.Prelude.{◌≡◌, ℕ, ◌+◌, ◌<◌, ◌≤◌, ◌↔◌, ◌⊎◌, true, false, IfOk, IfSome, IsTrue, length, slice_index, slice_index_or};
+ghost use Rattle.cs_deps.specs.Named.{Names, IsInSpan, IsInSpans};
 ghost use Rattle.cs_deps.specs.Entries.{union};
 
 use crate::dependencies::Dependency;
 use crate::elements::Element;
+use crate::spans::Span;
 use std::alloc::{AllocError, Global};
 use std::marker::Model;
 
@@ -12,7 +13,7 @@ use std::marker::Model;
 #[derive(Drop)]
 pub struct Wanted {
     all: Dependency,
-    /// Whether each plain write from the one after `start` on is one of the single ones.
+    /// Whether each plain write from the one after `start` on is one of a listed span.
     marks: Vec<bool>,
     start: u64,
 }
@@ -25,7 +26,7 @@ impl Model for Wanted {
 
     ghost view = { λ w. w.all };
 
-    ghost invariant = { λ w. AreMarked w.start w.marks.items w.all.plains };
+    ghost invariant = { λ w. AreMarked w.start w.marks.items w.all.spans };
 }
 
 impl Wanted {
@@ -40,7 +41,7 @@ impl Wanted {
     {
         let all = target.copy()?;
         let mut marks = vec![in alloc; false; count]?;
-        mark_all(&mut marks, start, target.listed());
+        mark_all(&mut marks, start, target.spans());
         Ok(Wanted { all, marks, start })
     }
 
@@ -50,7 +51,7 @@ impl Wanted {
     {
         let mut wanted = self;
         wanted.all.join(more)?;
-        mark_all(&mut wanted.marks, wanted.start, more.listed());
+        mark_all(&mut wanted.marks, wanted.start, more.spans());
         Ok(wanted)
     }
 
@@ -90,26 +91,31 @@ fn mark_at(marks: &[bool], start: u64, number: u64) -> Option<bool>
     }
 }
 
-/// Marks a number, where it has a place.
-fn mark(marks: &mut Vec<bool>, start: u64, number: u64)
+/// Marks the places from one on and before another, as far as there are any.
+fn mark_places(marks: &mut Vec<bool>, from: u64, end: u64)
     ensures count { length marks.new.items ≡ length marks.old.items }
-    ensures marks { (i : ℕ) → i < length marks.old.items → (slice_index_or marks.new.items i false ≡ true) ↔ ((slice_index_or marks.old.items i false ≡ true) ⊎ (number ≡ start + i + 1)) }
+    ensures marks { (i : ℕ) → i < length marks.old.items → (slice_index_or marks.new.items i false ≡ true) ↔ ((slice_index_or marks.old.items i false ≡ true) ⊎ ((from ≤ i) × (i < end))) }
 {
-    if number <= start {
-        return;
-    }
-    let place = number - start - 1;
-    if place < marks.len() as u64 {
+    for place in from..end.min(marks.len() as u64) {
         marks[place as usize] = true;
     }
 }
 
-/// Marks numbers.
-fn mark_all(marks: &mut Vec<bool>, start: u64, numbers: &[u64])
+/// Marks the numbers of a span that have a place. It costs nothing where none has one.
+fn mark(marks: &mut Vec<bool>, start: u64, span: Span)
     ensures count { length marks.new.items ≡ length marks.old.items }
-    ensures marks { (i : ℕ) → i < length marks.old.items → (slice_index_or marks.new.items i false ≡ true) ↔ ((slice_index_or marks.old.items i false ≡ true) ⊎ Contains numbers.now (start + i + 1)) }
+    ensures marks { (i : ℕ) → i < length marks.old.items → (slice_index_or marks.new.items i false ≡ true) ↔ ((slice_index_or marks.old.items i false ≡ true) ⊎ IsInSpan (start + i + 1) span) }
 {
-    for number in numbers {
-        mark(marks, start, *number);
+    let from = span.first.saturating_sub(start).saturating_sub(1);
+    mark_places(marks, from, span.last.saturating_sub(start));
+}
+
+/// Marks the numbers of spans.
+fn mark_all(marks: &mut Vec<bool>, start: u64, spans: &[Span])
+    ensures count { length marks.new.items ≡ length marks.old.items }
+    ensures marks { (i : ℕ) → i < length marks.old.items → (slice_index_or marks.new.items i false ≡ true) ↔ ((slice_index_or marks.old.items i false ≡ true) ⊎ IsInSpans spans.now (start + i + 1)) }
+{
+    for span in spans {
+        mark(marks, start, *span);
     }
 }

@@ -1,6 +1,6 @@
 //! Graphs by scripts: a put of one byte and the root over it, a round of it, and the refusals. A number is a plain write, as `2`, and a
 //! family with one a version, as `0.3`. Elements with `+` between them are what is named, `..2` names the writes up to the second one,
-//! and `-` nothing.
+//! `2-3` those from the second to the third, and `-` nothing.
 ghost use Rattle.std.specs.Prelude.{◌^◌, ◌≤◌, ◌<◌, All, length};
 
 use crate::plans::{next, text_of_plan};
@@ -25,6 +25,13 @@ fn name(rt: &(impl Abort + AllocGlobal), word: &str) -> Dependency {
     let alloc = rt.alloc();
     if let Some(last) = word.strip_prefix("..") {
         return Dependency::through(alloc, u64::from(number(Some(last))));
+    }
+    if let Some((first, last)) = word.split_once('-') {
+        return Dependency::on_writes(
+            alloc,
+            u64::from(number(Some(first))),
+            u64::from(number(Some(last))),
+        );
     }
     match element(word) {
         Element::Plain(write) => Dependency::on_write(alloc, write).expect(rt, "memory"),
@@ -119,10 +126,10 @@ fn needs_of(rt: &impl Abort, graph: &Graph, element: Element) -> Option<Dependen
     graph.needs_of(element).expect(rt, "memory")
 }
 
-/// Up to which plain write an element needs all, and how many versions it needs.
+/// Up to which plain write an element needs all, and how many spans of others it needs.
 fn needs(rt: &impl Abort, graph: &Graph, element: Element) -> (u64, usize) {
     let needs = needs_of(rt, graph, element).expect(rt, "one that waits");
-    (needs.through_number(), needs.listed().len())
+    (needs.through_number(), needs.spans().len())
 }
 
 /// Whether an element needs another.
@@ -260,6 +267,31 @@ everything > (true, false)
 byte 1 > None
 kept > 2
 waits > true";
+
+#[test]
+fn a_span_of_writes(rt: HostRuntime) {
+    plays(&rt, &[1], &[SPAN]);
+}
+
+const SPAN: &str = "plain 2 1 - > Ok(1)
+plain 3 2 - > Ok(2)
+plain 4 3 - > Ok(3)
+plain 5 4 - > Ok(4)
+version 0 0 5 2-3 > Ok(2)
+needs 0.2 > (0, 1)
+names 0.2 1 > false
+names 0.2 2 > true
+names 0.2 3 > true
+names 0.2 4 > false
+level 0.2 > Ok(Some(2))
+persistent 2-3 > false
+take > 4
+settle > false
+persistent 2-3 > true
+persistent 0.2 > false
+take > 1
+settle > false
+persistent 0.2 > true";
 
 /// A version that is staged while one of its family is in the round that is out leaves that one's bytes.
 #[test]

@@ -14,7 +14,7 @@ use Rattle.cs_deps.proofs.Entries.{joined_next, next_needs}
 use Rattle.cs_deps.proofs.Held.{MayBeAdded, high_enough}
 use Rattle.cs_deps.proofs.Roomy.{IsRoomy, live_in, view_roomy, held_roomy, still_fits}
 use Rattle.cs_deps.proofs.VersionAdded.{next_in_range, version_added}
-use Rattle.cs_deps.proofs.graphs.Graph.stage_version.Goals.{After-index-before, After-make_room, After-top-best, After-next_of-kept, After-push_version, in-Heap-4, in-Inline-4}
+use Rattle.cs_deps.proofs.graphs.Graph.stage_version.Goals.{After-index-before, After-make_room, After-top-best, After-next_of-kept, After-push_version, in-Heap-8, in-Inline-8}
 use Rattle.cs_deps.proofs.graphs.Graph.stage_version.Goals as goal
 
 -- the version before the new one
@@ -136,4 +136,4 @@ pub returns-in-Err-clause-refused : goal.returns-in-Err-clause-refused
 returns-in-Err-clause-refused c =
     let at = (goal.at.returns-in-Err-clause-refused c).After-make_room in
     let same = view_roomy c.self.inside c.self.invariant (with_room at) (roomy at) in
-    rw (← c.self.view_is) (elim c.match-needs-4.branch [ in-Heap-4 w ↦ w.self-is ∙ same | in-Inline-4 w ↦ w.self-is ∙ same ])
+    rw (← c.self.view_is) (elim c.match-needs-8.branch [ in-Heap-8 w ↦ w.self-is ∙ same | in-Inline-8 w ↦ w.self-is ∙ same ])

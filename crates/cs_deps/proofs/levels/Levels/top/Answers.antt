@@ -10,7 +10,7 @@ returns c =
     record {
       low = omega (arith, t.low, m.low, v.low);
       through = λ k at. omega (arith, t.above k (rw c.through_number.ensures at), m.low, v.low);
-      listed = λ n has. omega (arith, m.above n (rw c.listed.ensures has), v.low);
+      listed = λ n has. omega (arith, m.above n (rw c.spans.ensures has), v.low);
       versions = v.above;
       reached = ⊎_elim
           (λ (a : c.top_versions.result ≡ c.top_listed-more.result). ⊎_elim
@@ -18,7 +18,7 @@ returns c =
           (λ (e : _). inl (ap (λ x. x.level) (a ∙ b ∙ e)))
           (λ (h : _). inr (Plain h.0.least, ap (λ x. x.before) (a ∙ b) ∙ h.2, inl (h.0, rw (← c.through_number.ensures) h.1, refl, ap (λ x. x.level) (a ∙ b) ∙ h.3)))
           t.reached)
-          (λ (h : _). inr (Plain h.0, ap (λ x. x.before) a ∙ h.2, inr (inr (rw (← c.listed.ensures) h.1), h.3 ∙ ap (λ x. x.level) (sym a))))
+          (λ (h : _). inr (Plain h.0, ap (λ x. x.before) a ∙ h.2, inr (inr (rw (← c.spans.ensures) h.1), h.3 ∙ ap (λ x. x.level) (sym a))))
           m.reached)
           (λ (h : _). inr (Version h.0 (slice_index c.args.needs.now.least h.0), h.1, inr ((h.3, le_refl (slice_index c.args.needs.now.least h.0)), h.2)))
           v.reached;
