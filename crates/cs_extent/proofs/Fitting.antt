@@ -2,6 +2,7 @@
 use Rattle.std.proofs.Common.{◌≡◌, ◌≢◌, ◌∙◌, ℕ, suc, ◌+◌, ◌-◌, ◌<◌, ◌≤◌, Bool, true, false, List, [], ◌∷◌, length, drop, get_or, Option, Some, None, refl, sym, ap, subst, inl, inr, ⊎_elim, arith}
 use Rattle.std.specs.Prelude.{◌==◌, ◌↔◌, if◌then◌else◌, nat_le, nat_lt, All}
 use Rattle.std.specs.List.{AllByRecursion}
+use Rattle.std.proofs.lemmas.Bool.{cases_lt}
 use Rattle.std.proofs.lemmas.Bool.Decides.{nat_tests}
 use Rattle.std.proofs.lemmas.Option.{same_Some}
 use Rattle.std.proofs.Math.Seq.{drop-cons}
@@ -165,3 +166,22 @@ fit_step S least s frames i pages spared r lt p q is =
 
 pub fit_end : (S : Shape) (least : ℕ) (s : Supply) (frames : List ℕ) (i : ℕ) → length frames ≤ i → all_fit S least (Some s) (drop i frames) ≡ true
 fit_end S least s frames i le = ap (all_fit S least (Some s)) (drop_all i frames le)
+
+-- a frame goes to one extent, if to any
+pub placed_once : (S : Shape) (x : Extents) (purpose : Reason) (k d e : ℕ) → Placed S x purpose k d → Placed S x purpose k e → d ≡ e
+placed_once S x purpose k d e a b = ⊎_elim
+    (λ (p : HasRoom S x k d). ⊎_elim
+    (λ (q : HasRoom S x k e). same_Some d e (sym p.0 ∙ q.0))
+    (λ (q : ((o : ℕ) → HasRoom S x k o → ⊥) × IsFirstEmpty S x e × (k ≤ S.pages) × (spare purpose < empties x.pointer S.extents)). absurd (q.0 d p))
+    b)
+    (λ (p : ((o : ℕ) → HasRoom S x k o → ⊥) × IsFirstEmpty S x d × (k ≤ S.pages) × (spare purpose < empties x.pointer S.extents)). ⊎_elim
+    (λ (q : HasRoom S x k e). absurd (p.0 e q))
+    (λ (q : ((o : ℕ) → HasRoom S x k o → ⊥) × IsFirstEmpty S x e × (k ≤ S.pages) × (spare purpose < empties x.pointer S.extents)). first_once p.1 q.1)
+    b)
+    a
+  where
+    first_once : IsFirstEmpty S x d → IsFirstEmpty S x e → d ≡ e
+    first_once p q = ⊎_elim
+        (λ (l : d < e). absurd (omega (arith, p.1, q.2 d l)))
+        (λ (l : e ≤ d). ⊎_elim (λ (m : e < d). absurd (omega (arith, q.1, p.2 e m))) (λ (m : d ≤ e). omega (arith, l, m)) (cases_lt e d))
+        (cases_lt d e)

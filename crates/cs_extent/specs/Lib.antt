@@ -3,4 +3,5 @@ pub mod Changes
 pub mod Frames
 pub mod Places
 pub mod Purposes
+pub mod Sections
 pub mod State

@@ -1,5 +1,5 @@
 use Rattle.cs_extent.proofs.Joined.{frame_exact, frame_within, root_within, settled_within}
-use Rattle.cs_extent.proofs.laws.joining_adds_nothing.Goals as goal
+use Rattle.cs_extent.proofs.laws.joining_adds_nothing_to_one_section.Goals as goal
 
 pub returns-clause-exact : goal.returns-clause-exact
 returns-clause-exact c = frame_exact
