@@ -1,4 +1,4 @@
-use Rattle.std.proofs.Common.{◌≡◌, None, ℕ, length, inl, inr, refl, ⊎_elim}
+use Rattle.std.proofs.Common.{◌≡◌, None, inl, inr, refl, ⊎_elim}
 use Rattle.cs_frame.specs.Bytes.{number}
 use Rattle.cs_frame.specs.FirstFormat.{IsOfFirstFormat, first_format_extents, first_format_fault}
 use Rattle.cs_frame.specs.Superblocks.{SpellsSuperblock, superblock_fault}

@@ -1,4 +1,4 @@
-use Rattle.std.proofs.Common.{◌∙◌, sym, ap, length}
+use Rattle.std.proofs.Common.{◌∙◌, sym}
 use Rattle.cs_frame.proofs.FirstFormatLaws.{count_of, one_of_first_format, spelled_has_none, spells}
 use Rattle.cs_frame.proofs.TestLaws.{some_and_none}
 use Rattle.cs_frame.proofs.page_zero.decode_first_format.Goals as goal
