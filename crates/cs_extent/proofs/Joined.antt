@@ -7,7 +7,7 @@ use Rattle.cs_deps.specs.Named.{Named, Names}
 use Rattle.cs_deps.specs.Staging.{IsVersionStaged, Staging, settled, is_left_waiting}
 use Rattle.std.proofs.lemmas.Option.{same_Some, slice_get_within}
 use Rattle.cs_extent.proofs.Staged.{frame_latest, get_front, get_last}
-use Rattle.cs_extent.specs.Frames.{ArePagesStaged, AreNeedsWithin, IsFrameBehind, IsFrameStaged, IsSectionNeed, IsSectionStaged, family_of, next_section, root_family}
+use Rattle.cs_extent.specs.Frames.{ArePagesStaged, AreOneSectionsNeedsWithin, IsFrameBehind, IsFrameStaged, IsSectionNeed, IsSectionStaged, family_of, next_section, root_family}
 use Rattle.cs_extent.proofs.Given.{in_either}
 
 more_needs : (m n need greater : ℕ) → m ≤ n → need ≤ greater → (x : Element) → IsSectionNeed 1 m need x → IsSectionNeed 1 n greater x
@@ -15,7 +15,7 @@ more_needs m n need greater le more (Plain k) h = (h.0, omega (arith, h.1, le))
 more_needs m n need greater le more (Version f v) h = (h.0, h.1, omega (arith, h.2, more))
 
 -- the pages that are staged bring no version of the section
-pages_within : (old new : Staging) (count root need : ℕ) → ArePagesStaged old new count root → AreNeedsWithin old need → AreNeedsWithin new need
+pages_within : (old new : Staging) (count root need : ℕ) → ArePagesStaged old new count root → AreOneSectionsNeedsWithin old need → AreOneSectionsNeedsWithin new need
 pages_within old new count root need pages within k v d x at names = ⊎_elim
     (λ (l : (k < length old.pending.waiting) × (slice_get old.pending.waiting k ≡ Some (Version (family_of 0) v, d))).
     more_needs old.staged new.staged need need (omega (arith, pages.staged)) (omega arith) x (within k v d x l.1 names))
@@ -34,7 +34,7 @@ in_push (z ∷ xs) y zero x h = inl h
 in_push (z ∷ xs) y (suc k) x h = in_push xs y k x h
 
 -- a version of the section brings no needs but its own
-module _ (old new : Staging) (need : ℕ) (staged : IsSectionStaged old new 0 1 need) (within : AreNeedsWithin old need) where
+module _ (old new : Staging) (need : ℕ) (staged : IsSectionStaged old new 0 1 need) (within : AreOneSectionsNeedsWithin old need) where
   exact : (x : Element) → Names (staged.version.1) x ↔ IsSectionNeed 1 old.staged need x
   exact x = (
     (λ h. ⊎_elim
@@ -50,7 +50,7 @@ module _ (old new : Staging) (need : ℕ) (staged : IsSectionStaged old new 0 1 
   staged_is : new.staged ≡ old.staged
   staged_is = ap (λ (s : Staging). s.staged) staged.version.5
 
-  version_within : AreNeedsWithin new need
+  version_within : AreOneSectionsNeedsWithin new need
   version_within k v d x at names = ⊎_elim
       (λ (l : slice_get old.pending.waiting k ≡ Some (Version (family_of 0) v, d)). more_needs old.staged new.staged need need (omega (arith, staged_is)) (omega arith) x (within k v d x l names))
       (λ (e : (next_section old 0, staged.version.1) ≡ (Version (family_of 0) v, d)).
@@ -58,14 +58,14 @@ module _ (old new : Staging) (need : ℕ) (staged : IsSectionStaged old new 0 1 
       more_needs old.staged new.staged need need (omega (arith, staged_is)) (omega arith) x ((exact x).0 (subst (λ (f : Named). Names f x) (sym same) names)))
       (in_push old.pending.waiting (next_section old 0, staged.version.1) k (Version (family_of 0) v, d) (subst (λ (l : List (Element × Named)). slice_get l k ≡ Some (Version (family_of 0) v, d)) waiting_is at))
 
-pub frame_within : (old new : Staging) (count root need : ℕ) → IsFrameStaged old new 1 0 count root need → AreNeedsWithin old need → AreNeedsWithin new need
+pub frame_within : (old new : Staging) (count root need : ℕ) → IsFrameStaged old new 1 0 count root need → AreOneSectionsNeedsWithin old need → AreOneSectionsNeedsWithin new need
 frame_within old new count root need staged within = version_within staged.between new need staged.section (pages_within old staged.between count root need staged.pages within)
 
-pub frame_exact : (old new : Staging) (count root need : ℕ) → IsFrameStaged old new 1 0 count root need → AreNeedsWithin old need → IsFrameBehind old new count root need
+pub frame_exact : (old new : Staging) (count root need : ℕ) → IsFrameStaged old new 1 0 count root need → AreOneSectionsNeedsWithin old need → IsFrameBehind old new count root need
 frame_exact old new count root need staged within =
     let middle : Staging = staged.between in
     let last : Element × Named = (next_section middle 0, staged.section.version.1) in
-    let so_far : AreNeedsWithin middle need = pages_within old middle count root need staged.pages within in
+    let so_far : AreOneSectionsNeedsWithin middle need = pages_within old middle count root need staged.pages within in
     let same : next_section middle 0 ≡ next_section old 0 = ap (λ l. Version (family_of 0) (get_or l (family_of 0) 0 + 1)) staged.pages.latest in
     let number : middle.staged ≡ old.staged + count = staged.pages.staged in
     record {
@@ -86,7 +86,7 @@ frame_exact old new count root need staged within =
 
 -- other changes
 
-pub root_within : (old new : Staging) (v need : ℕ) (needs : Named) → IsVersionStaged old root_family v needs new → AreNeedsWithin old need → AreNeedsWithin new need
+pub root_within : (old new : Staging) (v need : ℕ) (needs : Named) → IsVersionStaged old root_family v needs new → AreOneSectionsNeedsWithin old need → AreOneSectionsNeedsWithin new need
 root_within old new v need needs staged within k w d x at names =
     let waiting : new.pending.waiting ≡ old.pending.waiting ++ (Version root_family v, staged.1) ∷ [] = ap (λ (s : Staging). s.pending.waiting) staged.5 in
     let number : new.staged ≡ old.staged = ap (λ (s : Staging). s.staged) staged.5 in
@@ -107,7 +107,7 @@ filtered_from p (y ∷ xs) k x h = split (p y) k (λ i g. filtered_from p xs i x
     split true (suc i) rest g = let r = rest i g in (suc r.0, r.1)
     split false i rest g = let r = rest i g in (suc r.0, r.1)
 
-pub settled_within : (s : Staging) (round : List Element) (need : ℕ) → AreNeedsWithin s need → AreNeedsWithin (record s { pending = settled s.pending round }) need
+pub settled_within : (s : Staging) (round : List Element) (need : ℕ) → AreOneSectionsNeedsWithin s need → AreOneSectionsNeedsWithin (record s { pending = settled s.pending round }) need
 settled_within s round need within k v d x at names =
     let r = filtered_from (is_left_waiting round) s.pending.waiting k (Version (family_of 0) v, d) at in
     within r.0 v d x r.1 names

@@ -1,5 +1,5 @@
 -- Sections of a superblock: the extents that they record together, and a section's part of a store's extents.
-use Rattle.std.proofs.Common.{◌≡◌, ◌∙◌, ℕ, zero, suc, ◌+◌, ◌-◌, ◌*◌, ◌/◌, ◌<◌, ◌≤◌, ◌==◌, true, min, List, [], ◌∷◌, ◌++◌, length, take, drop, get_or, Some, slice_get, refl, sym, ap, subst, arith, length-append, mul-le-mul_right, if◌then◌else◌, nat_lt}
+use Rattle.std.proofs.Common.{◌≡◌, ◌∙◌, ℕ, zero, suc, ◌+◌, ◌-◌, ◌*◌, ◌/◌, ◌<◌, ◌≤◌, true, min, List, [], ◌∷◌, ◌++◌, length, take, drop, get_or, Some, slice_get, refl, sym, ap, subst, arith, length-append, mul-le-mul_right, if◌then◌else◌, nat_lt}
 use Rattle.std.specs.List.{AllByRecursion}
 use Rattle.std.proofs.lemmas.Bool.{lt-ltb}
 use Rattle.std.proofs.lemmas.List.{get_or-drop, get_or-take, length-drop, length-take}
@@ -8,7 +8,7 @@ use Rattle.cs_frame.specs.Geometries.{IsGeometry, lengths_below, section_length,
 use Rattle.cs_frame.proofs.GeometryLaws.{lengths_sum, section_inside}
 use Rattle.cs_extent.specs.Frames.{greatest}
 use Rattle.cs_extent.specs.Sections.{AreSections, IsSectionAt, count_of, pages_of, rows_of}
-use Rattle.cs_extent.specs.State.{IsWhole, State, extents_of, need_of, section_rows, shape}
+use Rattle.cs_extent.specs.State.{IsWhole, State, section_rows, shape}
 
 -- ---- what is read
 

@@ -116,8 +116,8 @@ AddsOnlyOf old new These = (x : Element) (w : Write) → write_of new x ≡ Some
 
 -- Where the superblock has one section: what its waiting versions need is staged plain writes, and no later version of the root than
 -- `need`.
-abbrev pub AreNeedsWithin : Staging → (need : ℕ) → Type 0
-AreNeedsWithin s need =
+abbrev pub AreOneSectionsNeedsWithin : Staging → (need : ℕ) → Type 0
+AreOneSectionsNeedsWithin s need =
     (k v : ℕ) (d : Named) (x : Element) → WaitsAt s.pending k (Version (family_of 0) v) d → Names d x → IsSectionNeed 1 s.staged need x
 
 -- what was reset goes with a version of the root that was staged

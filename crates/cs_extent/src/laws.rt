@@ -6,7 +6,7 @@ ghost use Rattle.cs_deps.specs.Staging.{IsVersionStaged, Staging, settled};
 ghost use Rattle.cs_model.specs.Device.{Shape};
 ghost use Rattle.cs_model.specs.Extents.{Extents, Placed, Purpose, emptied};
 ghost use Rattle.cs_extent.specs.Changes.{Change, Given, LeadsTo};
-ghost use Rattle.cs_extent.specs.Frames.{AreNeedsWithin, IsFrameBehind, IsFrameStaged, greatest, root_family};
+ghost use Rattle.cs_extent.specs.Frames.{AreOneSectionsNeedsWithin, IsFrameBehind, IsFrameStaged, greatest, root_family};
 
 /// Each page of an extent is given at most once in each of the extent's generations.
 pub fn pages_are_given_once()
@@ -31,9 +31,9 @@ pub fn needs_never_fall()
 /// Where the superblock has one section and what its versions need doesn't fall, joining it with what the version before needs adds
 /// nothing: a new version needs the plain writes staged so far and the versions of the root up to its own need, and nothing else.
 pub fn joining_adds_nothing_to_one_section()
-    ensures exact { (old new : Staging) (count root need : ℕ) → IsFrameStaged old new 1 0 count root need → AreNeedsWithin old need → IsFrameBehind old new count root need }
-    ensures kept { (old new : Staging) (count root need : ℕ) → IsFrameStaged old new 1 0 count root need → AreNeedsWithin old need → AreNeedsWithin new need }
-    ensures root { (old new : Staging) (v need : ℕ) (needs : Named) → IsVersionStaged old root_family v needs new → AreNeedsWithin old need → AreNeedsWithin new need }
-    ensures settled { (s : Staging) (round : List Element) (need : ℕ) → AreNeedsWithin s need → AreNeedsWithin (record s { pending = settled s.pending round }) need }
-    ensures more { (s : Staging) (need more : ℕ) → AreNeedsWithin s need → need ≤ more → AreNeedsWithin s more }
+    ensures exact { (old new : Staging) (count root need : ℕ) → IsFrameStaged old new 1 0 count root need → AreOneSectionsNeedsWithin old need → IsFrameBehind old new count root need }
+    ensures kept { (old new : Staging) (count root need : ℕ) → IsFrameStaged old new 1 0 count root need → AreOneSectionsNeedsWithin old need → AreOneSectionsNeedsWithin new need }
+    ensures root { (old new : Staging) (v need : ℕ) (needs : Named) → IsVersionStaged old root_family v needs new → AreOneSectionsNeedsWithin old need → AreOneSectionsNeedsWithin new need }
+    ensures settled { (s : Staging) (round : List Element) (need : ℕ) → AreOneSectionsNeedsWithin s need → AreOneSectionsNeedsWithin (record s { pending = settled s.pending round }) need }
+    ensures more { (s : Staging) (need more : ℕ) → AreOneSectionsNeedsWithin s need → need ≤ more → AreOneSectionsNeedsWithin s more }
 {}

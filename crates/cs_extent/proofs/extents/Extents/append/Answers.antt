@@ -1,14 +1,12 @@
-use Rattle.std.proofs.Common.{◌≡◌, ◌+◌, ◌<◌, ap, subst, sym, get_or, refl, length, List, ℕ, Some}
+use Rattle.std.proofs.Common.{◌≡◌, ◌+◌, ap, subst, sym, get_or, refl, List, ℕ, Some}
 use Rattle.cs_deps.specs.Staging.{Staging}
 use Rattle.cs_deps.specs.State.{State, write_of}
 use Rattle.cs_frame.specs.declared.locators.Locator.{Locator}
 use Rattle.cs_extent.specs.Appended.{IsAppended}
-use Rattle.cs_extent.specs.Frames.{IsWorn, family_of, next_section}
+use Rattle.cs_extent.specs.Frames.{family_of, next_section}
 use Rattle.cs_extent.specs.Purposes.{reason_of}
-use Rattle.cs_extent.specs.State.{SpellsExtents, extents_of, shape}
+use Rattle.cs_extent.specs.State.{SpellsExtents, shape}
 use Rattle.cs_extent.proofs.Appending.{whatever_room}
-use Rattle.cs_extent.proofs.Fitting.{placed_once}
-use Rattle.cs_extent.proofs.Sections.{section_there}
 use Rattle.cs_extent.proofs.extents.Extents.append.Goals as goal
 
 pub returns-in-Ok-clause-section : goal.returns-in-Ok-clause-section

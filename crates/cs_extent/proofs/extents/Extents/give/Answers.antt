@@ -1,11 +1,11 @@
-use Rattle.std.proofs.Common.{◌∙◌, ◌≡◌, ◌+◌, ◌*◌, ◌==◌, ◌<◌, arith, ap, length, get_or, subst, sym, ◌≤◌, ℕ, List, Some, if◌then◌else◌}
+use Rattle.std.proofs.Common.{◌∙◌, ◌≡◌, ◌+◌, ◌*◌, ◌==◌, arith, ap, length, get_or, subst, ◌≤◌, ℕ, List, Some, if◌then◌else◌}
 use Rattle.cs_deps.specs.declared.elements.Element.{Element}
 use Rattle.cs_deps.specs.Named.{Names}
 use Rattle.cs_deps.specs.State.{write_of}
 use Rattle.cs_model.specs.Extents.{Extents, taken}
 use Rattle.std.specs.Prelude.{◌↔◌}
 use Rattle.cs_frame.specs.Geometries.{section_length, section_start}
-use Rattle.cs_extent.specs.Frames.{AddsOnlyOf, IsFrameStaged, IsOfFrame, IsVersionUpTo, IsWorn, family_of, greatest, next_section, root_family}
+use Rattle.cs_extent.specs.Frames.{AddsOnlyOf, IsOfFrame, IsVersionUpTo, IsWorn, family_of, next_section, root_family}
 use Rattle.cs_extent.specs.State.{SpellsExtents, State, extents_of, need_of, shape}
 use Rattle.cs_extent.proofs.Changes.{greatest_within}
 use Rattle.cs_extent.proofs.Staged.{family_inside, family_small, fresh, frame_families, frame_root, framed, resets_still, written_pages}

@@ -1,4 +1,4 @@
-use Rattle.std.proofs.Common.{◌≡◌, ◌∙◌, ◌+◌, ◌==◌, None, Option, Some, ap, ℕ, if◌then◌else◌}
+use Rattle.std.proofs.Common.{◌≡◌, ◌∙◌, ◌+◌, ◌==◌, None, Some, ap, ℕ, if◌then◌else◌}
 use Rattle.std.proofs.lemmas.List.{get_or_read}
 use Rattle.cs_model.specs.Extents.{open_after}
 use Rattle.cs_extent.specs.State.{State, extents_of, shape}
