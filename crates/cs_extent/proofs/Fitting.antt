@@ -21,6 +21,21 @@ with_same f e v = let same : (e == e) ≡ true = grind (arith, nat_tests) in rw 
 pub with_other : (f : ℕ → ℕ) (e v d : ℕ) → d ≢ e → with f e v d ≡ f d
 with_other f e v d other = let apart : (d == e) ≡ false = grind (arith, nat_tests) in rw apart refl
 
+-- pages are only added
+pub pointer_grows : (f : ℕ → ℕ) (e k d : ℕ) → f d ≤ with f e (f e + k) d
+pointer_grows f e k d = split (d == e) refl
+  where
+    split : (b : Bool) → (d == e) ≡ b → f d ≤ (if b then f e + k else f d)
+    split true is = let same : d ≡ e = grind (arith, nat_tests) in let here : f d ≡ f e = ap f same in omega (arith, here)
+    split false is = omega arith
+
+-- a frame lies inside the extent that it goes to
+pub placed_inside : (S : Shape) (x : Extents) (r : Reason) (k e : ℕ) → Placed S x r k e → (e < S.extents) × (x.pointer e + k ≤ S.pages)
+placed_inside S x r k e placed = ⊎_elim
+    (λ (h : HasRoom S x k e). (h.1, h.2))
+    (λ (h : ((o : ℕ) → HasRoom S x k o → ⊥) × IsFirstEmpty S x e × (k ≤ S.pages) × (spare r < empties x.pointer S.extents)). (h.1.0, omega (arith, h.1.1, h.2)))
+    placed
+
 -- what is open is there and not empty
 pub record IsBegun (S : Shape) (x : Extents) : Type 0 where
   pub inside : (e : ℕ) → x.open_extent ≡ Some e → e < S.extents

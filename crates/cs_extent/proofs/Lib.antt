@@ -6,3 +6,4 @@ pub mod Staged
 pub mod Given
 pub mod Joined
 pub mod Sections
+pub mod Worn

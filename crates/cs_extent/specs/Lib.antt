@@ -5,3 +5,4 @@ pub mod Places
 pub mod Purposes
 pub mod Sections
 pub mod State
+pub mod Worn

@@ -1,5 +1,5 @@
 //! The extents of a store.
-ghost use Rattle.std.specs.Prelude.{◌≡◌, ℕ, ◌+◌, ◌*◌, ◌<◌, ◌≤◌, ◌^◌, ◌↔◌, ◌⊎◌, ◌==◌, if◌then◌else◌, false, IfOk, IfErr, OnOk, OnErr, IsOk, IsTrue, MatchOption, All, List, count_by, Some, None, length, replicate, slice_index};
+ghost use Rattle.std.specs.Prelude.{◌≡◌, ℕ, ◌+◌, ◌-◌, ◌*◌, ◌<◌, ◌≤◌, ◌^◌, ◌↔◌, ◌⊎◌, ◌==◌, if◌then◌else◌, false, IfOk, IfErr, OnOk, OnErr, IsOk, IsTrue, MatchOption, All, List, count_by, Some, None, length, replicate, slice_index};
 ghost use Rattle.cs_deps.specs.declared.elements.Element.{Element as Item};
 ghost use Rattle.cs_deps.specs.Named.{Names};
 ghost use Rattle.cs_deps.specs.State.{write_of};
@@ -10,11 +10,13 @@ ghost use Rattle.cs_extent.specs.Places.{room_at};
 ghost use Rattle.cs_extent.specs.Purposes.{reason_of};
 ghost use Rattle.cs_extent.specs.Sections.{AreSections, pages_of, rows_of};
 ghost use Rattle.cs_extent.specs.State.{IsWhole, SpellsExtents, extents_of, need_of, shape};
+ghost use Rattle.cs_extent.specs.Worn.{AreCounted, AreWorn, IsEmptyFrom};
 
 use crate::families::{on_versions, section_family};
 use crate::frames::stage_frame;
 use crate::purposes::Purpose;
 use crate::supplies::Supply;
+use crate::ways::{Way, are_versions_worn, are_writes_worn, counted};
 use cs_deps::{Dependency, Graph, LAST_NUMBER, Refusal};
 use cs_frame::{Geometry, Locator, Superblock, encode_section};
 use std::alloc::{AllocError, Global};
@@ -208,6 +210,97 @@ impl Extents {
             }
         }
         true
+    }
+
+    /// Whether the numbers of the plain writes or of the sections' versions that frames of these numbers of pages take, appended one
+    /// after another, would pass the greatest, 2^63 - 1. The frames all find a place. Takes no memory, and costs a pass over the extents
+    /// and the frames.
+    pub fn are_worn(&self, graph: &Graph, frame_pages: &[usize], purpose: Purpose) -> bool
+        requires pages { All (λ pages. (1 ≤ pages) × (pages ≤ (shape self.now).pages)) frame_pages.now }
+        requires fits { Fits (shape self.now) (extents_of self.now) (reason_of purpose) frame_pages.now }
+        requires families { length graph.now.staging.latest ≡ 1 + (shape self.now).sections }
+        ensures { IsTrue result ↔ AreWorn self.now graph.now.staging (reason_of purpose) frame_pages.now }
+    {
+        if are_writes_worn(graph, frame_pages) {
+            return true;
+        }
+        let geometry = self.geometry();
+        let counts = self.count_versions(frame_pages, purpose);
+        are_versions_worn(graph, geometry.sections(), counts)
+    }
+
+    /// How many versions of each section frames of these numbers of pages take, which all find a place.
+    fn count_versions(&self, frame_pages: &[usize], purpose: Purpose) -> [u64; 8]
+        requires pages { All (λ pages. (1 ≤ pages) × (pages ≤ (shape self.now).pages)) frame_pages.now }
+        requires fits { Fits (shape self.now) (extents_of self.now) (reason_of purpose) frame_pages.now }
+        ensures { AreCounted (shape self.now) (extents_of self.now) (reason_of purpose) frame_pages.now result }
+    {
+        let mut way = Way {
+            extent: self.last_extent(),
+            room: self.room(),
+            next: 0,
+        };
+        let mut counts = [0; 8];
+        for pages in frame_pages {
+            way = self.goes_on(way, *pages);
+            counts = counted(counts, self.section(way.extent));
+        }
+        counts
+    }
+
+    /// The open extent, where one is open.
+    fn last_extent(&self) -> usize
+        ensures { (e : ℕ) → (extents_of self.now).open_extent ≡ Some e → result ≡ e }
+    {
+        match self.open_extent {
+            Some(open) => open,
+            None => 0,
+        }
+    }
+
+    /// Where a frame of so many pages goes, and where the next one does.
+    fn goes_on(&self, way: Way, pages: usize) -> Way
+        requires pages { pages ≤ (shape self.now).pages }
+        requires place { way.room < pages → (e : ℕ) × IsEmptyFrom (shape self.now).extents (extents_of self.now).pointer way.next e }
+        ensures stays { pages ≤ way.room → result ≡ record { extent = way.extent; room = way.room - pages; next = way.next } }
+        ensures opens { way.room < pages → IsEmptyFrom (shape self.now).extents (extents_of self.now).pointer way.next result.extent
+            × (result.room ≡ (shape self.now).pages - pages) × (result.next ≡ result.extent + 1) }
+    {
+        if pages <= way.room {
+            return Way {
+                extent: way.extent,
+                room: way.room - pages,
+                next: way.next,
+            };
+        }
+        let extent = self.empty_from(way.next);
+        Way {
+            extent,
+            room: self.extent_pages() - pages,
+            next: extent + 1,
+        }
+    }
+
+    /// The first empty extent of those from this one on, where there is one.
+    fn empty_from(&self, start: usize) -> usize
+        requires { (e : ℕ) × IsEmptyFrom (shape self.now).extents (extents_of self.now).pointer start e }
+        ensures empty { IsEmptyFrom (shape self.now).extents (extents_of self.now).pointer start result }
+        ensures small { result < 2 ^ 16 }
+    {
+        for e in start..self.extent_count() {
+            if self.is_empty(e) {
+                return e;
+            }
+        }
+        unreachable!()
+    }
+
+    /// Whether no page of an extent is given.
+    fn is_empty(&self, extent: usize) -> bool
+        requires { extent < (shape self.now).extents }
+        ensures { IsTrue result ↔ ((extents_of self.now).pointer extent ≡ 0) }
+    {
+        self.pointer(extent) == 0
     }
 
     /// Where a frame of so many pages goes.

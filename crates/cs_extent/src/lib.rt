@@ -10,6 +10,7 @@ mod frames;
 mod laws;
 mod purposes;
 mod supplies;
+mod ways;
 
 pub use extents::{Extents, LAST_GENERATION};
 pub use families::{ROOT, on_sections, section_family};
