@@ -1,5 +1,5 @@
 -- Where frames go that are to be appended, and how many versions of each section they take.
-use Rattle.std.proofs.Common.{◌≡◌, ◌≢◌, ◌∙◌, ◌↔◌, ℕ, suc, ◌+◌, ◌-◌, ◌^◌, ◌<◌, ◌≤◌, ◌==◌, min, Bool, true, false, cond, List, [], ◌∷◌, length, drop, get_or, set, replicate, sum, Option, Some, None, refl, sym, ap, subst, inr, ⊎_elim, arith, length-set}
+use Rattle.std.proofs.Common.{◌≡◌, ◌≢◌, ◌∙◌, ◌↔◌, ℕ, zero, suc, ◌+◌, ◌-◌, ◌^◌, ◌<◌, ◌≤◌, ◌==◌, min, Bool, true, false, cond, List, [], ◌∷◌, length, drop, get_or, set, replicate, sum, Option, Some, None, refl, sym, ap, subst, inr, ⊎_elim, arith, length-set}
 use Rattle.std.proofs.lemmas.Bool.{cases_eq, cases_lt}
 use Rattle.std.proofs.lemmas.Bool.Decides.{nat_tests}
 use Rattle.std.proofs.lemmas.List.{drop_all, get_or-set_other, get_or-set_same}
@@ -16,6 +16,7 @@ use Rattle.cs_extent.specs.Places.{room_at}
 use Rattle.cs_extent.specs.State.{IsWhole, State, extents_of, shape}
 use Rattle.cs_extent.specs.Worn.{AreCounted, ArePlaced, AreWorn, IsEmptyFrom, in_section}
 use Rattle.cs_extent.proofs.Changes.{zeros_at}
+use Rattle.cs_extent.proofs.Staged.{family_inside}
 use Rattle.cs_extent.proofs.Fitting.{IsBegun, begun_of, placed_inside, placed_once, pointer_grows, room_behind, room_is, taken_begun, with_other, with_same}
 
 -- ---- lists of places
@@ -55,6 +56,34 @@ places_there S x r [] fits = ([], tt)
 places_there S x r (k ∷ ks) fits =
     let rest = places_there S (taken S x fits.0 k) r ks fits.2 in
     (fits.0 ∷ rest.0, (fits.1, rest.1))
+
+-- each section has a family of its own
+pub family_one : (i j : ℕ) → family_of i ≡ family_of j → i ≡ j
+family_one zero zero is = refl
+family_one zero (suc j) is = absurd (omega (arith, is))
+family_one (suc i) zero is = absurd (omega (arith, is))
+family_one (suc i) (suc j) is = omega (arith, is)
+
+-- Once a frame went to e, the last version of each section, and those that further frames take, together are what they were with the frame
+-- still to come.
+pub frame_counts : (S : Shape) (old new : List ℕ) (e : ℕ) (es : List ℕ) → S.section e < S.sections → length old ≡ 1 + S.sections
+    → new ≡ set old (family_of (S.section e)) (get_or old (family_of (S.section e)) 0 + 1)
+    → (j : ℕ) → get_or new (family_of j) 0 + in_section S j es ≡ get_or old (family_of j) 0 + in_section S j (e ∷ es)
+frame_counts S old new e es there families is j = ⊎_elim
+    (λ (here : j ≡ S.section e).
+    let inside : family_of (S.section e) < length old = omega (arith, families, family_inside S.sections (S.section e) there) in
+    let read : get_or new (family_of j) 0 ≡ get_or old (family_of j) 0 + 1 =
+    ap (λ (ns : List ℕ). get_or ns (family_of j) 0) is
+    ∙ ap (λ (i : ℕ). get_or (set old (family_of (S.section e)) (get_or old (family_of (S.section e)) 0 + 1)) (family_of i) 0) here
+    ∙ get_or-set_same old (family_of (S.section e)) (get_or old (family_of (S.section e)) 0 + 1) 0 inside
+    ∙ ap (λ (i : ℕ). get_or old (family_of i) 0 + 1) (sym here) in
+    omega (arith, read, in_section_here S j e es (sym here)))
+    (λ (other : j ≢ S.section e).
+    let read : get_or new (family_of j) 0 ≡ get_or old (family_of j) 0 =
+    ap (λ (ns : List ℕ). get_or ns (family_of j) 0) is
+    ∙ get_or-set_other old (family_of (S.section e)) (family_of j) (get_or old (family_of (S.section e)) 0 + 1) 0 (λ same. other (family_one j (S.section e) same)) in
+    omega (arith, read, in_section_other S j e es (λ at. other (sym at))))
+    (cases_eq j (S.section e))
 
 -- ---- where the next frame goes
 
