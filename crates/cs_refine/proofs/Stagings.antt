@@ -14,7 +14,8 @@ use Rattle.cs_model.specs.Machine.{World, StagePage, happens}
 use Rattle.cs_model.specs.Safe.{IsStaged}
 use Rattle.cs_model.proofs.ClosedSets.{gt-leb}
 use Rattle.cs_model.proofs.Waiting.{Listed, listed}
-use Rattle.cs_refine.specs.Bridge.{AreNeedsOf, family_of, name, NeedsName, Matches, waiting_in, IsPendingOf}
+use Rattle.cs_extent.specs.Frames.{family_of}
+use Rattle.cs_refine.specs.Bridge.{AreNeedsOf, name, NeedsName, Matches, waiting_in, IsPendingOf}
 use Rattle.cs_refine.proofs.Places.{from_waiting}
 
 -- needs that are the same where more was staged

@@ -16,7 +16,8 @@ ghost use Rattle.cs_model.specs.State.{State};
 ghost use Rattle.cs_model.specs.Sound.{Sound};
 ghost use Rattle.cs_model.specs.Round.{IsRound, IsMember};
 ghost use Rattle.cs_refine.specs.Stores.{AreMemberNames};
-ghost use Rattle.cs_refine.specs.Bridge.{AreNeedsOf, name, family_of, NeedsName, IsPendingOf, IsCutOf, AreNames, IsWaiting, NamesAll};
+ghost use Rattle.cs_extent.specs.Frames.{family_of};
+ghost use Rattle.cs_refine.specs.Bridge.{AreNeedsOf, name, NeedsName, IsPendingOf, IsCutOf, AreNames, IsWaiting, NamesAll};
 
 /// What a round of the machine takes is the first round of the plan of all that waits.
 pub fn rounds_are_first_rounds()
