@@ -1,7 +1,6 @@
 -- What an append leaves of the waiting writes, and what it adds.
 use Rattle.std.proofs.Common.{◌≡◌, ◌≢◌, ◌∙◌, ℕ, zero, suc, ◌+◌, ◌-◌, ◌<◌, ◌≤◌, ◌⊎◌, Bool, true, false, List, [], ◌∷◌, ◌++◌, length, Some, slice_get, get_or, refl, sym, ap, subst, inl, inr, ⊎_elim, arith}
 use Rattle.std.specs.Prelude.{◌==◌, if◌then◌else◌, slice_index_or}
-use Rattle.std.proofs.lemmas.Bool.Decides.{nat_tests}
 use Rattle.std.proofs.lemmas.Option.{some_pair_parts, slice_get_within}
 use Rattle.cs_chunk.specs.Puts.{AreNewestFrames, IsNewestFrame}
 use Rattle.cs_chunk.proofs.Newest.{one_place}
@@ -12,33 +11,18 @@ use Rattle.cs_deps.specs.Pending.{Waits, WaitsAt}
 use Rattle.cs_deps.specs.Staging.{Staging}
 use Rattle.cs_deps.specs.State.{IsNewestOn, IsWhole, NoneOn, State as Graph, Write, write_of}
 use Rattle.cs_extent.specs.Appended.{IsAppended}
-use Rattle.cs_extent.specs.Frames.{IsNextPlain, superblock_family}
+use Rattle.cs_extent.specs.Frames.{IsNextPlain, family_of}
 use Rattle.cs_extent.specs.State.{State, extents_of, shape}
-use Rattle.cs_extent.proofs.Fitting.{with_same}
+use Rattle.cs_extent.proofs.Fitting.{placed_inside, pointer_grows, with_same}
 use Rattle.cs_extent.proofs.Given.{in_either}
 use Rattle.cs_extent.proofs.Staged.{get_front}
 use Rattle.cs_frame.specs.declared.locators.Locator.{Locator}
-use Rattle.cs_model.specs.Device.{Shape}
-use Rattle.cs_model.specs.Extents.{Extents, HasRoom, IsFirstEmpty, Placed, Purpose as Reason, empties, spare}
+use Rattle.cs_model.specs.Extents.{Extents, Purpose as Reason}
 use Rattle.cs_model.specs.Lists.{with}
 
 get_back : {X : Type 0} (xs ys : List X) (i : ℕ) (x : X) → slice_get ys i ≡ Some x → slice_get (xs ++ ys) (length xs + i) ≡ Some x
 get_back [] ys i x h = let same : i ≡ 0 + i = omega arith in subst (λ k. slice_get ys k ≡ Some x) same h
 get_back (y ∷ xs) ys i x h = let same : suc (length xs + i) ≡ suc (length xs) + i = omega arith in subst (λ k. slice_get (y ∷ (xs ++ ys)) k ≡ Some x) same (get_back xs ys i x h)
-
--- a frame lies inside the extent that it goes to
-pub placed_inside : (S : Shape) (x : Extents) (r : Reason) (k e : ℕ) → Placed S x r k e → (e < S.extents) × (x.pointer e + k ≤ S.pages)
-placed_inside S x r k e placed = ⊎_elim
-    (λ (h : HasRoom S x k e). (h.1, h.2))
-    (λ (h : ((o : ℕ) → HasRoom S x k o → ⊥) × IsFirstEmpty S x e × (k ≤ S.pages) × (spare r < empties x.pointer S.extents)). (h.1.0, omega (arith, h.1.1, h.2)))
-    placed
-
-pub pointer_grows : (f : ℕ → ℕ) (e k d : ℕ) → f d ≤ with f e (f e + k) d
-pointer_grows f e k d = split (d == e) refl
-  where
-    split : (b : Bool) → (d == e) ≡ b → f d ≤ (if b then f e + k else f d)
-    split true is = let same : d ≡ e = grind (arith, nat_tests) in let here : f d ≡ f e = ap f same in omega (arith, here)
-    split false is = omega arith
 
 pub pointer_within : (f : ℕ → ℕ) (e k most : ℕ) → f e + k ≤ most → ((d : ℕ) → f d ≤ most) → (d : ℕ) → with f e (f e + k) d ≤ most
 pointer_within f e k most le all d = split (d == e) refl
@@ -66,13 +50,13 @@ module _ (x : State) (g : Graph) (r : Reason) (frame : List (List ℕ)) (l : Loc
   added = a.staged.pages.entries
 
   abbrev last : Element × Named
-  last = (Version superblock_family (get_or a.staged.between.latest superblock_family 0 + 1), a.staged.superblock.version.1)
+  last = (Version (family_of ((shape x).section l.extent)) (get_or a.staged.between.latest (family_of ((shape x).section l.extent)) 0 + 1), a.staged.section.version.1)
 
   abbrev at_page : ℕ → ℕ
   at_page i = (shape x).address l.extent (l.page + i)
 
   behind : h.staging.pending.waiting ≡ (waited ++ added) ++ last ∷ []
-  behind = ap (λ (s : Staging). s.pending.waiting) a.staged.superblock.version.5 ∙ ap (λ (ws : List (Element × Named)). ws ++ last ∷ []) a.staged.pages.behind
+  behind = ap (λ (s : Staging). s.pending.waiting) a.staged.section.version.5 ∙ ap (λ (ws : List (Element × Named)). ws ++ last ∷ []) a.staged.pages.behind
 
   -- where an element that waited waits now
   kept_at : (k : ℕ) (e : Element × Named) → slice_get waited k ≡ Some e → slice_get h.staging.pending.waiting k ≡ Some e
@@ -203,7 +187,7 @@ module _ (x : State) (g : Graph) (r : Reason) (frame : List (List ℕ)) (l : Loc
 
   -- the numbers that the next frame finds
   pub staged_more : h.staging.staged ≡ g.staging.staged + length frame
-  staged_more = ap (λ (s : Staging). s.staged) a.staged.superblock.version.5 ∙ a.staged.pages.staged
+  staged_more = ap (λ (s : Staging). s.staged) a.staged.section.version.5 ∙ a.staged.pages.staged
 
   pub within_more : ((e : ℕ) → (extents_of x).pointer e ≤ x.pages) → (e : ℕ) → (extents_of y).pointer e ≤ x.pages
   within_more within e = omega (arith, pointer_of e, pointer_within (extents_of x).pointer l.extent (length frame) x.pages inside.1 within e)

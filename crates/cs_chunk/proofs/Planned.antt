@@ -2,13 +2,13 @@
 use Rattle.std.proofs.Common.{◌≡◌, ◌∙◌, ℕ, ◌*◌, ◌<◌, ◌⊎◌, List, length, refl, sym, ap, subst, ⊎_elim, arith}
 use Rattle.std.specs.Prelude.{◌↔◌, Result, Err}
 use Rattle.cs_chunk.specs.declared.cuts.Cut.{Cut}
-use Rattle.cs_chunk.specs.Chunks.{IsPutWorn}
 use Rattle.cs_chunk.specs.Cuts.{IsCut, pages_of, pieces}
 use Rattle.cs_chunk.proofs.Chunkings.{cut_chunked, cut_only, cut_pages}
 use Rattle.cs_deps.specs.declared.refusals.Refusal.{Refusal}
 use Rattle.cs_deps.specs.declared.refusals.Refusal.TheVariants.{Full, TooLarge, WornOut}
 use Rattle.cs_deps.specs.Staging.{Staging}
 use Rattle.cs_extent.specs.State.{IsWhole, State, extents_of, shape}
+use Rattle.cs_extent.specs.Worn.{AreWorn}
 use Rattle.cs_frame.specs.Formats.{formats_of}
 use Rattle.cs_model.specs.Append.{chunk_frames, page_counts}
 use Rattle.cs_model.specs.Device.{Shape}
@@ -30,11 +30,11 @@ module _ (x : State) (s : Staging) (bytes : List ℕ) (whole : IsWhole x) where
   IsFull = (IsTooLarge → ⊥) × ((cs : List (List ℕ)) → Chunked (shape x).chunk_bytes bytes cs → Fits (shape x) (extents_of x) ForPut (counts cs) → ⊥)
 
   abbrev pub IsPutOut : Type 0
-  IsPutOut = (IsTooLarge → ⊥) × ((cs : List (List ℕ)) × Chunked (shape x).chunk_bytes bytes cs × Fits (shape x) (extents_of x) ForPut (counts cs) × IsPutWorn s (counts cs))
+  IsPutOut = (IsTooLarge → ⊥) × ((cs : List (List ℕ)) × Chunked (shape x).chunk_bytes bytes cs × Fits (shape x) (extents_of x) ForPut (counts cs) × AreWorn x s ForPut (counts cs))
 
   module _ (cut : Cut) (is : IsCut (shape x) (length bytes) cut) where
     some_byte : 0 < cut.size
-    some_byte = omega (arith, is.size, whole.fewest_pages)
+    some_byte = omega (arith, is.size, whole.geometry.fewest_pages)
 
     pub chunked : Chunked (shape x).chunk_bytes bytes (pieces cut.size cut.count bytes)
     chunked = cut_chunked (shape x) bytes cut is some_byte refl
@@ -53,13 +53,13 @@ module _ (x : State) (s : Staging) (bytes : List ℕ) (whole : IsWhole x) where
     not_full r never fits = ((λ e. absurd (never e)), (λ h. absurd (h.1 (pieces cut.size cut.count bytes) chunked (subst (λ ks. Fits (shape x) (extents_of x) ForPut ks) (sym pages) fits))))
 
     -- no number is worn out, so it is not refused so
-    pub not_worn_out : {T : Type 0} (r : Result T Refusal) → (r ≡ Err WornOut → ⊥) → (IsPutWorn s (pages_of cut) → ⊥) → (r ≡ Err WornOut) ↔ IsPutOut
-    not_worn_out r never fine = ((λ e. absurd (never e)), (λ h. absurd (fine (subst (λ ks. IsPutWorn s ks) (only h.1.0 h.1.1) h.1.3))))
+    pub not_worn_out : {T : Type 0} (r : Result T Refusal) → (r ≡ Err WornOut → ⊥) → (AreWorn x s ForPut (pages_of cut) → ⊥) → (r ≡ Err WornOut) ↔ IsPutOut
+    not_worn_out r never fine = ((λ e. absurd (never e)), (λ h. absurd (fine (subst (λ ks. AreWorn x s ForPut ks) (only h.1.0 h.1.1) h.1.3))))
 
   -- what is refused
   module _ (fitting : Result Cut Refusal) (r : Refusal) (is : fitting ≡ Err r) (large : (fitting ≡ Err TooLarge) ↔ IsTooLarge)
       (full : fitting ≡ Err Full → (cut : Cut) × IsCut (shape x) (length bytes) cut × (Fits (shape x) (extents_of x) ForPut (pages_of cut) → ⊥))
-      (worn : fitting ≡ Err WornOut → (cut : Cut) × IsCut (shape x) (length bytes) cut × Fits (shape x) (extents_of x) ForPut (pages_of cut) × IsPutWorn s (pages_of cut))
+      (worn : fitting ≡ Err WornOut → (cut : Cut) × IsCut (shape x) (length bytes) cut × Fits (shape x) (extents_of x) ForPut (pages_of cut) × AreWorn x s ForPut (pages_of cut))
       (refusals : (r ≡ TooLarge) ⊎ (r ≡ Full) ⊎ (r ≡ WornOut)) where
     is_err : (q : Refusal) → r ≡ q → fitting ≡ Err q
     is_err q e = is ∙ ap (λ (u : Refusal). Err u) e
@@ -75,7 +75,7 @@ module _ (x : State) (s : Staging) (bytes : List ℕ) (whole : IsWhole x) where
     worn_out e =
         let f = worn (is_err WornOut e) in (
           (λ t. let l : fitting ≡ Err TooLarge = large.1 t in absurd (cc (l, is_err WornOut e))),
-          (pieces f.0.size f.0.count bytes, chunked f.0 f.1, subst (λ ks. Fits (shape x) (extents_of x) ForPut ks) (sym (pages f.0 f.1)) f.2, subst (λ ks. IsPutWorn s ks) (sym (pages f.0 f.1)) f.3),
+          (pieces f.0.size f.0.count bytes, chunked f.0 f.1, subst (λ ks. Fits (shape x) (extents_of x) ForPut ks) (sym (pages f.0 f.1)) f.2, subst (λ ks. AreWorn x s ForPut ks) (sym (pages f.0 f.1)) f.3),
         )
 
     out_full : IsFull → r ≡ Full

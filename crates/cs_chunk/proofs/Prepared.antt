@@ -1,10 +1,10 @@
 -- A put that is planned and prepared.
-use Rattle.std.proofs.Common.{◌≡◌, ◌∙◌, ℕ, zero, suc, ◌+◌, ◌-◌, ◌<◌, ◌≤◌, List, [], ◌∷◌, ◌++◌, length, drop, replicate, refl, sym, ap, subst, arith}
+use Rattle.std.proofs.Common.{◌≡◌, ◌∙◌, ℕ, zero, suc, ◌+◌, ◌-◌, ◌≤◌, List, [], ◌∷◌, ◌++◌, length, drop, replicate, refl, sym, ap, subst, arith}
 use Rattle.std.specs.Prelude.{map, sum}
 use Rattle.std.specs.List.{AllByRecursion}
 use Rattle.std.proofs.lemmas.List.{length-map}
 use Rattle.cs_chunk.specs.declared.cuts.Cut.{Cut}
-use Rattle.cs_chunk.specs.Chunks.{AreChunksAt, IsPutWorn}
+use Rattle.cs_chunk.specs.Chunks.{AreChunksAt}
 use Rattle.cs_chunk.specs.Cuts.{IsCut, pages_of, pieces}
 use Rattle.cs_chunk.specs.Newest.{AreNewest}
 use Rattle.cs_chunk.specs.Puts.{AreNewestFrames, IsPutSoFar, MayPut}
@@ -14,8 +14,10 @@ use Rattle.cs_chunk.proofs.Putting.{appended_whatever, put_reads}
 use Rattle.cs_deps.specs.State.{State as Graph}
 use Rattle.cs_disk.specs.Disk.{Image}
 use Rattle.cs_extent.specs.Appended.{AreAppended}
-use Rattle.cs_extent.specs.Frames.{AreResetsStaged, root_family}
+use Rattle.cs_extent.specs.Frames.{AreResetsStaged}
 use Rattle.cs_extent.specs.State.{IsWhole, State, extents_of, shape}
+use Rattle.cs_extent.specs.Worn.{AreWorn}
+use Rattle.cs_extent.proofs.Sections.{section_there}
 use Rattle.cs_frame.specs.declared.locators.Locator.{Locator}
 use Rattle.cs_frame.specs.Formats.{formats_of}
 use Rattle.cs_frame.specs.Frames.{spelled_frame}
@@ -57,14 +59,15 @@ module _ (x : State) (g k : Graph) (bytes : List ℕ) (whole : IsWhole x) (cut :
   pages_are : page_counts fs ≡ pages_of cut
   pages_are = ap page_counts frames ∙ pages x g.staging bytes whole cut is
 
-  pub may_put : root_family < length g.staging.latest → AreResetsStaged (extents_of x) g.staging → Fits (shape x) (extents_of x) ForPut (pages_of cut) → (IsPutWorn g.staging (pages_of cut) → ⊥) → cut.count + sum (pages_of cut) ≤ k.room → MayPut x k fs
+  pub may_put : length g.staging.latest ≡ 1 + (shape x).sections → AreResetsStaged (extents_of x) g.staging → Fits (shape x) (extents_of x) ForPut (pages_of cut) → (AreWorn x g.staging ForPut (pages_of cut) → ⊥) → cut.count + sum (pages_of cut) ≤ k.room → MayPut x k fs
   may_put families resets fits numbers room = subst (λ (h : Graph). MayPut x h fs) (sym same) (record {
     families = families;
+    sections = section_there x whole;
     resets = resets;
     pointers = whole.pointers;
     pages = subst (λ ks. AllByRecursion (λ n. (1 ≤ n) × (n ≤ x.pages)) ks) (sym pages_are) (each_page (cut.count - 1) cut.pages cut.last x.pages cut.least cut.most is.pages);
     fits = subst (λ ks. Fits (shape x) (extents_of x) ForPut ks) (sym pages_are) fits;
-    numbers = λ worn. numbers (subst (λ ks. IsPutWorn g.staging ks) pages_are worn);
+    numbers = λ worn. numbers (subst (λ ks. AreWorn x g.staging ForPut ks) pages_are worn);
     room = omega (arith, room, ap length frames, length-frames (shape x) (pieces cut.size cut.count bytes), length-pieces cut.size cut.count bytes, ap sum pages_are);
   })
 

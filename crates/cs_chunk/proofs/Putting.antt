@@ -1,9 +1,8 @@
 -- The frames of a put, appended one after another.
-use Rattle.std.proofs.Common.{◌≡◌, ◌∙◌, ℕ, ◌+◌, ◌^◌, ◌<◌, ◌≤◌, List, [], ◌∷◌, ◌++◌, length, take, drop, get_or, refl, sym, ap, subst, inl, inr, ⊎_elim, arith}
+use Rattle.std.proofs.Common.{◌≡◌, ◌∙◌, ℕ, suc, ◌+◌, ◌^◌, ◌<◌, ◌≤◌, List, [], ◌∷◌, ◌++◌, length, take, drop, get_or, refl, sym, ap, subst, inl, inr, ⊎_elim, arith}
 use Rattle.std.specs.Prelude.{map, sum}
 use Rattle.std.specs.List.{AllByRecursion}
-use Rattle.std.proofs.lemmas.List.{get_or-set_same, get_or-map, drop_more, take_more, length-map}
-use Rattle.std.proofs.lemmas.List.Sums.{sum_by-cons}
+use Rattle.std.proofs.lemmas.List.{get_or-map, drop_more, take_more, length-map}
 use Rattle.cs_chunk.specs.Chunks.{AreChunksAt}
 use Rattle.cs_chunk.specs.Newest.{AreNewest}
 use Rattle.cs_chunk.specs.Puts.{AreNewestFrames, IsNewestFrame, IsPutSoFar, MayPut}
@@ -12,15 +11,18 @@ use Rattle.cs_chunk.proofs.Newest.{reads_newest, stand_of}
 use Rattle.cs_deps.specs.State.{IsWhole, State as Graph}
 use Rattle.cs_disk.specs.Disk.{Image}
 use Rattle.cs_extent.specs.Appended.{AreAppended, IsAppended}
-use Rattle.cs_extent.specs.Frames.{AreResetsStaged, IsWorn, superblock_family}
+use Rattle.cs_extent.specs.Frames.{AreResetsStaged, IsWorn, family_of}
 use Rattle.cs_extent.specs.State.{State, extents_of, shape}
+use Rattle.cs_extent.specs.Worn.{ArePlaced, AreWorn, in_section}
 use Rattle.cs_extent.proofs.Appending.{whatever_room}
+use Rattle.cs_extent.proofs.Fitting.{placed_inside}
 use Rattle.cs_extent.proofs.Staged.{frame_latest}
+use Rattle.cs_extent.proofs.Worn.{frame_counts, in_section_here, places_there, sum_of}
 use Rattle.cs_frame.specs.declared.locators.Locator.{Locator}
 use Rattle.cs_frame.specs.Formats.{formats_of}
 use Rattle.cs_model.specs.Append.{chunk_frames, page_counts}
 use Rattle.cs_model.specs.Device.{Shape}
-use Rattle.cs_model.specs.Extents.{Extents, Fits, ForPut, Purpose as Reason, taken}
+use Rattle.cs_model.specs.Extents.{Extents, Fits, ForPut, Placed, Purpose as Reason, taken}
 use Rattle.cs_model.specs.Formats.{ChunkFrame}
 use Rattle.cs_model.proofs.Places.{placed_one}
 
@@ -45,19 +47,29 @@ frames_more S x g (k ∷ ls) (e ∷ fs) l f are is = (are.0, frames_more S x g l
 frames_more S x g [] (e ∷ fs) l f are is = absurd are
 frames_more S x g (k ∷ ls) [] l f are is = absurd are
 
-sum_of : (k : ℕ) (ks : List ℕ) → sum (k ∷ ks) ≡ k + sum ks
-sum_of k ks = sum_by-cons (λ x. x) k ks
-
 counts_more : (fs : List (List (List ℕ))) (f : List (List ℕ)) → length (fs ++ f ∷ []) + sum (page_counts (fs ++ f ∷ [])) ≡ length fs + sum (page_counts fs) + (length f + 1)
 counts_more [] f = omega (arith, sum_of (length f) [])
 counts_more (e ∷ fs) f = omega (arith, counts_more fs f, sum_of (length e) (page_counts (fs ++ f ∷ [])), sum_of (length e) (page_counts fs))
 
 -- one frame is appended
 module _ (x : State) (g : Graph) (f : List (List ℕ)) (left : List (List (List ℕ))) (may : MayPut x g (f ∷ left)) where
-  pub not_worn : IsWorn g.staging (length f) → ⊥
-  not_worn worn = ⊎_elim
+  -- those that are left fit, wherever it goes
+  fits_behind : (e : ℕ) → Placed (shape x) (extents_of x) ForPut (length f) e → Fits (shape x) (taken (shape x) (extents_of x) e (length f)) ForPut (page_counts left)
+  fits_behind e placed =
+      subst (λ (d : ℕ). Fits (shape x) (taken (shape x) (extents_of x) d (length f)) ForPut (page_counts left))
+      (placed_one (shape x) (extents_of x) ForPut (length f) may.fits.0 e may.fits.1 placed) may.fits.2
+
+  section_inside : (e : ℕ) → Placed (shape x) (extents_of x) ForPut (length f) e → (shape x).section e < (shape x).sections
+  section_inside e placed = may.sections e (placed_inside (shape x) (extents_of x) ForPut (length f) e placed).0
+
+  pub not_worn : (e : ℕ) → Placed (shape x) (extents_of x) ForPut (length f) e → IsWorn g.staging ((shape x).section e) (length f) → ⊥
+  not_worn e placed worn =
+      let rest = places_there (shape x) (taken (shape x) (extents_of x) e (length f)) ForPut (page_counts left) (fits_behind e placed) in
+      let count : in_section (shape x) ((shape x).section e) (e ∷ rest.0) ≡ suc (in_section (shape x) ((shape x).section e) rest.0) = in_section_here (shape x) ((shape x).section e) e rest.0 refl in
+      ⊎_elim
       (λ (n : 2 ^ 63 ≤ g.staging.staged + length f). may.numbers (inl (omega (arith, n, sum_of (length f) (page_counts left)))))
-      (λ (n : 2 ^ 63 ≤ get_or g.staging.latest superblock_family 0 + 1). may.numbers (inr (omega (arith, n))))
+      (λ (n : 2 ^ 63 ≤ get_or g.staging.latest (family_of ((shape x).section e)) 0 + 1).
+      may.numbers (inr (e ∷ rest.0, (placed, rest.1), (shape x).section e, section_inside e placed, omega (arith, n, count))))
       worn
 
   pub next_room : length f + 1 ≤ g.room
@@ -67,22 +79,39 @@ module _ (x : State) (g : Graph) (f : List (List ℕ)) (left : List (List (List 
     same_pages : y.pages ≡ x.pages
     same_pages = ap (λ (S : Shape). S.pages) a.same_shape
 
-    latest_more : get_or h.staging.latest superblock_family 0 ≡ get_or g.staging.latest superblock_family 0 + 1
-    latest_more =
-        ap (λ (vs : List ℕ). get_or vs superblock_family 0) (frame_latest g.staging h.staging _ _ _ a.staged)
-        ∙ get_or-set_same g.staging.latest superblock_family (get_or g.staging.latest superblock_family 0 + 1) 0 (omega (arith, may.families))
+    -- the last versions with those of the frames that are left
+    versions_more : (es : List ℕ) (j : ℕ) → get_or h.staging.latest (family_of j) 0 + in_section (shape x) j es ≡ get_or g.staging.latest (family_of j) 0 + in_section (shape x) j (l.extent ∷ es)
+    versions_more es j =
+        frame_counts (shape x) g.staging.latest h.staging.latest l.extent es (section_inside l.extent a.placed) may.families
+        (frame_latest g.staging h.staging _ _ _ _ _ a.staged) j
+
+    -- what is placed then is placed behind the frame
+    placed_behind : (es : List ℕ) → ArePlaced (shape y) (extents_of y) ForPut (page_counts left) es → ArePlaced (shape x) (extents_of x) ForPut (length f ∷ page_counts left) (l.extent ∷ es)
+    placed_behind es placed = (
+      a.placed,
+      subst (λ (z : Extents). ArePlaced (shape x) z ForPut (page_counts left) es) a.extents
+          (subst (λ (S : Shape). ArePlaced S (extents_of y) ForPut (page_counts left) es) a.same_shape placed),
+    )
+
+    worn_before : AreWorn y h.staging ForPut (page_counts left) → AreWorn x g.staging ForPut (page_counts (f ∷ left))
+    worn_before worn = ⊎_elim
+        (λ (n : 2 ^ 63 ≤ h.staging.staged + sum (page_counts left)). inl (omega (arith, n, staged_more x g ForPut f l y h a (has_writes h whole), sum_of (length f) (page_counts left))))
+        (λ (w : (places : List ℕ) × ArePlaced (shape y) (extents_of y) ForPut (page_counts left) places × (j : ℕ) × (j < y.sections) × (2 ^ 63 ≤ get_or h.staging.latest (family_of j) 0 + in_section (shape y) j places)).
+        let few : w.2 < x.sections = omega (arith, w.3, ap (λ (S : Shape). S.sections) a.same_shape) in
+        let here : 2 ^ 63 ≤ get_or h.staging.latest (family_of w.2) 0 + in_section (shape x) w.2 w.0 =
+        subst (λ (S : Shape). 2 ^ 63 ≤ get_or h.staging.latest (family_of w.2) 0 + in_section S w.2 w.0) a.same_shape w.4 in
+        inr (l.extent ∷ w.0, placed_behind w.0 w.1, w.2, few, omega (arith, here, versions_more w.0 w.2)))
+        worn
 
     pub may_more : MayPut y h left
     may_more = record {
-      families = omega (arith, families, may.families);
+      families = families ∙ may.families ∙ ap (λ (S : Shape). 1 + S.sections) (sym a.same_shape);
+      sections = subst (λ (S : Shape). (e : ℕ) → e < S.extents → S.section e < S.sections) (sym a.same_shape) may.sections;
       resets = resets;
       pointers = λ e. omega (arith, within_more x g ForPut f l y h a (has_writes h whole) may.pointers e, same_pages);
       pages = subst (λ n. AllByRecursion (λ k. (1 ≤ k) × (k ≤ n)) (page_counts left)) (sym same_pages) may.pages.1;
-      fits = rw (a.same_shape, a.extents) (subst (λ e. Fits (shape x) (taken (shape x) (extents_of x) e (length f)) ForPut (page_counts left)) (placed_one (shape x) (extents_of x) ForPut (length f) may.fits.0 l.extent may.fits.1 a.placed) may.fits.2);
-      numbers = λ worn. ⊎_elim
-          (λ (n : 2 ^ 63 ≤ h.staging.staged + sum (page_counts left)). may.numbers (inl (omega (arith, n, staged_more x g ForPut f l y h a (has_writes h whole), sum_of (length f) (page_counts left)))))
-          (λ (n : 2 ^ 63 ≤ get_or h.staging.latest superblock_family 0 + length (page_counts left)). may.numbers (inr (omega (arith, n, latest_more))))
-          worn;
+      fits = rw (a.same_shape, a.extents) (fits_behind l.extent a.placed);
+      numbers = λ worn. may.numbers (worn_before worn);
       room = omega (arith, may.room, room, sum_of (length f) (page_counts left));
     }
 

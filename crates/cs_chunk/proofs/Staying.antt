@@ -2,13 +2,13 @@
 use Rattle.std.proofs.Common.{◌≡◌, ◌≢◌, ◌∙◌, ℕ, ◌+◌, ◌<◌, List, length, sym, ap, ⊎_elim, arith}
 use Rattle.cs_chunk.specs.Newest.{AreNewest}
 use Rattle.cs_chunk.specs.Stays.{IsBelow}
-use Rattle.cs_chunk.proofs.Appends.{HasWrites, apart_below, has_writes, newest_stays, none_stays, pointer_grows, pointer_of}
+use Rattle.cs_chunk.proofs.Appends.{HasWrites, apart_below, has_writes, newest_stays, none_stays, pointer_of}
 use Rattle.cs_chunk.proofs.Newest.{of_stand, reads_image, reads_newest, stand_of}
 use Rattle.cs_deps.specs.State.{IsNewestOn, IsWhole, NoneOn, State as Graph}
 use Rattle.cs_disk.specs.Disk.{Image, page}
 use Rattle.cs_extent.specs.Appended.{IsAppended}
 use Rattle.cs_extent.specs.State.{IsWhole as IsWholeExtents, State, extents_of, shape}
-use Rattle.cs_extent.proofs.Fitting.{with_other}
+use Rattle.cs_extent.proofs.Fitting.{pointer_grows, with_other}
 use Rattle.cs_frame.specs.declared.locators.Locator.{Locator}
 use Rattle.cs_frame.specs.Formats.{formats_of}
 use Rattle.cs_model.specs.Extents.{Extents, Purpose as Reason, emptied}

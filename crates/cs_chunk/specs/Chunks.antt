@@ -1,7 +1,5 @@
 -- Where frames are read, and the chunks of a shard.
-use Rattle.std.specs.Prelude.{◌⊎◌, ◌+◌, ◌^◌, ◌≤◌, ℕ, List, [], ◌∷◌, length, slice_index, sum}
-use Rattle.cs_deps.specs.Staging.{Staging}
-use Rattle.cs_extent.specs.Frames.{superblock_family}
+use Rattle.std.specs.Prelude.{◌+◌, ◌≤◌, ℕ, List, [], ◌∷◌, length}
 use Rattle.cs_frame.specs.declared.frames.FrameKind.{FrameKind as Kind}
 use Rattle.cs_frame.specs.declared.frames.FrameKind.TheVariants.{Chunk, Run}
 use Rattle.cs_frame.specs.declared.locators.Locator.{Locator}
@@ -25,8 +23,3 @@ AreChunksAt S view [] [] = Unit {0}
 AreChunksAt S view (l ∷ ls) (c ∷ cs) = IsFrameAt S view ChunkFrame l c × AreChunksAt S view ls cs
 AreChunksAt S view [] (c ∷ cs) = ⊥
 AreChunksAt S view (l ∷ ls) [] = ⊥
-
--- frames of these numbers of pages would take the number of a plain write, or of a version of the superblock, of which
--- there is one a frame, past 2^63 - 1
-abbrev pub IsPutWorn : Staging → (pages : List ℕ) → Type 0
-IsPutWorn s pages = (2 ^ 63 ≤ s.staged + sum pages) ⊎ (2 ^ 63 ≤ slice_index s.latest superblock_family + length pages)

@@ -1,11 +1,11 @@
 -- What a put does, one frame after another.
 use Rattle.std.specs.Prelude.{◌≡◌, ◌+◌, ◌<◌, ◌≤◌, ℕ, List, [], ◌∷◌, length, slice_index_or, sum}
 use Rattle.std.specs.List.{AllByRecursion}
-use Rattle.cs_chunk.specs.Chunks.{IsPutWorn}
 use Rattle.cs_deps.specs.State.{IsNewestOn, State as Graph}
 use Rattle.cs_extent.specs.Appended.{AreAppended}
-use Rattle.cs_extent.specs.Frames.{AreResetsStaged, root_family}
+use Rattle.cs_extent.specs.Frames.{AreResetsStaged}
 use Rattle.cs_extent.specs.State.{State, extents_of, shape}
+use Rattle.cs_extent.specs.Worn.{AreWorn}
 use Rattle.cs_frame.specs.declared.locators.Locator.{Locator}
 use Rattle.cs_model.specs.Append.{page_counts}
 use Rattle.cs_model.specs.Device.{Shape}
@@ -13,12 +13,13 @@ use Rattle.cs_model.specs.Extents.{Extents, Fits, ForPut}
 
 -- these frames may be appended, one after another, and nothing refuses one of them
 pub record MayPut (x : State) (g : Graph) (frames : List (List (List ℕ))) : Type 0 where
-  pub families : root_family < length g.staging.latest
+  pub families : length g.staging.latest ≡ 1 + (shape x).sections
+  pub sections : (e : ℕ) → e < (shape x).extents → (shape x).section e < (shape x).sections
   pub resets : AreResetsStaged (extents_of x) g.staging
   pub pointers : (e : ℕ) → (extents_of x).pointer e ≤ x.pages
   pub pages : AllByRecursion (λ k. (1 ≤ k) × (k ≤ x.pages)) (page_counts frames)
   pub fits : Fits (shape x) (extents_of x) ForPut (page_counts frames)
-  pub numbers : IsPutWorn g.staging (page_counts frames) → ⊥
+  pub numbers : AreWorn x g.staging ForPut (page_counts frames) → ⊥
   pub room : length frames + sum (page_counts frames) ≤ g.room
 
 -- the frame at l lies below the pointer of its extent, and the newest waiting writes are its pages

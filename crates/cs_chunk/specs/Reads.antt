@@ -7,7 +7,7 @@ use Rattle.cs_deps.specs.declared.refusals.Refusal.TheVariants as refusal
 use Rattle.cs_deps.specs.Refusals.{number_of}
 use Rattle.cs_deps.specs.State.{State as Graph}
 use Rattle.cs_disk.specs.declared.disk.PageDisk.{Ghosts as PageDisk}
-use Rattle.cs_disk.specs.Disk.{GoesOn, Image, Rises, State}
+use Rattle.cs_disk.specs.Disk.{GoesOn, Image, Rises}
 use Rattle.cs_frame.specs.declared.faults.FormatFault.{FormatFault}
 use Rattle.cs_frame.specs.declared.faults.FormatFault.TheVariants as fault
 use Rattle.cs_frame.specs.declared.frames.FrameKind.{FrameKind}

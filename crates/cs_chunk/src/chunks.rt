@@ -1,15 +1,14 @@
 //! How the bytes of a put are cut in chunks.
 ghost use Rattle.std.specs.Prelude.{◌≡◌, ◌↔◌, ◌*◌, ◌+◌, ◌-◌, ◌^◌, ◌<◌, ◌≤◌, IfOk, IsTrue, MatchOption, length, map, sum};
-ghost use Rattle.cs_chunk.specs.Chunks.{IsPutWorn};
 ghost use Rattle.cs_chunk.specs.Cuts.{IsCut, pages_of, pieces};
-ghost use Rattle.cs_extent.specs.Frames.{root_family};
 ghost use Rattle.cs_extent.specs.State.{IsWhole, extents_of, shape};
+ghost use Rattle.cs_extent.specs.Worn.{AreWorn};
 ghost use Rattle.cs_frame.specs.Frames.{spelled_frame};
 ghost use Rattle.cs_model.specs.Extents.{Fits, ForPut};
 
 use crate::cuts::Cut;
-use cs_deps::{Graph, LAST_NUMBER};
-use cs_extent::{Extents, Purpose, SUPERBLOCK};
+use cs_deps::Graph;
+use cs_extent::{Extents, Purpose};
 use cs_frame::{FrameKind, encode_frame, frame_pages};
 use std::alloc::{AllocError, Global};
 
@@ -69,15 +68,15 @@ impl Cut {
     }
 
     /// Whether a number would pass the greatest.
-    pub fn is_worn(self, graph: &Graph) -> bool
-        requires { root_family < length graph.now.staging.latest }
-        ensures { IsTrue result ↔ IsPutWorn graph.now.staging (pages_of self) }
+    pub fn is_worn(self, extents: &Extents, graph: &Graph) -> bool
+        requires pages { self.pages ≡ (shape extents.now).pages }
+        requires fits { Fits (shape extents.now) (extents_of extents.now) ForPut (pages_of self) }
+        requires families { length graph.now.staging.latest ≡ 1 + (shape extents.now).sections }
+        ensures { IsTrue result ↔ AreWorn extents.now graph.now.staging ForPut (pages_of self) }
     {
-        LAST_NUMBER < graph.last_plain().saturating_add(self.all_pages() as u64)
-            || LAST_NUMBER
-                < graph
-                    .last_version(SUPERBLOCK)
-                    .saturating_add(self.count as u64)
+        let mut frames = [self.pages; MOST_CHUNKS];
+        frames[self.count - 1] = self.last;
+        extents.are_worn(graph, &frames[..self.count], Purpose::Put)
     }
 }
 

@@ -1,6 +1,6 @@
 //! Puts.
 ghost use Rattle.std.specs.Prelude.{◌≡◌, ◌↔◌, ◌⊎◌, ◌+◌, ◌*◌, ◌^◌, ◌<◌, ◌≤◌, ℕ, List, [], IfErr, IfOk, MatchBool, OnErr, OnOk, Err, length, map, sum, vec_capacity, vec_len};
-ghost use Rattle.cs_chunk.specs.Chunks.{AreChunksAt, IsPutWorn};
+ghost use Rattle.cs_chunk.specs.Chunks.{AreChunksAt};
 ghost use Rattle.cs_chunk.specs.Cuts.{IsCut, pages_of, pieces};
 ghost use Rattle.cs_chunk.specs.Newest.{AreNewest};
 ghost use Rattle.cs_chunk.specs.Puts.{IsPutSoFar, MayPut};
@@ -8,8 +8,9 @@ ghost use Rattle.cs_chunk.specs.declared.cuts.Cut.{Cut as Pieces};
 ghost use Rattle.cs_deps.specs.State.{IsWhole as IsWholeGraph};
 ghost use Rattle.cs_disk.specs.Disk.{Image};
 ghost use Rattle.cs_extent.specs.Appended.{AreAppended, IsAppended};
-ghost use Rattle.cs_extent.specs.Frames.{AreResetsStaged, IsWorn, root_family};
+ghost use Rattle.cs_extent.specs.Frames.{AreResetsStaged, IsWorn};
 ghost use Rattle.cs_extent.specs.State.{IsWhole, extents_of, shape};
+ghost use Rattle.cs_extent.specs.Worn.{AreWorn};
 ghost use Rattle.cs_frame.specs.Formats.{formats_of};
 ghost use Rattle.cs_frame.specs.Frames.{spelled_frame};
 ghost use Rattle.cs_model.specs.Append.{chunk_frames, page_counts};
@@ -26,15 +27,15 @@ use std::alloc::{AllocError, Global};
 /// How the bytes of a put are cut. Refused 31 `TooLarge`, then 30 `Full`, then 35 `WornOut`; where it isn't, only memory can still
 /// refuse the put.
 fn fitting_cut(extents: &Extents, graph: &Graph, size: usize) -> Result<Cut, Refusal>
-    requires { root_family < length graph.now.staging.latest }
+    requires { length graph.now.staging.latest ≡ 1 + (shape extents.now).sections }
     ensures whole { IsWhole extents.now }
     ensures cut { IfOk result (IsCut (shape extents.now) size) }
     ensures fits { IfOk result (λ cut. Fits (shape extents.now) (extents_of extents.now) ForPut (pages_of cut)) }
-    ensures numbers { IfOk result (λ cut. ¬ IsPutWorn graph.now.staging (pages_of cut)) }
+    ensures numbers { IfOk result (λ cut. ¬ AreWorn extents.now graph.now.staging ForPut (pages_of cut)) }
     ensures too_large { (result ≡ Err Refusal.TooLarge) ↔ ((shape extents.now).most_chunks * (shape extents.now).chunk_bytes < size) }
     ensures full { result ≡ Err Refusal.Full → (cut : Pieces) × IsCut (shape extents.now) size cut × ¬ Fits (shape extents.now) (extents_of extents.now) ForPut (pages_of cut) }
     ensures worn { result ≡ Err Refusal.WornOut → (cut : Pieces) × IsCut (shape extents.now) size cut
-        × Fits (shape extents.now) (extents_of extents.now) ForPut (pages_of cut) × IsPutWorn graph.now.staging (pages_of cut) }
+        × Fits (shape extents.now) (extents_of extents.now) ForPut (pages_of cut) × AreWorn extents.now graph.now.staging ForPut (pages_of cut) }
     ensures refusals { IfErr result (λ r. (r ≡ Refusal.TooLarge) ⊎ (r ≡ Refusal.Full) ⊎ (r ≡ Refusal.WornOut)) }
 {
     // Called for its contract alone: what all extents keep.
@@ -45,7 +46,7 @@ fn fitting_cut(extents: &Extents, graph: &Graph, size: usize) -> Result<Cut, Ref
     if !cut.fits(extents) {
         return Err(Refusal::Full);
     }
-    if cut.is_worn(graph) {
+    if cut.is_worn(extents, graph) {
         return Err(Refusal::WornOut);
     }
     Ok(cut)
@@ -53,11 +54,11 @@ fn fitting_cut(extents: &Extents, graph: &Graph, size: usize) -> Result<Cut, Ref
 
 /// Appends a frame, where nothing refuses it.
 fn append_one(extents: &mut Extents, graph: &mut Graph, frame: &[[u8; 4096]]) -> Locator
-    requires families { root_family < length graph.old.staging.latest }
+    requires families { length graph.old.staging.latest ≡ 1 + (shape extents.old).sections }
     requires resets { AreResetsStaged (extents_of extents.old) graph.old.staging }
     requires pages { (1 ≤ length frame.now) × (length frame.now ≤ (shape extents.old).pages) }
     requires place { (e : ℕ) × Placed (shape extents.old) (extents_of extents.old) ForPut (length frame.now) e }
-    requires numbers { ¬ IsWorn graph.old.staging (length frame.now) }
+    requires numbers { (e : ℕ) → Placed (shape extents.old) (extents_of extents.old) ForPut (length frame.now) e → ¬ IsWorn graph.old.staging ((shape extents.old).section e) (length frame.now) }
     requires room { length frame.now + 1 ≤ graph.old.room }
     ensures appended { IsAppended extents.old graph.old ForPut frame.now result extents.new graph.new }
     ensures whole { IsWholeGraph graph.new }
@@ -127,7 +128,7 @@ pub fn put_chunks(
     graph: &mut Graph,
     bytes: &[u8],
 ) -> Result<Vec<Locator>, Refusal>
-    requires families { root_family < length graph.old.staging.latest }
+    requires families { length graph.old.staging.latest ≡ 1 + (shape extents.old).sections }
     requires resets { AreResetsStaged (extents_of extents.old) graph.old.staging }
 
     // The frames of the chunks are appended, and read back.
@@ -144,7 +145,7 @@ pub fn put_chunks(
     ensures worn { (result ≡ Err Refusal.WornOut) ↔ (¬ ((shape extents.old).most_chunks * (shape extents.old).chunk_bytes < length bytes.now)
         × ((cs : List (List ℕ)) × Chunked (shape extents.old).chunk_bytes bytes.now cs
         × Fits (shape extents.old) (extents_of extents.old) ForPut (page_counts (chunk_frames (shape extents.old) (formats_of (shape extents.old)) cs))
-        × IsPutWorn graph.old.staging (page_counts (chunk_frames (shape extents.old) (formats_of (shape extents.old)) cs)))) }
+        × AreWorn extents.old graph.old.staging ForPut (page_counts (chunk_frames (shape extents.old) (formats_of (shape extents.old)) cs)))) }
     ensures refusals { IfErr result (λ r. (r ≡ Refusal.TooLarge) ⊎ (r ≡ Refusal.Full) ⊎ (r ≡ Refusal.WornOut) ⊎ (r ≡ Refusal.OutOfMemory)) }
     ensures refused { OnErr result (extents.new ≡ extents.old) }
     ensures unstaged { OnErr result (graph.new ≡ record graph.old { room = graph.new.room }) }

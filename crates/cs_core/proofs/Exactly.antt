@@ -1,33 +1,37 @@
 -- What an image recovers is opened: none of the tests fails there.
-use Rattle.std.proofs.Common.{◌≡◌, inl, inr, ⊎_elim, ◌∙◌, ℕ, ◌+◌, ◌*◌, ◌<◌, ◌≤◌, List, Some, None, length, sym, ap, subst, arith}
+use Rattle.std.proofs.Common.{◌≡◌, inl, inr, ⊎_elim, ◌∙◌, ℕ, zero, suc, ◌+◌, ◌*◌, ◌<◌, ◌≤◌, List, Some, None, length, sym, ap, subst, arith}
 use Rattle.std.proofs.Math.Nat.{mul-le-mul_left}
-use Rattle.std.specs.Prelude.{Option}
+use Rattle.std.specs.Prelude.{Option, slice_index}
 use Rattle.cs_chunk.proofs.Framed.{no_fault_there, one_frame}
 use Rattle.cs_chunk.specs.Reads.{IsOfFault, fault_at}
 use Rattle.cs_deps.specs.declared.refusals.Refusal.{Refusal}
-use Rattle.cs_extent.specs.State.{IsWhole, State as ExtentsState, shape}
+use Rattle.cs_extent.specs.State.{IsWhole, State as ExtentsState, section_rows, shape}
+use Rattle.cs_frame.proofs.FirstFormatLaws.{spelled_has_none as first_has_none, zero_of_first, zero_of_section}
 use Rattle.cs_frame.proofs.RootLaws as roots
 use Rattle.cs_frame.proofs.RunLaws.{run_fault-spelled}
 use Rattle.cs_frame.proofs.SuperblockLaws as superblocks
 use Rattle.cs_frame.specs.declared.faults.FormatFault.{FormatFault}
 use Rattle.cs_frame.specs.declared.frames.FrameKind.TheVariants.{Run}
 use Rattle.cs_frame.specs.declared.locators.Locator.{Locator}
+use Rattle.cs_frame.specs.FirstFormat.{SpellsPageZero, page_zero_fault}
 use Rattle.cs_frame.specs.Formats.{formats_of}
-use Rattle.cs_frame.specs.Geometries.{IsGeometry}
+use Rattle.cs_frame.specs.Geometries.{IsGeometry, section_size}
 use Rattle.cs_frame.specs.Roots.{root_fault}
 use Rattle.cs_frame.specs.Runs.{run_fault}
-use Rattle.cs_frame.specs.Superblocks.{superblock_fault}
+use Rattle.cs_frame.specs.Superblocks.{SpellsSuperblock, superblock_fault}
 use Rattle.cs_image.proofs.OneByOne.{place_inside}
-use Rattle.cs_image.proofs.Readable.{all_readable, root_spelled, rows, same_shape, store_read, superblock_spelled}
-use Rattle.cs_image.proofs.Superblocks.{read_whole}
-use Rattle.cs_image.specs.Reads.{ArePages, IsReadable, IsStoreRead, extents_at}
+use Rattle.cs_image.proofs.Readable.{all_readable, part, root_spelled, section_spelled, store_read, zero_same}
+use Rattle.cs_image.proofs.Superblocks.{read_whole, section_one}
+use Rattle.cs_image.specs.Reads.{ArePages, AreSectionsRead, IsReadable, IsStoreRead, SpellsAt, extents_at}
 use Rattle.cs_index.proofs.Sorted.{all_at}
 use Rattle.cs_index.specs.State.{newest_first}
+use Rattle.cs_model.specs.Device.{Shape}
 use Rattle.cs_model.specs.Element.{Map}
 use Rattle.cs_model.specs.Geometry.{shape_of}
 use Rattle.cs_model.specs.Index.{entries_of, names}
 use Rattle.cs_model.specs.Recovery.{Recovers}
-use Rattle.cs_core.specs.Openings.{IsIndexDamaged, IsOtherDevice, IsRootDamaged, IsRunDamaged, IsSuperblockDamaged, IsTooSmall, IsWhyNotOpened, IsWhyNotRead}
+use Rattle.cs_core.specs.Openings.{IsIndexDamaged, IsOtherDevice, IsOtherSection, IsOtherSpelled, IsRootDamaged, IsRunDamaged, IsSectionDamaged, IsSuperblockDamaged, IsTooSmall, IsWhyNotOpened, IsWhyNotRead}
+use Rattle.cs_core.proofs.SectionReads.{further_page}
 
 no_fault : (found : Option FormatFault) (x : Refusal) → found ≡ None → IsOfFault found x → ⊥
 no_fault found x none f = let clash : None ≡ Some f.0 = sym none ∙ f.1 in cc clash
@@ -41,51 +45,108 @@ read_there x whole view place r has (inr (inr spoiled)) =
     let same : has.1.payload ≡ spoiled.1.0 = one_frame x whole view Run place (place_inside x place whole has.1.located).1 has.1.payload spoiled.1.0 has.1.frame spoiled.1.1 in
     no_fault (run_fault spoiled.1.0) r (ap run_fault (sym same) ∙ run_fault-spelled has.1.payload has.0 has.1.spelled) spoiled.1.2
 
-module _ (count : ℕ) (view : ℕ → List ℕ) (extents pages : ℕ) (is : IsGeometry extents pages) (sized : count ≡ 2 + extents * pages) (are : ArePages count view) (n : ℕ) (m : Map)
-    (r : Recovers (shape_of extents pages 1 extents 1) (formats_of (shape_of extents pages 1 extents 1)) view n m) where
-  -- in the words of a superblock that was read
-  pub recovers_here : (p : ℕ) (written : List (ℕ × ℕ)) → p ≡ pages → length written ≡ extents → Recovers (shape (extents_at p written)) (formats_of (shape (extents_at p written))) view n m
-  recovers_here p written e f = subst (λ (k : ℕ). Recovers (shape_of k p 1 k 1) (formats_of (shape_of k p 1 k 1)) view n m) (sym f)
-      (subst (λ (q : ℕ). Recovers (shape_of extents q 1 extents 1) (formats_of (shape_of extents q 1 extents 1)) view n m) (sym e) r)
+-- a section that page 0 spells is none in the other format
+no_zero_fault : (page : List ℕ) (version extents pages sections section : ℕ) (rows : List (ℕ × ℕ)) → SpellsPageZero page version extents pages sections section rows → page_zero_fault page ≡ None
+no_zero_fault page version extents pages sections section rows (inl is) = zero_of_section page (superblocks.spelled_has_none page version extents pages sections section rows is)
+no_zero_fault page version extents pages sections section rows (inr is) = zero_of_first page (first_has_none page version pages rows is.spells)
+
+module _ (count : ℕ) (view : ℕ → List ℕ) (extents pages sections : ℕ) (is : IsGeometry extents pages sections) (sized : count ≡ 1 + extents * pages + sections) (are : ArePages count view) (n : ℕ) (m : Map)
+    (r : Recovers (shape_of extents pages sections (section_size extents sections) 2) (formats_of (shape_of extents pages sections (section_size extents sections) 2)) view n m) where
+  abbrev S : Shape
+  S = shape_of extents pages sections (section_size extents sections) 2
+
+  -- in the words of sections that were read
+  pub recovers_here : (k p : ℕ) (written : List (ℕ × ℕ)) → length written ≡ extents → p ≡ pages → k ≡ sections → Recovers (shape (extents_at p k written)) (formats_of (shape (extents_at p k written))) view n m
+  recovers_here k p written f e d = subst (λ (i : ℕ). Recovers (shape_of i p k (section_size i k) 2) (formats_of (shape_of i p k (section_size i k) 2)) view n m) (sym f)
+      (subst (λ (q : ℕ). Recovers (shape_of extents q k (section_size extents k) 2) (formats_of (shape_of extents q k (section_size extents k) 2)) view n m) (sym e)
+      (subst (λ (j : ℕ). Recovers (shape_of extents pages j (section_size extents j) 2) (formats_of (shape_of extents pages j (section_size extents j) 2)) view n m) (sym d) r))
+
+  -- whatever sections are read have these numbers
+  pub same_numbers : (versions : List ℕ) (p : ℕ) (written : List (ℕ × ℕ)) → AreSectionsRead view versions p written → (length written ≡ extents) × (p ≡ pages) × (length versions ≡ sections)
+  same_numbers versions p written read =
+      let same = zero_same extents pages sections is view n m r (slice_index versions 0) (length written) p (length versions) 0 (section_rows (extents_at p (length versions) written) 0)
+      (read.each 0 read.geometry.fewest_sections) in
+      (same.0, same.1, same.2)
 
   not_small : (x : Refusal) → IsTooSmall count x → ⊥
-  not_small x w = let many : extents * 2 ≤ extents * pages = mul-le-mul_left extents is.fewest_pages in let few : count < 10 = w.small in let four : 4 ≤ extents = is.fewest_extents in omega (arith, many, few, four, sized)
+  not_small x w = let many : extents * 2 ≤ extents * pages = mul-le-mul_left extents is.fewest_pages in let few : count < 10 = w.small in let four : 4 ≤ extents = is.fewest_extents in let some : 1 ≤ sections = is.fewest_sections in
+      omega (arith, many, few, four, some, sized)
+
+  zero_there : SpellsAt 0 (view (S.section_page 0)) (r.versions 0) extents pages sections (part extents pages sections is view n m r 0)
+  zero_there = section_spelled extents pages sections is view n m r 0 is.fewest_sections
 
   superblock_there : (x : Refusal) → IsSuperblockDamaged count view x → ⊥
-  superblock_there x w = no_fault (superblock_fault (view 0)) x (superblocks.spelled_has_none (view 0) (r.versions 0) pages (rows extents pages is view n m r) (superblock_spelled extents pages is view n m r)) w.fault
+  superblock_there x w = no_fault (page_zero_fault (view 0)) x
+      (no_zero_fault (view 0) (r.versions 0) extents pages sections 0 (part extents pages sections is view n m r 0) zero_there) w.fault
+
+  first_there : (x : Refusal) → IsOtherSection count view x → ⊥
+  first_there x w = let o = w.spelled in o.other (zero_same extents pages sections is view n m r o.version o.extents o.pages o.sections o.section o.rows o.superblock).3
 
   this_device : (x : Refusal) → IsOtherDevice count view x → ⊥
   this_device x w =
-      let same = same_shape extents pages is view n m r w.version w.pages w.written w.superblock in
-      w.other (sized ∙ ap (λ (k : ℕ). 2 + k * pages) (sym same.1) ∙ ap (λ (p : ℕ). 2 + length w.written * p) (sym same.0))
+      let same = zero_same extents pages sections is view n m r w.version w.extents w.pages w.sections 0 w.rows w.superblock in
+      w.other (sized ∙ ap (λ (k : ℕ). 1 + k * pages + sections) (sym same.0) ∙ ap (λ (k : ℕ). 1 + w.extents * k + sections) (sym same.1) ∙ ap (λ (k : ℕ). 1 + w.extents * w.pages + k) (sym same.2))
+
+  -- the page of a further section spells it
+  further_there : (k : ℕ) → 0 < k → k < sections → (version : ℕ) × (rows : List (ℕ × ℕ)) × SpellsSuperblock (view (1 + extents * pages + k)) version extents pages sections k rows
+  further_there zero some lt = absurd (omega (arith, some))
+  further_there (suc k) some lt = (
+    r.versions (suc k),
+    part extents pages sections is view n m r (suc k),
+    subst (λ (p : ℕ). SpellsSuperblock (view p) (r.versions (suc k)) extents pages sections (suc k) (part extents pages sections is view n m r (suc k))) (sym (further_page extents pages sections (suc k) some))
+        (section_spelled extents pages sections is view n m r (suc k) lt),
+  )
+
+  sections_there : (x : Refusal) → IsSectionDamaged count view x → ⊥
+  sections_there x w =
+      let f = w.first in
+      let same = zero_same extents pages sections is view n m r f.version w.extents w.pages w.sections 0 f.rows f.superblock in
+      let y = w.why in
+      let lt : y.section < sections = subst (λ (k : ℕ). y.section < k) same.2 y.one_of_them in
+      let there = further_there y.section y.further lt in
+      let number : 1 + w.extents * w.pages + y.section ≡ 1 + extents * pages + y.section = ap (λ (k : ℕ). 1 + k * w.pages + y.section) same.0 ∙ ap (λ (k : ℕ). 1 + extents * k + y.section) same.1 in
+      let spelled : SpellsSuperblock (view (1 + w.extents * w.pages + y.section)) there.0 extents pages sections y.section there.1 =
+      subst (λ (p : ℕ). SpellsSuperblock (view p) there.0 extents pages sections y.section there.1) (sym number) there.2 in
+      ⊎_elim
+      (λ (f : IsOfFault (superblock_fault (view (1 + w.extents * w.pages + y.section))) x).
+      no_fault (superblock_fault (view (1 + w.extents * w.pages + y.section))) x (superblocks.spelled_has_none (view (1 + w.extents * w.pages + y.section)) there.0 extents pages sections y.section there.1 spelled) f)
+      (λ (o : IsOtherSpelled w.extents w.pages w.sections y.section (view (1 + w.extents * w.pages + y.section)) x).
+      let one = section_one (view (1 + w.extents * w.pages + y.section)) o.version o.their_extents o.their_pages o.their_sections o.their_section o.rows there.0 extents pages sections y.section there.1 o.spelled spelled in
+      o.other (one.0 ∙ sym same.0, one.1 ∙ sym same.1, one.2 ∙ sym same.2, one.3))
+      y.why
 
   root_there : (x : Refusal) → IsRootDamaged count view x → ⊥
-  root_there x w = let spelled = root_spelled extents pages is view n m r in no_fault (root_fault (view 1)) x (roots.spelled_has_none (view 1) _ _ _ spelled) w.fault
+  root_there x w = let spelled = root_spelled extents pages sections is view n m r in no_fault (root_fault (view 1)) x (roots.spelled_has_none (view 1) _ _ _ spelled) w.fault
 
-  pages_there : (p : ℕ) (written : List (ℕ × ℕ)) → count ≡ 2 + length written * p → ArePages (2 + length written * p) view
-  pages_there p written size = subst (λ (k : ℕ). ArePages k view) size are
+  pages_there : (k p : ℕ) (written : List (ℕ × ℕ)) → count ≡ 1 + length written * p + k → ArePages (1 + length written * p + k) view
+  pages_there k p written size = subst (λ (i : ℕ). ArePages i view) size are
 
   runs_there : (x : Refusal) → IsRunDamaged count view x → ⊥
   runs_there x w =
-      let spelled = w.root.extents.superblock in
-      let same = same_shape extents pages is view n m r w.root.extents.version w.pages w.written spelled in
-      let all = all_readable view w.root.extents.version w.pages w.written spelled (pages_there w.pages w.written w.root.extents.sized) n m (recovers_here w.pages w.written same.0 same.1) w.root.version w.root.commands w.places w.root.root in
-      read_there (extents_at w.pages w.written) (read_whole w.root.extents.version w.pages w.written (view 0) spelled) view w.place x
-      (all_at (λ place. IsReadable (extents_at w.pages w.written) view place) w.places (length w.runs) w.place all w.next) w.why
+      let read = w.root.extents.sections in
+      let same = same_numbers w.versions w.pages w.written read in
+      let all = all_readable view w.versions w.pages w.written read (pages_there (length w.versions) w.pages w.written w.root.extents.sized) n m
+      (recovers_here (length w.versions) w.pages w.written same.0 same.1 same.2) w.root.version w.root.commands w.places w.root.root in
+      read_there (extents_at w.pages (length w.versions) w.written) (read_whole view w.versions w.pages w.written read) view w.place x
+      (all_at (λ place. IsReadable (extents_at w.pages (length w.versions) w.written) view place) w.places (length w.runs) w.place all w.next) w.why
 
   index_there : (x : Refusal) → IsIndexDamaged count view x → ⊥
   index_there x w =
-      let spelled = w.root.extents.superblock in
-      let same = same_shape extents pages is view n m r w.root.extents.version w.pages w.written spelled in
-      let read : IsStoreRead view w.root.extents.version w.pages w.written w.root.version w.root.commands w.runs = store_read view w.root.extents.version w.pages w.written spelled (pages_there w.pages w.written w.root.extents.sized) n m (recovers_here w.pages w.written same.0 same.1) w.root.version w.root.commands w.runs w.root.root w.runs_read in
+      let sections_read = w.root.extents.sections in
+      let same = same_numbers w.versions w.pages w.written sections_read in
+      let read : IsStoreRead view w.versions w.pages w.written w.root.version w.root.commands w.runs = store_read view w.versions w.pages w.written sections_read
+      (pages_there (length w.versions) w.pages w.written w.root.extents.sized) n m (recovers_here (length w.versions) w.pages w.written same.0 same.1 same.2) w.root.version w.root.commands w.runs w.root.root w.runs_read in
       ⊎_elim (λ away. away read.located)
-      (λ (many : (shape (extents_at w.pages w.written)).most_names < names (entries_of (newest_first w.runs))). let few : names (entries_of (newest_first w.runs)) ≤ (shape (extents_at w.pages w.written)).most_names = read.named in omega (arith, few, many))
+      (λ (many : (shape (extents_at w.pages (length w.versions) w.written)).most_names < names (entries_of (newest_first w.runs))).
+      let few : names (entries_of (newest_first w.runs)) ≤ (shape (extents_at w.pages (length w.versions) w.written)).most_names = read.named in omega (arith, few, many))
       w.why
 
   pub none_fails : (x : Refusal) → IsWhyNotOpened count view x → ⊥
   none_fails x (inl w) = not_small x w
   none_fails x (inr (inl w)) = superblock_there x w
-  none_fails x (inr (inr (inl w))) = this_device x w
-  none_fails x (inr (inr (inr (inl w)))) = root_there x w
-  none_fails x (inr (inr (inr (inr (inl w))))) = runs_there x w
-  none_fails x (inr (inr (inr (inr (inr w))))) = index_there x w
+  none_fails x (inr (inr (inl w))) = first_there x w
+  none_fails x (inr (inr (inr (inl w)))) = this_device x w
+  none_fails x (inr (inr (inr (inr (inl w))))) = sections_there x w
+  none_fails x (inr (inr (inr (inr (inr (inl w)))))) = root_there x w
+  none_fails x (inr (inr (inr (inr (inr (inr (inl w))))))) = runs_there x w
+  none_fails x (inr (inr (inr (inr (inr (inr (inr w))))))) = index_there x w

@@ -128,7 +128,7 @@ round_told P w same is = subst (λ (out : Option (List Name)). P (record w { out
 pub parts_roomed : (x : ExtentsState) (g h : GraphState) (i j : IndexState) (s : State) → ArePartsOf x g i s → h ≡ record g { room = h.room } → j ≡ record i { room = j.room } → ArePartsOf x h j s
 parts_roomed x g h i j s are graph index =
     subst (λ (k : GraphState). ArePartsOf x k j s) (sym graph) (subst (λ (k : IndexState). ArePartsOf x (record g { room = h.room }) k s) (sym index) (record {
-      world = record { extents = are.world.extents; staging = are.world.staging; resets = are.world.resets; writes = are.world.writes };
+      world = record { extents = are.world.extents; staging = are.world.staging; recorded = are.world.recorded; resets = are.world.resets; writes = are.world.writes };
       index = record { lookups = are.index.lookups; same_runs = are.index.same_runs };
     }))
 

@@ -1,73 +1,146 @@
--- Disks on which superblock and root are written.
-use Rattle.std.proofs.Common.{◌≡◌, ◌∙◌, ◌⊎◌, ⊎_elim, ℕ, suc, ◌<◌, List, [], ◌∷◌, ◌++◌, append_assoc, arith, replicate, refl, sym, ap, subst, Result, Ok, Err, OnErr, OnOk}
+-- Disks on which the sections of a superblock and a root are written.
+use Rattle.std.proofs.Common.{◌≡◌, ◌≢◌, ◌∙◌, ◌⊎◌, inl, inr, ⊎_elim, ℕ, suc, ◌+◌, ◌*◌, ◌<◌, ◌==◌, Bool, true, false, List, [], ◌∷◌, ◌++◌, append_assoc, arith, eq-eqb, ne_eqb, if◌then◌else◌, length, replicate, refl, sym, ap, subst, Result, Ok, Err, OnErr, OnOk}
 use Rattle.std.specs.Prelude.{All}
+use Rattle.std.proofs.lemmas.Bool.{cases_eq}
 use Rattle.std.proofs.lemmas.List.{append-nil}
-use Rattle.cs_disk.proofs.Images.{All_cons}
-use Rattle.cs_disk.specs.Disk.{State as DiskState, Write, flushed, written}
+use Rattle.cs_disk.proofs.Images.{All_cons, applied_push, length-applied, page_other, page_same}
+use Rattle.cs_disk.specs.Disk.{Image, State as DiskState, Write, flushed, page, seen, written}
+use Rattle.cs_frame.specs.Geometries.{section_length}
 use Rattle.cs_frame.specs.Roots.{SpellsRoot}
 use Rattle.cs_frame.specs.Superblocks.{SpellsSuperblock}
-use Rattle.cs_core.specs.Started.{IsFormatted, IsHeadWritten, IsNewStore, new_stored}
-use Rattle.cs_core.specs.Stored.{Stored}
-
-none_head : All (λ (w : Write). w.0 < 2) []
-none_head = λ i w lt. absurd (omega (arith, lt))
-
-all_head : (ws : List Write) (w : Write) → All (λ (w : Write). w.0 < 2) ws → w.0 < 2 → All (λ (w : Write). w.0 < 2) (ws ++ w ∷ [])
-all_head [] w all here = All_cons (λ (w : Write). w.0 < 2) w [] here none_head
-all_head (x ∷ xs) w all here = All_cons (λ (w : Write). w.0 < 2) x (xs ++ w ∷ []) (all 0 x (omega arith)) (all_head xs w (λ i y lt. all (suc i) y (omega (arith, lt))) here)
-
--- nothing was written yet
-pub head_none : (d : DiskState) → IsHeadWritten d d
-head_none d = record { writes = []; head = none_head; volatile = sym (append-nil d.volatile); durable = refl }
+use Rattle.cs_core.specs.Started.{AreNewWritten, IsHead, IsHeadWritten, IsNewOn}
 
 -- whatever the refusal
 pub on_err : {T E : Type 0} (r : Result T E) (A : Type 0) → A → OnErr r A
 on_err (Ok t) A a = tt
 on_err (Err e) A a = a
 
--- one of the two pages more
-pub head_more : (d e : DiskState) (p : ℕ) (bytes : List ℕ) → p < 2 → IsHeadWritten d e → IsHeadWritten d (written e p bytes)
-head_more d e p bytes lt so_far = record {
-  writes = so_far.writes ++ (p, bytes) ∷ [];
-  head = all_head so_far.writes (p, bytes) so_far.head lt;
-  volatile = ap (λ (ws : List Write). ws ++ (p, bytes) ∷ []) so_far.volatile ∙ append_assoc d.volatile so_far.writes ((p, bytes) ∷ []);
-  durable = so_far.durable;
-}
+-- ---- where sections lie
 
--- or not
-pub head_failed : (d e f : DiskState) (p : ℕ) (bytes : List ℕ) → p < 2 → IsHeadWritten d e → (f ≡ e) ⊎ (f ≡ written e p bytes) → IsHeadWritten d f
-head_failed d e f p bytes lt so_far is = ⊎_elim
-    (λ (same : f ≡ e). subst (λ (k : DiskState). IsHeadWritten d k) (sym same) so_far)
-    (λ (more : f ≡ written e p bytes). subst (λ (k : DiskState). IsHeadWritten d k) (sym more) (head_more d e p bytes lt so_far))
-    is
+-- the page of section j
+abbrev pub head_page : (extents pages j : ℕ) → ℕ
+head_page extents pages j = if j == 0 then 0 else 1 + extents * pages + j
 
--- both
-pub head_both : (d : DiskState) (a b : List ℕ) → IsHeadWritten d (written (written d 0 a) 1 b)
-head_both d a b = head_more d (written d 0 a) 1 b (omega arith) (head_more d d 0 a (omega arith) (head_none d))
+first_page : (extents pages j : ℕ) → j ≡ 0 → head_page extents pages j ≡ 0
+first_page extents pages j is = let test : (j == 0) ≡ true = eq-eqb j 0 is in ap (λ (b : Bool). if b then 0 else 1 + extents * pages + j) test
 
-pub formatted : (d e : DiskState) (a b : List ℕ) → e ≡ flushed (written (written d 0 a) 1 b) → IsFormatted d e
-formatted d e a b is = (written (written d 0 a) 1 b, head_both d a b, is)
+later_page : (extents pages j : ℕ) → (j ≡ 0 → ⊥) → head_page extents pages j ≡ 1 + extents * pages + j
+later_page extents pages j some = let test : (j == 0) ≡ false = ne_eqb j 0 some in ap (λ (b : Bool). if b then 0 else 1 + extents * pages + j) test
 
--- what was written spells superblock and root
-pub heads_written : (Honest : Type 0) (old now : DiskState) {T E : Type 0} (r : Result T E) (version pages : ℕ) (extents : List (ℕ × ℕ)) (superblock root : List ℕ) → SpellsSuperblock superblock version pages extents → SpellsRoot root 1 0 []
-    → (Honest → OnOk r (now ≡ flushed (written (written old 0 superblock) 1 root)))
-    → OnOk r ((first second : List ℕ) × SpellsSuperblock first version pages extents × SpellsRoot second 1 0 [] × (Honest → now ≡ flushed (written (written old 0 first) 1 second)))
-heads_written Honest old now (Ok t) version pages extents superblock root spelled noted wrote = (superblock, root, spelled, noted, wrote)
-heads_written Honest old now (Err f) version pages extents superblock root spelled noted wrote = tt
+pub head_below : (extents pages sections j : ℕ) → j < sections → head_page extents pages j < 1 + extents * pages + sections
+head_below extents pages sections j lt = ⊎_elim
+    (λ (is : j ≡ 0). let at = first_page extents pages j is in omega (arith, at, lt))
+    (λ (some : j ≡ 0 → ⊥). let at = later_page extents pages j some in omega (arith, at, lt))
+    (cases_eq j 0)
 
--- so they are those of a new store
-pub store_made : (Honest : Type 0) (old now : DiskState) (extents pages version p : ℕ) (items : List (ℕ × ℕ)) (v : Stored) → version ≡ 1 → p ≡ pages → items ≡ replicate {A = ℕ × ℕ} extents (0, 0) → v ≡ new_stored extents pages
-    → (first second : List ℕ) × SpellsSuperblock first version p items × SpellsRoot second 1 0 [] × (Honest → now ≡ flushed (written (written old 0 first) 1 second))
-    → (superblock root : List ℕ) × IsNewStore extents pages v superblock root × (Honest → now ≡ flushed (written (written old 0 superblock) 1 root))
-store_made Honest old now extents pages version p items v one same all made wrote = (
-  wrote.0,
-  wrote.1,
-  record {
-    made = made;
-    superblock_page = subst (λ (k : ℕ). SpellsSuperblock wrote.0 k pages (replicate {A = ℕ × ℕ} extents (0, 0))) one
-        (subst (λ (k : ℕ). SpellsSuperblock wrote.0 version k (replicate {A = ℕ × ℕ} extents (0, 0))) same
-        (subst (λ (es : List (ℕ × ℕ)). SpellsSuperblock wrote.0 version p es) all wrote.2));
-    root_page = wrote.3;
-  },
-  wrote.4,
-)
+pub head_is : (extents pages j : ℕ) → IsHead extents pages (head_page extents pages j)
+head_is extents pages j = ⊎_elim
+    (λ (is : j ≡ 0). inl (let at = first_page extents pages j is in omega (arith, at)))
+    (λ (some : j ≡ 0 → ⊥). inr (let at = later_page extents pages j some in omega (arith, at, some)))
+    (cases_eq j 0)
+
+-- no two have one, and none has the root's
+head_apart : (extents pages j k : ℕ) → j ≢ k → head_page extents pages j ≢ head_page extents pages k
+head_apart extents pages j k apart same = ⊎_elim
+    (λ (a : j ≡ 0). ⊎_elim
+    (λ (b : k ≡ 0). apart (a ∙ sym b))
+    (λ (b : k ≡ 0 → ⊥). let at = first_page extents pages j a in let to = later_page extents pages k b in omega (arith, at, to, same))
+    (cases_eq k 0))
+    (λ (a : j ≡ 0 → ⊥). ⊎_elim
+    (λ (b : k ≡ 0). let at = later_page extents pages j a in let to = first_page extents pages k b in omega (arith, at, to, same))
+    (λ (b : k ≡ 0 → ⊥). let at = later_page extents pages j a in let to = later_page extents pages k b in apart (omega (arith, at, to, same)))
+    (cases_eq k 0))
+    (cases_eq j 0)
+
+head_not_root : (extents pages j : ℕ) → head_page extents pages j ≢ 1
+head_not_root extents pages j same = ⊎_elim
+    (λ (is : j ≡ 0). let at = first_page extents pages j is in omega (arith, at, same))
+    (λ (some : j ≡ 0 → ⊥). let at = later_page extents pages j some in omega (arith, at, same, some))
+    (cases_eq j 0)
+
+-- ---- what is written
+
+module _ (extents pages : ℕ) where
+  none_head : All (λ (w : Write). IsHead extents pages w.0) []
+  none_head = λ i w lt. absurd (omega (arith, lt))
+
+  all_head : (ws : List Write) (w : Write) → All (λ (w : Write). IsHead extents pages w.0) ws → IsHead extents pages w.0 → All (λ (w : Write). IsHead extents pages w.0) (ws ++ w ∷ [])
+  all_head [] w all here = All_cons (λ (w : Write). IsHead extents pages w.0) w [] here none_head
+  all_head (x ∷ xs) w all here = All_cons (λ (w : Write). IsHead extents pages w.0) x (xs ++ w ∷ []) (all 0 x (omega arith)) (all_head xs w (λ i y lt. all (suc i) y (omega (arith, lt))) here)
+
+  -- nothing was written yet
+  pub head_none : (d : DiskState) → IsHeadWritten extents pages d d
+  head_none d = record { writes = []; head = none_head; volatile = sym (append-nil d.volatile); durable = refl }
+
+  -- one of these pages more
+  pub head_more : (d e : DiskState) (p : ℕ) (bytes : List ℕ) → IsHead extents pages p → IsHeadWritten extents pages d e → IsHeadWritten extents pages d (written e p bytes)
+  head_more d e p bytes is so_far = record {
+    writes = so_far.writes ++ (p, bytes) ∷ [];
+    head = all_head so_far.writes (p, bytes) so_far.head is;
+    volatile = ap (λ (ws : List Write). ws ++ (p, bytes) ∷ []) so_far.volatile ∙ append_assoc d.volatile so_far.writes ((p, bytes) ∷ []);
+    durable = so_far.durable;
+  }
+
+  -- or not
+  pub head_failed : (d e f : DiskState) (p : ℕ) → IsHead extents pages p → IsHeadWritten extents pages d e → (f ≡ e) ⊎ ((bytes : List ℕ) × (f ≡ written e p bytes)) → IsHeadWritten extents pages d f
+  head_failed d e f p is so_far why = ⊎_elim
+      (λ (same : f ≡ e). subst (λ (k : DiskState). IsHeadWritten extents pages d k) (sym same) so_far)
+      (λ (more : (bytes : List ℕ) × (f ≡ written e p bytes)). subst (λ (k : DiskState). IsHeadWritten extents pages d k) (sym more.1) (head_more d e p more.0 is so_far))
+      why
+
+-- a page that was written reads so, and the others as before
+wrote_here : (d : DiskState) (p : ℕ) (bytes : List ℕ) → p < length d.durable → page (seen (written d p bytes)) p ≡ bytes
+wrote_here d p bytes inside = ap (λ (i : Image). page i p) (applied_push d.durable d.volatile (p, bytes))
+    ∙ page_same (seen d) p bytes (let long = length-applied d.durable d.volatile in omega (arith, long, inside))
+
+wrote_there : (d : DiskState) (p q : ℕ) (bytes : List ℕ) → q ≢ p → page (seen (written d p bytes)) q ≡ page (seen d) q
+wrote_there d p q bytes other = ap (λ (i : Image). page i q) (applied_push d.durable d.volatile (p, bytes)) ∙ page_other (seen d) p q bytes other
+
+module _ (extents pages sections : ℕ) (old : DiskState) (sized : length old.durable ≡ 1 + extents * pages + sections) where
+  pub none_written : AreNewWritten extents pages sections 0 old old
+  none_written = record { head = head_none extents pages old; each = λ j lt. absurd (omega (arith, lt)) }
+
+  -- one section more
+  pub more_written : (count : ℕ) (mid new : DiskState) (bytes : List ℕ) → AreNewWritten extents pages sections count old mid → count < sections
+      → SpellsSuperblock bytes 1 extents pages sections count (replicate (section_length extents sections count) (0, 0)) → new ≡ written mid (head_page extents pages count) bytes
+      → AreNewWritten extents pages sections (count + 1) old new
+  more_written count mid new bytes so_far lt spelled is =
+      let long : length mid.durable ≡ 1 + extents * pages + sections = ap length so_far.head.durable ∙ sized in
+      let below : head_page extents pages count < 1 + extents * pages + sections = head_below extents pages sections count lt in
+      let inside : head_page extents pages count < length mid.durable = omega (arith, below, long) in
+      subst (λ (d : DiskState). AreNewWritten extents pages sections (count + 1) old d) (sym is) (record {
+        head = head_more extents pages old mid (head_page extents pages count) bytes (head_is extents pages count) so_far.head;
+        each = λ j few. ⊎_elim
+            (λ (here : j ≡ count). subst
+            (λ (k : ℕ). SpellsSuperblock (page (seen (written mid (head_page extents pages count) bytes)) (head_page extents pages k)) 1 extents pages sections k (replicate (section_length extents sections k) (0, 0))) (sym here)
+            (subst (λ (b : List ℕ). SpellsSuperblock b 1 extents pages sections count (replicate (section_length extents sections count) (0, 0))) (sym (wrote_here mid (head_page extents pages count) bytes inside)) spelled))
+            (λ (other : j ≡ count → ⊥).
+            subst (λ (b : List ℕ). SpellsSuperblock b 1 extents pages sections j (replicate (section_length extents sections j) (0, 0)))
+            (sym (wrote_there mid (head_page extents pages count) (head_page extents pages j) bytes (head_apart extents pages j count other)))
+            (so_far.each j (omega (arith, few, other))))
+            (cases_eq j count);
+      })
+
+  -- and then the root, and all is durable
+  pub new_on : (mid new : DiskState) (bytes : List ℕ) → AreNewWritten extents pages sections sections old mid → SpellsRoot bytes 1 0 [] → 0 < sections → new ≡ flushed (written mid 1 bytes)
+      → IsNewOn extents pages sections old new
+  new_on mid new bytes so_far spelled some is =
+      let long : length mid.durable ≡ 1 + extents * pages + sections = ap length so_far.head.durable ∙ sized in
+      subst (λ (d : DiskState). IsNewOn extents pages sections old d) (sym is) (record {
+        formatted = (written mid 1 bytes, head_more extents pages old mid 1 bytes (inl (omega arith)) so_far.head, refl);
+        superblock = λ j lt. subst (λ (b : List ℕ). SpellsSuperblock b 1 extents pages sections j (replicate (section_length extents sections j) (0, 0)))
+            (sym (wrote_there mid 1 (head_page extents pages j) bytes (head_not_root extents pages j))) (so_far.each j lt);
+        root = subst (λ (b : List ℕ). SpellsRoot b 1 0 []) (sym (wrote_here mid 1 bytes (omega (arith, long, some)))) spelled;
+      })
+
+-- whatever the last writes answered
+pub heads_written : {T E : Type 0} (extents pages sections : ℕ) (old : DiskState) → length old.durable ≡ 1 + extents * pages + sections → (r : Result T E) (mid new : DiskState) (bytes : List ℕ)
+    → AreNewWritten extents pages sections sections old mid → SpellsRoot bytes 1 0 [] → 0 < sections → OnOk r (new ≡ flushed (written mid 1 bytes)) → OnOk r (IsNewOn extents pages sections old new)
+heads_written extents pages sections old sized (Ok t) mid new bytes so_far spelled some is = new_on extents pages sections old sized mid new bytes so_far spelled some is
+heads_written extents pages sections old sized (Err e) mid new bytes so_far spelled some is = tt
+
+pub heads_failed : {T E : Type 0} (extents pages : ℕ) (old : DiskState) (r : Result T E) (mid new : DiskState) (bytes : List ℕ) → IsHeadWritten extents pages old mid
+    → OnErr r ((new ≡ mid) ⊎ (new ≡ written mid 1 bytes)) → OnErr r (IsHeadWritten extents pages old new)
+heads_failed extents pages old (Ok t) mid new bytes so_far why = tt
+heads_failed extents pages old (Err e) mid new bytes so_far why = head_failed extents pages old mid new 1 (inl (omega arith)) so_far
+    (⊎_elim (λ (same : new ≡ mid). inl same) (λ (more : new ≡ written mid 1 bytes). inr (bytes, more)) why)

@@ -130,14 +130,14 @@ swept_staged (Ok (Some v)) commands i x g j y h none table merged unwritten swep
     (cases_lt (length i.runs) 4)
 swept_staged (Err r) commands i x g j y h none table merged unwritten swept = subst AreSwept (sym unwritten) swept
 
-pub moves_retired : (i : IndexState) (x : ExtentsState) (g : GraphState) (e v commands : ℕ) (j : IndexState) (y : ExtentsState) (h : GraphState) → IsRetired i x g e v commands j y h → shape y ≡ shape x → KeepsDevice x g y h
-moves_retired i x g e v commands j y h r same =
-    let merged : KeepsDevice x g r.0 h = moves_merged i x g ForMove v commands j r.0 h r.1 in
+pub moves_retired : (i : IndexState) (x : ExtentsState) (g : GraphState) (e v commands : ℕ) (j : IndexState) (y : ExtentsState) (h : GraphState) → 1 ≤ x.sections → IsRetired i x g e v commands j y h → shape y ≡ shape x → KeepsDevice x g y h
+moves_retired i x g e v commands j y h some r same =
+    let merged : KeepsDevice x g r.0 h = moves_merged i x g ForMove v commands j r.0 h some r.1 in
     moves_then x g r.0 h y h merged (moves_extents r.0 h y (same ∙ sym merged.same_shape))
 
 -- an extent is retired
-pub swept_retired : (i : IndexState) (x : ExtentsState) (g : GraphState) (e v commands : ℕ) (j : IndexState) (y : ExtentsState) (h : GraphState) → IsRetired i x g e v commands j y h → shape y ≡ shape x → AreSwept x → AreSwept y
-swept_retired i x g e v commands j y h r same swept d is =
+pub swept_retired : (i : IndexState) (x : ExtentsState) (g : GraphState) (e v commands : ℕ) (j : IndexState) (y : ExtentsState) (h : GraphState) → 1 ≤ x.sections → IsRetired i x g e v commands j y h → shape y ≡ shape x → AreSwept x → AreSwept y
+swept_retired i x g e v commands j y h some r same swept d is =
     let mid : AreSwept r.0 = swept_merged i x g ForMove v commands j r.0 h r.1 swept in
     ⊎_elim
     (λ (at : d ≡ e). let e1 : (extents_of y).swept e ≡ false = ap (λ (u : Extents). u.swept e) r.2 ∙ cond-true (e == e) false ((extents_of r.0).swept e) (eq-eqb e e refl) in
@@ -146,7 +146,7 @@ swept_retired i x g e v commands j y h r same swept d is =
     (λ (other : d ≡ e → ⊥).
     let here : (extents_of r.0).swept d ≡ true = sym (ap (λ (u : Extents). u.swept d) r.2 ∙ cond-false (d == e) false ((extents_of r.0).swept d) (ne_eqb d e other)) ∙ is in
     let before = mid d here in
-    let shapes : shape r.0 ≡ shape x = (moves_merged i x g ForMove v commands j r.0 h r.1).same_shape in record {
+    let shapes : shape r.0 ≡ shape x = (moves_merged i x g ForMove v commands j r.0 h some r.1).same_shape in record {
       inside = subst (λ (S : Shape). d < S.extents) (shapes ∙ sym same) before.inside;
       marked = is;
       closed = λ open_there. before.closed (sym (ap (λ (u : Extents). u.open_extent) r.2) ∙ open_there);
@@ -159,7 +159,7 @@ pub kept_on : (s w : Stored) → IsKept s → KeepsDevice s.extents s.graph w.ex
     → length w.graph.staging.latest ≡ length s.graph.staging.latest → w.index.limit ≡ s.index.limit → AreInside (shape s.extents) w.index
     → w.out ≡ s.out → w.issued ≡ s.issued → w.base + w.accepted < 2 ^ 63 → AreSwept w.extents → IsKept w
 kept_on s w kept moves resets families limit inside out issued numbers swept = record {
-  families = families ∙ kept.families;
+  families = families ∙ kept.families ∙ ap (λ (S : Shape). 1 + S.sections) (sym moves.same_shape);
   resets = resets;
   writes = subst (λ (S : Shape). AreWithin (page_total S) w.graph) (sym moves.same_shape) (moves.within kept.writes);
   limit = limit ∙ kept.limit ∙ ap (λ (S : Shape). S.most_names) (sym moves.same_shape);

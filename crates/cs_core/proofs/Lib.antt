@@ -28,9 +28,12 @@ pub mod Resting
 pub mod Rising
 pub mod RootSteps
 pub mod RoundSteps
+pub mod RootsRead
 pub mod RootsStay
+pub mod SectionReads
 pub mod ServeSteps
 pub mod StageSteps
 pub mod Starting
 pub mod SweepSteps
+pub mod Versions
 pub mod Causes

@@ -11,7 +11,7 @@ use Rattle.cs_deps.specs.declared.refusals.Refusal.{Refusal}
 use Rattle.cs_deps.specs.declared.refusals.Refusal.TheVariants.{DeviceFault, OutOfMemory as NoMemory}
 use Rattle.cs_deps.specs.State.{NoneOn, State as GraphState}
 use Rattle.cs_disk.specs.Disk.{Image, page}
-use Rattle.cs_extent.specs.State.{State as ExtentsState, shape}
+use Rattle.cs_extent.specs.State.{IsWhole, State as ExtentsState, shape}
 use Rattle.cs_frame.specs.declared.faults.FormatFault.{FormatFault}
 use Rattle.cs_frame.specs.declared.faults.FormatFault.TheVariants.{BadGeometry, OutOfMemory, BadMagic, BadDigest, BadLength, BadPadding, BadVersion, OutOfOrder}
 use Rattle.cs_frame.specs.declared.frames.FrameKind.TheVariants.{Run}
@@ -19,10 +19,9 @@ use Rattle.cs_frame.specs.declared.identifiers.ShardId.{ShardId}
 use Rattle.cs_frame.specs.declared.locators.Locator.{Locator}
 use Rattle.cs_frame.specs.Formats.{place_of}
 use Rattle.cs_frame.specs.Runs.{FitsEntry, IsRun, SpellsRun, entries_of as spelled_entries, entry_of, run_fault}
-use Rattle.cs_frame.specs.Superblocks.{SpellsSuperblock}
+use Rattle.cs_image.proofs.Families.{length-by_family}
 use Rattle.cs_image.proofs.Listed.{all_default, found_in, in_entries}
 use Rattle.cs_image.proofs.OneByOne.{place_inside}
-use Rattle.cs_image.proofs.Superblocks.{read_whole}
 use Rattle.cs_image.specs.Counts.{HasCount}
 use Rattle.cs_image.specs.Openings.{graph_at, index_at}
 use Rattle.cs_image.specs.Reads.{AreLocated, AreRunsRead, HasRunAt, IsLocated, IsRunRead, extents_at}
@@ -138,29 +137,30 @@ no_runs x view places runs k place r older many at why =
 -- ---- the store
 
 -- a store that is made of its parts
-pub opened_is : (version pages : ℕ) (written : List (ℕ × ℕ)) (root commands limit : ℕ) (runs : List StoredRun) (g : GraphState) (x : ExtentsState) (i : IndexState) (roots : List Noted)
-    → g ≡ graph_at version root → x ≡ extents_at pages written → limit ≡ (4096 * pages - 45) / 81 → i ≡ index_at (newest_first runs) limit → roots ≡ record { version = root; commands = 0 } ∷ []
-    → record { graph = g; extents = x; index = i; roots = roots; out = g.round; issued = 0; base = commands; accepted = 0; frontier = 0; halted = false } ≡ opened_stored version pages written root commands runs
-opened_is version pages written root commands limit runs g x i roots graph extents most index noted =
+pub opened_is : (versions : List ℕ) (pages sections : ℕ) (written : List (ℕ × ℕ)) (root commands limit : ℕ) (runs : List StoredRun) (g : GraphState) (x : ExtentsState) (i : IndexState) (roots : List Noted)
+    → g ≡ graph_at versions root → length versions ≡ sections → x ≡ extents_at pages sections written → limit ≡ (4096 * pages - 45) / 81 → i ≡ index_at (newest_first runs) limit → roots ≡ record { version = root; commands = 0 } ∷ []
+    → record { graph = g; extents = x; index = i; roots = roots; out = g.round; issued = 0; base = commands; accepted = 0; frontier = 0; halted = false } ≡ opened_stored versions pages written root commands runs
+opened_is versions pages sections written root commands limit runs g x i roots graph many extents most index noted =
     ap (λ (k : GraphState). record { graph = k; extents = x; index = i; roots = roots; out = k.round; issued = 0; base = commands; accepted = 0; frontier = 0; halted = false }) graph
-    ∙ ap (λ (k : ExtentsState). record { graph = graph_at version root; extents = k; index = i; roots = roots; out = None; issued = 0; base = commands; accepted = 0; frontier = 0; halted = false }) extents
-    ∙ ap (λ (k : IndexState). record { graph = graph_at version root; extents = extents_at pages written; index = k; roots = roots; out = None; issued = 0; base = commands; accepted = 0; frontier = 0; halted = false }) (index ∙ ap (λ (n : ℕ). index_at (newest_first runs) n) most)
-    ∙ ap (λ (rs : List Noted). record { graph = graph_at version root; extents = extents_at pages written; index = index_at (newest_first runs) ((4096 * pages - 45) / 81); roots = rs; out = None; issued = 0; base = commands; accepted = 0; frontier = 0; halted = false }) noted
+    ∙ ap (λ (k : ExtentsState). record { graph = graph_at versions root; extents = k; index = i; roots = roots; out = None; issued = 0; base = commands; accepted = 0; frontier = 0; halted = false })
+    (extents ∙ ap (λ (n : ℕ). extents_at pages n written) (sym many))
+    ∙ ap (λ (k : IndexState). record { graph = graph_at versions root; extents = extents_at pages (length versions) written; index = k; roots = roots; out = None; issued = 0; base = commands; accepted = 0; frontier = 0; halted = false }) (index ∙ ap (λ (n : ℕ). index_at (newest_first runs) n) most)
+    ∙ ap (λ (rs : List Noted). record { graph = graph_at versions root; extents = extents_at pages (length versions) written; index = index_at (newest_first runs) ((4096 * pages - 45) / 81); roots = rs; out = None; issued = 0; base = commands; accepted = 0; frontier = 0; halted = false }) noted
 
 -- how many are live in its index
 pub live_in : (i : IndexState) (runs : List StoredRun) (limit count : ℕ) → i ≡ index_at (newest_first runs) limit → HasCount (λ id. live_at (index_of i) id ≢ []) count → HasCount (λ id. live_at (entries_of (newest_first runs)) id ≢ []) count
 live_in i runs limit count is has = subst (λ (k : IndexState). HasCount (λ id. live_at (index_of k) id ≢ []) count) is has
 
-module _ (version pages : ℕ) (written : List (ℕ × ℕ)) (bytes : List ℕ) (spelled : SpellsSuperblock bytes version pages written) where
+module _ (versions : List ℕ) (pages : ℕ) (written : List (ℕ × ℕ)) (whole : IsWhole (extents_at pages (length versions) written)) where
   abbrev x : ExtentsState
-  x = extents_at pages written
+  x = extents_at pages (length versions) written
 
   abbrev IsInside : Place → Type 0
-  IsInside l = Inside (shape (extents_at pages written)) l.extent l.page
+  IsInside l = Inside (shape (extents_at pages (length versions) written)) l.extent l.page
 
   places_in : (ls : List Locator) → AllByRecursion (IsLocated x) ls → (l : Place) → l ∈ map place_of ls → IsInside l
   places_in [] all l none = absurd none
-  places_in (k ∷ ls) all l (inl is) = subst IsInside (sym is) (place_inside x k (read_whole version pages written bytes spelled) all.0)
+  places_in (k ∷ ls) all l (inl is) = subst IsInside (sym is) (place_inside x k whole all.0)
   places_in (k ∷ ls) all l (inr has) = places_in ls all.1 l has
 
   abbrev EntryIn : Entry → Type 0
@@ -179,9 +179,9 @@ module _ (version pages : ℕ) (written : List (ℕ × ℕ)) (bytes : List ℕ) 
       (entries_of (newest_first runs)) (in_entries EntryIn (newest_first runs) (all_newest (λ (run : IndexRun). AllByRecursion EntryIn run.entries) runs (runs_in runs all))) id
 
   -- a store that was opened keeps what every store keeps
-  pub kept_opened : (superblock root commands : ℕ) (runs : List StoredRun) → commands < 2 ^ 63 → AreLocated x runs → IsKept (opened_stored superblock pages written root commands runs)
-  kept_opened superblock root commands runs few located = record {
-    families = refl;
+  pub kept_opened : (root commands : ℕ) (runs : List StoredRun) → commands < 2 ^ 63 → AreLocated x runs → IsKept (opened_stored versions pages written root commands runs)
+  kept_opened root commands runs few located = record {
+    families = omega (arith, length-by_family versions root);
     resets = λ e. let none : slice_index (replicate (length written) 0) e ≡ 0 = all_default (length written) e 0 in omega (arith, none);
     writes = λ y w kept. let clash : None ≡ Some w = kept in absurd (cc clash);
     limit = refl;

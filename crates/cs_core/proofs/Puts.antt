@@ -1,12 +1,12 @@
 -- A put is a step of the machine.
 use Rattle.std.proofs.Common.{◌≡◌, ◌⊎◌, inl, inr, ⊎_elim, ℕ, suc, ◌+◌, ◌*◌, ◌^◌, ◌<◌, ◌≤◌, true, false, List, ◌∷◌, Some, None, Ok, Err, length, map, refl, sym, ap, ◌∙◌, subst, arith}
 use Rattle.std.specs.Prelude.{◌↔◌, Option, is_some}
-use Rattle.cs_chunk.specs.Chunks.{IsPutWorn}
 use Rattle.cs_deps.specs.declared.refusals.Refusal.{Refusal as Code}
 use Rattle.cs_deps.specs.declared.refusals.Refusal.TheVariants as code
 use Rattle.cs_deps.specs.State.{State as GraphState}
 use Rattle.cs_extent.specs.Appended.{AreAppended}
 use Rattle.cs_extent.specs.State.{IsWhole, State as ExtentsState, extents_of, shape}
+use Rattle.cs_extent.specs.Worn.{AreWorn}
 use Rattle.cs_frame.specs.declared.locators.Locator.{Locator as Spot}
 use Rattle.cs_frame.specs.Formats.{formats_of, place_of}
 use Rattle.cs_index.specs.State.{IsSet, State as IndexState, index_of}
@@ -71,7 +71,7 @@ module _ (v : Stored) (s : State) (whole : IsWhole v.extents) (is : IsStateOf v 
     Fitting = (cs : List (List ℕ)) → Chunked (shape v.extents).chunk_bytes bytes cs → Fits (shape v.extents) (extents_of v.extents) ForPut (counts cs) → ⊥
 
     abbrev Worn : Type 0
-    Worn = (cs : List (List ℕ)) × Chunked (shape v.extents).chunk_bytes bytes cs × Fits (shape v.extents) (extents_of v.extents) ForPut (counts cs) × IsPutWorn v.graph.staging (counts cs)
+    Worn = (cs : List (List ℕ)) × Chunked (shape v.extents).chunk_bytes bytes cs × Fits (shape v.extents) (extents_of v.extents) ForPut (counts cs) × AreWorn v.extents v.graph.staging ForPut (counts cs)
 
     Last : Type 0
     Last = 2 ^ 63 ≤ v.base + v.accepted + 1
@@ -96,7 +96,7 @@ module _ (v : Stored) (s : State) (whole : IsWhole v.extents) (is : IsStateOf v 
 
       numbers_worn : WouldPass (shape v.extents) (formats_of (shape v.extents)) s (Put id bytes) → Worn ⊎ (2 ^ 63 ≤ v.base + v.accepted + 1)
       numbers_worn would = let w = (put_worn v.extents v.graph v.index s whole is.parts is.sound is.bounded id bytes).0 would in ⊎_elim
-          (λ (worn : IsPutWorn v.graph.staging (counts w.0)). inl (w.0, w.1, w.2, worn))
+          (λ (worn : AreWorn v.extents v.graph.staging ForPut (counts w.0)). inl (w.0, w.1, w.2, worn))
           (λ (last : 2 ^ 63 ≤ s.count + length s.commands + 1). inr (omega (arith, is.base, is.accepted)))
           w.3
 
@@ -173,7 +173,7 @@ module _ (v w : Stored) (whole : IsWhole v.extents) (limit : v.index.limit ≡ (
 
   abbrev pub IsOut : Type 0
   IsOut = (cs : List (List ℕ)) × Chunked (shape v.extents).chunk_bytes bytes cs × Fits (shape v.extents) (extents_of v.extents) ForPut (page_counts (chunk_frames (shape v.extents) (formats_of (shape v.extents)) cs))
-      × IsPutWorn v.graph.staging (page_counts (chunk_frames (shape v.extents) (formats_of (shape v.extents)) cs))
+      × AreWorn v.extents v.graph.staging ForPut (page_counts (chunk_frames (shape v.extents) (formats_of (shape v.extents)) cs))
 
   abbrev pub IsNamed : Type 0
   IsNamed = (lookup id (index_of v.index) ≡ None) × (v.index.limit ≤ names (index_of v.index))

@@ -1,7 +1,6 @@
 -- The numbers under which an opening is refused.
-use Rattle.std.proofs.Common.{◌≡◌, ◌⊎◌, inl, inr, ⊎_elim, ℕ, ◌+◌, ◌*◌, ◌^◌, ◌≤◌, Bool, true, false, List, [], ◌∷◌, ◌++◌, codes, length, drop, Option, Some, None, Result, Ok, Err, IfErr, arith, refl, sym, subst, bytes_eq, nat_le}
+use Rattle.std.proofs.Common.{◌≡◌, ◌⊎◌, inl, inr, ⊎_elim, ℕ, ◌+◌, ◌*◌, ◌^◌, ◌≤◌, Bool, true, false, List, [], ◌∷◌, ◌++◌, codes, length, drop, Option, Some, None, Result, Ok, Err, IfErr, arith, refl, sym, subst, bytes_eq, nat_le, if◌then◌else◌}
 use Rattle.std.specs.Prelude.{◌==◌, ◌&&◌, nat_lt, slice_index}
-use Rattle.std.specs.List.{list_all}
 use Rattle.std.proofs.lemmas.Option.{same_Some}
 use Rattle.cs_chunk.specs.Reads.{IsNoAnswer, IsOfFault, IsReadRefusal, refusal_for}
 use Rattle.cs_deps.specs.declared.refusals.Refusal.{Refusal}
@@ -11,10 +10,11 @@ use Rattle.cs_frame.specs.declared.faults.FormatFault.{FormatFault}
 use Rattle.cs_frame.specs.declared.faults.FormatFault.TheVariants.{BadDigest, BadGeometry, BadLength, BadMagic, BadPadding, BadVersion, OutOfMemory, OutOfOrder}
 use Rattle.cs_frame.specs.Bytes.{all_zero, field, number}
 use Rattle.cs_frame.specs.Faults.{fault_number, first_fault, unless}
+use Rattle.cs_frame.specs.FirstFormat.{first_format_end, first_format_fault, first_format_tests, page_zero_fault}
 use Rattle.cs_frame.specs.Pages.{digest_test}
 use Rattle.cs_frame.specs.Roots.{root_end, root_fault, root_tests}
 use Rattle.cs_frame.specs.Runs.{entries_tests, entry_end, id_in, is_before, order_test, pieces_in, run_fault, run_tests}
-use Rattle.cs_frame.specs.Superblocks.{extents_in, superblock_end, superblock_fault, superblock_tests}
+use Rattle.cs_frame.specs.Superblocks.{superblock_end, superblock_fault, superblock_tests}
 use Rattle.cs_core.specs.Openings.{IsOpeningRefusal}
 
 abbrev InRange : FormatFault → Type 0
@@ -46,19 +46,19 @@ digest end bytes = finds _ BadDigest (omega arith, omega arith)
 
 superblock_finds : (bytes : List ℕ) → FindsInRange (superblock_fault bytes)
 superblock_finds bytes = first_finds (superblock_tests bytes) (
-  finds (bytes_eq (field 0 3 bytes) (codes "CSS")) BadMagic (omega arith, omega arith),
+  finds _ BadMagic (omega arith, omega arith),
   (
-    finds (slice_index bytes 3 == 49) BadVersion (omega arith, omega arith),
+    finds _ BadVersion (omega arith, omega arith),
     (
-      finds (nat_le 4 (number 12 14 bytes) && nat_le (number 12 14 bytes) 512 && nat_le 2 (number 14 16 bytes) && nat_le (number 14 16 bytes) 256) BadLength (omega arith, omega arith),
+      finds _ BadLength (omega arith, omega arith),
       (
         digest (superblock_end bytes) bytes,
         (
-          finds (nat_le 1 (number 4 12 bytes) && nat_lt (number 4 12 bytes) (2 ^ 63)) BadVersion (omega arith, omega arith),
+          finds _ BadVersion (omega arith, omega arith),
           (
-            finds (list_all (λ (extent : ℕ × ℕ). nat_le extent.0 (number 14 16 bytes)) (extents_in bytes)) BadLength (omega arith, omega arith),
+            finds _ BadLength (omega arith, omega arith),
             (
-              finds (all_zero (drop (superblock_end bytes + 32) bytes)) BadPadding (omega arith, omega arith),
+              finds _ BadPadding (omega arith, omega arith),
               tt,
             ),
           ),
@@ -67,6 +67,38 @@ superblock_finds bytes = first_finds (superblock_tests bytes) (
     ),
   ),
 )
+
+first_format_finds : (bytes : List ℕ) → FindsInRange (first_format_fault bytes)
+first_format_finds bytes = first_finds (first_format_tests bytes) (
+  finds _ BadMagic (omega arith, omega arith),
+  (
+    finds _ BadVersion (omega arith, omega arith),
+    (
+      finds _ BadLength (omega arith, omega arith),
+      (
+        digest (first_format_end bytes) bytes,
+        (
+          finds _ BadVersion (omega arith, omega arith),
+          (
+            finds _ BadLength (omega arith, omega arith),
+            (
+              finds _ BadPadding (omega arith, omega arith),
+              tt,
+            ),
+          ),
+        ),
+      ),
+    ),
+  ),
+)
+
+-- on page 0 the tests are those of one of the two formats
+page_zero_finds : (bytes : List ℕ) → FindsInRange (page_zero_fault bytes)
+page_zero_finds bytes = go (slice_index bytes 3 == 49)
+  where
+    go : (b : Bool) → FindsInRange (if b then first_format_fault bytes else superblock_fault bytes)
+    go true = first_format_finds bytes
+    go false = superblock_finds bytes
 
 root_finds : (bytes : List ℕ) → FindsInRange (root_fault bytes)
 root_finds bytes = first_finds (root_tests bytes) (
@@ -132,6 +164,9 @@ of_fault found range r (inr fault) =
 
 pub superblock_refused : (bytes : List ℕ) (r : Refusal) → (r ≡ NoMemory) ⊎ IsOfFault (superblock_fault bytes) r → IsOpeningRefusal r
 superblock_refused bytes r why = of_fault (superblock_fault bytes) (superblock_finds bytes) r why
+
+pub page_zero_refused : (bytes : List ℕ) (r : Refusal) → (r ≡ NoMemory) ⊎ IsOfFault (page_zero_fault bytes) r → IsOpeningRefusal r
+page_zero_refused bytes r why = of_fault (page_zero_fault bytes) (page_zero_finds bytes) r why
 
 pub root_refused : (bytes : List ℕ) (r : Refusal) → (r ≡ NoMemory) ⊎ IsOfFault (root_fault bytes) r → IsOpeningRefusal r
 root_refused bytes r why = of_fault (root_fault bytes) (root_finds bytes) r why

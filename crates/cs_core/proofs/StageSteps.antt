@@ -103,7 +103,7 @@ module _ (v : Stored) (s : State) (whole : IsWhole v.extents) (is : IsStateOf v 
   NoStage = IsFull (WritesRun v.index) v.extents ForRun
 
   abbrev WornStage : Type 0
-  WornStage = (v.index.table ≢ []) × IsStageWorn (WritesRun v.index) v.extents v.graph.staging
+  WornStage = (v.index.table ≢ []) × IsStageWorn (WritesRun v.index) v.extents ForRun v.graph.staging
 
   stages : (NoStage → ⊥) → (WornStage → ⊥) → (f : Refusal) → Refuses (shape v.extents) (formats_of (shape v.extents)) s Stage f → ⊥
   stages room young = pass Halted runs_on (pass Full (λ full. room ((stage_full v.extents v.graph v.index s whole is.parts).0 full))
@@ -203,7 +203,7 @@ module _ (v : Stored) (s : State) (whole : IsWhole v.extents) (is : IsStateOf v 
 -- ---- the answers of the calls
 
 pub stage_declines : (v w : Stored) (whole : IsWhole v.extents) (runs : v.halted ≡ false) → but_for_room w ≡ but_for_room v → (r : Code)
-    → IsWhy r (IsFull (WritesRun v.index) v.extents ForRun) ((v.index.table ≢ []) × IsStageWorn (WritesRun v.index) v.extents v.graph.staging) → Declines v Stage r w
+    → IsWhy r (IsFull (WritesRun v.index) v.extents ForRun) ((v.index.table ≢ []) × IsStageWorn (WritesRun v.index) v.extents ForRun v.graph.staging) → Declines v Stage r w
 stage_declines v w whole runs same code.Full full = inr (Full, refl, λ s is. (s, stage_no_room v s whole is runs full, same_state v w s is same))
 stage_declines v w whole runs same code.WornOut worn = inr (WornOut, refl, λ s is. (s, stage_worn_out v s whole is runs worn.0 worn.1, same_state v w s is same))
 stage_declines v w whole runs same code.OutOfMemory why = inl refl
@@ -224,7 +224,7 @@ pub stage_none : (v w : Stored) (whole : IsWhole v.extents) (runs : v.halted ≡
 stage_none v w whole runs same none s is = (s, stage_nothing v s whole is runs none, same_state v w s is same)
 
 pub stage_steps : (v : Stored) (whole : IsWhole v.extents) (runs : v.halted ≡ false) (n : ℕ) (y : ExtentsState) (h : GraphState) (j : IndexState) (roots : List Noted) → (IsFull (WritesRun v.index) v.extents ForRun → ⊥)
-    → ((v.index.table ≢ []) × IsStageWorn (WritesRun v.index) v.extents v.graph.staging → ⊥) → v.index.table ≢ []
+    → ((v.index.table ≢ []) × IsStageWorn (WritesRun v.index) v.extents ForRun v.graph.staging → ⊥) → v.index.table ≢ []
     → (length v.index.runs < 4 → IsTableStaged v.index v.extents v.graph n (v.base + v.accepted) j y h)
     → (4 ≤ length v.index.runs → IsMergeStaged v.index v.extents v.graph ForRun n (v.base + v.accepted) j y h) → shape y ≡ shape v.extents
     → roots ≡ v.roots ++ record { version = n; commands = v.accepted } ∷ [] → Steps v Stage (Staged n) (record v { graph = h; extents = y; index = j; roots = roots })

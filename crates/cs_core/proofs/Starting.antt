@@ -1,32 +1,42 @@
 -- What a new store keeps.
-use Rattle.std.proofs.Common.{◌≡◌, ◌≢◌, ◌∙◌, inl, ⊎_elim, rules, ℕ, zero, suc, ◌+◌, ◌-◌, ◌*◌, ◌/◌, ◌<◌, ◌≤◌, true, false, List, [], ◌∷◌, ◌++◌, Some, None, length, replicate, refl, sym, ap, set, subst, arith}
-use Rattle.std.proofs.lemmas.List.{length-replicate}
-use Rattle.std.specs.Prelude.{Contains, slice_index, slice_index_or}
+use Rattle.std.proofs.Common.{◌≡◌, ◌≢◌, ◌∙◌, inl, ⊎_elim, rules, ℕ, zero, suc, ◌+◌, ◌-◌, ◌*◌, ◌/◌, ◌<◌, ◌≤◌, true, false, List, [], ◌∷◌, ◌++◌, Some, None, length, length-append, map, replicate, refl, sym, ap, ap₂, subst, arith}
+use Rattle.std.proofs.lemmas.List.{length-replicate, replicate-append-replicate}
+use Rattle.std.proofs.lemmas.Option.{same_Some}
+use Rattle.std.specs.List.{AllByRecursion}
+use Rattle.std.specs.Prelude.{Contains, slice_get, slice_index, slice_index_or}
 use Rattle.cs_deps.specs.State.{State as GraphState}
 use Rattle.cs_disk.specs.declared.disk.PageDisk.{Ghosts as PageDisk}
-use Rattle.cs_disk.proofs.Images.{applied_push, length-applied, page_other, page_same}
-use Rattle.cs_disk.specs.Disk.{Image, State as DiskState, applied, flushed, page, written}
+use Rattle.cs_disk.specs.Disk.{Image, State as DiskState, page, written}
+use Rattle.cs_extent.proofs.Sections.{rows_are_all}
+use Rattle.cs_extent.specs.Sections.{AreSections, IsSectionAt, count_of, pages_of, rows_of}
 use Rattle.cs_extent.specs.State.{State as ExtentsState, shape}
+use Rattle.cs_frame.specs.declared.superblocks.Superblock.{Superblock}
 use Rattle.cs_frame.specs.Formats.{formats_of}
-use Rattle.cs_frame.specs.Roots.{SpellsRoot}
+use Rattle.cs_frame.specs.Geometries.{IsGeometry, section_length}
 use Rattle.cs_frame.specs.Superblocks.{SpellsSuperblock}
+use Rattle.cs_image.proofs.Families.{length-by_family, root_in}
+use Rattle.cs_image.specs.Counts.{HasCount}
+use Rattle.cs_image.specs.Openings.{graph_at}
+use Rattle.cs_image.specs.Reads.{extents_at}
+use Rattle.cs_index.proofs.Sorted.{some_at}
 use Rattle.cs_index.specs.declared.runs.StoredRun.{StoredRun}
 use Rattle.cs_index.specs.State.{State as IndexState, newest_first}
-use Rattle.cs_model.specs.Element.{Map, Root, roots_of}
-use Rattle.cs_model.specs.Lists.{◌∈◌}
+use Rattle.cs_model.specs.Element.{Map}
 use Rattle.cs_model.specs.Open.{opened_state, root_read}
 use Rattle.cs_model.specs.Recovery.{Recovers}
 use Rattle.cs_model.specs.State.{State}
 use Rattle.cs_refine.proofs.Started.{new_started}
 use Rattle.cs_refine.specs.Devices.{IsDiskOf}
-use Rattle.cs_core.specs.declared.roots.Root.{Root as Noted}
-use Rattle.cs_core.specs.Started.{IsNewStore, new_stored}
-use Rattle.cs_core.specs.States.{AreRootsOf, IsStateOf}
-use Rattle.cs_core.specs.Stored.{IsKept, Stored, page_total, but_for_room}
 use Rattle.cs_core.specs.declared.events.Event.{Event}
 use Rattle.cs_core.specs.declared.events.Reply.{Reply}
+use Rattle.cs_core.specs.declared.roots.Root.{Root as Noted}
+use Rattle.cs_core.specs.Started.{AreFirstNew, AreNew, IsNewOn, IsNewSection, new_stored}
+use Rattle.cs_core.specs.States.{IsStateOf}
+use Rattle.cs_core.specs.Stored.{IsKept, Stored, page_total, but_for_room}
 use Rattle.cs_core.specs.Views.{IsCore, IsReached}
-use Rattle.cs_image.specs.Counts.{HasCount}
+use Rattle.cs_core.proofs.Heads.{head_page}
+use Rattle.cs_core.proofs.RootsRead.{noted, read_alone}
+use Rattle.cs_core.proofs.SectionReads.{in_push}
 
 -- what stands in a list of equal items
 all_default : {X : Type 0} (n e : ℕ) (d : X) → slice_index_or (replicate n d) e d ≡ d
@@ -34,9 +44,9 @@ all_default zero e d = refl
 all_default (suc n) zero d = refl
 all_default (suc n) (suc e) d = all_default n e d
 
-pub kept_new : (extents pages : ℕ) → IsKept (new_stored extents pages)
-kept_new extents pages = record {
-  families = refl;
+pub kept_new : (extents pages sections : ℕ) → IsKept (new_stored extents pages sections)
+kept_new extents pages sections = record {
+  families = omega (arith, length-by_family (replicate sections 1) 1, length-replicate {A = ℕ} sections 1);
   resets = λ e. let none : slice_index (replicate (length (replicate {A = ℕ × ℕ} extents (0, 0))) 0) e ≡ 0 = all_default (length (replicate {A = ℕ × ℕ} extents (0, 0))) e 0 in omega (arith, none);
   writes = λ x w kept. let clash : None ≡ Some w = kept in absurd (cc clash);
   limit = refl;
@@ -47,104 +57,183 @@ kept_new extents pages = record {
   swept = λ e is. let clash : false ≡ true = sym (all_default (length (replicate {A = ℕ × ℕ} extents (0, 0))) e false) ∙ is in absurd (cc clash);
 }
 
--- the pages of superblock and root are those that were written last
-pages_written : (d : DiskState) (superblock root : List ℕ) → 2 ≤ length d.durable
-    → (page (flushed (written (written d 0 superblock) 1 root)).durable 0 ≡ superblock) × (page (flushed (written (written d 0 superblock) 1 root)).durable 1 ≡ root)
-pages_written d superblock root large =
-    let before : Image = applied d.durable d.volatile in
-    let first : Image = applied d.durable (d.volatile ++ (0, superblock) ∷ []) in
-    let whole : applied d.durable ((d.volatile ++ (0, superblock) ∷ []) ++ (1, root) ∷ []) ≡ set (applied d.durable (d.volatile ++ (0, superblock) ∷ [])) 1 root = applied_push d.durable (d.volatile ++ (0, superblock) ∷ []) (1, root) in
-    let one : applied d.durable (d.volatile ++ (0, superblock) ∷ []) ≡ set (applied d.durable d.volatile) 0 superblock = applied_push d.durable d.volatile (0, superblock) in
-    let size_before : length (applied d.durable d.volatile) ≡ length d.durable = length-applied d.durable d.volatile in
-    let size_first : length (applied d.durable (d.volatile ++ (0, superblock) ∷ [])) ≡ length d.durable = length-applied d.durable (d.volatile ++ (0, superblock) ∷ []) in (
-      ap (λ (i : Image). page i 0) whole ∙ page_other (applied d.durable (d.volatile ++ (0, superblock) ∷ [])) 1 0 root (omega arith) ∙ ap (λ (i : Image). page i 0) one
-          ∙ page_same (applied d.durable d.volatile) 0 superblock (omega arith),
-      ap (λ (i : Image). page i 1) whole ∙ page_same (applied d.durable (d.volatile ++ (0, superblock) ∷ [])) 1 root (omega arith),
-    )
+-- a new store is of a state of the machine, and recovers no command and no shard
+module _ (extents pages sections : ℕ) (is : IsGeometry extents pages sections) (old now : DiskState) (on : IsNewOn extents pages sections old now) where
+  abbrev x : ExtentsState
+  x = extents_at pages sections (replicate extents (0, 0))
 
--- the one root that is there
-new_roots : (s : State) (r : Root) → roots_of s.world.elements ≡ r ∷ [] → r.version ≡ 1 → r.commands ≡ 0 → s.count ≡ 0 → AreRootsOf (record { version = 1; commands = 0 } ∷ []) s
-new_roots s r one version commands count = record {
-  all = λ p has. ⊎_elim
-      (λ (e : p ≡ r). (record { version = 1; commands = 0 }, (0, omega arith, refl), sym (ap (λ (u : Root). u.version) e ∙ version), ap (λ (k : ℕ). k + 0) count ∙ sym (ap (λ (u : Root). u.commands) e ∙ commands)))
-      (λ (none : p ∈ []). absurd none)
-      (subst (λ (rs : List Root). p ∈ rs) one has);
-  only = λ q has. (r, subst (λ (rs : List Root). r ∈ rs) (sym one) (inl refl), ap (λ (u : Noted). u.version) (sym (only_one q has)) ∙ sym version, ap (λ (k : ℕ). k + q.commands) count ∙ ap (λ (u : Noted). 0 + u.commands) (sym (only_one q has)) ∙ sym commands);
+  pub new_recovers : Recovers (shape x) (formats_of (shape x)) (page now.durable) 0 (λ id. None)
+  new_recovers = (new_started now.durable extents pages sections ((4096 * pages - 45) / 81) is on.superblock on.root).0
+
+  -- nothing is volatile
+  quiet : now ≡ record { durable = now.durable; volatile = [] }
+  quiet = on.formatted.2 ∙ ap (λ (d : DiskState). record { durable = d.durable; volatile = [] }) (sym on.formatted.2)
+
+  pub starts : (s : State) × IsStateOf (new_stored extents pages sections) s × IsDiskOf (shape x) (formats_of (shape x)) s now × IsReached (shape x) (formats_of (shape x)) now.durable [] s
+  starts =
+      let start = new_started now.durable extents pages sections ((4096 * pages - 45) / 81) is on.superblock on.root in
+      let s : State = opened_state (shape x) (formats_of (shape x)) (page now.durable) 0 (λ id. None) start.0 in (
+        s,
+        record {
+          parts = start.1.parts;
+          sound = start.1.sound;
+          bounded = start.1.bounded;
+          round_out = refl;
+          gone = 0;
+          gone_is = inl refl;
+          left = refl;
+          issued = refl;
+          halted = refl;
+          base = refl;
+          accepted = refl;
+          frontier = start.1.frontier;
+          roots = noted s (root_read (shape x) (formats_of (shape x)) (page now.durable) 0 (λ id. None) start.0) 1
+              (read_alone (shape x) (formats_of (shape x)) (page now.durable) 0 (λ id. None) start.0)
+              (start.1.parts.world.staging.root ∙ root_in (replicate sections 1) 1 (omega (arith, length-replicate {A = ℕ} sections 1, is.fewest_sections))) refl;
+        },
+        subst (λ (d : DiskState). IsDiskOf (shape x) (formats_of (shape x)) s d) (sym quiet) start.1.disk,
+        record { count = 0; start = λ id. None; gives = start.0; events = []; said = tt; legal = refl },
+      )
+
+-- ---- what it is made of
+
+module _ (extents pages sections : ℕ) (items : List Superblock) (new_ones : AreNew extents pages sections items) where
+  -- its sections are one superblock
+  first : (it : Superblock) × (slice_get items 0 ≡ Some it)
+  first = some_at items 0 (omega (arith, new_ones.new_ones.counted, new_ones.geometry.fewest_sections))
+
+  counts : (xs : List Superblock) (it : Superblock) → slice_get xs 0 ≡ Some it → (count_of xs ≡ it.extent_count) × (pages_of xs ≡ it.pages)
+  counts [] it at = absurd (cc at)
+  counts (y ∷ xs) it at = let same : y ≡ it = same_Some y it at in (ap (λ (u : Superblock). u.extent_count) same, ap (λ (u : Superblock). u.pages) same)
+
+  count_is : count_of items ≡ extents
+  count_is = (counts items first.0 first.1).0 ∙ (new_ones.new_ones.each 0 first.0 first.1).section_at.of_extents
+
+  pages_are : pages_of items ≡ pages
+  pages_are = (counts items first.0 first.1).1 ∙ (new_ones.new_ones.each 0 first.0 first.1).section_at.of_pages
+
+  pub new_sections : AreSections items
+  new_sections = record {
+    some = omega (arith, new_ones.new_ones.counted, new_ones.geometry.fewest_sections);
+    each = λ k it at.
+        subst (λ (n : ℕ). IsSectionAt n (pages_of items) (length items) k it) (sym count_is)
+        (subst (λ (n : ℕ). IsSectionAt extents n (length items) k it) (sym pages_are)
+        (subst (λ (n : ℕ). IsSectionAt extents pages n k it) (sym new_ones.new_ones.counted) (new_ones.new_ones.each k it at).section_at));
+  }
+
+  -- all their rows are empty extents
+  rows_empty : (xs : List Superblock) → ((k : ℕ) (it : Superblock) → slice_get xs k ≡ Some it → (n : ℕ) × (it.extents.items ≡ replicate n (0, 0)))
+      → rows_of xs ≡ replicate (length (rows_of xs)) (0, 0)
+  rows_empty [] each = refl
+  rows_empty (it ∷ xs) each =
+      let here = each 0 it refl in
+      let rest : rows_of xs ≡ replicate (length (rows_of xs)) (0, 0) = rows_empty xs (λ k other at. each (suc k) other at) in
+      let long : length (it.extents.items ++ rows_of xs) ≡ here.0 + length (rows_of xs) =
+      length-append it.extents.items (rows_of xs) ∙ ap (λ (n : ℕ). n + length (rows_of xs)) (ap length here.1 ∙ length-replicate {A = ℕ × ℕ} here.0 (0, 0)) in
+      ap₂ (λ (a b : List (ℕ × ℕ)). a ++ b) here.1 rest
+      ∙ replicate-append-replicate {A = ℕ × ℕ} here.0 (length (rows_of xs)) (0, 0)
+      ∙ ap (λ (n : ℕ). replicate {A = ℕ × ℕ} n (0, 0)) (sym long)
+
+  rows_are : rows_of items ≡ replicate extents (0, 0)
+  rows_are = rows_empty items (λ k it at. (section_length extents sections k, (new_ones.new_ones.each k it at).rows))
+      ∙ ap (λ (n : ℕ). replicate {A = ℕ × ℕ} n (0, 0)) (rows_are_all items new_sections ∙ count_is)
+
+  -- and all their versions the first
+  versions_first : (xs : List Superblock) → ((k : ℕ) (it : Superblock) → slice_get xs k ≡ Some it → it.version ≡ 1) → map (λ (it : Superblock). it.version) xs ≡ replicate (length xs) 1
+  versions_first [] each = refl
+  versions_first (it ∷ xs) each = ap₂ (λ (v : ℕ) (vs : List ℕ). v ∷ vs) (each 0 it refl) (versions_first xs (λ k other at. each (suc k) other at))
+
+  versions_are : map (λ (it : Superblock). it.version) items ≡ replicate sections 1
+  versions_are = versions_first items (λ k it at. (new_ones.new_ones.each k it at).first) ∙ ap (λ (n : ℕ). replicate n 1) new_ones.new_ones.counted
+
+  pub new_graph_is : (g : GraphState) → g ≡ graph_at (map (λ (it : Superblock). it.version) items) 1 → g ≡ (new_stored extents pages sections).graph
+  new_graph_is g is = is ∙ ap (λ (vs : List ℕ). graph_at vs 1) versions_are
+
+  pub new_extents_are : (x : ExtentsState) → x ≡ extents_at (pages_of items) (length items) (rows_of items) → x ≡ (new_stored extents pages sections).extents
+  new_extents_are x is = is
+      ∙ ap (λ (n : ℕ). extents_at n (length items) (rows_of items)) pages_are
+      ∙ ap (λ (n : ℕ). extents_at pages n (rows_of items)) new_ones.new_ones.counted
+      ∙ ap (λ (rows : List (ℕ × ℕ)). extents_at pages sections rows) rows_are
+
+-- a section of it, from its numbers
+pub new_section_is : (extents pages sections section : ℕ) → IsGeometry extents pages sections → section < sections → (it : Superblock) → it.version ≡ 1 → it.extent_count ≡ extents → it.pages ≡ pages
+    → it.sections ≡ sections → it.section ≡ section → it.extents.items ≡ replicate (section_length extents sections section) (0, 0) → IsNewSection extents pages sections section it
+new_section_is extents pages sections section g lt it version counted same divided place rows = record {
+  section_at = record {
+    is = record {
+      first_version = omega (arith, version);
+      last_version = omega (arith, version);
+      geometry = subst (λ (n : ℕ). IsGeometry n it.pages it.sections) (sym counted)
+          (subst (λ (n : ℕ). IsGeometry extents n it.sections) (sym same) (subst (λ (n : ℕ). IsGeometry extents pages n) (sym divided) g));
+      one_of_them = omega (arith, place, divided, lt);
+      count = ap length rows ∙ length-replicate {A = ℕ × ℕ} (section_length extents sections section) (0, 0)
+          ∙ ap (section_length extents sections) (sym place) ∙ ap (λ (n : ℕ). section_length extents n it.section) (sym divided) ∙ ap (λ (n : ℕ). section_length n it.sections it.section) (sym counted);
+      pointers = subst (AllByRecursion (λ (extent : ℕ × ℕ). extent.0 ≤ it.pages)) (sym rows) (empty_points (section_length extents sections section));
+    };
+    of_extents = counted;
+    of_pages = same;
+    of_sections = divided;
+    place = place;
+  };
+  first = version;
+  rows = rows;
 }
   where
-    only_one : (q : Noted) → Contains (record { version = 1; commands = 0 } ∷ []) q → record { version = 1; commands = 0 } ≡ q
-    only_one q (zero, lt, at) = at
-    only_one q (suc k, lt, at) = absurd (let l : suc k < 1 = lt in omega arith)
+    empty_points : (n : ℕ) → AllByRecursion (λ (extent : ℕ × ℕ). extent.0 ≤ it.pages) (replicate n (0, 0))
+    empty_points zero = tt
+    empty_points (suc n) = (omega arith, empty_points n)
 
--- a new store is of a state of the machine
-pub starts : (extents pages : ℕ) (v : Stored) (superblock root : List ℕ) → IsNewStore extents pages v superblock root → (old now : DiskState) → 2 ≤ length old.durable
-    → now ≡ flushed (written (written old 0 superblock) 1 root)
-    → (s : State) × IsStateOf (but_for_room v) s × IsDiskOf (shape v.extents) (formats_of (shape v.extents)) s now × IsReached (shape v.extents) (formats_of (shape v.extents)) now.durable [] s
-starts extents pages v superblock root made old now large is =
-    let w : DiskState = flushed (written (written old 0 superblock) 1 root) in
-    let image : Image = w.durable in
-    let both = pages_written old superblock root large in
-    let start = new_started image extents pages ((4096 * pages - 45) / 81)
-    (subst (λ (b : List ℕ). SpellsSuperblock b 1 pages (replicate extents (0, 0))) (sym both.0) made.superblock_page)
-    (subst (λ (b : List ℕ). SpellsRoot b 1 0 []) (sym both.1) made.root_page) in
-    let x : ExtentsState = (new_stored extents pages).extents in
-    let s : State = opened_state (shape x) (formats_of (shape x)) (page image) 0 (λ id. None) start.0 in
-    let of : IsStateOf (new_stored extents pages) s = record {
-      parts = start.1.parts;
-      sound = start.1.sound;
-      bounded = start.1.bounded;
-      round_out = refl;
-      gone = 0;
-      gone_is = inl refl;
-      left = refl;
-      issued = refl;
-      halted = refl;
-      base = refl;
-      accepted = refl;
-      frontier = start.1.frontier;
-      roots = new_roots s (root_read (shape x) (formats_of (shape x)) (page image) 0 (λ id. None) start.0) refl (sym start.1.parts.world.staging.pending.root) refl refl;
-    } in
-    let reached : IsReached (shape x) (formats_of (shape x)) image [] s = record { count = 0; start = λ id. None; gives = start.0; events = []; said = tt; legal = refl } in (
-      s,
-      subst (λ (u : Stored). IsStateOf (but_for_room u) s) (sym made.made) of,
-      subst (λ (u : Stored). IsDiskOf (shape u.extents) (formats_of (shape u.extents)) s now) (sym made.made)
-          (subst (λ (d : DiskState). IsDiskOf (shape x) (formats_of (shape x)) s d) (sym is) start.1.disk),
-      subst (λ (u : Stored). IsReached (shape u.extents) (formats_of (shape u.extents)) now.durable [] s) (sym made.made)
-          (subst (λ (d : DiskState). IsReached (shape x) (formats_of (shape x)) d.durable [] s) (sym is) reached),
-    )
+-- none of them yet
+pub none_new : (extents pages sections : ℕ) → AreFirstNew extents pages sections 0 []
+none_new extents pages sections = record { counted = refl; each = λ k it at. absurd (let clash : None ≡ Some it = at in cc clash) }
 
--- it recovers no command and no shard
-pub new_recovers : (extents pages : ℕ) (v : Stored) (superblock root : List ℕ) → IsNewStore extents pages v superblock root → (old now : DiskState) → 2 ≤ length old.durable
-    → now ≡ flushed (written (written old 0 superblock) 1 root) → Recovers (shape v.extents) (formats_of (shape v.extents)) (page now.durable) 0 (λ id. None)
-new_recovers extents pages v superblock root made old now large is =
-    let both = pages_written old superblock root large in
-    let start = new_started (flushed (written (written old 0 superblock) 1 root)).durable extents pages ((4096 * pages - 45) / 81)
-    (subst (λ (b : List ℕ). SpellsSuperblock b 1 pages (replicate extents (0, 0))) (sym both.0) made.superblock_page)
-    (subst (λ (b : List ℕ). SpellsRoot b 1 0 []) (sym both.1) made.root_page) in
-    subst (λ (u : Stored). Recovers (shape u.extents) (formats_of (shape u.extents)) (page now.durable) 0 (λ id. None)) (sym made.made)
-    (subst (λ (d : DiskState). Recovers (shape (new_stored extents pages).extents) (formats_of (shape (new_stored extents pages).extents)) (page d.durable) 0 (λ id. None)) (sym is) start.0)
+-- its page spells it so
+pub spelled_new : (extents pages sections section : ℕ) (it : Superblock) → IsNewSection extents pages sections section it → (bytes : List ℕ)
+    → SpellsSuperblock bytes it.version it.extent_count it.pages it.sections it.section it.extents.items
+    → SpellsSuperblock bytes 1 extents pages sections section (replicate (section_length extents sections section) (0, 0))
+spelled_new extents pages sections section it new_one bytes spelled =
+    let at = new_one.section_at in
+    let rows : List (ℕ × ℕ) = replicate (section_length extents sections section) (0, 0) in
+    subst (λ (n : ℕ). SpellsSuperblock bytes n extents pages sections section rows) new_one.first
+    (subst (λ (n : ℕ). SpellsSuperblock bytes it.version n pages sections section rows) at.of_extents
+    (subst (λ (n : ℕ). SpellsSuperblock bytes it.version it.extent_count n sections section rows) at.of_pages
+    (subst (λ (n : ℕ). SpellsSuperblock bytes it.version it.extent_count it.pages n section rows) at.of_sections
+    (subst (λ (n : ℕ). SpellsSuperblock bytes it.version it.extent_count it.pages it.sections n rows) at.place
+    (subst (λ (rs : List (ℕ × ℕ)). SpellsSuperblock bytes it.version it.extent_count it.pages it.sections it.section rs) new_one.rows spelled)))))
 
--- the extents of a new store, from what was made
-pub new_extents_are : (extents pages p : ℕ) (items : List (ℕ × ℕ)) (x : ExtentsState) → p ≡ pages → items ≡ replicate extents (0, 0)
-    → x ≡ record { pages = p; written = items; resets = replicate (length items) 0; swept = replicate (length items) false; open_extent = None } → x ≡ (new_stored extents pages).extents
-new_extents_are extents pages p items x same all is = is
-    ∙ ap (λ (k : ℕ). record { pages = k; written = items; resets = replicate (length items) 0; swept = replicate (length items) false; open_extent = None }) same
-    ∙ ap (λ (es : List (ℕ × ℕ)). record { pages = pages; written = es; resets = replicate (length es) 0; swept = replicate (length es) false; open_extent = None }) all
+-- what was written of a section, by its number
+pub moved_section : (extents pages sections section k : ℕ) → section ≡ k → (old new : DiskState)
+    → (bytes : List ℕ) × SpellsSuperblock bytes 1 extents pages sections section (replicate (section_length extents sections section) (0, 0)) × (new ≡ written old (head_page extents pages section) bytes)
+    → (bytes : List ℕ) × SpellsSuperblock bytes 1 extents pages sections k (replicate (section_length extents sections k) (0, 0)) × (new ≡ written old (head_page extents pages k) bytes)
+moved_section extents pages sections section k same old new wrote = subst
+    (λ (n : ℕ). (bytes : List ℕ) × SpellsSuperblock bytes 1 extents pages sections n (replicate (section_length extents sections n) (0, 0)) × (new ≡ written old (head_page extents pages n) bytes)) same wrote
 
-pub new_index_is : (extents pages limit : ℕ) (runs : List StoredRun) (i : IndexState) → limit ≡ (4096 * pages - 45) / 81 → runs ≡ [] → i ≡ record { table = []; runs = newest_first runs; limit = limit; room = 0 } → i ≡ (new_stored extents pages).index
-new_index_is extents pages limit runs i same none is = is
+-- one more of them
+pub more_new : (extents pages sections count : ℕ) (items : List Superblock) (it : Superblock) → AreFirstNew extents pages sections count items → IsNewSection extents pages sections count it
+    → AreFirstNew extents pages sections (count + 1) (items ++ it ∷ [])
+more_new extents pages sections count items it so_far new_one = record {
+  counted = length-append items (it ∷ []) ∙ ap (λ (n : ℕ). n + 1) so_far.counted;
+  each = λ k other at. ⊎_elim
+      (λ (l : slice_get items k ≡ Some other). so_far.each k other l)
+      (λ (here : (k ≡ length items) × (it ≡ other)). subst (λ (y : Superblock). IsNewSection extents pages sections k y) here.1
+      (subst (λ (n : ℕ). IsNewSection extents pages sections n it) (sym (here.0 ∙ so_far.counted)) new_one))
+      (in_push items it k other at);
+}
+
+pub new_index_is : (extents pages sections limit : ℕ) (runs : List StoredRun) (i : IndexState) → limit ≡ (4096 * pages - 45) / 81 → runs ≡ [] → i ≡ record { table = []; runs = newest_first runs; limit = limit; room = 0 } → i ≡ (new_stored extents pages sections).index
+new_index_is extents pages sections limit runs i same none is = is
     ∙ ap (λ (k : ℕ). record { table = []; runs = newest_first runs; limit = k; room = 0 }) same
     ∙ ap (λ (rs : List StoredRun). record { table = []; runs = newest_first rs; limit = (4096 * pages - 45) / 81; room = 0 }) none
 
 -- a new store, from its parts
-pub new_is : (extents pages : ℕ) (g : GraphState) (x : ExtentsState) (i : IndexState) (roots : List Noted) → g ≡ (new_stored extents pages).graph → x ≡ (new_stored extents pages).extents → i ≡ (new_stored extents pages).index
-    → roots ≡ record { version = 1; commands = 0 } ∷ []
-    → record { graph = g; extents = x; index = i; roots = roots; out = g.round; issued = 0; base = 0; accepted = 0; frontier = 0; halted = false } ≡ new_stored extents pages
-new_is extents pages g x i roots graph extents_are index noted =
+pub new_is : (extents pages sections : ℕ) (g : GraphState) (x : ExtentsState) (i : IndexState) (roots : List Noted) → g ≡ (new_stored extents pages sections).graph → x ≡ (new_stored extents pages sections).extents
+    → i ≡ (new_stored extents pages sections).index → roots ≡ record { version = 1; commands = 0 } ∷ []
+    → record { graph = g; extents = x; index = i; roots = roots; out = g.round; issued = 0; base = 0; accepted = 0; frontier = 0; halted = false } ≡ new_stored extents pages sections
+new_is extents pages sections g x i roots graph extents_are index noted =
     ap (λ (k : GraphState). record { graph = k; extents = x; index = i; roots = roots; out = k.round; issued = 0; base = 0; accepted = 0; frontier = 0; halted = false }) graph
-    ∙ ap (λ (k : ExtentsState). record { graph = (new_stored extents pages).graph; extents = k; index = i; roots = roots; out = None; issued = 0; base = 0; accepted = 0; frontier = 0; halted = false }) extents_are
-    ∙ ap (λ (k : IndexState). record { graph = (new_stored extents pages).graph; extents = (new_stored extents pages).extents; index = k; roots = roots; out = None; issued = 0; base = 0; accepted = 0; frontier = 0; halted = false }) index
-    ∙ ap (λ (rs : List Noted). record { graph = (new_stored extents pages).graph; extents = (new_stored extents pages).extents; index = (new_stored extents pages).index; roots = rs; out = None; issued = 0; base = 0; accepted = 0; frontier = 0; halted = false }) noted
+    ∙ ap (λ (k : ExtentsState). record { graph = (new_stored extents pages sections).graph; extents = k; index = i; roots = roots; out = None; issued = 0; base = 0; accepted = 0; frontier = 0; halted = false }) extents_are
+    ∙ ap (λ (k : IndexState). record { graph = (new_stored extents pages sections).graph; extents = (new_stored extents pages sections).extents; index = k; roots = roots; out = None; issued = 0; base = 0; accepted = 0; frontier = 0; halted = false }) index
+    ∙ ap (λ (rs : List Noted). record { graph = (new_stored extents pages sections).graph; extents = (new_stored extents pages sections).extents; index = (new_stored extents pages sections).index; roots = rs; out = None; issued = 0; base = 0; accepted = 0; frontier = 0; halted = false }) noted
 
 -- a pair of the same numbers
 pub pair_is : (p : ℕ × ℕ) → (p.0 ≡ 0) × (p.1 ≡ 0) → p ≡ (0, 0)
@@ -158,32 +247,32 @@ none_there m none = ([], record { rising = search rules; exact = λ id. (λ has.
     not_in id (k, lt, at) = let l : k < 0 = lt in omega arith
 
 -- a core over a disk on which a new store was written
-pub new_core : {D : Type 0} (disks : PageDisk D) (disk : D) (opened : Image) (v : Stored) (history : List (Event × Reply)) (limit extents pages : ℕ) (superblock root : List ℕ)
-    → IsNewStore extents pages v superblock root → history ≡ [] → disks.page_count disk ≡ 2 + extents * pages → opened ≡ (disks.state disk).durable → (disks.honest disk → length (disks.state disk).durable ≡ disks.page_count disk)
-    → (old : DiskState) → (disks.honest disk → (2 ≤ length old.durable) × (disks.state disk ≡ flushed (written (written old 0 superblock) 1 root)))
+pub new_core : {D : Type 0} (disks : PageDisk D) (disk : D) (opened : Image) (v : Stored) (history : List (Event × Reply)) (limit extents pages sections : ℕ)
+    → IsGeometry extents pages sections → v ≡ new_stored extents pages sections → history ≡ [] → disks.page_count disk ≡ 1 + extents * pages + sections → opened ≡ (disks.state disk).durable
+    → (disks.honest disk → length (disks.state disk).durable ≡ disks.page_count disk) → (old : DiskState) → (disks.honest disk → IsNewOn extents pages sections old (disks.state disk))
     → IsCore disks (record { disk = disk; opened = opened; found = (0, 0); store = but_for_room v; history = history; limit = limit })
-new_core disks disk opened v history limit extents pages superblock root made none size as_is sized old wrote =
-    let total : page_total (shape v.extents) ≡ 2 + extents * pages
-    = ap (λ (u : Stored). page_total (shape u.extents)) made.made ∙ ap (λ (n : ℕ). 2 + n * pages) (length-replicate extents (0, 0)) in
+new_core disks disk opened v history limit extents pages sections is made none size as_is sized old wrote =
+    let total : page_total (shape v.extents) ≡ 1 + extents * pages + sections
+    = ap (λ (u : Stored). page_total (shape u.extents)) made ∙ ap (λ (n : ℕ). 1 + n * pages + sections) (length-replicate extents (0, 0)) in
     record {
       device = size ∙ sym total;
       sized = λ h. ap length as_is ∙ sized h ∙ size ∙ sym total;
       legal = λ h.
-          let w = wrote h in
-          let s = starts extents pages v superblock root made old (disks.state disk) w.0 w.1 in (
+          let s = starts extents pages sections is old (disks.state disk) (wrote h) in (
             s.0,
             record {
-              store = s.1;
-              disk = s.2;
-              reached = subst (λ (i : Image). IsReached (shape v.extents) (formats_of (shape v.extents)) i history s.0) (sym as_is)
-                  (subst (λ (h : List (Event × Reply)). IsReached (shape v.extents) (formats_of (shape v.extents)) (disks.state disk).durable h s.0) (sym none) s.3);
+              store = subst (λ (u : Stored). IsStateOf (but_for_room u) s.0) (sym made) s.1;
+              disk = subst (λ (u : Stored). IsDiskOf (shape u.extents) (formats_of (shape u.extents)) s.0 (disks.state disk)) (sym made) s.2;
+              reached = subst (λ (u : Stored). IsReached (shape u.extents) (formats_of (shape u.extents)) opened history s.0) (sym made)
+                  (subst (λ (i : Image). IsReached (shape (new_stored extents pages sections).extents) (formats_of (shape (new_stored extents pages sections).extents)) i history s.0) (sym as_is)
+                  (subst (λ (hs : List (Event × Reply)). IsReached (shape (new_stored extents pages sections).extents) (formats_of (shape (new_stored extents pages sections).extents)) (disks.state disk).durable hs s.0) (sym none) s.3));
             },
           );
-      begun = λ h.
-          let w = wrote h in (
-            λ id. None,
-            subst (λ (i : Image). Recovers (shape v.extents) (formats_of (shape v.extents)) (page i) 0 (λ id. None)) (sym as_is)
-                (new_recovers extents pages v superblock root made old (disks.state disk) w.0 w.1),
-            none_there (λ id. None) (λ id. refl),
-          );
+      begun = λ h. (
+        λ id. None,
+        subst (λ (u : Stored). Recovers (shape u.extents) (formats_of (shape u.extents)) (page opened) 0 (λ id. None)) (sym made)
+            (subst (λ (i : Image). Recovers (shape (new_stored extents pages sections).extents) (formats_of (shape (new_stored extents pages sections).extents)) (page i) 0 (λ id. None)) (sym as_is)
+            (new_recovers extents pages sections is old (disks.state disk) (wrote h))),
+        none_there (λ id. None) (λ id. refl),
+      );
     }

@@ -10,23 +10,25 @@ use Rattle.cs_disk.specs.Disk.{Image, page}
 use Rattle.cs_extent.specs.State.{State as ExtentsState, shape}
 use Rattle.cs_frame.specs.declared.frames.FrameKind.TheVariants.{Run}
 use Rattle.cs_frame.specs.declared.locators.Locator.{Locator}
+use Rattle.cs_frame.specs.declared.superblocks.Superblock.{Superblock}
+use Rattle.cs_frame.specs.FirstFormat.{SpellsPageZero, page_zero_fault}
 use Rattle.cs_frame.specs.Roots.{SpellsRoot, root_fault}
 use Rattle.cs_frame.specs.Runs.{run_fault}
 use Rattle.cs_frame.specs.Superblocks.{SpellsSuperblock, superblock_fault}
 use Rattle.cs_image.specs.Counts.{HasCount}
 use Rattle.cs_image.specs.Openings.{graph_at, index_at}
-use Rattle.cs_image.specs.Reads.{AreLocated, AreRunsRead, IsLocated, IsRunRead, IsStoreRead, extents_at}
+use Rattle.cs_image.specs.Reads.{AreLocated, AreRunsRead, AreSectionsRead, IsLocated, IsRunRead, IsStoreRead, extents_at}
 use Rattle.cs_index.specs.declared.runs.StoredRun.{StoredRun}
 use Rattle.cs_index.specs.State.{newest_first}
 use Rattle.cs_model.specs.Formats.{RunFrame}
 use Rattle.cs_model.specs.Index.{entries_of, live_at, names}
 use Rattle.cs_core.specs.Stored.{Stored}
 
--- the store of a superblock, of a root and of its runs, oldest first, on which nothing was staged yet
-abbrev pub opened_stored : (version pages : ℕ) → (written : List (ℕ × ℕ)) → (root commands : ℕ) → List StoredRun → Stored
-opened_stored version pages written root commands runs = record {
-  graph = graph_at version root;
-  extents = extents_at pages written;
+-- the store of sections of a superblock, of a root and of its runs, oldest first, on which nothing was staged yet
+abbrev pub opened_stored : (versions : List ℕ) → (pages : ℕ) → (written : List (ℕ × ℕ)) → (root commands : ℕ) → List StoredRun → Stored
+opened_stored versions pages written root commands runs = record {
+  graph = graph_at versions root;
+  extents = extents_at pages (length versions) written;
   index = index_at (newest_first runs) ((4096 * pages - 45) / 81);
   roots = record { version = root; commands = 0 } ∷ [];
   out = None;
@@ -39,23 +41,35 @@ opened_stored version pages written root commands runs = record {
 
 -- A store is made of what was read, which an honest disk has: `found` tells the number of the root's commands.
 pub record IsOpened (honest : Type 0) (image : Image) (found : ℕ × ℕ) (store : Stored) : Type 0 where
-  pub version : ℕ
+  pub versions : List ℕ
   pub pages : ℕ
   pub written : List (ℕ × ℕ)
   pub root : ℕ
   pub runs : List StoredRun
-  pub made : store ≡ opened_stored version pages written root found.0 runs
-  pub read : honest → IsStoreRead (page image) version pages written root found.0 runs
+  pub made : store ≡ opened_stored versions pages written root found.0 runs
+  pub read : honest → IsStoreRead (page image) versions pages written root found.0 runs
 
--- Page 0 spells these extents, and they and pages 0 and 1 are the whole device.
-pub record AreExtentsRead (count : ℕ) (view : ℕ → List ℕ) (pages : ℕ) (written : List (ℕ × ℕ)) : Type 0 where
+-- Page 0 spells section 0 of a superblock of so many extents, pages and sections, with which the device has its pages.
+pub record IsFirstRead (count : ℕ) (view : ℕ → List ℕ) (extents pages sections : ℕ) : Type 0 where
   pub version : ℕ
-  pub superblock : SpellsSuperblock (view 0) version pages written
-  pub sized : count ≡ 2 + length written * pages
+  pub rows : List (ℕ × ℕ)
+  pub superblock : SpellsPageZero (view 0) version extents pages sections 0 rows
+  pub sized : count ≡ 1 + extents * pages + sections
+
+-- The page of a further section spells it.
+pub record IsSectionThere (view : ℕ → List ℕ) (extents pages sections section : ℕ) : Type 0 where
+  pub version : ℕ
+  pub rows : List (ℕ × ℕ)
+  pub superblock : SpellsSuperblock (view (1 + extents * pages + section)) version extents pages sections section rows
+
+-- The pages of all sections spell these extents, and with these the device has its pages.
+pub record AreExtentsRead (count : ℕ) (view : ℕ → List ℕ) (versions : List ℕ) (pages : ℕ) (written : List (ℕ × ℕ)) : Type 0 where
+  pub sections : AreSectionsRead view versions pages written
+  pub sized : count ≡ 1 + length written * pages + length versions
 
 -- And page 1 spells a root over runs at these places.
-pub record IsRootRead (count : ℕ) (view : ℕ → List ℕ) (pages : ℕ) (written : List (ℕ × ℕ)) (places : List Locator) : Type 0 where
-  pub extents : AreExtentsRead count view pages written
+pub record IsRootRead (count : ℕ) (view : ℕ → List ℕ) (versions : List ℕ) (pages : ℕ) (written : List (ℕ × ℕ)) (places : List Locator) : Type 0 where
+  pub extents : AreExtentsRead count view versions pages written
   pub version : ℕ
   pub commands : ℕ
   pub root : SpellsRoot (view 1) version commands places
@@ -70,23 +84,83 @@ pub record IsTooSmall (count : ℕ) (r : Refusal) : Type 0 where
 -- Page 0 has this fault.
 pub record IsSuperblockDamaged (count : ℕ) (view : ℕ → List ℕ) (r : Refusal) : Type 0 where
   pub enough : 10 ≤ count
-  pub fault : IsOfFault (superblock_fault (view 0)) r
+  pub fault : IsOfFault (page_zero_fault (view 0)) r
+
+-- The bytes spell a section of a superblock that isn't the first.
+pub record IsOtherFirst (bytes : List ℕ) (r : Refusal) : Type 0 where
+  pub version : ℕ
+  pub extents : ℕ
+  pub pages : ℕ
+  pub sections : ℕ
+  pub section : ℕ
+  pub rows : List (ℕ × ℕ)
+  pub superblock : SpellsPageZero bytes version extents pages sections section rows
+  pub other : section ≢ 0
+  pub refusal : r ≡ NotAStore
+
+-- Page 0 has another section than the first.
+pub record IsOtherSection (count : ℕ) (view : ℕ → List ℕ) (r : Refusal) : Type 0 where
+  pub enough : 10 ≤ count
+  pub spelled : IsOtherFirst (view 0) r
 
 -- The device has another number of pages than the superblock says.
 pub record IsOtherDevice (count : ℕ) (view : ℕ → List ℕ) (r : Refusal) : Type 0 where
   pub enough : 10 ≤ count
   pub version : ℕ
+  pub extents : ℕ
   pub pages : ℕ
-  pub written : List (ℕ × ℕ)
-  pub superblock : SpellsSuperblock (view 0) version pages written
-  pub other : count ≢ 2 + length written * pages
+  pub sections : ℕ
+  pub rows : List (ℕ × ℕ)
+  pub superblock : SpellsPageZero (view 0) version extents pages sections 0 rows
+  pub other : count ≢ 1 + extents * pages + sections
   pub refusal : r ≡ NotAStore
+
+-- This is section `section` of a superblock of so many extents, pages and sections, by its numbers.
+pub record HasNumbers (extents pages sections section : ℕ) (it : Superblock) : Type 0 where
+  pub of_extents : it.extent_count ≡ extents
+  pub of_pages : it.pages ≡ pages
+  pub of_sections : it.sections ≡ sections
+  pub place : it.section ≡ section
+
+-- The bytes spell another section than this one of these numbers.
+pub record IsOtherSpelled (extents pages sections section : ℕ) (bytes : List ℕ) (r : Refusal) : Type 0 where
+  pub version : ℕ
+  pub their_extents : ℕ
+  pub their_pages : ℕ
+  pub their_sections : ℕ
+  pub their_section : ℕ
+  pub rows : List (ℕ × ℕ)
+  pub spelled : SpellsSuperblock bytes version their_extents their_pages their_sections their_section rows
+  pub other : (their_extents ≡ extents) × (their_pages ≡ pages) × (their_sections ≡ sections) × (their_section ≡ section) → ⊥
+  pub refusal : r ≡ NotAStore
+
+-- a further section isn't read of the bytes of its page: they have this fault, or spell another one
+abbrev pub IsWhyNoSection : (extents pages sections section : ℕ) → (bytes : List ℕ) → Refusal → Type 0
+IsWhyNoSection extents pages sections section bytes r =
+    IsOfFault (superblock_fault bytes) r ⊎ IsOtherSpelled extents pages sections section bytes r
+
+-- A further section isn't read, after all before it were.
+pub record IsWhyNoSections (view : ℕ → List ℕ) (extents pages sections : ℕ) (r : Refusal) : Type 0 where
+  pub section : ℕ
+  pub further : 0 < section
+  pub one_of_them : section < sections
+  pub before : (j : ℕ) → 0 < j → j < section → IsSectionThere view extents pages sections j
+  pub why : IsWhyNoSection extents pages sections section (view (1 + extents * pages + section)) r
+
+-- A further section of the superblock isn't read.
+pub record IsSectionDamaged (count : ℕ) (view : ℕ → List ℕ) (r : Refusal) : Type 0 where
+  pub extents : ℕ
+  pub pages : ℕ
+  pub sections : ℕ
+  pub first : IsFirstRead count view extents pages sections
+  pub why : IsWhyNoSections view extents pages sections r
 
 -- Page 1 has this fault.
 pub record IsRootDamaged (count : ℕ) (view : ℕ → List ℕ) (r : Refusal) : Type 0 where
+  pub versions : List ℕ
   pub pages : ℕ
   pub written : List (ℕ × ℕ)
-  pub extents : AreExtentsRead count view pages written
+  pub extents : AreExtentsRead count view versions pages written
   pub fault : IsOfFault (root_fault (view 1)) r
 
 -- no run is read at a place: it isn't located, or the frame there has this fault, or its payload has it
@@ -97,30 +171,33 @@ IsWhyNotRead x view place r = ((¬ IsLocated x place) × (r ≡ NotAStore))
 
 -- A run of the root isn't read, after all older ones were.
 pub record IsRunDamaged (count : ℕ) (view : ℕ → List ℕ) (r : Refusal) : Type 0 where
+  pub versions : List ℕ
   pub pages : ℕ
   pub written : List (ℕ × ℕ)
   pub places : List Locator
-  pub root : IsRootRead count view pages written places
+  pub root : IsRootRead count view versions pages written places
   pub runs : List StoredRun
-  pub older : AreRunsRead (extents_at pages written) view places runs
+  pub older : AreRunsRead (extents_at pages (length versions) written) view places runs
   pub place : Locator
   pub next : slice_get places (length runs) ≡ Some place
-  pub why : IsWhyNotRead (extents_at pages written) view place r
+  pub why : IsWhyNotRead (extents_at pages (length versions) written) view place r
 
 -- All runs are read, and a locator of an entry isn't located, or they name more identifiers than one run may.
 pub record IsIndexDamaged (count : ℕ) (view : ℕ → List ℕ) (r : Refusal) : Type 0 where
+  pub versions : List ℕ
   pub pages : ℕ
   pub written : List (ℕ × ℕ)
   pub runs : List StoredRun
-  pub root : IsRootRead count view pages written (map (λ run. run.place) runs)
-  pub runs_read : AllByRecursion (IsRunRead (extents_at pages written) view) runs
-  pub why : (¬ AreLocated (extents_at pages written) runs) ⊎ ((shape (extents_at pages written)).most_names < names (entries_of (newest_first runs)))
+  pub root : IsRootRead count view versions pages written (map (λ run. run.place) runs)
+  pub runs_read : AllByRecursion (IsRunRead (extents_at pages (length versions) written) view) runs
+  pub why : (¬ AreLocated (extents_at pages (length versions) written) runs)
+      ⊎ ((shape (extents_at pages (length versions) written)).most_names < names (entries_of (newest_first runs)))
   pub refusal : r ≡ NotAStore
 
 -- why a device of so many pages, which read as these, isn't opened: the first of these tests that fails
 abbrev pub IsWhyNotOpened : (count : ℕ) → (view : ℕ → List ℕ) → Refusal → Type 0
-IsWhyNotOpened count view r = IsTooSmall count r ⊎ IsSuperblockDamaged count view r ⊎ IsOtherDevice count view r ⊎ IsRootDamaged count view r
-    ⊎ IsRunDamaged count view r ⊎ IsIndexDamaged count view r
+IsWhyNotOpened count view r = IsTooSmall count r ⊎ IsSuperblockDamaged count view r ⊎ IsOtherSection count view r ⊎ IsOtherDevice count view r
+    ⊎ IsSectionDamaged count view r ⊎ IsRootDamaged count view r ⊎ IsRunDamaged count view r ⊎ IsIndexDamaged count view r
 
 -- the refusals of any opening: 1, 9, 20 to 25, and 43
 abbrev pub IsOpeningRefusal : Refusal → Type 0
@@ -136,11 +213,11 @@ pub record IsWhyNoRuns (x : ExtentsState) (view : ℕ → List ℕ) (places : Li
   pub next : slice_get places (length runs) ≡ Some place
   pub why : IsWhyNotRead x view place r
 
--- A store is made of a superblock and of what was read after it, which an honest disk has. It has so many commands, and so
--- many live shards.
-pub record IsStoreMade (honest : Type 0) (view : ℕ → List ℕ) (version pages : ℕ) (written : List (ℕ × ℕ)) (commands live : ℕ) (store : Stored) : Type 0 where
+-- A store is made of sections of a superblock and of what was read after them, which an honest disk has. It has so many commands,
+-- and so many live shards.
+pub record IsStoreMade (honest : Type 0) (view : ℕ → List ℕ) (versions : List ℕ) (pages : ℕ) (written : List (ℕ × ℕ)) (commands live : ℕ) (store : Stored) : Type 0 where
   pub root : ℕ
   pub runs : List StoredRun
-  pub made : store ≡ opened_stored version pages written root commands runs
+  pub made : store ≡ opened_stored versions pages written root commands runs
   pub counted : HasCount (λ id. live_at (entries_of (newest_first runs)) id ≢ []) live
-  pub read : honest → IsStoreRead view version pages written root commands runs
+  pub read : honest → IsStoreRead view versions pages written root commands runs

@@ -1,26 +1,21 @@
 -- A store as it is made.
-use Rattle.std.specs.Prelude.{All, ◌≡◌, ◌-◌, ◌*◌, ◌/◌, ◌<◌, ◌++◌, ℕ, false, List, [], ◌∷◌, None, length, replicate}
-use Rattle.cs_disk.specs.Disk.{State as DiskState, Write, flushed}
+use Rattle.std.specs.Prelude.{All, ◌≡◌, ◌⊎◌, ◌+◌, ◌-◌, ◌*◌, ◌/◌, ◌<◌, ◌≤◌, ◌++◌, ℕ, false, List, [], ◌∷◌, None, Some, length, replicate, slice_get}
+use Rattle.cs_disk.specs.Disk.{State as DiskState, Write, flushed, page, seen}
+use Rattle.cs_extent.specs.Sections.{IsSectionAt}
+use Rattle.cs_frame.specs.declared.superblocks.Superblock.{Superblock}
+use Rattle.cs_frame.specs.Geometries.{IsGeometry, section_length, section_size}
 use Rattle.cs_frame.specs.Roots.{SpellsRoot}
 use Rattle.cs_frame.specs.Superblocks.{SpellsSuperblock}
+use Rattle.cs_image.specs.Openings.{AreNewSections, graph_at}
+use Rattle.cs_image.specs.Reads.{extents_at}
+use Rattle.cs_model.specs.Geometry.{shape_of}
 use Rattle.cs_core.specs.Stored.{Stored}
 
--- a store of so many extents of so many pages on which nothing was staged yet
-abbrev pub new_stored : (extents pages : ℕ) → Stored
-new_stored extents pages = record {
-  graph = record {
-    staging = record { pending = record { persistent = 1 ∷ 1 ∷ []; waiting = [] }; staged = 0; latest = 1 ∷ 1 ∷ [] };
-    round = None;
-    pages = [];
-    room = 0;
-  };
-  extents = record {
-    pages = pages;
-    written = replicate extents (0, 0);
-    resets = replicate (length (replicate {A = ℕ × ℕ} extents (0, 0))) 0;
-    swept = replicate (length (replicate {A = ℕ × ℕ} extents (0, 0))) false;
-    open_extent = None;
-  };
+-- a store of so many extents of so many pages, and of so many sections of the superblock, on which nothing was staged yet
+abbrev pub new_stored : (extents pages sections : ℕ) → Stored
+new_stored extents pages sections = record {
+  graph = graph_at (replicate sections 1) 1;
+  extents = extents_at pages sections (replicate extents (0, 0));
   index = record { table = []; runs = []; limit = (4096 * pages - 45) / 81; room = 0 };
   roots = record { version = 1; commands = 0 } ∷ [];
   out = None;
@@ -31,19 +26,46 @@ new_stored extents pages = record {
   halted = false;
 }
 
--- Such a store, and the pages of its superblock and its root.
-pub record IsNewStore (extents pages : ℕ) (store : Stored) (superblock root : List ℕ) : Type 0 where
-  pub made : store ≡ new_stored extents pages
-  pub superblock_page : SpellsSuperblock superblock 1 pages (replicate extents (0, 0))
-  pub root_page : SpellsRoot root 1 0 []
+-- This is a section of a new store's superblock.
+pub record IsNewSection (extents pages sections section : ℕ) (it : Superblock) : Type 0 where
+  pub section_at : IsSectionAt extents pages sections section it
+  pub first : it.version ≡ 1
+  pub rows : it.extents.items ≡ replicate (section_length extents sections section) (0, 0)
 
--- Only pages 0 and 1 were written on the disk, and nothing was flushed.
-pub record IsHeadWritten (old new : DiskState) : Type 0 where
+-- These are its first sections, so many.
+pub record AreFirstNew (extents pages sections count : ℕ) (items : List Superblock) : Type 0 where
+  pub counted : length items ≡ count
+  pub each : (k : ℕ) (it : Superblock) → slice_get items k ≡ Some it → IsNewSection extents pages sections k it
+
+-- These are all of its sections, in order.
+pub record AreNew (extents pages sections : ℕ) (items : List Superblock) : Type 0 where
+  pub geometry : IsGeometry extents pages sections
+  pub new_ones : AreFirstNew extents pages sections sections items
+
+-- a page that isn't one of an extent: it lies before all of them or behind all
+abbrev pub IsHead : (extents pages : ℕ) → (number : ℕ) → Type 0
+IsHead extents pages number = (number < 2) ⊎ (2 + extents * pages ≤ number)
+
+-- Only pages of the superblock and of the root were written on the disk, none of an extent, and nothing was flushed.
+pub record IsHeadWritten (extents pages : ℕ) (old new : DiskState) : Type 0 where
   pub writes : List Write
-  pub head : All (λ (w : Write). w.0 < 2) writes
+  pub head : All (λ (w : Write). IsHead extents pages w.0) writes
   pub volatile : new.volatile ≡ old.volatile ++ writes
   pub durable : new.durable ≡ old.durable
 
--- only pages 0 and 1 were written, and then all was flushed
-abbrev pub IsFormatted : (old new : DiskState) → Type 0
-IsFormatted old new = (between : DiskState) × IsHeadWritten old between × (new ≡ flushed between)
+-- only such pages were written, and then all was flushed
+abbrev pub IsFormatted : (extents pages : ℕ) → (old new : DiskState) → Type 0
+IsFormatted extents pages old new = (between : DiskState) × IsHeadWritten extents pages old between × (new ≡ flushed between)
+
+-- The pages of the first so many sections of a new store were written.
+pub record AreNewWritten (extents pages sections count : ℕ) (old new : DiskState) : Type 0 where
+  pub head : IsHeadWritten extents pages old new
+  pub each : (j : ℕ) → j < count
+      → SpellsSuperblock (page (seen new) ((shape_of extents pages sections (section_size extents sections) 2).section_page j)) 1 extents pages sections j
+      (replicate (section_length extents sections j) (0, 0))
+
+-- A new store was written and made durable: the sections of its superblock, and its root.
+pub record IsNewOn (extents pages sections : ℕ) (old new : DiskState) : Type 0 where
+  pub formatted : IsFormatted extents pages old new
+  pub superblock : AreNewSections (page new.durable) extents pages sections
+  pub root : SpellsRoot (page new.durable 1) 1 0 []

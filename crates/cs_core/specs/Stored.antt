@@ -38,9 +38,9 @@ pub record Stored : Type 0 where
   -- a write or a flush failed
   pub halted : Bool
 
--- how many pages the device has: superblock, root and those of the extents
+-- how many pages the device has: the root's, those of the extents, and one for each section of the superblock
 abbrev pub page_total : Shape → ℕ
-page_total S = 2 + S.extents * S.pages
+page_total S = 1 + S.extents * S.pages + S.sections
 
 -- each page write that the graph keeps goes to one of so many pages
 abbrev pub AreWithin : ℕ → GraphState → Type 0
@@ -74,7 +74,7 @@ members_of out = members out
 
 -- what every store keeps
 pub record IsKept (s : Stored) : Type 0 where
-  pub families : length s.graph.staging.latest ≡ 2
+  pub families : length s.graph.staging.latest ≡ 1 + (shape s.extents).sections
   pub resets : AreResetsStaged (extents_of s.extents) s.graph.staging
   pub writes : AreWithin (page_total (shape s.extents)) s.graph
   pub limit : s.index.limit ≡ (shape s.extents).most_names

@@ -16,7 +16,7 @@ ghost use Rattle.cs_deps.specs.View.{pending_of, rounds_of};
 ghost use Rattle.cs_disk.specs.Disk.{Leaves, LeavesOnly, MayLeave, Rises, flushed, page, seen};
 ghost use Rattle.cs_extent.specs.State.{extents_of, shape};
 ghost use Rattle.cs_frame.specs.Formats.{formats_of};
-ghost use Rattle.cs_frame.specs.Geometries.{IsGeometry};
+ghost use Rattle.cs_frame.specs.Geometries.{IsGeometry, section_size};
 ghost use Rattle.cs_image.specs.Counts.{HasCount};
 ghost use Rattle.cs_model.specs.Element.{Map};
 ghost use Rattle.cs_model.specs.Geometry.{shape_of};
@@ -82,7 +82,7 @@ impl<D: PageDisk> Model for Core<D> {
 }
 
 impl<D: PageDisk> Core<D> {
-    /// Makes a new store of this geometry on a disk: writes its superblock and its root, and makes them durable.
+    /// Makes a new store of this geometry on a disk: writes all sections of its superblock and its root, and makes them durable.
     ///
     /// Refused 43 NotAStore where the disk hasn't the geometry's pages, 1 DeviceFault, and 9 OutOfMemory. The disk comes
     /// back then.
@@ -93,17 +93,17 @@ impl<D: PageDisk> Core<D> {
         limits: Limits,
     ) -> Result<Self, (Refusal, D)>
         ensures new { IfOk result (λ core. (core.history ≡ []) × (core.limit ≡ limits.history)) }
-        ensures store { IfOk result (λ core. core.store ≡ new_stored geometry.extents geometry.pages) }
+        ensures store { IfOk result (λ core. core.store ≡ new_stored geometry.extents geometry.pages geometry.sections) }
         // What it starts on recovers no command and no shard.
         ensures found { IfOk result (λ core. core.found ≡ (0, 0)) }
         ensures start { IfOk result (λ core. D.honest disk → Recovers (shape core.store.extents) (formats_of (shape core.store.extents)) (page core.opened) 0 (λ id. None)) }
-        // No page but 0 and 1 is written; where it is refused 43 the disk isn't asked for anything.
-        ensures written { D.honest disk → MatchResult result (λ core. IsFormatted (D.state disk) (D.state core.disk)) (λ refused. IsHeadWritten (D.state disk) (D.state refused.1)) }
-        ensures same { D.page_count disk ≢ 2 + geometry.extents * geometry.pages → result ≡ Err (Refusal.NotAStore, disk) }
+        // No page of an extent is written; where it is refused 43 the disk isn't asked for anything.
+        ensures written { D.honest disk → MatchResult result (λ core. IsFormatted geometry.extents geometry.pages (D.state disk) (D.state core.disk)) (λ refused. IsHeadWritten geometry.extents geometry.pages (D.state disk) (D.state refused.1)) }
+        ensures same { D.page_count disk ≢ 1 + geometry.extents * geometry.pages + geometry.sections → result ≡ Err (Refusal.NotAStore, disk) }
         ensures pages { IfOk result (λ core. D.page_count core.disk ≡ D.page_count disk) }
         ensures honest { MatchResult result (λ core. D.honest disk ↔ D.honest core.disk) (λ refused. D.honest disk ↔ D.honest refused.1) }
-        ensures not_a_store { IfErr result (λ refused. (refused.0 ≡ Refusal.NotAStore) ↔ (D.page_count disk ≢ 2 + geometry.extents * geometry.pages)) }
-        ensures sized { OnOk result (D.page_count disk ≡ 2 + geometry.extents * geometry.pages) }
+        ensures not_a_store { IfErr result (λ refused. (refused.0 ≡ Refusal.NotAStore) ↔ (D.page_count disk ≢ 1 + geometry.extents * geometry.pages + geometry.sections)) }
+        ensures sized { OnOk result (D.page_count disk ≡ 1 + geometry.extents * geometry.pages + geometry.sections) }
         ensures refusals { IfErr result (λ refused. (refused.0 ≡ Refusal.NotAStore) ⊎ (refused.0 ≡ Refusal.DeviceFault) ⊎ (refused.0 ≡ Refusal.OutOfMemory)) }
         ensures cause { IfErr result (λ refused. refused.0 ≡ Refusal.DeviceFault → Rises (D.failure_count disk) (D.failure_count refused.1)) }
     {
@@ -126,21 +126,23 @@ impl<D: PageDisk> Core<D> {
         }
     }
 
-    /// Opens the store on a disk: flushes, and reads superblock, root and runs. The pages of shards aren't read.
+    /// Opens the store on a disk: flushes, and reads the superblock section by section, root and runs. The pages of shards
+    /// aren't read.
     ///
     /// The disk comes back where it is refused, by the first test that fails: 43 NotAStore where there are fewer than 10
-    /// pages, before the disk is asked for anything; 20 to 24 for page 0; 43 where the disk hasn't the superblock's pages;
-    /// 20 to 24 for page 1; for each run, the oldest first, 43 where its locator is of no frame, and 20 to 25 for its
-    /// pages; 43 where a locator of an entry is of no frame, or where more identifiers are named than one run may name.
-    /// 1 DeviceFault and 9 OutOfMemory may come in place of any but the first. Of what was read the superblock's
-    /// pointers, the root's numbers and the index are kept in memory.
+    /// pages, before the disk is asked for anything; 20 to 24 for page 0; 43 where it has another section than the first, then
+    /// where the disk hasn't the superblock's pages; for each further section 20 to 24 for its page, and 43 where that has
+    /// another section, or one of another superblock; 20 to 24 for page 1; for each run, the oldest first, 43 where its locator
+    /// is of no frame, and 20 to 25 for its pages; 43 where a locator of an entry is of no frame, or where more identifiers are
+    /// named than one run may name. 1 DeviceFault and 9 OutOfMemory may come in place of any but the first. Of what was read the
+    /// superblock's pointers, the root's numbers and the index are kept in memory.
     pub fn open(alloc: Global, disk: D, limits: Limits) -> Result<Self, (Refusal, D)>
         ensures new { IfOk result (λ core. (core.history ≡ []) × (core.limit ≡ limits.history)) }
         ensures image { IfOk result (λ core. D.honest disk → (core.opened ≡ seen (D.state disk)) × (D.state core.disk ≡ flushed (D.state disk))) }
         ensures store { IfOk result (λ core. IsOpened (D.honest disk) core.opened core.found core.store) }
         // Where the disk reads as a store of some geometry, that store is opened.
-        ensures recovers { D.honest disk → (extents pages : ℕ) → IsGeometry extents pages → D.page_count disk ≡ 2 + extents * pages → (n : ℕ) (m : Map)
-            → (let S = shape_of extents pages 1 extents 1 in Recovers S (formats_of S) (page (seen (D.state disk))) n m
+        ensures recovers { D.honest disk → (extents pages sections : ℕ) → IsGeometry extents pages sections → D.page_count disk ≡ 1 + extents * pages + sections → (n : ℕ) (m : Map)
+            → (let S = shape_of extents pages sections (section_size extents sections) 2 in Recovers S (formats_of S) (page (seen (D.state disk))) n m
             → MatchResult result (λ core. (shape core.store.extents ≡ S) × (core.found.0 ≡ n) × HasCount (λ id. m id ≢ None) core.found.1) (λ refused. IsNoAnswer refused.0)) }
         ensures refusals { IfErr result (λ refused. D.honest disk → IsNoAnswer refused.0 ⊎ IsWhyNotOpened (D.page_count disk) (page (seen (D.state disk))) refused.0) }
         // Whatever the disk answers: 1, 9, 20 to 25, or 43.

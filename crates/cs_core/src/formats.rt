@@ -1,36 +1,57 @@
 //! New stores.
-ghost use Rattle.std.specs.Prelude.{◌≡◌, ◌↔◌, ◌⊎◌, ◌≤◌, ◌∷◌, ℕ, List, [], IfErr, IfOk, OnErr, OnOk, replicate};
+ghost use Rattle.std.specs.Prelude.{◌≡◌, ◌↔◌, ◌⊎◌, ◌+◌, ◌*◌, ◌<◌, ◌≤◌, ◌∷◌, ◌==◌, if◌then◌else◌, ℕ, List, [], IfErr, IfOk, OnErr, OnOk, replicate};
 ghost use Rattle.cs_disk.specs.Disk.{HasCause, Rises, flushed, written};
-ghost use Rattle.cs_frame.specs.Roots.{SpellsRoot};
-ghost use Rattle.cs_frame.specs.Superblocks.{IsSuperblock, SpellsSuperblock};
-ghost use Rattle.cs_core.specs.Started.{IsHeadWritten, IsNewStore, new_stored};
+ghost use Rattle.cs_frame.specs.Geometries.{IsGeometry, section_length};
+ghost use Rattle.cs_frame.specs.Superblocks.{SpellsSuperblock};
+ghost use Rattle.cs_core.specs.Started.{AreNew, AreNewWritten, IsHeadWritten, IsNewOn, IsNewSection, new_stored};
 
+use crate::families::new_graph;
 use crate::roots::Root as Noted;
 use crate::stores::Store;
-use cs_deps::{Graph, Refusal};
+use cs_deps::Refusal;
 use cs_disk::{DiskFault, PageDisk};
 use cs_extent::Extents;
 use cs_frame::{Geometry, Root, Superblock, encode_root, encode_superblock};
 use cs_index::Index;
 use std::alloc::{AllocError, Global};
 
-/// The superblock of a new store.
-fn new_superblock(alloc: Global, geometry: Geometry) -> Result<Superblock, AllocError>
+/// A section of a new store's superblock.
+fn new_section(alloc: Global, geometry: Geometry, section: u8) -> Result<Superblock, AllocError>
     ensures version { IfOk result (λ it. it.version ≡ 1) }
+    ensures extents { IfOk result (λ it. it.extent_count ≡ geometry.extents) }
     ensures pages { IfOk result (λ it. it.pages ≡ geometry.pages) }
-    ensures extents { IfOk result (λ it. it.extents.items ≡ replicate {A = ℕ × ℕ} geometry.extents (0, 0)) }
-    ensures superblock { IfOk result IsSuperblock }
+    ensures sections { IfOk result (λ it. it.sections ≡ geometry.sections) }
+    ensures section { IfOk result (λ it. it.section ≡ section) }
+    ensures rows { IfOk result (λ it. it.extents.items ≡ replicate {A = ℕ × ℕ} (section_length geometry.extents geometry.sections section) (0, 0)) }
 {
     Ok(Superblock {
         version: 1,
+        extent_count: geometry.extents(),
         pages: geometry.pages(),
-        extents: vec![in alloc; (0, 0); usize::from(geometry.extents())]?,
+        sections: geometry.sections(),
+        section,
+        extents: vec![in alloc; (0, 0); geometry.section_length(section)]?,
     })
+}
+
+/// All sections of a new store's superblock, in order.
+fn new_sections(alloc: Global, geometry: Geometry) -> Result<Vec<Superblock>, AllocError>
+    ensures { IfOk result (λ sections. AreNew geometry.extents geometry.pages geometry.sections sections.items) }
+{
+    let count = geometry.sections();
+    let mut sections = Vec::with_capacity(alloc, usize::from(count))?;
+    for k in 0..count {
+        match new_section(alloc, geometry, k) {
+            Ok(superblock) => sections.push_reserved(superblock),
+            Err(fault) => return Err(fault),
+        }
+    }
+    Ok(sections)
 }
 
 /// An index that names nothing.
 fn new_index(alloc: Global, geometry: Geometry) -> Result<Index, AllocError>
-    ensures { IfOk result (λ index. index ≡ (new_stored geometry.extents geometry.pages).index) }
+    ensures { IfOk result (λ index. index ≡ (new_stored geometry.extents geometry.pages geometry.sections).index) }
 {
     // Never refused: without runs no identifier is named.
     match Index::load(alloc, geometry.named_limit(), Vec::new(alloc)) {
@@ -51,21 +72,19 @@ fn new_roots(alloc: Global) -> Result<Vec<Noted>, AllocError>
     Ok(roots)
 }
 
-/// A store of this geometry and its superblock, on which nothing was staged yet.
+/// A store of this geometry and of the sections of its superblock, on which nothing was staged yet.
 fn new_store(
     alloc: Global,
     geometry: Geometry,
-    superblock: &Superblock,
+    sections: &[Superblock],
 ) -> Result<Store, AllocError>
-    requires superblock { IsSuperblock superblock.now }
-    requires pages { superblock.now.pages ≡ geometry.pages }
-    requires extents { superblock.now.extents.items ≡ replicate {A = ℕ × ℕ} geometry.extents (0, 0) }
-    ensures { IfOk result (λ store. store ≡ new_stored geometry.extents geometry.pages) }
+    requires { AreNew geometry.extents geometry.pages geometry.sections sections.now }
+    ensures { IfOk result (λ store. store ≡ new_stored geometry.extents geometry.pages geometry.sections) }
 {
     let roots = new_roots(alloc)?;
     let index = new_index(alloc, geometry)?;
-    let extents = Extents::of(alloc, superblock)?;
-    let graph = Graph::new(alloc, &[1, 1])?;
+    let extents = Extents::of(alloc, sections)?;
+    let graph = new_graph(alloc, sections, 1)?;
     Ok(Store {
         alloc,
         graph,
@@ -80,17 +99,75 @@ fn new_store(
     })
 }
 
-/// Writes a new store's superblock and its root, and makes them durable.
+/// Writes a section of a new store's superblock.
+fn write_section<D: PageDisk>(
+    disk: &mut D,
+    geometry: Geometry,
+    superblock: &Superblock,
+) -> Result<(), DiskFault>
+    requires sized { D.page_count disk.old ≡ 1 + geometry.extents * geometry.pages + geometry.sections }
+    requires section { IsNewSection geometry.extents geometry.pages geometry.sections superblock.now.section superblock.now }
+    ensures written { D.honest disk.old → OnOk result ((bytes : List ℕ)
+        × SpellsSuperblock bytes 1 geometry.extents geometry.pages geometry.sections superblock.now.section (replicate (section_length geometry.extents geometry.sections superblock.now.section) (0, 0))
+        × (D.state disk.new ≡ written (D.state disk.old) (if superblock.now.section == 0 then 0 else 1 + geometry.extents * geometry.pages + superblock.now.section) bytes)) }
+    ensures failed { D.honest disk.old → OnErr result ((D.state disk.new ≡ D.state disk.old) ⊎ ((bytes : List ℕ)
+        × (D.state disk.new ≡ written (D.state disk.old) (if superblock.now.section == 0 then 0 else 1 + geometry.extents * geometry.pages + superblock.now.section) bytes))) }
+    ensures honest { D.honest disk.old ↔ D.honest disk.new }
+    ensures pages { D.page_count disk.new ≡ D.page_count disk.old }
+    ensures cause { HasCause (D.failure_count disk.old) (D.failure_count disk.new) result }
+{
+    let number = geometry.section_page(superblock.section);
+    disk.write(number, &encode_superblock(superblock))
+}
+
+/// Writes the sections of a new store's superblock.
+fn write_sections<D: PageDisk>(
+    disk: &mut D,
+    geometry: Geometry,
+    sections: &[Superblock],
+) -> Result<(), DiskFault>
+    requires sized { D.page_count disk.old ≡ 1 + geometry.extents * geometry.pages + geometry.sections }
+    requires new { AreNew geometry.extents geometry.pages geometry.sections sections.now }
+    ensures written { D.honest disk.old → OnOk result (AreNewWritten geometry.extents geometry.pages geometry.sections geometry.sections (D.state disk.old) (D.state disk.new)) }
+    ensures failed { D.honest disk.old → OnErr result (IsHeadWritten geometry.extents geometry.pages (D.state disk.old) (D.state disk.new)) }
+    ensures honest { D.honest disk.old ↔ D.honest disk.new }
+    ensures pages { D.page_count disk.new ≡ D.page_count disk.old }
+    ensures cause { HasCause (D.failure_count disk.old) (D.failure_count disk.new) result }
+{
+    for k in 0..sections.len() {
+        let section = &sections[k];
+        match write_section(disk, geometry, section) {
+            Ok(()) => {}
+            Err(fault) => return Err(fault),
+        }
+    }
+    Ok(())
+}
+
+/// Writes the page of a root, and makes all writes durable.
+fn write_root<D: PageDisk>(disk: &mut D, root: &[u8; 4096]) -> Result<(), DiskFault>
+    requires { 2 ≤ D.page_count disk.old }
+    ensures written { D.honest disk.old → OnOk result (D.state disk.new ≡ flushed (written (D.state disk.old) 1 root.now)) }
+    ensures failed { D.honest disk.old → OnErr result ((D.state disk.new ≡ D.state disk.old) ⊎ (D.state disk.new ≡ written (D.state disk.old) 1 root.now)) }
+    ensures honest { D.honest disk.old ↔ D.honest disk.new }
+    ensures pages { D.page_count disk.new ≡ D.page_count disk.old }
+    ensures cause { HasCause (D.failure_count disk.old) (D.failure_count disk.new) result }
+{
+    disk.write(1, root)?;
+    disk.flush()
+}
+
+/// Writes the sections of a new store's superblock and its root, and makes them durable.
 fn write_heads<D: PageDisk>(
     alloc: Global,
     disk: &mut D,
-    superblock: &Superblock,
+    geometry: Geometry,
+    sections: &[Superblock],
 ) -> Result<(), DiskFault>
-    requires two { 2 ≤ D.page_count disk.old }
-    requires superblock { IsSuperblock superblock.now }
-    ensures written { OnOk result ((first second : List ℕ) × SpellsSuperblock first superblock.now.version superblock.now.pages superblock.now.extents.items × SpellsRoot second 1 0 []
-        × (D.honest disk.old → D.state disk.new ≡ flushed (written (written (D.state disk.old) 0 first) 1 second))) }
-    ensures failed { D.honest disk.old → OnErr result (IsHeadWritten (D.state disk.old) (D.state disk.new)) }
+    requires sized { D.page_count disk.old ≡ 1 + geometry.extents * geometry.pages + geometry.sections }
+    requires new { AreNew geometry.extents geometry.pages geometry.sections sections.now }
+    ensures written { D.honest disk.old → OnOk result (IsNewOn geometry.extents geometry.pages geometry.sections (D.state disk.old) (D.state disk.new)) }
+    ensures failed { D.honest disk.old → OnErr result (IsHeadWritten geometry.extents geometry.pages (D.state disk.old) (D.state disk.new)) }
     ensures honest { D.honest disk.old ↔ D.honest disk.new }
     ensures pages { D.page_count disk.new ≡ D.page_count disk.old }
     ensures cause { HasCause (D.failure_count disk.old) (D.failure_count disk.new) result }
@@ -100,7 +177,10 @@ fn write_heads<D: PageDisk>(
         commands: 0,
         runs: Vec::new(alloc),
     };
-    write_new(disk, &encode_superblock(superblock), &encode_root(&root))
+    match write_sections(disk, geometry, sections) {
+        Ok(()) => write_root(disk, &encode_root(&root)),
+        Err(fault) => Err(fault),
+    }
 }
 
 /// Makes a new store of this geometry on a disk that has its pages.
@@ -109,38 +189,21 @@ pub fn start_store<D: PageDisk>(
     disk: &mut D,
     geometry: Geometry,
 ) -> Result<Store, Refusal>
-    requires { 2 ≤ D.page_count disk.old }
-    ensures made { IfOk result (λ store. (superblock root : List ℕ) × IsNewStore geometry.extents geometry.pages store superblock root
-        × (D.honest disk.old → D.state disk.new ≡ flushed (written (written (D.state disk.old) 0 superblock) 1 root))) }
-    ensures failed { D.honest disk.old → OnErr result (IsHeadWritten (D.state disk.old) (D.state disk.new)) }
+    requires { D.page_count disk.old ≡ 1 + geometry.extents * geometry.pages + geometry.sections }
+    ensures geometry { OnOk result (IsGeometry geometry.extents geometry.pages geometry.sections) }
+    ensures made { IfOk result (λ store. store ≡ new_stored geometry.extents geometry.pages geometry.sections) }
+    ensures written { D.honest disk.old → OnOk result (IsNewOn geometry.extents geometry.pages geometry.sections (D.state disk.old) (D.state disk.new)) }
+    ensures failed { D.honest disk.old → OnErr result (IsHeadWritten geometry.extents geometry.pages (D.state disk.old) (D.state disk.new)) }
     ensures honest { D.honest disk.old ↔ D.honest disk.new }
     ensures pages { D.page_count disk.new ≡ D.page_count disk.old }
     ensures refusals { IfErr result (λ r. (r ≡ Refusal.DeviceFault) ⊎ (r ≡ Refusal.OutOfMemory)) }
     ensures cause { IfErr result (λ r. r ≡ Refusal.DeviceFault → Rises (D.failure_count disk.old) (D.failure_count disk.new)) }
 {
-    let superblock = new_superblock(alloc, geometry)?;
-    let store = new_store(alloc, geometry, &superblock)?;
-    match write_heads(alloc, disk, &superblock) {
+    let sections = new_sections(alloc, geometry)?;
+    let store = new_store(alloc, geometry, &sections)?;
+    match write_heads(alloc, disk, geometry, &sections) {
         Ok(()) => Ok(store),
         Err(DiskFault::DeviceFault) => Err(Refusal::DeviceFault),
         Err(DiskFault::OutOfMemory) => Err(Refusal::OutOfMemory),
     }
-}
-
-/// Writes the pages of superblock and root, and makes all writes durable.
-fn write_new<D: PageDisk>(
-    disk: &mut D,
-    superblock: &[u8; 4096],
-    root: &[u8; 4096],
-) -> Result<(), DiskFault>
-    requires { 2 ≤ D.page_count disk.old }
-    ensures written { D.honest disk.old → OnOk result (D.state disk.new ≡ flushed (written (written (D.state disk.old) 0 superblock.now) 1 root.now)) }
-    ensures failed { D.honest disk.old → OnErr result (IsHeadWritten (D.state disk.old) (D.state disk.new)) }
-    ensures honest { D.honest disk.old ↔ D.honest disk.new }
-    ensures pages { D.page_count disk.new ≡ D.page_count disk.old }
-    ensures cause { HasCause (D.failure_count disk.old) (D.failure_count disk.new) result }
-{
-    disk.write(0, superblock)?;
-    disk.write(1, root)?;
-    disk.flush()
 }

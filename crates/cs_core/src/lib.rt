@@ -2,14 +2,15 @@
 //! reply.
 //!
 //! An event goes through `cores` (`apply`), `serves` (whether the store is halted; Get and Settle) and `running` (all others) to
-//! one call of a `Store`: `commands`, `reads`, `stagings`, `rounds` or `sweeps`. `formats` makes a new store; `openings`, `runs` and
-//! `loads` read one.
+//! one call of a `Store`: `commands`, `reads`, `stagings`, `rounds` or `sweeps`. `formats` makes a new store; `openings`, `sections`, `runs`
+//! and `loads` read one.
 #![tactic(auto)]
 
 mod commands;
 mod contents;
 mod cores;
 mod events;
+mod families;
 mod formats;
 mod frontiers;
 mod laws;
@@ -23,6 +24,7 @@ mod roots;
 mod rounds;
 mod running;
 mod runs;
+mod sections;
 mod serves;
 mod stagings;
 mod stores;

@@ -4,7 +4,6 @@ ghost use Rattle.std.specs.List.{AllByRecursion};
 ghost use Rattle.cs_extent.specs.State.{shape};
 ghost use Rattle.cs_frame.specs.Formats.{place_of};
 ghost use Rattle.cs_frame.specs.Runs.{IsRun};
-ghost use Rattle.cs_frame.specs.Superblocks.{SpellsSuperblock};
 ghost use Rattle.cs_image.specs.Counts.{HasCount};
 ghost use Rattle.cs_image.specs.Openings.{graph_at, index_at};
 ghost use Rattle.cs_image.specs.Reads.{AreLocated, extents_at};
@@ -120,13 +119,12 @@ pub fn load_store(
     root: &Root,
     runs: Vec<StoredRun>,
 ) -> Result<OpenedStore, Refusal>
-    requires some { (version : ℕ) × (bytes : List ℕ) × SpellsSuperblock bytes version extents.pages extents.written }
-    requires extents { extents ≡ extents_at extents.pages extents.written }
-    requires graph { (version : ℕ) × (graph ≡ graph_at version root.now.version) }
+    requires extents { extents ≡ extents_at extents.pages extents.sections extents.written }
+    requires graph { (versions : List ℕ) × (length versions ≡ extents.sections) × (graph ≡ graph_at versions root.now.version) }
     requires commands { root.now.commands < 2 ^ 63 }
     requires few { length runs.items ≤ 4 }
     requires runs { AllByRecursion (λ run. IsRun (record { entries = run.entries })) runs.items }
-    ensures made { IfOk result (λ found. (version : ℕ) → graph ≡ graph_at version root.now.version → found.store ≡ opened_stored version extents.pages extents.written root.now.version root.now.commands runs.items) }
+    ensures made { IfOk result (λ found. (versions : List ℕ) → length versions ≡ extents.sections → graph ≡ graph_at versions root.now.version → found.store ≡ opened_stored versions extents.pages extents.written root.now.version root.now.commands runs.items) }
     ensures commands { IfOk result (λ found. found.commands ≡ root.now.commands) }
     ensures live { IfOk result (λ found. HasCount (λ id. live_at (entries_of (newest_first runs.items)) id ≢ []) found.live) }
     ensures located { OnOk result (AreLocated extents runs.items) }
@@ -134,6 +132,8 @@ pub fn load_store(
     ensures number { IfErr result IsOpeningRefusal }
     ensures why { IfErr result (λ r. (r ≡ Refusal.OutOfMemory) ⊎ ((r ≡ Refusal.NotAStore) × ((¬ AreLocated extents runs.items) ⊎ ((shape extents).most_names < names (entries_of (newest_first runs.items)))))) }
 {
+    // Called for its contract alone: what all extents keep.
+    extents.extent_count();
     let (index, roots) = match load_parts(alloc, &extents, root, runs) {
         Ok(made) => made,
         Err(refusal) => return Err(refusal),

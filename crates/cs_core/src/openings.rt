@@ -1,48 +1,23 @@
 //! Stores that are read from their disk.
-ghost use Rattle.std.specs.Prelude.{◌≡◌, ◌+◌, ◌*◌, ◌<◌, ◌≤◌, ◌⊎◌, ◌↔◌, ℕ, List, IfErr, IfOk, MatchResult, length};
+ghost use Rattle.std.specs.Prelude.{◌≡◌, ◌+◌, ◌*◌, ◌<◌, ◌≤◌, ◌⊎◌, ◌↔◌, ℕ, List, IfErr, IfOk, MatchResult, length, map};
 ghost use Rattle.cs_chunk.specs.Reads.{IsCaused, IsNoAnswer, IsOfFault, OnlyReads};
 ghost use Rattle.cs_disk.specs.Disk.{LeavesOnly, MayLeave, flushed, page, seen};
+ghost use Rattle.cs_extent.specs.Sections.{AreSections, pages_of, rows_of};
+ghost use Rattle.cs_frame.specs.FirstFormat.{SpellsPageZero};
 ghost use Rattle.cs_frame.specs.Roots.{SpellsRoot, root_fault};
-ghost use Rattle.cs_frame.specs.Superblocks.{SpellsSuperblock, superblock_fault};
+ghost use Rattle.cs_image.specs.Reads.{AreSectionsRead};
 ghost use Rattle.cs_core.specs.Openings.{IsOpeningRefusal, IsStoreMade, IsWhyNotOpened};
 
+use crate::families::new_graph;
 use crate::loads::{OpenedStore, load_store};
 use crate::runs::read_runs;
+use crate::sections::{read_first, read_sections};
 use cs_chunk::{refusal_of_disk, refusal_of_fault};
-use cs_deps::{Graph, Refusal};
+use cs_deps::Refusal;
 use cs_disk::PageDisk;
 use cs_extent::Extents;
-use cs_frame::{Root, Superblock, decode_root, decode_superblock};
+use cs_frame::{Root, Superblock, decode_root};
 use std::alloc::Global;
-
-/// The superblock that a page spells.
-fn decoded_superblock(alloc: Global, page: &[u8; 4096]) -> Result<Superblock, Refusal>
-    ensures spelled { IfOk result (λ it. SpellsSuperblock page.now it.version it.pages it.extents.items) }
-    ensures fault { IfErr result (λ r. (r ≡ Refusal.OutOfMemory) ⊎ IsOfFault (superblock_fault page.now) r) }
-    ensures number { IfErr result IsOpeningRefusal }
-{
-    match decode_superblock(alloc, page) {
-        Ok(superblock) => Ok(superblock),
-        Err(fault) => Err(refusal_of_fault(fault)),
-    }
-}
-
-/// Reads page 0.
-fn read_superblock<D: PageDisk>(alloc: Global, disk: &mut D) -> Result<Superblock, Refusal>
-    requires { 0 < D.page_count disk.old }
-    ensures read { D.honest disk.old → IfOk result (λ it. SpellsSuperblock (page (seen (D.state disk.old)) 0) it.version it.pages it.extents.items) }
-    ensures some { IfOk result (λ it. (bytes : List ℕ) × SpellsSuperblock bytes it.version it.pages it.extents.items) }
-    ensures fault { D.honest disk.old → IfErr result (λ r. IsNoAnswer r ⊎ IsOfFault (superblock_fault (page (seen (D.state disk.old)) 0)) r) }
-    ensures number { IfErr result IsOpeningRefusal }
-    ensures disk { OnlyReads D.PageDisk disk.old disk.new }
-    ensures cause { IsCaused (D.failure_count disk.old) (D.failure_count disk.new) result }
-{
-    let mut buffer = [0; 4096];
-    match disk.read(0, &mut buffer) {
-        Ok(()) => decoded_superblock(alloc, &buffer),
-        Err(fault) => Err(refusal_of_disk(fault)),
-    }
-}
 
 /// The root that a page spells.
 fn decoded_root(alloc: Global, page: &[u8; 4096]) -> Result<Root, Refusal>
@@ -73,37 +48,39 @@ fn read_root<D: PageDisk>(alloc: Global, disk: &mut D) -> Result<Root, Refusal>
     }
 }
 
-/// How many pages a device has that has these extents.
+/// How many pages a device has whose superblock has this section.
 fn device_pages(superblock: &Superblock) -> u64
-    requires { (bytes : List ℕ) × SpellsSuperblock bytes superblock.now.version superblock.now.pages superblock.now.extents.items }
-    ensures { result ≡ 2 + length superblock.now.extents.items * superblock.now.pages }
+    ensures { result ≡ 1 + superblock.now.extent_count * superblock.now.pages + superblock.now.sections }
 {
-    (2 + superblock.extents.len() * usize::from(superblock.pages)) as u64
+    let extents = superblock.extent_count;
+    let pages = superblock.pages;
+    let sections = superblock.sections;
+    1 + u64::from(extents) * u64::from(pages) + u64::from(sections)
 }
 
 /// Reads what the root locates, and makes a store of it.
 fn read_index<D: PageDisk>(
     alloc: Global,
     disk: &mut D,
-    superblock: &Superblock,
+    sections: &[Superblock],
     root: &Root,
 ) -> Result<OpenedStore, Refusal>
-    requires some { (bytes : List ℕ) × SpellsSuperblock bytes superblock.now.version superblock.now.pages superblock.now.extents.items }
+    requires are { AreSections sections.now }
     requires some_root { (bytes : List ℕ) × SpellsRoot bytes root.now.version root.now.commands root.now.runs.items }
-    requires sized { D.page_count disk.old ≡ 2 + length superblock.now.extents.items * superblock.now.pages }
-    requires superblock { D.honest disk.old → SpellsSuperblock (page (seen (D.state disk.old)) 0) superblock.now.version superblock.now.pages superblock.now.extents.items }
+    requires sized { D.page_count disk.old ≡ 1 + length (rows_of sections.now) * pages_of sections.now + length sections.now }
+    requires sections { D.honest disk.old → AreSectionsRead (page (seen (D.state disk.old))) (map (λ it. it.version) sections.now) (pages_of sections.now) (rows_of sections.now) }
     requires root { D.honest disk.old → SpellsRoot (page (seen (D.state disk.old)) 1) root.now.version root.now.commands root.now.runs.items }
-    ensures made { IfOk result (λ found. IsStoreMade (D.honest disk.old) (page (seen (D.state disk.old))) superblock.now.version superblock.now.pages superblock.now.extents.items found.commands found.live found.store) }
+    ensures made { IfOk result (λ found. IsStoreMade (D.honest disk.old) (page (seen (D.state disk.old))) (map (λ it. it.version) sections.now) (pages_of sections.now) (rows_of sections.now) found.commands found.live found.store) }
     ensures why { D.honest disk.old → IfErr result (λ r. IsNoAnswer r ⊎ IsWhyNotOpened (D.page_count disk.old) (page (seen (D.state disk.old))) r) }
     ensures number { IfErr result IsOpeningRefusal }
     ensures disk { OnlyReads D.PageDisk disk.old disk.new }
     ensures cause { IsCaused (D.failure_count disk.old) (D.failure_count disk.new) result }
 {
-    let extents = match Extents::of(alloc, superblock) {
+    let extents = match Extents::of(alloc, sections) {
         Ok(extents) => extents,
         Err(_) => return Err(Refusal::OutOfMemory),
     };
-    let graph = match Graph::new(alloc, &[superblock.version, root.version]) {
+    let graph = match new_graph(alloc, sections, root.version) {
         Ok(graph) => graph,
         Err(_) => return Err(Refusal::OutOfMemory),
     };
@@ -117,19 +94,44 @@ fn read_index<D: PageDisk>(
 fn read_rest<D: PageDisk>(
     alloc: Global,
     disk: &mut D,
-    superblock: &Superblock,
+    sections: &[Superblock],
 ) -> Result<OpenedStore, Refusal>
-    requires some { (bytes : List ℕ) × SpellsSuperblock bytes superblock.now.version superblock.now.pages superblock.now.extents.items }
-    requires sized { D.page_count disk.old ≡ 2 + length superblock.now.extents.items * superblock.now.pages }
-    requires superblock { D.honest disk.old → SpellsSuperblock (page (seen (D.state disk.old)) 0) superblock.now.version superblock.now.pages superblock.now.extents.items }
-    ensures made { IfOk result (λ found. IsStoreMade (D.honest disk.old) (page (seen (D.state disk.old))) superblock.now.version superblock.now.pages superblock.now.extents.items found.commands found.live found.store) }
+    requires are { AreSections sections.now }
+    requires enough { 1 < D.page_count disk.old }
+    requires sized { D.page_count disk.old ≡ 1 + length (rows_of sections.now) * pages_of sections.now + length sections.now }
+    requires sections { D.honest disk.old → AreSectionsRead (page (seen (D.state disk.old))) (map (λ it. it.version) sections.now) (pages_of sections.now) (rows_of sections.now) }
+    ensures made { IfOk result (λ found. IsStoreMade (D.honest disk.old) (page (seen (D.state disk.old))) (map (λ it. it.version) sections.now) (pages_of sections.now) (rows_of sections.now) found.commands found.live found.store) }
     ensures why { D.honest disk.old → IfErr result (λ r. IsNoAnswer r ⊎ IsWhyNotOpened (D.page_count disk.old) (page (seen (D.state disk.old))) r) }
     ensures number { IfErr result IsOpeningRefusal }
     ensures disk { OnlyReads D.PageDisk disk.old disk.new }
     ensures cause { IsCaused (D.failure_count disk.old) (D.failure_count disk.new) result }
 {
     match read_root(alloc, disk) {
-        Ok(root) => read_index(alloc, disk, superblock, &root),
+        Ok(root) => read_index(alloc, disk, sections, &root),
+        Err(refusal) => Err(refusal),
+    }
+}
+
+/// Reads the further sections, root and runs, and makes a store of them.
+fn read_behind<D: PageDisk>(
+    alloc: Global,
+    disk: &mut D,
+    first: Superblock,
+) -> Result<OpenedStore, Refusal>
+    requires enough { 10 ≤ D.page_count disk.old }
+    requires place { first.section ≡ 0 }
+    requires some { (bytes : List ℕ) × SpellsPageZero bytes first.version first.extent_count first.pages first.sections first.section first.extents.items }
+    requires sized { D.page_count disk.old ≡ 1 + first.extent_count * first.pages + first.sections }
+    requires read { D.honest disk.old → SpellsPageZero (page (seen (D.state disk.old)) 0) first.version first.extent_count first.pages first.sections first.section first.extents.items }
+    ensures made { IfOk result (λ found. (versions : List ℕ) × (pages : ℕ) × (written : List (ℕ × ℕ)) × (D.page_count disk.old ≡ 1 + length written * pages + length versions)
+        × IsStoreMade (D.honest disk.old) (page (seen (D.state disk.old))) versions pages written found.commands found.live found.store) }
+    ensures why { D.honest disk.old → IfErr result (λ r. IsNoAnswer r ⊎ IsWhyNotOpened (D.page_count disk.old) (page (seen (D.state disk.old))) r) }
+    ensures number { IfErr result IsOpeningRefusal }
+    ensures disk { OnlyReads D.PageDisk disk.old disk.new }
+    ensures cause { IsCaused (D.failure_count disk.old) (D.failure_count disk.new) result }
+{
+    match read_sections(alloc, disk, first) {
+        Ok(sections) => read_rest(alloc, disk, &sections),
         Err(refusal) => Err(refusal),
     }
 }
@@ -137,28 +139,28 @@ fn read_rest<D: PageDisk>(
 /// Reads the whole store.
 fn read_store<D: PageDisk>(alloc: Global, disk: &mut D) -> Result<OpenedStore, Refusal>
     requires { 10 ≤ D.page_count disk.old }
-    ensures made { IfOk result (λ found. (version : ℕ) × (pages : ℕ) × (written : List (ℕ × ℕ)) × (D.page_count disk.old ≡ 2 + length written * pages)
-        × IsStoreMade (D.honest disk.old) (page (seen (D.state disk.old))) version pages written found.commands found.live found.store) }
+    ensures made { IfOk result (λ found. (versions : List ℕ) × (pages : ℕ) × (written : List (ℕ × ℕ)) × (D.page_count disk.old ≡ 1 + length written * pages + length versions)
+        × IsStoreMade (D.honest disk.old) (page (seen (D.state disk.old))) versions pages written found.commands found.live found.store) }
     ensures why { D.honest disk.old → IfErr result (λ r. IsNoAnswer r ⊎ IsWhyNotOpened (D.page_count disk.old) (page (seen (D.state disk.old))) r) }
     ensures number { IfErr result IsOpeningRefusal }
     ensures disk { OnlyReads D.PageDisk disk.old disk.new }
     ensures cause { IsCaused (D.failure_count disk.old) (D.failure_count disk.new) result }
 {
-    let superblock = match read_superblock(alloc, disk) {
+    let superblock = match read_first(alloc, disk) {
         Ok(superblock) => superblock,
         Err(refusal) => return Err(refusal),
     };
     if disk.pages() != device_pages(&superblock) {
         return Err(Refusal::NotAStore);
     }
-    read_rest(alloc, disk, &superblock)
+    read_behind(alloc, disk, superblock)
 }
 
 /// Flushes, and reads the store.
 pub fn open_store<D: PageDisk>(alloc: Global, disk: &mut D) -> Result<OpenedStore, Refusal>
     requires { 10 ≤ D.page_count disk.old }
-    ensures made { IfOk result (λ found. (version : ℕ) × (pages : ℕ) × (written : List (ℕ × ℕ)) × (D.page_count disk.old ≡ 2 + length written * pages)
-        × IsStoreMade (D.honest disk.old) (page (seen (D.state disk.old))) version pages written found.commands found.live found.store) }
+    ensures made { IfOk result (λ found. (versions : List ℕ) × (pages : ℕ) × (written : List (ℕ × ℕ)) × (D.page_count disk.old ≡ 1 + length written * pages + length versions)
+        × IsStoreMade (D.honest disk.old) (page (seen (D.state disk.old))) versions pages written found.commands found.live found.store) }
     ensures why { D.honest disk.old → IfErr result (λ r. IsNoAnswer r ⊎ IsWhyNotOpened (D.page_count disk.old) (page (seen (D.state disk.old))) r) }
     ensures number { IfErr result IsOpeningRefusal }
     ensures state { D.honest disk.old → MatchResult result (λ _. D.state disk.new ≡ flushed (D.state disk.old)) (λ _. (D.state disk.new ≡ D.state disk.old) ⊎ (D.state disk.new ≡ flushed (D.state disk.old))) }

@@ -16,7 +16,7 @@ with_room x g room r f l y h p = record {
   same_shape = p.same_shape;
   staged = p.staged;
   writes = p.writes;
-  superblock = p.superblock;
+  section = p.section;
   others = p.others;
   round = p.round;
 }

@@ -1,14 +1,15 @@
 -- What changes of lists do to extents as functions.
-use Rattle.std.proofs.Common.{◌≡◌, ◌≢◌, ◌∙◌, ℕ, zero, suc, ◌*◌, ◌<◌, ◌≤◌, Bool, true, false, List, [], ◌∷◌, length, set, get_or, replicate, None, refl, ap, ⊎_elim, arith, mul-le-mul_left, mul-le-mul_right}
+use Rattle.std.proofs.Common.{◌≡◌, ◌≢◌, ◌∙◌, ℕ, zero, suc, ◌*◌, ◌<◌, ◌≤◌, Bool, true, false, List, [], ◌∷◌, length, set, get_or, replicate, None, Option, ◌+◌, refl, ap, ⊎_elim, arith, mul-le-mul_left, mul-le-mul_right}
 use Rattle.std.specs.Prelude.{◌==◌, if◌then◌else◌}
 use Rattle.std.specs.List.{AllByRecursion}
 use Rattle.std.proofs.lemmas.Bool.Decides.{nat_tests}
 use Rattle.std.proofs.lemmas.Bool.{cases_lt}
 use Rattle.std.proofs.lemmas.List.{length-replicate, get_or-set_same, get_or-set_other}
-use Rattle.cs_model.specs.Extents.{emptied}
+use Rattle.cs_model.specs.Extents.{emptied, open_after, taken}
 use Rattle.cs_model.specs.Lists.{with}
+use Rattle.cs_frame.specs.Geometries.{IsGeometry}
 use Rattle.cs_extent.specs.Frames.{greatest}
-use Rattle.cs_extent.specs.State.{State, IsWhole, extents_of}
+use Rattle.cs_extent.specs.State.{State, IsWhole, extents_of, shape}
 
 pub pointers_at : (pages : ℕ) (xs : List (ℕ × ℕ)) → AllByRecursion (λ x. x.0 ≤ pages) xs → (e : ℕ) → (get_or xs e (0, 0)).0 ≤ pages
 pointers_at pages [] all e = omega arith
@@ -48,15 +49,33 @@ reset_extents s e root g lt lr is = λ i. record {
     generations : (d : ℕ) → (get_or (set s.written e (0, g)) d (0, 0)).1 ≡ with (λ k. (get_or s.written k (0, 0)).1) e (suc ((get_or s.written e (0, 0)).1)) d
     generations d = ap (λ (x : ℕ × ℕ). x.1) (written_at s.written e (0, g) (0, 0) lt d) ∙ chosen (λ (x : ℕ × ℕ). x.1) (d == e) (0, g) (get_or s.written d (0, 0)) ∙ ap (λ m. if d == e then m else (get_or s.written d (0, 0)).1) is
 
--- the extents that a superblock records
-pub whole_new : (pages : ℕ) (written : List (ℕ × ℕ)) → 4 ≤ length written → length written ≤ 512 → 2 ≤ pages → pages ≤ 256 → AllByRecursion (λ x. x.0 ≤ pages) written
+-- pages are taken of one extent
+pub taken_extents : (s : State) (e k : ℕ) (x : ℕ × ℕ) (o : Option ℕ) → e < length s.written → x.0 ≡ (extents_of s).pointer e + k → x.1 ≡ (extents_of s).generation e
+    → o ≡ open_after (shape s) e ((extents_of s).pointer e + k) → extents_of (record s { written = set s.written e x; open_extent = o }) ≡ taken (shape s) (extents_of s) e k
+taken_extents s e k x o lt p g is = λ i. record {
+  pointer = λ d. pointers d i;
+  generation = λ d. generations d i;
+  reset = λ d. get_or s.resets d 0;
+  open_extent = is i;
+  swept = λ d. get_or s.swept d false;
+}
+  where
+    pointers : (d : ℕ) → (get_or (set s.written e x) d (0, 0)).0 ≡ with (λ k. (get_or s.written k (0, 0)).0) e ((get_or s.written e (0, 0)).0 + k) d
+    pointers d = ap (λ (y : ℕ × ℕ). y.0) (written_at s.written e x (0, 0) lt d) ∙ chosen (λ (y : ℕ × ℕ). y.0) (d == e) x (get_or s.written d (0, 0)) ∙ ap (λ m. if d == e then m else (get_or s.written d (0, 0)).0) p
+
+    kept : (d : ℕ) (b : Bool) → (d == e) ≡ b → (if b then x.1 else (get_or s.written d (0, 0)).1) ≡ (get_or s.written d (0, 0)).1
+    kept d true here = let same : e ≡ d = grind (arith, nat_tests) in g ∙ ap (λ j. (get_or s.written j (0, 0)).1) same
+    kept d false here = refl
+
+    generations : (d : ℕ) → (get_or (set s.written e x) d (0, 0)).1 ≡ (get_or s.written d (0, 0)).1
+    generations d = ap (λ (y : ℕ × ℕ). y.1) (written_at s.written e x (0, 0) lt d) ∙ chosen (λ (y : ℕ × ℕ). y.1) (d == e) x (get_or s.written d (0, 0)) ∙ kept d (d == e) refl
+
+-- the extents that a superblock's sections record
+pub whole_new : (pages sections : ℕ) (written : List (ℕ × ℕ)) → IsGeometry (length written) pages sections → AllByRecursion (λ x. x.0 ≤ pages) written
     → (resets : List ℕ) (swept : List Bool) → resets ≡ replicate (length written) 0 → swept ≡ replicate (length written) false
-    → IsWhole (record { pages = pages; written = written; resets = resets; swept = swept; open_extent = None })
-whole_new pages written a b c d all resets swept zeros falses = record {
-  fewest_extents = a;
-  most_extents = b;
-  fewest_pages = c;
-  most_pages = d;
+    → IsWhole (record { pages = pages; sections = sections; written = written; resets = resets; swept = swept; open_extent = None })
+whole_new pages sections written is all resets swept zeros falses = record {
+  geometry = is;
   all_resets = ap length zeros ∙ length-replicate (length written) 0;
   all_swept = ap length falses ∙ length-replicate (length written) false;
   pointers = pointers_at pages written all;
@@ -87,8 +106,8 @@ greatest_is f (suc n) e lt = ⊎_elim
     (cases_lt e n)
 
 -- a page of the device has a small number
-pub small_product : (e pages : ℕ) → e < 512 → pages ≤ 256 → e * pages ≤ 131072
+pub small_product : (e pages : ℕ) → e < 2048 → pages ≤ 256 → e * pages ≤ 524288
 small_product e pages lt le =
-    let first : e * pages ≤ 512 * pages = mul-le-mul_right pages (omega (arith, lt)) in
-    let second : 512 * pages ≤ 512 * 256 = mul-le-mul_left 512 le in
+    let first : e * pages ≤ 2048 * pages = mul-le-mul_right pages (omega (arith, lt)) in
+    let second : 2048 * pages ≤ 2048 * 256 = mul-le-mul_left 2048 le in
     omega (arith, first, second)

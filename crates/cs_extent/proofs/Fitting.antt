@@ -2,6 +2,7 @@
 use Rattle.std.proofs.Common.{◌≡◌, ◌≢◌, ◌∙◌, ℕ, suc, ◌+◌, ◌-◌, ◌<◌, ◌≤◌, Bool, true, false, List, [], ◌∷◌, length, drop, get_or, Option, Some, None, refl, sym, ap, subst, inl, inr, ⊎_elim, arith}
 use Rattle.std.specs.Prelude.{◌==◌, ◌↔◌, if◌then◌else◌, nat_le, nat_lt, All}
 use Rattle.std.specs.List.{AllByRecursion}
+use Rattle.std.proofs.lemmas.Bool.{cases_lt}
 use Rattle.std.proofs.lemmas.Bool.Decides.{nat_tests}
 use Rattle.std.proofs.lemmas.Option.{same_Some}
 use Rattle.std.proofs.Math.Seq.{drop-cons}
@@ -19,6 +20,21 @@ with_same f e v = let same : (e == e) ≡ true = grind (arith, nat_tests) in rw 
 
 pub with_other : (f : ℕ → ℕ) (e v d : ℕ) → d ≢ e → with f e v d ≡ f d
 with_other f e v d other = let apart : (d == e) ≡ false = grind (arith, nat_tests) in rw apart refl
+
+-- pages are only added
+pub pointer_grows : (f : ℕ → ℕ) (e k d : ℕ) → f d ≤ with f e (f e + k) d
+pointer_grows f e k d = split (d == e) refl
+  where
+    split : (b : Bool) → (d == e) ≡ b → f d ≤ (if b then f e + k else f d)
+    split true is = let same : d ≡ e = grind (arith, nat_tests) in let here : f d ≡ f e = ap f same in omega (arith, here)
+    split false is = omega arith
+
+-- a frame lies inside the extent that it goes to
+pub placed_inside : (S : Shape) (x : Extents) (r : Reason) (k e : ℕ) → Placed S x r k e → (e < S.extents) × (x.pointer e + k ≤ S.pages)
+placed_inside S x r k e placed = ⊎_elim
+    (λ (h : HasRoom S x k e). (h.1, h.2))
+    (λ (h : ((o : ℕ) → HasRoom S x k o → ⊥) × IsFirstEmpty S x e × (k ≤ S.pages) × (spare r < empties x.pointer S.extents)). (h.1.0, omega (arith, h.1.1, h.2)))
+    placed
 
 -- what is open is there and not empty
 pub record IsBegun (S : Shape) (x : Extents) : Type 0 where
@@ -45,7 +61,7 @@ module _ (S : Shape) where
       split true is = let full : p ≡ S.pages = grind (arith, nat_tests) in omega (arith, full)
       split false is = ap (λ q. S.pages - q) (with_same f e p)
 
-  taken_begun : (x : Extents) (e k : ℕ) → e < S.extents → 1 ≤ k → IsBegun S (taken S x e k)
+  pub taken_begun : (x : Extents) (e k : ℕ) → e < S.extents → 1 ≤ k → IsBegun S (taken S x e k)
   taken_begun x e k lt some = record {
     inside = λ d is. subst (λ o. o < S.extents) (is_e d is) lt;
     begun = λ d is. subst (λ o. 0 < with x.pointer e (x.pointer e + k) o) (is_e d is) (rw (with_same x.pointer e (x.pointer e + k)) (omega (arith, some)));
@@ -165,3 +181,22 @@ fit_step S least s frames i pages spared r lt p q is =
 
 pub fit_end : (S : Shape) (least : ℕ) (s : Supply) (frames : List ℕ) (i : ℕ) → length frames ≤ i → all_fit S least (Some s) (drop i frames) ≡ true
 fit_end S least s frames i le = ap (all_fit S least (Some s)) (drop_all i frames le)
+
+-- a frame goes to one extent, if to any
+pub placed_once : (S : Shape) (x : Extents) (purpose : Reason) (k d e : ℕ) → Placed S x purpose k d → Placed S x purpose k e → d ≡ e
+placed_once S x purpose k d e a b = ⊎_elim
+    (λ (p : HasRoom S x k d). ⊎_elim
+    (λ (q : HasRoom S x k e). same_Some d e (sym p.0 ∙ q.0))
+    (λ (q : ((o : ℕ) → HasRoom S x k o → ⊥) × IsFirstEmpty S x e × (k ≤ S.pages) × (spare purpose < empties x.pointer S.extents)). absurd (q.0 d p))
+    b)
+    (λ (p : ((o : ℕ) → HasRoom S x k o → ⊥) × IsFirstEmpty S x d × (k ≤ S.pages) × (spare purpose < empties x.pointer S.extents)). ⊎_elim
+    (λ (q : HasRoom S x k e). absurd (p.0 e q))
+    (λ (q : ((o : ℕ) → HasRoom S x k o → ⊥) × IsFirstEmpty S x e × (k ≤ S.pages) × (spare purpose < empties x.pointer S.extents)). first_once p.1 q.1)
+    b)
+    a
+  where
+    first_once : IsFirstEmpty S x d → IsFirstEmpty S x e → d ≡ e
+    first_once p q = ⊎_elim
+        (λ (l : d < e). absurd (omega (arith, p.1, q.2 d l)))
+        (λ (l : e ≤ d). ⊎_elim (λ (m : e < d). absurd (omega (arith, q.1, p.2 e m))) (λ (m : d ≤ e). omega (arith, l, m)) (cases_lt e d))
+        (cases_lt d e)

@@ -127,16 +127,20 @@ given_once S x y (Mark e m ∷ changes) given i j page leads a b = given_once S 
 
 -- what is needed rises
 
-pub greatest_emptied : (x : Extents) (n e root : ℕ) → e < n → greatest x.reset n ≤ root → greatest (emptied x e root).reset n ≡ root
-greatest_emptied x n e root lt le =
-    let low : root ≤ greatest (with x.reset e root) n = subst (λ v. v ≤ greatest (with x.reset e root) n) (with_same x.reset e root) (greatest_is (with x.reset e root) n e lt) in
-    let high : greatest (with x.reset e root) n ≤ root = below n (λ d h. omega (arith, greatest_is x.reset n d h, le)) in
+pub greatest_emptied : (x : Extents) (start count i root : ℕ) → i < count → greatest (λ k. x.reset (start + k)) count ≤ root
+    → greatest (λ k. (emptied x (start + i) root).reset (start + k)) count ≡ root
+greatest_emptied x start count i root lt le =
+    let low : root ≤ greatest new count = subst (λ v. v ≤ greatest new count) (with_same x.reset (start + i) root) (greatest_is new count i lt) in
+    let high : greatest new count ≤ root = below count (λ d h. omega (arith, greatest_is (λ k. x.reset (start + k)) count d h, le)) in
     omega (arith, low, high)
   where
+    new : ℕ → ℕ
+    new k = with x.reset (start + i) root (start + k)
+
     each : (d : ℕ) → x.reset d ≤ root → (b : Bool) → (if b then root else x.reset d) ≤ root
     each d h true = omega arith
     each d h false = h
 
-    below : (m : ℕ) → ((d : ℕ) → d < m → x.reset d ≤ root) → greatest (with x.reset e root) m ≤ root
+    below : (m : ℕ) → ((d : ℕ) → d < m → x.reset (start + d) ≤ root) → greatest new m ≤ root
     below zero all = omega arith
-    below (suc m) all = omega (arith, each m (all m (omega arith)) (m == e), below m (λ d h. all d (omega (arith, h))))
+    below (suc m) all = omega (arith, each (start + m) (all m (omega arith)) ((start + m) == (start + i)), below m (λ d h. all d (omega (arith, h))))

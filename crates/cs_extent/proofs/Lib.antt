@@ -5,3 +5,5 @@ pub mod Fitting
 pub mod Staged
 pub mod Given
 pub mod Joined
+pub mod Sections
+pub mod Worn

@@ -3,22 +3,24 @@ use Rattle.std.specs.Prelude.{◌≡◌, ◌+◌, ℕ, List, [], ◌∷◌, Some
 use Rattle.cs_deps.specs.State.{State as GraphState, write_of}
 use Rattle.cs_frame.specs.declared.locators.Locator.{Locator}
 use Rattle.cs_model.specs.Extents.{Placed, Purpose as Reason, taken}
-use Rattle.cs_extent.specs.Frames.{AreWritten, IsFrameStaged, IsOfFrame, AddsOnlyOf, next_place, next_superblock, superblock_family}
+use Rattle.cs_extent.specs.Frames.{AreWritten, IsFrameStaged, IsOfFrame, AddsOnlyOf, family_of, next_place, next_section}
 use Rattle.cs_extent.specs.State.{SpellsExtents, State, extents_of, need_of, shape}
 
 -- A frame was appended at l: its pages were given and staged behind the pointer of an extent that may take them, and
--- then a version of the superblock that records them. Nothing else was staged, and of all other elements no
+-- then a version of that extent's section, which records them. Nothing else was staged, and of all other elements no
 -- write is kept that wasn't kept before.
 pub record IsAppended (x : State) (g : GraphState) (reason : Reason) (frame : List (List ℕ)) (l : Locator) (y : State) (h : GraphState) : Type 0 where
   pub placed : Placed (shape x) (extents_of x) reason (length frame) l.extent
   pub place : l ≡ next_place (extents_of x) l.extent
   pub extents : extents_of y ≡ taken (shape x) (extents_of x) l.extent (length frame)
   pub same_shape : shape y ≡ shape x
-  pub staged : IsFrameStaged g.staging h.staging (length frame) ((extents_of x).reset l.extent) (need_of x)
+  pub staged : IsFrameStaged g.staging h.staging (shape x).sections ((shape x).section l.extent) (length frame)
+      ((extents_of x).reset l.extent) (need_of x ((shape x).section l.extent))
   pub writes : AreWritten h g.staging.staged (length frame) (λ i. (shape x).address l.extent (l.page + i)) frame
-  pub superblock : (page : List ℕ) × (write_of h (next_superblock g.staging) ≡ Some ((shape x).section_page 0, page))
-      × SpellsExtents y (slice_index g.staging.latest superblock_family + 1) page
-  pub others : AddsOnlyOf g h (IsOfFrame g.staging (length frame))
+  pub section : (page : List ℕ)
+      × (write_of h (next_section g.staging ((shape x).section l.extent)) ≡ Some ((shape x).section_page ((shape x).section l.extent), page))
+      × SpellsExtents y ((shape x).section l.extent) (slice_index g.staging.latest (family_of ((shape x).section l.extent)) + 1) page
+  pub others : AddsOnlyOf g h (IsOfFrame g.staging ((shape x).section l.extent) (length frame))
   pub round : h.round ≡ g.round
 
 -- frames were appended one after another at these places; where there are none the graph may have other room

@@ -1,5 +1,5 @@
 -- What is staged with a frame.
-use Rattle.std.specs.Prelude.{◌≡◌, ◌↔◌, ◌⊎◌, ◌+◌, ◌^◌, ◌<◌, ◌≤◌, ◌++◌, ℕ, zero, suc, max, List, [], length, Some, slice_get, slice_index, slice_index_or, slice_set}
+use Rattle.std.specs.Prelude.{◌≡◌, ◌≢◌, ◌↔◌, ◌⊎◌, ◌+◌, ◌^◌, ◌<◌, ◌≤◌, ◌==◌, ◌++◌, if◌then◌else◌, ℕ, zero, suc, max, List, [], length, Some, slice_get, slice_index, slice_index_or, slice_set}
 use Rattle.cs_deps.specs.declared.elements.Element.{Element}
 use Rattle.cs_deps.specs.declared.elements.Element.TheVariants.{Plain, Version}
 use Rattle.cs_deps.specs.Named.{Named, Names}
@@ -9,13 +9,14 @@ use Rattle.cs_deps.specs.State.{State, Write, write_of}
 use Rattle.cs_frame.specs.declared.locators.Locator.{Locator}
 use Rattle.cs_model.specs.Extents.{Extents}
 
--- the family of the superblock's versions
-abbrev pub superblock_family : ℕ
-superblock_family = 0
-
 -- the family of the root's versions
 abbrev pub root_family : ℕ
 root_family = 1
+
+-- the family of a section's versions: sections and root are numbered as they lie on the device
+abbrev pub family_of : (section : ℕ) → ℕ
+family_of zero = 0
+family_of (suc j) = suc (suc j)
 
 -- where a frame begins that goes to e
 abbrev pub next_place : Extents → ℕ → Locator
@@ -31,18 +32,29 @@ abbrev pub IsVersionUpTo : (family v : ℕ) → Element → Type 0
 IsVersionUpTo family v (Plain n) = ⊥
 IsVersionUpTo family v (Version f w) = (f ≡ family) × (1 ≤ w) × (w ≤ v)
 
--- plain writes 1 to n, and versions 1 to v of the root
-abbrev pub IsSuperblockNeed : (n v : ℕ) → Element → Type 0
-IsSuperblockNeed n v (Plain m) = (1 ≤ m) × (m ≤ n)
-IsSuperblockNeed n v (Version f w) = IsVersionUpTo root_family v (Version f w)
+-- plain writes from first to last, and versions 1 to v of the root
+abbrev pub IsSectionNeed : (first last v : ℕ) → Element → Type 0
+IsSectionNeed first last v (Plain m) = (first ≤ m) × (m ≤ last)
+IsSectionNeed first last v (Version f w) = IsVersionUpTo root_family v (Version f w)
 
--- the next version of the superblock
-abbrev pub next_superblock : Staging → Element
-next_superblock s = Version superblock_family (slice_index s.latest superblock_family + 1)
+-- what a root needs of its own: of each section's family the versions up to the latest
+abbrev pub IsSectionVersionUpTo : (latest : List ℕ) → Element → Type 0
+IsSectionVersionUpTo latest (Plain n) = ⊥
+IsSectionVersionUpTo latest (Version f v) = (f ≢ root_family) × (1 ≤ v) × (v ≤ slice_index latest f)
 
--- the number of one of the next plain writes, or of the next version of the superblock, would pass 2^63 - 1
-abbrev pub IsWorn : Staging → (count : ℕ) → Type 0
-IsWorn s count = (2 ^ 63 ≤ s.staged + count) ⊎ (2 ^ 63 ≤ slice_index s.latest superblock_family + 1)
+-- the next version of section j
+abbrev pub next_section : Staging → (j : ℕ) → Element
+next_section s j = Version (family_of j) (slice_index s.latest (family_of j) + 1)
+
+-- The first plain write that a section's version needs by itself, where so many plain writes were staged before its frame. With one
+-- section that is the first of all. With several it is the first of the version's own frame: what the version before needs, the
+-- graph joins, and what the other sections' versions need is theirs.
+abbrev pub own_first : (sections staged : ℕ) → ℕ
+own_first sections staged = if sections == 1 then 1 else staged + 1
+
+-- the number of one of the next plain writes, or of section j's next version, would pass 2^63 - 1
+abbrev pub IsWorn : Staging → (j count : ℕ) → Type 0
+IsWorn s j count = (2 ^ 63 ≤ s.staged + count) ⊎ (2 ^ 63 ≤ slice_index s.latest (family_of j) + 1)
 
 -- The next `count` plain writes were staged, in order, behind what waited. Each needs versions 1 to `root` of the root,
 -- and nothing else.
@@ -56,21 +68,21 @@ pub record ArePagesStaged (old new : Staging) (count root : ℕ) : Type 0 where
   pub staged : new.staged ≡ old.staged + count
   pub latest : new.latest ≡ old.latest
 
--- The next version of the superblock was staged. It needs the plain writes staged so far and versions 1 to `need` of the
+-- The next version of section j was staged. It needs the plain writes from `first` to the last staged and versions 1 to `need` of the
 -- root, joined with what the version before it needs.
-pub record IsSuperblockStaged (old new : Staging) (need : ℕ) : Type 0 where
+pub record IsSectionStaged (old new : Staging) (j first need : ℕ) : Type 0 where
   pub needs : Named
-  pub names : (x : Element) → Names needs x ↔ IsSuperblockNeed old.staged need x
-  pub version : IsVersionStaged old superblock_family (slice_index old.latest superblock_family + 1) needs new
+  pub names : (x : Element) → Names needs x ↔ IsSectionNeed first old.staged need x
+  pub version : IsVersionStaged old (family_of j) (slice_index old.latest (family_of j) + 1) needs new
 
--- a frame was staged: its pages, and then a version of the superblock
-pub record IsFrameStaged (old new : Staging) (count root need : ℕ) : Type 0 where
+-- a frame was staged, where the superblock has so many sections: its pages, and then a version of section j
+pub record IsFrameStaged (old new : Staging) (sections j count root need : ℕ) : Type 0 where
   pub between : Staging
   pub pages : ArePagesStaged old between count root
-  pub superblock : IsSuperblockStaged between new need
+  pub section : IsSectionStaged between new j (own_first sections old.staged) need
 
--- What waits is what waited, and behind it a frame's elements, whose needs are exact: its pages, each of which needs
--- versions 1 to `root` of the root, and the next version of the superblock, which needs the plain writes so far and
+-- Where the superblock has one section: what waits is what waited, and behind it a frame's elements, whose needs are exact: its pages,
+-- each of which needs versions 1 to `root` of the root, and the section's next version, which needs the plain writes so far and
 -- versions 1 to `need` of the root.
 pub record IsFrameBehind (old new : Staging) (count root need : ℕ) : Type 0 where
   pub entries : List (Element × Named)
@@ -78,10 +90,10 @@ pub record IsFrameBehind (old new : Staging) (count root need : ℕ) : Type 0 wh
   pub size : length entries ≡ count + 1
   pub pages : (i : ℕ) → i < count
       → (d : Named) × (slice_get entries i ≡ Some (Plain (old.staged + 1 + i), d)) × ((x : Element) → Names d x ↔ IsVersionUpTo root_family root x)
-  pub superblock : (d : Named) × (slice_get entries count ≡ Some (next_superblock old, d)) × ((x : Element) → Names d x ↔ IsSuperblockNeed (old.staged + count) need x)
+  pub section : (d : Named) × (slice_get entries count ≡ Some (next_section old 0, d)) × ((x : Element) → Names d x ↔ IsSectionNeed 1 (old.staged + count) need x)
   pub persistent : new.pending.persistent ≡ old.pending.persistent
   pub staged : new.staged ≡ old.staged + count
-  pub latest : new.latest ≡ slice_set old.latest superblock_family (slice_index old.latest superblock_family + 1)
+  pub latest : new.latest ≡ slice_set old.latest (family_of 0) (slice_index old.latest (family_of 0) + 1)
 
 -- Whatever write is kept for one of the `count` plain writes after number n is one to its own page, with its own bytes.
 abbrev pub AreWritten : State → (n count : ℕ) → (page : ℕ → ℕ) → List (List ℕ) → Type 0
@@ -93,19 +105,20 @@ abbrev pub IsNextPlain : Staging → (count : ℕ) → Element → Type 0
 IsNextPlain s count (Plain n) = (s.staged < n) × (n ≤ s.staged + count)
 IsNextPlain s count (Version f v) = ⊥
 
--- one of the next plain writes, or the next version of the superblock
-abbrev pub IsOfFrame : Staging → (count : ℕ) → Element → Type 0
-IsOfFrame s count (Plain n) = IsNextPlain s count (Plain n)
-IsOfFrame s count (Version f v) = (f ≡ superblock_family) × (v ≡ slice_index s.latest superblock_family + 1)
+-- one of the next plain writes, or the next version of section j
+abbrev pub IsOfFrame : Staging → (j count : ℕ) → Element → Type 0
+IsOfFrame s j count (Plain n) = IsNextPlain s count (Plain n)
+IsOfFrame s j count (Version f v) = (f ≡ family_of j) × (v ≡ slice_index s.latest (family_of j) + 1)
 
 -- of no element but these is a write kept that wasn't kept before
 abbrev pub AddsOnlyOf : State → State → (Element → Type 0) → Type 0
 AddsOnlyOf old new These = (x : Element) (w : Write) → write_of new x ≡ Some w → (write_of old x ≡ Some w) ⊎ These x
 
--- what the waiting versions of the superblock need is staged plain writes, and no later version of the root than `need`
-abbrev pub AreNeedsWithin : Staging → (need : ℕ) → Type 0
-AreNeedsWithin s need =
-    (k v : ℕ) (d : Named) (x : Element) → WaitsAt s.pending k (Version superblock_family v) d → Names d x → IsSuperblockNeed s.staged need x
+-- Where the superblock has one section: what its waiting versions need is staged plain writes, and no later version of the root than
+-- `need`.
+abbrev pub AreOneSectionsNeedsWithin : Staging → (need : ℕ) → Type 0
+AreOneSectionsNeedsWithin s need =
+    (k v : ℕ) (d : Named) (x : Element) → WaitsAt s.pending k (Version (family_of 0) v) d → Names d x → IsSectionNeed 1 s.staged need x
 
 -- what was reset goes with a version of the root that was staged
 abbrev pub AreResetsStaged : Extents → Staging → Type 0

@@ -3,4 +3,6 @@ pub mod Changes
 pub mod Frames
 pub mod Places
 pub mod Purposes
+pub mod Sections
 pub mod State
+pub mod Worn

@@ -1,8 +1,9 @@
 -- What the extents of a store are, in the words of the store's machine.
-use Rattle.std.specs.Prelude.{◌≡◌, ℕ, ◌<◌, ◌≤◌, ◌^◌, Bool, false, List, Option, Some, length, slice_index, slice_index_or}
+use Rattle.std.specs.Prelude.{◌≡◌, ℕ, ◌+◌, ◌<◌, ◌≤◌, ◌^◌, Bool, false, List, Option, Some, length, take, drop, slice_index, slice_index_or}
 use Rattle.cs_model.specs.Device.{Shape}
 use Rattle.cs_model.specs.Geometry.{shape_of}
 use Rattle.cs_model.specs.Extents.{Extents}
+use Rattle.cs_frame.specs.Geometries.{Dimensions, IsGeometry, section_length, section_size, section_start}
 use Rattle.cs_frame.specs.Superblocks.{SpellsSuperblock}
 use Rattle.cs_extent.specs.Frames.{greatest}
 
@@ -10,6 +11,8 @@ use Rattle.cs_extent.specs.Frames.{greatest}
 pub record State : Type 0 where
   -- how many pages each extent has
   pub pages : ℕ
+  -- how many sections the superblock has
+  pub sections : ℕ
   -- of each extent: how many of its pages are given, and its generation
   pub written : List (ℕ × ℕ)
   -- of each extent: the version of the root that its last reset since the store was opened goes with, 0 for none
@@ -29,24 +32,28 @@ extents_of s = record {
   swept = λ e. slice_index_or s.swept e false;
 }
 
--- the device, whose superblock has one section, that of all extents
+-- the device, whose superblocks are written in sections
 abbrev pub shape : State → Shape
-shape s = shape_of (length s.written) s.pages 1 (length s.written) 1
+shape s = shape_of (length s.written) s.pages s.sections (section_size (length s.written) s.sections) 2
 
--- the greatest version of the root that goes with a last reset
-abbrev pub need_of : State → ℕ
-need_of s = greatest (extents_of s).reset (length s.written)
+-- the greatest version of the root that goes with a last reset of one of section j's extents
+abbrev pub need_of : State → ℕ → ℕ
+need_of s j =
+    greatest (λ i. (extents_of s).reset (section_start (length s.written) s.sections j + i)) (section_length (length s.written) s.sections j)
 
--- the page spells a version of the superblock as the extents are
-abbrev pub SpellsExtents : State → (version : ℕ) → List ℕ → Type 0
-SpellsExtents s version page = SpellsSuperblock page version s.pages s.written
+-- pointer and generation of each of section j's extents
+abbrev pub section_rows : State → ℕ → List (ℕ × ℕ)
+section_rows s j =
+    take (section_length (length s.written) s.sections j) (drop (section_start (length s.written) s.sections j) s.written)
+
+-- the page spells a version of section j as the extents are
+abbrev pub SpellsExtents : State → (j version : ℕ) → List ℕ → Type 0
+SpellsExtents s j version page =
+    SpellsSuperblock page version (length s.written) s.pages s.sections j (section_rows s j)
 
 -- what all extents of a store keep
 pub record IsWhole (s : State) : Type 0 where
-  pub fewest_extents : 4 ≤ length s.written
-  pub most_extents : length s.written ≤ 512
-  pub fewest_pages : 2 ≤ s.pages
-  pub most_pages : s.pages ≤ 256
+  pub geometry : IsGeometry (length s.written) s.pages s.sections
   pub all_resets : length s.resets ≡ length s.written
   pub all_swept : length s.swept ≡ length s.written
   pub pointers : (e : ℕ) → (extents_of s).pointer e ≤ s.pages
@@ -55,3 +62,8 @@ pub record IsWhole (s : State) : Type 0 where
   pub open_inside : (e : ℕ) → s.open_extent ≡ Some e → e < length s.written
   pub open_begun : (e : ℕ) → s.open_extent ≡ Some e → 0 < (extents_of s).pointer e
   pub open_unfilled : (e : ℕ) → s.open_extent ≡ Some e → (extents_of s).pointer e < s.pages
+
+-- the same, and these are the store's dimensions
+pub record IsSound (geometry : Dimensions) (s : State) : Type 0 where
+  pub extents : geometry.extents ≡ length s.written
+  pub whole : IsWhole s

@@ -1,22 +1,24 @@
 //! The extents of a store.
-ghost use Rattle.std.specs.Prelude.{◌≡◌, ℕ, ◌+◌, ◌<◌, ◌≤◌, ◌^◌, ◌↔◌, ◌⊎◌, ◌==◌, if◌then◌else◌, false, IfOk, IfErr, OnOk, OnErr, IsOk, IsTrue, MatchOption, All, List, count_by, Some, None, length, replicate, slice_index};
+ghost use Rattle.std.specs.Prelude.{◌≡◌, ℕ, ◌+◌, ◌-◌, ◌*◌, ◌<◌, ◌≤◌, ◌^◌, ◌↔◌, ◌⊎◌, ◌==◌, if◌then◌else◌, false, IfOk, IfErr, OnOk, OnErr, IsOk, IsTrue, MatchOption, All, List, count_by, Some, None, length, replicate, slice_index};
 ghost use Rattle.cs_deps.specs.declared.elements.Element.{Element as Item};
 ghost use Rattle.cs_deps.specs.Named.{Names};
 ghost use Rattle.cs_deps.specs.State.{write_of};
-ghost use Rattle.cs_frame.specs.Superblocks.{IsSuperblock};
 ghost use Rattle.cs_model.specs.Extents.{Fits, IsFirstEmpty, Placed, empties, emptied, marked, taken};
 ghost use Rattle.cs_extent.specs.Appended.{IsAppended};
-ghost use Rattle.cs_extent.specs.Frames.{AreResetsStaged, AreWritten, IsFrameStaged, IsOfFrame, IsVersionUpTo, IsWorn, AddsOnlyOf, greatest, next_place, next_superblock, root_family, superblock_family};
+ghost use Rattle.cs_extent.specs.Frames.{AreResetsStaged, AreWritten, IsFrameStaged, IsOfFrame, IsVersionUpTo, IsWorn, AddsOnlyOf, family_of, greatest, next_place, next_section};
 ghost use Rattle.cs_extent.specs.Places.{room_at};
 ghost use Rattle.cs_extent.specs.Purposes.{reason_of};
+ghost use Rattle.cs_extent.specs.Sections.{AreSections, pages_of, rows_of};
 ghost use Rattle.cs_extent.specs.State.{IsWhole, SpellsExtents, extents_of, need_of, shape};
+ghost use Rattle.cs_extent.specs.Worn.{AreCounted, AreWorn, IsEmptyFrom, IsFrameWorn};
 
-use crate::families::{SUPERBLOCK, on_versions};
+use crate::families::{on_versions, section_family};
 use crate::frames::stage_frame;
 use crate::purposes::Purpose;
 use crate::supplies::Supply;
+use crate::ways::{Way, are_versions_worn, are_writes_worn, count};
 use cs_deps::{Dependency, Graph, LAST_NUMBER, Refusal};
-use cs_frame::{Geometry, Locator, Superblock, encode_superblock};
+use cs_frame::{Geometry, Locator, Superblock, encode_section};
 use std::alloc::{AllocError, Global};
 use std::marker::Model;
 
@@ -24,8 +26,9 @@ use std::marker::Model;
 /// opened.
 #[derive(Drop)]
 pub struct Extents {
-    /// What the next superblock says, but for its version.
-    superblock: Superblock,
+    geometry: Geometry,
+    /// Of each extent how many of its pages are given, and its generation.
+    written: Vec<(u16, u32)>,
     /// Of each extent the version of the root of its last reset since open, 0 for none.
     resets: Vec<u64>,
     /// Which extents are being swept; opening forgets it.
@@ -34,34 +37,32 @@ pub struct Extents {
 }
 
 impl Model for Extents {
-    ghost use Rattle.cs_extent.specs.State.{State, IsWhole};
+    ghost use Rattle.cs_extent.specs.State.{State, IsSound};
 
     ghost Value = { State };
 
-    ghost view = { λ x. record { pages = x.superblock.pages; written = x.superblock.extents.items; resets = x.resets.items; swept = x.swept.items; open_extent = x.open_extent } };
+    ghost view = { λ x. record { pages = x.geometry.pages; sections = x.geometry.sections; written = x.written.items; resets = x.resets.items; swept = x.swept.items; open_extent = x.open_extent } };
 
-    ghost invariant = { λ x. IsWhole (record { pages = x.superblock.pages; written = x.superblock.extents.items; resets = x.resets.items; swept = x.swept.items; open_extent = x.open_extent }) };
+    ghost invariant = { λ x. IsSound x.geometry (record { pages = x.geometry.pages; sections = x.geometry.sections; written = x.written.items; resets = x.resets.items; swept = x.swept.items; open_extent = x.open_extent }) };
 }
 
 /// The greatest generation of an extent.
 pub const LAST_GENERATION: u32 = 0xffff_ffff;
 
 impl Extents {
-    /// The extents that a superblock records: none is open, none was reset, and none is being swept. Takes memory for
-    /// each extent.
-    pub fn of(alloc: Global, superblock: &Superblock) -> Result<Self, AllocError>
-        requires { IsSuperblock superblock.now }
-        ensures { IfOk result (λ x. x ≡ record { pages = superblock.now.pages; written = superblock.now.extents.items; resets = replicate (length superblock.now.extents.items) 0; swept = replicate (length superblock.now.extents.items) false; open_extent = None }) }
+    /// The extents that the sections of a superblock record, in order: none is open, none was reset, and none is being swept. Takes
+    /// memory for each extent.
+    pub fn of(alloc: Global, sections: &[Superblock]) -> Result<Self, AllocError>
+        requires { AreSections sections.now }
+        ensures { IfOk result (λ x. x ≡ record { pages = pages_of sections.now; sections = length sections.now; written = rows_of sections.now; resets = replicate (length (rows_of sections.now)) 0; swept = replicate (length (rows_of sections.now)) false; open_extent = None }) }
     {
-        let extents = Vec::from_slice(alloc, &superblock.extents)?;
-        let resets = vec![in alloc; 0; superblock.extents.len()]?;
-        let swept = vec![in alloc; false; superblock.extents.len()]?;
+        let geometry = geometry_of(sections);
+        let written = joined(alloc, sections)?;
+        let resets = vec![in alloc; 0; written.len()]?;
+        let swept = vec![in alloc; false; written.len()]?;
         Ok(Extents {
-            superblock: Superblock {
-                version: superblock.version,
-                pages: superblock.pages,
-                extents,
-            },
+            geometry,
+            written,
             resets,
             swept,
             open_extent: None,
@@ -72,13 +73,10 @@ impl Extents {
     pub fn geometry(&self) -> Geometry
         ensures extents { result.extents ≡ (shape self.now).extents }
         ensures pages { result.pages ≡ (shape self.now).pages }
+        ensures sections { result.sections ≡ (shape self.now).sections }
         ensures whole { IsWhole self.now }
     {
-        let extents = self.superblock.extents.len() as u64;
-        match Geometry::new(extents, u64::from(self.superblock.pages)) {
-            Ok(geometry) => geometry,
-            Err(_) => unreachable!(),
-        }
+        self.geometry
     }
 
     /// How many extents there are.
@@ -86,14 +84,14 @@ impl Extents {
         ensures count { result ≡ (shape self.now).extents }
         ensures whole { IsWhole self.now }
     {
-        self.superblock.extents.len()
+        self.written.len()
     }
 
     /// How many pages each extent has.
     pub fn extent_pages(&self) -> usize
         ensures { result ≡ (shape self.now).pages }
     {
-        usize::from(self.superblock.pages)
+        usize::from(self.geometry.pages())
     }
 
     /// How many pages of an extent are given.
@@ -101,7 +99,7 @@ impl Extents {
         requires { extent < (shape self.now).extents }
         ensures { result ≡ (extents_of self.now).pointer extent }
     {
-        usize::from(self.superblock.extents[extent].0)
+        usize::from(self.written[extent].0)
     }
 
     /// How often an extent was reset.
@@ -109,7 +107,7 @@ impl Extents {
         requires { extent < (shape self.now).extents }
         ensures { result ≡ (extents_of self.now).generation extent }
     {
-        self.superblock.extents[extent].1
+        self.written[extent].1
     }
 
     /// Whether frames are appended to an extent.
@@ -141,7 +139,7 @@ impl Extents {
     }
 
     /// Empties an extent, under the version of the root that was staged for it. Nothing is staged: the next version of
-    /// the superblock records it, and an opening before that one is persistent finds the extent as it was.
+    /// its section records it, and an opening before that one is persistent finds the extent as it was.
     ///
     /// 35 `WornOut` where its generation is the greatest, 4,294,967,295.
     pub fn reset(&mut self, extent: usize, root: u64) -> Result<(), Refusal>
@@ -155,7 +153,7 @@ impl Extents {
         ensures refusals { IfErr result (λ r. r ≡ Refusal.WornOut) }
         ensures refused { OnErr result (self.new ≡ self.old) }
     {
-        let entry = &mut self.superblock.extents[extent];
+        let entry = &mut self.written[extent];
         if entry.1 == LAST_GENERATION {
             return Err(Refusal::WornOut);
         }
@@ -169,7 +167,7 @@ impl Extents {
     pub fn empty_count(&self) -> usize
         ensures { result ≡ empties (extents_of self.now).pointer (shape self.now).extents }
     {
-        count_empty(&self.superblock.extents)
+        count_empty(&self.written)
     }
 
     /// How many pages of the open extent are left.
@@ -187,8 +185,8 @@ impl Extents {
     fn first_empty(&self) -> Option<usize>
         ensures { MatchOption result (empties (extents_of self.now).pointer (shape self.now).extents ≡ 0) (IsFirstEmpty (shape self.now) (extents_of self.now)) }
     {
-        for e in 0..self.superblock.extents.len() {
-            if self.superblock.extents[e].0 == 0 {
+        for e in 0..self.written.len() {
+            if self.written[e].0 == 0 {
                 return Some(e);
             }
         }
@@ -214,6 +212,97 @@ impl Extents {
         true
     }
 
+    /// Whether the numbers of the plain writes or of the sections' versions that frames of these numbers of pages take, appended one
+    /// after another, would pass the greatest, 2^63 - 1. The frames all find a place. Takes no memory, and costs a pass over the extents
+    /// and the frames.
+    pub fn are_worn(&self, graph: &Graph, frame_pages: &[usize], purpose: Purpose) -> bool
+        requires pages { All (λ pages. (1 ≤ pages) × (pages ≤ (shape self.now).pages)) frame_pages.now }
+        requires fits { Fits (shape self.now) (extents_of self.now) (reason_of purpose) frame_pages.now }
+        requires families { length graph.now.staging.latest ≡ 1 + (shape self.now).sections }
+        ensures { IsTrue result ↔ AreWorn self.now graph.now.staging (reason_of purpose) frame_pages.now }
+    {
+        if are_writes_worn(graph, frame_pages) {
+            return true;
+        }
+        let geometry = self.geometry();
+        let counts = self.count_versions(frame_pages, purpose);
+        are_versions_worn(graph, geometry.sections(), counts)
+    }
+
+    /// How many versions of each section frames of these numbers of pages take, which all find a place.
+    fn count_versions(&self, frame_pages: &[usize], purpose: Purpose) -> [u64; 8]
+        requires pages { All (λ pages. (1 ≤ pages) × (pages ≤ (shape self.now).pages)) frame_pages.now }
+        requires fits { Fits (shape self.now) (extents_of self.now) (reason_of purpose) frame_pages.now }
+        ensures { AreCounted (shape self.now) (extents_of self.now) (reason_of purpose) frame_pages.now result }
+    {
+        let mut way = Way {
+            extent: self.last_extent(),
+            room: self.room(),
+            next: 0,
+        };
+        let mut counts = [0; 8];
+        for pages in frame_pages {
+            way = self.goes_on(way, *pages);
+            count(&mut counts, self.section(way.extent));
+        }
+        counts
+    }
+
+    /// The open extent, where one is open.
+    fn last_extent(&self) -> usize
+        ensures { (e : ℕ) → (extents_of self.now).open_extent ≡ Some e → result ≡ e }
+    {
+        match self.open_extent {
+            Some(open) => open,
+            None => 0,
+        }
+    }
+
+    /// Where a frame of so many pages goes, and where the next one does.
+    fn goes_on(&self, way: Way, pages: usize) -> Way
+        requires pages { pages ≤ (shape self.now).pages }
+        requires place { way.room < pages → (e : ℕ) × IsEmptyFrom (shape self.now).extents (extents_of self.now).pointer way.next e }
+        ensures stays { pages ≤ way.room → result ≡ record { extent = way.extent; room = way.room - pages; next = way.next } }
+        ensures opens { way.room < pages → IsEmptyFrom (shape self.now).extents (extents_of self.now).pointer way.next result.extent
+            × (result.room ≡ (shape self.now).pages - pages) × (result.next ≡ result.extent + 1) }
+    {
+        if pages <= way.room {
+            return Way {
+                extent: way.extent,
+                room: way.room - pages,
+                next: way.next,
+            };
+        }
+        let extent = self.empty_from(way.next);
+        Way {
+            extent,
+            room: self.extent_pages() - pages,
+            next: extent + 1,
+        }
+    }
+
+    /// The first empty extent of those from this one on, where there is one.
+    fn empty_from(&self, start: usize) -> usize
+        requires { (e : ℕ) × IsEmptyFrom (shape self.now).extents (extents_of self.now).pointer start e }
+        ensures empty { IsEmptyFrom (shape self.now).extents (extents_of self.now).pointer start result }
+        ensures small { result < 2 ^ 16 }
+    {
+        for e in start..self.extent_count() {
+            if self.is_empty(e) {
+                return e;
+            }
+        }
+        unreachable!()
+    }
+
+    /// Whether no page of an extent is given.
+    fn is_empty(&self, extent: usize) -> bool
+        requires { extent < (shape self.now).extents }
+        ensures { IsTrue result ↔ ((extents_of self.now).pointer extent ≡ 0) }
+    {
+        self.pointer(extent) == 0
+    }
+
     /// Where a frame of so many pages goes.
     fn place(&self, pages: usize, purpose: Purpose) -> Option<usize>
         requires { (1 ≤ pages) × (pages ≤ (shape self.now).pages) }
@@ -233,7 +322,7 @@ impl Extents {
         requires { extent < (shape self.now).extents }
         ensures { result ≡ next_place (extents_of self.now) extent }
     {
-        let (page, generation) = self.superblock.extents[extent];
+        let (page, generation) = self.written[extent];
         Locator {
             extent: extent as u16,
             page,
@@ -248,7 +337,7 @@ impl Extents {
         ensures page { result ≡ (shape self.now).address extent ((extents_of self.now).pointer extent) }
         ensures small { result < 2 ^ 32 }
     {
-        let (page, _) = self.superblock.extents[extent];
+        let (page, _) = self.written[extent];
         self.geometry().device_page(extent as u16, page)
     }
 
@@ -260,11 +349,23 @@ impl Extents {
         self.resets[extent]
     }
 
-    /// The greatest version of the root that any extent was reset under since open, 0 without one.
-    fn need(&self) -> u64
-        ensures { result ≡ need_of self.now }
+    /// The section that an extent belongs to.
+    fn section(&self, extent: usize) -> u8
+        requires { extent < (shape self.now).extents }
+        ensures section { result ≡ (shape self.now).section extent }
+        ensures inside { result < (shape self.now).sections }
     {
-        greatest_of(&self.resets)
+        self.geometry.section_of(extent as u16)
+    }
+
+    /// The greatest version of the root that an extent of a section was reset under since open, 0 without one.
+    fn need(&self, section: u8) -> u64
+        requires { section < (shape self.now).sections }
+        ensures { result ≡ need_of self.now section }
+    {
+        let start = self.geometry.section_start(section);
+        let count = self.geometry.section_length(section);
+        greatest_of(&self.resets, start, count)
     }
 
     /// Takes pages of an extent from its pointer on; the extent is open then, unless it is full.
@@ -275,19 +376,21 @@ impl Extents {
         ensures extents { extents_of self.new ≡ taken (shape self.old) (extents_of self.old) extent pages }
         ensures shape { shape self.new ≡ shape self.old }
     {
-        let entry = &mut self.superblock.extents[extent];
+        let full = self.geometry.pages();
+        let entry = &mut self.written[extent];
         entry.0 += pages as u16;
-        self.open_extent = open_unless_full(extent, entry.0, self.superblock.pages);
+        self.open_extent = open_unless_full(extent, entry.0, full);
     }
 
-    /// The page that spells the superblock of this version. The version is noted in the value that is spelled, where no clause sees it.
-    fn superblock_page(&mut self, version: u64) -> [u8; 4096]
-        requires { (1 ≤ version) × (version < 2 ^ 63) }
-        ensures page { SpellsExtents self.old version result }
-        ensures same { self.new ≡ self.old }
+    /// The page that spells this version of a section.
+    fn section_bytes(&self, section: u8, version: u64) -> [u8; 4096]
+        requires section { section < (shape self.now).sections }
+        requires version { (1 ≤ version) × (version < 2 ^ 63) }
+        ensures { SpellsExtents self.now section version result }
     {
-        self.superblock.version = version;
-        encode_superblock(&self.superblock)
+        let start = self.geometry.section_start(section);
+        let end = start + self.geometry.section_length(section);
+        encode_section(version, self.geometry, section, &self.written[start..end])
     }
 
     /// Gives the pages of a frame, and stages it there.
@@ -300,19 +403,19 @@ impl Extents {
         requires exists { extent < (shape self.old).extents }
         requires some { 1 ≤ length frame.now }
         requires fits { (extents_of self.old).pointer extent + length frame.now ≤ (shape self.old).pages }
-        requires families { root_family < length graph.old.staging.latest }
+        requires families { length graph.old.staging.latest ≡ 1 + (shape self.old).sections }
         requires resets { AreResetsStaged (extents_of self.old) graph.old.staging }
-        requires numbers { ¬ IsWorn graph.old.staging (length frame.now) }
+        requires numbers { ¬ IsWorn graph.old.staging ((shape self.old).section extent) (length frame.now) }
         requires room { length frame.now + 1 ≤ graph.old.room }
         ensures locator { result.0 ≡ next_place (extents_of self.old) extent }
         ensures extents { extents_of self.new ≡ taken (shape self.old) (extents_of self.old) extent (length frame.now) }
         ensures shape { shape self.new ≡ shape self.old }
-        ensures staged { IsFrameStaged graph.old.staging graph.new.staging (length frame.now) ((extents_of self.old).reset extent) (need_of self.old) }
+        ensures staged { IsFrameStaged graph.old.staging graph.new.staging (shape self.old).sections ((shape self.old).section extent) (length frame.now) ((extents_of self.old).reset extent) (need_of self.old ((shape self.old).section extent)) }
         ensures pages { AreWritten graph.new graph.old.staging.staged (length frame.now) (λ i. (shape self.old).address extent ((extents_of self.old).pointer extent + i)) frame.now }
-        ensures superblock { (page : List ℕ) × (write_of graph.new (next_superblock graph.old.staging) ≡ Some ((shape self.old).section_page 0, page)) × SpellsExtents self.new (slice_index graph.old.staging.latest superblock_family + 1) page }
-        ensures others { AddsOnlyOf graph.old graph.new (IsOfFrame graph.old.staging (length frame.now)) }
+        ensures section { (page : List ℕ) × (write_of graph.new (next_section graph.old.staging ((shape self.old).section extent)) ≡ Some ((shape self.old).section_page ((shape self.old).section extent), page)) × SpellsExtents self.new ((shape self.old).section extent) (slice_index graph.old.staging.latest (family_of ((shape self.old).section extent)) + 1) page }
+        ensures others { AddsOnlyOf graph.old graph.new (IsOfFrame graph.old.staging ((shape self.old).section extent) (length frame.now)) }
         ensures round { graph.new.round ≡ graph.old.round }
-        ensures dependency { (x : Item) → Names result.1 x ↔ IsVersionUpTo superblock_family (slice_index graph.old.staging.latest superblock_family + 1) x }
+        ensures dependency { (x : Item) → Names result.1 x ↔ IsVersionUpTo (family_of ((shape self.old).section extent)) (slice_index graph.old.staging.latest (family_of ((shape self.old).section extent)) + 1) x }
         ensures resets { AreResetsStaged (extents_of self.new) graph.new.staging }
         ensures families { length graph.new.staging.latest ≡ length graph.old.staging.latest }
         ensures left { graph.old.room ≤ graph.new.room + (length frame.now + 1) }
@@ -321,22 +424,30 @@ impl Extents {
         let locator = self.next_place(extent);
         let first = self.first_page(extent);
         let root = self.root_of(extent);
-        let need = self.need();
-        let version = graph.last_version(SUPERBLOCK) + 1;
+        let geometry = self.geometry();
+        let sections = geometry.sections();
+        let section = self.section(extent);
+        let page = geometry.section_page(section);
+        let need = self.need(section);
+        let family = section_family(section);
+        let version = graph.last_version(family) + 1;
         self.take(extent, frame.len());
-        let superblock = self.superblock_page(version);
-        stage_frame(graph, alloc, frame, first, root, &superblock, need);
-        (locator, on_versions(alloc, SUPERBLOCK, version))
+        let bytes = self.section_bytes(section, version);
+        stage_frame(
+            graph, alloc, frame, first, root, sections, section, page, &bytes, need,
+        );
+        (locator, on_versions(alloc, family, version))
     }
 
-    /// Appends a frame for this purpose: stages each of its pages as one plain write, and then the version of the
-    /// superblock that records them. Each page needs the root of its extent's last reset since open, if there is one; the superblock
-    /// needs all plain writes so far and the greatest such root. Answers where the frame begins, and a
-    /// dependency that names this version of the superblock and all before it.
+    /// Appends a frame for this purpose: stages each of its pages as one plain write, and then the version of its extent's section that
+    /// records them. Each page needs the root of its extent's last reset since open, if there is one; the section's version needs, beside
+    /// what the one before it needs, the frame's pages and the greatest such root of the section's extents, and where there is one
+    /// section alone, all plain writes so far. Answers where the frame begins, and a dependency that names this version of the
+    /// section and all before it.
     ///
-    /// 30 `Full` where no extent takes the frame, then 35 `WornOut` where a number would pass 2^63 - 1, then 9
+    /// 30 `Full` where no extent takes the frame, then 35 `WornOut` where a number of these would pass 2^63 - 1, then 9
     /// `OutOfMemory`: memory is asked for as room in the graph alone. Costs a pass over the extents, the frame's pages and one
-    /// page that spells the superblock.
+    /// page that spells the section.
     pub fn append(
         &mut self,
         graph: &mut Graph,
@@ -344,7 +455,7 @@ impl Extents {
         purpose: Purpose,
     ) -> Result<(Locator, Dependency), Refusal>
         requires pages { (1 ≤ length frame.now) × (length frame.now ≤ (shape self.old).pages) }
-        requires families { root_family < length graph.old.staging.latest }
+        requires families { length graph.old.staging.latest ≡ 1 + (shape self.old).sections }
         requires resets { AreResetsStaged (extents_of self.old) graph.old.staging }
 
         // The frame lies behind the pointer of an extent that may take it.
@@ -353,13 +464,13 @@ impl Extents {
         ensures extents { IfOk result (λ r. extents_of self.new ≡ taken (shape self.old) (extents_of self.old) r.0.extent (length frame.now)) }
         ensures shape { shape self.new ≡ shape self.old }
 
-        // Its pages and a version of the superblock are staged.
-        ensures staged { IfOk result (λ r. IsFrameStaged graph.old.staging graph.new.staging (length frame.now) ((extents_of self.old).reset r.0.extent) (need_of self.old)) }
+        // Its pages and a version of its extent's section are staged.
+        ensures staged { IfOk result (λ r. IsFrameStaged graph.old.staging graph.new.staging (shape self.old).sections ((shape self.old).section r.0.extent) (length frame.now) ((extents_of self.old).reset r.0.extent) (need_of self.old ((shape self.old).section r.0.extent))) }
         ensures writes { IfOk result (λ r. AreWritten graph.new graph.old.staging.staged (length frame.now) (λ i. (shape self.old).address r.0.extent (r.0.page + i)) frame.now) }
-        ensures superblock { OnOk result ((page : List ℕ) × (write_of graph.new (next_superblock graph.old.staging) ≡ Some ((shape self.old).section_page 0, page)) × SpellsExtents self.new (slice_index graph.old.staging.latest superblock_family + 1) page) }
-        ensures others { OnOk result (AddsOnlyOf graph.old graph.new (IsOfFrame graph.old.staging (length frame.now))) }
+        ensures section { IfOk result (λ r. (page : List ℕ) × (write_of graph.new (next_section graph.old.staging ((shape self.old).section r.0.extent)) ≡ Some ((shape self.old).section_page ((shape self.old).section r.0.extent), page)) × SpellsExtents self.new ((shape self.old).section r.0.extent) (slice_index graph.old.staging.latest (family_of ((shape self.old).section r.0.extent)) + 1) page) }
+        ensures others { IfOk result (λ r. AddsOnlyOf graph.old graph.new (IsOfFrame graph.old.staging ((shape self.old).section r.0.extent) (length frame.now))) }
         ensures round { graph.new.round ≡ graph.old.round }
-        ensures dependency { IfOk result (λ r. (x : Item) → Names r.1 x ↔ IsVersionUpTo superblock_family (slice_index graph.old.staging.latest superblock_family + 1) x) }
+        ensures dependency { IfOk result (λ r. (x : Item) → Names r.1 x ↔ IsVersionUpTo (family_of ((shape self.old).section r.0.extent)) (slice_index graph.old.staging.latest (family_of ((shape self.old).section r.0.extent)) + 1) x) }
 
         // All of this in one word, for the layers above.
         ensures appended { IfOk result (λ r. IsAppended self.old graph.old (reason_of purpose) frame.now r.0 self.new graph.new) }
@@ -369,7 +480,7 @@ impl Extents {
         ensures families { length graph.new.staging.latest ≡ length graph.old.staging.latest }
 
         ensures full { (result ≡ Err Refusal.Full) ↔ ((e : ℕ) → ¬ Placed (shape self.old) (extents_of self.old) (reason_of purpose) (length frame.now) e) }
-        ensures worn { (result ≡ Err Refusal.WornOut) ↔ (((e : ℕ) × Placed (shape self.old) (extents_of self.old) (reason_of purpose) (length frame.now) e) × IsWorn graph.old.staging (length frame.now)) }
+        ensures worn { (result ≡ Err Refusal.WornOut) ↔ IsFrameWorn self.old (reason_of purpose) graph.old.staging (length frame.now) }
         ensures refusals { IfErr result (λ r. (r ≡ Refusal.Full) ⊎ (r ≡ Refusal.WornOut) ⊎ (r ≡ Refusal.OutOfMemory)) }
         ensures refused { OnErr result (self.new ≡ self.old) }
         ensures unstaged { OnErr result (graph.new ≡ record graph.old { room = graph.new.room }) }
@@ -382,7 +493,7 @@ impl Extents {
         let Some(extent) = self.place(frame.len(), purpose) else {
             return Err(Refusal::Full);
         };
-        if is_worn(graph, frame.len()) {
+        if is_worn(graph, self.section(extent), frame.len()) {
             return Err(Refusal::WornOut);
         }
         match graph.reserve(frame.len() + 1) {
@@ -400,7 +511,7 @@ impl Extents {
         ensures rest { graph.new ≡ record graph.old { room = graph.new.room } }
         ensures memory { frames + pages ≤ graph.old.room → IsOk result }
     {
-        // One staging a page, and one a frame for its superblock.
+        // One staging a page, and one a frame for its section.
         graph.reserve(frames + pages)
     }
 }
@@ -412,13 +523,14 @@ fn count_empty(extents: &[(u16, u32)]) -> usize
     extents.iter().filter(|extent| extent.0 == 0).count()
 }
 
-/// The greatest of these numbers, 0 where there are none.
-fn greatest_of(numbers: &[u64]) -> u64
-    ensures { result ≡ greatest (λ e. slice_index numbers.now e) (length numbers.now) }
+/// The greatest of so many of these numbers from one place on, 0 where there are none.
+fn greatest_of(numbers: &[u64], start: usize, count: usize) -> u64
+    requires { start + count ≤ length numbers.now }
+    ensures { result ≡ greatest (λ i. slice_index numbers.now (start + i)) count }
 {
     let mut most: u64 = 0;
-    for k in 0..numbers.len() {
-        most = most.max(numbers[k]);
+    for i in 0..count {
+        most = most.max(numbers[start + i]);
     }
     most
 }
@@ -430,11 +542,37 @@ fn open_unless_full(extent: usize, pointer: u16, pages: u16) -> Option<usize>
     if pointer == pages { None } else { Some(extent) }
 }
 
-/// Whether the numbers of so many plain writes, or of a superblock version, would pass the greatest.
-fn is_worn(graph: &Graph, pages: usize) -> bool
-    requires { superblock_family < length graph.now.staging.latest }
-    ensures { IsTrue result ↔ IsWorn graph.now.staging pages }
+/// Whether the numbers of so many plain writes, or of a section's version, would pass the greatest.
+fn is_worn(graph: &Graph, section: u8, pages: usize) -> bool
+    requires { family_of section < length graph.now.staging.latest }
+    ensures { IsTrue result ↔ IsWorn graph.now.staging section pages }
 {
     LAST_NUMBER < graph.last_plain().saturating_add(pages as u64)
-        || LAST_NUMBER <= graph.last_version(SUPERBLOCK)
+        || LAST_NUMBER <= graph.last_version(section_family(section))
+}
+
+/// The dimensions that sections speak of.
+fn geometry_of(sections: &[Superblock]) -> Geometry
+    requires { AreSections sections.now }
+    ensures extents { result.extents ≡ length (rows_of sections.now) }
+    ensures pages { result.pages ≡ pages_of sections.now }
+    ensures sections { result.sections ≡ length sections.now }
+{
+    let first = &sections[0];
+    let (extents, pages) = (u64::from(first.extent_count), u64::from(first.pages));
+    match Geometry::with_sections(extents, pages, u64::from(first.sections)) {
+        Ok(geometry) => geometry,
+        Err(_) => unreachable!(),
+    }
+}
+
+/// What sections record of their extents, one list behind the other.
+fn joined(alloc: Global, sections: &[Superblock]) -> Result<Vec<(u16, u32)>, AllocError>
+    ensures { IfOk result (λ rows. rows.items ≡ rows_of sections.now) }
+{
+    let mut rows = Vec::new(alloc);
+    for section in sections {
+        rows.extend_from_slice(&section.extents)?;
+    }
+    Ok(rows)
 }

@@ -4,9 +4,9 @@ ghost use Rattle.cs_deps.specs.declared.elements.Element.{Element as Item};
 ghost use Rattle.cs_deps.specs.Named.{Named, Names};
 ghost use Rattle.cs_deps.specs.Staging.{staged_after};
 ghost use Rattle.cs_deps.specs.State.{AddsOnly, write_of};
-ghost use Rattle.cs_extent.specs.Frames.{ArePagesStaged, AreWritten, IsFrameStaged, IsNextPlain, IsOfFrame, IsSuperblockStaged, IsVersionUpTo, AddsOnlyOf, root_family, superblock_family};
+ghost use Rattle.cs_extent.specs.Frames.{ArePagesStaged, AreWritten, IsFrameStaged, IsNextPlain, IsOfFrame, IsSectionStaged, IsVersionUpTo, AddsOnlyOf, family_of, next_section, own_first, root_family};
 
-use crate::families::{ROOT, SUPERBLOCK, on_versions, superblock_needs};
+use crate::families::{ROOT, on_versions, section_family, section_needs};
 use cs_deps::{Element, Graph};
 use std::alloc::Global;
 
@@ -44,50 +44,76 @@ fn stage_pages(graph: &mut Graph, alloc: Global, frame: &[[u8; 4096]], first: u6
     }
 }
 
-/// Stages the next version of the superblock, which needs all plain writes so far and versions 1 to `need` of the root.
-fn stage_superblock(graph: &mut Graph, alloc: Global, bytes: &[u8; 4096], need: u64)
-    requires families { superblock_family < length graph.old.staging.latest }
+/// Stages the next version of a section, to its page. It needs the plain writes from `first` on and versions 1 to `need` of the root.
+fn stage_section(
+    graph: &mut Graph,
+    alloc: Global,
+    section: u8,
+    page: u64,
+    bytes: &[u8; 4096],
+    first: u64,
+    need: u64,
+)
+    requires families { family_of section < length graph.old.staging.latest }
     requires room { 0 < graph.old.room }
-    requires number { slice_index graph.old.staging.latest superblock_family + 1 < 2 ^ 63 }
+    requires number { slice_index graph.old.staging.latest (family_of section) + 1 < 2 ^ 63 }
+    requires first { 1 ≤ first }
     requires root { need ≤ slice_index graph.old.staging.latest root_family }
-    ensures staged { IsSuperblockStaged graph.old.staging graph.new.staging need }
-    ensures write { write_of graph.new (Element.Version superblock_family (slice_index graph.old.staging.latest superblock_family + 1)) ≡ Some (0, bytes.now) }
-    ensures others { AddsOnly graph.old graph.new (Element.Version superblock_family (slice_index graph.old.staging.latest superblock_family + 1)) }
+    ensures staged { IsSectionStaged graph.old.staging graph.new.staging section first need }
+    ensures write { write_of graph.new (next_section graph.old.staging section) ≡ Some (page, bytes.now) }
+    ensures others { AddsOnly graph.old graph.new (next_section graph.old.staging section) }
     ensures round { graph.new.round ≡ graph.old.round }
     ensures left { graph.old.room ≤ graph.new.room + 1 }
 {
-    let needs = superblock_needs(alloc, graph.last_plain(), need);
-    match graph.stage_version(SUPERBLOCK, 0, bytes, needs) {
+    let needs = section_needs(alloc, first, graph.last_plain(), need);
+    match graph.stage_version(section_family(section), page, bytes, needs) {
         Ok(_) => {}
         Err(_) => unreachable!(),
     }
 }
 
-/// Stages a frame, each page of which needs versions 1 to `root` of the root, and then the version of the superblock that records it,
-/// which needs those up to `need`.
+/// The first plain write that a section's version needs of its own, before the pages of its frame are staged.
+fn first_needed(graph: &Graph, sections: u8) -> u64
+    requires { graph.now.staging.staged < 2 ^ 63 }
+    ensures first { result ≡ own_first sections graph.now.staging.staged }
+    ensures some { 1 ≤ result }
+{
+    if sections == 1 {
+        1
+    } else {
+        graph.last_plain() + 1
+    }
+}
+
+/// Stages a frame, each page of which needs versions 1 to `root` of the root, and then the version of the section that records it, which
+/// needs those up to `need`. There are so many sections.
 pub fn stage_frame(
     graph: &mut Graph,
     alloc: Global,
     frame: &[[u8; 4096]],
     first: u64,
     root: u64,
-    superblock: &[u8; 4096],
+    sections: u8,
+    section: u8,
+    page: u64,
+    bytes: &[u8; 4096],
     need: u64,
 )
-    requires families { superblock_family < length graph.old.staging.latest }
+    requires families { family_of section < length graph.old.staging.latest }
     requires room { length frame.now + 1 ≤ graph.old.room }
     requires numbers { graph.old.staging.staged + length frame.now < 2 ^ 63 }
-    requires version { slice_index graph.old.staging.latest superblock_family + 1 < 2 ^ 63 }
+    requires version { slice_index graph.old.staging.latest (family_of section) + 1 < 2 ^ 63 }
     requires pages { first + length frame.now < 2 ^ 63 }
     requires root { root ≤ slice_index graph.old.staging.latest root_family }
     requires need { need ≤ slice_index graph.old.staging.latest root_family }
-    ensures staged { IsFrameStaged graph.old.staging graph.new.staging (length frame.now) root need }
+    ensures staged { IsFrameStaged graph.old.staging graph.new.staging sections section (length frame.now) root need }
     ensures writes { AreWritten graph.new graph.old.staging.staged (length frame.now) (λ i. first + i) frame.now }
-    ensures write { write_of graph.new (Element.Version superblock_family (slice_index graph.old.staging.latest superblock_family + 1)) ≡ Some (0, superblock.now) }
-    ensures others { AddsOnlyOf graph.old graph.new (IsOfFrame graph.old.staging (length frame.now)) }
+    ensures write { write_of graph.new (next_section graph.old.staging section) ≡ Some (page, bytes.now) }
+    ensures others { AddsOnlyOf graph.old graph.new (IsOfFrame graph.old.staging section (length frame.now)) }
     ensures round { graph.new.round ≡ graph.old.round }
     ensures left { graph.old.room ≤ graph.new.room + (length frame.now + 1) }
 {
+    let own = first_needed(graph, sections);
     stage_pages(graph, alloc, frame, first, root);
-    stage_superblock(graph, alloc, superblock, need);
+    stage_section(graph, alloc, section, page, bytes, own, need);
 }

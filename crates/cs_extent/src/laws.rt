@@ -1,12 +1,12 @@
 //! Laws over many changes.
-ghost use Rattle.std.specs.Prelude.{◌≡◌, ◌↔◌, ◌<◌, ◌≤◌, ℕ, List, Some, slice_get};
+ghost use Rattle.std.specs.Prelude.{◌≡◌, ◌↔◌, ◌+◌, ◌<◌, ◌≤◌, ℕ, List, Some, slice_get};
 ghost use Rattle.cs_deps.specs.declared.elements.Element.{Element};
 ghost use Rattle.cs_deps.specs.Named.{Named};
 ghost use Rattle.cs_deps.specs.Staging.{IsVersionStaged, Staging, settled};
 ghost use Rattle.cs_model.specs.Device.{Shape};
 ghost use Rattle.cs_model.specs.Extents.{Extents, Placed, Purpose, emptied};
 ghost use Rattle.cs_extent.specs.Changes.{Change, Given, LeadsTo};
-ghost use Rattle.cs_extent.specs.Frames.{AreNeedsWithin, IsFrameBehind, IsFrameStaged, greatest, root_family};
+ghost use Rattle.cs_extent.specs.Frames.{AreOneSectionsNeedsWithin, IsFrameBehind, IsFrameStaged, greatest, root_family};
 
 /// Each page of an extent is given at most once in each of the extent's generations.
 pub fn pages_are_given_once()
@@ -19,19 +19,21 @@ pub fn one_place()
     ensures { (S : Shape) (x : Extents) (purpose : Purpose) (k d e : ℕ) → Placed S x purpose k d → Placed S x purpose k e → d ≡ e }
 {}
 
-/// Where an extent is emptied under a version of the root that is not below those of the resets before, the next version
-/// of the superblock needs that version of the root: what such versions need never falls.
+/// Where an extent is emptied under a version of the root that is not below those of the resets before of its section's extents, the
+/// section's next version needs that version of the root: what such versions need never falls.
 pub fn needs_never_fall()
-    ensures bound { (x : Extents) (n root : ℕ) → (greatest x.reset n ≤ root) ↔ ((e : ℕ) → e < n → x.reset e ≤ root) }
-    ensures rises { (x : Extents) (n e root : ℕ) → e < n → greatest x.reset n ≤ root → greatest (emptied x e root).reset n ≡ root }
+    ensures bound { (x : Extents) (start count root : ℕ)
+        → (greatest (λ i. x.reset (start + i)) count ≤ root) ↔ ((i : ℕ) → i < count → x.reset (start + i) ≤ root) }
+    ensures rises { (x : Extents) (start count i root : ℕ) → i < count → greatest (λ k. x.reset (start + k)) count ≤ root
+        → greatest (λ k. (emptied x (start + i) root).reset (start + k)) count ≡ root }
 {}
 
-/// Where what the superblock's versions need doesn't fall, joining it with what the version before needs adds nothing: a
-/// new version needs the plain writes staged so far and the versions of the root up to its own need, and nothing else.
-pub fn joining_adds_nothing()
-    ensures exact { (old new : Staging) (count root need : ℕ) → IsFrameStaged old new count root need → AreNeedsWithin old need → IsFrameBehind old new count root need }
-    ensures kept { (old new : Staging) (count root need : ℕ) → IsFrameStaged old new count root need → AreNeedsWithin old need → AreNeedsWithin new need }
-    ensures root { (old new : Staging) (v need : ℕ) (needs : Named) → IsVersionStaged old root_family v needs new → AreNeedsWithin old need → AreNeedsWithin new need }
-    ensures settled { (s : Staging) (round : List Element) (need : ℕ) → AreNeedsWithin s need → AreNeedsWithin (record s { pending = settled s.pending round }) need }
-    ensures more { (s : Staging) (need more : ℕ) → AreNeedsWithin s need → need ≤ more → AreNeedsWithin s more }
+/// Where the superblock has one section and what its versions need doesn't fall, joining it with what the version before needs adds
+/// nothing: a new version needs the plain writes staged so far and the versions of the root up to its own need, and nothing else.
+pub fn joining_adds_nothing_to_one_section()
+    ensures exact { (old new : Staging) (count root need : ℕ) → IsFrameStaged old new 1 0 count root need → AreOneSectionsNeedsWithin old need → IsFrameBehind old new count root need }
+    ensures kept { (old new : Staging) (count root need : ℕ) → IsFrameStaged old new 1 0 count root need → AreOneSectionsNeedsWithin old need → AreOneSectionsNeedsWithin new need }
+    ensures root { (old new : Staging) (v need : ℕ) (needs : Named) → IsVersionStaged old root_family v needs new → AreOneSectionsNeedsWithin old need → AreOneSectionsNeedsWithin new need }
+    ensures settled { (s : Staging) (round : List Element) (need : ℕ) → AreOneSectionsNeedsWithin s need → AreOneSectionsNeedsWithin (record s { pending = settled s.pending round }) need }
+    ensures more { (s : Staging) (need more : ℕ) → AreOneSectionsNeedsWithin s need → need ≤ more → AreOneSectionsNeedsWithin s more }
 {}

@@ -1,7 +1,7 @@
 //! Where frames go on the device: extents of pages, of which one at a time is appended to, and each is reset as a whole.
 //!
-//! Each frame that is appended is staged in the graph: its pages as plain writes, and then a version of the superblock
-//! that records how many pages of each extent are given.
+//! Each frame that is appended is staged in the graph: its pages as plain writes, and then a version of the superblock's section that
+//! records how many pages of the frame's extent are given.
 #![tactic(auto)]
 
 mod extents;
@@ -10,8 +10,11 @@ mod frames;
 mod laws;
 mod purposes;
 mod supplies;
+mod ways;
 
 pub use extents::{Extents, LAST_GENERATION};
-pub use families::{ROOT, SUPERBLOCK};
-pub use laws::{joining_adds_nothing, needs_never_fall, one_place, pages_are_given_once};
+pub use families::{ROOT, on_sections, section_family};
+pub use laws::{
+    joining_adds_nothing_to_one_section, needs_never_fall, one_place, pages_are_given_once,
+};
 pub use purposes::Purpose;

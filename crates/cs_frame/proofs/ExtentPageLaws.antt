@@ -13,7 +13,7 @@ use Rattle.cs_frame.specs.declared.faults.FormatFault.TheVariants.{BadMagic, Bad
 use Rattle.cs_frame.specs.Bytes.{IsBytes, IsPage, all_zero, field, number, zeros}
 use Rattle.cs_frame.specs.Faults.{first_fault, unless}
 use Rattle.cs_frame.specs.Pages.{padded, sealed, digest_test, digit_test, magic_test, padding_test}
-use Rattle.cs_frame.specs.Superblocks.{FitsExtent, extent_in, extents_from, pointers_test, spelled_extent, spelled_extents, superblock_range_test}
+use Rattle.cs_frame.specs.Pointers.{FitsExtent, extent_in, extents_from, pointers_test, spelled_extent, spelled_extents, superblock_range_test}
 use Rattle.cs_frame.proofs.Fields.{after_field, field_2, field_4, field_8, number_at, number_below, take_more, length-field, IsBytes-field}
 use Rattle.cs_frame.proofs.Pieces.{AllByRecursion-map, AllByRecursion-and, each_piece, length-first_chunks, length-spelled, read_pieces, spelled_pieces}
 use Rattle.cs_frame.proofs.TestLaws.{Passes, passed, and_passes, no_test, same_bytes, equal_bytes, all_true, true_all}
@@ -129,6 +129,13 @@ sound page digit counts end extents size h =
       pointers = all_true (λ (e : ℕ × ℕ). nat_le e.0 (number 14 16 page)) (λ (e : ℕ × ℕ). e.0 ≤ number 14 16 page) (λ e. leb-true e.0 (number 14 16 page)) extents u.0;
       padding = z.0;
     }
+
+-- where they pass the fourth byte is the digit
+pub fourth_byte : (page : List ℕ) (digit : ℕ) (counts : Bool) (end : ℕ) (extents : List (ℕ × ℕ)) → first_fault (tests_of page digit counts end extents) ≡ None → slice_index page 3 ≡ digit
+fourth_byte page digit counts end extents h =
+    let p = passed (bytes_eq (field 0 3 page) (codes "CSS")) BadMagic (digit_test digit page ∷ unless counts BadLength ∷ digest_test end page ∷ superblock_range_test page ∷ pointers_test (number 14 16 page) extents ∷ padding_test (end + 32) page ∷ []) h in
+    let q = passed (slice_index page 3 == digit) BadVersion _ p.1 in
+    eqb-true _ _ q.0
 
 -- and where that holds they pass
 pub sound_passes : (page : List ℕ) (digit : ℕ) (counts : Bool) (end : ℕ) (extents : List (ℕ × ℕ)) → IsSound page digit counts end extents → first_fault (tests_of page digit counts end extents) ≡ None

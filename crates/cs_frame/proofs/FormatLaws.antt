@@ -22,7 +22,8 @@ use Rattle.cs_frame.specs.declared.locators.Locator.{Locator}
 use Rattle.cs_frame.specs.Bytes.{IsBytes, zeros}
 use Rattle.cs_frame.specs.Formats.{as_entry, as_locator, extents_of, fits_entry, fits_locator, fits_root, fits_run, formats_of, id_bytes, kind_number, refusal_of, rises}
 use Rattle.cs_frame.specs.Frames.{SpellsFrame, frame_bytes, frame_fault, page_count, spelled_frame}
-use Rattle.cs_frame.specs.Geometries.{IsGeometry}
+use Rattle.cs_frame.specs.FirstFormat.{spelled_first_format}
+use Rattle.cs_frame.specs.Geometries.{IsGeometry, section_size}
 use Rattle.cs_frame.specs.Locators.{FitsLocator, spelled_locators}
 use Rattle.cs_frame.specs.Roots.{FitsRoot, spelled_root}
 use Rattle.cs_frame.specs.Runs.{Entry, FitsRun, entries_in, spelled_entry, spelled_run}
@@ -151,7 +152,7 @@ one_page_one_root v w n k xs ys fx fy is =
     (both.0, sym (reverse-reverse xs) ∙ ap (λ (ls : List Place). reverse ls) both.1 ∙ reverse-reverse ys)
 
 -- what is there has numbers that fit
-in_range : (extents pages g : ℕ) (l : Place) → extents ≤ 512 → pages ≤ 256 → g < 2 ^ 32 → l.extent < extents → l.page < pages
+in_range : (extents pages g : ℕ) (l : Place) → extents ≤ 2048 → pages ≤ 256 → g < 2 ^ 32 → l.extent < extents → l.page < pages
     → l.generation ≤ g → fits_locator l ≡ true
 in_range extents pages g l few short old a b c =
     let extent : nat_lt l.extent (2 ^ 16) ≡ true = lt-ltb l.extent (2 ^ 16) (omega (arith, a, few)) in
@@ -339,12 +340,12 @@ some_entry (x ∷ xs) h = omega arith
 
 -- ---- all of it
 
-module _ (extents pages per_section format : ℕ) (is : IsGeometry extents pages) where
+module _ (extents pages sections format : ℕ) (is : IsGeometry extents pages sections) where
   abbrev S : Shape
-  S = shape_of extents pages 1 per_section format
+  S = shape_of extents pages sections (section_size extents sections) format
 
   abbrev F : Formats
-  F = formats_of (shape_of extents pages 1 per_section format)
+  F = formats_of (shape_of extents pages sections (section_size extents sections) format)
 
   few : pages ≤ 256
   few = is.most_pages
@@ -384,7 +385,8 @@ module _ (extents pages per_section format : ℕ) (is : IsGeometry extents pages
 
   pub is_format : IsFormat S F
   is_format = record {
-    section = λ f j v p g q h same. ap (spelled_superblock v pages) (one_section S.section p g q h j 0 extents same);
+    section = λ f j v p g q h same.
+        ap (λ (es : List (ℕ × ℕ)). if (f == 1) && (sections == 1) then spelled_first_format v pages es else spelled_superblock v extents pages sections j es) (one_section S.section p g q h j 0 extents same);
     some_page = λ kind payload. omega (arith, length-spelled_frame (kind_number kind) payload);
     one_root = one_page_one_root;
     one_run = λ xs ys fx fy same. one_entries xs ys (entries_fit xs fx) (entries_fit ys fy) (ap (drop 4) same);

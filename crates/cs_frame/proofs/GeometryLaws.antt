@@ -1,7 +1,11 @@
 -- What the tests of a store's dimensions and of its sections say.
-use Rattle.std.proofs.Common.{◌≡◌, ℕ, ◌-◌, ◌≤◌, min, true, arith, ◌&&◌, nat_le, nat_lt}
+use Rattle.std.proofs.Common.{◌≡◌, ℕ, zero, suc, ◌+◌, ◌-◌, ◌*◌, ◌/◌, ◌%◌, ◌<◌, ◌≤◌, min, true, arith, ◌&&◌, nat_le, nat_lt, sym, ap, ◌∙◌}
+use Rattle.std.specs.Prelude.{◌↔◌}
+use Rattle.std.proofs.Math.Nat.{mod-lt, mul_comm}
+use Rattle.std.proofs.lemmas.Nat.{div-add-mod', div-mul-add, div_below}
+use Rattle.cs_model.specs.Geometry.{IsGeometry as IsModelGeometry}
 use Rattle.std.proofs.lemmas.Bool.{and_parts, and_from, leb-true, ltb-true, le-leb, lt-ltb}
-use Rattle.cs_frame.specs.Geometries.{IsGeometry, IsSectioned, greatest_extents, greatest_pages, greatest_section_extents, greatest_sections, greatest_superblock_extents, in_bounds, is_divided, least_extents, least_pages, section_length, section_size, section_start}
+use Rattle.cs_frame.specs.Geometries.{IsGeometry, greatest_extents, greatest_pages, greatest_section_extents, greatest_sections, in_bounds, is_divided, least_extents, least_pages, lengths_below, section_length, section_size, section_start}
 
 -- the dimensions are in bounds
 pub record IsWithin (greatest extents pages : ℕ) : Type 0 where
@@ -27,18 +31,8 @@ in_bounds-within greatest extents pages w =
     and_from _ _ (and_from _ _ (and_from _ _ (le-leb least_extents extents w.fewest_extents) (le-leb extents greatest w.most_extents)) (le-leb least_pages pages w.fewest_pages)) (le-leb pages greatest_pages w.most_pages)
 
 -- the tests of a geometry pass for it alone
-pub geometry_within : (extents pages : ℕ) → in_bounds greatest_superblock_extents extents pages ≡ true → IsGeometry extents pages
-geometry_within extents pages h =
-    let w = within greatest_superblock_extents extents pages h in
-    record { fewest_extents = w.fewest_extents; most_extents = w.most_extents; fewest_pages = w.fewest_pages; most_pages = w.most_pages }
-
-pub in_bounds-geometry : (extents pages : ℕ) → IsGeometry extents pages → in_bounds greatest_superblock_extents extents pages ≡ true
-in_bounds-geometry extents pages g =
-    in_bounds-within greatest_superblock_extents extents pages (record { fewest_extents = g.fewest_extents; most_extents = g.most_extents; fewest_pages = g.fewest_pages; most_pages = g.most_pages })
-
--- and those of a store whose superblock has sections
-pub sectioned : (extents pages sections : ℕ) → in_bounds greatest_extents extents pages ≡ true → is_divided extents sections ≡ true → IsSectioned extents pages sections
-sectioned extents pages sections bounds h =
+pub geometry_tested : (extents pages sections : ℕ) → in_bounds greatest_extents extents pages ≡ true → is_divided extents sections ≡ true → IsGeometry extents pages sections
+geometry_tested extents pages sections bounds h =
     let w = within greatest_extents extents pages bounds in
     let size : ℕ = section_size extents sections in
     let last : ℕ = section_start extents sections (sections - 1) in
@@ -56,12 +50,12 @@ sectioned extents pages sections bounds h =
       none_empty = ltb-true _ _ three.1;
     }
 
-pub in_bounds-sectioned : (extents pages sections : ℕ) → IsSectioned extents pages sections → in_bounds greatest_extents extents pages ≡ true
-in_bounds-sectioned extents pages sections s =
+pub in_bounds-geometry : (extents pages sections : ℕ) → IsGeometry extents pages sections → in_bounds greatest_extents extents pages ≡ true
+in_bounds-geometry extents pages sections s =
     in_bounds-within greatest_extents extents pages (record { fewest_extents = s.fewest_extents; most_extents = s.most_extents; fewest_pages = s.fewest_pages; most_pages = s.most_pages })
 
-pub is_divided-sectioned : (extents pages sections : ℕ) → IsSectioned extents pages sections → is_divided extents sections ≡ true
-is_divided-sectioned extents pages sections s =
+pub is_divided-geometry : (extents pages sections : ℕ) → IsGeometry extents pages sections → is_divided extents sections ≡ true
+is_divided-geometry extents pages sections s =
     and_from _ _ (and_from _ _ (and_from _ _ (le-leb 1 sections s.fewest_sections) (le-leb sections greatest_sections s.most_sections)) (le-leb (section_size extents sections) greatest_section_extents s.section_fits)) (lt-ltb (section_start extents sections (sections - 1)) extents s.none_empty)
 
 -- no section has more extents than the first
@@ -70,3 +64,65 @@ section_length-le extents sections section = at_most (section_size extents secti
   where
     at_most : (a b : ℕ) → min a b ≤ a
     at_most a b = omega arith
+
+-- ---- which extents a section has
+
+module _ (extents pages sections : ℕ) (g : IsGeometry extents pages sections) where
+  abbrev size : ℕ
+  size = section_size extents sections
+
+  -- all sections but the last have as many extents, and the first has some
+  parts : size * sections + (extents + (sections - 1)) % sections ≡ extents + (sections - 1)
+  parts = div-add-mod' (extents + (sections - 1)) sections
+
+  rest : (extents + (sections - 1)) % sections < sections
+  rest = mod-lt (extents + (sections - 1)) g.fewest_sections
+
+  pub all_covered : extents ≤ sections * section_size extents sections
+  all_covered = omega (arith, parts, rest, mul_comm sections size, g.fewest_sections)
+
+  pub some_in_each : 0 < section_size extents sections
+  some_in_each = some size all_covered g.fewest_extents
+    where
+      some : (n : ℕ) → extents ≤ sections * n → 4 ≤ extents → 0 < n
+      some zero le least = absurd (omega (arith, le, least))
+      some (suc n) le least = omega arith
+
+  -- an extent's section is one of them
+  pub section_inside : (e : ℕ) → e < extents → e / section_size extents sections < sections
+  section_inside e lt = div_below e size sections some_in_each (omega (arith, lt, all_covered))
+
+  -- it has the extent, and no other has it
+  pub section_holds : (e j : ℕ) → e < extents → (e / section_size extents sections ≡ j)
+      ↔ ((section_start extents sections j ≤ e) × (e < section_start extents sections j + section_length extents sections j))
+  section_holds e j lt = (
+    (λ is.
+        let whole : (e / size) * size + e % size ≡ e = div-add-mod' e size in
+        let below : e % size < size = mod-lt e some_in_each in
+        let at : j * size + e % size ≡ e = ap (λ (n : ℕ). n * size + e % size) (sym is) ∙ whole in
+        (omega (arith, at), omega (arith, at, below, lt))),
+    (λ h.
+        let near : e - j * size < size = omega (arith, h.0, h.1) in
+        let there : j * size + (e - j * size) ≡ e = omega (arith, h.0) in
+        ap (λ (n : ℕ). n / size) (sym there) ∙ div-mul-add j size (e - j * size) near),
+  )
+
+  -- the sections before one have together what lies before its first extent
+  lengths_are : (j : ℕ) → lengths_below extents sections j ≡ min extents (section_start extents sections j)
+  lengths_are zero = omega arith
+  lengths_are (suc j) =
+      let before = lengths_are j in
+      let next : suc j * size ≡ j * size + size = omega arith in
+      omega (arith, before, next)
+
+  pub lengths_sum : lengths_below extents sections sections ≡ extents
+  lengths_sum = omega (arith, lengths_are sections, all_covered)
+
+  -- the same in the words of the machine's model
+  pub model_geometry : IsModelGeometry extents pages sections (section_size extents sections)
+  model_geometry = record {
+    some_page = omega (arith, g.fewest_pages);
+    some_section = g.fewest_sections;
+    some_extent = some_in_each;
+    all = all_covered;
+  }

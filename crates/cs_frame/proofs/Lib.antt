@@ -7,7 +7,7 @@ pub mod RootLaws
 pub mod GeometryLaws
 pub mod ExtentPageLaws
 pub mod SuperblockLaws
-pub mod SectionLaws
+pub mod FirstFormatLaws
 pub mod FrameLaws
 pub mod RunLaws
 pub mod FormatLaws

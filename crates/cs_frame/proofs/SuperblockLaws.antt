@@ -1,96 +1,186 @@
--- A page without a fault as a superblock is spelled, and what is spelled has no fault and is read as it was.
-use Rattle.std.proofs.Common.{◌≡◌, ℕ, ◌+◌, ◌*◌, ◌≤◌, true, Bool, List, ◌++◌, length, take, codes, None, refl, sym, ap, subst, ◌∙◌, arith, length-append}
+-- A page without a fault as a section of a superblock is spelled, and what is spelled has no fault and is read as it was.
+use Rattle.std.proofs.Common.{◌≡◌, ℕ, ◌+◌, ◌-◌, ◌*◌, ◌≤◌, ◌<◌, true, Bool, List, [], ◌∷◌, ◌++◌, length, take, drop, slice_index, codes, None, refl, sym, ap, subst, ◌∙◌, arith, append_assoc, length-append, ◌&&◌, nat_lt}
+use Rattle.std.proofs.lemmas.Bool.{and_parts, and_from, ltb-true, lt-ltb}
 use Rattle.byteorder.specs.Endian.{big_bytes}
-use Rattle.cs_frame.specs.Bytes.{IsPage, number}
-use Rattle.cs_frame.specs.Geometries.{greatest_superblock_extents, in_bounds}
+use Rattle.sha2.specs.Sha256.{sha256}
+use Rattle.cs_frame.specs.Bytes.{IsPage, number, zeros}
+use Rattle.cs_frame.specs.Geometries.{IsGeometry, greatest_extents, in_bounds, is_divided, section_length}
 use Rattle.cs_frame.specs.Pages.{padded, sealed}
-use Rattle.cs_frame.specs.Superblocks.{FitsSuperblock, SpellsSuperblock, extents_from, extents_in, spelled_extents, spelled_superblock, superblock_end, superblock_fault, superblock_fields}
-use Rattle.cs_frame.proofs.ExtentPageLaws.{are_read, count_again, extents_from-spelled, head_is_spelled, length-spelled_extents, pages_again, sound, sound_passes, spelled_is_sound, tail_again, version_again}
-use Rattle.cs_frame.proofs.Fields.{field_at, take_more}
-use Rattle.cs_frame.proofs.GeometryLaws.{in_bounds-within, within}
+use Rattle.cs_frame.specs.Superblocks.{FitsSuperblock, SpellsSuperblock, section_count, spelled_superblock, superblock_end, superblock_extents, superblock_fault, superblock_fields}
+use Rattle.cs_frame.specs.Pointers.{extents_from, spelled_extents}
+use Rattle.cs_frame.proofs.ExtentPageLaws.{are_read, count_again, extents_from-spelled, fourth_byte, head_is_spelled, length-spelled_extents, pages_again, sound, sound_passes, spelled_is_sound, tail_again, version_again}
+use Rattle.cs_frame.proofs.Fields.{after_field, byte_at_front, field_1, field_at, take_more}
+use Rattle.cs_frame.proofs.GeometryLaws.{geometry_tested, in_bounds-geometry, is_divided-geometry, section_length-le}
 use Rattle.cs_frame.proofs.PageLaws.{page_is_padded}
 
 -- ---- a page without a fault
 
--- the numbers of extents and pages pass
+-- the numbers of extents, pages and sections pass
+abbrev passes : (extents pages sections section : ℕ) → Bool
+passes extents pages sections section = in_bounds greatest_extents extents pages && is_divided extents sections && nat_lt section sections
+
 abbrev counts : List ℕ → Bool
-counts page = in_bounds greatest_superblock_extents (number 12 14 page) (number 14 16 page)
+counts page = passes (number 12 14 page) (number 14 16 page) (slice_index page 16) (slice_index page 17)
+
+-- what they say
+pub record IsCounted (extents pages sections section : ℕ) : Type 0 where
+  pub geometry : IsGeometry extents pages sections
+  pub one_of_them : section < sections
+
+pub counted : (extents pages sections section : ℕ) → passes extents pages sections section ≡ true → IsCounted extents pages sections section
+counted extents pages sections section h =
+    let two = and_parts (in_bounds greatest_extents extents pages && is_divided extents sections) (nat_lt section sections) h in
+    let one = and_parts (in_bounds greatest_extents extents pages) (is_divided extents sections) two.0 in
+    record { geometry = geometry_tested extents pages sections one.0 one.1; one_of_them = ltb-true section sections two.1 }
+
+pub counted_passes : (extents pages sections section : ℕ) → IsGeometry extents pages sections → section < sections → passes extents pages sections section ≡ true
+counted_passes extents pages sections section s inside =
+    and_from _ _ (and_from _ _ (in_bounds-geometry extents pages sections s) (is_divided-geometry extents pages sections s)) (lt-ltb section sections inside)
+
+-- the digest lies in the page
+pub end_in_page : (extents pages sections section : ℕ) → IsGeometry extents pages sections → 18 + 6 * section_length extents sections section + 32 ≤ 4096
+end_in_page extents pages sections section s = omega (arith, section_length-le extents sections section, s.section_fits)
 
 -- a page without a fault spells what is read from it
-pub spells : (page : List ℕ) (version pages : ℕ) (extents : List (ℕ × ℕ)) → IsPage page → superblock_fault page ≡ None → version ≡ number 4 12 page → pages ≡ number 14 16 page → extents ≡ extents_in page → SpellsSuperblock page version pages extents
-spells page version pages extents p h v c r =
-    let it = sound page 49 (counts page) (superblock_end page) (extents_in page) p.size h in
-    let bounds = within greatest_superblock_extents (number 12 14 page) (number 14 16 page) it.counted in
+spells_itself : (page : List ℕ) → IsPage page → superblock_fault page ≡ None → SpellsSuperblock page (number 4 12 page) (number 12 14 page) (number 14 16 page) (slice_index page 16) (slice_index page 17) (superblock_extents page)
+spells_itself page p h =
+    let it = sound page 50 (counts page) (superblock_end page) (superblock_extents page) p.size h in
+    let numbers = counted (number 12 14 page) (number 14 16 page) (slice_index page 16) (slice_index page 17) it.counted in
     let size = p.size in
-    let bound : superblock_end page + 32 ≤ 4096 = omega (arith, bounds.most_extents) in
-    let there = are_read page (number 14 16 page) 16 (superblock_end page) (number 12 14 page) p refl (omega arith) it.pointers in
-    let k : length (extents_in page) ≡ number 12 14 page = there.counted in
-    let fields : take (superblock_end page) page ≡ superblock_fields (number 4 12 page) (number 14 16 page) (extents_in page) =
-    take_more page _ _ 16 (superblock_end page) (omega arith) (head_is_spelled page (codes "CSS1") p it.magic) (sym there.spelled)
-    ∙ ap (λ (n : ℕ). codes "CSS1" ++ big_bytes 8 (number 4 12 page) ++ big_bytes 2 n ++ big_bytes 2 (number 14 16 page) ++ spelled_extents (extents_in page)) (sym k) in
-    let whole : page ≡ spelled_superblock (number 4 12 page) (number 14 16 page) (extents_in page) = page_is_padded page (superblock_end page) size bound it.digest it.padding ∙ ap (λ (xs : List ℕ). padded (sealed xs)) fields in
-    let fits : FitsSuperblock (number 4 12 page) (number 14 16 page) (extents_in page) = record {
-      first_version = it.first_version;
-      last_version = it.last_version;
-      fewest_extents = omega (arith, k, bounds.fewest_extents);
-      most_extents = omega (arith, k, bounds.most_extents);
-      fewest_pages = bounds.fewest_pages;
-      most_pages = bounds.most_pages;
-      each = there.each;
-    } in
-    subst (λ (n : ℕ). SpellsSuperblock page n pages extents) (sym v)
-    (subst (λ (n : ℕ). SpellsSuperblock page (number 4 12 page) n extents) (sym c)
-    (subst (λ (es : List (ℕ × ℕ)). SpellsSuperblock page (number 4 12 page) (number 14 16 page) es) (sym r) (record { fits = fits; spelled = whole })))
+    let bound : superblock_end page + 32 ≤ 4096 = end_in_page _ _ _ _ numbers.geometry in
+    let there = are_read page (number 14 16 page) 18 (superblock_end page) (section_count page) p refl (omega arith) it.pointers in
+    let head : take 16 page ≡ codes "CSS2" ++ big_bytes 8 (number 4 12 page) ++ big_bytes 2 (number 12 14 page) ++ big_bytes 2 (number 14 16 page) = head_is_spelled page (codes "CSS2") p it.magic in
+    let divided : take 17 page ≡ codes "CSS2" ++ big_bytes 8 (number 4 12 page) ++ big_bytes 2 (number 12 14 page) ++ big_bytes 2 (number 14 16 page) ++ slice_index page 16 ∷ [] = take_more page _ _ 16 17 (omega arith) head (field_1 page 16 17 refl (omega arith)) in
+    let fields : take (superblock_end page) page ≡ superblock_fields (number 4 12 page) (number 12 14 page) (number 14 16 page) (slice_index page 16) (slice_index page 17) (superblock_extents page) =
+    take_more page _ _ 18 (superblock_end page) (omega arith) (take_more page _ _ 17 18 (omega arith) divided (field_1 page 17 18 refl (omega arith))) (sym there.spelled) in
+    record {
+      fits = record {
+        first_version = it.first_version;
+        last_version = it.last_version;
+        geometry = numbers.geometry;
+        one_of_them = numbers.one_of_them;
+        count = there.counted;
+        each = there.each;
+      };
+      spelled = page_is_padded page (superblock_end page) size (omega arith) it.digest it.padding ∙ ap (λ (xs : List ℕ). padded (sealed xs)) fields;
+    }
+
+pub spells : (page : List ℕ) (version extents pages sections section : ℕ) (written : List (ℕ × ℕ)) → IsPage page → superblock_fault page ≡ None
+    → version ≡ number 4 12 page → extents ≡ number 12 14 page → pages ≡ number 14 16 page → sections ≡ slice_index page 16 → section ≡ slice_index page 17 → written ≡ superblock_extents page
+    → SpellsSuperblock page version extents pages sections section written
+spells page version extents pages sections section written p h a b c d e f =
+    subst (λ (n : ℕ). SpellsSuperblock page n extents pages sections section written) (sym a)
+    (subst (λ (n : ℕ). SpellsSuperblock page (number 4 12 page) n pages sections section written) (sym b)
+    (subst (λ (n : ℕ). SpellsSuperblock page (number 4 12 page) (number 12 14 page) n sections section written) (sym c)
+    (subst (λ (n : ℕ). SpellsSuperblock page (number 4 12 page) (number 12 14 page) (number 14 16 page) n section written) (sym d)
+    (subst (λ (n : ℕ). SpellsSuperblock page (number 4 12 page) (number 12 14 page) (number 14 16 page) (slice_index page 16) n written) (sym e)
+    (subst (λ (es : List (ℕ × ℕ)). SpellsSuperblock page (number 4 12 page) (number 12 14 page) (number 14 16 page) (slice_index page 16) (slice_index page 17) es) (sym f)
+    (spells_itself page p h))))))
 
 -- ---- what is spelled
 
-pub length-superblock_fields : (version pages : ℕ) (extents : List (ℕ × ℕ)) → length (superblock_fields version pages extents) ≡ 16 + 6 * length extents
-length-superblock_fields version pages extents = omega (arith, length-append (codes "CSS1" ++ big_bytes 8 version ++ big_bytes 2 (length extents) ++ big_bytes 2 pages) (spelled_extents extents), length-spelled_extents extents)
+pub length-superblock_fields : (version extents pages sections section : ℕ) (written : List (ℕ × ℕ)) → length (superblock_fields version extents pages sections section written) ≡ 18 + 6 * length written
+length-superblock_fields version extents pages sections section written =
+    omega (arith, length-append (codes "CSS2" ++ big_bytes 8 version ++ big_bytes 2 extents ++ big_bytes 2 pages ++ sections ∷ [] ++ section ∷ []) (spelled_extents written), length-spelled_extents written)
 
-module _ (version pages : ℕ) (extents : List (ℕ × ℕ)) (fits : FitsSuperblock version pages extents) where
-  short : length (superblock_fields version pages extents) + 32 ≤ 4096
-  short = omega (arith, length-superblock_fields version pages extents, fits.most_extents)
+module _ (version extents pages sections section : ℕ) (written : List (ℕ × ℕ)) (fits : FitsSuperblock version extents pages sections section written) where
+  -- what is spelled before the digest, and what of it follows the first 16 bytes
+  abbrev text : List ℕ
+  text = superblock_fields version extents pages sections section written
+
+  abbrev tail : List ℕ
+  tail = sections ∷ section ∷ spelled_extents written
+
+  abbrev bytes : List ℕ
+  bytes = spelled_superblock version extents pages sections section written
+
+  split : text ≡ codes "CSS2" ++ big_bytes 8 version ++ big_bytes 2 extents ++ big_bytes 2 pages ++ tail
+  split =
+      append_assoc (codes "CSS2" ++ big_bytes 8 version ++ big_bytes 2 extents ++ big_bytes 2 pages ++ sections ∷ []) (section ∷ []) (spelled_extents written)
+      ∙ append_assoc (codes "CSS2" ++ big_bytes 8 version ++ big_bytes 2 extents ++ big_bytes 2 pages) (sections ∷ []) (section ∷ spelled_extents written)
+
+  short : length text + 32 ≤ 4096
+  short = omega (arith, length-superblock_fields version extents pages sections section written, fits.count, end_in_page extents pages sections section fits.geometry)
 
   -- what is spelled is read again
-  version_is_read : number 4 12 (spelled_superblock version pages extents) ≡ version
-  version_is_read = version_again 49 version (length extents) pages (spelled_extents extents) (superblock_fields version pages extents) refl short fits.last_version
+  version_is_read : number 4 12 bytes ≡ version
+  version_is_read = version_again 50 version extents pages tail text split short fits.last_version
 
-  count_is_read : number 12 14 (spelled_superblock version pages extents) ≡ length extents
-  count_is_read = count_again 49 version (length extents) pages (spelled_extents extents) (superblock_fields version pages extents) refl short (omega (arith, fits.most_extents))
+  extents_are_read : number 12 14 bytes ≡ extents
+  extents_are_read = count_again 50 version extents pages tail text split short (omega (arith, fits.geometry.most_extents))
 
-  pages_are_read : number 14 16 (spelled_superblock version pages extents) ≡ pages
-  pages_are_read = pages_again 49 version (length extents) pages (spelled_extents extents) (superblock_fields version pages extents) refl short (omega (arith, fits.most_pages))
+  pages_are_read : number 14 16 bytes ≡ pages
+  pages_are_read = pages_again 50 version extents pages tail text split short (omega (arith, fits.geometry.most_pages))
 
-  end_is_read : length (superblock_fields version pages extents) ≡ superblock_end (spelled_superblock version pages extents)
-  end_is_read = omega (arith, length-superblock_fields version pages extents, count_is_read)
+  at_sections : drop 16 bytes ≡ tail ++ (sha256 text ++ zeros (4096 - length (sealed text)))
+  at_sections = tail_again 50 version extents pages tail text split short
 
-  extents_are_read : extents_in (spelled_superblock version pages extents) ≡ extents
-  extents_are_read =
-      ap extents_from (field_at (spelled_superblock version pages extents) (spelled_extents extents) _ 16 (superblock_end (spelled_superblock version pages extents))
-      (tail_again 49 version (length extents) pages (spelled_extents extents) (superblock_fields version pages extents) refl short) (omega (arith, length-spelled_extents extents, count_is_read)))
-      ∙ extents_from-spelled pages (omega (arith, fits.most_pages)) extents fits.each
+  at_section : drop 17 bytes ≡ (section ∷ spelled_extents written) ++ (sha256 text ++ zeros (4096 - length (sealed text)))
+  at_section = after_field bytes (sections ∷ []) _ 16 17 at_sections refl
+
+  at_extents : drop 18 bytes ≡ spelled_extents written ++ (sha256 text ++ zeros (4096 - length (sealed text)))
+  at_extents = after_field bytes (section ∷ []) _ 17 18 at_section refl
+
+  sections_are_read : slice_index bytes 16 ≡ sections
+  sections_are_read = byte_at_front bytes _ 16 sections at_sections
+
+  section_is_read : slice_index bytes 17 ≡ section
+  section_is_read = byte_at_front bytes _ 17 section at_section
+
+  -- and of as many extents
+  count_is_read : section_count bytes ≡ length written
+  count_is_read =
+      ap (λ (n : ℕ). section_length n (slice_index bytes 16) (slice_index bytes 17)) extents_are_read
+      ∙ ap (λ (n : ℕ). section_length extents n (slice_index bytes 17)) sections_are_read
+      ∙ ap (λ (n : ℕ). section_length extents sections n) section_is_read
+      ∙ sym fits.count
+
+  end_is_read : length text ≡ superblock_end bytes
+  end_is_read = length-superblock_fields version extents pages sections section written ∙ ap (λ (n : ℕ). 18 + 6 * n) (sym count_is_read)
+
+  written_is_read : superblock_extents bytes ≡ written
+  written_is_read =
+      ap extents_from (field_at bytes (spelled_extents written) _ 18 (superblock_end bytes) at_extents
+      (ap (λ (n : ℕ). 18 + n) (length-spelled_extents written) ∙ ap (λ (n : ℕ). 18 + 6 * n) (sym count_is_read)))
+      ∙ extents_from-spelled pages (omega (arith, fits.geometry.most_pages)) written fits.each
 
   -- and has no fault
-  superblock_fault-spelled : superblock_fault (spelled_superblock version pages extents) ≡ None
+  superblock_fault-spelled : superblock_fault bytes ≡ None
   superblock_fault-spelled =
-      let page : List ℕ = spelled_superblock version pages extents in
-      let e = count_is_read in
-      let n = pages_are_read in
-      let counted : counts page ≡ true = in_bounds-within greatest_superblock_extents (number 12 14 page) (number 14 16 page) (record {
-        fewest_extents = omega (arith, e, fits.fewest_extents);
-        most_extents = omega (arith, e, fits.most_extents);
-        fewest_pages = omega (arith, n, fits.fewest_pages);
-        most_pages = omega (arith, n, fits.most_pages);
-      }) in
-      sound_passes page 49 (counts page) (superblock_end page) (extents_in page)
-      (spelled_is_sound 49 version (length extents) pages (spelled_extents extents) (superblock_fields version pages extents) refl short (counts page) (superblock_end page) extents (extents_in page)
-      fits.first_version fits.last_version (omega (arith, fits.most_pages)) end_is_read counted fits.each extents_are_read)
+      let numbers : counts bytes ≡ true =
+      ap (λ (n : ℕ). passes n (number 14 16 bytes) (slice_index bytes 16) (slice_index bytes 17)) extents_are_read
+      ∙ ap (λ (n : ℕ). passes extents n (slice_index bytes 16) (slice_index bytes 17)) pages_are_read
+      ∙ ap (λ (n : ℕ). passes extents pages n (slice_index bytes 17)) sections_are_read
+      ∙ ap (λ (n : ℕ). passes extents pages sections n) section_is_read
+      ∙ counted_passes extents pages sections section fits.geometry fits.one_of_them in
+      sound_passes bytes 50 (counts bytes) (superblock_end bytes) (superblock_extents bytes)
+      (spelled_is_sound 50 version extents pages tail text split short (counts bytes) (superblock_end bytes) written (superblock_extents bytes)
+      fits.first_version fits.last_version (omega (arith, fits.geometry.most_pages)) end_is_read numbers fits.each written_is_read)
 
--- what spells a superblock has no fault
-pub spelled_has_none : (page : List ℕ) (version pages : ℕ) (extents : List (ℕ × ℕ)) → SpellsSuperblock page version pages extents → superblock_fault page ≡ None
-spelled_has_none page version pages extents s = ap superblock_fault s.spelled ∙ superblock_fault-spelled version pages extents s.fits
+-- what spells a section has no fault
+pub spelled_has_none : (page : List ℕ) (version extents pages sections section : ℕ) (written : List (ℕ × ℕ)) → SpellsSuperblock page version extents pages sections section written → superblock_fault page ≡ None
+spelled_has_none page version extents pages sections section written s = ap superblock_fault s.spelled ∙ superblock_fault-spelled version extents pages sections section written s.fits
+
+-- its fourth byte is the digit 2
+pub fourth_is : (page : List ℕ) → superblock_fault page ≡ None → slice_index page 3 ≡ 50
+fourth_is page h = fourth_byte page 50 (counts page) (superblock_end page) (superblock_extents page) h
+
+-- what is read of a page
+pub record IsRead (page : List ℕ) (version extents pages sections section : ℕ) (written : List (ℕ × ℕ)) : Type 0 where
+  pub of_version : number 4 12 page ≡ version
+  pub of_extents : number 12 14 page ≡ extents
+  pub of_pages : number 14 16 page ≡ pages
+  pub of_sections : slice_index page 16 ≡ sections
+  pub of_section : slice_index page 17 ≡ section
+  pub of_written : superblock_extents page ≡ written
 
 -- and nothing else is read
-pub one_superblock : (page : List ℕ) (version pages : ℕ) (extents : List (ℕ × ℕ)) → SpellsSuperblock page version pages extents → (number 4 12 page ≡ version) × (number 14 16 page ≡ pages) × (extents_in page ≡ extents)
-one_superblock page version pages extents s =
-    (ap (number 4 12) s.spelled ∙ version_is_read version pages extents s.fits, ap (number 14 16) s.spelled ∙ pages_are_read version pages extents s.fits, ap extents_in s.spelled ∙ extents_are_read version pages extents s.fits)
+pub one_section : (page : List ℕ) (version extents pages sections section : ℕ) (written : List (ℕ × ℕ)) → SpellsSuperblock page version extents pages sections section written → IsRead page version extents pages sections section written
+one_section page version extents pages sections section written s = record {
+  of_version = ap (number 4 12) s.spelled ∙ version_is_read version extents pages sections section written s.fits;
+  of_extents = ap (number 12 14) s.spelled ∙ extents_are_read version extents pages sections section written s.fits;
+  of_pages = ap (number 14 16) s.spelled ∙ pages_are_read version extents pages sections section written s.fits;
+  of_sections = ap (λ (xs : List ℕ). slice_index xs 16) s.spelled ∙ sections_are_read version extents pages sections section written s.fits;
+  of_section = ap (λ (xs : List ℕ). slice_index xs 17) s.spelled ∙ section_is_read version extents pages sections section written s.fits;
+  of_written = ap superblock_extents s.spelled ∙ written_is_read version extents pages sections section written s.fits;
+}

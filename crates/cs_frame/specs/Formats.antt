@@ -9,6 +9,7 @@ use Rattle.cs_model.specs.Refusal.{Refusal, BadMagic, BadDigest, BadLength, BadP
 use Rattle.cs_frame.specs.declared.faults.FormatFault.{FormatFault}
 use Rattle.cs_frame.specs.declared.faults.FormatFault.TheVariants as fault
 use Rattle.cs_frame.specs.declared.locators.Locator.{Locator}
+use Rattle.cs_frame.specs.FirstFormat.{spelled_first_format}
 use Rattle.cs_frame.specs.Frames.{frame_fault, spelled_frame}
 use Rattle.cs_frame.specs.Roots.{spelled_root}
 use Rattle.cs_frame.specs.Runs.{Entry, spelled_run}
@@ -79,12 +80,15 @@ abbrev pub fits_run : List NamedEntry → Bool
 fits_run entries =
     nat_le 1 (length entries) && nat_lt (length entries) (2 ^ 32) && list_all fits_entry entries && rises entries
 
--- the formats of a store of this shape: there is one format of superblocks, whatever its number, and a root lists its
--- runs oldest first, which the machine has newest first
+-- the formats of a store of this shape: a superblock of one section is one page for all extents in format 1, and any other is in sections; a
+-- root lists its runs oldest first, which the machine has newest first
 abbrev pub formats_of : Shape → Formats
 formats_of S = record {
   superblock = λ format section version pointers generations.
-      spelled_superblock version S.pages (extents_of S.section pointers generations section 0 S.extents);
+      if (format == 1) && (S.sections == 1)
+      then spelled_first_format version S.pages (extents_of S.section pointers generations section 0 S.extents)
+      else spelled_superblock version S.extents S.pages S.sections section
+      (extents_of S.section pointers generations section 0 S.extents);
   root = λ version commands runs. spelled_root version commands (map as_locator (reverse runs));
   frame = λ kind payload. spelled_frame (kind_number kind) payload;
   fault = λ kind pages. option_map refusal_of (frame_fault (kind_number kind) pages);

@@ -1,5 +1,5 @@
 -- The dimensions of a store, the bounds of them, and which extents a section of its superblock has.
-use Rattle.std.specs.Prelude.{ℕ, ◌+◌, ◌-◌, ◌*◌, ◌/◌, ◌<◌, ◌≤◌, ◌&&◌, min, Bool, nat_le, nat_lt}
+use Rattle.std.specs.Prelude.{ℕ, zero, suc, ◌+◌, ◌-◌, ◌*◌, ◌/◌, ◌<◌, ◌≤◌, ◌&&◌, min, Bool, nat_le, nat_lt}
 
 -- the least number of extents of a store
 abbrev pub least_extents : ℕ
@@ -29,17 +29,11 @@ least_pages = 2
 abbrev pub greatest_pages : ℕ
 greatest_pages = 256
 
--- how many extents there are, and how many pages each has
+-- how many extents there are, how many pages each has, and how many sections the superblock has
 pub record Dimensions : Type 0 where
   pub extents : ℕ
   pub pages : ℕ
-
--- a store of these dimensions has a superblock of the first format
-pub record IsGeometry (extents pages : ℕ) : Type 0 where
-  pub fewest_extents : least_extents ≤ extents
-  pub most_extents : extents ≤ greatest_superblock_extents
-  pub fewest_pages : least_pages ≤ pages
-  pub most_pages : pages ≤ greatest_pages
+  pub sections : ℕ
 
 -- the extents of a section: so many as are needed where all sections but the last have as many
 abbrev pub section_size : (extents sections : ℕ) → ℕ
@@ -53,8 +47,13 @@ section_start extents sections section = section * section_size extents sections
 abbrev pub section_length : (extents sections section : ℕ) → ℕ
 section_length extents sections section = min (section_size extents sections) (extents - section_start extents sections section)
 
--- the store's dimensions, where its superblock has so many sections
-pub record IsSectioned (extents pages sections : ℕ) : Type 0 where
+-- how many extents the sections before this one have together
+abbrev pub lengths_below : (extents sections section : ℕ) → ℕ
+lengths_below extents sections zero = 0
+lengths_below extents sections (suc section) = lengths_below extents sections section + section_length extents sections section
+
+-- There is a store of these dimensions: none of its superblock's sections is empty, and none has more extents than a page has room for.
+pub record IsGeometry (extents pages sections : ℕ) : Type 0 where
   pub fewest_extents : least_extents ≤ extents
   pub most_extents : extents ≤ greatest_extents
   pub fewest_pages : least_pages ≤ pages
@@ -63,6 +62,10 @@ pub record IsSectioned (extents pages sections : ℕ) : Type 0 where
   pub most_sections : sections ≤ greatest_sections
   pub section_fits : section_size extents sections ≤ greatest_section_extents
   pub none_empty : section_start extents sections (sections - 1) < extents
+
+-- as few sections as there may be
+abbrev pub sections_needed : (extents : ℕ) → ℕ
+sections_needed extents = (extents + (greatest_section_extents - 1)) / greatest_section_extents
 
 -- so many extents of so many pages, where the greatest number of extents is this
 abbrev pub in_bounds : (greatest extents pages : ℕ) → Bool

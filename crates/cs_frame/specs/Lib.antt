@@ -4,8 +4,9 @@ pub mod Pages
 pub mod Buffers
 pub mod Locators
 pub mod Roots
+pub mod Pointers
 pub mod Superblocks
-pub mod Sections
+pub mod FirstFormat
 pub mod Frames
 pub mod Runs
 pub mod Geometries

@@ -1,7 +1,7 @@
-//! How many extents a store has, of how many pages, and how many of them a section of its superblock has.
+//! How many extents a store has, of how many pages, which of them each section of its superblock has, and where all of it lies.
 
-ghost use Rattle.std.specs.Prelude.{◌≡◌, ◌↔◌, ◌+◌, ◌-◌, ◌*◌, ◌/◌, ◌^◌, ◌<◌, ◌≤◌, IfOk, IfErr, IsOk};
-ghost use Rattle.cs_frame.specs.Geometries.{Dimensions, IsGeometry, in_bounds, is_divided, section_length, section_size};
+ghost use Rattle.std.specs.Prelude.{◌≡◌, ◌↔◌, ◌+◌, ◌-◌, ◌*◌, ◌/◌, ◌^◌, ◌<◌, ◌≤◌, ◌==◌, if◌then◌else◌, IfOk, IfErr, IsOk, IsTrue};
+ghost use Rattle.cs_frame.specs.Geometries.{Dimensions, IsGeometry, in_bounds, is_divided, section_length, section_size, section_start, sections_needed};
 
 use crate::faults::FormatFault;
 use std::marker::Model;
@@ -9,7 +9,7 @@ use std::marker::Model;
 /// The least number of extents of a store.
 pub const LEAST_EXTENTS: u16 = 4;
 
-/// The greatest number of extents of a store whose superblock is in sections.
+/// The greatest number of extents of a store.
 pub const GREATEST_EXTENTS: u16 = 2048;
 
 /// The greatest number of extents of a section, so that what it spells and its digest have room on a page.
@@ -68,36 +68,71 @@ pub(crate) fn extents_in_section(extents: u16, sections: u8, section: u8) -> usi
     size.min(left)
 }
 
-/// The geometry of a store. Pages 0 and 1 of the device are the superblock and the root, and the
-/// pages of the extents follow, one extent after another.
+/// So many sections as a store of so many extents needs at least.
+fn sections_needed(extents: u64) -> u64
+    ensures { result ≡ sections_needed extents }
+{
+    extents.div_ceil(u64::from(GREATEST_SECTION_EXTENTS))
+}
+
+/// There is a store of so many extents, pages and sections.
+fn is_geometry(extents: u64, pages: u64, sections: u64) -> bool
+    ensures { IsTrue result ↔ IsGeometry extents pages sections }
+{
+    if !are_in_bounds(GREATEST_EXTENTS, extents, pages) {
+        return false;
+    }
+    if sections > u64::from(GREATEST_SECTIONS) {
+        return false;
+    }
+    can_be_divided(extents as u16, sections as u8)
+}
+
+/// The geometry of a store. Section 0 of the superblock is on page 0 of the device and the root on page 1. The pages of the
+/// extents follow, one extent after another, and behind them the superblock's other sections.
 #[derive(Clone, Copy, Debug, PartialEq, Eq)]
 pub struct Geometry {
     extents: u16,
     pages: u16,
+    sections: u8,
 }
 
 impl Model for Geometry {
     ghost Value = { Dimensions };
 
-    ghost view = { λ g. record { extents = g.extents; pages = g.pages } };
+    ghost view = { λ g. record { extents = g.extents; pages = g.pages; sections = g.sections } };
 
-    ghost invariant = { λ g. IsGeometry g.extents g.pages };
+    ghost invariant = { λ g. IsGeometry g.extents g.pages g.sections };
 
-    ghost inverse = { λ d. record { extents = d.extents; pages = d.pages } };
+    ghost inverse = { λ d. record { extents = d.extents; pages = d.pages; sections = d.sections } };
 }
 
 impl Geometry {
-    /// A store of `extents` extents, 4 to 512, of `pages` pages, 2 to 256.
+    /// A store of `extents` extents, 4 to 2,048, of `pages` pages, 2 to 256, whose superblock has as few sections as it may.
     pub fn new(extents: u64, pages: u64) -> Result<Geometry, FormatFault>
-        ensures valid { IsOk result ↔ IsGeometry extents pages }
+        ensures valid { IsOk result ↔ IsGeometry extents pages (sections_needed extents) }
         ensures extents { IfOk result (λ geometry. geometry.extents ≡ extents) }
         ensures pages { IfOk result (λ geometry. geometry.pages ≡ pages) }
+        ensures sections { IfOk result (λ geometry. geometry.sections ≡ sections_needed extents) }
         ensures fault { IfErr result (λ fault. fault ≡ FormatFault.BadGeometry) }
     {
-        if are_in_bounds(GREATEST_SUPERBLOCK_EXTENTS, extents, pages) {
+        Geometry::with_sections(extents, pages, sections_needed(extents))
+    }
+
+    /// A store of `extents` extents, 4 to 2,048, of `pages` pages, 2 to 256, whose superblock has `sections` sections, 1 to 8: all
+    /// but the last have as many extents, at most 512, and the last has what is left, which is at least one.
+    pub fn with_sections(extents: u64, pages: u64, sections: u64) -> Result<Geometry, FormatFault>
+        ensures valid { IsOk result ↔ IsGeometry extents pages sections }
+        ensures extents { IfOk result (λ geometry. geometry.extents ≡ extents) }
+        ensures pages { IfOk result (λ geometry. geometry.pages ≡ pages) }
+        ensures sections { IfOk result (λ geometry. geometry.sections ≡ sections) }
+        ensures fault { IfErr result (λ fault. fault ≡ FormatFault.BadGeometry) }
+    {
+        if is_geometry(extents, pages, sections) {
             Ok(Geometry {
                 extents: extents as u16,
                 pages: pages as u16,
+                sections: sections as u8,
             })
         } else {
             Err(FormatFault::BadGeometry)
@@ -107,7 +142,7 @@ impl Geometry {
     /// The number of extents.
     pub fn extents(self) -> u16
         ensures extents { result ≡ self.extents }
-        ensures geometry { IsGeometry self.extents self.pages }
+        ensures geometry { IsGeometry self.extents self.pages self.sections }
     {
         self.extents
     }
@@ -115,16 +150,24 @@ impl Geometry {
     /// The pages of an extent.
     pub fn pages(self) -> u16
         ensures pages { result ≡ self.pages }
-        ensures geometry { IsGeometry self.extents self.pages }
+        ensures geometry { IsGeometry self.extents self.pages self.sections }
     {
         self.pages
     }
 
+    /// The sections of the superblock.
+    pub fn sections(self) -> u8
+        ensures sections { result ≡ self.sections }
+        ensures geometry { IsGeometry self.extents self.pages self.sections }
+    {
+        self.sections
+    }
+
     /// The pages of the device.
     pub fn device_pages(self) -> u64
-        ensures { result ≡ 2 + self.extents * self.pages }
+        ensures { result ≡ 1 + self.extents * self.pages + self.sections }
     {
-        2 + u64::from(self.extents) * u64::from(self.pages)
+        1 + u64::from(self.extents) * u64::from(self.pages) + u64::from(self.sections)
     }
 
     /// The page of the device that is a page of an extent.
@@ -134,6 +177,40 @@ impl Geometry {
         ensures { result ≡ 2 + extent * self.pages + page }
     {
         2 + u64::from(extent) * u64::from(self.pages) + u64::from(page)
+    }
+
+    /// The page of the device that has a section of the superblock.
+    pub fn section_page(self, section: u8) -> u64
+        ensures { result ≡ (if section == 0 then 0 else 1 + self.extents * self.pages + section) }
+    {
+        if section == 0 {
+            0
+        } else {
+            1 + u64::from(self.extents) * u64::from(self.pages) + u64::from(section)
+        }
+    }
+
+    /// The section that an extent belongs to.
+    pub fn section_of(self, extent: u16) -> u8
+        requires { extent < self.extents }
+        ensures section { result ≡ extent / section_size self.extents self.sections }
+        ensures inside { result < self.sections }
+    {
+        (usize::from(extent) / extents_each(self.extents, self.sections)) as u8
+    }
+
+    /// The first extent of a section.
+    pub fn section_start(self, section: u8) -> usize
+        ensures { result ≡ section_start self.extents self.sections section }
+    {
+        usize::from(section) * extents_each(self.extents, self.sections)
+    }
+
+    /// How many extents a section has.
+    pub fn section_length(self, section: u8) -> usize
+        ensures { result ≡ section_length self.extents self.sections section }
+    {
+        extents_in_section(self.extents, self.sections, section)
     }
 
     /// The bytes of payload that a frame of one whole extent has.

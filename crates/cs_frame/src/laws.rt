@@ -1,46 +1,55 @@
 //! The laws of the formats: a page without a fault is one value's spelling and no other's, and what is
 //! spelled has no fault.
 
-ghost use Rattle.std.specs.Prelude.{◌≡◌, ◌↔◌, ◌+◌, ◌^◌, ◌<◌, ◌≤◌, ◌++◌, ℕ, List, Some, None, length, take};
+ghost use Rattle.std.specs.Prelude.{◌≡◌, ◌↔◌, ◌+◌, ◌/◌, ◌^◌, ◌<◌, ◌≤◌, ◌++◌, ℕ, List, Some, None, length, take};
 ghost use Rattle.byteorder.specs.Endian.{big_bytes, big_number};
 ghost use Rattle.cs_model.specs.Frames.{IsFormat};
-ghost use Rattle.cs_model.specs.Geometry.{shape_of};
+ghost use Rattle.cs_model.specs.Geometry.{IsGeometry as IsModelGeometry, shape_of};
 ghost use Rattle.cs_frame.specs.declared.faults.FormatFault.{FormatFault as Fault};
 ghost use Rattle.cs_frame.specs.declared.locators.Locator.{Locator as Place};
 ghost use Rattle.cs_frame.specs.Bytes.{EachHas, IsBytes, IsPage};
 ghost use Rattle.cs_frame.specs.Formats.{formats_of, id_bytes};
 ghost use Rattle.cs_frame.specs.Frames.{SpellsFrame, bytes_in, first_page, frame_count, frame_fault, header_fault, payload_in, spelled_frame};
-ghost use Rattle.cs_frame.specs.Geometries.{IsGeometry};
+ghost use Rattle.cs_frame.specs.FirstFormat.{IsOfFirstFormat, SpellsFirstFormat, SpellsPageZero, first_format_fault, page_zero_fault};
+ghost use Rattle.cs_frame.specs.Geometries.{IsGeometry, lengths_below, section_length, section_size, section_start};
 ghost use Rattle.cs_frame.specs.Roots.{SpellsRoot, root_fault};
 ghost use Rattle.cs_frame.specs.Runs.{Entry, SpellsRun, run_fault};
-ghost use Rattle.cs_frame.specs.Sections.{SpellsSection, section_fault};
 ghost use Rattle.cs_frame.specs.Superblocks.{SpellsSuperblock, superblock_fault};
 
-/// A page is a superblock's spelling exactly where no test fails, and of one superblock alone.
+/// A page is a superblock section's spelling exactly where no test fails, and of one section alone.
 pub fn superblock_has_one_spelling()
     ensures exact { (page : List ℕ) → IsPage page
         → (superblock_fault page ≡ None)
-        ↔ ((version : ℕ) × (pages : ℕ) × (extents : List (ℕ × ℕ)) × SpellsSuperblock page version pages extents) }
-    ensures one_page { (page other : List ℕ) (version pages : ℕ) (extents : List (ℕ × ℕ))
-        → SpellsSuperblock page version pages extents → SpellsSuperblock other version pages extents → page ≡ other }
+        ↔ ((version : ℕ) × (extents : ℕ) × (pages : ℕ) × (sections : ℕ) × (section : ℕ) × (written : List (ℕ × ℕ))
+        × SpellsSuperblock page version extents pages sections section written) }
+    ensures one_page { (page other : List ℕ) (version extents pages sections section : ℕ) (written : List (ℕ × ℕ))
+        → SpellsSuperblock page version extents pages sections section written
+        → SpellsSuperblock other version extents pages sections section written → page ≡ other }
+    ensures one_section { (page : List ℕ)
+        (version w extents e pages p sections s section j : ℕ) (written es : List (ℕ × ℕ))
+        → SpellsSuperblock page version extents pages sections section written → SpellsSuperblock page w e p s j es
+        → (version ≡ w) × (extents ≡ e) × (pages ≡ p) × (sections ≡ s) × (section ≡ j) × (written ≡ es) }
+{}
+
+/// What is read in the first format, which is no longer written: a page exactly where no test of that format fails, as one superblock
+/// alone.
+pub fn first_format_has_one_spelling()
+    ensures exact { (page : List ℕ) → IsPage page
+        → (first_format_fault page ≡ None)
+        ↔ ((version : ℕ) × (pages : ℕ) × (extents : List (ℕ × ℕ)) × SpellsFirstFormat page version pages extents) }
     ensures one_superblock { (page : List ℕ) (version w pages p : ℕ) (extents es : List (ℕ × ℕ))
-        → SpellsSuperblock page version pages extents → SpellsSuperblock page w p es
+        → SpellsFirstFormat page version pages extents → SpellsFirstFormat page w p es
         → (version ≡ w) × (pages ≡ p) × (extents ≡ es) }
 {}
 
-/// A page is a section's spelling exactly where no test fails, and of one section alone.
-pub fn section_has_one_spelling()
+/// Page 0 spells a section in one of the two formats exactly where no test fails, and it spells no section in both.
+pub fn page_zero_has_one_spelling()
     ensures exact { (page : List ℕ) → IsPage page
-        → (section_fault page ≡ None)
+        → (page_zero_fault page ≡ None)
         ↔ ((version : ℕ) × (extents : ℕ) × (pages : ℕ) × (sections : ℕ) × (section : ℕ) × (written : List (ℕ × ℕ))
-        × SpellsSection page version extents pages sections section written) }
-    ensures one_page { (page other : List ℕ) (version extents pages sections section : ℕ) (written : List (ℕ × ℕ))
-        → SpellsSection page version extents pages sections section written
-        → SpellsSection other version extents pages sections section written → page ≡ other }
-    ensures one_section { (page : List ℕ)
-        (version w extents e pages p sections s section j : ℕ) (written es : List (ℕ × ℕ))
-        → SpellsSection page version extents pages sections section written → SpellsSection page w e p s j es
-        → (version ≡ w) × (extents ≡ e) × (pages ≡ p) × (sections ≡ s) × (section ≡ j) × (written ≡ es) }
+        × SpellsPageZero page version extents pages sections section written) }
+    ensures one_format { (page : List ℕ) (version w extents e pages p sections s section j : ℕ) (written es : List (ℕ × ℕ))
+        → SpellsSuperblock page version extents pages sections section written → IsOfFirstFormat page w e p s j es → ⊥ }
 {}
 
 /// A page is a root's spelling exactly where no test fails, and of one root alone.
@@ -92,11 +101,26 @@ pub fn frame_is_read_by_its_header()
 
 /// These formats keep what the machine's model asks of the spelling of its pages.
 pub fn these_formats_are_formats()
-    ensures formats { (extents pages per_section format : ℕ) → IsGeometry extents pages
-        → IsFormat (shape_of extents pages 1 per_section format) (formats_of (shape_of extents pages 1 per_section format)) }
+    ensures formats { (extents pages sections format : ℕ) → IsGeometry extents pages sections
+        → let S = shape_of extents pages sections (section_size extents sections) format in IsFormat S (formats_of S) }
     // The model doesn't bound the number of an identifier. One that 16 bytes can spell has these bytes, and any
     // 16 bytes are those of their number.
     ensures identifier { (id : ℕ) → id < 2 ^ 128 → id_bytes id ≡ big_bytes 16 id }
     ensures identifier_number { (bytes : List ℕ) → IsBytes bytes → length bytes ≡ 16
         → id_bytes (big_number 16 bytes) ≡ bytes }
+{}
+
+/// Each extent belongs to one section, and all sections together have all extents.
+pub fn sections_have_all_extents()
+    ensures holds { (extents pages sections e j : ℕ) → IsGeometry extents pages sections → e < extents
+        → (e / section_size extents sections ≡ j)
+        ↔ ((section_start extents sections j ≤ e)
+        × (e < section_start extents sections j + section_length extents sections j)) }
+    ensures inside { (extents pages sections e : ℕ) → IsGeometry extents pages sections → e < extents
+        → e / section_size extents sections < sections }
+    ensures lengths { (extents pages sections : ℕ) → IsGeometry extents pages sections
+        → lengths_below extents sections sections ≡ extents }
+    // The same in the words of the machine's model.
+    ensures model { (extents pages sections : ℕ) → IsGeometry extents pages sections
+        → IsModelGeometry extents pages sections (section_size extents sections) }
 {}

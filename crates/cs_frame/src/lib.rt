@@ -10,10 +10,11 @@ mod geometries;
 mod identifiers;
 mod laws;
 mod locators;
+mod page_zero;
 mod pages;
+mod pointers;
 mod roots;
 mod runs;
-mod sections;
 mod superblocks;
 
 pub use faults::FormatFault;
@@ -26,12 +27,12 @@ pub use geometries::{
 };
 pub use identifiers::ShardId;
 pub use laws::{
-    frame_has_one_spelling, frame_is_read_by_its_header, root_has_one_spelling,
-    run_has_one_spelling, section_has_one_spelling, superblock_has_one_spelling,
-    these_formats_are_formats,
+    first_format_has_one_spelling, frame_has_one_spelling, frame_is_read_by_its_header,
+    page_zero_has_one_spelling, root_has_one_spelling, run_has_one_spelling,
+    sections_have_all_extents, superblock_has_one_spelling, these_formats_are_formats,
 };
 pub use locators::Locator;
+pub use page_zero::decode_superblock;
 pub use roots::{GREATEST_RUNS, Root, decode_root, encode_root};
 pub use runs::{GREATEST_CHUNKS, Run, decode_run, encode_run};
-pub use sections::{Section, decode_section, encode_section};
-pub use superblocks::{Superblock, decode_superblock, encode_superblock};
+pub use superblocks::{Superblock, decode_section, encode_section, encode_superblock};

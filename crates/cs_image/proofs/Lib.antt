@@ -1,5 +1,6 @@
 pub mod Chunks
 pub mod Entries
+pub mod Families
 pub mod Found
 pub mod Listed
 pub mod New

@@ -1,27 +1,29 @@
 -- What an image recovers can be read.
-use Rattle.std.proofs.Common.{◌≡◌, inl, inr, ℕ, zero, suc, ◌+◌, ◌*◌, ◌/◌, ◌<◌, ◌≤◌, List, [], ◌∷◌, ◌++◌, length, map, take, Vec, if◌then◌else◌, eq-eqb, refl, sym, ap, ◌∙◌, subst, arith}
-use Rattle.std.specs.Prelude.{reverse, slice_index_or}
+use Rattle.std.proofs.Common.{◌≡◌, inl, inr, ℕ, zero, suc, ◌+◌, ◌*◌, ◌/◌, ◌<◌, ◌≤◌, List, [], ◌∷◌, ◌++◌, length, map, take, drop, Vec, refl, sym, ap, ◌∙◌, subst, arith}
+use Rattle.std.specs.Prelude.{reverse, slice_index, slice_index_or}
 use Rattle.std.specs.List.{AllByRecursion, flat_map}
 use Rattle.std.specs.declared.alloc.Global.{Global}
 use Rattle.std.proofs.lemmas.Grind.{reverse_onto}
-use Rattle.std.proofs.lemmas.List.{length-map, length-reverse}
+use Rattle.std.proofs.lemmas.List.{length-drop, length-map, length-reverse, length-take}
 use Rattle.byteorder.specs.Endian.{big_bytes}
-use Rattle.cs_extent.specs.State.{State as ExtentsState, shape}
+use Rattle.cs_extent.proofs.Sections.{all_in_part, part_inside}
+use Rattle.cs_extent.specs.State.{State as ExtentsState, section_rows, shape}
 use Rattle.cs_frame.proofs.Fields.{IsBytes-field}
 use Rattle.cs_frame.proofs.FrameLaws.{payload_is_read, stands}
 use Rattle.cs_frame.proofs.Pieces.{AllByRecursion-map, length-first_chunks}
 use Rattle.cs_frame.proofs.RootLaws as roots
-use Rattle.cs_frame.proofs.SuperblockLaws as superblocks
 use Rattle.cs_frame.specs.declared.identifiers.ShardId.{ShardId}
 use Rattle.cs_frame.specs.declared.locators.Locator.{Locator}
 use Rattle.cs_frame.specs.Bytes.{IsBytes, IsPage}
+use Rattle.cs_frame.specs.FirstFormat.{SpellsPageZero}
 use Rattle.cs_frame.specs.Formats.{as_entry, as_locator, extents_of as listed_extents, formats_of, place_of}
 use Rattle.cs_frame.specs.Frames.{bytes_in, first_page, frame_bytes, frame_count, page_count, payload_length, spelled_frame}
-use Rattle.cs_frame.specs.Geometries.{IsGeometry}
+use Rattle.cs_frame.specs.Geometries.{IsGeometry, section_length, section_size, section_start}
 use Rattle.cs_frame.specs.Locators.{FitsLocator}
+use Rattle.cs_frame.specs.Pointers.{FitsExtent as FitsPair}
 use Rattle.cs_frame.specs.Roots.{SpellsRoot}
 use Rattle.cs_frame.specs.Runs.{spelled_entry, spelled_run}
-use Rattle.cs_frame.specs.Superblocks.{FitsExtent as FitsPair, SpellsSuperblock}
+use Rattle.cs_frame.specs.Superblocks.{FitsSuperblock, SpellsSuperblock}
 use Rattle.cs_index.proofs.Newest.{all_oldest}
 use Rattle.cs_index.proofs.Sorted.{all_append, all_take}
 use Rattle.cs_index.specs.declared.runs.StoredRun.{StoredRun}
@@ -34,34 +36,32 @@ use Rattle.cs_model.specs.Geometry.{shape_of}
 use Rattle.cs_model.specs.Index.{AllPass, Passes, entries_of, names}
 use Rattle.cs_model.specs.Lists.{◌∈◌}
 use Rattle.cs_model.specs.Recovery.{Recovers}
-use Rattle.cs_image.specs.Reads.{AreLocated, ArePages, HasRunAt, IsLocated, IsReadable, IsRunRead, IsStoreRead, extents_at}
+use Rattle.cs_image.specs.Reads.{AreLocated, ArePages, AreSectionsRead, HasRunAt, IsLocated, IsReadable, IsRunRead, IsStoreRead, SpellsAt, extents_at}
 use Rattle.cs_image.proofs.Entries.{named_fit, tests_of}
 use Rattle.cs_image.proofs.Listed.{bytes_back, bytes_joined, to_all}
 use Rattle.cs_image.proofs.Runs.{StandsAt, all_stand, same_listed, same_runs}
-use Rattle.cs_image.proofs.Superblocks.{geometry, one_section, pages_below, read_format}
+use Rattle.cs_image.proofs.Superblocks.{at_one, from_formats, read_below, read_format, rows_agree, section_listed, section_one, zero_one}
 
--- ---- the extents that one section speaks of
+-- ---- pointer and generation of each extent
 
-module _ (speaks p g : ℕ → ℕ) (one : (e : ℕ) → speaks e ≡ 0) where
-  listed_more : (first count : ℕ) → listed_extents speaks p g 0 first (suc count) ≡ (p first, g first) ∷ listed_extents speaks p g 0 (suc first) count
-  listed_more first count = ap (λ b. if b then (p first, g first) ∷ listed_extents speaks p g 0 (suc first) count else listed_extents speaks p g 0 (suc first) count)
-      (eq-eqb (speaks first) 0 (one first))
+module _ (p g : ℕ → ℕ) where
+  abbrev pub rows_from : (first count : ℕ) → List (ℕ × ℕ)
+  rows_from first zero = []
+  rows_from first (suc count) = (p first, g first) ∷ rows_from (suc first) count
 
-  length-listed : (first count : ℕ) → length (listed_extents speaks p g 0 first count) ≡ count
-  length-listed first zero = refl
-  length-listed first (suc count) = ap length (listed_more first count) ∙ ap suc (length-listed (suc first) count)
+  length-rows : (first count : ℕ) → length (rows_from first count) ≡ count
+  length-rows first zero = refl
+  length-rows first (suc count) = ap suc (length-rows (suc first) count)
 
-  listed_at : (first count k : ℕ) → k < count → slice_index_or (listed_extents speaks p g 0 first count) k (0, 0) ≡ (p (first + k), g (first + k))
-  listed_at first zero k lt = absurd (omega (arith, lt))
-  listed_at first (suc count) zero lt = ap (λ (rows : List (ℕ × ℕ)). slice_index_or rows 0 (0, 0)) (listed_more first count)
-      ∙ ap (λ (n : ℕ). (p n, g n)) (let same : first ≡ first + 0 = omega arith in same)
-  listed_at first (suc count) (suc k) lt = ap (λ (rows : List (ℕ × ℕ)). slice_index_or rows (suc k) (0, 0)) (listed_more first count)
-      ∙ listed_at (suc first) count k (omega (arith, lt))
+  row_in : (first count k : ℕ) → k < count → slice_index_or (rows_from first count) k (0, 0) ≡ (p (first + k), g (first + k))
+  row_in first zero k lt = absurd (omega (arith, lt))
+  row_in first (suc count) zero lt = ap (λ (n : ℕ). (p n, g n)) (let same : first ≡ first + 0 = omega arith in same)
+  row_in first (suc count) (suc k) lt = row_in (suc first) count k (omega (arith, lt))
       ∙ ap (λ (n : ℕ). (p n, g n)) (let same : suc first + k ≡ first + suc k = omega arith in same)
 
-  listed_all : (P : ℕ × ℕ → Type 0) → ((e : ℕ) → P (p e, g e)) → (first count : ℕ) → AllByRecursion P (listed_extents speaks p g 0 first count)
-  listed_all P each first zero = tt
-  listed_all P each first (suc count) = subst (AllByRecursion P) (sym (listed_more first count)) (each first, listed_all P each (suc first) count)
+  all_rows : (P : ℕ × ℕ → Type 0) → ((e : ℕ) → P (p e, g e)) → (first count : ℕ) → AllByRecursion P (rows_from first count)
+  all_rows P each first zero = tt
+  all_rows P each first (suc count) = (each first, all_rows P each (suc first) count)
 
 -- ---- lists
 
@@ -79,50 +79,73 @@ length-places (run ∷ runs) = ap suc (length-places runs)
 
 -- ---- superblock and root
 
-module _ (extents pages : ℕ) (is : IsGeometry extents pages) (view : ℕ → List ℕ) (n : ℕ) (m : Map)
-    (r : Recovers (shape_of extents pages 1 extents 1) (formats_of (shape_of extents pages 1 extents 1)) view n m) where
+module _ (extents pages sections : ℕ) (is : IsGeometry extents pages sections) (view : ℕ → List ℕ) (n : ℕ) (m : Map)
+    (r : Recovers (shape_of extents pages sections (section_size extents sections) 2) (formats_of (shape_of extents pages sections (section_size extents sections) 2)) view n m) where
   abbrev S : Shape
-  S = shape_of extents pages 1 extents 1
+  S = shape_of extents pages sections (section_size extents sections) 2
 
   abbrev pub rows : List (ℕ × ℕ)
-  rows = listed_extents (shape_of extents pages 1 extents 1).section r.pointers r.generations 0 0 extents
+  rows = rows_from r.pointers r.generations 0 extents
+
+  -- the rows of a section
+  abbrev pub part : ℕ → List (ℕ × ℕ)
+  part j = take (section_length extents sections j) (drop (section_start extents sections j) rows)
 
   pub fits_located : (l : Place) → Passes S (formats_of S) view r.pointers r.generations l → FitsLocator (as_locator l)
   fits_located l passes = record {
-    extent = (let few : extents ≤ 512 = is.most_extents in let lt : l.extent < extents = passes.inside.0 in omega (arith, lt));
+    extent = (let few : extents ≤ 2048 = is.most_extents in let lt : l.extent < extents = passes.inside.0 in omega (arith, lt));
     page = (let few : pages ≤ 256 = is.most_pages in let lt : l.page < pages = passes.inside.1 in omega (arith, lt));
     generation = (let low : r.generations l.extent ≤ 4294967295 = (r.extents_fit l.extent).1 in let same : r.generations l.extent ≡ l.generation = passes.generation in omega (arith, low, same));
   }
 
-  pub rows_length : length rows ≡ extents
-  rows_length = length-listed (shape_of extents pages 1 extents 1).section r.pointers r.generations (one_section extents pages is) 0 extents
+  rows_length : length rows ≡ extents
+  rows_length = length-rows r.pointers r.generations 0 extents
 
   pub rows_at : (e : ℕ) → e < extents → slice_index_or rows e (0, 0) ≡ (r.pointers e, r.generations e)
-  rows_at e lt = listed_at (shape_of extents pages 1 extents 1).section r.pointers r.generations (one_section extents pages is) 0 extents e lt
+  rows_at e lt = row_in r.pointers r.generations 0 extents e lt
       ∙ ap (λ (k : ℕ). (r.pointers k, r.generations k)) (let same : 0 + e ≡ e = omega arith in same)
 
-  pub superblock_spelled : SpellsSuperblock (view 0) (r.versions 0) pages rows
-  superblock_spelled = record {
-    fits = record {
-      first_version = (r.versions_fit 0 (omega arith)).0;
-      last_version = (let high : r.versions 0 ≤ 9223372036854775807 = (r.versions_fit 0 (omega arith)).1 in omega (arith, high));
-      fewest_extents = (let low : 4 ≤ extents = is.fewest_extents in omega (arith, low, rows_length));
-      most_extents = (let high : extents ≤ 512 = is.most_extents in omega (arith, high, rows_length));
-      fewest_pages = is.fewest_pages;
-      most_pages = is.most_pages;
-      each = listed_all (shape_of extents pages 1 extents 1).section r.pointers r.generations (one_section extents pages is) (FitsPair pages)
-          (λ e. record { pointer = (r.extents_fit e).0; generation = (let low : r.generations e ≤ 4294967295 = (r.extents_fit e).1 in omega (arith, low)) }) 0 extents;
-    };
-    spelled = r.superblock 0 (omega arith);
+  rows_listed : (j : ℕ) → listed_extents S.section r.pointers r.generations j 0 extents ≡ part j
+  rows_listed j = section_listed extents pages sections 2 is rows rows_length r.pointers r.generations (λ k lt. sym (rows_at k lt)) j
+
+  part_fits : (j : ℕ) → j < sections → FitsSuperblock (r.versions j) extents pages sections j (part j)
+  part_fits j lt = record {
+    first_version = (r.versions_fit j lt).0;
+    last_version = (let high : r.versions j ≤ 9223372036854775807 = (r.versions_fit j lt).1 in omega (arith, high));
+    geometry = is;
+    one_of_them = lt;
+    count = omega (
+      arith,
+      length-take (section_length extents sections j) (drop (section_start extents sections j) rows),
+      length-drop (section_start extents sections j) rows,
+      rows_length,
+      part_inside extents sections j,
+    );
+    each = all_in_part (FitsPair pages) (section_start extents sections j) (section_length extents sections j) rows
+        (all_rows r.pointers r.generations (FitsPair pages)
+        (λ e. record { pointer = (r.extents_fit e).0; generation = (let low : r.generations e ≤ 4294967295 = (r.extents_fit e).1 in omega (arith, low)) }) 0 extents);
   }
 
-  -- another reading of the superblock has the same extents
-  pub same_shape : (version p : ℕ) (written : List (ℕ × ℕ)) → SpellsSuperblock (view 0) version p written
-      → (p ≡ pages) × (length written ≡ extents)
-  same_shape version p written spelled =
-      let a = superblocks.one_superblock (view 0) version p written spelled in
-      let b = superblocks.one_superblock (view 0) (r.versions 0) pages rows superblock_spelled in
-      (sym a.1 ∙ b.1, ap length (sym a.2 ∙ b.2) ∙ rows_length)
+  -- the page of each section spells it
+  pub section_spelled : (j : ℕ) → j < sections → SpellsAt j (view (S.section_page j)) (r.versions j) extents pages sections (part j)
+  section_spelled j lt = subst (λ (rs : List (ℕ × ℕ)). SpellsAt j (view (S.section_page j)) (r.versions j) extents pages sections rs) (rows_listed j)
+      (from_formats S r.pointers r.generations (r.formats j) j (r.versions j) (view (S.section_page j)) (r.superblock j lt)
+      (subst (λ (rs : List (ℕ × ℕ)). FitsSuperblock (r.versions j) extents pages sections j rs) (sym (rows_listed j)) (part_fits j lt)))
+
+  -- another reading of page 0 has the same numbers
+  pub zero_same : (version e p s j : ℕ) (written : List (ℕ × ℕ)) → SpellsPageZero (view 0) version e p s j written
+      → (e ≡ extents) × (p ≡ pages) × (s ≡ sections) × (j ≡ 0)
+  zero_same version e p s j written spelled =
+      let one = zero_one (view 0) version e p s j written (r.versions 0) extents pages sections 0 (part 0) spelled (section_spelled 0 is.fewest_sections) in
+      (one.0, one.1, one.2, one.3)
+
+  -- and another reading of a further section's page
+  pub section_same : (k version e p s j : ℕ) (written : List (ℕ × ℕ)) → 0 < k → k < sections → SpellsSuperblock (view (S.section_page k)) version e p s j written
+      → (e ≡ extents) × (p ≡ pages) × (s ≡ sections) × (j ≡ k)
+  section_same zero version e p s j written some lt spelled = absurd (omega (arith, some))
+  section_same (suc k) version e p s j written some lt spelled =
+      let one = section_one (view (S.section_page (suc k))) version e p s j written (r.versions (suc k)) extents pages sections (suc k) (part (suc k)) spelled (section_spelled (suc k) lt) in
+      (one.0, one.1, one.2, one.3)
 
   pub root_spelled : SpellsRoot (view 1) r.version n (map as_locator (reverse (places r.runs)))
   root_spelled = record {
@@ -139,24 +162,26 @@ module _ (extents pages : ℕ) (is : IsGeometry extents pages) (view : ℕ → L
 
 -- ---- runs
 
-module _ (view : ℕ → List ℕ) (version pages : ℕ) (written : List (ℕ × ℕ)) (superblock : SpellsSuperblock (view 0) version pages written)
-    (are : ArePages (2 + length written * pages) view) (n : ℕ) (m : Map)
-    (r : Recovers (shape (extents_at pages written)) (formats_of (shape (extents_at pages written))) view n m) where
+module _ (view : ℕ → List ℕ) (versions : List ℕ) (pages : ℕ) (written : List (ℕ × ℕ)) (superblock : AreSectionsRead view versions pages written)
+    (are : ArePages (1 + length written * pages + length versions) view) (n : ℕ) (m : Map)
+    (r : Recovers (shape (extents_at pages (length versions) written)) (formats_of (shape (extents_at pages (length versions) written))) view n m) where
   abbrev x : ExtentsState
-  x = extents_at pages written
+  x = extents_at pages (length versions) written
 
   abbrev Located : Place → Type 0
-  Located = Passes (shape (extents_at pages written)) (formats_of (shape (extents_at pages written))) view r.pointers r.generations
+  Located = Passes (shape (extents_at pages (length versions) written)) (formats_of (shape (extents_at pages (length versions) written))) view r.pointers r.generations
 
-  sizes : IsGeometry (length written) pages
-  sizes = geometry version pages written (view 0) superblock
+  sizes : IsGeometry (length written) pages (length versions)
+  sizes = superblock.geometry
 
-  rows_are : listed_extents (shape (extents_at pages written)).section r.pointers r.generations 0 0 (length written) ≡ written
-  rows_are = sym (superblocks.one_superblock (view 0) (r.versions 0) pages (rows (length written) pages sizes view n m r) (superblock_spelled (length written) pages sizes view n m r)).2
-      ∙ (superblocks.one_superblock (view 0) version pages written superblock).2
+  rows_are : (j : ℕ) → j < length versions → section_rows x j ≡ part (length written) pages (length versions) sizes view n m r j
+  rows_are j lt = at_one j (view ((shape x).section_page j)) (slice_index versions j) (length written) pages (length versions) (section_rows x j)
+      (r.versions j) (length written) pages (length versions) (part (length written) pages (length versions) sizes view n m r j)
+      (superblock.each j lt) (section_spelled (length written) pages (length versions) sizes view n m r j lt)
 
   at : (e : ℕ) → e < length written → slice_index_or written e (0, 0) ≡ (r.pointers e, r.generations e)
-  at e lt = ap (λ (rs : List (ℕ × ℕ)). slice_index_or rs e (0, 0)) (sym rows_are) ∙ rows_at (length written) pages sizes view n m r e lt
+  at e lt = rows_agree (length written) pages (length versions) 2 sizes written (rows (length written) pages (length versions) sizes view n m r) rows_are e lt
+      ∙ rows_at (length written) pages (length versions) sizes view n m r e lt
 
   pub located : (l : Place) → Located l → IsLocated x (as_locator l)
   located l passes = record {
@@ -169,7 +194,7 @@ module _ (view : ℕ → List ℕ) (version pages : ℕ) (written : List (ℕ ×
       → Stand (shape x) (formats_of (shape x)) view e i bs → AllByRecursion IsPage bs
   pages_stand e i [] there fits stand = tt
   pages_stand e i (b ∷ bs) there fits stand = (
-    subst IsPage stand.0 (are ((shape x).address e i) ((pages_below (length written) pages sizes).frames e i (there, omega (arith, fits)))),
+    subst IsPage stand.0 (are ((shape x).address e i) ((read_below view versions pages written superblock).frames e i (there, omega (arith, fits)))),
     pages_stand e (suc i) bs there (omega (arith, fits)) stand.1,
   )
 
@@ -200,7 +225,7 @@ module _ (view : ℕ → List ℕ) (version pages : ℕ) (written : List (ℕ ×
           fits = named_fit run.entries (tests_of run.entries (r.runs_fit run has))
               (bytes_back (big_bytes 4 (length (map as_entry run.entries))) (flat_map spelled_entry (map as_entry run.entries))
               (payload_bytes run.place.extent run.place.page (spelled_run (map as_entry run.entries)) reads.passes.inside.0 reads.inside reads.stand))
-              (λ e there l at. fits_located (length written) pages sizes view n m r l (entry_located run has e there l at));
+              (λ e there l at. fits_located (length written) pages (length versions) sizes view n m r l (entry_located run has e there l at));
           spelled = refl;
         };
       }
@@ -208,10 +233,10 @@ module _ (view : ℕ → List ℕ) (version pages : ℕ) (written : List (ℕ ×
   module _ (root commands : ℕ) (listed : List Locator) (root_page : SpellsRoot (view 1) root commands listed) where
     pub same_commands : commands ≡ n
     same_commands = sym (roots.one_root (view 1) root commands listed root_page).1
-        ∙ (roots.one_root (view 1) r.version n (map as_locator (reverse (places r.runs))) (root_spelled (length written) pages sizes view n m r)).1
+        ∙ (roots.one_root (view 1) r.version n (map as_locator (reverse (places r.runs))) (root_spelled (length written) pages (length versions) sizes view n m r)).1
 
     pub same_places : map as_locator (reverse (places r.runs)) ≡ listed
-    same_places = sym (roots.one_root (view 1) r.version n (map as_locator (reverse (places r.runs))) (root_spelled (length written) pages sizes view n m r)).2
+    same_places = sym (roots.one_root (view 1) r.version n (map as_locator (reverse (places r.runs))) (root_spelled (length written) pages (length versions) sizes view n m r)).2
         ∙ (roots.one_root (view 1) root commands listed root_page).2
 
     pub all_readable : AllByRecursion (λ place. IsReadable x view place) listed
@@ -220,10 +245,10 @@ module _ (view : ℕ → List ℕ) (version pages : ℕ) (written : List (ℕ ×
         (all_places (λ (l : Place). IsReadable x view (as_locator l)) r.runs (λ run has. (map as_entry run.entries, has_run run has)))))
 
   module _ (root commands : ℕ) (runs : List StoredRun) (root_page : SpellsRoot (view 1) root commands (map (λ run. run.place) runs))
-      (read : AllByRecursion (IsRunRead (extents_at pages written) view) runs) where
+      (read : AllByRecursion (IsRunRead (extents_at pages (length versions) written) view) runs) where
     -- the runs that were read are those that are recovered
     runs_are : newest_first runs ≡ r.runs
-    runs_are = same_runs (shape x) view (read_format version pages written (view 0) superblock) (newest_first runs) r.runs
+    runs_are = same_runs (shape x) view (read_format view versions pages written superblock) (newest_first runs) r.runs
         (same_listed r.runs runs (same_places root commands (map (λ run. run.place) runs) root_page))
         (all_stand x view runs read)
         (to_all (StandsAt (shape x) view) r.runs (λ run has. record { fits = r.runs_fit run has; inside = (r.gives.runs_read run has).inside; stand = (r.gives.runs_read run has).stand }))
@@ -243,9 +268,9 @@ module _ (view : ℕ → List ℕ) (version pages : ℕ) (written : List (ℕ ×
     from_entries [] all = tt
     from_entries (e ∷ xs) all = (from_places e.1.items all.0, from_entries xs all.1)
 
-    pub store_read : IsStoreRead view version pages written root commands runs
+    pub store_read : IsStoreRead view versions pages written root commands runs
     store_read = record {
-      superblock = superblock;
+      sections = superblock;
       root_page = root_page;
       runs_read = read;
       located = go runs (all_oldest (λ (run : Run). AllByRecursion EntryLocated run.entries) runs entries_located);

@@ -1,54 +1,258 @@
--- The extents that a superblock records.
-use Rattle.std.proofs.Common.{◌≡◌, ℕ, zero, suc, ◌+◌, ◌*◌, ◌<◌, ◌≤◌, ◌^◌, false, List, [], ◌∷◌, length, Some, None, if◌then◌else◌, eq-eqb, refl, sym, ap, ◌∙◌, subst, arith}
-use Rattle.std.specs.Prelude.{slice_index_or}
+-- The extents that the sections of a superblock record.
+use Rattle.std.proofs.Common.{◌≡◌, inl, inr, ⊎_elim, ℕ, zero, suc, ◌+◌, ◌-◌, ◌*◌, ◌/◌, ◌<◌, ◌≤◌, ◌^◌, Bool, true, false, List, [], ◌∷◌, length, take, drop, Some, None, nat_lt, ◌==◌, ◌&&◌, if◌then◌else◌, eq-eqb, ne_eqb, refl, sym, ap, ◌∙◌, subst, arith}
+use Rattle.std.specs.Prelude.{◌↔◌, slice_index, slice_index_or}
 use Rattle.std.specs.List.{AllByRecursion}
-use Rattle.std.proofs.lemmas.List.{length-replicate}
-use Rattle.cs_extent.specs.State.{IsWhole, extents_of, shape}
+use Rattle.std.proofs.lemmas.Bool.{and_parts, and_right, cases_lt, eqb-true, lt-ltb}
+use Rattle.std.proofs.lemmas.List.{get_or-drop, get_or-take, get_or_past, length-replicate}
+use Rattle.cs_extent.specs.State.{IsWhole, State as ExtentsState, extents_of, section_rows, shape}
+use Rattle.cs_frame.proofs.FirstFormatLaws.{apart, one_of_first_format, page_zero_fits, spelled_has_none as first_has_none}
 use Rattle.cs_frame.proofs.FormatLaws.{is_format}
+use Rattle.cs_frame.proofs.GeometryLaws.{model_geometry, section_holds, section_inside, section_length-le}
+use Rattle.cs_frame.proofs.SuperblockLaws.{one_section as section_of_page, spelled_has_none}
+use Rattle.cs_frame.specs.FirstFormat.{IsOfFirstFormat, SpellsPageZero, spelled_first_format}
 use Rattle.cs_frame.specs.Formats.{extents_of as listed_extents, formats_of}
-use Rattle.cs_frame.specs.Geometries.{IsGeometry}
-use Rattle.cs_frame.specs.Superblocks.{FitsExtent as FitsPair, SpellsSuperblock, spelled_superblock}
+use Rattle.cs_frame.specs.Geometries.{IsGeometry, section_length, section_size, section_start}
+use Rattle.cs_frame.specs.Pointers.{FitsExtent as FitsPair}
+use Rattle.cs_frame.specs.Superblocks.{FitsSuperblock, SpellsSuperblock, spelled_superblock}
 use Rattle.cs_model.proofs.LocalRecovery.{lies_below}
 use Rattle.cs_model.proofs.Shapes.{is_shape}
-use Rattle.cs_model.specs.Device.{IsShape}
+use Rattle.cs_model.specs.Device.{IsShape, Shape}
 use Rattle.cs_model.specs.Frames.{IsFormat}
-use Rattle.cs_model.specs.Geometry.{IsGeometry as IsShapeGeometry, shape_of}
+use Rattle.cs_model.specs.Geometry.{shape_of}
 use Rattle.cs_model.specs.Local.{LiesBelow}
 use Rattle.cs_model.specs.Safe.{FitsExtent}
-use Rattle.cs_image.specs.Reads.{extents_at}
+use Rattle.cs_image.specs.Reads.{AreSectionsRead, SpellsAt, extents_at}
 use Rattle.cs_image.proofs.Listed.{all_default}
 
--- the list of extents that one section speaks of
-pub all_listed : (speaks pointers generations : ℕ → ℕ) (first : ℕ) (rows : List (ℕ × ℕ)) → ((e : ℕ) → speaks e ≡ 0)
-    → ((k : ℕ) → (pointers (first + k), generations (first + k)) ≡ slice_index_or rows k (0, 0))
-    → listed_extents speaks pointers generations 0 first (length rows) ≡ rows
-all_listed speaks pointers generations first [] one each = refl
-all_listed speaks pointers generations first (row ∷ rows) one each =
-    ap (λ b. if b then (pointers first, generations first) ∷ listed_extents speaks pointers generations 0 (suc first) (length rows)
-    else listed_extents speaks pointers generations 0 (suc first) (length rows))
-    (eq-eqb (speaks first) 0 (one first))
-    ∙ ap (λ (r : ℕ × ℕ). r ∷ listed_extents speaks pointers generations 0 (suc first) (length rows))
-    (ap (λ (n : ℕ). (pointers n, generations n)) (let n : first ≡ first + 0 = omega arith in n) ∙ each 0)
-    ∙ ap (λ (l : List (ℕ × ℕ)). row ∷ l) (all_listed speaks pointers generations (suc first) rows one
-    (λ k. ap (λ (n : ℕ). (pointers n, generations n)) (let n : suc first + k ≡ first + suc k = omega arith in n) ∙ each (suc k)))
+-- ---- the extents that a section speaks of
 
--- the laws of a geometry
-pub shape_geometry : (extents pages : ℕ) → IsGeometry extents pages → IsShapeGeometry extents pages 1 extents
-shape_geometry extents pages is = record {
-  some_page = (let few : 2 ≤ pages = is.fewest_pages in omega arith);
-  some_section = omega arith;
-  some_extent = (let few : 4 ≤ extents = is.fewest_extents in omega arith);
-  all = (let same : extents ≤ 1 * extents = omega arith in same);
-}
+-- what follows the first is spoken of as the whole is
+next_speaks : (speaks : ℕ → ℕ) (j first size : ℕ) (Here Next : ℕ → Type 0) → ((k : ℕ) → k < suc size → (speaks (first + k) ≡ j) ↔ Here k)
+    → ((k : ℕ) → Here (suc k) ↔ Next k) → (k : ℕ) → k < size → (speaks (suc first + k) ≡ j) ↔ Next k
+next_speaks speaks j first size Here Next speak step k lt =
+    let moved : speaks (suc first + k) ≡ speaks (first + suc k) = ap speaks (let n : suc first + k ≡ first + suc k = omega arith in n) in
+    let here : (speaks (first + suc k) ≡ j) ↔ Here (suc k) = speak (suc k) (omega (arith, lt)) in (
+      (λ (is : speaks (suc first + k) ≡ j). (step k).0 (here.0 (sym moved ∙ is))),
+      (λ (next : Next k). moved ∙ here.1 ((step k).1 next)),
+    )
 
-pub one_section : (extents pages : ℕ) → IsGeometry extents pages → (e : ℕ) → (shape_of extents pages 1 extents 1).section e ≡ 0
-one_section extents pages is e =
-    let lt : (shape_of extents pages 1 extents 1).section e < 1 = (is_shape extents pages 1 extents 1 (shape_geometry extents pages is)).section e in omega arith
+next_rows : (pointers generations : ℕ → ℕ) (first : ℕ) (row : ℕ × ℕ) (rows : List (ℕ × ℕ))
+    → ((k : ℕ) → k < suc (length rows) → (pointers (first + k), generations (first + k)) ≡ slice_index_or (row ∷ rows) k (0, 0))
+    → (k : ℕ) → k < length rows → (pointers (suc first + k), generations (suc first + k)) ≡ slice_index_or rows k (0, 0)
+next_rows pointers generations first row rows each k lt =
+    ap (λ (n : ℕ). (pointers n, generations n)) (let n : suc first + k ≡ first + suc k = omega arith in n) ∙ each (suc k) (omega (arith, lt))
 
-pub pages_below : (extents pages : ℕ) → IsGeometry extents pages → LiesBelow (shape_of extents pages 1 extents 1) (2 + extents * pages)
-pages_below extents pages is = subst (λ (n : ℕ). LiesBelow (shape_of extents pages 1 extents 1) n)
-    (let same : 1 + extents * pages + 1 ≡ 2 + extents * pages = omega arith in same)
-    (lies_below extents pages 1 extents 1 (shape_geometry extents pages is))
+-- those that it speaks of, where they are so many from one on
+listed_part : (speaks pointers generations : ℕ → ℕ) (j skip count first : ℕ) (rows : List (ℕ × ℕ))
+    → ((k : ℕ) → k < length rows → (speaks (first + k) ≡ j) ↔ ((skip ≤ k) × (k < skip + count)))
+    → ((k : ℕ) → k < length rows → (pointers (first + k), generations (first + k)) ≡ slice_index_or rows k (0, 0))
+    → listed_extents speaks pointers generations j first (length rows) ≡ take count (drop skip rows)
+listed_part speaks pointers generations j zero zero first [] speak each = refl
+listed_part speaks pointers generations j zero (suc count) first [] speak each = refl
+listed_part speaks pointers generations j (suc skip) zero first [] speak each = refl
+listed_part speaks pointers generations j (suc skip) (suc count) first [] speak each = refl
+listed_part speaks pointers generations j (suc skip) count first (row ∷ rows) speak each =
+    let other : (speaks first == j) ≡ false = ne_eqb (speaks first) j (λ same.
+    let h : (suc skip ≤ 0) × (0 < suc skip + count) = (speak 0 (omega arith)).0 (ap speaks (let n : first + 0 ≡ first = omega arith in n) ∙ same) in omega (arith, h.0)) in
+    ap (λ (b : Bool). if b then (pointers first, generations first) ∷ listed_extents speaks pointers generations j (suc first) (length rows)
+    else listed_extents speaks pointers generations j (suc first) (length rows)) other
+    ∙ listed_part speaks pointers generations j skip count (suc first) rows
+    (next_speaks speaks j first (length rows) (λ k. (suc skip ≤ k) × (k < suc skip + count)) (λ k. (skip ≤ k) × (k < skip + count)) speak (λ k. (
+      (λ (h : (suc skip ≤ suc k) × (suc k < suc skip + count)). (omega (arith, h.0), omega (arith, h.1))),
+      (λ (h : (skip ≤ k) × (k < skip + count)). (omega (arith, h.0), omega (arith, h.1))),
+    )))
+    (next_rows pointers generations first row rows each)
+listed_part speaks pointers generations j zero zero first (row ∷ rows) speak each =
+    let other : (speaks first == j) ≡ false = ne_eqb (speaks first) j (λ same.
+    let h : (0 ≤ 0) × (0 < 0 + 0) = (speak 0 (omega arith)).0 (ap speaks (let n : first + 0 ≡ first = omega arith in n) ∙ same) in omega (arith, h.1)) in
+    ap (λ (b : Bool). if b then (pointers first, generations first) ∷ listed_extents speaks pointers generations j (suc first) (length rows)
+    else listed_extents speaks pointers generations j (suc first) (length rows)) other
+    ∙ listed_part speaks pointers generations j zero zero (suc first) rows
+    (next_speaks speaks j first (length rows) (λ k. (0 ≤ k) × (k < 0 + 0)) (λ k. (0 ≤ k) × (k < 0 + 0)) speak (λ k. (
+      (λ (h : (0 ≤ suc k) × (suc k < 0 + 0)). absurd (omega (arith, h.1))),
+      (λ (h : (0 ≤ k) × (k < 0 + 0)). absurd (omega (arith, h.1))),
+    )))
+    (next_rows pointers generations first row rows each)
+listed_part speaks pointers generations j zero (suc count) first (row ∷ rows) speak each =
+    let there : (speaks first == j) ≡ true = eq-eqb (speaks first) j
+    (ap speaks (let n : first ≡ first + 0 = omega arith in n) ∙ (speak 0 (omega arith)).1 (omega arith, omega arith)) in
+    ap (λ (b : Bool). if b then (pointers first, generations first) ∷ listed_extents speaks pointers generations j (suc first) (length rows)
+    else listed_extents speaks pointers generations j (suc first) (length rows)) there
+    ∙ ap (λ (r : ℕ × ℕ). r ∷ listed_extents speaks pointers generations j (suc first) (length rows))
+    (ap (λ (n : ℕ). (pointers n, generations n)) (let n : first ≡ first + 0 = omega arith in n) ∙ each 0 (omega arith))
+    ∙ ap (λ (l : List (ℕ × ℕ)). row ∷ l) (listed_part speaks pointers generations j zero count (suc first) rows
+    (next_speaks speaks j first (length rows) (λ k. (0 ≤ k) × (k < 0 + suc count)) (λ k. (0 ≤ k) × (k < 0 + count)) speak (λ k. (
+      (λ (h : (0 ≤ suc k) × (suc k < 0 + suc count)). (omega arith, omega (arith, h.1))),
+      (λ (h : (0 ≤ k) × (k < 0 + count)). (omega arith, omega (arith, h.1))),
+    )))
+    (next_rows pointers generations first row rows each))
+
+module _ (extents pages sections format : ℕ) (g : IsGeometry extents pages sections) where
+  abbrev divided : Shape
+  divided = shape_of extents pages sections (section_size extents sections) format
+
+  -- the section of an extent that is there
+  section_is : (e : ℕ) → e < extents → e / section_size extents sections ≡ divided.section e
+  section_is e lt =
+      let test : nat_lt e extents ≡ true = lt-ltb e extents lt in
+      ap (λ (b : Bool). if b then e / section_size extents sections else 0) (sym test)
+
+  -- what the formats list of a section, of pointers and generations that a list has
+  pub section_listed : (written : List (ℕ × ℕ)) → length written ≡ extents → (pointers generations : ℕ → ℕ)
+      → ((k : ℕ) → k < extents → (pointers k, generations k) ≡ slice_index_or written k (0, 0)) → (j : ℕ)
+      → listed_extents divided.section pointers generations j 0 extents ≡ take (section_length extents sections j) (drop (section_start extents sections j) written)
+  section_listed written same pointers generations each j =
+      subst (λ (n : ℕ). listed_extents divided.section pointers generations j 0 n ≡ take (section_length extents sections j) (drop (section_start extents sections j) written)) same
+      (listed_part divided.section pointers generations j (section_start extents sections j) (section_length extents sections j) 0 written
+      (λ k lt. speak k (subst (λ (n : ℕ). k < n) same lt))
+      (λ k lt. ap (λ (n : ℕ). (pointers n, generations n)) (let n : 0 + k ≡ k = omega arith in n) ∙ each k (subst (λ (n : ℕ). k < n) same lt)))
+    where
+      speak : (k : ℕ) → k < extents → (divided.section (0 + k) ≡ j)
+          ↔ ((section_start extents sections j ≤ k) × (k < section_start extents sections j + section_length extents sections j))
+      speak k lt =
+          let here : divided.section (0 + k) ≡ divided.section k = ap (λ (n : ℕ). divided.section n) (let n : 0 + k ≡ k = omega arith in n) in
+          let holds = section_holds extents pages sections g k j lt in (
+            (λ (is : divided.section (0 + k) ≡ j). holds.0 (section_is k lt ∙ sym here ∙ is)),
+            (λ (both : (section_start extents sections j ≤ k) × (k < section_start extents sections j + section_length extents sections j)). here ∙ sym (section_is k lt) ∙ holds.1 both),
+          )
+
+  -- an extent's row stands in the part of its section
+  pub row_at : (written : List (ℕ × ℕ)) (e j : ℕ) → e < extents → e / section_size extents sections ≡ j
+      → slice_index_or (take (section_length extents sections j) (drop (section_start extents sections j) written)) (e - section_start extents sections j) (0, 0)
+      ≡ slice_index_or written e (0, 0)
+  row_at written e j lt is =
+      let holds : (section_start extents sections j ≤ e) × (e < section_start extents sections j + section_length extents sections j) = (section_holds extents pages sections g e j lt).0 is in
+      get_or-take (section_length extents sections j) (drop (section_start extents sections j) written) (e - section_start extents sections j) (0, 0) (omega (arith, holds.0, holds.1))
+      ∙ get_or-drop (section_start extents sections j) written (e - section_start extents sections j) (0, 0)
+      ∙ ap (λ (n : ℕ). slice_index_or written n (0, 0)) (let back : section_start extents sections j + (e - section_start extents sections j) ≡ e = omega (arith, holds.0) in back)
+
+  -- lists whose parts agree agree
+  pub rows_agree : (xs ys : List (ℕ × ℕ))
+      → ((j : ℕ) → j < sections → take (section_length extents sections j) (drop (section_start extents sections j) xs) ≡ take (section_length extents sections j) (drop (section_start extents sections j) ys))
+      → (e : ℕ) → e < extents → slice_index_or xs e (0, 0) ≡ slice_index_or ys e (0, 0)
+  rows_agree xs ys same e lt =
+      sym (row_at xs e (e / section_size extents sections) lt refl)
+      ∙ ap (λ (rows : List (ℕ × ℕ)). slice_index_or rows (e - section_start extents sections (e / section_size extents sections)) (0, 0))
+      (same (e / section_size extents sections) (section_inside extents pages sections g e lt))
+      ∙ row_at ys e (e / section_size extents sections) lt refl
+
+-- ---- what a page spells
+
+-- it can be spelled
+pub at_fits : (j : ℕ) (page : List ℕ) (version extents pages sections : ℕ) (rows : List (ℕ × ℕ)) → SpellsAt j page version extents pages sections rows
+    → FitsSuperblock version extents pages sections j rows
+at_fits zero page version extents pages sections rows is = page_zero_fits page version extents pages sections 0 rows is
+at_fits (suc j) page version extents pages sections rows is = is.fits
+
+-- and it is one section
+pub section_one : (page : List ℕ) (version extents pages sections section : ℕ) (rows : List (ℕ × ℕ)) (w e p s j : ℕ) (others : List (ℕ × ℕ))
+    → SpellsSuperblock page version extents pages sections section rows → SpellsSuperblock page w e p s j others
+    → (extents ≡ e) × (pages ≡ p) × (sections ≡ s) × (section ≡ j) × (rows ≡ others)
+section_one page version extents pages sections section rows w e p s j others a b =
+    let x = section_of_page page version extents pages sections section rows a in
+    let y = section_of_page page w e p s j others b in
+    (sym x.of_extents ∙ y.of_extents, sym x.of_pages ∙ y.of_pages, sym x.of_sections ∙ y.of_sections, sym x.of_section ∙ y.of_section, sym x.of_written ∙ y.of_written)
+
+pub zero_one : (page : List ℕ) (version extents pages sections section : ℕ) (rows : List (ℕ × ℕ)) (w e p s j : ℕ) (others : List (ℕ × ℕ))
+    → SpellsPageZero page version extents pages sections section rows → SpellsPageZero page w e p s j others
+    → (extents ≡ e) × (pages ≡ p) × (sections ≡ s) × (section ≡ j) × (rows ≡ others)
+zero_one page version extents pages sections section rows w e p s j others (inl a) (inl b) = section_one page version extents pages sections section rows w e p s j others a b
+zero_one page version extents pages sections section rows w e p s j others (inl a) (inr b) =
+    absurd (apart page (first_has_none page w p others b.spells) (spelled_has_none page version extents pages sections section rows a))
+zero_one page version extents pages sections section rows w e p s j others (inr a) (inl b) =
+    absurd (apart page (first_has_none page version pages rows a.spells) (spelled_has_none page w e p s j others b))
+zero_one page version extents pages sections section rows w e p s j others (inr a) (inr b) =
+    let x = one_of_first_format page version pages rows a.spells in
+    let y = one_of_first_format page w p others b.spells in
+    let same : rows ≡ others = sym x.2 ∙ y.2 in
+    (a.all_extents ∙ ap length same ∙ sym b.all_extents, sym x.1 ∙ y.1, a.one_section ∙ sym b.one_section, a.first_section ∙ sym b.first_section, same)
+
+pub at_one : (j : ℕ) (page : List ℕ) (version extents pages sections : ℕ) (rows : List (ℕ × ℕ)) (w e p s : ℕ) (others : List (ℕ × ℕ))
+    → SpellsAt j page version extents pages sections rows → SpellsAt j page w e p s others → rows ≡ others
+at_one zero page version extents pages sections rows w e p s others a b = (zero_one page version extents pages sections 0 rows w e p s 0 others a b).4
+at_one (suc j) page version extents pages sections rows w e p s others a b = (section_one page version extents pages sections (suc j) rows w e p s (suc j) others a b).4
+
+pub of_section : (j : ℕ) (page : List ℕ) (version extents pages sections : ℕ) (rows : List (ℕ × ℕ)) → SpellsSuperblock page version extents pages sections j rows
+    → SpellsAt j page version extents pages sections rows
+of_section zero page version extents pages sections rows is = inl is
+of_section (suc j) page version extents pages sections rows is = is
+
+of_first : (j : ℕ) (page : List ℕ) (version extents pages sections : ℕ) (rows : List (ℕ × ℕ)) → j ≡ 0 → IsOfFirstFormat page version extents pages sections j rows
+    → SpellsAt j page version extents pages sections rows
+of_first zero page version extents pages sections rows first is = inr is
+of_first (suc j) page version extents pages sections rows first is = absurd (omega (arith, first))
+
+-- ---- in the words of the machine's formats
+
+all_of_them : (n : ℕ) → n ≡ section_length n 1 0
+all_of_them n = omega arith
+
+module _ (S : Shape) (pointers generations : ℕ → ℕ) where
+  -- the rows of section j
+  abbrev listed : ℕ → List (ℕ × ℕ)
+  listed j = listed_extents S.section pointers generations j 0 S.extents
+
+  abbrev of_first_format : (j version : ℕ) → List ℕ
+  of_first_format j version = spelled_first_format version S.pages (listed j)
+
+  abbrev in_sections : (j version : ℕ) → List ℕ
+  in_sections j version = spelled_superblock version S.extents S.pages S.sections j (listed j)
+
+  first_spelled : (j version : ℕ) (page : List ℕ) → j ≡ 0 → S.sections ≡ 1 → FitsSuperblock version S.extents S.pages S.sections j (listed j) → page ≡ of_first_format j version
+      → IsOfFirstFormat page version S.extents S.pages S.sections j (listed j)
+  first_spelled j version page first one fits is =
+      let count : length (listed j) ≡ S.extents = fits.count ∙ ap (λ (n : ℕ). section_length S.extents n j) one ∙ ap (section_length S.extents 1) first ∙ sym (all_of_them S.extents) in
+      let most : section_length S.extents S.sections j ≤ section_size S.extents S.sections = section_length-le S.extents S.sections j in
+      record {
+        spells = record {
+          fits = record {
+            first_version = fits.first_version;
+            last_version = fits.last_version;
+            fewest_extents = omega (arith, count, fits.geometry.fewest_extents);
+            most_extents = omega (arith, fits.count, most, fits.geometry.section_fits);
+            fewest_pages = fits.geometry.fewest_pages;
+            most_pages = fits.geometry.most_pages;
+            each = fits.each;
+          };
+          spelled = is;
+        };
+        all_extents = sym count;
+        one_section = one;
+        first_section = first;
+      }
+
+  -- what they spell of a section, where it can be spelled, its page spells
+  pub from_formats : (format j version : ℕ) (page : List ℕ) → page ≡ (formats_of S).superblock format j version pointers generations
+      → FitsSuperblock version S.extents S.pages S.sections j (listed j) → SpellsAt j page version S.extents S.pages S.sections (listed j)
+  from_formats format j version page is fits = go ((format == 1) && (S.sections == 1)) refl is
+    where
+      go : (b : Bool) → ((format == 1) && (S.sections == 1)) ≡ b → page ≡ (if b then of_first_format j version else in_sections j version)
+          → SpellsAt j page version S.extents S.pages S.sections (listed j)
+      go true test is =
+          let one : S.sections ≡ 1 = eqb-true S.sections 1 (and_parts (format == 1) (S.sections == 1) test).1 in
+          let inside : j < S.sections = fits.one_of_them in
+          let first : j ≡ 0 = omega (arith, one, inside) in
+          of_first j page version S.extents S.pages S.sections (listed j) first (first_spelled j version page first one fits is)
+      go false test is = of_section j page version S.extents S.pages S.sections (listed j) (record { fits = fits; spelled = is })
+
+  -- what page 0 spells, one of them spells
+  pub zero_formats : (version : ℕ) (page : List ℕ) (rows : List (ℕ × ℕ)) → listed 0 ≡ rows → SpellsPageZero page version S.extents S.pages S.sections 0 rows
+      → (format : ℕ) × (page ≡ (formats_of S).superblock format 0 version pointers generations)
+  zero_formats version page rows same (inl is) = (2, is.spelled ∙ ap (spelled_superblock version S.extents S.pages S.sections 0) (sym same))
+  zero_formats version page rows same (inr is) =
+      let test : (S.sections == 1) ≡ true = eq-eqb S.sections 1 is.one_section in
+      (1, is.spells.spelled ∙ ap (spelled_first_format version S.pages) (sym same) ∙ ap (λ (b : Bool). if b then of_first_format 0 version else in_sections 0 version) (sym test))
+
+  -- and what the page of a further section spells, each of them
+  pub section_formats : (format j version : ℕ) (page : List ℕ) (rows : List (ℕ × ℕ)) → listed (suc j) ≡ rows → suc j < S.sections
+      → SpellsSuperblock page version S.extents S.pages S.sections (suc j) rows → page ≡ (formats_of S).superblock format (suc j) version pointers generations
+  section_formats format j version page rows same inside is =
+      let several : (S.sections == 1) ≡ false = ne_eqb S.sections 1 (λ one. omega (arith, one, inside)) in
+      let test : ((format == 1) && (S.sections == 1)) ≡ false = and_right (format == 1) (S.sections == 1) several in
+      is.spelled ∙ ap (spelled_superblock version S.extents S.pages S.sections (suc j)) (sym same)
+      ∙ ap (λ (b : Bool). if b then of_first_format (suc j) version else in_sections (suc j) version) (sym test)
+
+-- ---- what is read
 
 fits_at : (pages : ℕ) (rows : List (ℕ × ℕ)) → AllByRecursion (FitsPair pages) rows → (e : ℕ)
     → ((slice_index_or rows e (0, 0)).0 ≤ pages) × ((slice_index_or rows e (0, 0)).1 ≤ 4294967295)
@@ -56,61 +260,65 @@ fits_at pages [] all e = (omega arith, omega arith)
 fits_at pages (row ∷ rows) all zero = (all.0.pointer, (let lt = all.0.generation in omega (arith, lt)))
 fits_at pages (row ∷ rows) all (suc e) = fits_at pages rows all.1 e
 
-module _ (version pages : ℕ) (written : List (ℕ × ℕ)) (page : List ℕ) (is : SpellsSuperblock page version pages written) where
-  pub geometry : IsGeometry (length written) pages
-  geometry = record {
-    fewest_extents = is.fits.fewest_extents;
-    most_extents = is.fits.most_extents;
-    fewest_pages = is.fits.fewest_pages;
-    most_pages = is.fits.most_pages;
+module _ (view : ℕ → List ℕ) (versions : List ℕ) (pages : ℕ) (written : List (ℕ × ℕ)) (is : AreSectionsRead view versions pages written) where
+  abbrev x : ExtentsState
+  x = extents_at pages (length versions) written
+
+  pub read_shape : IsShape (shape x)
+  read_shape = is_shape (length written) pages (length versions) (section_size (length written) (length versions)) 2 (model_geometry (length written) pages (length versions) is.geometry)
+
+  pub read_format : IsFormat (shape x) (formats_of (shape x))
+  read_format = is_format (length written) pages (length versions) 2 is.geometry
+
+  pub read_below : LiesBelow (shape x) (1 + length written * pages + length versions)
+  read_below = lies_below (length written) pages (length versions) (section_size (length written) (length versions)) 2 (model_geometry (length written) pages (length versions) is.geometry)
+
+  -- what each section has can be spelled
+  pub read_fits : (j : ℕ) → j < length versions → FitsSuperblock (slice_index versions j) (length written) pages (length versions) j (section_rows x j)
+  read_fits j lt = at_fits j (view ((shape x).section_page j)) (slice_index versions j) (length written) pages (length versions) (section_rows x j) (is.each j lt)
+
+  -- the formats list a section's rows
+  pub read_listed : (j : ℕ) → listed_extents (shape x).section (extents_of x).pointer (extents_of x).generation j 0 (length written) ≡ section_rows x j
+  read_listed j = section_listed (length written) pages (length versions) 2 is.geometry written refl (extents_of x).pointer (extents_of x).generation (λ k lt. refl) j
+
+  abbrev Fits : ℕ × ℕ → Type 0
+  Fits row = (row.0 ≤ pages) × (row.1 ≤ 4294967295)
+
+  pub extents_fit : (e : ℕ) → FitsExtent (shape x) ((extents_of x).pointer e) ((extents_of x).generation e)
+  extents_fit e = ⊎_elim
+      (λ (lt : e < length written). subst Fits
+      (row_at (length written) pages (length versions) 2 is.geometry written e (e / section_size (length written) (length versions)) lt refl)
+      (fits_at pages (section_rows x (e / section_size (length written) (length versions)))
+      (read_fits (e / section_size (length written) (length versions)) (section_inside (length written) pages (length versions) is.geometry e lt)).each
+      (e - section_start (length written) (length versions) (e / section_size (length written) (length versions)))))
+      (λ (past : length written ≤ e). subst Fits (sym (get_or_past written e (0, 0) past)) (omega arith, omega arith))
+      (cases_lt e (length written))
+
+  -- what every extents keep
+  pub read_whole : IsWhole x
+  read_whole = record {
+    geometry = is.geometry;
+    all_resets = length-replicate (length written) 0;
+    all_swept = length-replicate (length written) false;
+    pointers = λ e. (extents_fit e).0;
+    roots = λ e. subst (λ (k : ℕ). k < 2 ^ 63) (sym (all_default (length written) e 0)) (omega arith);
+    open_inside = λ e none. absurd (let wrong : None ≡ Some e = none in cc);
+    open_begun = λ e none. absurd (let wrong : None ≡ Some e = none in cc);
+    open_unfilled = λ e none. absurd (let wrong : None ≡ Some e = none in cc);
   }
 
-  pub read_shape : IsShape (shape (extents_at pages written))
-  read_shape = is_shape (length written) pages 1 (length written) 1 (shape_geometry (length written) pages geometry)
-
-  pub read_format : IsFormat (shape (extents_at pages written)) (formats_of (shape (extents_at pages written)))
-  read_format = is_format (length written) pages (length written) 1 geometry
-
-  pub superblock_is : (format : ℕ) → page ≡ (formats_of (shape (extents_at pages written))).superblock format 0 version
-      (extents_of (extents_at pages written)).pointer (extents_of (extents_at pages written)).generation
-  superblock_is format = is.spelled ∙ ap (spelled_superblock version pages) (sym (all_listed (shape (extents_at pages written)).section
-      (extents_of (extents_at pages written)).pointer (extents_of (extents_at pages written)).generation 0 written
-      (one_section (length written) pages geometry)
-      (λ k. ap (λ (n : ℕ). slice_index_or written n (0, 0)) (let same : 0 + k ≡ k = omega arith in same))))
-
-  pub extents_fit : (e : ℕ) → FitsExtent (shape (extents_at pages written)) ((extents_of (extents_at pages written)).pointer e)
-      ((extents_of (extents_at pages written)).generation e)
-  extents_fit e = fits_at pages written is.fits.each e
-
 -- nothing is open, reset or being swept
-pub extents_are : (pages : ℕ) (written : List (ℕ × ℕ)) → extents_of (extents_at pages written) ≡ record {
-  pointer = (extents_of (extents_at pages written)).pointer;
-  generation = (extents_of (extents_at pages written)).generation;
+pub extents_are : (pages sections : ℕ) (written : List (ℕ × ℕ)) → extents_of (extents_at pages sections written) ≡ record {
+  pointer = (extents_of (extents_at pages sections written)).pointer;
+  generation = (extents_of (extents_at pages sections written)).generation;
   reset = λ e. 0;
   open_extent = None;
   swept = λ e. false;
 }
-extents_are pages written = λ i. record {
-  pointer = (extents_of (extents_at pages written)).pointer;
-  generation = (extents_of (extents_at pages written)).generation;
+extents_are pages sections written = λ i. record {
+  pointer = (extents_of (extents_at pages sections written)).pointer;
+  generation = (extents_of (extents_at pages sections written)).generation;
   reset = λ e. all_default (length written) e 0 i;
   open_extent = None;
   swept = λ e. all_default (length written) e false i;
-}
-
--- what every extents keep
-pub read_whole : (version pages : ℕ) (written : List (ℕ × ℕ)) (page : List ℕ) → SpellsSuperblock page version pages written
-    → IsWhole (extents_at pages written)
-read_whole version pages written page is = record {
-  fewest_extents = is.fits.fewest_extents;
-  most_extents = is.fits.most_extents;
-  fewest_pages = is.fits.fewest_pages;
-  most_pages = is.fits.most_pages;
-  all_resets = length-replicate (length written) 0;
-  all_swept = length-replicate (length written) false;
-  pointers = λ e. (extents_fit version pages written page is e).0;
-  roots = λ e. subst (λ (k : ℕ). k < 2 ^ 63) (sym (all_default (length written) e 0)) (omega arith);
-  open_inside = λ e none. absurd (let wrong : None ≡ Some e = none in cc);
-  open_begun = λ e none. absurd (let wrong : None ≡ Some e = none in cc);
-  open_unfilled = λ e none. absurd (let wrong : None ≡ Some e = none in cc);
 }

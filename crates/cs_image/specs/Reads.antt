@@ -1,10 +1,12 @@
--- What is read of an image as a store is opened: the superblock, the root, and its runs one after another.
-use Rattle.std.specs.Prelude.{◌≡◌, ◌<◌, ◌≤◌, ℕ, false, List, None, length, map, replicate, take}
+-- What is read of an image as a store is opened: the sections of the superblock, the root, and its runs one after another.
+use Rattle.std.specs.Prelude.{◌≡◌, ◌<◌, ◌≤◌, ℕ, zero, suc, false, List, None, length, map, replicate, slice_index, take}
 use Rattle.std.specs.List.{AllByRecursion}
 use Rattle.cs_chunk.specs.Chunks.{IsFrameAt}
-use Rattle.cs_extent.specs.State.{State as ExtentsState, extents_of, shape}
+use Rattle.cs_extent.specs.State.{State as ExtentsState, extents_of, section_rows, shape}
 use Rattle.cs_frame.specs.declared.locators.Locator.{Locator}
 use Rattle.cs_frame.specs.Bytes.{IsPage}
+use Rattle.cs_frame.specs.FirstFormat.{SpellsPageZero}
+use Rattle.cs_frame.specs.Geometries.{IsGeometry}
 use Rattle.cs_frame.specs.Roots.{SpellsRoot}
 use Rattle.cs_frame.specs.Runs.{Entry, SpellsRun, entries_of as spelled_entries}
 use Rattle.cs_frame.specs.Superblocks.{SpellsSuperblock}
@@ -13,15 +15,28 @@ use Rattle.cs_index.specs.State.{newest_first}
 use Rattle.cs_model.specs.Formats.{RunFrame}
 use Rattle.cs_model.specs.Index.{entries_of, names}
 
--- the extents that a superblock records: none is open, none was reset, none is being swept
-abbrev pub extents_at : (pages : ℕ) → (written : List (ℕ × ℕ)) → ExtentsState
-extents_at pages written = record {
+-- the extents that so many sections record, one behind the other: none is open, none was reset, none is being swept
+abbrev pub extents_at : (pages sections : ℕ) → (written : List (ℕ × ℕ)) → ExtentsState
+extents_at pages sections written = record {
   pages = pages;
+  sections = sections;
   written = written;
   resets = replicate (length written) 0;
   swept = replicate (length written) false;
   open_extent = None;
 }
+
+-- the bytes of section j's page spell it so: those of page 0, which has section 0, in either format
+abbrev pub SpellsAt : (j : ℕ) → (bytes : List ℕ) → (version extents pages sections : ℕ) → (rows : List (ℕ × ℕ)) → Type 0
+SpellsAt zero bytes version extents pages sections rows = SpellsPageZero bytes version extents pages sections 0 rows
+SpellsAt (suc j) bytes version extents pages sections rows = SpellsSuperblock bytes version extents pages sections (suc j) rows
+
+-- Each section was read from its page, one of these versions each. Together they record these extents.
+pub record AreSectionsRead (view : ℕ → List ℕ) (versions : List ℕ) (pages : ℕ) (written : List (ℕ × ℕ)) : Type 0 where
+  pub geometry : IsGeometry (length written) pages (length versions)
+  pub each : (j : ℕ) → j < length versions
+      → SpellsAt j (view ((shape (extents_at pages (length versions) written)).section_page j)) (slice_index versions j)
+      (length written) pages (length versions) (section_rows (extents_at pages (length versions) written) j)
 
 -- the first `count` pages have 4,096 bytes each
 abbrev pub ArePages : (count : ℕ) → (view : ℕ → List ℕ) → Type 0
@@ -57,12 +72,12 @@ pub record AreRunsRead (x : ExtentsState) (view : ℕ → List ℕ) (places : Li
 abbrev pub AreLocated : ExtentsState → List StoredRun → Type 0
 AreLocated x runs = AllByRecursion (λ run. AllByRecursion (λ entry. AllByRecursion (IsLocated x) entry.1.items) run.entries.items) runs
 
--- A whole store was read: a superblock with these extents, a root over these runs, which are all read, whose entries are
--- all located, and which name no more identifiers than one run may.
-pub record IsStoreRead (view : ℕ → List ℕ) (version pages : ℕ) (written : List (ℕ × ℕ)) (root commands : ℕ)
+-- A whole store was read: sections of a superblock with these versions and extents, a root over runs, which are all read, whose
+-- entries are all located, and which name no more identifiers than one run may.
+pub record IsStoreRead (view : ℕ → List ℕ) (versions : List ℕ) (pages : ℕ) (written : List (ℕ × ℕ)) (root commands : ℕ)
     (runs : List StoredRun) : Type 0 where
-  pub superblock : SpellsSuperblock (view 0) version pages written
+  pub sections : AreSectionsRead view versions pages written
   pub root_page : SpellsRoot (view 1) root commands (map (λ run. run.place) runs)
-  pub runs_read : AllByRecursion (IsRunRead (extents_at pages written) view) runs
-  pub located : AreLocated (extents_at pages written) runs
-  pub named : names (entries_of (newest_first runs)) ≤ (shape (extents_at pages written)).most_names
+  pub runs_read : AllByRecursion (IsRunRead (extents_at pages (length versions) written) view) runs
+  pub located : AreLocated (extents_at pages (length versions) written) runs
+  pub named : names (entries_of (newest_first runs)) ≤ (shape (extents_at pages (length versions) written)).most_names

@@ -5,8 +5,8 @@ use Rattle.cs_deps.specs.declared.refusals.Refusal.{Refusal}
 use Rattle.cs_deps.specs.declared.refusals.Refusal.TheVariants.{Full, OutOfMemory, WornOut}
 use Rattle.cs_deps.specs.Staging.{Staging}
 use Rattle.cs_deps.specs.State.{State as GraphState}
-use Rattle.cs_extent.specs.Frames.{IsWorn}
 use Rattle.cs_extent.specs.State.{State as ExtentsState, extents_of, shape}
+use Rattle.cs_extent.specs.Worn.{IsFrameWorn}
 use Rattle.cs_model.specs.Element.{Entry, Locator as Place, Run}
 use Rattle.cs_model.specs.Extents.{ForRun, NoPlace, Placed, Purpose as Reason}
 use Rattle.cs_model.specs.Index.{Ascending, IsMergedRun, IsTableRun, live_at}
@@ -31,12 +31,12 @@ module _ (Writes : List Entry → Type 0) (x : ExtentsState) (reason : Reason) (
   No es = NoPlace (shape x) (extents_of x) reason (length (run_frame x es))
 
   abbrev Worn : List Entry → Type 0
-  Worn es = IsWorn s (length (run_frame x es))
+  Worn es = IsFrameWorn x reason s (length (run_frame x es))
 
-  pub exact_one : {T : Type 0} (r : Result T Refusal) → IsExact r (NoPlace (shape x) (extents_of x) reason (length (run_frame x E))) (IsRootWorn s ⊎ IsWorn s (length (run_frame x E)))
-      → IsExact r (IsFull Writes x reason) (IsStageWorn Writes x s)
+  pub exact_one : {T : Type 0} (r : Result T Refusal) → IsExact r (NoPlace (shape x) (extents_of x) reason (length (run_frame x E))) (IsRootWorn s ⊎ IsFrameWorn x reason s (length (run_frame x E)))
+      → IsExact r (IsFull Writes x reason) (IsStageWorn Writes x reason s)
   exact_one r h =
-      exact_same r (No E) (IsFull Writes x reason) (IsRootWorn s ⊎ Worn E) (IsStageWorn Writes x s)
+      exact_same r (No E) (IsFull Writes x reason) (IsRootWorn s ⊎ Worn E) (IsStageWorn Writes x reason s)
       (λ none. (E, writes, none))
       (λ full. subst No (one full.0 full.1) full.2)
       (λ worn. ⊎_elim (λ (root : IsRootWorn s). inl root) (λ (run : Worn E). inr (E, writes, run)) worn)
@@ -48,11 +48,11 @@ module _ (Writes : List Entry → Type 0) (x : ExtentsState) (reason : Reason) (
   pub not_full : IsFull Writes x reason → ⊥
   not_full full = none full.0 full.1
 
-  pub worn_root : IsStageWorn Writes x s → IsRootWorn s
-  worn_root worn = ⊎_elim (λ (root : IsRootWorn s). root) (λ (run : (es : List Entry) × Writes es × IsWorn s (length (run_frame x es))). absurd (none run.0 run.1)) worn
+  pub worn_root : IsStageWorn Writes x reason s → IsRootWorn s
+  worn_root worn = ⊎_elim (λ (root : IsRootWorn s). root) (λ (run : (es : List Entry) × Writes es × IsFrameWorn x reason s (length (run_frame x es))). absurd (none run.0 run.1)) worn
 
-  pub why_none : (f : Refusal) → IsWhy f ⊥ (IsRootWorn s) → IsWhy f (IsFull Writes x reason) (IsStageWorn Writes x s)
-  why_none f h = why_same f ⊥ (IsFull Writes x reason) (IsRootWorn s) (IsStageWorn Writes x s) (λ n. absurd n) not_full (λ root. inl root) h
+  pub why_none : (f : Refusal) → IsWhy f ⊥ (IsRootWorn s) → IsWhy f (IsFull Writes x reason) (IsStageWorn Writes x reason s)
+  why_none f h = why_same f ⊥ (IsFull Writes x reason) (IsRootWorn s) (IsStageWorn Writes x reason s) (λ n. absurd n) not_full (λ root. inl root) h
 
 -- whether it finds a place
 pub fits_one : (Writes : List Entry → Type 0) (x : ExtentsState) (reason : Reason) (E : List Entry) (b : Bool) → Writes E → ((es : List Entry) → Writes es → es ≡ E)
@@ -103,10 +103,10 @@ exact_with : {T : Type 0} (r : Result T Refusal) (A V P : Type 0) → P → IsEx
 exact_with r A V P p h = exact_same r A A V (P × V) (λ a. a) (λ a. a) (λ v. (p, v)) (λ w. w.1) h
 
 pub exact_table : {T : Type 0} (s : State) (x : ExtentsState) (reason : Reason) (g : Staging) (r : Result T Refusal) → Ascending s.table → s.table ≢ [] → length s.runs < 4
-    → IsExact r (NoPlace (shape x) (extents_of x) reason (length (run_frame x s.table))) (IsRootWorn g ⊎ IsWorn g (length (run_frame x s.table)))
-    → IsExact r (IsFull (WritesRun s) x reason) ((s.table ≢ []) × IsStageWorn (WritesRun s) x g)
+    → IsExact r (NoPlace (shape x) (extents_of x) reason (length (run_frame x s.table))) (IsRootWorn g ⊎ IsFrameWorn x reason g (length (run_frame x s.table)))
+    → IsExact r (IsFull (WritesRun s) x reason) ((s.table ≢ []) × IsStageWorn (WritesRun s) x reason g)
 exact_table s x reason g r order some few h =
-    exact_with r (IsFull (WritesRun s) x reason) (IsStageWorn (WritesRun s) x g) (s.table ≢ []) some
+    exact_with r (IsFull (WritesRun s) x reason) (IsStageWorn (WritesRun s) x reason g) (s.table ≢ []) some
     (exact_one (WritesRun s) x reason g s.table (some, inl (few, (order, λ id. refl)))
     (λ es writes. ⊎_elim
     (λ (table : (length s.runs < 4) × IsTableRun s.table es). table_one s.table es order table.1.0 table.1.1)
@@ -115,15 +115,15 @@ exact_table s x reason g r order some few h =
     r h)
 
 pub exact_merged : {T : Type 0} (s : State) (x : ExtentsState) (reason : Reason) (g : Staging) (r : Result T Refusal) → s.table ≢ [] → 4 ≤ length s.runs
-    → IsExact r (IsFull (WritesMerged s) x reason) (IsStageWorn (WritesMerged s) x g)
-    → IsExact r (IsFull (WritesRun s) x reason) ((s.table ≢ []) × IsStageWorn (WritesRun s) x g)
+    → IsExact r (IsFull (WritesMerged s) x reason) (IsStageWorn (WritesMerged s) x reason g)
+    → IsExact r (IsFull (WritesRun s) x reason) ((s.table ≢ []) × IsStageWorn (WritesRun s) x reason g)
 exact_merged s x reason g r some many h =
-    exact_with r (IsFull (WritesRun s) x reason) (IsStageWorn (WritesRun s) x g) (s.table ≢ []) some
-    (exact_same r (IsFull (WritesMerged s) x reason) (IsFull (WritesRun s) x reason) (IsStageWorn (WritesMerged s) x g) (IsStageWorn (WritesRun s) x g)
+    exact_with r (IsFull (WritesRun s) x reason) (IsStageWorn (WritesRun s) x reason g) (s.table ≢ []) some
+    (exact_same r (IsFull (WritesMerged s) x reason) (IsFull (WritesRun s) x reason) (IsStageWorn (WritesMerged s) x reason g) (IsStageWorn (WritesRun s) x reason g)
     (λ full. (full.0, to full.0 full.1, full.2))
     (λ full. (full.0, back full.0 full.1, full.2))
-    (λ worn. ⊎_elim (λ (root : IsRootWorn g). inl root) (λ (run : (es : List Entry) × WritesMerged s es × IsWorn g (length (run_frame x es))). inr (run.0, to run.0 run.1, run.2)) worn)
-    (λ worn. ⊎_elim (λ (root : IsRootWorn g). inl root) (λ (run : (es : List Entry) × WritesRun s es × IsWorn g (length (run_frame x es))). inr (run.0, back run.0 run.1, run.2)) worn)
+    (λ worn. ⊎_elim (λ (root : IsRootWorn g). inl root) (λ (run : (es : List Entry) × WritesMerged s es × IsFrameWorn x reason g (length (run_frame x es))). inr (run.0, to run.0 run.1, run.2)) worn)
+    (λ worn. ⊎_elim (λ (root : IsRootWorn g). inl root) (λ (run : (es : List Entry) × WritesRun s es × IsFrameWorn x reason g (length (run_frame x es))). inr (run.0, back run.0 run.1, run.2)) worn)
     h)
   where
     to : (es : List Entry) → WritesMerged s es → WritesRun s es
@@ -161,12 +161,12 @@ no_runs s t runs none is = subst (λ (rs : List Run). t ≡ record { table = [];
 
 -- ---- the append of a run for which there are a place and room
 
-pub append_worn : {T : Type 0} (r : Result T Refusal) (f : Refusal) (P : ℕ → Type 0) (Worn : Type 0) → r ≡ Err f → (r ≡ Err Full) ↔ ((e : ℕ) → P e → ⊥) → (r ≡ Err WornOut) ↔ (((e : ℕ) × P e) × Worn) → (r ≡ Err OutOfMemory → ⊥)
+pub append_worn : {T : Type 0} (r : Result T Refusal) (f : Refusal) (P : ℕ → Type 0) (Worn : Type 0) → r ≡ Err f → (r ≡ Err Full) ↔ ((e : ℕ) → P e → ⊥) → (r ≡ Err WornOut) ↔ Worn → (r ≡ Err OutOfMemory → ⊥)
     → (f ≡ Full) ⊎ (f ≡ WornOut) ⊎ (f ≡ OutOfMemory) → (e : ℕ) × P e → (f ≡ WornOut) × Worn
 append_worn r f P Worn is full worn memory refusals place = ⊎_elim
     (λ (e : f ≡ Full). absurd (full.0 (is ∙ ap Err e) place.0 place.1))
     (λ (rest : (f ≡ WornOut) ⊎ (f ≡ OutOfMemory)). ⊎_elim
-    (λ (e : f ≡ WornOut). (e, (worn.0 (is ∙ ap Err e)).1))
+    (λ (e : f ≡ WornOut). (e, worn.0 (is ∙ ap Err e)))
     (λ (e : f ≡ OutOfMemory). absurd (memory (is ∙ ap Err e)))
     rest)
     refusals

@@ -8,8 +8,9 @@ use Rattle.cs_deps.specs.Named.{IsWithin, Named, Names, NamesFamily}
 use Rattle.cs_deps.specs.Staging.{IsVersionStaged, Staging}
 use Rattle.cs_deps.specs.State.{State as GraphState}
 use Rattle.cs_extent.proofs.Appending.{whatever_room}
+use Rattle.cs_extent.proofs.Staged.{frame_root}
 use Rattle.cs_extent.specs.Appended.{IsAppended}
-use Rattle.cs_extent.specs.Frames.{IsVersionUpTo, root_family, superblock_family}
+use Rattle.cs_extent.specs.Frames.{IsFrameStaged, IsSectionVersionUpTo, root_family}
 use Rattle.cs_extent.specs.State.{State as ExtentsState}
 use Rattle.cs_frame.specs.Formats.{as_locator, place_of}
 use Rattle.cs_frame.specs.declared.locators.Locator.{Locator}
@@ -17,16 +18,15 @@ use Rattle.cs_index.specs.declared.runs.StoredRun.{StoredRun}
 use Rattle.cs_model.specs.Element.{Entry, Locator as Place, Run}
 use Rattle.cs_model.specs.Extents.{Purpose as Reason}
 use Rattle.cs_model.specs.Formats.{places}
-use Rattle.cs_index.specs.Staged.{IsRootOver, IsRunStaged, run_frame}
+use Rattle.cs_index.specs.Staged.{IsRootOver, IsRootWorn, IsRunStaged, run_frame}
 use Rattle.cs_index.specs.State.{newest_first, run_of}
 
-pub within_versions : (d : Named) (staged : ℕ) (latest : List ℕ) → ((x : Element) → Names d x ↔ IsVersionUpTo superblock_family (get_or latest superblock_family 0) x) → IsWithin d staged latest
-within_versions d staged latest names (Plain n) h = absurd ((names (Plain n)).0 h)
-within_versions d staged latest names (Version f v) h =
-    let r = (names (Version f v)).0 h in subst (λ g. v ≤ get_or latest g 0) (sym r.0) r.2
+pub within_sections : (d : Named) (staged : ℕ) (latest : List ℕ) → ((x : Element) → Names d x ↔ IsSectionVersionUpTo latest x) → IsWithin d staged latest
+within_sections d staged latest names (Plain n) h = absurd ((names (Plain n)).0 h)
+within_sections d staged latest names (Version f v) h = let r = (names (Version f v)).0 h in r.2
 
-pub not_own_family : (d : Named) (version : ℕ) → ((x : Element) → Names d x ↔ IsVersionUpTo superblock_family version x) → NamesFamily d root_family → ⊥
-not_own_family d version names h = let r = (names (Version root_family h.0)).0 h.1 in omega (arith, r.0)
+pub not_own_family : (d : Named) (latest : List ℕ) → ((x : Element) → Names d x ↔ IsSectionVersionUpTo latest x) → NamesFamily d root_family → ⊥
+not_own_family d latest names h = let r = (names (Version root_family h.0)).0 h.1 in r.0 refl
 
 module _ (old new : Staging) (v : ℕ) (d : Named) (staged : IsVersionStaged old root_family v d new) where
   pub root_number : get_or old.latest root_family 0 + 1 ≡ v
@@ -42,6 +42,12 @@ module _ (old new : Staging) (v : ℕ) (d : Named) (staged : IsVersionStaged old
   root_rises lt =
       let e : get_or new.latest root_family 0 ≡ v = ap (λ l. get_or l root_family 0) root_latest ∙ get_or-set_same old.latest root_family v 0 lt in
       omega (arith, root_number, e)
+
+-- a frame that is staged leaves the root's number as it is
+pub frame_below : (old new : Staging) (sections j count root need : ℕ) → IsFrameStaged old new sections j count root need → (IsRootWorn old → ⊥) → IsRootWorn new → ⊥
+frame_below old new sections j count root need staged below worn =
+    let same : get_or new.latest root_family 0 ≡ get_or old.latest root_family 0 = frame_root old new sections j count root need staged in
+    below (omega (arith, same, worn))
 
 -- ---- the places of runs
 

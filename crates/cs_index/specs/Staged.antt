@@ -8,8 +8,9 @@ use Rattle.cs_deps.specs.Named.{Named, Names}
 use Rattle.cs_deps.specs.Staging.{IsVersionStaged, Staging}
 use Rattle.cs_deps.specs.State.{AddsOnly, State as GraphState, write_of}
 use Rattle.cs_extent.specs.Appended.{IsAppended}
-use Rattle.cs_extent.specs.Frames.{IsVersionUpTo, IsWorn, root_family, superblock_family}
+use Rattle.cs_extent.specs.Frames.{IsSectionVersionUpTo, root_family}
 use Rattle.cs_extent.specs.State.{State as ExtentsState, extents_of, shape}
+use Rattle.cs_extent.specs.Worn.{IsFrameWorn}
 use Rattle.cs_frame.specs.declared.locators.Locator.{Locator}
 use Rattle.cs_frame.specs.Formats.{as_locator, formats_of}
 use Rattle.cs_frame.specs.Roots.{SpellsRoot}
@@ -28,10 +29,10 @@ abbrev pub IsRunAppended : ExtentsState → GraphState → Reason → List Entry
 IsRunAppended x g reason entries place y h = IsAppended x g reason (run_frame x entries) (as_locator place) y h
 
 -- The next version of the root was staged to page 1: its page spells so many commands and the runs at these places,
--- oldest first. It needs all versions of the superblock so far, and nothing else of its own.
+-- oldest first. It needs all versions of each section so far, and nothing else of its own.
 pub record IsRootOver (g h : GraphState) (v commands : ℕ) (oldest_first : List Locator) : Type 0 where
   pub needs : Named
-  pub names : (x : Element) → Names needs x ↔ IsVersionUpTo superblock_family (slice_index g.staging.latest superblock_family) x
+  pub names : (x : Element) → Names needs x ↔ IsSectionVersionUpTo g.staging.latest x
   pub version : IsVersionStaged g.staging root_family v needs h.staging
   pub page : (page : List ℕ) × (write_of h (Version root_family v) ≡ Some (1, page)) × SpellsRoot page v commands oldest_first
   pub others : AddsOnly g h (Version root_family v)
@@ -87,9 +88,9 @@ IsFull Writes x reason = (entries : List Entry) × Writes entries × NoPlace (sh
 abbrev pub IsRootWorn : Staging → Type 0
 IsRootWorn s = 2 ^ 63 ≤ slice_index s.latest root_family + 1
 
--- the root's number would pass 2^63 - 1, or a run is to be written and one of its plain writes' or the superblock's would
-abbrev pub IsStageWorn : (List Entry → Type 0) → ExtentsState → Staging → Type 0
-IsStageWorn Writes x s = IsRootWorn s ⊎ ((entries : List Entry) × Writes entries × IsWorn s (length (run_frame x entries)))
+-- the root's number would pass 2^63 - 1, or a run is to be written and a number of its frame would
+abbrev pub IsStageWorn : (List Entry → Type 0) → ExtentsState → Reason → Staging → Type 0
+IsStageWorn Writes x reason s = IsRootWorn s ⊎ ((entries : List Entry) × Writes entries × IsFrameWorn x reason s (length (run_frame x entries)))
 
 -- why a call was refused: 30 where there was no place, 35 where there was one and a number would pass its greatest,
 -- and 9 whenever memory ran out

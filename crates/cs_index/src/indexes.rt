@@ -1,9 +1,10 @@
 //! The index of a store.
 ghost use Rattle.std.specs.Prelude.{◌≡◌, ◌≢◌, ℕ, ◌+◌, ◌∷◌, ◌<◌, ◌≤◌, ◌^◌, ◌⊎◌, ◌↔◌, ◌==◌, [], IfErr, IfOk, IfSome, IsOk, IsTrue, MatchOption, OnErr, OnOk, None, Some, MatchBool, false, length, map, option_copied, option_map, true};
 ghost use Rattle.std.specs.List.{AllByRecursion};
-ghost use Rattle.cs_extent.specs.Frames.{AreResetsStaged, IsWorn, root_family};
+ghost use Rattle.cs_extent.specs.Frames.{AreResetsStaged};
 ghost use Rattle.cs_extent.specs.Purposes.{reason_of};
 ghost use Rattle.cs_extent.specs.State.{extents_of, shape};
+ghost use Rattle.cs_extent.specs.Worn.{IsFrameWorn};
 ghost use Rattle.cs_frame.specs.Runs.{IsRun};
 ghost use Rattle.cs_model.specs.Element.{Locator as Place};
 ghost use Rattle.cs_model.specs.Extents.{ForRun, NoPlace};
@@ -292,7 +293,7 @@ impl Index {
         commands: u64,
     ) -> Result<Option<u64>, Refusal>
         requires limit { self.old.limit ≡ (shape extents.old).most_names }
-        requires families { root_family < length graph.old.staging.latest }
+        requires families { length graph.old.staging.latest ≡ 1 + (shape extents.old).sections }
         requires resets { AreResetsStaged (extents_of extents.old) graph.old.staging }
         requires commands { commands < 2 ^ 63 }
 
@@ -310,7 +311,7 @@ impl Index {
         ensures resets { AreResetsStaged (extents_of extents.new) graph.new.staging }
         ensures families { length graph.new.staging.latest ≡ length graph.old.staging.latest }
 
-        ensures why { IsExact result (IsFull (WritesRun self.old) extents.old ForRun) ((self.old.table ≢ []) × IsStageWorn (WritesRun self.old) extents.old graph.old.staging) }
+        ensures why { IsExact result (IsFull (WritesRun self.old) extents.old ForRun) ((self.old.table ≢ []) × IsStageWorn (WritesRun self.old) extents.old ForRun graph.old.staging) }
         ensures refused { OnErr result (self.new ≡ self.old) }
         ensures unwritten { OnErr result (extents.new ≡ extents.old) }
         ensures unstaged { OnErr result (graph.new ≡ record graph.old { room = graph.new.room }) }
@@ -341,7 +342,7 @@ impl Index {
         requires some { self.old.table ≢ [] }
         requires few { length self.old.runs < 4 }
         requires limit { self.old.limit ≡ (shape extents.old).most_names }
-        requires families { root_family < length graph.old.staging.latest }
+        requires families { length graph.old.staging.latest ≡ 1 + (shape extents.old).sections }
         requires resets { AreResetsStaged (extents_of extents.old) graph.old.staging }
         requires commands { commands < 2 ^ 63 }
         ensures staged { IfOk result (λ v. IsTableStaged self.old extents.old graph.old v commands self.new extents.new graph.new) }
@@ -349,7 +350,7 @@ impl Index {
         ensures resets { AreResetsStaged (extents_of extents.new) graph.new.staging }
         ensures families { length graph.new.staging.latest ≡ length graph.old.staging.latest }
         ensures why { IsExact result (NoPlace (shape extents.old) (extents_of extents.old) ForRun (length (run_frame extents.old self.old.table)))
-            (IsRootWorn graph.old.staging ⊎ IsWorn graph.old.staging (length (run_frame extents.old self.old.table))) }
+            (IsRootWorn graph.old.staging ⊎ IsFrameWorn extents.old ForRun graph.old.staging (length (run_frame extents.old self.old.table))) }
         ensures refused { OnErr result (self.new ≡ self.old) }
         ensures unwritten { OnErr result (extents.new ≡ extents.old) }
         ensures unstaged { OnErr result (graph.new ≡ record graph.old { room = graph.new.room }) }
@@ -390,7 +391,7 @@ impl Index {
         purpose: Purpose,
     ) -> Result<u64, Refusal>
         requires limit { self.old.limit ≡ (shape extents.old).most_names }
-        requires families { root_family < length graph.old.staging.latest }
+        requires families { length graph.old.staging.latest ≡ 1 + (shape extents.old).sections }
         requires resets { AreResetsStaged (extents_of extents.old) graph.old.staging }
         requires commands { commands < 2 ^ 63 }
         ensures staged { IfOk result (λ v. IsMergeStaged self.old extents.old graph.old (reason_of purpose) v commands self.new extents.new graph.new) }
@@ -402,12 +403,13 @@ impl Index {
         ensures resets { AreResetsStaged (extents_of extents.new) graph.new.staging }
         ensures families { length graph.new.staging.latest ≡ length graph.old.staging.latest }
 
-        ensures why { IsExact result (IsFull (WritesMerged self.old) extents.old (reason_of purpose)) (IsStageWorn (WritesMerged self.old) extents.old graph.old.staging) }
+        ensures why { IsExact result (IsFull (WritesMerged self.old) extents.old (reason_of purpose)) (IsStageWorn (WritesMerged self.old) extents.old (reason_of purpose) graph.old.staging) }
         ensures refused { OnErr result (self.new ≡ self.old) }
         ensures unwritten { OnErr result (extents.new ≡ extents.old) }
         ensures unstaged { OnErr result (graph.new ≡ record graph.old { room = graph.new.room }) }
     {
         let alloc = *self.table.entries.allocator();
+        let _extents = extents.extent_count();
         let run = merged(alloc, self)?;
         if run.entries.is_empty() {
             match stage_empty(alloc, graph, commands) {
@@ -453,7 +455,7 @@ impl Index {
         requires ids { AllByRecursion (λ entry. IsId entry.0) run.entries.items }
         requires few { length run.entries.items ≤ self.old.limit }
         requires limit { self.old.limit ≡ (shape extents.old).most_names }
-        requires families { root_family < length graph.old.staging.latest }
+        requires families { length graph.old.staging.latest ≡ 1 + (shape extents.old).sections }
         requires resets { AreResetsStaged (extents_of extents.old) graph.old.staging }
         requires commands { commands < 2 ^ 63 }
         ensures staged { IfOk result (λ v. (place : Place)
@@ -462,7 +464,7 @@ impl Index {
         ensures resets { AreResetsStaged (extents_of extents.new) graph.new.staging }
         ensures families { length graph.new.staging.latest ≡ length graph.old.staging.latest }
         ensures why { IsExact result (NoPlace (shape extents.old) (extents_of extents.old) (reason_of purpose) (length (run_frame extents.old (map named_entry run.entries.items))))
-            (IsRootWorn graph.old.staging ⊎ IsWorn graph.old.staging (length (run_frame extents.old (map named_entry run.entries.items)))) }
+            (IsRootWorn graph.old.staging ⊎ IsFrameWorn extents.old (reason_of purpose) graph.old.staging (length (run_frame extents.old (map named_entry run.entries.items)))) }
         ensures refused { OnErr result (self.new ≡ self.old) }
         ensures unwritten { OnErr result (extents.new ≡ extents.old) }
         ensures unstaged { OnErr result (graph.new ≡ record graph.old { room = graph.new.room }) }

@@ -1,13 +1,12 @@
 //! Runs and roots that are staged.
 ghost use Rattle.std.specs.Prelude.{◌≡◌, ℕ, ◌+◌, ◌*◌, ◌^◌, ◌<◌, ◌≤◌, ◌↔◌, ◌++◌, ◌∷◌, ◌⊎◌, [], IfOk, IsTrue, MatchBool, MatchResult, OnErr, OnOk, length, map, slice_index, vec_capacity, vec_len};
 ghost use Rattle.std.specs.List.{AllByRecursion};
-ghost use Rattle.cs_deps.specs.declared.elements.Element.{Element as Item};
-ghost use Rattle.cs_deps.specs.Named.{Names};
 ghost use Rattle.cs_deps.specs.State.{State as GraphState};
 ghost use Rattle.cs_extent.specs.Appended.{IsAppended};
-ghost use Rattle.cs_extent.specs.Frames.{AreResetsStaged, IsVersionUpTo, IsWorn, root_family, superblock_family};
+ghost use Rattle.cs_extent.specs.Frames.{AreResetsStaged, root_family};
 ghost use Rattle.cs_extent.specs.Purposes.{reason_of};
 ghost use Rattle.cs_extent.specs.State.{extents_of, shape};
+ghost use Rattle.cs_extent.specs.Worn.{IsFrameWorn};
 ghost use Rattle.cs_frame.specs.Frames.{page_count};
 ghost use Rattle.cs_frame.specs.Runs.{IsRun};
 ghost use Rattle.cs_model.specs.Extents.{NoPlace, Placed};
@@ -16,8 +15,8 @@ ghost use Rattle.cs_frame.specs.Formats.{place_of};
 ghost use Rattle.cs_index.specs.State.{IsShort, named_entry, newest_first};
 
 use crate::runs::StoredRun;
-use cs_deps::{Dependency, Graph, LAST_NUMBER, Refusal};
-use cs_extent::{Extents, Purpose, ROOT, SUPERBLOCK};
+use cs_deps::{Graph, LAST_NUMBER, Refusal};
+use cs_extent::{Extents, Purpose, ROOT, on_sections};
 use cs_frame::{FrameKind, Locator, Root, Run, encode_frame, encode_root, encode_run, frame_pages};
 use std::alloc::{AllocError, Global};
 
@@ -30,13 +29,13 @@ fn is_last_root(graph: &Graph) -> bool
 }
 
 /// Stages the next version of the root over runs whose frames begin at these places, oldest first.
-fn stage_root(graph: &mut Graph, places: Vec<Locator>, commands: u64, needs: Dependency) -> u64
+fn stage_root(alloc: Global, graph: &mut Graph, places: Vec<Locator>, commands: u64) -> u64
     requires families { root_family < length graph.old.staging.latest }
+    requires few { length graph.old.staging.latest ≤ 16 }
     requires room { 0 < graph.old.room }
     requires number { ¬ IsRootWorn graph.old.staging }
     requires commands { commands < 2 ^ 63 }
     requires places { length places.items ≤ 4 }
-    requires needs { (x : Item) → Names needs x ↔ IsVersionUpTo superblock_family (slice_index graph.old.staging.latest superblock_family) x }
     ensures staged { IsRootOver graph.old graph.new result commands places.items }
     ensures families { length graph.new.staging.latest ≡ length graph.old.staging.latest }
     ensures rises { slice_index graph.old.staging.latest root_family ≤ slice_index graph.new.staging.latest root_family }
@@ -48,6 +47,7 @@ fn stage_root(graph: &mut Graph, places: Vec<Locator>, commands: u64, needs: Dep
         runs: places,
     };
     let page = encode_root(&root);
+    let needs = on_sections(alloc, graph);
     match graph.stage_version(ROOT, 1, &page, needs) {
         Ok(staged) => staged,
         Err(_) => unreachable!(),
@@ -139,6 +139,7 @@ fn prepare(
 
 /// Appends the frame of a run, and stages the root over the runs whose places these are and over this one.
 fn write_run(
+    alloc: Global,
     extents: &mut Extents,
     graph: &mut Graph,
     frame: &[[u8; 4096]],
@@ -147,7 +148,7 @@ fn write_run(
     purpose: Purpose,
 ) -> Result<(Locator, u64), Refusal>
     requires pages { (1 ≤ length frame.now) × (length frame.now ≤ (shape extents.old).pages) }
-    requires families { root_family < length graph.old.staging.latest }
+    requires families { length graph.old.staging.latest ≡ 1 + (shape extents.old).sections }
     requires resets { AreResetsStaged (extents_of extents.old) graph.old.staging }
     requires placed { (e : ℕ) × Placed (shape extents.old) (extents_of extents.old) (reason_of purpose) (length frame.now) e }
     requires number { ¬ IsRootWorn graph.old.staging }
@@ -160,14 +161,15 @@ fn write_run(
         × IsRootOver between graph.new made.1 commands (places.items ++ made.0 ∷ [])) }
     ensures resets { AreResetsStaged (extents_of extents.new) graph.new.staging }
     ensures families { length graph.new.staging.latest ≡ length graph.old.staging.latest }
-    ensures worn { MatchResult result (λ _. ¬ IsWorn graph.old.staging (length frame.now)) (λ refusal. (refusal ≡ Refusal.WornOut) × IsWorn graph.old.staging (length frame.now)) }
+    ensures worn { MatchResult result (λ _. ¬ IsFrameWorn extents.old (reason_of purpose) graph.old.staging (length frame.now)) (λ refusal. (refusal ≡ Refusal.WornOut) × IsFrameWorn extents.old (reason_of purpose) graph.old.staging (length frame.now)) }
     ensures refused { OnErr result (extents.new ≡ extents.old) }
     ensures unstaged { OnErr result (graph.new ≡ record graph.old { room = graph.new.room }) }
 {
+    let _extents = extents.extent_count();
     match extents.append(graph, frame, purpose) {
-        Ok((place, needs)) => {
+        Ok((place, _)) => {
             places.push_reserved(place);
-            let version = stage_root(graph, places, commands, needs);
+            let version = stage_root(alloc, graph, places, commands);
             Ok((place, version))
         }
         Err(refusal) => Err(refusal),
@@ -191,19 +193,20 @@ pub fn stage_run(
     requires run { IsRun run.now }
     requires most { length run.now.entries.items ≤ (shape extents.old).most_names }
     requires few { length older.now < 4 }
-    requires families { root_family < length graph.old.staging.latest }
+    requires families { length graph.old.staging.latest ≡ 1 + (shape extents.old).sections }
     requires resets { AreResetsStaged (extents_of extents.old) graph.old.staging }
     requires commands { commands < 2 ^ 63 }
     ensures staged { IfOk result (λ made. IsRunStaged extents.old graph.old (reason_of purpose) (map named_entry run.now.entries.items) (newest_first older.now) (place_of made.0) made.1 commands extents.new graph.new) }
     ensures resets { AreResetsStaged (extents_of extents.new) graph.new.staging }
     ensures families { length graph.new.staging.latest ≡ length graph.old.staging.latest }
     ensures why { IsExact result (NoPlace (shape extents.old) (extents_of extents.old) (reason_of purpose) (length (run_frame extents.old (map named_entry run.now.entries.items))))
-        (IsRootWorn graph.old.staging ⊎ IsWorn graph.old.staging (length (run_frame extents.old (map named_entry run.now.entries.items)))) }
+        (IsRootWorn graph.old.staging ⊎ IsFrameWorn extents.old (reason_of purpose) graph.old.staging (length (run_frame extents.old (map named_entry run.now.entries.items)))) }
     ensures refused { OnErr result (extents.new ≡ extents.old) }
     ensures unstaged { OnErr result (graph.new ≡ record graph.old { room = graph.new.room }) }
 {
+    let _extents = extents.extent_count();
     let (frame, places) = prepare(alloc, extents, graph, run, older, purpose)?;
-    write_run(extents, graph, &frame, places, commands, purpose)
+    write_run(alloc, extents, graph, &frame, places, commands, purpose)
 }
 
 /// Stages a root without runs.
@@ -211,6 +214,7 @@ pub fn stage_run(
 /// 35 `WornOut` where the last number of a root is given, then 9 `OutOfMemory`, where the graph has no room and gets none.
 pub fn stage_empty(alloc: Global, graph: &mut Graph, commands: u64) -> Result<u64, Refusal>
     requires families { root_family < length graph.old.staging.latest }
+    requires few { length graph.old.staging.latest ≤ 16 }
     requires commands { commands < 2 ^ 63 }
     ensures staged { IfOk result (λ v. IsRootOver graph.old graph.new v commands []) }
     ensures families { length graph.new.staging.latest ≡ length graph.old.staging.latest }
@@ -222,16 +226,5 @@ pub fn stage_empty(alloc: Global, graph: &mut Graph, commands: u64) -> Result<u6
         return Err(Refusal::WornOut);
     }
     graph.reserve(1)?;
-    let needs = on_superblocks(alloc, graph.last_version(SUPERBLOCK));
-    Ok(stage_root(graph, Vec::new(alloc), commands, needs))
-}
-
-/// Names versions 1 to `version` of the superblock.
-fn on_superblocks(alloc: Global, version: u64) -> Dependency
-    ensures { (x : Item) → Names result x ↔ IsVersionUpTo superblock_family version x }
-{
-    match Dependency::on_version(alloc, SUPERBLOCK, version) {
-        Ok(versions) => versions,
-        Err(_) => unreachable!(),
-    }
+    Ok(stage_root(alloc, graph, Vec::new(alloc), commands))
 }

@@ -2,7 +2,7 @@
 use Rattle.std.proofs.Common.{◌≡◌, ◌∙◌, ◌==◌, inl, inr, ℕ, zero, suc, ◌+◌, ◌<◌, ◌≤◌, Bool, List, [], ◌∷◌, Some, false, true, if◌then◌else◌, get_or, length, map, refl, sym, ap, subst, arith, eq-eqb, ne_eqb}
 use Rattle.std.proofs.lemmas.Bool.{cases_eq}
 use Rattle.std.proofs.lemmas.Option.{same_Some}
-use Rattle.cs_chunk.proofs.Appends.{frame_begins, has_writes, newest_begins, placed_inside}
+use Rattle.cs_chunk.proofs.Appends.{frame_begins, has_writes, newest_begins}
 use Rattle.cs_chunk.proofs.Chunkings.{length-spelled}
 use Rattle.cs_chunk.proofs.Framed.{one_frame}
 use Rattle.cs_chunk.proofs.Newest.{reads_newest, stand_of}
@@ -12,6 +12,7 @@ use Rattle.cs_chunk.specs.Newest.{AreNewest}
 use Rattle.cs_chunk.specs.Stays.{IsBelow}
 use Rattle.cs_deps.specs.State.{IsWhole, State as Graph}
 use Rattle.cs_disk.specs.Disk.{Image}
+use Rattle.cs_extent.proofs.Fitting.{placed_inside}
 use Rattle.cs_extent.specs.Appended.{IsAppended}
 use Rattle.cs_extent.specs.State.{IsWhole as IsWholeExtents, State as ExtentsState, extents_of, shape}
 use Rattle.cs_frame.specs.declared.frames.FrameKind.TheVariants.{Chunk}

@@ -8,8 +8,8 @@ use Rattle.cs_deps.specs.declared.refusals.Refusal.TheVariants.{DeviceFault, Ful
 use Rattle.cs_deps.specs.Staging.{Staging}
 use Rattle.cs_deps.specs.State.{State as GraphState}
 use Rattle.cs_extent.specs.Appended.{IsAppended}
-use Rattle.cs_extent.specs.Frames.{IsWorn}
 use Rattle.cs_extent.specs.State.{State as ExtentsState, extents_of, shape}
+use Rattle.cs_extent.specs.Worn.{IsFrameWorn}
 use Rattle.cs_frame.specs.declared.faults.FormatFault.{FormatFault}
 use Rattle.cs_frame.specs.declared.identifiers.ShardId.{ShardId}
 use Rattle.cs_frame.specs.declared.locators.Locator.{Locator}
@@ -39,7 +39,7 @@ module _ (x : ExtentsState) (s : Staging) where
   No frame = NoPlace (shape x) (extents_of x) ForMove (length frame)
 
   abbrev Worn : List (List ℕ) → Type 0
-  Worn frame = IsWorn s (length frame)
+  Worn frame = IsFrameWorn x ForMove s (length frame)
 
   place_of_exact : {T : Type 0} (r : Result T Refusal) (payload : List ℕ) → IsExact r (No (chunk_frame x payload)) (Worn (chunk_frame x payload)) → AnswersPlace x s payload r
   place_of_exact (Ok t) payload exact = exact
@@ -58,8 +58,7 @@ module _ (x : ExtentsState) (s : Staging) where
       → IsExact r (No frame) (Worn frame) → IfErr r (λ e. e ≡ WornOut → IsMoveWorn x s)
   worn_move (Ok t) frame payload is fits exact = tt
   worn_move (Err e) frame payload is fits exact = λ same.
-      let why = subst (λ f. IsWhy f (No frame) (Worn frame)) same exact in
-      (payload, fits, subst (λ (f : List (List ℕ)). No f → ⊥) is why.0, subst Worn is why.1)
+      let why = subst (λ f. IsWhy f (No frame) (Worn frame)) same exact in (payload, fits, subst Worn is why.1)
 
 -- a refused read is neither 30 nor 35
 pub not_full : (r : Refusal) → IsReadRefusal r → r ≡ Full → ⊥
@@ -104,20 +103,24 @@ module _ (s t : State) (x y : ExtentsState) (g h : GraphState) (e : ℕ) (live :
     found.4,
   )
 
+-- what is done is no refusal of the device
+pub done_cause : {T U : Type 0} (a b : ℕ) (read : Result U Refusal) (t : T) → IsCaused a b read → IsCaused {T = T} a b (Ok t)
+done_cause a b read t caused = record { later = caused.later; failed = λ is. absurd (cc is) }
+
 -- ---- how an append and a move are refused
 
 -- an append is refused 30 exactly where there is no place, and 35 where there is one and a number would pass its greatest
-module _ (Placed : ℕ → Type 0) (Worn : Type 0) where
+module _ (Placed : ℕ → Type 0) (Worn : Type 0) (has_place : Worn → (e : ℕ) × Placed e) where
   abbrev Nowhere : Type 0
   Nowhere = (e : ℕ) → Placed e → ⊥
 
-  pub append_why : {T : Type 0} (r : Result T Refusal) (place : T → ℕ) → (r ≡ Err Full) ↔ Nowhere → (r ≡ Err WornOut) ↔ (((e : ℕ) × Placed e) × Worn)
+  pub append_why : {T : Type 0} (r : Result T Refusal) (place : T → ℕ) → (r ≡ Err Full) ↔ Nowhere → (r ≡ Err WornOut) ↔ Worn
       → IfErr r (λ f. (f ≡ Full) ⊎ (f ≡ WornOut) ⊎ (f ≡ OutOfMemory)) → IfOk r (λ t. Placed (place t)) → IsExact r Nowhere Worn
-  append_why (Ok t) place full worn refusals placed = ((λ none. none (place t) placed), (λ w. absurd (cc (worn.1 ((place t, placed), w)))))
+  append_why (Ok t) place full worn refusals placed = ((λ none. none (place t) placed), (λ w. absurd (cc (worn.1 w))))
   append_why (Err f) place full worn refusals placed = ⊎_elim
       (λ (is : f ≡ Full). subst (λ g. IsWhy g Nowhere Worn) (sym is) (full.0 (ap Err is)))
       (λ (rest : (f ≡ WornOut) ⊎ (f ≡ OutOfMemory)). ⊎_elim
-      (λ (is : f ≡ WornOut). let why = worn.0 (ap Err is) in subst (λ g. IsWhy g Nowhere Worn) (sym is) ((λ none. none why.0.0 why.0.1), why.1))
+      (λ (is : f ≡ WornOut). let why = worn.0 (ap Err is) in let there = has_place why in subst (λ g. IsWhy g Nowhere Worn) (sym is) ((λ none. none there.0 there.1), why))
       (λ (is : f ≡ OutOfMemory). subst (λ g. IsWhy g Nowhere Worn) (sym is) tt)
       rest)
       refusals
@@ -128,9 +131,6 @@ module _ (No Worn : Type 0) where
   why_refusal WornOut why = inr (inl refl)
   why_refusal OutOfMemory why = inr (inr refl)
   why_refusal _ why = absurd why
-
-  pub no_memory_why : (f : Refusal) → f ≡ OutOfMemory → IsWhy f No Worn
-  no_memory_why f is = subst (λ g. IsWhy g No Worn) (sym is) tt
 
   pub exact_answers : {T : Type 0} (r : Result T Refusal) (found : Option FormatFault) → found ≡ None → IsExact r No Worn → AnswersMove found r
   exact_answers (Ok t) found none exact = none
@@ -150,7 +150,7 @@ module _ (No Worn : Type 0) where
       (why_refusal f exact)
 
   pub exact_cause : {T U : Type 0} (a b : ℕ) (read : Result U Refusal) (r : Result T Refusal) → IsCaused a b read → IsExact r No Worn → IsCaused a b r
-  exact_cause a b read (Ok t) caused exact = record { later = caused.later; failed = λ is. absurd (cc is) }
+  exact_cause a b read (Ok t) caused exact = done_cause a b read t caused
   exact_cause a b read (Err f) caused exact = record { later = caused.later; failed = λ is. absurd (subst (λ g. IsWhy g No Worn) (err_same f DeviceFault is) exact) }
     where
       err_of : {X Y : Type 0} → Y → Result X Y → Y

@@ -1,5 +1,5 @@
 -- Answers with a refusal alone, and with the sweep beside it.
-use Rattle.std.proofs.Common.{◌≡◌, ◌⊎◌, ℕ, List, Result, Ok, Err, ap, inl, inr, refl, subst, sym, ⊎_elim}
+use Rattle.std.proofs.Common.{◌≡◌, ◌⊎◌, ℕ, List, Result, Ok, Err, ap, inl, inr, refl, subst, ⊎_elim}
 use Rattle.std.specs.Prelude.{◌↔◌}
 use Rattle.cs_deps.specs.declared.refusals.Refusal.{Refusal}
 use Rattle.cs_deps.specs.declared.refusals.Refusal.TheVariants.{Full, OutOfMemory, StillLive, WornOut}
@@ -30,17 +30,11 @@ module _ {V : Type 0} (v : V) (index : List Entry) (d e : ℕ) (is : d ≡ e) wh
 
 -- ---- how a retire is refused where nothing is live
 
-module _ (No Worn : Type 0) where
-  -- an extent of the greatest generation
-  pub worn_why : (f : Refusal) → ((f ≡ WornOut) × (No → ⊥)) ⊎ ((f ≡ Full) × No) ⊎ (f ≡ OutOfMemory) → Worn → IsWhy f No Worn
-  worn_why f which worn = ⊎_elim
-      (λ (w : (f ≡ WornOut) × (No → ⊥)). subst (λ g. IsWhy g No Worn) (sym w.0) (w.1, worn))
-      (λ (rest : ((f ≡ Full) × No) ⊎ (f ≡ OutOfMemory)). ⊎_elim
-      (λ (full : (f ≡ Full) × No). subst (λ g. IsWhy g No Worn) (sym full.0) full.1)
-      (λ (is : f ≡ OutOfMemory). subst (λ g. IsWhy g No Worn) (sym is) tt)
-      rest)
-      which
+-- an extent is retired where there is a place, and neither a number nor its generation would pass its greatest
+pub why_retired : (No Staged Last : Type 0) → (No → ⊥) × (Staged → ⊥) → (Last → ⊥) → (No → ⊥) × (Staged ⊎ Last → ⊥)
+why_retired No Staged Last why last = (why.0, (λ worn. ⊎_elim why.1 last worn))
 
+module _ (No Worn : Type 0) where
   pub why_refusals : (f : Refusal) → IsWhy f No Worn → (f ≡ StillLive) ⊎ (f ≡ Full) ⊎ (f ≡ WornOut) ⊎ (f ≡ OutOfMemory)
   why_refusals Full why = inr (inl refl)
   why_refusals WornOut why = inr (inr (inl refl))

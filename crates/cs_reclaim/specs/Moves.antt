@@ -6,8 +6,8 @@ use Rattle.cs_deps.specs.declared.refusals.Refusal.TheVariants.{Full, WornOut}
 use Rattle.cs_deps.specs.Staging.{Staging}
 use Rattle.cs_deps.specs.State.{State as GraphState}
 use Rattle.cs_extent.specs.Appended.{IsAppended}
-use Rattle.cs_extent.specs.Frames.{IsWorn}
 use Rattle.cs_extent.specs.State.{State as ExtentsState, extents_of, shape}
+use Rattle.cs_extent.specs.Worn.{IsFrameWorn}
 use Rattle.cs_frame.specs.declared.faults.FormatFault.{FormatFault}
 use Rattle.cs_frame.specs.declared.locators.Locator.{Locator}
 use Rattle.cs_frame.specs.Formats.{formats_of, place_of}
@@ -44,12 +44,11 @@ IsMoveFull x = (payload : List ℕ) × (length (chunk_frame x payload) ≤ x.pag
 
 -- an extent takes the frame of some payload, and a number would pass its greatest
 abbrev pub IsMoveWorn : ExtentsState → Staging → Type 0
-IsMoveWorn x s = (payload : List ℕ) × (length (chunk_frame x payload) ≤ x.pages)
-    × (NoPlace (shape x) (extents_of x) ForMove (length (chunk_frame x payload)) → ⊥) × IsWorn s (length (chunk_frame x payload))
+IsMoveWorn x s = (payload : List ℕ) × (length (chunk_frame x payload) ≤ x.pages) × IsFrameWorn x ForMove s (length (chunk_frame x payload))
 
 -- a chunk of this payload is moved exactly where there is a place and there are numbers for its frame, unless the device
 -- or memory refuses
 abbrev pub AnswersPlace : {T : Type 0} → ExtentsState → Staging → (payload : List ℕ) → Result T Refusal → Type 0
 AnswersPlace x s payload result =
-    MatchResult result (λ _. (NoPlace (shape x) (extents_of x) ForMove (length (chunk_frame x payload)) → ⊥) × (IsWorn s (length (chunk_frame x payload)) → ⊥))
-    (λ r. IsNoAnswer r ⊎ IsWhy r (NoPlace (shape x) (extents_of x) ForMove (length (chunk_frame x payload))) (IsWorn s (length (chunk_frame x payload))))
+    MatchResult result (λ _. (NoPlace (shape x) (extents_of x) ForMove (length (chunk_frame x payload)) → ⊥) × (IsFrameWorn x ForMove s (length (chunk_frame x payload)) → ⊥))
+    (λ r. IsNoAnswer r ⊎ IsWhy r (NoPlace (shape x) (extents_of x) ForMove (length (chunk_frame x payload))) (IsFrameWorn x ForMove s (length (chunk_frame x payload))))

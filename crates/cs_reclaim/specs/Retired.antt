@@ -19,4 +19,4 @@ IsRetireFull s x = IsFull (WritesMerged s) x ForMove
 
 -- a number would pass its greatest: one of those that are staged, or the extent's generation
 abbrev pub IsRetireWorn : State → ExtentsState → Staging → (e : ℕ) → Type 0
-IsRetireWorn s x g e = IsStageWorn (WritesMerged s) x g ⊎ ((extents_of x).generation e ≡ (shape x).greatest_generation)
+IsRetireWorn s x g e = IsStageWorn (WritesMerged s) x ForMove g ⊎ ((extents_of x).generation e ≡ (shape x).greatest_generation)

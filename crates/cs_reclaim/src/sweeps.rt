@@ -5,8 +5,9 @@ ghost use Rattle.cs_chunk.specs.Newest.{AreNewest};
 ghost use Rattle.cs_chunk.specs.Reads.{IsCaused, IsReadRefusal, OnlyReads, fault_at};
 ghost use Rattle.cs_disk.specs.Disk.{seen};
 ghost use Rattle.cs_extent.specs.Appended.{IsAppended};
-ghost use Rattle.cs_extent.specs.Frames.{AreResetsStaged, IsWorn, root_family};
+ghost use Rattle.cs_extent.specs.Frames.{AreResetsStaged};
 ghost use Rattle.cs_extent.specs.State.{extents_of, shape};
+ghost use Rattle.cs_extent.specs.Worn.{IsFrameWorn};
 ghost use Rattle.cs_frame.specs.declared.frames.FrameKind.TheVariants.{Chunk};
 ghost use Rattle.cs_frame.specs.declared.locators.Locator.{Locator as Spot};
 ghost use Rattle.cs_frame.specs.Formats.{as_locator, place_of};
@@ -99,7 +100,7 @@ impl Sweep {
         requires swept { IsSwept (shape extents.old) (extents_of extents.old) self.now }
         requires there { (id : ℕ) (l : Place) → l ∈ live_at (index_of index.old) id → (l.extent < (shape extents.old).extents) × (l.page < (shape extents.old).pages) }
         requires device { 2 + (shape extents.old).extents * (shape extents.old).pages ≤ D.page_count disk.old }
-        requires families { root_family < length graph.old.staging.latest }
+        requires families { length graph.old.staging.latest ≡ 1 + (shape extents.old).sections }
         requires resets { AreResetsStaged (extents_of extents.old) graph.old.staging }
 
         // Nothing is moved exactly where nothing is live there, and then nothing changes.
@@ -161,7 +162,7 @@ impl Sweep {
     ) -> Result<u64, (Refusal, Sweep)>
         requires swept { IsSwept (shape extents.old) (extents_of extents.old) self }
         requires limit { index.old.limit ≡ (shape extents.old).most_names }
-        requires families { root_family < length graph.old.staging.latest }
+        requires families { length graph.old.staging.latest ≡ 1 + (shape extents.old).sections }
         requires resets { AreResetsStaged (extents_of extents.old) graph.old.staging }
         requires commands { commands < 2 ^ 63 }
         ensures retired { IfOk result (λ v. IsRetired index.old extents.old graph.old self v commands index.new extents.new graph.new) }
@@ -226,7 +227,7 @@ fn move_live<D: PageDisk>(
     requires extent { live.now.place.extent < (shape extents.old).extents }
     requires page { live.now.place.page < (shape extents.old).pages }
     requires device { 2 + (shape extents.old).extents * (shape extents.old).pages ≤ D.page_count disk.old }
-    requires families { root_family < length graph.old.staging.latest }
+    requires families { length graph.old.staging.latest ≡ 1 + (shape extents.old).sections }
     requires resets { AreResetsStaged (extents_of extents.old) graph.old.staging }
     ensures moved { OnOk result ((payload : List ℕ) × (to : Spot) × IsAppended extents.old graph.old ForMove (chunk_frame extents.old payload) to extents.new graph.new
         × IsSet index.old (id_number live.now.id) (replaced (live_at (index_of index.old) (id_number live.now.id)) live.now.chunk (place_of to)) index.new
@@ -268,10 +269,10 @@ fn move_to(
 ) -> Result<(), Refusal>
     requires there { nth (live_at (index_of index.old) (id_number live.now.id)) live.now.chunk ≡ Some (place_of live.now.place) }
     requires pages { (1 ≤ length frame.now) × (length frame.now ≤ (shape extents.old).pages) }
-    requires families { root_family < length graph.old.staging.latest }
+    requires families { length graph.old.staging.latest ≡ 1 + (shape extents.old).sections }
     requires resets { AreResetsStaged (extents_of extents.old) graph.old.staging }
     ensures moved { OnOk result ((to : Spot) × IsAppended extents.old graph.old ForMove frame.now to extents.new graph.new × IsSet index.old (id_number live.now.id) (replaced (live_at (index_of index.old) (id_number live.now.id)) live.now.chunk (place_of to)) index.new) }
-    ensures why { IsExact result (NoPlace (shape extents.old) (extents_of extents.old) ForMove (length frame.now)) (IsWorn graph.old.staging (length frame.now)) }
+    ensures why { IsExact result (NoPlace (shape extents.old) (extents_of extents.old) ForMove (length frame.now)) (IsFrameWorn extents.old ForMove graph.old.staging (length frame.now)) }
     ensures refused { OnErr result (index.new ≡ record index.old { room = index.new.room }) }
     ensures unwritten { OnErr result (extents.new ≡ extents.old) }
     ensures unstaged { OnErr result (graph.new ≡ record graph.old { room = graph.new.room }) }
@@ -301,10 +302,10 @@ fn append_moved(
     frame: &[[u8; 4096]],
 ) -> Result<Locator, Refusal>
     requires pages { (1 ≤ length frame.now) × (length frame.now ≤ (shape extents.old).pages) }
-    requires families { root_family < length graph.old.staging.latest }
+    requires families { length graph.old.staging.latest ≡ 1 + (shape extents.old).sections }
     requires resets { AreResetsStaged (extents_of extents.old) graph.old.staging }
     ensures appended { IfOk result (λ to. IsAppended extents.old graph.old ForMove frame.now to extents.new graph.new) }
-    ensures why { IsExact result (NoPlace (shape extents.old) (extents_of extents.old) ForMove (length frame.now)) (IsWorn graph.old.staging (length frame.now)) }
+    ensures why { IsExact result (NoPlace (shape extents.old) (extents_of extents.old) ForMove (length frame.now)) (IsFrameWorn extents.old ForMove graph.old.staging (length frame.now)) }
     ensures unwritten { OnErr result (extents.new ≡ extents.old) }
     ensures unstaged { OnErr result (graph.new ≡ record graph.old { room = graph.new.room }) }
     ensures resets { AreResetsStaged (extents_of extents.new) graph.new.staging }
@@ -373,7 +374,7 @@ fn retire_extent(
 ) -> Result<u64, Refusal>
     requires swept { IsSwept (shape extents.old) (extents_of extents.old) extent }
     requires limit { index.old.limit ≡ (shape extents.old).most_names }
-    requires families { root_family < length graph.old.staging.latest }
+    requires families { length graph.old.staging.latest ≡ 1 + (shape extents.old).sections }
     requires resets { AreResetsStaged (extents_of extents.old) graph.old.staging }
     requires commands { commands < 2 ^ 63 }
     ensures retired { IfOk result (λ v. IsRetired index.old extents.old graph.old extent v commands index.new extents.new graph.new) }
@@ -390,6 +391,7 @@ fn retire_extent(
     ensures shape { shape extents.new ≡ shape extents.old }
     ensures limit { index.new.limit ≡ index.old.limit }
 {
+    let _extents = extents.extent_count();
     if index.first_live(extent).is_some() {
         return Err(Refusal::StillLive);
     }

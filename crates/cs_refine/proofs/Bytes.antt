@@ -1,5 +1,5 @@
 -- What is kept for a frame's elements is what the machine writes for them.
-use Rattle.std.proofs.Common.{◌≡◌, inl, inr, ⊎_elim, ◌⊎◌, ℕ, suc, ◌+◌, ◌<◌, ◌≤◌, List, [], ◌∷◌, length, Some, get_or, false, refl, sym, ap, ◌∙◌, subst, arith}
+use Rattle.std.proofs.Common.{◌≡◌, inl, inr, ⊎_elim, ◌⊎◌, ℕ, suc, ◌+◌, ◌<◌, ◌≤◌, List, [], ◌∷◌, length, Some, get_or, false, refl, sym, ap, ap₂, ◌∙◌, subst, arith}
 use Rattle.std.specs.Prelude.{slice_index_or}
 use Rattle.std.proofs.lemmas.Option.{same_Some}
 use Rattle.cs_deps.specs.declared.elements.Element.TheVariants.{Plain, Version}
@@ -16,14 +16,16 @@ use Rattle.cs_model.specs.Machine.{StagePage, World, happens, superblock_now, wr
 use Rattle.cs_model.proofs.Appends.{pages_superblocks}
 use Rattle.cs_model.proofs.Waiting.{listed}
 use Rattle.cs_frame.specs.Formats.{extents_of as listed_extents, formats_of}
+use Rattle.cs_frame.specs.Geometries.{IsGeometry}
 use Rattle.cs_frame.specs.Superblocks.{spelled_superblock}
 use Rattle.cs_frame.specs.declared.locators.Locator.{Locator}
 use Rattle.cs_extent.specs.Appended.{IsAppended}
-use Rattle.cs_extent.specs.Frames.{IsOfFrame, next_superblock, superblock_family}
-use Rattle.cs_extent.specs.State.{State, extents_of, need_of, shape}
-use Rattle.cs_image.proofs.Superblocks.{all_listed}
-use Rattle.cs_refine.specs.Bridge.{family_of, name}
+use Rattle.cs_extent.specs.Frames.{IsOfFrame, family_of, next_section}
+use Rattle.cs_extent.specs.State.{State, extents_of, need_of, section_rows, shape}
+use Rattle.cs_image.proofs.Superblocks.{section_listed}
+use Rattle.cs_refine.specs.Bridge.{name}
 use Rattle.cs_refine.specs.Stores.{AreWritesOf, IsStagingOf, IsWorldOf}
+use Rattle.cs_refine.proofs.Places.{not_one, one_family}
 
 -- page k of those that are staged from page i of e on, after n plain writes
 pub record IsPage (S : Shape) (e i n : ℕ) (bs : List Page) (m : Element) : Type 0 where
@@ -60,49 +62,51 @@ pages_staged S e i (b ∷ bs) w m has = ⊎_elim
     }))
     (pages_staged S e (suc i) bs (happens S w (StagePage (S.address e i) b)) m has)
 
--- what was staged before is not of the next frame
-pub not_of_frame : (S : Shape) (need : ℕ) (w : World) (s : Staging) (count : ℕ) (m : Element) → IsStagingOf S need w s → m ∈ w.elements → IsOfFrame s count (name m) → ⊥
-not_of_frame S need w s count (A_write x) is has of =
+-- what was staged before is not of the next frame, which stages a version of section j
+pub not_of_frame : (S : Shape) (need : ℕ → ℕ) (w : World) (s : Staging) (j count : ℕ) (m : Element) → j < S.sections → IsStagingOf S need w s → m ∈ w.elements → IsOfFrame s j count (name m) → ⊥
+not_of_frame S need w s j count (A_write x) there is has of =
     let low = (is.numbers x.number).1 (x, listed w.elements (A_write x) has, refl) in
     let le : x.number ≤ w.written = low.1 in let e : w.written ≡ s.staged = is.written in let lt : s.staged < x.number = of.0 in absurd (omega arith)
-not_of_frame S need w s count (A_superblock u) is has of =
-    let le : u.version ≤ w.superblocks 0 = (is.superblocks u (listed w.elements (A_superblock u) has)).1 in
-    let e : w.superblocks 0 ≡ get_or s.latest superblock_family 0 = is.superblock in let n : u.version ≡ get_or s.latest superblock_family 0 + 1 = of.1 in absurd (omega arith)
-not_of_frame S need w s count (A_root r) is has of = absurd (let other : 1 ≡ 0 = of.0 in omega (arith, other))
+not_of_frame S need w s j count (A_superblock u) there is has of =
+    let le : u.version ≤ w.superblocks j = subst (λ (i : ℕ). u.version ≤ w.superblocks i) (one_family u.section j of.0) (is.superblocks u (listed w.elements (A_superblock u) has)).1 in
+    let e : w.superblocks j ≡ get_or s.latest (family_of j) 0 = is.sections j there in let n : u.version ≡ get_or s.latest (family_of j) 0 + 1 = of.1 in absurd (omega arith)
+not_of_frame S need w s j count (A_root r) there is has of = absurd (not_one j (sym of.0))
 
-module _ (x : State) (g : GraphState) (w : World) (one : (e : ℕ) → (shape x).section e ≡ 0) (is : IsWorldOf x g w)
-    (reason : Reason) (frame : List (List ℕ)) (l : Locator) (y : State) (h : GraphState) (a : IsAppended x g reason frame l y h) where
+module _ (x : State) (g : GraphState) (w : World) (geometry : IsGeometry (length x.written) x.pages x.sections) (is : IsWorldOf x g w)
+    (reason : Reason) (frame : List (List ℕ)) (l : Locator) (y : State) (h : GraphState) (a : IsAppended x g reason frame l y h)
+    (there : (shape x).section l.extent < (shape x).sections) where
+  -- the section of the frame's extent
+  abbrev j : ℕ
+  j = (shape x).section l.extent
+
   abbrev after_pages : World
   after_pages = stage_pages (shape x) w l.extent (w.extents.pointer l.extent) frame
 
   abbrev next : World
-  next = appended (shape x) w l.extent (need_of x) frame
+  next = appended (shape x) w l.extent (need_of x j) frame
 
   module _ (same_extents : next.extents ≡ extents_of y) (persistent : next.persistent ≡ w.persistent) where
-    version : suc (after_pages.superblocks 0) ≡ get_or g.staging.latest superblock_family 0 + 1
-    version = let n : after_pages.superblocks 0 ≡ w.superblocks 0 = ap (λ (f : ℕ → ℕ). f 0) (pages_superblocks (shape x) w l.extent (w.extents.pointer l.extent) frame) in
-        let e : w.superblocks 0 ≡ get_or g.staging.latest superblock_family 0 = is.staging.superblock in omega arith
+    version : suc (after_pages.superblocks j) ≡ get_or g.staging.latest (family_of j) 0 + 1
+    version = let n : after_pages.superblocks j ≡ w.superblocks j = ap (λ (f : ℕ → ℕ). f j) (pages_superblocks (shape x) w l.extent (w.extents.pointer l.extent) frame) in
+        let e : w.superblocks j ≡ get_or g.staging.latest (family_of j) 0 = is.staging.sections j there in omega arith
 
-    rows : listed_extents (shape x).section after_pages.extents.pointer after_pages.extents.generation 0 0 (shape x).extents ≡ y.written
-    rows = ap (λ (n : ℕ). listed_extents (shape x).section after_pages.extents.pointer after_pages.extents.generation 0 0 n) (ap (λ (S : Shape). S.extents) (sym a.same_shape))
-        ∙ all_listed (shape x).section after_pages.extents.pointer after_pages.extents.generation 0 y.written one
-        (λ k. ap (λ (n : ℕ). (after_pages.extents.pointer n, after_pages.extents.generation n)) (let n : 0 + k ≡ k = omega arith in n)
-        ∙ ap (λ (z : Extents). (z.pointer k, z.generation k)) same_extents)
+    -- the rows of the section are those of the extents as they are then
+    rows : listed_extents (shape x).section after_pages.extents.pointer after_pages.extents.generation j 0 (shape x).extents ≡ section_rows y j
+    rows = ap (λ (S : Shape). listed_extents S.section after_pages.extents.pointer after_pages.extents.generation j 0 S.extents) (sym a.same_shape)
+        ∙ section_listed (length y.written) y.pages y.sections 2 (subst (λ (S : Shape). IsGeometry S.extents S.pages S.sections) (sym a.same_shape) geometry) y.written refl
+        after_pages.extents.pointer after_pages.extents.generation (λ k lt. ap (λ (z : Extents). (z.pointer k, z.generation k)) same_extents) j
 
-    superblock_is : page_write (shape x) (formats_of (shape x)) (A_superblock (superblock_now (shape x) after_pages 0 (need_of x))) ≡ ((shape x).section_page 0, a.superblock.0)
-    superblock_is = ap (λ (b : List ℕ). ((shape x).section_page 0, b))
-        (ap (λ (n : ℕ). spelled_superblock n (shape x).pages (listed_extents (shape x).section after_pages.extents.pointer after_pages.extents.generation 0 0 (shape x).extents)) version
-        ∙ ap (λ (q : List (ℕ × ℕ)). spelled_superblock (get_or g.staging.latest superblock_family 0 + 1) (shape x).pages q) rows
-        ∙ ap (λ (S : Shape). spelled_superblock (get_or g.staging.latest superblock_family 0 + 1) S.pages y.written) (sym a.same_shape)
-        ∙ sym a.superblock.2.spelled)
+    section_is : page_write (shape x) (formats_of (shape x)) (A_superblock (superblock_now (shape x) after_pages j (need_of x j))) ≡ ((shape x).section_page j, a.section.0)
+    section_is = ap (λ (b : List ℕ). ((shape x).section_page j, b))
+        (ap₂ (λ (n : ℕ) (q : List (ℕ × ℕ)). spelled_superblock n (shape x).extents (shape x).pages (shape x).sections j q) version rows
+        ∙ ap (λ (S : Shape). spelled_superblock (get_or g.staging.latest (family_of j) 0 + 1) S.extents S.pages S.sections j (section_rows y j)) (sym a.same_shape)
+        ∙ sym a.section.2.spelled)
 
-    superblock_kept : (j : ℕ) → j ≡ 0 → (p : PageWrite) → write_of h (Version (family_of j) (suc (after_pages.superblocks j))) ≡ Some p
-        → p ≡ page_write (shape x) (formats_of (shape x)) (A_superblock (superblock_now (shape x) after_pages j (need_of x)))
-    superblock_kept j first p kept =
-        let there : write_of h (next_superblock g.staging) ≡ Some p = ap (λ (n : ℕ). write_of h (Version superblock_family n)) (sym version)
-        ∙ subst (λ (i : ℕ). write_of h (Version (family_of i) (suc (after_pages.superblocks i))) ≡ Some p) first kept in
-        same_Some p ((shape x).section_page 0, a.superblock.0) (sym there ∙ a.superblock.1)
-        ∙ sym superblock_is ∙ ap (λ (i : ℕ). page_write (shape x) (formats_of (shape x)) (A_superblock (superblock_now (shape x) after_pages i (need_of x)))) (sym first)
+    section_kept : (p : PageWrite) → write_of h (Version (family_of j) (suc (after_pages.superblocks j))) ≡ Some p
+        → p ≡ page_write (shape x) (formats_of (shape x)) (A_superblock (superblock_now (shape x) after_pages j (need_of x j)))
+    section_kept p kept =
+        let there_is : write_of h (next_section g.staging j) ≡ Some p = ap (λ (n : ℕ). write_of h (Version (family_of j) n)) (sym version) ∙ kept in
+        same_Some p ((shape x).section_page j, a.section.0) (sym there_is ∙ a.section.1) ∙ sym section_is
 
     page_kept : (m : Element) (p : PageWrite) → IsPage (shape x) l.extent (w.extents.pointer l.extent) w.written frame m → write_of h (name m) ≡ Some p
         → p ≡ page_write (shape x) (formats_of (shape x)) m
@@ -111,21 +115,21 @@ module _ (x : State) (g : GraphState) (w : World) (one : (e : ℕ) → (shape x)
         let begins : l.page ≡ w.extents.pointer l.extent = ap (λ (k : Locator). k.page) a.place ∙ ap (λ (z : Extents). z.pointer l.extent) (sym is.extents) in
         a.writes of.place p of.inside (ap (λ (n : ℕ). write_of h (Plain n)) (sym number) ∙ ap (λ (k : Element). write_of h (name k)) (sym of.is) ∙ kept)
         ∙ ap (λ (n : ℕ). ((shape x).address l.extent (n + of.place), slice_index_or frame of.place [])) begins
-        ∙ (λ j. ((sym of.page) j, (sym of.bytes) j))
+        ∙ (λ i. ((sym of.page) i, (sym of.bytes) i))
         ∙ ap (page_write (shape x) (formats_of (shape x))) (sym of.is)
 
     old_kept : (m : Element) (p : PageWrite) → m ∈ w.elements → satisfied next.persistent m ≡ false → write_of h (name m) ≡ Some p → p ≡ page_write (shape x) (formats_of (shape x)) m
     old_kept m p has waits kept = ⊎_elim
         (λ (before : write_of g (name m) ≡ Some p). is.writes m p (has, ap (λ (X : Cut). satisfied X m) (sym persistent) ∙ waits) before)
-        (λ (of : IsOfFrame g.staging (length frame) (name m)). absurd (not_of_frame (shape x) (need_of x) w g.staging (length frame) m is.staging has of))
+        (λ (of : IsOfFrame g.staging j (length frame) (name m)). absurd (not_of_frame (shape x) (need_of x) w g.staging j (length frame) m there is.staging has of))
         (a.others (name m) p kept)
 
     pub append_writes : AreWritesOf (shape x) next h
     append_writes m p waits kept = ⊎_elim
-        (λ (new : m ≡ A_superblock (superblock_now (shape x) after_pages ((shape x).section l.extent) (need_of x))).
-        superblock_kept ((shape x).section l.extent) (one l.extent) p (ap (λ (k : Element). write_of h (name k)) (sym new) ∙ kept) ∙ ap (page_write (shape x) (formats_of (shape x))) (sym new))
-        (λ (there : m ∈ after_pages.elements). ⊎_elim
+        (λ (new : m ≡ A_superblock (superblock_now (shape x) after_pages j (need_of x j))).
+        section_kept p (ap (λ (k : Element). write_of h (name k)) (sym new) ∙ kept) ∙ ap (page_write (shape x) (formats_of (shape x))) (sym new))
+        (λ (before : m ∈ after_pages.elements). ⊎_elim
         (λ (old : m ∈ w.elements). old_kept m p old waits.1 kept)
         (λ (page : IsPage (shape x) l.extent (w.extents.pointer l.extent) w.written frame m). page_kept m p page kept)
-        (pages_staged (shape x) l.extent (w.extents.pointer l.extent) frame w m there))
+        (pages_staged (shape x) l.extent (w.extents.pointer l.extent) frame w m before))
         waits.0

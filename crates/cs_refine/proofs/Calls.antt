@@ -34,7 +34,7 @@ use Rattle.cs_refine.proofs.Keeping.{after_appends, after_mark}
 use Rattle.cs_refine.proofs.Numbers.{append_numbers}
 use Rattle.cs_refine.proofs.Resetting.{after_reset}
 use Rattle.cs_refine.proofs.Rooting.{after_root, next_version}
-use Rattle.cs_refine.proofs.Shapes.{one_section, store_shape}
+use Rattle.cs_refine.proofs.Shapes.{some_sections, store_shape}
 
 -- ---- puts and deletes
 
@@ -44,7 +44,7 @@ module _ (x : ExtentsState) (g : GraphState) (i : IndexState) (s : State) (are :
       → AreAppended x g ForPut (chunk_frames (shape x) (formats_of (shape x)) cs) ls y h → IsSet i id (map place_of ls) j
       → (t : State) × Does (shape x) (formats_of (shape x)) s (Put id bytes) (Accepted (suc (length s.commands))) t × ArePartsOf y h j t
   put y h j id bytes cs ls whole cut all set =
-      let done = after_appends x y g h s.world ForPut (chunk_frames (shape x) (formats_of (shape x)) cs) ls (store_shape x whole) are.world all in (
+      let done = after_appends x y g h s.world ForPut (chunk_frames (shape x) (formats_of (shape x)) cs) ls whole.geometry are.world all in (
         record s {
           world = done.0;
           table = record { id = id; locators = map place_of ls } ∷ s.table;
@@ -69,25 +69,29 @@ run_append : (x y : ExtentsState) (g h : GraphState) (w : World) (reason : Reaso
     → (v : World) × Append (shape x) w reason ((formats_of (shape x)).frame RunFrame ((formats_of (shape x)).run entries)) place v × IsWorldOf y h v
 unfolding run_frame
 run_append x y g h w reason entries place whole is a =
-    after_append x g w (store_shape x whole) is reason (run_frame x entries) (as_locator place) y h a
+    after_append x g w whole.geometry is reason (run_frame x entries) (as_locator place) y h a
 
 -- the root over these runs is the machine's next, whatever it remembers
-module _ (x : ExtentsState) (g h : GraphState) (w : World) (v commands : ℕ) (runs : List Run) (is : IsWorldOf x g w) (root : IsRootStaged g h v commands runs) where
+module _ (x : ExtentsState) (g h : GraphState) (w : World) (v commands : ℕ) (runs : List Run) (some : 0 < (shape x).sections) (is : IsWorldOf x g w) (root : IsRootStaged g h v commands runs) where
   pub root_version : v ≡ suc w.root
-  root_version = next_version (shape x) refl (need_of x) w g.staging is.staging v root.needs h.staging root.version root.names
+  root_version = next_version (shape x) some (need_of x) w g.staging is.staging v root.needs h.staging root.version root.names
 
   pub root_staged : (m : Map) (pointers : ℕ → ℕ) → IsWorldOf x h (happens (shape x) w (StageRoot commands runs m pointers))
   root_staged m pointers =
       let oldest : List Locator = map as_locator (reverse (places runs)) in
       let kept : write_of h (Version root_family v) ≡ Some (page_write (shape x) (formats_of (shape x)) (A_root (root_now w commands runs m pointers))) =
       root.page.1 ∙ ap (λ (b : List ℕ). Some (1, b)) (root.page.2.spelled ∙ ap (λ (k : ℕ). spelled_root k commands oldest) root_version) in
-      after_root x g h w is v root.needs root.version root.names commands runs m pointers kept root.others
+      after_root x g h w some is v root.needs root.version root.names commands runs m pointers kept root.others
 
 -- ---- stages
 
 module _ (x : ExtentsState) (g : GraphState) (i : IndexState) (s : State) (whole : IsWhole x) (are : ArePartsOf x g i s) where
   abbrev commands : ℕ
   commands = s.count + length s.commands
+
+  -- there are as many sections in extents of the same shape
+  some_there : (y : ExtentsState) → shape y ≡ shape x → 0 < (shape y).sections
+  some_there y same = subst (λ (S : Shape). 0 < S.sections) (sym same) (some_sections x whole)
 
   pub table_staged : (y : ExtentsState) (h : GraphState) (j : IndexState) (v : ℕ) → i.table ≢ [] → length i.runs < 4
       → IsTableStaged i x g v commands j y h
@@ -98,12 +102,13 @@ module _ (x : ExtentsState) (g : GraphState) (i : IndexState) (s : State) (whole
       let mid : State = record s { world = appended.0 } in
       let root : IsRootStaged done.staged.0 h v commands runs =
       subst (λ (rs : List Run). IsRootStaged done.staged.0 h v commands (record { place = done.place; entries = done.entries } ∷ rs)) are.index.same_runs done.staged.2 in
-      let world = root_staged y done.staged.0 h appended.0 v commands runs appended.2 root (map_now s) appended.0.extents.pointer in (
+      let some_here : 0 < (shape y).sections = some_there y done.staged.1.same_shape in
+      let world = root_staged y done.staged.0 h appended.0 v commands runs some_here appended.2 root (map_now s) appended.0.extents.pointer in (
         rooted (shape x) (formats_of (shape x)) mid runs appended.0.extents.pointer,
         (
           some_table i s.table s.runs are.index some,
-          root_version y done.staged.0 h appended.0 v commands runs appended.2 root
-              ∙ ap suc (append_numbers (shape x) (store_shape x whole) (one_section x (store_shape x whole)) s.world appended.0 ForRun ((formats_of (shape x)).frame RunFrame ((formats_of (shape x)).run done.entries)) done.place appended.1).2,
+          root_version y done.staged.0 h appended.0 v commands runs some_here appended.2 root
+              ∙ ap suc (append_numbers (shape x) (store_shape x whole) s.world appended.0 ForRun ((formats_of (shape x)).frame RunFrame ((formats_of (shape x)).run done.entries)) done.place appended.1).2,
           inl (
             subst (λ (n : ℕ). n < 4) (as_many_runs i s.table s.runs are.index) few,
             done.entries,
@@ -131,7 +136,7 @@ module _ (x : ExtentsState) (g : GraphState) (i : IndexState) (s : State) (whole
           a.0,
           inl (entries, place, some, merged_run (index_of i) (index_now s) (looked_up i s.table s.runs are.index) entries merged, a.1, one),
           a.2,
-          (append_numbers (shape x) (store_shape x whole) (one_section x (store_shape x whole)) s.world a.0 reason ((formats_of (shape x)).frame RunFrame ((formats_of (shape x)).run entries)) place a.1).2,
+          (append_numbers (shape x) (store_shape x whole) s.world a.0 reason ((formats_of (shape x)).frame RunFrame ((formats_of (shape x)).run entries)) place a.1).2,
           appended.same_shape,
         )
     merges (inr (nothing, same, unstaged, none)) = (
@@ -150,15 +155,16 @@ module _ (x : ExtentsState) (g : GraphState) (i : IndexState) (s : State) (whole
       → (t : State) × Does (shape x) (formats_of (shape x)) s Stage (Staged v) t × ArePartsOf y h j t
   merge_staged y h j v some many done =
       let merged = merges ForRun j.runs y done.between done.appended in
+      let some_here : 0 < (shape y).sections = some_there y merged.4 in
       let mid : State = record s { world = merged.0 } in (
         rooted (shape x) (formats_of (shape x)) mid j.runs merged.0.extents.pointer,
         (
           some_table i s.table s.runs are.index some,
-          root_version y done.between h merged.0 v commands j.runs merged.2 done.root ∙ ap suc merged.3,
+          root_version y done.between h merged.0 v commands j.runs some_here merged.2 done.root ∙ ap suc merged.3,
           inr (subst (λ (n : ℕ). 4 ≤ n) (as_many_runs i s.table s.runs are.index) many, mid, j.runs, (merged.0, merged.1, refl), refl),
         ),
         record {
-          world = root_staged y done.between h merged.0 v commands j.runs merged.2 done.root (map_now s) merged.0.extents.pointer;
+          world = root_staged y done.between h merged.0 v commands j.runs some_here merged.2 done.root (map_now s) merged.0.extents.pointer;
           index = no_table j done.table;
         },
       )
@@ -170,7 +176,7 @@ module _ (x : ExtentsState) (g : GraphState) (i : IndexState) (s : State) (whole
       → ReadsNow (shape x) (formats_of (shape x)) s moved.from ChunkFrame payload
       → (t : State) × Does (shape x) (formats_of (shape x)) s (MoveOne e) (Moved id chunk) t × ArePartsOf y h j t
   move y h j e id chunk payload swept moved whole_chunk reads =
-      let done = after_append x g s.world (store_shape x whole) are.world ForMove ((formats_of (shape x)).frame ChunkFrame payload) moved.to y h moved.appended in
+      let done = after_append x g s.world whole.geometry are.world ForMove ((formats_of (shape x)).frame ChunkFrame payload) moved.to y h moved.appended in
       let here : List Place = replaced (live_at (index_now s) id) chunk (place_of moved.to) in
       let set : IsSet i id here j =
       subst (λ (ls : List Place). IsSet i id (replaced ls chunk (place_of moved.to)) j) (live_same (index_of i) (index_now s) (looked_up i s.table s.runs are.index) id) moved.entry in (
@@ -197,8 +203,9 @@ module _ (x : ExtentsState) (g : GraphState) (i : IndexState) (s : State) (whole
       let merged = merges ForMove j.runs mid done.between done.appended in
       let before : State = record s { world = merged.0 } in
       let pointers : ℕ → ℕ = with merged.0.extents.pointer e 0 in
-      let version : v ≡ suc merged.0.root = root_version mid done.between h merged.0 v commands j.runs merged.2 done.root in
-      let staged = root_staged mid done.between h merged.0 v commands j.runs merged.2 done.root (map_now s) pointers in
+      let some_here : 0 < (shape mid).sections = some_there mid merged.4 in
+      let version : v ≡ suc merged.0.root = root_version mid done.between h merged.0 v commands j.runs some_here merged.2 done.root in
+      let staged = root_staged mid done.between h merged.0 v commands j.runs some_here merged.2 done.root (map_now s) pointers in
       let rooted_world : World = happens (shape x) merged.0 (StageRoot commands j.runs (map_now s) pointers) in
       let emptied_now : Extents = marked (emptied merged.0.extents e (suc merged.0.root)) e false in
       let is : extents_of y ≡ emptied_now = extents ∙ ap (λ (z : Extents). marked (emptied z e v) e false) (sym merged.2.extents)
@@ -214,7 +221,7 @@ module _ (x : ExtentsState) (g : GraphState) (i : IndexState) (s : State) (whole
           refl,
         ),
         record {
-          world = after_reset mid y h rooted_world e staged (subst (λ (S : Shape). e < S.extents) (sym merged.4) inside) (same ∙ sym merged.4) emptied_now refl is;
+          world = after_reset mid y h rooted_world e staged (same ∙ sym merged.4) emptied_now refl is;
           index = no_table j done.table;
         },
       )

@@ -14,7 +14,8 @@ use Rattle.cs_model.specs.Safe.{Safe}
 use Rattle.cs_model.specs.Formats.{Formats}
 use Rattle.cs_model.specs.Recovery.{RootGives}
 use Rattle.cs_model.proofs.Waiting.{Listed, listed, write_in}
-use Rattle.cs_refine.specs.Bridge.{family_of, name, MayLeaveOut, NeedsName, IsPendingOf, IsWaiting, IsCutOf, AreNames}
+use Rattle.cs_extent.specs.Frames.{family_of}
+use Rattle.cs_refine.specs.Bridge.{name, MayLeaveOut, NeedsName, IsPendingOf, IsWaiting, IsCutOf, AreNames}
 use Rattle.cs_refine.proofs.Places.{not_one, one_family, one_write, waits_name, needs_name, name_needs}
 use Rattle.cs_refine.proofs.Heights.{write_waits}
 

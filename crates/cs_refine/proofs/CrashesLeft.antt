@@ -3,7 +3,9 @@ use Rattle.std.proofs.Common.{◌≡◌, ℕ, ◌+◌, ◌*◌, ◌≤◌, Bool,
 use Rattle.cs_disk.proofs.Images.{length-applied}
 use Rattle.cs_disk.specs.Disk.{Image, MayLeave, State as DiskState, kept, page}
 use Rattle.cs_extent.specs.State.{IsWhole, State as ExtentsState, shape}
+use Rattle.cs_frame.proofs.GeometryLaws.{model_geometry}
 use Rattle.cs_frame.specs.Formats.{formats_of}
+use Rattle.cs_frame.specs.Geometries.{section_size}
 use Rattle.cs_model.proofs.Crash.{leaves_prefix}
 use Rattle.cs_model.proofs.LocalRecovery.{lies_below, recovers_alike, recovers_alike_but}
 use Rattle.cs_model.proofs.Unique.{one_recovery}
@@ -24,19 +26,13 @@ pub same_size : (disk : DiskState) (left : Image) → MayLeave disk left → len
 same_size disk left may = ap length may.2 ∙ length-applied disk.durable (kept may.0 disk.volatile)
 
 -- the pages of a store are the first of its device
-pub store_below : (x : ExtentsState) → IsWhole x → LiesBelow (shape x) (2 + (shape x).extents * (shape x).pages)
-store_below x whole = subst (λ (n : ℕ). LiesBelow (shape x) n)
-    (let same : 1 + length x.written * x.pages + 1 ≡ 2 + length x.written * x.pages = omega arith in same)
-    (lies_below (length x.written) x.pages 1 (length x.written) 1 (record {
-      some_page = (let few : 2 ≤ x.pages = whole.fewest_pages in omega arith);
-      some_section = omega arith;
-      some_extent = (let few : 4 ≤ length x.written = whole.fewest_extents in omega arith);
-      all = (let same : length x.written ≤ 1 * length x.written = omega arith in same);
-    }))
+pub store_below : (x : ExtentsState) → IsWhole x → LiesBelow (shape x) (1 + (shape x).extents * (shape x).pages + (shape x).sections)
+store_below x whole = lies_below (length x.written) x.pages x.sections (section_size (length x.written) x.sections) 2
+    (model_geometry (length x.written) x.pages x.sections whole.geometry)
 
 module _ (x : ExtentsState) (s : State) (disk : DiskState) (left : Image) (whole : IsWhole x)
     (sound : Sound (shape x) (formats_of (shape x)) s) (is : IsDiskOf (shape x) (formats_of (shape x)) s disk)
-    (sized : length disk.durable ≡ 2 + (shape x).extents * (shape x).pages) (may : MayLeave disk left) where
+    (sized : length disk.durable ≡ 1 + (shape x).extents * (shape x).pages + (shape x).sections) (may : MayLeave disk left) where
   below : LiesBelow (shape x) (length left)
   below = subst (λ (n : ℕ). LiesBelow (shape x) n) (sym (same_size disk left may ∙ sized)) (store_below x whole)
 

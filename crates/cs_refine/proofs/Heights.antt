@@ -19,7 +19,8 @@ use Rattle.cs_model.specs.Recovery.{RootGives}
 use Rattle.cs_model.specs.Round.{WriteReady, SuperblockReady, RootReady, IsRound, IsMember}
 use Rattle.cs_model.proofs.ClosedSets.{gt-leb}
 use Rattle.cs_model.proofs.Waiting.{Listed, listed, write_in, superblock_in, root_in}
-use Rattle.cs_refine.specs.Bridge.{family_of, name, MayLeaveOut, NeedsName, IsPendingOf, IsWaiting, NamesAll}
+use Rattle.cs_extent.specs.Frames.{family_of}
+use Rattle.cs_refine.specs.Bridge.{name, MayLeaveOut, NeedsName, IsPendingOf, IsWaiting, NamesAll}
 use Rattle.cs_refine.proofs.Places.{not_one, one_family, one_write, one_superblock, one_root, waits_name, waits_from, needs_name, name_needs, version_needs}
 
 -- nothing that waits is needed

@@ -1,27 +1,29 @@
 -- A store keeps its world as rounds come and go, extents are marked, and frames are appended one after another.
-use Rattle.std.proofs.Common.{◌≡◌, inl, inr, ⊎_elim, ◌⊎◌, ℕ, Bool, true, false, List, [], ◌∷◌, ◌++◌, Some, map, true≢false, refl, sym, ap, ◌∙◌, subst}
+use Rattle.std.proofs.Common.{◌≡◌, inl, inr, ⊎_elim, ◌⊎◌, ℕ, ◌≤◌, Bool, true, false, List, [], ◌∷◌, ◌++◌, Some, map, le_trans, true≢false, refl, sym, ap, ◌∙◌, subst}
 use Rattle.std.proofs.lemmas.Bool.{cases_Bool}
 use Rattle.cs_deps.specs.declared.elements.Element.{Element as Name}
 use Rattle.cs_deps.specs.Pending.{Waits}
 use Rattle.cs_deps.specs.Staging.{Staging, settled}
 use Rattle.cs_deps.specs.State.{AddsNone, KeepsBytes, State as GraphState, Write as PageWrite, IsWhole as IsWholeGraph, write_of}
 use Rattle.cs_model.specs.Append.{AppendAll}
-use Rattle.cs_model.specs.Cut.{Cut, Within, satisfied}
-use Rattle.cs_model.specs.Device.{IsShape, Shape}
+use Rattle.cs_model.specs.Cut.{Closed, Cut, Within, satisfied}
+use Rattle.cs_model.specs.Device.{Shape}
 use Rattle.cs_model.specs.Disk.{page_write}
-use Rattle.cs_model.specs.Element.{Element}
+use Rattle.cs_model.specs.Element.{Element, Write, log_of, writes_of}
 use Rattle.cs_model.specs.Extents.{Extents, Purpose as Reason, marked}
 use Rattle.cs_model.specs.Formats.{Formats}
 use Rattle.cs_model.specs.Lists.{◌∈◌}
 use Rattle.cs_model.specs.Machine.{BeginRound, EndRound, World, happens}
+use Rattle.cs_model.specs.Safe.{Ready}
 use Rattle.cs_model.specs.Sound.{Sound}
 use Rattle.cs_model.specs.State.{State}
 use Rattle.cs_frame.specs.Formats.{formats_of, place_of}
+use Rattle.cs_frame.specs.Geometries.{IsGeometry}
 use Rattle.cs_frame.specs.declared.locators.Locator.{Locator}
 use Rattle.cs_extent.specs.Appended.{AreAppended}
 use Rattle.cs_extent.specs.State.{State as ExtentsState, extents_of, need_of, shape}
 use Rattle.cs_refine.specs.Bridge.{AreNames, IsWaiting, name, waiting_in}
-use Rattle.cs_refine.specs.Stores.{AreMemberNames, AreWritesOf, IsStagingOf, IsWorldOf}
+use Rattle.cs_refine.specs.Stores.{AreMemberNames, AreWritesOf, IsRecorded, IsStagingOf, IsWorldOf}
 use Rattle.cs_refine.proofs.Appending.{after_append}
 use Rattle.cs_refine.proofs.Places.{match_in, to_waiting}
 use Rattle.cs_refine.proofs.Settling.{round_settled, some_section, still}
@@ -32,6 +34,7 @@ pub begun : (x : ExtentsState) (g h : GraphState) (w : World) (R : Cut) → IsWo
 begun x g h w R is same none = record {
   extents = is.extents;
   staging = subst (λ (t : Staging). IsStagingOf (shape x) (need_of x) (happens (shape x) w (BeginRound R)) t) (sym same) (moved (shape x) (need_of x) w g.staging w.extents R is.staging);
+  recorded = λ a has. is.recorded a has;
   resets = is.resets;
   writes = λ m p waits kept. is.writes m p waits (none (name m) p kept);
 }
@@ -43,6 +46,27 @@ waited P R low m waits = ⊎_elim
     (λ (not : satisfied P m ≡ false). not)
     (cases_Bool (satisfied P m))
 
+-- a round whose members are ready is closed with them
+round_closed : (S : Shape) (els : List Element) (P R : Cut) → Closed S (log_of els) P → Within P R → Ready S (log_of els) P R → Closed S (log_of els) R
+round_closed S els P R closed low ready = record {
+  write_root = λ x has met. ⊎_elim
+      (λ (old : P.writes x.number ≡ true). le_trans (closed.write_root x has old) low.root)
+      (λ (here : x.root ≤ P.root). le_trans here low.root)
+      (ready.writes x has met);
+  superblock_root = λ u has met. ⊎_elim
+      (λ (old : u.version ≤ P.superblocks u.section). le_trans (closed.superblock_root u has old) low.root)
+      (λ (here : u.root ≤ P.root). le_trans here low.root)
+      (ready.superblock_root u has met);
+  superblock_writes = λ u x has has_x met sec bound. ⊎_elim
+      (λ (old : u.version ≤ P.superblocks u.section). low.writes x.number (closed.superblock_writes u x has has_x old sec bound))
+      (λ (here : P.writes x.number ≡ true). low.writes x.number here)
+      (ready.superblock_writes u x has has_x met sec bound);
+  root_superblocks = λ r has met j. ⊎_elim
+      (λ (old : r.version ≤ P.root). le_trans (closed.root_superblocks r has old j) (low.superblocks j))
+      (λ (here : (i : ℕ) → r.superblocks i ≤ P.superblocks i). le_trans (here j) (low.superblocks j))
+      (ready.roots r has met);
+}
+
 module _ (F : Formats) (s : State) (x : ExtentsState) (g h : GraphState) (round : List Name) (sound : Sound (shape x) F s)
     (is : IsWorldOf x g s.world) (names : AreMemberNames (shape x) s.world round) where
   abbrev next : World
@@ -53,9 +77,10 @@ module _ (F : Formats) (s : State) (x : ExtentsState) (g h : GraphState) (round 
     pending = round_settled (shape x) F s.opened s.world g.staging.pending sound.safe (some_section (shape x) F s sound) is.staging.pending round names;
     written = is.staging.written;
     families = is.staging.families;
-    superblock = is.staging.superblock;
+    sections = is.staging.sections;
     root = is.staging.root;
     persistent = sound.safe.round_staged;
+    closed = round_closed (shape x) s.world.elements s.world.persistent s.world.round is.staging.closed sound.safe.within sound.safe.ready;
     numbers = is.staging.numbers;
     superblocks = is.staging.superblocks;
     roots = is.staging.roots;
@@ -65,6 +90,7 @@ module _ (F : Formats) (s : State) (x : ExtentsState) (g h : GraphState) (round 
   ended same none = record {
     extents = is.extents;
     staging = subst (λ (t : Staging). IsStagingOf (shape x) (need_of x) next t) (sym same) staging;
+    recorded = λ a has. is.recorded a has;
     resets = is.resets;
     writes = λ m p waits kept. is.writes m p (waits.0, waited s.world.persistent s.world.round sound.safe.within m waits.1) (none (name m) p kept);
   }
@@ -104,27 +130,28 @@ after_mark x y g w e b is same extents =
     record {
       extents = ap (λ (z : Extents). marked z e b) is.extents ∙ sym extents;
       staging = subst (λ (S : Shape). IsStagingOf S (need_of y) next g.staging) (sym same)
-          (subst (λ (n : ℕ). IsStagingOf (shape x) n next g.staging) (sym (need_same x y same (λ d. ap (λ (z : Extents). z.reset d) extents)))
+          (subst (λ (f : ℕ → ℕ). IsStagingOf (shape x) f next g.staging) (sym (need_same x y same (λ d. ap (λ (z : Extents). z.reset d) extents)))
           (moved (shape x) (need_of x) w g.staging (marked w.extents e b) w.round is.staging));
+      recorded = subst (λ (S : Shape). (a : Write) → a ∈ writes_of w.elements → IsRecorded S next a) (sym same) (λ a has. is.recorded a has);
       resets = is.resets;
       writes = subst (λ (S : Shape). AreWritesOf S next g) (sym same) (λ m p waits kept. is.writes m p waits kept);
     }
 
 pub after_appends : (x y : ExtentsState) (g h : GraphState) (w : World) (reason : Reason) (frames : List (List (List ℕ))) (ls : List Locator)
-    → IsShape (shape x) → IsWorldOf x g w → AreAppended x g reason frames ls y h
+    → IsGeometry (shape x).extents (shape x).pages (shape x).sections → IsWorldOf x g w → AreAppended x g reason frames ls y h
     → (v : World) × AppendAll (shape x) w reason frames (map place_of ls) v × IsWorldOf y h v
-after_appends x y g h w reason [] [] store is all = (
+after_appends x y g h w reason [] [] geometry is all = (
   w,
   refl,
   subst (λ (z : ExtentsState). IsWorldOf z h w) (sym all.0)
-      (subst (λ (k : GraphState). IsWorldOf x k w) (sym all.1) (record { extents = is.extents; staging = is.staging; resets = is.resets; writes = is.writes })),
+      (subst (λ (k : GraphState). IsWorldOf x k w) (sym all.1) (record { extents = is.extents; staging = is.staging; recorded = is.recorded; resets = is.resets; writes = is.writes })),
 )
-after_appends x y g h w reason [] (l ∷ ls) store is all = absurd all
-after_appends x y g h w reason (frame ∷ frames) [] store is all = absurd all
-after_appends x y g h w reason (frame ∷ frames) (l ∷ ls) store is all =
-    let one = after_append x g w store is reason frame l all.0 all.1 all.2 in
+after_appends x y g h w reason [] (l ∷ ls) geometry is all = absurd all
+after_appends x y g h w reason (frame ∷ frames) [] geometry is all = absurd all
+after_appends x y g h w reason (frame ∷ frames) (l ∷ ls) geometry is all =
+    let one = after_append x g w geometry is reason frame l all.0 all.1 all.2 in
     let same : shape all.0 ≡ shape x = all.2.same_shape in
-    let rest = after_appends all.0 y all.1 h one.0 reason frames ls (subst (λ (S : Shape). IsShape S) (sym same) store) one.2 all.3 in
+    let rest = after_appends all.0 y all.1 h one.0 reason frames ls (subst (λ (S : Shape). IsGeometry S.extents S.pages S.sections) (sym same) geometry) one.2 all.3 in
     (rest.0, (one.0, one.1, subst (λ (S : Shape). AppendAll S one.0 reason frames (map place_of ls) rest.0) same rest.1), rest.2)
 
 -- what waits in the world waits in its graph

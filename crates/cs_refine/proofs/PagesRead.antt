@@ -7,8 +7,11 @@ use Rattle.cs_deps.specs.declared.elements.Element.TheVariants.{Plain, Version}
 use Rattle.cs_deps.specs.Pending.{Waits}
 use Rattle.cs_deps.specs.State.{IsNewestOn, IsWhole as IsWholeGraph, NoneOn, State as GraphState, Write as PageWrite, write_of}
 use Rattle.cs_disk.specs.Disk.{Image, page}
+use Rattle.cs_extent.specs.Frames.{family_of}
 use Rattle.cs_extent.specs.State.{IsWhole, State as ExtentsState, shape}
+use Rattle.cs_frame.proofs.GeometryLaws.{model_geometry}
 use Rattle.cs_frame.specs.Formats.{formats_of}
+use Rattle.cs_frame.specs.Geometries.{section_size}
 use Rattle.cs_model.proofs.Carries.{and_left, and_true, found}
 use Rattle.cs_model.proofs.Frozen.{page_unwritten}
 use Rattle.cs_model.proofs.Rounds.{before_it}
@@ -25,12 +28,12 @@ use Rattle.cs_model.specs.Machine.{everything}
 use Rattle.cs_model.specs.Round.{IsMember}
 use Rattle.cs_model.specs.Sound.{Sound}
 use Rattle.cs_model.specs.State.{State}
-use Rattle.cs_refine.specs.Bridge.{IsWaiting, family_of, name}
+use Rattle.cs_refine.specs.Bridge.{IsWaiting, name}
 use Rattle.cs_refine.specs.Devices.{IsDeviceOf, pages_now, read_by}
 use Rattle.cs_refine.specs.Stores.{IsWorldOf}
 use Rattle.cs_refine.proofs.Keeping.{kept_writes, waits_in}
 use Rattle.cs_refine.proofs.Places.{waits_from, waits_name}
-use Rattle.cs_refine.proofs.Shapes.{store_shape}
+use Rattle.cs_refine.proofs.Shapes.{some_sections, store_shape}
 
 -- the newest write to a page, or none goes there
 newest_write : (ws : List Write) (p : ℕ) → Descends WriteBefore ws
@@ -186,21 +189,17 @@ module _ (x : ExtentsState) (g : GraphState) (s : State) (held : Image) (whole :
   frames_below : (p : ℕ) → (shape x).kind p ≡ FramePage → p < 2 + (shape x).extents * (shape x).pages
   frames_below p frame = elim (cases_lt p (2 + (shape x).extents * (shape x).pages)) [
     | inl lt ↦ lt
-    | inr ge ↦ absurd (let behind = at_behind (length x.written) x.pages 1 (length x.written) 1 (record {
-      some_page = (let few : 2 ≤ x.pages = whole.fewest_pages in omega arith);
-      some_section = omega arith;
-      some_extent = (let few : 4 ≤ length x.written = whole.fewest_extents in omega arith);
-      all = (let same : length x.written ≤ 1 * length x.written = omega arith in same);
-    }) p ge in (let e = sym behind ∙ frame in cc))
+    | inr ge ↦ absurd (let behind = at_behind (length x.written) x.pages x.sections (section_size (length x.written) x.sections) 2
+        (model_geometry (length x.written) x.pages x.sections whole.geometry) p ge in (let e = sym behind ∙ frame in cc))
   ]
 
-  pub pages_read : IsDeviceOf (shape x) (formats_of (shape x)) s held → 2 + (shape x).extents * (shape x).pages ≤ length held
+  pub pages_read : IsDeviceOf (shape x) (formats_of (shape x)) s held → 1 + (shape x).extents * (shape x).pages + (shape x).sections ≤ length held
       → AreNewest g held (pages_now (shape x) s held)
   pages_read device size p = go ((shape x).kind p) refl
     where
       go : (k : PageKind) → (shape x).kind p ≡ k → IsReadAs g held p (read_by ((shape x).kind p) (newest_page s p) (page held p))
       go FramePage kind = subst (λ (k : PageKind). IsReadAs g held p (read_by k (newest_page s p) (page held p))) (sym kind)
-          (frame_reads p kind device (let low : p < 2 + (shape x).extents * (shape x).pages = frames_below p kind in omega arith))
+          (frame_reads p kind device (let low : p < 2 + (shape x).extents * (shape x).pages = frames_below p kind in let some : 1 ≤ (shape x).sections = some_sections x whole in omega arith))
       go RootPage kind = subst (λ (k : PageKind). IsReadAs g held p (read_by k (newest_page s p) (page held p))) (sym kind)
           (inr (off_frames p (λ other. let e : RootPage ≡ FramePage = sym kind ∙ other in cc), refl))
       go (SectionPage j) kind = subst (λ (k : PageKind). IsReadAs g held p (read_by k (newest_page s p) (page held p))) (sym kind)

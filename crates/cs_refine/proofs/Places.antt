@@ -1,5 +1,5 @@
 -- Where an element of the world stands in its graph.
-use Rattle.std.proofs.Common.{◌≡◌, ◌⊎◌, ◌↔◌, inl, inr, ⊎_elim, ℕ, zero, suc, ◌<◌, Bool, true, false, List, [], ◌∷◌, ◌++◌, Some, None, if◌then◌else◌, true≢false, refl, sym, ap, ◌∙◌, subst, arith}
+use Rattle.std.proofs.Common.{◌≡◌, ◌⊎◌, inl, inr, ⊎_elim, ℕ, zero, suc, ◌<◌, ◌≤◌, Bool, true, false, List, [], ◌∷◌, ◌++◌, length, get_or, Some, None, if◌then◌else◌, true≢false, refl, sym, ap, ◌∙◌, subst, arith}
 use Rattle.std.specs.Prelude.{slice_get}
 use Rattle.cs_deps.specs.declared.elements.Element.{Element as Name}
 use Rattle.cs_deps.specs.declared.elements.Element.TheVariants.{Plain, Version}
@@ -14,7 +14,8 @@ use Rattle.cs_model.specs.Safe.{Safe}
 use Rattle.cs_model.specs.Formats.{Formats}
 use Rattle.cs_model.specs.Recovery.{RootGives}
 use Rattle.cs_model.proofs.Waiting.{Listed, listed}
-use Rattle.cs_refine.specs.Bridge.{AreNeedsOf, family_of, name, MayLeaveOut, NeedsName, waiting_in, Matches, IsPendingOf, IsWaiting}
+use Rattle.cs_extent.specs.Frames.{family_of}
+use Rattle.cs_refine.specs.Bridge.{AreNeedsOf, name, MayLeaveOut, NeedsName, waiting_in, Matches, IsPendingOf, IsWaiting}
 
 in_push : (xs : List Element) (y m : Element) → m ∈ (xs ++ y ∷ []) → (m ∈ xs) ⊎ (m ≡ y)
 in_push [] y m (inl is) = inr is
@@ -89,6 +90,23 @@ one_family zero zero is = refl
 one_family zero (suc j) is = absurd (omega arith)
 one_family (suc i) zero is = absurd (omega arith)
 one_family (suc i) (suc j) is = omega arith
+
+-- the families of the sections that are there
+pub family_below : (j n : ℕ) → j < n → family_of j < suc n
+family_below zero n lt = omega arith
+family_below (suc j) n lt = omega arith
+
+-- a number that stands in a list stands at a place of it
+pub some_at : (xs : List ℕ) (f v : ℕ) → 1 ≤ v → v ≤ get_or xs f 0 → f < length xs
+some_at [] f v one le = absurd (let none : v ≤ 0 = le in omega arith)
+some_at (x ∷ xs) zero v one le = omega arith
+some_at (x ∷ xs) (suc f) v one le = let rest : f < length xs = some_at xs f v one le in omega arith
+
+-- whatever family isn't the root's is a section's
+pub section_of_family : (f n : ℕ) → 0 < n → f < suc n → (f ≡ 1 → ⊥) → (j : ℕ) × (j < n) × (f ≡ family_of j)
+section_of_family zero n some lt other = (0, some, refl)
+section_of_family (suc zero) n some lt other = absurd (other refl)
+section_of_family (suc (suc j)) n some lt other = (suc j, (let low : suc (suc j) < suc n = lt in omega arith), refl)
 
 module _ (S : Shape) (F : Formats) {opening : Opening} (opened : ℕ → Page) (w : World) (g : Pending) (safe : Safe S (RootGives S F opening) opening.frozen opened w) (is : IsPendingOf S w g) where
   pub one_write : (x y : Write) → x ∈ writes_of w.elements → y ∈ writes_of w.elements → x.number ≡ y.number → x ≡ y

@@ -1,14 +1,14 @@
 -- Why a MoveOne is refused.
-use Rattle.std.proofs.Common.{◌≡◌, ◌↔◌, inl, inr, ⊎_elim, ℕ, ◌+◌, ◌≤◌, true, List, ◌∷◌, None, length, refl, sym, ap, ◌∙◌, subst, le_of_eq, le_trans, arith}
-use Rattle.std.specs.Prelude.{slice_index}
+use Rattle.std.proofs.Common.{◌≡◌, ◌↔◌, inl, inr, ⊎_elim, ℕ, ◌+◌, ◌≤◌, true, List, [], ◌∷◌, None, length, refl, sym, ap, ◌∙◌, subst, le_of_eq, le_trans, arith}
 use Rattle.cs_deps.specs.State.{State as GraphState}
-use Rattle.cs_extent.specs.Frames.{IsWorn, superblock_family}
+use Rattle.cs_extent.specs.Frames.{IsWorn}
 use Rattle.cs_extent.specs.State.{IsWhole, State as ExtentsState, extents_of, shape}
+use Rattle.cs_extent.specs.Worn.{IsFrameWorn, in_section}
 use Rattle.cs_frame.specs.Formats.{formats_of}
 use Rattle.cs_index.specs.State.{State as IndexState, index_of}
 use Rattle.cs_model.proofs.Needs.{append_there}
 use Rattle.cs_model.proofs.Outcomes.{first_one, frame_generations, not_nothing}
-use Rattle.cs_model.proofs.Places.{placed_or_full}
+use Rattle.cs_model.proofs.Places.{placed_one, placed_or_full}
 use Rattle.cs_model.specs.Append.{Append}
 use Rattle.cs_model.specs.Element.{Locator as Place}
 use Rattle.cs_model.specs.Events.{Does, ReadsNow, newest_page}
@@ -22,9 +22,9 @@ use Rattle.cs_model.specs.Sound.{Bounded, Sound}
 use Rattle.cs_model.specs.State.{MoveOne, Moved, NoneLive, Reply, State, index_now}
 use Rattle.cs_reclaim.specs.Moves.{chunk_frame}
 use Rattle.cs_refine.proofs.Indexes.{first_live, looked_up}
-use Rattle.cs_refine.proofs.Numbers.{IsPast, append_numbers, past, past_too}
-use Rattle.cs_refine.proofs.RefusedPuts.{no_command, no_root, young}
-use Rattle.cs_refine.proofs.Shapes.{one_section, store_format, store_shape}
+use Rattle.cs_refine.proofs.Numbers.{append_numbers, past, past_too}
+use Rattle.cs_refine.proofs.RefusedPuts.{IsOver, no_command, no_root, of_frame, to_frame, young}
+use Rattle.cs_refine.proofs.Shapes.{store_format, store_shape}
 use Rattle.cs_refine.specs.Parts.{ArePartsOf}
 
 module _ (x : ExtentsState) (g : GraphState) (i : IndexState) (s : State) (whole : IsWhole x) (are : ArePartsOf x g i s)
@@ -62,8 +62,12 @@ module _ (x : ExtentsState) (g : GraphState) (i : IndexState) (s : State) (whole
     after_move new v = record s { world = v; table = record { id = id; locators = replaced (live_at (index_now s) id) chunk new } ∷ s.table }
 
     module _ (new : Place) (v : World) (a : Append (shape x) s.world ForMove (chunk_frame x payload) new v) where
-      numbers : (v.written ≡ s.world.written + length (chunk_frame x payload)) × (v.superblocks 0 ≡ s.world.superblocks 0 + 1) × (v.root ≡ s.world.root)
-      numbers = append_numbers (shape x) (store_shape x whole) (one_section x (store_shape x whole)) s.world v ForMove (chunk_frame x payload) new a
+      placed_at : Placed (shape x) (extents_of x) ForMove (length (chunk_frame x payload)) a.extent
+      placed_at = subst (λ (z : Extents). Placed (shape x) z ForMove (length (chunk_frame x payload)) a.extent) are.world.extents a.placed
+
+      numbers : (v.written ≡ s.world.written + length (chunk_frame x payload)) × ((j : ℕ) → v.superblocks j ≡ s.world.superblocks j + in_section (shape x) j (a.extent ∷ []))
+          × (v.root ≡ s.world.root)
+      numbers = append_numbers (shape x) (store_shape x whole) s.world v ForMove (chunk_frame x payload) new a
 
       root_stays : v.root ≡ s.world.root + 0
       root_stays = let same : v.root ≡ s.world.root = numbers.2 in omega arith
@@ -77,24 +81,28 @@ module _ (x : ExtentsState) (g : GraphState) (i : IndexState) (s : State) (whole
           (frame_generations (shape x) (formats_of (shape x)) (store_shape x whole) (store_format x whole) s (record s { world = v }) ForMove ChunkFrame payload new (v, a, refl))))
           (young x s sound bounded d)
 
-      worn : IsPast s (length (chunk_frame x payload)) 1 0 0 → IsWorn g.staging (length (chunk_frame x payload))
-      worn (inl over) = inl (let same : s.world.written ≡ g.staging.staged = are.world.staging.written in omega arith)
-      worn (inr (inl over)) = inr (let same : s.world.superblocks 0 ≡ slice_index g.staging.latest superblock_family = are.world.staging.superblock in omega arith)
-      worn (inr (inr (inl over))) = absurd (no_root x s sound bounded over)
-      worn (inr (inr (inr over))) = absurd (no_command x s sound bounded over)
+      worn : IsOver x g i s whole are sound bounded a.extent (length (chunk_frame x payload)) 0 0 → IsFrameWorn x ForMove g.staging (length (chunk_frame x payload))
+      worn (inl over) = (a.extent, placed_at, over)
+      worn (inr (inl over)) = absurd (no_root x s sound bounded over)
+      worn (inr (inr over)) = absurd (no_command x s sound bounded over)
 
-      worn_back : IsWorn g.staging (length (chunk_frame x payload)) → IsPast s (length (chunk_frame x payload)) 1 0 0
-      worn_back (inl over) = inl (let same : s.world.written ≡ g.staging.staged = are.world.staging.written in omega arith)
-      worn_back (inr over) = inr (inl (let same : s.world.superblocks 0 ≡ slice_index g.staging.latest superblock_family = are.world.staging.superblock in omega arith))
+      -- there is one extent that the frame goes to
+      worn_here : IsFrameWorn x ForMove g.staging (length (chunk_frame x payload)) → IsWorn g.staging ((shape x).section a.extent) (length (chunk_frame x payload))
+      worn_here (d, placed, over) = subst (λ (k : ℕ). IsWorn g.staging ((shape x).section k) (length (chunk_frame x payload)))
+          (placed_one (shape x) (extents_of x) ForMove (length (chunk_frame x payload)) d a.extent placed placed_at) over
 
-      move_past : PastLimit (shape x) (formats_of (shape x)) (after_move new v) → IsWorn g.staging (length (chunk_frame x payload))
-      move_past over = worn (past x (formats_of (shape x)) s (after_move new v) (length (chunk_frame x payload)) 1 0 0 numbers.0 numbers.1 root_stays commands_stay move_young over)
+      move_past : PastLimit (shape x) (formats_of (shape x)) (after_move new v) → IsFrameWorn x ForMove g.staging (length (chunk_frame x payload))
+      move_past over = worn (of_frame x g i s whole are sound bounded a.extent (length (chunk_frame x payload)) 0 0
+          (past x (formats_of (shape x)) s (after_move new v) (length (chunk_frame x payload)) (λ j. in_section (shape x) j (a.extent ∷ [])) 0 0
+          numbers.0 numbers.1 root_stays commands_stay move_young over))
 
-      move_past_back : IsWorn g.staging (length (chunk_frame x payload)) → PastLimit (shape x) (formats_of (shape x)) (after_move new v)
-      move_past_back over = past_too x (formats_of (shape x)) s (after_move new v) (length (chunk_frame x payload)) 1 0 0 numbers.0 numbers.1 root_stays commands_stay (worn_back over)
+      move_past_back : IsFrameWorn x ForMove g.staging (length (chunk_frame x payload)) → PastLimit (shape x) (formats_of (shape x)) (after_move new v)
+      move_past_back over = past_too x (formats_of (shape x)) s (after_move new v) (length (chunk_frame x payload)) (λ j. in_section (shape x) j (a.extent ∷ [])) 0 0
+          numbers.0 numbers.1 root_stays commands_stay
+          (to_frame x g i s whole are sound bounded a.extent (length (chunk_frame x payload)) 0 0 (inl (worn_here over)))
 
     -- the numbers of a state don't hang on its table
-    would : (reply : Reply) (t : State) → Does (shape x) (formats_of (shape x)) s (MoveOne e) reply t → PastLimit (shape x) (formats_of (shape x)) t → IsWorn g.staging (length (chunk_frame x payload))
+    would : (reply : Reply) (t : State) → Does (shape x) (formats_of (shape x)) s (MoveOne e) reply t → PastLimit (shape x) (formats_of (shape x)) t → IsFrameWorn x ForMove g.staging (length (chunk_frame x payload))
     would NoneLive t (swept, nothing, same) over = absurd (not_nothing (shape x) (formats_of (shape x)) (store_shape x whole) (store_format x whole) s e id chunk l first nothing)
     would (Moved d k) t (m, new, bytes, mid, swept, other, undamaged, there, (v, a, same), is) over =
         move_past new v (subst (λ (b : List ℕ). Append (shape x) s.world ForMove (chunk_frame x b) new v) (same_payload d k m bytes other there) a)
@@ -107,7 +115,7 @@ module _ (x : ExtentsState) (g : GraphState) (i : IndexState) (s : State) (whole
     would reply t d over = absurd d
 
     pub move_worn : s.world.extents.swept e ≡ true → s.opening.damage l ≡ None → ¬ NoPlace (shape x) (extents_of x) ForMove (length (chunk_frame x payload))
-        → WouldPass (shape x) (formats_of (shape x)) s (MoveOne e) ↔ IsWorn g.staging (length (chunk_frame x payload))
+        → WouldPass (shape x) (formats_of (shape x)) s (MoveOne e) ↔ IsFrameWorn x ForMove g.staging (length (chunk_frame x payload))
     move_worn swept undamaged room = (
       (λ passes. would passes.0 passes.1 passes.2 passes.3),
       (λ over. ⊎_elim

@@ -1,10 +1,12 @@
 -- Why a put and a delete are refused.
-use Rattle.std.proofs.Common.{◌≡◌, ◌≢◌, ◌⊎◌, ◌↔◌, inl, inr, ℕ, suc, ◌+◌, ◌^◌, ◌≤◌, List, [], ◌∷◌, Some, None, length, refl, sym, ap, ◌∙◌, subst, le_of_eq, le_trans, arith}
+use Rattle.std.proofs.Common.{◌≡◌, ◌≢◌, ◌⊎◌, ◌↔◌, inl, inr, ℕ, suc, ◌+◌, ◌^◌, ◌<◌, ◌≤◌, List, [], ◌∷◌, Some, None, length, refl, sym, ap, ◌∙◌, subst, le_of_eq, le_trans, arith}
+use Rattle.std.proofs.lemmas.Bool.{cases_eq}
 use Rattle.std.specs.Prelude.{slice_index, sum}
-use Rattle.cs_chunk.specs.Chunks.{IsPutWorn}
 use Rattle.cs_deps.specs.State.{State as GraphState}
-use Rattle.cs_extent.specs.Frames.{superblock_family}
+use Rattle.cs_extent.proofs.Worn.{in_section_here, in_section_other, places_once}
+use Rattle.cs_extent.specs.Frames.{IsWorn, family_of}
 use Rattle.cs_extent.specs.State.{IsWhole, State as ExtentsState, extents_of, shape}
+use Rattle.cs_extent.specs.Worn.{ArePlaced, AreWorn, in_section}
 use Rattle.cs_frame.specs.Formats.{formats_of}
 use Rattle.cs_index.specs.State.{State as IndexState}
 use Rattle.cs_model.proofs.Limits.{not_past}
@@ -19,7 +21,7 @@ use Rattle.cs_model.specs.Machine.{World}
 use Rattle.cs_model.specs.Sound.{Bounded, Sound}
 use Rattle.cs_model.specs.State.{Absent, Accepted, Delete, Put, Reply, State, map_now}
 use Rattle.cs_refine.proofs.Numbers.{IsPast, all_numbers, past, past_too}
-use Rattle.cs_refine.proofs.Shapes.{one_section, store_format, store_shape}
+use Rattle.cs_refine.proofs.Shapes.{store_format, store_shape}
 use Rattle.cs_refine.specs.Parts.{ArePartsOf}
 
 module _ (x : ExtentsState) (s : State) (sound : Sound (shape x) (formats_of (shape x)) s) (bounded : Bounded (shape x) (formats_of (shape x)) s) where
@@ -33,8 +35,8 @@ module _ (x : ExtentsState) (s : State) (sound : Sound (shape x) (formats_of (sh
   pub no_write : 2 ^ 63 ≤ s.world.written + 0 → ⊥
   no_write over = let le : s.world.written ≤ 9223372036854775807 = bounded.written_fits in omega arith
 
-  pub no_superblock : 2 ^ 63 ≤ s.world.superblocks 0 + 0 → ⊥
-  no_superblock over = not_past (shape x) (formats_of (shape x)) s sound bounded (inl (inr (inl (0, omega arith, omega arith))))
+  pub no_section : (j : ℕ) → j < (shape x).sections → 2 ^ 63 ≤ s.world.superblocks j + 0 → ⊥
+  no_section j there over = not_past (shape x) (formats_of (shape x)) s sound bounded (inl (inr (inl (j, there, (let high : 2 ^ 63 ≤ s.world.superblocks j + 0 = over in omega arith)))))
 
   -- ---- deletes
 
@@ -47,9 +49,12 @@ module _ (x : ExtentsState) (s : State) (sound : Sound (shape x) (formats_of (sh
   one_more : s.count + suc (length s.commands) ≡ s.count + length s.commands + 1
   one_more = omega arith
 
-  command_alone : IsPast s 0 0 0 1 → 2 ^ 63 ≤ s.count + length s.commands + 1
+  none_more : (n : ℕ) → n ≡ n + 0
+  none_more n = omega arith
+
+  command_alone : IsPast (shape x) s 0 (λ j. 0) 0 1 → 2 ^ 63 ≤ s.count + length s.commands + 1
   command_alone (inl over) = absurd (no_write over)
-  command_alone (inr (inl over)) = absurd (no_superblock over)
+  command_alone (inr (inl (j, there, over))) = absurd (no_section j there over)
   command_alone (inr (inr (inl over))) = absurd (no_root over)
   command_alone (inr (inr (inr over))) = over
 
@@ -57,7 +62,7 @@ module _ (x : ExtentsState) (s : State) (sound : Sound (shape x) (formats_of (sh
       → (map_now s id ≢ None) × (2 ^ 63 ≤ s.count + length s.commands + 1)
   delete_past id (Accepted n) t d over = (
     d.0,
-    command_alone (past x (formats_of (shape x)) s (after_delete id) 0 0 0 1 (omega arith) (omega arith) (omega arith) one_more young
+    command_alone (past x (formats_of (shape x)) s (after_delete id) 0 (λ j. 0) 0 1 (omega arith) (λ j. none_more (s.world.superblocks j)) (omega arith) one_more young
         (subst (λ (u : State). PastLimit (shape x) (formats_of (shape x)) u) d.2 over)),
   )
   delete_past id Absent t d over = absurd (not_past (shape x) (formats_of (shape x)) s sound bounded (subst (λ (u : State). PastLimit (shape x) (formats_of (shape x)) u) d.1 over))
@@ -70,9 +75,54 @@ module _ (x : ExtentsState) (s : State) (sound : Sound (shape x) (formats_of (sh
       Accepted (suc (length s.commands)),
       after_delete id,
       (both.0, refl, refl),
-      past_too x (formats_of (shape x)) s (after_delete id) 0 0 0 1 (omega arith) (omega arith) (omega arith) one_more (inr (inr (inr both.1))),
+      past_too x (formats_of (shape x)) s (after_delete id) 0 (λ j. 0) 0 1 (omega arith) (λ j. none_more (s.world.superblocks j)) (omega arith) one_more (inr (inr (inr both.1))),
     )),
   )
+
+-- ---- frames
+
+-- numbers by other names
+past_by : (a b m n : ℕ) → a ≡ b → m ≡ n → 2 ^ 63 ≤ a + m → 2 ^ 63 ≤ b + n
+past_by a b m n same as_many over = omega arith
+
+module _ (x : ExtentsState) (g : GraphState) (i : IndexState) (s : State) (whole : IsWhole x) (are : ArePartsOf x g i s)
+    (sound : Sound (shape x) (formats_of (shape x)) s) (bounded : Bounded (shape x) (formats_of (shape x)) s) (e n r c : ℕ) where
+  -- a number of the frame's, or that of the root or of the commands
+  abbrev pub IsOver : Type 0
+  IsOver = IsWorn g.staging ((shape x).section e) n ⊎ (2 ^ 63 ≤ s.world.root + r) ⊎ (2 ^ 63 ≤ s.count + length s.commands + c)
+
+  section_alone : (j : ℕ) → j < (shape x).sections → 2 ^ 63 ≤ s.world.superblocks j + in_section (shape x) j (e ∷ [])
+      → 2 ^ 63 ≤ slice_index g.staging.latest (family_of ((shape x).section e)) + 1
+  section_alone j there over = elim (cases_eq j ((shape x).section e)) [
+    | inl here ↦
+        let one : in_section (shape x) j (e ∷ []) ≡ 1 = in_section_here (shape x) j e [] (sym here) in
+        subst (λ (k : ℕ). 2 ^ 63 ≤ slice_index g.staging.latest (family_of k) + 1) here
+        (past_by (s.world.superblocks j) (slice_index g.staging.latest (family_of j)) (in_section (shape x) j (e ∷ [])) 1 (are.world.staging.sections j there) one over)
+    | inr other ↦
+        let none : in_section (shape x) j (e ∷ []) ≡ 0 = in_section_other (shape x) j e [] (λ is. other (sym is)) in
+        absurd (no_section x s sound bounded j there (past_by (s.world.superblocks j) (s.world.superblocks j) (in_section (shape x) j (e ∷ [])) 0 refl none over))
+  ]
+
+  -- what a frame that goes to e takes past the greatest
+  pub of_frame : IsPast (shape x) s n (λ j. in_section (shape x) j (e ∷ [])) r c → IsOver
+  of_frame (inl over) = inl (inl (let same : s.world.written ≡ g.staging.staged = are.world.staging.written in omega arith))
+  of_frame (inr (inl (j, there, over))) = inl (inr (section_alone j there over))
+  of_frame (inr (inr (inl over))) = inr (inl over)
+  of_frame (inr (inr (inr over))) = inr (inr over)
+
+  pub to_frame : IsOver → IsPast (shape x) s n (λ j. in_section (shape x) j (e ∷ [])) r c
+  to_frame (inl (inl over)) = inl (let same : s.world.written ≡ g.staging.staged = are.world.staging.written in omega arith)
+  to_frame (inl (inr over)) =
+      let there : (shape x).section e < (shape x).sections = (store_shape x whole).section e in
+      let one : in_section (shape x) ((shape x).section e) (e ∷ []) ≡ 1 = in_section_here (shape x) ((shape x).section e) e [] refl in
+      inr (inl (
+        (shape x).section e,
+        there,
+        past_by (slice_index g.staging.latest (family_of ((shape x).section e))) (s.world.superblocks ((shape x).section e)) 1 (in_section (shape x) ((shape x).section e) (e ∷ []))
+            (sym (are.world.staging.sections ((shape x).section e) there)) (sym one) over,
+      ))
+  to_frame (inr (inl over)) = inr (inr (inl over))
+  to_frame (inr (inr over)) = inr (inr (inr over))
 
 -- ---- puts
 
@@ -99,25 +149,43 @@ module _ (x : ExtentsState) (g : GraphState) (i : IndexState) (s : State) (whole
     after_put id bytes ls v = record s { world = v; table = record { id = id; locators = ls } ∷ s.table; commands = (id, Some bytes) ∷ s.commands }
 
     abbrev Over : List (List ℕ) → Type 0
-    Over cs = IsPutWorn g.staging (page_counts (frames cs)) ⊎ (2 ^ 63 ≤ s.count + length s.commands + 1)
+    Over cs = AreWorn x g.staging ForPut (page_counts (frames cs)) ⊎ (2 ^ 63 ≤ s.count + length s.commands + 1)
 
-    is_over : (cs : List (List ℕ)) → IsPast s (sum (page_counts (frames cs))) (length (page_counts (frames cs))) 0 1 → Over cs
-    is_over cs (inl over) = inl (inl (let same : s.world.written ≡ g.staging.staged = are.world.staging.written in omega arith))
-    is_over cs (inr (inl over)) = inl (inr (let same : s.world.superblocks 0 ≡ slice_index g.staging.latest superblock_family = are.world.staging.superblock in omega arith))
-    is_over cs (inr (inr (inl over))) = absurd (no_root x s sound bounded over)
-    is_over cs (inr (inr (inr over))) = inr over
+    -- the frames go to these extents
+    module _ (cs : List (List ℕ)) (places : List ℕ) (placed : ArePlaced (shape x) (extents_of x) ForPut (page_counts (frames cs)) places) where
+      is_over : IsPast (shape x) s (sum (page_counts (frames cs))) (λ j. in_section (shape x) j places) 0 1 → Over cs
+      is_over (inl over) = inl (inl (let same : s.world.written ≡ g.staging.staged = are.world.staging.written in omega arith))
+      is_over (inr (inl (j, there, over))) = inl (inr (
+        places,
+        placed,
+        j,
+        there,
+        subst (λ (k : ℕ). 2 ^ 63 ≤ k + in_section (shape x) j places) (are.world.staging.sections j there) over,
+      ))
+      is_over (inr (inr (inl over))) = absurd (no_root x s sound bounded over)
+      is_over (inr (inr (inr over))) = inr over
 
-    over_too : (cs : List (List ℕ)) → Over cs → IsPast s (sum (page_counts (frames cs))) (length (page_counts (frames cs))) 0 1
-    over_too cs (inl (inl over)) = inl (let same : s.world.written ≡ g.staging.staged = are.world.staging.written in omega arith)
-    over_too cs (inl (inr over)) = inr (inl (let same : s.world.superblocks 0 ≡ slice_index g.staging.latest superblock_family = are.world.staging.superblock in omega arith))
-    over_too cs (inr over) = inr (inr (inr over))
+      over_too : Over cs → IsPast (shape x) s (sum (page_counts (frames cs))) (λ j. in_section (shape x) j places) 0 1
+      over_too (inl (inl over)) = inl (let same : s.world.written ≡ g.staging.staged = are.world.staging.written in omega arith)
+      over_too (inl (inr (others, put, j, there, over))) = inr (inl (
+        j,
+        there,
+        subst (λ (ps : List ℕ). 2 ^ 63 ≤ s.world.superblocks j + in_section (shape x) j ps)
+            (places_once (shape x) (extents_of x) ForPut (page_counts (frames cs)) others places put placed)
+            (subst (λ (k : ℕ). 2 ^ 63 ≤ k + in_section (shape x) j others) (sym (are.world.staging.sections j there)) over),
+      ))
+      over_too (inr over) = inr (inr (inr over))
 
     module _ (id : ℕ) (bytes : List ℕ) (cs : List (List ℕ)) (ls : List Locator) (v : World) (all : AppendAll (shape x) s.world ForPut (frames cs) ls v) where
-      numbers : (v.written ≡ s.world.written + sum (page_counts (frames cs))) × (v.superblocks 0 ≡ s.world.superblocks 0 + length (page_counts (frames cs))) × (v.root ≡ s.world.root)
-      numbers = all_numbers (shape x) (store_shape x whole) (one_section x (store_shape x whole)) s.world v ForPut (frames cs) ls all
+      numbers : (places : List ℕ) × ArePlaced (shape x) s.world.extents ForPut (page_counts (frames cs)) places × (v.written ≡ s.world.written + sum (page_counts (frames cs)))
+          × ((j : ℕ) → v.superblocks j ≡ s.world.superblocks j + in_section (shape x) j places) × (v.root ≡ s.world.root)
+      numbers = all_numbers (shape x) (store_shape x whole) s.world v ForPut (frames cs) ls all
+
+      placed_here : ArePlaced (shape x) (extents_of x) ForPut (page_counts (frames cs)) numbers.0
+      placed_here = subst (λ (z : Extents). ArePlaced (shape x) z ForPut (page_counts (frames cs)) numbers.0) are.world.extents numbers.1
 
       root_stays : v.root ≡ s.world.root + 0
-      root_stays = let same : v.root ≡ s.world.root = numbers.2 in omega arith
+      root_stays = let same : v.root ≡ s.world.root = numbers.4 in omega arith
 
       commands_rise : s.count + suc (length s.commands) ≡ s.count + length s.commands + 1
       commands_rise = omega arith
@@ -128,12 +196,12 @@ module _ (x : ExtentsState) (g : GraphState) (i : IndexState) (s : State) (whole
           (sound.safe.extents_fit e).1
 
       put_over : PastLimit (shape x) (formats_of (shape x)) (after_put id bytes ls v) → Over cs
-      put_over over = is_over cs (past x (formats_of (shape x)) s (after_put id bytes ls v) (sum (page_counts (frames cs))) (length (page_counts (frames cs))) 0 1
-          numbers.0 numbers.1 root_stays commands_rise put_young over)
+      put_over over = is_over cs numbers.0 placed_here (past x (formats_of (shape x)) s (after_put id bytes ls v) (sum (page_counts (frames cs))) (λ j. in_section (shape x) j numbers.0) 0 1
+          numbers.2 numbers.3 root_stays commands_rise put_young over)
 
       put_over_too : Over cs → PastLimit (shape x) (formats_of (shape x)) (after_put id bytes ls v)
-      put_over_too over = past_too x (formats_of (shape x)) s (after_put id bytes ls v) (sum (page_counts (frames cs))) (length (page_counts (frames cs))) 0 1
-          numbers.0 numbers.1 root_stays commands_rise (over_too cs over)
+      put_over_too over = past_too x (formats_of (shape x)) s (after_put id bytes ls v) (sum (page_counts (frames cs))) (λ j. in_section (shape x) j numbers.0) 0 1
+          numbers.2 numbers.3 root_stays commands_rise (over_too cs numbers.0 placed_here over)
 
     put_past : (id : ℕ) (bytes : List ℕ) (reply : Reply) (t : State) → Does (shape x) (formats_of (shape x)) s (Put id bytes) reply t
         → PastLimit (shape x) (formats_of (shape x)) t

@@ -3,8 +3,9 @@ use Rattle.std.proofs.Common.{◌≡◌, ◌≢◌, ◌⊎◌, ◌↔◌, inl, i
 use Rattle.std.proofs.lemmas.Bool.{cases_eq, cases_lt}
 use Rattle.std.specs.Prelude.{◌==◌, if◌then◌else◌, slice_index}
 use Rattle.cs_deps.specs.State.{State as GraphState}
-use Rattle.cs_extent.specs.Frames.{IsWorn, root_family, superblock_family}
+use Rattle.cs_extent.specs.Frames.{IsWorn, root_family}
 use Rattle.cs_extent.specs.State.{IsWhole, State as ExtentsState, extents_of, shape}
+use Rattle.cs_extent.specs.Worn.{IsFrameWorn, in_section}
 use Rattle.cs_frame.specs.Formats.{formats_of}
 use Rattle.cs_index.specs.Staged.{IsFull, IsRootWorn, IsStageWorn, WritesMerged, WritesRun, run_frame}
 use Rattle.cs_index.specs.State.{State as IndexState, index_of}
@@ -12,7 +13,7 @@ use Rattle.cs_model.proofs.Limits.{not_past}
 use Rattle.cs_model.proofs.Needs.{append_there}
 use Rattle.cs_model.proofs.Outcomes.{frame_generations, merged_generations, merged_or_full, none_live, not_both}
 use Rattle.cs_model.proofs.Parts.{with_other, with_same}
-use Rattle.cs_model.proofs.Places.{placed_or_full}
+use Rattle.cs_model.proofs.Places.{placed_one, placed_or_full}
 use Rattle.cs_model.proofs.Sorted.{one_sorted, sorted, sorted_live}
 use Rattle.cs_model.specs.Append.{Append, MergesTo}
 use Rattle.cs_model.specs.Element.{Entry, Locator as Place, Run}
@@ -27,8 +28,8 @@ use Rattle.cs_model.specs.State.{Reply, Retire, Retired, Stage, Staged, State, U
 use Rattle.cs_reclaim.specs.Retired.{IsRetireFull, IsRetireWorn}
 use Rattle.cs_refine.proofs.Indexes.{as_many_runs, looked_up, merged_run, nothing_live, some_table, some_table_here, table_run}
 use Rattle.cs_refine.proofs.Numbers.{IsPast, append_numbers, past, past_too}
-use Rattle.cs_refine.proofs.RefusedPuts.{no_command, no_superblock, no_write, young}
-use Rattle.cs_refine.proofs.Shapes.{one_section, store_format, store_shape}
+use Rattle.cs_refine.proofs.RefusedPuts.{IsOver, no_command, no_section, no_write, of_frame, to_frame, young}
+use Rattle.cs_refine.proofs.Shapes.{store_format, store_shape}
 use Rattle.cs_refine.specs.Parts.{ArePartsOf}
 
 module _ (x : ExtentsState) (g : GraphState) (i : IndexState) (s : State) (whole : IsWhole x) (are : ArePartsOf x g i s) where
@@ -134,45 +135,44 @@ module _ (x : ExtentsState) (g : GraphState) (i : IndexState) (s : State) (whole
     root_worn_back : IsRootWorn g.staging → 2 ^ 63 ≤ s.world.root + 1
     root_worn_back over = let same : s.world.root ≡ slice_index g.staging.latest root_family = are.world.staging.root in omega arith
 
-    -- what a run and its root take past the greatest
-    run_worn : (Writes : List Entry → Type 0) (entries : List Entry) → Writes entries → IsPast s (length (pages_of entries)) 1 1 0 → IsStageWorn Writes x g.staging
-    run_worn Writes entries writes (inl over) = inr (
-      entries,
-      writes,
-      inl (
-          let same : s.world.written ≡ g.staging.staged = are.world.staging.written in
-          let pages : length (run_frame x entries) ≡ length (pages_of entries) = as_many_pages entries in
-          omega arith
-          ),
-    )
-    run_worn Writes entries writes (inr (inl over)) =
-        inr (entries, writes, inr (let same : s.world.superblocks 0 ≡ slice_index g.staging.latest superblock_family = are.world.staging.superblock in omega arith))
-    run_worn Writes entries writes (inr (inr (inl over))) = inl (root_worn over)
-    run_worn Writes entries writes (inr (inr (inr over))) = absurd (no_command x s sound bounded over)
+    -- the root's number, or one of a run's writes or of the section of the extent that the run goes to
+    abbrev IsRunWorn : Reason → List Entry → Type 0
+    IsRunWorn reason entries = IsRootWorn g.staging ⊎ IsFrameWorn x reason g.staging (length (run_frame x entries))
 
-    run_worn_back : (entries : List Entry) → IsRootWorn g.staging ⊎ IsWorn g.staging (length (run_frame x entries)) → IsPast s (length (pages_of entries)) 1 1 0
-    run_worn_back entries (inl root) = inr (inr (inl (root_worn_back root)))
-    run_worn_back entries (inr (inl over)) = inl (
-        let same : s.world.written ≡ g.staging.staged = are.world.staging.written in
-        let pages : length (run_frame x entries) ≡ length (pages_of entries) = as_many_pages entries in
-        omega arith
-        )
-    run_worn_back entries (inr (inr over)) = inr (inl (let same : s.world.superblocks 0 ≡ slice_index g.staging.latest superblock_family = are.world.staging.superblock in omega arith))
+    -- what a run that goes to e and its root take past the greatest
+    run_worn : (Writes : List Entry → Type 0) (reason : Reason) (entries : List Entry) (e : ℕ) → Writes entries
+        → Placed (shape x) (extents_of x) reason (length (run_frame x entries)) e
+        → IsOver x g i s whole are sound bounded e (length (pages_of entries)) 1 0 → IsStageWorn Writes x reason g.staging
+    run_worn Writes reason entries e writes placed (inl over) =
+        inr (entries, writes, (e, placed, subst (λ (k : ℕ). IsWorn g.staging ((shape x).section e) k) (sym (as_many_pages entries)) over))
+    run_worn Writes reason entries e writes placed (inr (inl over)) = inl (root_worn over)
+    run_worn Writes reason entries e writes placed (inr (inr over)) = absurd (no_command x s sound bounded over)
+
+    run_worn_back : (reason : Reason) (entries : List Entry) (e : ℕ) → Placed (shape x) (extents_of x) reason (length (run_frame x entries)) e
+        → IsRunWorn reason entries → IsOver x g i s whole are sound bounded e (length (pages_of entries)) 1 0
+    run_worn_back reason entries e placed (inl root) = inr (inl (root_worn_back root))
+    run_worn_back reason entries e placed (inr (d, there, over)) = inl (subst (λ (k : ℕ). IsWorn g.staging ((shape x).section e) k) (as_many_pages entries)
+        (subst (λ (k : ℕ). IsWorn g.staging ((shape x).section k) (length (run_frame x entries)))
+        (placed_one (shape x) (extents_of x) reason (length (run_frame x entries)) d e there placed) over))
 
     -- a root alone
-    root_alone : (Writes : List Entry → Type 0) → IsPast s 0 0 1 0 → IsStageWorn Writes x g.staging
-    root_alone Writes (inl over) = absurd (no_write x s sound bounded over)
-    root_alone Writes (inr (inl over)) = absurd (no_superblock x s sound bounded over)
-    root_alone Writes (inr (inr (inl over))) = inl (root_worn over)
-    root_alone Writes (inr (inr (inr over))) = absurd (no_command x s sound bounded over)
+    root_alone : (Writes : List Entry → Type 0) (reason : Reason) → IsPast (shape x) s 0 (λ j. 0) 1 0 → IsStageWorn Writes x reason g.staging
+    root_alone Writes reason (inl over) = absurd (no_write x s sound bounded over)
+    root_alone Writes reason (inr (inl (j, there, over))) = absurd (no_section x s sound bounded j there over)
+    root_alone Writes reason (inr (inr (inl over))) = inl (root_worn over)
+    root_alone Writes reason (inr (inr (inr over))) = absurd (no_command x s sound bounded over)
 
     -- a state after a run was appended, and the root over these runs was staged
     abbrev after_root : World → List Run → (ℕ → ℕ) → State
     after_root v runs pointers = rooted (shape x) (formats_of (shape x)) (record s { world = v }) runs pointers
 
     module _ (reason : Reason) (entries : List Entry) (l : Place) (v : World) (a : Append (shape x) s.world reason (pages_of entries) l v) where
-      numbers : (v.written ≡ s.world.written + length (pages_of entries)) × (v.superblocks 0 ≡ s.world.superblocks 0 + 1) × (v.root ≡ s.world.root)
-      numbers = append_numbers (shape x) (store_shape x whole) (one_section x (store_shape x whole)) s.world v reason (pages_of entries) l a
+      placed_at : Placed (shape x) (extents_of x) reason (length (run_frame x entries)) a.extent
+      placed_at = placed_here reason entries a.extent a.placed
+
+      numbers : (v.written ≡ s.world.written + length (pages_of entries)) × ((j : ℕ) → v.superblocks j ≡ s.world.superblocks j + in_section (shape x) j (a.extent ∷ []))
+          × (v.root ≡ s.world.root)
+      numbers = append_numbers (shape x) (store_shape x whole) s.world v reason (pages_of entries) l a
 
       next_root : suc v.root ≡ s.world.root + 1
       next_root = let same : v.root ≡ s.world.root = numbers.2 in omega arith
@@ -186,19 +186,25 @@ module _ (x : ExtentsState) (g : GraphState) (i : IndexState) (s : State) (whole
     same_commands : s.count + length s.commands ≡ s.count + length s.commands + 0
     same_commands = omega arith
 
+    none_more : (n : ℕ) → n ≡ n + 0
+    none_more n = omega arith
+
     -- a run and its root are past the greatest exactly where one of their numbers is
     run_past : (Writes : List Entry → Type 0) (reason : Reason) (entries : List Entry) (l : Place) (v : World) (runs : List Run) (pointers : ℕ → ℕ)
         → Append (shape x) s.world reason (pages_of entries) l v → Writes entries
-        → PastLimit (shape x) (formats_of (shape x)) (after_root v runs pointers) → IsStageWorn Writes x g.staging
-    run_past Writes reason entries l v runs pointers a writes over = run_worn Writes entries writes
-        (past x (formats_of (shape x)) s (after_root v runs pointers) (length (pages_of entries)) 1 1 0
-        (numbers reason entries l v a).0 (numbers reason entries l v a).1 (next_root reason entries l v a) same_commands (run_young reason entries l v a) over)
+        → PastLimit (shape x) (formats_of (shape x)) (after_root v runs pointers) → IsStageWorn Writes x reason g.staging
+    run_past Writes reason entries l v runs pointers a writes over = run_worn Writes reason entries a.extent writes (placed_at reason entries l v a)
+        (of_frame x g i s whole are sound bounded a.extent (length (pages_of entries)) 1 0
+        (past x (formats_of (shape x)) s (after_root v runs pointers) (length (pages_of entries)) (λ j. in_section (shape x) j (a.extent ∷ [])) 1 0
+        (numbers reason entries l v a).0 (numbers reason entries l v a).1 (next_root reason entries l v a) same_commands (run_young reason entries l v a) over))
 
     run_past_back : (reason : Reason) (entries : List Entry) (l : Place) (v : World) (runs : List Run) (pointers : ℕ → ℕ)
-        → Append (shape x) s.world reason (pages_of entries) l v → IsRootWorn g.staging ⊎ IsWorn g.staging (length (run_frame x entries))
+        → Append (shape x) s.world reason (pages_of entries) l v → IsRunWorn reason entries
         → PastLimit (shape x) (formats_of (shape x)) (after_root v runs pointers)
-    run_past_back reason entries l v runs pointers a worn = past_too x (formats_of (shape x)) s (after_root v runs pointers) (length (pages_of entries)) 1 1 0
-        (numbers reason entries l v a).0 (numbers reason entries l v a).1 (next_root reason entries l v a) same_commands (run_worn_back entries worn)
+    run_past_back reason entries l v runs pointers a worn =
+        past_too x (formats_of (shape x)) s (after_root v runs pointers) (length (pages_of entries)) (λ j. in_section (shape x) j (a.extent ∷ [])) 1 0
+        (numbers reason entries l v a).0 (numbers reason entries l v a).1 (next_root reason entries l v a) same_commands
+        (to_frame x g i s whole are sound bounded a.extent (length (pages_of entries)) 1 0 (run_worn_back reason entries a.extent (placed_at reason entries l v a) worn))
 
     root_next : s.world.root + 1 ≡ suc s.world.root
     root_next = omega arith
@@ -206,21 +212,21 @@ module _ (x : ExtentsState) (g : GraphState) (i : IndexState) (s : State) (whole
     -- what all that is live takes past the greatest as a run, with the root over it
     merge_past : (reason : Reason) (v : World) (runs : List Run) (pointers : ℕ → ℕ)
         → MergesTo (shape x) (formats_of (shape x)) s.world (index_now s) reason v runs
-        → PastLimit (shape x) (formats_of (shape x)) (after_root v runs pointers) → IsStageWorn (WritesMerged i) x g.staging
+        → PastLimit (shape x) (formats_of (shape x)) (after_root v runs pointers) → IsStageWorn (WritesMerged i) x reason g.staging
     merge_past reason v runs pointers (inl (entries, l, some, run, a, one)) over =
         run_past (WritesMerged i) reason entries l v runs pointers a (merged_run (index_now s) (index_of i) (λ id. sym (asked id)) entries run, some) over
-    merge_past reason v runs pointers (inr (nothing, same, nil)) over = root_alone (WritesMerged i)
-        (past x (formats_of (shape x)) s (after_root s.world runs pointers) 0 0 1 0 (omega arith) (omega arith) (sym root_next) same_commands (young x s sound bounded)
+    merge_past reason v runs pointers (inr (nothing, same, nil)) over = root_alone (WritesMerged i) reason
+        (past x (formats_of (shape x)) s (after_root s.world runs pointers) 0 (λ j. 0) 1 0 (omega arith) (λ j. none_more (s.world.superblocks j)) (sym root_next) same_commands (young x s sound bounded)
         (subst (λ (w : World). PastLimit (shape x) (formats_of (shape x)) (after_root w runs pointers)) same over))
 
     merge_past_back : (reason : Reason) (v : World) (runs : List Run) (pointers : ℕ → ℕ)
         → MergesTo (shape x) (formats_of (shape x)) s.world (index_now s) reason v runs
-        → IsStageWorn (WritesMerged i) x g.staging → PastLimit (shape x) (formats_of (shape x)) (after_root v runs pointers)
+        → IsStageWorn (WritesMerged i) x reason g.staging → PastLimit (shape x) (formats_of (shape x)) (after_root v runs pointers)
     merge_past_back reason v runs pointers (inl (entries, l, some, run, a, one)) (inl root) = run_past_back reason entries l v runs pointers a (inl root)
-    merge_past_back reason v runs pointers (inl (entries, l, some, run, a, one)) (inr (es, (run', some'), worn)) =
-        run_past_back reason entries l v runs pointers a (inr (subst (λ (ys : List Entry). IsWorn g.staging (length (run_frame x ys))) (sym (same_merged entries es run run')) worn))
+    merge_past_back reason v runs pointers (inl (entries, l, some, run, a, one)) (inr (es, (run', some'), worn)) = run_past_back reason entries l v runs pointers a
+        (inr (subst (λ (ys : List Entry). IsFrameWorn x reason g.staging (length (run_frame x ys))) (sym (same_merged entries es run run')) worn))
     merge_past_back reason v runs pointers (inr (nothing, same, nil)) (inl root) = subst (λ (w : World). PastLimit (shape x) (formats_of (shape x)) (after_root w runs pointers)) (sym same)
-        (past_too x (formats_of (shape x)) s (after_root s.world runs pointers) 0 0 1 0 (omega arith) (omega arith) (sym root_next) same_commands (inr (inr (inl (root_worn_back root)))))
+        (past_too x (formats_of (shape x)) s (after_root s.world runs pointers) 0 (λ j. 0) 1 0 (omega arith) (λ j. none_more (s.world.superblocks j)) (sym root_next) same_commands (inr (inr (inl (root_worn_back root)))))
     merge_past_back reason v runs pointers (inr (nothing, same, nil)) (inr (es, (run, some), worn)) =
         absurd (not_both (shape x) (formats_of (shape x)) (store_shape x whole) (store_format x whole) s es some (merged_run (index_of i) (index_now s) asked es run) nothing)
 
@@ -230,7 +236,7 @@ module _ (x : ExtentsState) (g : GraphState) (i : IndexState) (s : State) (whole
     few_alone Any few many = let same : length i.runs ≡ length s.runs = (as_many_runs i s.table s.runs are.index) in absurd (omega arith)
 
     stage_past : (reply : Reply) (t : State) → Does (shape x) (formats_of (shape x)) s Stage reply t → PastLimit (shape x) (formats_of (shape x)) t
-        → (i.table ≢ []) × IsStageWorn (WritesRun i) x g.staging
+        → (i.table ≢ []) × IsStageWorn (WritesRun i) x ForRun g.staging
     stage_past Unchanged t (none, same) over =
         absurd (not_past (shape x) (formats_of (shape x)) s sound bounded (subst (λ (u : State). PastLimit (shape x) (formats_of (shape x)) u) same over))
     stage_past (Staged v) t (some, version, inl (few, entries, l, mid, run, (w, a, same), is)) over = (
@@ -246,12 +252,13 @@ module _ (x : ExtentsState) (g : GraphState) (i : IndexState) (s : State) (whole
           (is ∙ ap (λ (m : State). rooted (shape x) (formats_of (shape x)) m runs m.world.extents.pointer) same) over)),
     )
       where
-        of_merge : IsStageWorn (WritesMerged i) x g.staging → IsStageWorn (WritesRun i) x g.staging
+        of_merge : IsStageWorn (WritesMerged i) x ForRun g.staging → IsStageWorn (WritesRun i) x ForRun g.staging
         of_merge (inl root) = inl root
-        of_merge (inr (entries, writes, worn)) = inr (entries, (some_table_here i s.table s.runs are.index some, inr (subst (λ (n : ℕ). 4 ≤ n) (sym (as_many_runs i s.table s.runs are.index)) many, writes)), worn)
+        of_merge (inr (entries, writes, worn)) =
+            inr (entries, (some_table_here i s.table s.runs are.index some, inr (subst (λ (n : ℕ). 4 ≤ n) (sym (as_many_runs i s.table s.runs are.index)) many, writes)), worn)
     stage_past reply t d over = absurd d
 
-    stage_past_back : ¬ IsFull (WritesRun i) x ForRun → i.table ≢ [] → IsStageWorn (WritesRun i) x g.staging → WouldPass (shape x) (formats_of (shape x)) s Stage
+    stage_past_back : ¬ IsFull (WritesRun i) x ForRun → i.table ≢ [] → IsStageWorn (WritesRun i) x ForRun g.staging → WouldPass (shape x) (formats_of (shape x)) s Stage
     stage_past_back room some worn = elim (cases_lt (length s.runs) 4) [ inl few ↦ of_table few | inr many ↦ of_merge many ]
       where
         of_table : length s.runs < 4 → WouldPass (shape x) (formats_of (shape x)) s Stage
@@ -271,11 +278,11 @@ module _ (x : ExtentsState) (g : GraphState) (i : IndexState) (s : State) (whole
             (λ (none : NoPlace (shape x) (extents_of x) ForRun (length (run_frame x all.0))). absurd (room (all.0, (some, inl (few', run)), none)))
             (placed_or_full (shape x) (extents_of x) ForRun (length (run_frame x all.0)))
           where
-            of_run : (entries : List Entry) → IsTableRun i.table entries → IsStageWorn (WritesRun i) x g.staging → IsRootWorn g.staging ⊎ IsWorn g.staging (length (run_frame x entries))
+            of_run : (entries : List Entry) → IsTableRun i.table entries → IsStageWorn (WritesRun i) x ForRun g.staging → IsRunWorn ForRun entries
             of_run entries run (inl root) = inl root
-            of_run entries run (inr (es, (some', inl (few', run')), over)) =
-                inr (subst (λ (ys : List Entry). IsWorn g.staging (length (run_frame x ys))) (one_sorted es entries run'.0 run.0 (λ id. run'.1 id ∙ sym (run.1 id))) over)
-            of_run entries run (inr (es, (some', inr (many, run')), over)) = few_alone (IsRootWorn g.staging ⊎ IsWorn g.staging (length (run_frame x entries))) few many
+            of_run entries run (inr (es, (some', inl (few', run')), over)) = inr
+                (subst (λ (ys : List Entry). IsFrameWorn x ForRun g.staging (length (run_frame x ys))) (one_sorted es entries run'.0 run.0 (λ id. run'.1 id ∙ sym (run.1 id))) over)
+            of_run entries run (inr (es, (some', inr (many, run')), over)) = few_alone (IsRunWorn ForRun entries) few many
 
         of_merge : 4 ≤ length s.runs → WouldPass (shape x) (formats_of (shape x)) s Stage
         of_merge many = ⊎_elim
@@ -288,12 +295,12 @@ module _ (x : ExtentsState) (g : GraphState) (i : IndexState) (s : State) (whole
             (λ (none : NoRoomForRun (shape x) (formats_of (shape x)) s ForRun). absurd (room (stage_full_to (some_table i s.table s.runs are.index some, inr (many, none)))))
             (merged_or_full (shape x) (formats_of (shape x)) (store_shape x whole) (store_format x whole) s ForRun)
           where
-            of_run : IsStageWorn (WritesRun i) x g.staging → IsStageWorn (WritesMerged i) x g.staging
+            of_run : IsStageWorn (WritesRun i) x ForRun g.staging → IsStageWorn (WritesMerged i) x ForRun g.staging
             of_run (inl root) = inl root
             of_run (inr (es, (some', inl (few, run)), over)) = absurd (let same : length i.runs ≡ length s.runs = (as_many_runs i s.table s.runs are.index) in omega arith)
             of_run (inr (es, (some', inr (many', run)), over)) = inr (es, run, over)
 
-    pub stage_worn : ¬ IsFull (WritesRun i) x ForRun → WouldPass (shape x) (formats_of (shape x)) s Stage ↔ ((i.table ≢ []) × IsStageWorn (WritesRun i) x g.staging)
+    pub stage_worn : ¬ IsFull (WritesRun i) x ForRun → WouldPass (shape x) (formats_of (shape x)) s Stage ↔ ((i.table ≢ []) × IsStageWorn (WritesRun i) x ForRun g.staging)
     stage_worn room = ((λ would. stage_past would.0 would.1 would.2 would.3), (λ both. stage_past_back room both.0 both.1))
 
     -- ---- retires

@@ -1,5 +1,5 @@
 -- What the end of a round makes persistent is settled in the graph.
-use Rattle.std.proofs.Common.{◌≡◌, inl, inr, ⊎_elim, ℕ, zero, suc, ◌<◌, ◌≤◌, Bool, true, false, cond, if◌then◌else◌, List, [], ◌∷◌, ◌++◌, length, get_or, true≢false}
+use Rattle.std.proofs.Common.{◌≡◌, inl, inr, ⊎_elim, ℕ, suc, ◌<◌, ◌≤◌, Bool, true, false, cond, if◌then◌else◌, List, [], ◌∷◌, ◌++◌, length, get_or, true≢false}
 use Rattle.std.proofs.Common.{le_of_eq, le_trans, le-leb, leb-true, refl, sym, ap, ◌∙◌, subst, arith}
 use Rattle.std.specs.Prelude.{Contains, filter}
 use Rattle.std.proofs.lemmas.Bool.{cases_Bool, cases_lt}
@@ -21,9 +21,10 @@ use Rattle.cs_model.specs.State.{State}
 use Rattle.cs_model.specs.Formats.{Formats}
 use Rattle.cs_model.specs.Recovery.{RootGives}
 use Rattle.cs_model.proofs.Waiting.{listed}
-use Rattle.cs_refine.specs.Bridge.{AreNeedsOf, family_of, name, Matches, MayLeaveOut, waiting_in, IsPendingOf, IsWaiting}
+use Rattle.cs_extent.specs.Frames.{family_of}
+use Rattle.cs_refine.specs.Bridge.{AreNeedsOf, name, Matches, MayLeaveOut, waiting_in, IsPendingOf, IsWaiting}
 use Rattle.cs_refine.specs.Stores.{AreMemberNames}
-use Rattle.cs_refine.proofs.Places.{not_one, one_family, from_waiting}
+use Rattle.cs_refine.proofs.Places.{family_below, not_one, one_family, from_waiting}
 
 -- those of a list that aren't satisfied in R
 abbrev left_in : Cut → List Element → List Element
@@ -87,10 +88,6 @@ matches_left S P staged round R (x ∷ xs) (y ∷ ys) low tells all =
         → Matches S R staged (if b then left_in R xs else x ∷ left_in R xs) (cond (cond b false true) (y ∷ filter (is_left_waiting round) ys) (filter (is_left_waiting round) ys))
     choose true rest = rest
     choose false rest = ((all.0.0, needs_later S P R staged x y.1 low all.0.1), rest)
-
-family_below : (j n : ℕ) → j < n → family_of j < suc n
-family_below zero n lt = omega arith
-family_below (suc j) n lt = omega arith
 
 module _ (S : Shape) (F : Formats) {opening : Opening} (opened : ℕ → Page) (w : World) (g : Pending) (safe : Safe S (RootGives S F opening) opening.frozen opened w) (some : 0 < S.sections)
     (is : IsPendingOf S w g)

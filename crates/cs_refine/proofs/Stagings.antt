@@ -1,5 +1,5 @@
 -- What the machine stages is staged in the graph.
-use Rattle.std.proofs.Common.{◌≡◌, ◌↔◌, inl, inr, ⊎_elim, ℕ, suc, ◌≤◌, Bool, true, false, List, [], ◌∷◌, ◌++◌, true≢false, if◌then◌else◌, refl, sym, ap, ◌∙◌, subst, arith}
+use Rattle.std.proofs.Common.{◌≡◌, ◌↔◌, inl, inr, ⊎_elim, ℕ, suc, ◌<◌, ◌≤◌, Bool, true, false, List, [], ◌∷◌, ◌++◌, true≢false, if◌then◌else◌, refl, sym, ap, ◌∙◌, subst, arith}
 use Rattle.std.proofs.lemmas.Bool.{false_from_ne_true}
 use Rattle.cs_deps.specs.declared.elements.Element.{Element as Name}
 use Rattle.cs_deps.specs.declared.elements.Element.TheVariants.{Plain, Version}
@@ -14,7 +14,8 @@ use Rattle.cs_model.specs.Machine.{World, StagePage, happens}
 use Rattle.cs_model.specs.Safe.{IsStaged}
 use Rattle.cs_model.proofs.ClosedSets.{gt-leb}
 use Rattle.cs_model.proofs.Waiting.{Listed, listed}
-use Rattle.cs_refine.specs.Bridge.{AreNeedsOf, family_of, name, NeedsName, Matches, waiting_in, IsPendingOf}
+use Rattle.cs_extent.specs.Frames.{family_of}
+use Rattle.cs_refine.specs.Bridge.{AreNeedsOf, MayLeaveOut, name, NeedsName, Matches, waiting_in, IsPendingOf}
 use Rattle.cs_refine.proofs.Places.{from_waiting}
 
 -- needs that are the same where more was staged
@@ -24,6 +25,19 @@ needs_grow S P old new x d same are = record { only = λ z h. (same z).0 (are.on
 -- needs that leave out nothing
 pub exact_needs : (S : Shape) (P : Cut) (staged : List Element) (x : Element) (d : Named) → ((z : Name) → Names d z ↔ NeedsName S staged x z) → AreNeedsOf S P staged x d
 exact_needs S P staged x d names = record { only = λ z h. (names z).0 h; all = λ z h. inl ((names z).1 h) }
+
+none_left_out : (S : Shape) (P : Cut) (x : Element) (z : Name) → S.sections ≡ 1 → MayLeaveOut S P x z → ⊥
+none_left_out S P (A_write x) z one out = out
+none_left_out S P (A_superblock u) (Plain n) one out = let several : 1 < S.sections = out.0 in omega arith
+none_left_out S P (A_superblock u) (Version f v) one out = out
+none_left_out S P (A_root r) z one out = out
+
+-- those of one section leave out nothing
+pub one_section_needs : (S : Shape) (P : Cut) (staged : List Element) (x : Element) (d : Named) (z : Name) → S.sections ≡ 1 → AreNeedsOf S P staged x d → Names d z ↔ NeedsName S staged x z
+one_section_needs S P staged x d z one are = (
+  (λ names. are.only z names),
+  (λ needs. ⊎_elim (λ (names : Names d z). names) (λ (out : MayLeaveOut S P x z). absurd (none_left_out S P x z one out)) (are.all z needs)),
+)
 
 matches_grow : (S : Shape) (P : Cut) (old new xs : List Element) (ys : List (Name × Named)) → ((m : Element) → m ∈ xs → (z : Name) → NeedsName S old m z ↔ NeedsName S new m z) → Matches S P old xs ys → Matches S P new xs ys
 matches_grow S P old new [] [] same all = tt

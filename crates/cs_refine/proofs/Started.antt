@@ -1,26 +1,32 @@
 -- The state in which a store starts.
-use Rattle.std.proofs.Common.{◌≡◌, inl, ℕ, ◌+◌, ◌*◌, ◌≤◌, Bool, true, false, nat_le, ◌==◌, ◌&&◌, if◌then◌else◌, List, [], ◌∷◌, ◌++◌, length, set, None, le_refl, le-leb, eqb-true, refl, sym, ap, ap₂, ◌∙◌, subst, arith}
+use Rattle.std.proofs.Common.{◌≡◌, inl, ℕ, zero, suc, ◌+◌, ◌*◌, ◌<◌, ◌≤◌, Bool, true, false, nat_le, ◌==◌, ◌&&◌, if◌then◌else◌, List, [], ◌∷◌, ◌++◌, length, None, le_refl, le_trans, le-leb, eqb-true, refl, sym, ap, ◌∙◌, subst, arith}
 use Rattle.std.specs.Prelude.{replicate}
-use Rattle.std.proofs.lemmas.List.{length-set}
-use Rattle.cs_disk.proofs.Images.{applied_push, length-applied, page_other, page_same}
+use Rattle.cs_disk.proofs.Images.{length-applied, page-applied}
 use Rattle.cs_disk.proofs.Whole.{BytePages, Pages, left_whole, seen_whole}
-use Rattle.cs_disk.specs.Disk.{Image, IsWhole as IsWholeDisk, MayLeave, State as DiskState, flushed, page, seen, written}
+use Rattle.cs_disk.specs.Disk.{Image, IsWhole as IsWholeDisk, MayLeave, State as DiskState, Write as PageWrite, flushed, latest, page, seen}
 use Rattle.cs_extent.specs.State.{IsWhole, State as ExtentsState, shape}
+use Rattle.cs_frame.proofs.GeometryLaws.{model_geometry}
 use Rattle.cs_frame.specs.Formats.{formats_of}
+use Rattle.cs_frame.specs.Geometries.{IsGeometry, section_length, section_size}
 use Rattle.cs_frame.specs.Roots.{SpellsRoot}
 use Rattle.cs_frame.specs.Superblocks.{SpellsSuperblock}
 use Rattle.cs_image.proofs.Found.{read_recovers}
-use Rattle.cs_image.proofs.New.{new_found}
+use Rattle.cs_image.proofs.New.{new_found, new_whole}
 use Rattle.cs_image.proofs.Superblocks.{read_whole}
-use Rattle.cs_image.specs.Openings.{IsFoundAs, graph_at, index_at}
+use Rattle.cs_image.specs.Openings.{AreNewSections, IsFoundAs, by_family, graph_at, index_at}
 use Rattle.cs_image.specs.Reads.{ArePages, IsStoreRead, extents_at}
 use Rattle.cs_index.specs.declared.runs.StoredRun.{StoredRun}
 use Rattle.cs_index.specs.State.{newest_first}
+use Rattle.cs_model.proofs.LocalRecovery.{lies_below}
 use Rattle.cs_model.proofs.Opens.{opens_bounded, opens_sound}
+use Rattle.cs_model.specs.Cut.{page_in}
 use Rattle.cs_model.specs.Device.{FramePage, IsShape, Page, PageKind, RootPage, SectionPage}
-use Rattle.cs_model.specs.Element.{Map, Run, log_of}
+use Rattle.cs_model.specs.Element.{Map, Root, Run, Superblock, Write, log_of, roots_of, superblocks_of, writes_of}
 use Rattle.cs_model.specs.Formats.{Formats, image_at, places}
-use Rattle.cs_model.specs.Open.{opened_state}
+use Rattle.cs_model.specs.Geometry.{shape_of}
+use Rattle.cs_model.specs.Lists.{latest as newest}
+use Rattle.cs_model.specs.Local.{LiesBelow}
+use Rattle.cs_model.specs.Open.{opened_state, superblocks_read}
 use Rattle.cs_model.specs.Recovery.{Recovers}
 use Rattle.cs_model.proofs.Carries.{and_left}
 use Rattle.cs_model.specs.State.{State}
@@ -28,7 +34,7 @@ use Rattle.cs_refine.specs.Devices.{persistent_image}
 use Rattle.cs_refine.specs.Openings.{IsStartOf}
 use Rattle.cs_refine.proofs.CrashesLeft.{same_size}
 use Rattle.cs_refine.proofs.Opening.{opened}
-use Rattle.cs_refine.proofs.Shapes.{store_shape}
+use Rattle.cs_refine.proofs.Shapes.{some_sections, store_shape}
 
 -- a test that is passed, and one that may fail
 pick : (b : Bool) (a o : Page) → b ≡ true → (if b then a else o) ≡ a
@@ -43,36 +49,52 @@ module _ (x : ExtentsState) (F : Formats) (img : ℕ → Page) (n : ℕ) (m : Ma
   abbrev start : State
   start = opened_state (shape x) F img n m found
 
-  section : (p j : ℕ) → (shape x).kind p ≡ SectionPage j → ((0 == j) && nat_le (found.versions 0) (found.versions j)) ≡ true
-      → F.superblock (found.formats 0) j (found.versions 0) found.pointers found.generations ≡ img p
-  section p j kind test =
-      let same : 0 ≡ j = eqb-true 0 j (and_left (0 == j) (nat_le (found.versions 0) (found.versions j)) test) in
-      subst (λ (k : ℕ). (shape x).kind p ≡ SectionPage k → F.superblock (found.formats 0) k (found.versions 0) found.pointers found.generations ≡ img p) same
-      (λ at. sym (found.superblock 0 (omega arith)) ∙ ap img (sym (is.section_only p 0 at))) kind
+  -- a page of section j, by the versions of the sections below k that were read
+  abbrev page_by : (p j k : ℕ) → Page
+  page_by p j k = newest (λ (u : Superblock). (u.section == j) && nat_le u.version (found.versions j)) (λ (u : Superblock). F.superblock u.format j u.version u.pointers u.generations)
+      (img p) (superblocks_of (superblocks_read (shape x) F img n m found k))
+
+  section : (p k j : ℕ) → k < (shape x).sections → (shape x).kind p ≡ SectionPage j → ((k == j) && nat_le (found.versions k) (found.versions j)) ≡ true
+      → F.superblock (found.formats k) j (found.versions k) found.pointers found.generations ≡ img p
+  section p k j there kind test =
+      let same : k ≡ j = eqb-true k j (and_left (k == j) (nat_le (found.versions k) (found.versions j)) test) in
+      subst (λ (i : ℕ). (shape x).kind p ≡ SectionPage i → F.superblock (found.formats k) i (found.versions k) found.pointers found.generations ≡ img p) same
+      (λ at. sym (found.superblock k there) ∙ ap img (sym (is.section_only p k at))) kind
+
+  section_as_read : (p j : ℕ) → (shape x).kind p ≡ SectionPage j → (k : ℕ) → k ≤ (shape x).sections → page_by p j k ≡ img p
+  section_as_read p j kind zero le = refl
+  section_as_read p j kind (suc k) le =
+      let rest : page_by p j k ≡ img p = section_as_read p j kind k (let lt : suc k ≤ (shape x).sections = le in omega arith) in
+      either ((k == j) && nat_le (found.versions k) (found.versions j)) (F.superblock (found.formats k) j (found.versions k) found.pointers found.generations) (page_by p j k)
+      (λ test. section p k j le kind test ∙ sym rest) ∙ rest
+
+  no_writes : (k : ℕ) → writes_of (superblocks_read (shape x) F img n m found k) ≡ []
+  no_writes zero = refl
+  no_writes (suc k) = no_writes k
 
   by_kind : (p : ℕ) (k : PageKind) → (shape x).kind p ≡ k → image_at (shape x) F k start.world.persistent img (log_of start.world.elements) p ≡ img p
   by_kind p RootPage kind =
-      pick (nat_le found.version found.version) (F.root found.version n (places found.runs)) (img p) (le-leb _ _ (le_refl _))
+      pick (nat_le found.version found.version) (F.root found.version n (places found.runs))
+      (newest (λ (r : Root). nat_le r.version found.version) (λ (r : Root). F.root r.version r.commands (places r.runs)) (img p) (roots_of (superblocks_read (shape x) F img n m found (shape x).sections)))
+      (le-leb _ _ (le_refl _))
       ∙ sym found.root ∙ ap img (sym (is.root_only p kind))
-  by_kind p (SectionPage j) kind =
-      either ((0 == j) && nat_le (found.versions 0) (found.versions j)) (F.superblock (found.formats 0) j (found.versions 0) found.pointers found.generations) (img p) (section p j kind)
-  by_kind p FramePage kind = refl
+  by_kind p (SectionPage j) kind = section_as_read p j kind (shape x).sections (le_refl _)
+  by_kind p FramePage kind = ap (λ (ws : List Write). page_in start.world.persistent img ws p) (no_writes (shape x).sections)
 
   -- what is persistent at open is what is there
   pub persistent_as_read : (p : ℕ) → persistent_image (shape x) F start p ≡ img p
   persistent_as_read p = by_kind p ((shape x).kind p) refl
 
-module _ (x : ExtentsState) (image : Image) (superblock root limit n : ℕ) (runs : List Run) (m : Map)
+module _ (x : ExtentsState) (image : Image) (versions : List ℕ) (root limit n : ℕ) (runs : List Run) (m : Map)
     (found : Recovers (shape x) (formats_of (shape x)) (page image) n m) (whole : IsWhole x)
-    (as_found : IsFoundAs (shape x) (formats_of (shape x)) (page image) n m found x superblock root runs) where
-  pub started : IsStartOf x (graph_at superblock root) (index_at runs limit) image (opened_state (shape x) (formats_of (shape x)) (page image) n m found)
+    (as_found : IsFoundAs (shape x) (formats_of (shape x)) (page image) n m found x versions root runs) where
+  pub started : IsStartOf x (graph_at versions root) (index_at runs limit) image (opened_state (shape x) (formats_of (shape x)) (page image) n m found)
   started = record {
     sound = opens_sound (shape x) (formats_of (shape x)) (store_shape x whole) (page image) n m found;
     bounded = opens_bounded (shape x) (formats_of (shape x)) (store_shape x whole) (page image) n m found;
     parts = record {
-      world = opened x (graph_at superblock root) (formats_of (shape x)) (page image) n m found as_found.extents
-          (ap₂ (λ (a b : ℕ). (let versions : List ℕ = a ∷ b ∷ [] in record { pending = record { persistent = versions; waiting = [] }; staged = 0; latest = versions }))
-          (sym as_found.superblock_version) (sym as_found.root_version));
+      world = opened x (graph_at versions root) (formats_of (shape x)) (page image) n m found versions (some_sections x whole) as_found.all_sections as_found.versions as_found.extents
+          (ap (λ (v : ℕ). record { pending = record { persistent = by_family versions v; waiting = [] }; staged = 0; latest = by_family versions v }) (sym as_found.root_version));
       index = record { lookups = λ id. refl; same_runs = sym as_found.same_runs };
     };
     disk = record { durable = λ p inside. sym (persistent_as_read x (formats_of (shape x)) (page image) n m found (store_shape x whole) p); volatile = refl };
@@ -80,56 +102,56 @@ module _ (x : ExtentsState) (image : Image) (superblock root limit n : ℕ) (run
   }
 
 -- what is written as a store is made
-module _ (image : Image) (extents pages limit : ℕ) (superblock : SpellsSuperblock (page image 0) 1 pages (replicate extents (0, 0))) (root : SpellsRoot (page image 1) 1 0 []) where
+module _ (image : Image) (extents pages sections limit : ℕ) (geometry : IsGeometry extents pages sections)
+    (superblocks : AreNewSections (page image) extents pages sections) (root : SpellsRoot (page image 1) 1 0 []) where
   abbrev new_extents : ExtentsState
-  new_extents = extents_at pages (replicate extents (0, 0))
+  new_extents = extents_at pages sections (replicate extents (0, 0))
 
   pub new_started : (found : Recovers (shape new_extents) (formats_of (shape new_extents)) (page image) 0 (λ id. None))
-      × IsStartOf new_extents (graph_at 1 1) (index_at [] limit) image (opened_state (shape new_extents) (formats_of (shape new_extents)) (page image) 0 (λ id. None) found)
-  new_started = let f = new_found (page image) extents pages superblock root in
-      (f.0, started new_extents image 1 1 limit 0 [] (λ id. None) f.0 (read_whole 1 pages (replicate extents (0, 0)) (page image 0) superblock) f.1)
+      × IsStartOf new_extents (graph_at (replicate sections 1) 1) (index_at [] limit) image (opened_state (shape new_extents) (formats_of (shape new_extents)) (page image) 0 (λ id. None) found)
+  new_started = let f = new_found (page image) extents pages sections geometry superblocks root in
+      (f.0, started new_extents image (replicate sections 1) 1 limit 0 [] (λ id. None) f.0 (new_whole (page image) extents pages sections geometry superblocks root) f.1)
 
--- pages 0 and 1 are written, and flushed
-module _ (old : DiskState) (superblock root : List ℕ) (enough : 2 ≤ length old.durable) where
-  abbrev both : Image
-  both = (flushed (written (written old 0 superblock) 1 root)).durable
+latest_append : (first more : List PageWrite) (p : ℕ) (bytes : List ℕ) → latest (first ++ more) p bytes ≡ latest more p (latest first p bytes)
+latest_append [] more p bytes = refl
+latest_append (w ∷ first) more p bytes = latest_append first more p (if w.0 == p then w.1 else bytes)
 
-  as_set : both ≡ set (set (seen old) 0 superblock) 1 root
-  as_set = applied_push old.durable (old.volatile ++ (0, superblock) ∷ []) (1, root)
-      ∙ ap (λ (image : Image). set image 1 root) (applied_push old.durable old.volatile (0, superblock))
+-- after these writes, and a flush
+module _ (old : DiskState) (writes : List PageWrite) (extents pages sections limit : ℕ) (geometry : IsGeometry extents pages sections)
+    (enough : 1 + extents * pages + sections ≤ length old.durable) where
+  -- what each page reads as then
+  abbrev view : ℕ → Page
+  view p = latest writes p (page (seen old) p)
 
-  seen_length : length (seen old) ≡ length old.durable
-  seen_length = length-applied old.durable old.volatile
+  abbrev image : Image
+  image = (flushed (record { durable = old.durable; volatile = old.volatile ++ writes })).durable
 
-  pub first_page : page both 0 ≡ superblock
-  first_page = ap (λ (image : Image). page image 0) as_set ∙ page_other (set (seen old) 0 superblock) 1 0 root (λ wrong. omega (arith, wrong))
-      ∙ page_same (seen old) 0 superblock (omega (arith, enough, seen_length))
+  as_viewed : (p : ℕ) → p < 1 + extents * pages + sections → page image p ≡ view p
+  as_viewed p lt = page-applied old.durable (old.volatile ++ writes) p (le_trans lt enough) ∙ latest_append old.volatile writes p (page old.durable p)
+      ∙ ap (latest writes p) (sym (page-applied old.durable old.volatile p (le_trans lt enough)))
 
-  pub second_page : page both 1 ≡ root
-  second_page = ap (λ (image : Image). page image 1) as_set
-      ∙ page_same (set (seen old) 0 superblock) 1 root (omega (arith, enough, seen_length, length-set (seen old) 0 superblock))
+  below : LiesBelow (shape_of extents pages sections (section_size extents sections) 2) (1 + extents * pages + sections)
+  below = lies_below extents pages sections (section_size extents sections) 2 (model_geometry extents pages sections geometry)
 
-pub written_started : (old : DiskState) (superblock root : List ℕ) (extents pages limit : ℕ) → 2 ≤ length old.durable
-    → SpellsSuperblock superblock 1 pages (replicate extents (0, 0)) → SpellsRoot root 1 0 []
-    → (let x = extents_at pages (replicate extents (0, 0)) in
-    let image = (flushed (written (written old 0 superblock) 1 root)).durable in
-    (found : Recovers (shape x) (formats_of (shape x)) (page image) 0 (λ id. None))
-    × IsStartOf x (graph_at 1 1) (index_at [] limit) image (opened_state (shape x) (formats_of (shape x)) (page image) 0 (λ id. None) found))
-written_started old superblock root extents pages limit enough spelled root_spelled =
-    new_started (both old superblock root enough) extents pages limit
-    (subst (λ (b : List ℕ). SpellsSuperblock b 1 pages (replicate extents (0, 0))) (sym (first_page old superblock root enough)) spelled)
-    (subst (λ (b : List ℕ). SpellsRoot b 1 0 []) (sym (second_page old superblock root enough)) root_spelled)
+  pub written_started : AreNewSections view extents pages sections → SpellsRoot (view 1) 1 0 []
+      → (let x = extents_at pages sections (replicate extents (0, 0)) in
+      (found : Recovers (shape x) (formats_of (shape x)) (page image) 0 (λ id. None))
+      × IsStartOf x (graph_at (replicate sections 1) 1) (index_at [] limit) image (opened_state (shape x) (formats_of (shape x)) (page image) 0 (λ id. None) found))
+  written_started superblocks root = new_started image extents pages sections limit geometry
+      (λ j lt. subst (λ (b : Page). SpellsSuperblock b 1 extents pages sections j (replicate (section_length extents sections j) (0, 0)))
+      (sym (as_viewed ((shape_of extents pages sections (section_size extents sections) 2).section_page j) (below.sections j lt))) (superblocks j lt))
+      (subst (λ (b : Page). SpellsRoot b 1 0 []) (sym (as_viewed 1 below.root)) root)
 
 -- what is read as a store is opened
-module _ (image : Image) (version pages : ℕ) (written : List (ℕ × ℕ)) (root commands limit : ℕ) (runs : List StoredRun)
-    (are : ArePages (2 + length written * pages) (page image)) (read : IsStoreRead (page image) version pages written root commands runs) where
+module _ (image : Image) (versions : List ℕ) (pages : ℕ) (written : List (ℕ × ℕ)) (root commands limit : ℕ) (runs : List StoredRun)
+    (are : ArePages (1 + length written * pages + length versions) (page image)) (read : IsStoreRead (page image) versions pages written root commands runs) where
   abbrev read_extents : ExtentsState
-  read_extents = extents_at pages written
+  read_extents = extents_at pages (length versions) written
 
   pub read_started : (m : Map) × (found : Recovers (shape read_extents) (formats_of (shape read_extents)) (page image) commands m)
-      × IsStartOf read_extents (graph_at version root) (index_at (newest_first runs) limit) image (opened_state (shape read_extents) (formats_of (shape read_extents)) (page image) commands m found)
-  read_started = let f = read_recovers (page image) version pages written root commands runs read are in
-      (f.0, f.1, started read_extents image version root limit commands (newest_first runs) f.0 f.1 (read_whole version pages written (page image 0) read.superblock) f.2)
+      × IsStartOf read_extents (graph_at versions root) (index_at (newest_first runs) limit) image (opened_state (shape read_extents) (formats_of (shape read_extents)) (page image) commands m found)
+  read_started = let f = read_recovers (page image) versions pages written root commands runs read are in
+      (f.0, f.1, started read_extents image versions root limit commands (newest_first runs) f.0 f.1 (read_whole (page image) versions pages written read.sections) f.2)
 
 -- ---- the pages of a disk
 

@@ -1,27 +1,27 @@
 -- What was staged in the world was staged in the graph, move by move.
-use Rattle.std.proofs.Common.{◌≡◌, ◌↔◌, inl, inr, ⊎_elim, ℕ, suc, ◌+◌, ◌<◌, ◌≤◌, List, [], ◌∷◌, ◌++◌, length, Some, get_or, slice_get, append_assoc}
-use Rattle.std.proofs.Common.{append-nil, length-set, get_or-set_same, get_or-set_other, le_of_eq}
+use Rattle.std.proofs.Common.{◌≡◌, ◌⊎◌, ◌↔◌, inl, inr, ⊎_elim, ℕ, suc, ◌+◌, ◌<◌, ◌≤◌, Bool, true, false, List, [], ◌∷◌, ◌++◌, length, set, Some, get_or, slice_get, append_assoc}
+use Rattle.std.proofs.Common.{append-nil, length-set, get_or-set_same, get_or-set_other, le_of_eq, leb-true}
 use Rattle.std.proofs.Common.{le_trans, le_refl, refl, sym, ap, ◌∙◌, subst, arith}
-use Rattle.std.proofs.lemmas.Bool.{cases_eq}
+use Rattle.std.proofs.lemmas.Bool.{cases_eq, cases_lt}
 use Rattle.std.proofs.lemmas.Option.{same_Some}
 use Rattle.cs_deps.specs.declared.elements.Element.{Element as Name}
 use Rattle.cs_deps.specs.declared.elements.Element.TheVariants.{Plain, Version}
 use Rattle.cs_deps.specs.Named.{Named, Names}
 use Rattle.cs_deps.specs.Staging.{Staging, staged_after}
 use Rattle.cs_model.specs.Append.{stage_pages}
-use Rattle.cs_model.specs.Cut.{Cut}
+use Rattle.cs_model.specs.Cut.{Closed, Cut, satisfied, section_of}
 use Rattle.cs_model.specs.Device.{IsShape, Page, Shape}
-use Rattle.cs_model.specs.Element.{A_root, A_superblock, A_write, Element, Superblock, Write, superblocks_of, writes_of}
+use Rattle.cs_model.specs.Element.{A_root, A_superblock, A_write, Element, Superblock, Write, log_of, superblocks_of, writes_of}
 use Rattle.cs_model.specs.Extents.{Extents}
-use Rattle.cs_model.specs.Lists.{◌∈◌}
+use Rattle.cs_model.specs.Lists.{◌∈◌, with}
 use Rattle.cs_model.specs.Machine.{StagePage, StageSuperblock, World, happens, superblock_now, write_now}
-use Rattle.cs_model.proofs.Parts.{grows}
-use Rattle.cs_model.proofs.Waiting.{listed}
-use Rattle.cs_extent.specs.Frames.{AreNeedsWithin, IsSuperblockNeed, IsSuperblockStaged, IsVersionUpTo, root_family, superblock_family}
-use Rattle.cs_refine.specs.Bridge.{IsPendingOf, NeedsName, waiting_in}
-use Rattle.cs_refine.specs.Stores.{IsStagingOf}
-use Rattle.cs_refine.proofs.Places.{At, from_waiting, match_at}
-use Rattle.cs_refine.proofs.Stagings.{exact_needs, page_staged, version_staged}
+use Rattle.cs_model.proofs.Parts.{grows, with_other, with_same}
+use Rattle.cs_model.proofs.Waiting.{listed, superblock_in}
+use Rattle.cs_extent.specs.Frames.{IsSectionNeed, IsSectionStaged, IsVersionUpTo, family_of, root_family}
+use Rattle.cs_refine.specs.Bridge.{IsPendingOf, MayLeaveOut, NeedsName, waiting_in}
+use Rattle.cs_refine.specs.Stores.{IsRecorded, IsStagingOf}
+use Rattle.cs_refine.proofs.Places.{At, family_below, from_waiting, match_at, match_in, not_one, one_family, to_waiting}
+use Rattle.cs_refine.proofs.Stagings.{page_staged, version_staged}
 
 -- stagings with the same fields
 pub same_staging : (s : Staging) (ps : List ℕ) (ws : List (Name × Named)) (n : ℕ) (ls : List ℕ) → s.pending.persistent ≡ ps → s.pending.waiting ≡ ws → s.staged ≡ n → s.latest ≡ ls
@@ -29,34 +29,36 @@ pub same_staging : (s : Staging) (ps : List ℕ) (ws : List (Name × Named)) (n 
 same_staging s ps ws n ls a b c d = λ j. record { pending = record { persistent = a j; waiting = b j }; staged = c j; latest = d j }
 
 -- the fields of what only other moves change
-pub moved : (S : Shape) (need : ℕ) (w : World) (s : Staging) (x : Extents) (R : Cut) → IsStagingOf S need w s → IsStagingOf S need (record w { extents = x; round = R }) s
+pub moved : (S : Shape) (need : ℕ → ℕ) (w : World) (s : Staging) (x : Extents) (R : Cut) → IsStagingOf S need w s → IsStagingOf S need (record w { extents = x; round = R }) s
 moved S need w s x R is = record {
   pending = record { families = is.pending.families; root = is.pending.root; sections = is.pending.sections; waiting = is.pending.waiting };
   written = is.written;
   families = is.families;
-  superblock = is.superblock;
+  sections = is.sections;
   root = is.root;
+  closed = is.closed;
   persistent = record { writes = is.persistent.writes; superblocks = is.persistent.superblocks; root = is.persistent.root };
   numbers = is.numbers;
   superblocks = is.superblocks;
   roots = is.roots;
 }
 
--- versions of the superblock that may need more of the root
-pub more_needed : (S : Shape) (need more : ℕ) (w : World) (s : Staging) → need ≤ more → IsStagingOf S need w s → IsStagingOf S more w s
+-- versions of sections that may need more of the root
+pub more_needed : (S : Shape) (need more : ℕ → ℕ) (w : World) (s : Staging) → ((j : ℕ) → need j ≤ more j) → IsStagingOf S need w s → IsStagingOf S more w s
 more_needed S need more w s le is = record {
   pending = is.pending;
   written = is.written;
   families = is.families;
-  superblock = is.superblock;
+  sections = is.sections;
   root = is.root;
   persistent = is.persistent;
+  closed = is.closed;
   numbers = is.numbers;
-  superblocks = λ u has. (let old = is.superblocks u has in (old.0, old.1, old.2, le_trans old.3 le));
+  superblocks = λ u has. (let old = is.superblocks u has in (old.0, old.1, old.2, le_trans old.3 (le u.section)));
   roots = is.roots;
 }
 
-module _ (S : Shape) (need : ℕ) where
+module _ (S : Shape) (need : ℕ → ℕ) where
   -- one page
   module _ (w : World) (s : Staging) (is : IsStagingOf S need w s) where
     page_needs : (x : Write) (root : ℕ) → x.root ≡ root → (d : Named) → ((z : Name) → Names d z ↔ IsVersionUpTo root_family root z) → (z : Name) → Names d z ↔ NeedsName S (A_write x ∷ w.elements) (A_write x) z
@@ -75,6 +77,26 @@ module _ (S : Shape) (need : ℕ) where
           from.1),
     )
 
+    -- nothing that is persistent needs it, and it isn't persistent
+    closed_still : (x : Write) → x.number ≡ suc w.written → Closed S (log_of (A_write x ∷ w.elements)) w.persistent
+    closed_still x new = record {
+      write_root = λ y has met. ⊎_elim
+          (λ (here : y ≡ x). absurd (
+          let low : y.number ≤ w.written = is.persistent.writes y.number met in
+          let number : y.number ≡ suc w.written = ap (λ (a : Write). a.number) here ∙ new in omega arith))
+          (λ (old : y ∈ writes_of w.elements). is.closed.write_root y old met)
+          has;
+      superblock_root = λ u has met. is.closed.superblock_root u has met;
+      superblock_writes = λ u y has has_y met sec bound. ⊎_elim
+          (λ (here : y ≡ x). absurd (
+          let low : y.number ≤ u.writes = bound in
+          let staged : u.writes ≤ w.written = (is.superblocks u has).2 in
+          let number : y.number ≡ suc w.written = ap (λ (a : Write). a.number) here ∙ new in omega arith))
+          (λ (old : y ∈ writes_of w.elements). is.closed.superblock_writes u y has old met sec bound)
+          has_y;
+      root_superblocks = λ r has met. is.closed.root_superblocks r has met;
+    }
+
     pub page_step : (p root : ℕ) (b : Page) (d : Named) → w.extents.reset (S.extent p) ≡ root → ((z : Name) → Names d z ↔ IsVersionUpTo root_family root z)
         → IsStagingOf S need (happens S w (StagePage p b)) (record { pending = staged_after s.pending (Plain (suc s.staged)) d; staged = suc s.staged; latest = s.latest })
     page_step p root b d same names = record {
@@ -82,9 +104,10 @@ module _ (S : Shape) (need : ℕ) where
           (page_staged S w s.pending is.persistent (λ u has. (is.superblocks u has).2) is.pending p b d (page_needs (write_now S w p b) root same d names));
       written = ap suc is.written;
       families = is.families;
-      superblock = is.superblock;
+      sections = is.sections;
       root = is.root;
       persistent = record { writes = λ n has. (let le : n ≤ w.written = is.persistent.writes n has in omega arith); superblocks = is.persistent.superblocks; root = is.persistent.root };
+      closed = closed_still (write_now S w p b) refl;
       numbers = more_numbers (write_now S w p b) refl;
       superblocks = λ u has. (let old = is.superblocks u has in (old.0, old.1, (let le : u.writes ≤ w.written = old.2 in omega arith), old.3));
       roots = is.roots;
@@ -126,60 +149,151 @@ module _ (S : Shape) (need : ℕ) where
         later k lt = let row = each (suc k) (omega arith) in
             (row.0, subst (λ (n : ℕ). slice_get rows k ≡ Some (Plain n, row.0)) (let n : s.staged + 1 + suc k ≡ suc s.staged + 1 + k = omega arith in n) row.1, row.2)
 
-  -- a version of the superblock
+  -- what a waiting version of a section needs
   module _ (w : World) (s : Staging) (is : IsStagingOf S need w s) where
-    named : (z : Name) (m : Element) → m ∈ w.elements → (v : ℕ) (d : Named) → At S w.persistent w.elements m (Version superblock_family v) d → Names d z → IsSuperblockNeed s.staged need z
-    named z (A_write x) has v d at names = absurd (let e : Version superblock_family v ≡ Plain x.number = at.0 in cc)
-    named z (A_root r) has v d at names = absurd (let e : Version superblock_family v ≡ Version 1 r.version = at.0 in let f : superblock_family ≡ 1 = cc in omega arith)
-    named (Plain n) (A_superblock u) has v d at names =
-        let from = at.1.only (Plain n) names in
-        let low = (is.numbers n).1 (from.0, from.1, from.4) in
-        (low.0, le_trans low.1 (le_of_eq is.written))
-    named (Version f k) (A_superblock u) has v d at names =
-        let from = at.1.only (Version f k) names in
-        (from.0, from.1, le_trans from.2 (is.superblocks u (listed w.elements (A_superblock u) has)).3)
+    of_section : (j v : ℕ) (d : Named) (m : Element) → m ∈ w.elements → At S w.persistent w.elements m (Version (family_of j) v) d
+        → (u : Superblock) × (u ∈ superblocks_of w.elements) × (u.section ≡ j) × ((z : Name) → Names d z → NeedsName S w.elements (A_superblock u) z)
+    of_section j v d (A_write x) has at = absurd (let e : Version (family_of j) v ≡ Plain x.number = at.0 in cc)
+    of_section j v d (A_root r) has at = absurd (not_one j (let e : Version (family_of j) v ≡ Version 1 r.version = at.0 in cc))
+    of_section j v d (A_superblock u) has at =
+        let f : family_of u.section ≡ family_of j = (let e : Version (family_of j) v ≡ Version (family_of u.section) u.version = at.0 in cc) in
+        (u, listed w.elements (A_superblock u) has, one_family u.section j f, (λ z names. at.1.only z names))
 
-    pub needs_within : AreNeedsWithin s need
-    needs_within k v d x at names =
-        let from = match_at S w.persistent w.elements (waiting_in w.persistent w.elements) s.pending.waiting k (Version superblock_family v) d is.pending.waiting at in
-        named x from.0 (from_waiting w.persistent w.elements from.0 from.1).0 v d from.2 names
+    -- it is a version of the world, and needs no more than that
+    pub waiting_version : (j k v : ℕ) (d : Named) → slice_get s.pending.waiting k ≡ Some (Version (family_of j) v, d)
+        → (u : Superblock) × (u ∈ superblocks_of w.elements) × (u.section ≡ j) × ((z : Name) → Names d z → NeedsName S w.elements (A_superblock u) z)
+    waiting_version j k v d at =
+        let from = match_at S w.persistent w.elements (waiting_in w.persistent w.elements) s.pending.waiting k (Version (family_of j) v) d is.pending.waiting at in
+        of_section j v d from.0 (from_waiting w.persistent w.elements from.0 from.1).0 from.2
 
-    module _ (one : (e : ℕ) → S.section e ≡ 0) (new : Staging) (staged : IsSuperblockStaged s new need) (u : Superblock) (at : u.section ≡ 0) (writes : u.writes ≡ w.written) (root : u.root ≡ need) where
-      exact : (x : Name) → Names (staged.version.1) x ↔ IsSuperblockNeed s.staged need x
-      exact x = (
-        (λ h. ⊎_elim
-            (λ (own : Names staged.needs x). (staged.names x).0 own)
-            (λ (before : (k : ℕ) × (d : Named) × (slice_get s.pending.waiting k ≡ Some (Version superblock_family staged.version.0, d)) × Names d x). needs_within before.0 staged.version.0 before.1 x before.2 before.3)
-            ((staged.version.4 x).0 h)),
-        (λ h. (staged.version.4 x).1 (inl ((staged.names x).1 h))),
-      )
+    within : (j : ℕ) (u : Superblock) → u ∈ superblocks_of w.elements → u.section ≡ j → (z : Name) → NeedsName S w.elements (A_superblock u) z → IsSectionNeed 1 s.staged (need j) z
+    within j u has same (Plain n) needs = let low = (is.numbers n).1 (needs.0, needs.1, needs.4) in (low.0, le_trans low.1 (le_of_eq is.written))
+    within j u has same (Version f v) needs = (needs.0, needs.1, le_trans needs.2 (subst (λ (i : ℕ). u.root ≤ need i) same (is.superblocks u has).3))
 
-      pub superblock_needs : (z : Name) → Names (staged.version.1) z ↔ NeedsName S (A_superblock u ∷ w.elements) (A_superblock u) z
-      superblock_needs (Plain n) = (
-        (λ h. (let low = (exact (Plain n)).0 h in let from = (is.numbers n).0 (low.0, le_trans low.1 (le_of_eq (sym is.written))) in
-            (from.0, from.1, one (S.extent from.0.page) ∙ sym at, le_trans (le_of_eq from.2) (le_trans low.1 (le_of_eq (sym (writes ∙ is.written)))), from.2))),
-        (λ h. (let low = (is.numbers n).1 (h.0, h.1, h.4) in (exact (Plain n)).1 (low.0, le_trans low.1 (le_of_eq is.written)))),
-      )
-      superblock_needs (Version f v) = subst (λ (r : ℕ). Names staged.version.1 (Version f v) ↔ ((f ≡ 1) × (1 ≤ v) × (v ≤ r))) (sym root) (exact (Version f v))
+    pub needs_within : (j k v : ℕ) (d : Named) (z : Name) → slice_get s.pending.waiting k ≡ Some (Version (family_of j) v, d) → Names d z → IsSectionNeed 1 s.staged (need j) z
+    needs_within j k v d z at names = let u = waiting_version j k v d at in within j u.0 u.1 u.2 z (u.3 z names)
 
-    pub superblock_step : (one : (e : ℕ) → S.section e ≡ 0) (new : Staging) → IsSuperblockStaged s new need → IsStagingOf S need (happens S w (StageSuperblock 0 need)) new
-    superblock_step one new staged = subst (λ (t : Staging). IsStagingOf S need (happens S w (StageSuperblock 0 need)) t) (sym staged.version.5) (record {
-      pending = subst (λ (v : ℕ). IsPendingOf S (happens S w (StageSuperblock 0 need)) (staged_after s.pending (Version 0 v) staged.version.1)) version
-          (version_staged S w s.pending is.persistent (λ u has. (is.superblocks u has).2) is.pending (superblock_now S w 0 need) staged.version.1 (happens S w (StageSuperblock 0 need)) refl refl refl
-          (exact_needs S w.persistent (A_superblock (superblock_now S w 0 need) ∷ w.elements) (A_superblock (superblock_now S w 0 need)) staged.version.1
-          (superblock_needs one new staged (superblock_now S w 0 need) refl refl refl)));
+  -- A version of section j, which needs of its own the plain writes from `first` on, all on extents of its section. An older one of them
+  -- is needed by the version before.
+  module _ (w : World) (s : Staging) (is : IsStagingOf S need w s) (j : ℕ) (there : j < S.sections) (first : ℕ) (some : 1 ≤ first)
+      (own : (x : Write) → x ∈ writes_of w.elements → first ≤ x.number → section_of S x.page ≡ j)
+      (older : (x : Write) → x ∈ writes_of w.elements → x.number < first → section_of S x.page ≡ j → (1 < S.sections) × IsRecorded S w x)
+      (new : Staging) (staged : IsSectionStaged s new j first (need j)) where
+    abbrev it : Superblock
+    it = superblock_now S w j (need j)
+
+    abbrev more : List Element
+    more = A_superblock it ∷ w.elements
+
+    abbrev latest : ℕ
+    latest = get_or s.latest (family_of j) 0
+
+    of_own : (z : Name) → IsSectionNeed first s.staged (need j) z → NeedsName S more (A_superblock it) z
+    of_own (Plain n) h =
+        let from = (is.numbers n).0 (le_trans some h.0, le_trans h.1 (le_of_eq (sym is.written))) in
+        (from.0, from.1, own from.0 from.1 (le_trans h.0 (le_of_eq (sym from.2))), le_trans (le_of_eq from.2) (le_trans h.1 (le_of_eq (sym is.written))), from.2)
+    of_own (Version f v) h = (h.0, h.1, h.2)
+
+    of_before : (u : Superblock) → u ∈ superblocks_of w.elements → u.section ≡ j → (z : Name) → NeedsName S w.elements (A_superblock u) z → NeedsName S more (A_superblock it) z
+    of_before u has same (Plain n) needs = (needs.0, needs.1, needs.2 ∙ same, le_trans needs.3 (is.superblocks u has).2, needs.4)
+    of_before u has same (Version f v) needs = (needs.0, needs.1, le_trans needs.2 (subst (λ (i : ℕ). u.root ≤ need i) same (is.superblocks u has).3))
+
+    needs_only : (z : Name) → Names staged.version.1 z → NeedsName S more (A_superblock it) z
+    needs_only z h = ⊎_elim
+        (λ (given : Names staged.needs z). of_own z ((staged.names z).0 given))
+        (λ (before : (k : ℕ) × (d : Named) × (slice_get s.pending.waiting k ≡ Some (Version (family_of j) staged.version.0, d)) × Names d z).
+        let u = waiting_version w s is j before.0 staged.version.0 before.1 before.2 in
+        of_before u.0 u.1 u.2 z (u.3 z before.3))
+        ((staged.version.4 z).0 h)
+
+    -- what it names itself
+    own_named : (z : Name) → IsSectionNeed first s.staged (need j) z → Names staged.version.1 z
+    own_named z h = (staged.version.4 z).1 (inl ((staged.names z).1 h))
+
+    last_is : (q : Superblock) → q.section ≡ j → q.version ≡ w.superblocks q.section → Version (family_of q.section) q.version ≡ Version (family_of j) staged.version.0
+    last_is q same last = ap (λ (i : ℕ). Version (family_of i) q.version) same
+        ∙ ap (Version (family_of j)) (last ∙ ap w.superblocks same ∙ is.sections j there ∙ sym staged.version.2)
+
+    -- what the version before needs is named by it where it waits, or is persistent
+    by_last : (x : Write) (q : Superblock) → x ∈ writes_of w.elements → q ∈ superblocks_of w.elements → section_of S x.page ≡ q.section → q.section ≡ j
+        → q.version ≡ w.superblocks q.section → x.number ≤ q.writes → 1 < S.sections → (b : Bool) → satisfied w.persistent (A_superblock q) ≡ b
+        → Names staged.version.1 (Plain x.number) ⊎ MayLeaveOut S w.persistent (A_superblock it) (Plain x.number)
+    by_last x q has has_q sec same last bound several true met = inr (several, is.closed.superblock_writes q x has_q has (leb-true _ _ met) sec bound)
+    by_last x q has has_q sec same last bound several false waits =
+        let at = match_in S w.persistent w.elements (waiting_in w.persistent w.elements) s.pending.waiting (A_superblock q) is.pending.waiting
+        (to_waiting w.persistent w.elements (A_superblock q) (superblock_in w.elements q has_q) waits) in
+        ⊎_elim
+        (λ (names : Names at.1 (Plain x.number)). inl ((staged.version.4 (Plain x.number)).1 (inr (at.0, at.1, at.2 ∙ ap (λ (y : Name). Some (y, at.1)) (last_is q same last), names))))
+        (λ (out : MayLeaveOut S w.persistent (A_superblock q) (Plain x.number)). inr (out.0, out.1))
+        (at.3.1.all (Plain x.number) (x, has, sec, bound, refl))
+
+    older_one : (x : Write) → x ∈ writes_of w.elements → section_of S x.page ≡ j → (1 < S.sections) × IsRecorded S w x
+        → Names staged.version.1 (Plain x.number) ⊎ MayLeaveOut S w.persistent (A_superblock it) (Plain x.number)
+    older_one x has sec (several, (q, has_q, same, last, bound)) =
+        by_last x q has has_q (sym same) (same ∙ sec) last bound several (satisfied w.persistent (A_superblock q)) refl
+
+    needs_all : (z : Name) → NeedsName S more (A_superblock it) z → Names staged.version.1 z ⊎ MayLeaveOut S w.persistent (A_superblock it) z
+    needs_all (Version f v) needs = inl (own_named (Version f v) (needs.0, needs.1, needs.2))
+    needs_all (Plain n) needs = subst (λ (i : ℕ). Names staged.version.1 (Plain i) ⊎ MayLeaveOut S w.persistent (A_superblock it) (Plain i)) needs.4
+        (elim (cases_lt needs.0.number first) [
+          | inl old ↦ older_one needs.0 needs.1 needs.2 (older needs.0 needs.1 old needs.2)
+          | inr late ↦ inl (own_named (Plain needs.0.number) (late, le_trans needs.3 (le_of_eq is.written)))
+        ])
+
+    next_is : suc (w.superblocks j) ≡ latest + 1
+    next_is = let e : w.superblocks j ≡ get_or s.latest (family_of j) 0 = is.sections j there in omega arith
+
+    inside : family_of j < length s.latest
+    inside = le_trans (family_below j S.sections there) (le_of_eq (sym is.families))
+
+    sections_after : (i : ℕ) → i < S.sections → with w.superblocks j (suc (w.superblocks j)) i ≡ get_or (set s.latest (family_of j) (latest + 1)) (family_of i) 0
+    sections_after i lt = elim (cases_eq i j) [
+      | inl here ↦ with_same w.superblocks j (suc (w.superblocks j)) i here ∙ next_is ∙ sym (get_or-set_same s.latest (family_of j) (latest + 1) 0 inside)
+          ∙ ap (λ (k : ℕ). get_or (set s.latest (family_of j) (latest + 1)) (family_of k) 0) (sym here)
+      | inr other ↦ with_other w.superblocks j (suc (w.superblocks j)) i other ∙ is.sections i lt
+          ∙ sym (get_or-set_other s.latest (family_of j) (family_of i) (latest + 1) 0 (λ same. other (one_family i j same)))
+    ]
+
+    -- it isn't persistent
+    not_yet : (u : Superblock) → u ≡ it → u.version ≤ w.persistent.superblocks u.section → ⊥
+    not_yet u here met =
+        let low : suc (w.superblocks j) ≤ w.persistent.superblocks j = subst (λ (v : Superblock). v.version ≤ w.persistent.superblocks v.section) here met in
+        let high : w.persistent.superblocks j ≤ w.superblocks j = is.persistent.superblocks j in omega arith
+
+    closed_on : Closed S (log_of more) w.persistent
+    closed_on = record {
+      write_root = λ x has met. is.closed.write_root x has met;
+      superblock_root = λ u has met. ⊎_elim
+          (λ (here : u ≡ it). absurd (not_yet u here met))
+          (λ (old : u ∈ superblocks_of w.elements). is.closed.superblock_root u old met)
+          has;
+      superblock_writes = λ u x has has_x met sec bound. ⊎_elim
+          (λ (here : u ≡ it). absurd (not_yet u here met))
+          (λ (old : u ∈ superblocks_of w.elements). is.closed.superblock_writes u x old has_x met sec bound)
+          has;
+      root_superblocks = λ r has met. is.closed.root_superblocks r has met;
+    }
+
+    rises : (i : ℕ) → w.superblocks i ≤ with w.superblocks j (suc (w.superblocks j)) i
+    rises i = grows w.superblocks j (suc (w.superblocks j)) i (omega arith)
+
+    pub section_step : IsStagingOf S need (happens S w (StageSuperblock j (need j))) new
+    section_step = subst (λ (t : Staging). IsStagingOf S need (happens S w (StageSuperblock j (need j))) t) (sym staged.version.5) (record {
+      pending = subst (λ (v : ℕ). IsPendingOf S (happens S w (StageSuperblock j (need j))) (staged_after s.pending (Version (family_of j) v) staged.version.1)) next_is
+          (version_staged S w s.pending is.persistent (λ u has. (is.superblocks u has).2) is.pending it staged.version.1 (happens S w (StageSuperblock j (need j))) refl refl refl
+          (record { only = needs_only; all = needs_all }));
       written = is.written;
-      families = length-set s.latest superblock_family (get_or s.latest superblock_family 0 + 1) ∙ is.families;
-      superblock = version ∙ sym (get_or-set_same s.latest superblock_family (get_or s.latest superblock_family 0 + 1) 0 (let n : length s.latest ≡ 2 = is.families in omega arith));
-      root = is.root ∙ sym (get_or-set_other s.latest superblock_family root_family (get_or s.latest superblock_family 0 + 1) 0 (λ same. let n : 1 ≡ 0 = same in omega arith));
-      persistent = record { writes = is.persistent.writes; superblocks = λ j. le_trans (is.persistent.superblocks j) (grows w.superblocks 0 (suc (w.superblocks 0)) j (omega arith)); root = is.persistent.root };
+      families = length-set s.latest (family_of j) (latest + 1) ∙ is.families;
+      sections = sections_after;
+      root = is.root ∙ sym (get_or-set_other s.latest (family_of j) root_family (latest + 1) 0 (λ same. not_one j (sym same)));
+      persistent = record { writes = is.persistent.writes; superblocks = λ i. le_trans (is.persistent.superblocks i) (rises i); root = is.persistent.root };
+      closed = closed_on;
       numbers = is.numbers;
       superblocks = λ u has. ⊎_elim
-          (λ (new : u ≡ superblock_now S w 0 need). subst (λ (v : Superblock). (v.section ≡ 0) × (v.version ≤ suc (w.superblocks 0)) × (v.writes ≤ w.written) × (v.root ≤ need)) (sym new) (refl, le_refl _, le_refl _, le_refl _))
-          (λ (old : u ∈ superblocks_of w.elements). (let from = is.superblocks u old in (from.0, (let le : u.version ≤ w.superblocks 0 = from.1 in omega arith), from.2, from.3)))
+          (λ (here : u ≡ it). subst
+          (λ (v : Superblock). (v.section < S.sections) × (v.version ≤ with w.superblocks j (suc (w.superblocks j)) v.section) × (v.writes ≤ w.written) × (v.root ≤ need v.section))
+          (sym here) (there, le_of_eq (sym (with_same w.superblocks j (suc (w.superblocks j)) j refl)), le_refl _, le_refl _))
+          (λ (old : u ∈ superblocks_of w.elements). (let from = is.superblocks u old in (from.0, le_trans from.1 (rises u.section), from.2, from.3)))
           has;
-      roots = λ r has. (let old = is.roots r has in (old.0, (let le : r.superblocks 0 ≤ w.superblocks 0 = old.1 in omega arith)));
+      roots = λ r has. (let old = is.roots r has in (old.0, (λ i. le_trans (old.1 i) (rises i))));
     })
-      where
-        version : suc (w.superblocks 0) ≡ get_or s.latest superblock_family 0 + 1
-        version = let e : w.superblocks 0 ≡ get_or s.latest superblock_family 0 = is.superblock in omega arith

@@ -1,21 +1,17 @@
 -- Which graph a world is: the names of its elements, what each needs by name, and what waits in the order of staging.
-use Rattle.std.specs.Prelude.{◌≡◌, ◌⊎◌, ◌↔◌, ◌<◌, ◌≤◌, ◌∷◌, ◌++◌, ℕ, zero, suc, true, false, List, [], Contains, length, slice_index, if◌then◌else◌}
+use Rattle.std.specs.Prelude.{◌≡◌, ◌⊎◌, ◌↔◌, ◌<◌, ◌≤◌, ◌∷◌, ◌++◌, ℕ, suc, true, false, List, [], Contains, length, slice_index, if◌then◌else◌}
 use Rattle.cs_deps.specs.declared.elements.Element.{Element as Name}
 use Rattle.cs_deps.specs.declared.elements.Element.TheVariants.{Plain, Version}
 use Rattle.cs_deps.specs.Named.{Named, Names}
 use Rattle.cs_deps.specs.Pending.{Pending, Waits}
+use Rattle.cs_extent.specs.Frames.{family_of}
 use Rattle.cs_model.specs.Lists.{◌∈◌}
 use Rattle.cs_model.specs.Device.{Shape}
 use Rattle.cs_model.specs.Element.{Element, A_write, A_superblock, A_root, Write, Superblock, Root, writes_of}
 use Rattle.cs_model.specs.Cut.{Cut, Within, section_of, satisfied}
 use Rattle.cs_model.specs.Machine.{World}
 
--- section 0 is family 0, the root family 1, and section j from 1 on family j + 1
-abbrev pub family_of : ℕ → ℕ
-family_of zero = 0
-family_of (suc j) = suc (suc j)
-
--- the element of the graph that an element of the machine is
+-- the element of the graph that an element of the machine is: each section has its family, and the root has family 1
 abbrev pub name : Element → Name
 name (A_write x) = Plain x.number
 name (A_superblock u) = Version (family_of u.section) u.version

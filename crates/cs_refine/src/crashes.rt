@@ -18,12 +18,12 @@ pub fn what_a_crash_leaves_recovers()
     // In the words of the state: by what is known at open, and by the image itself where no shard was damaged at open.
     ensures left { (x : ExtentsState) (s : State) (disk : DiskState) (left : Image)
         → IsWhole x → Sound (shape x) (formats_of (shape x)) s → IsDiskOf (shape x) (formats_of (shape x)) s disk
-        → length disk.durable ≡ 2 + (shape x).extents * (shape x).pages → MayLeave disk left
+        → length disk.durable ≡ 1 + (shape x).extents * (shape x).pages + (shape x).sections → MayLeave disk left
         → LeavesPrefixOn (shape x) (formats_of (shape x)) s left }
     // In the words of the image at open, where what that recovers is the start of the state.
     ensures prefix { (x : ExtentsState) (s : State) (disk : DiskState) (left : Image) (frontier : ℕ)
         → IsWhole x → Sound (shape x) (formats_of (shape x)) s → IsDiskOf (shape x) (formats_of (shape x)) s disk
-        → length disk.durable ≡ 2 + (shape x).extents * (shape x).pages → MayLeave disk left
+        → length disk.durable ≡ 1 + (shape x).extents * (shape x).pages + (shape x).sections → MayLeave disk left
         → Recovers (shape x) (formats_of (shape x)) s.opened s.count s.start
         → IsFrontier (shape x) (formats_of (shape x)) s frontier
         → IsPrefix (shape x) s.opened s.commands frontier (length s.commands) left }

@@ -16,7 +16,8 @@ ghost use Rattle.cs_model.specs.State.{State};
 ghost use Rattle.cs_model.specs.Sound.{Sound};
 ghost use Rattle.cs_model.specs.Round.{IsRound, IsMember};
 ghost use Rattle.cs_refine.specs.Stores.{AreMemberNames};
-ghost use Rattle.cs_refine.specs.Bridge.{AreNeedsOf, name, family_of, NeedsName, IsPendingOf, IsCutOf, AreNames, IsWaiting, NamesAll};
+ghost use Rattle.cs_extent.specs.Frames.{family_of};
+ghost use Rattle.cs_refine.specs.Bridge.{AreNeedsOf, name, NeedsName, IsPendingOf, IsCutOf, AreNames, IsWaiting, NamesAll};
 
 /// What a round of the machine takes is the first round of the plan of all that waits.
 pub fn rounds_are_first_rounds()
@@ -50,6 +51,9 @@ pub fn staging_refines_staging()
         → r.version ≡ suc s.world.root → next.elements ≡ A_root r ∷ s.world.elements → next.persistent ≡ s.world.persistent
         → ((z : Name) → Names d z ↔ NeedsName S (A_root r ∷ s.world.elements) (A_root r) z)
         → IsPendingOf S next (staged_after g (Version 1 r.version) d) }
+    // Where there is one section nothing is left out: needs name exactly what the element needs.
+    ensures exact { (S : Shape) (P : Cut) (staged : List Element) (element : Element) (d : Named) (z : Name) → S.sections ≡ 1
+        → AreNeedsOf S P staged element d → Names d z ↔ NeedsName S staged element z }
 {}
 
 /// A round that is persistent in the machine is settled in the graph.

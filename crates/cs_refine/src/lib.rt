@@ -2,7 +2,7 @@
 //! moves, rounds, events, refusals and pages. No code, but laws.
 //!
 //! In its laws `x` and `y` are extents before and after, `g` and `h` graphs (`g` also what waits in one), `i` and `j` indexes, and `s` and
-//! `t` states of the machine; `w` is a world, `S` a shape and `F` formats. Of the machine's elements `u` is a version of the
+//! `t` states of the machine; `w` is a world, `S` a shape and `F` formats. Of the machine's elements `u` is a version of a section of the
 //! superblock and `r` one of the root, and `X` and `R` are sets, `R` one that a round makes; `z` is an element of the graph, and `d`
 //! names what one needs. `e` is an extent's number, `p` a page's on the device, `l` a locator, `ls` several, `k` a place in a list, and `v`
 //! the number of a version of the root. `n` is a number of commands, or that of one; `m` is a map, and `f` a refusal or a fault.

@@ -1,7 +1,8 @@
 //! The machine's world, and the extents and the graph that a store has: the same appends, resets, roots and rounds.
-ghost use Rattle.std.specs.Prelude.{◌≡◌, ◌↔◌, ◌<◌, ◌∷◌, ◌++◌, ℕ, Bool, true, List, [], map, Some, slice_index};
+ghost use Rattle.std.specs.Prelude.{◌≡◌, ◌↔◌, ◌<◌, ◌++◌, ℕ, Bool, true, List, [], length, map, Some, slice_index};
 ghost use Rattle.cs_deps.specs.declared.elements.Element.{Element as Name};
 ghost use Rattle.cs_deps.specs.Named.{Named, Names};
+ghost use Rattle.cs_deps.specs.Pending.{WaitsAt};
 ghost use Rattle.cs_deps.specs.declared.elements.Element.TheVariants.{Version};
 ghost use Rattle.cs_deps.specs.Staging.{IsVersionStaged, settled};
 ghost use Rattle.cs_model.specs.Machine.{World, BeginRound, EndRound, ResetExtent, StageRoot, happens, root_now};
@@ -16,7 +17,8 @@ ghost use Rattle.cs_model.specs.Extents.{Purpose as Reason, emptied, marked};
 ghost use Rattle.cs_deps.specs.State.{AddsNone, IsWhole as IsWholeGraph, KeepsBytes, AddsOnly, State as GraphState, write_of};
 ghost use Rattle.cs_frame.specs.declared.locators.Locator.{Locator};
 ghost use Rattle.cs_extent.specs.Appended.{AreAppended, IsAppended};
-ghost use Rattle.cs_extent.specs.Frames.{AreNeedsWithin, IsVersionUpTo, root_family, superblock_family};
+ghost use Rattle.cs_extent.specs.Frames.{IsSectionNeed, IsSectionVersionUpTo, family_of, root_family};
+ghost use Rattle.cs_image.specs.Openings.{by_family};
 ghost use Rattle.cs_model.specs.Open.{extents_read, opened_world};
 ghost use Rattle.cs_model.specs.Recovery.{Recovers};
 ghost use Rattle.cs_model.specs.Disk.{page_write};
@@ -34,15 +36,15 @@ pub fn append_refines_append()
 
 /// What a reset does to the extents of a store, under the last version of the root, the machine's reset does to its world.
 pub fn reset_refines_reset()
-    ensures { (x y : ExtentsState) (g : GraphState) (w : World) (e : ℕ) → IsWorldOf x g w → e < (shape x).extents → shape y ≡ shape x → extents_of y ≡ emptied (extents_of x) e w.root
+    ensures { (x y : ExtentsState) (g : GraphState) (w : World) (e : ℕ) → IsWorldOf x g w → shape y ≡ shape x → extents_of y ≡ emptied (extents_of x) e w.root
         → IsWorldOf y g (happens (shape x) w (ResetExtent e)) }
 {}
 
-/// A version of the root that is staged in the graph, and needs the versions of the superblock so far, is the machine's root.
+/// A version of the root that is staged in the graph, and needs the versions of all sections so far, is the machine's root.
 pub fn root_refines_root()
     ensures { (x : ExtentsState) (g h : GraphState) (w : World) (v : ℕ) (needs : Named) (n : ℕ) (runs : List Run) (m : Map) (pointers : ℕ → ℕ)
-        → IsWorldOf x g w → IsVersionStaged g.staging root_family v needs h.staging
-        → ((z : Name) → Names needs z ↔ IsVersionUpTo superblock_family (slice_index g.staging.latest superblock_family) z)
+        → IsWhole x → IsWorldOf x g w → IsVersionStaged g.staging root_family v needs h.staging
+        → ((z : Name) → Names needs z ↔ IsSectionVersionUpTo g.staging.latest z)
         → write_of h (Version root_family v) ≡ Some (page_write (shape x) (formats_of (shape x)) (A_root (root_now w n runs m pointers))) → AddsOnly g h (Version root_family v)
         → IsWorldOf x h (happens (shape x) w (StageRoot n runs m pointers)) }
 {}
@@ -68,17 +70,20 @@ pub fn stores_keep_their_worlds()
         → IsWorldOf y g (record w { extents = marked w.extents e mark }) }
 {}
 
-/// What is kept for an element that waits and keeps its bytes is what the machine writes for it, and each version of the
-/// superblock that waits needs staged plain writes, and no later version of the root than the next one.
+/// What is kept for an element that waits and keeps its bytes is what the machine writes for it, and each version of a section
+/// that waits needs staged plain writes, and no later version of the root than the section's next one.
 pub fn what_waits_is_of_the_world()
     ensures writes { (x : ExtentsState) (g : GraphState) (w : World) (element : Element) → IsWorldOf x g w → IsWholeGraph g → IsWaiting w element → KeepsBytes g (name element)
         → write_of g (name element) ≡ Some (page_write (shape x) (formats_of (shape x)) element) }
-    ensures needs { (x : ExtentsState) (g : GraphState) (w : World) → IsWorldOf x g w → AreNeedsWithin g.staging (need_of x) }
+    ensures needs { (x : ExtentsState) (g : GraphState) (w : World) (section k v : ℕ) (d : Named) (z : Name) → IsWorldOf x g w
+        → WaitsAt g.staging.pending k (Version (family_of section) v) d → Names d z → IsSectionNeed 1 g.staging.staged (need_of x section) z }
 {}
 
 /// A store that is opened, where nothing waits and no extent was reset, has the machine's world at open.
 pub fn opened_stores_have_worlds()
-    ensures { (x : ExtentsState) (g : GraphState) (F : Formats) (img : ℕ → Page) (n : ℕ) (m : Map) (found : Recovers (shape x) F img n m) → extents_of x ≡ extents_read (shape x) F img n m found
-        → (let versions : List ℕ = found.versions 0 ∷ found.version ∷ [] in g.staging ≡ record { pending = record { persistent = versions; waiting = [] }; staged = 0; latest = versions })
+    ensures { (x : ExtentsState) (g : GraphState) (F : Formats) (img : ℕ → Page) (n : ℕ) (m : Map) (found : Recovers (shape x) F img n m) (versions : List ℕ)
+        → IsWhole x → length versions ≡ (shape x).sections → ((section : ℕ) → section < (shape x).sections → found.versions section ≡ slice_index versions section)
+        → extents_of x ≡ extents_read (shape x) F img n m found
+        → (let numbers : List ℕ = by_family versions found.version in g.staging ≡ record { pending = record { persistent = numbers; waiting = [] }; staged = 0; latest = numbers })
         → IsWorldOf x g (opened_world (shape x) F img n m found) }
 {}

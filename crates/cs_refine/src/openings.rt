@@ -1,12 +1,12 @@
 //! A store as it is made, and as it is opened.
-ghost use Rattle.std.specs.Prelude.{◌+◌, ◌*◌, ◌≤◌, ℕ, List, [], None, length, replicate};
+ghost use Rattle.std.specs.Prelude.{◌+◌, ◌*◌, ◌++◌, ◌≤◌, ℕ, List, [], None, length, replicate};
 ghost use Rattle.cs_refine.specs.Openings.{IsStartOf};
-ghost use Rattle.cs_disk.specs.Disk.{Image, IsWhole as IsWholeDisk, MayLeave, State as DiskState, flushed, page, seen, written};
+ghost use Rattle.cs_disk.specs.Disk.{Image, IsWhole as IsWholeDisk, MayLeave, State as DiskState, Write, flushed, latest, page, seen};
 ghost use Rattle.cs_extent.specs.State.{IsWhole, State as ExtentsState, shape};
 ghost use Rattle.cs_frame.specs.Formats.{formats_of};
+ghost use Rattle.cs_frame.specs.Geometries.{IsGeometry};
 ghost use Rattle.cs_frame.specs.Roots.{SpellsRoot};
-ghost use Rattle.cs_frame.specs.Superblocks.{SpellsSuperblock};
-ghost use Rattle.cs_image.specs.Openings.{IsFoundAs, graph_at, index_at};
+ghost use Rattle.cs_image.specs.Openings.{AreNewSections, IsFoundAs, graph_at, index_at};
 ghost use Rattle.cs_image.specs.Reads.{ArePages, IsStoreRead, extents_at};
 ghost use Rattle.cs_index.specs.declared.runs.StoredRun.{StoredRun};
 ghost use Rattle.cs_index.specs.State.{newest_first};
@@ -17,41 +17,43 @@ ghost use Rattle.cs_model.specs.Recovery.{Recovers};
 /// What is found on an image is the start of the machine: the extents, a graph of the versions that were read, and an index
 /// of the runs are the parts of the state at open, the disk is its disk, and no command is counted.
 pub fn what_is_found_is_the_start()
-    ensures { (x : ExtentsState) (image : Image) (superblock root limit n : ℕ) (runs : List Run) (m : Map)
+    ensures { (x : ExtentsState) (image : Image) (versions : List ℕ) (root limit n : ℕ) (runs : List Run) (m : Map)
         (found : Recovers (shape x) (formats_of (shape x)) (page image) n m)
-        → IsWhole x → IsFoundAs (shape x) (formats_of (shape x)) (page image) n m found x superblock root runs
-        → IsStartOf x (graph_at superblock root) (index_at runs limit) image
+        → IsWhole x → IsFoundAs (shape x) (formats_of (shape x)) (page image) n m found x versions root runs
+        → IsStartOf x (graph_at versions root) (index_at runs limit) image
         (opened_state (shape x) (formats_of (shape x)) (page image) n m found) }
 {}
 
 /// A new store is a store of the machine with no command and no shard.
 pub fn new_store_refines_start()
-    // Of pages 0 and 1 that were written and then flushed.
-    ensures written { (old : DiskState) (superblock root : List ℕ) (extents pages limit : ℕ) → 2 ≤ length old.durable
-        → SpellsSuperblock superblock 1 pages (replicate extents (0, 0)) → SpellsRoot root 1 0 []
-        → (let x = extents_at pages (replicate extents (0, 0)) in
-        let image = (flushed (written (written old 0 superblock) 1 root)).durable in
+    // Of the pages of the sections and of the root that were written, in whatever order, and then flushed.
+    ensures written { (old : DiskState) (writes : List Write) (extents pages sections limit : ℕ)
+        → IsGeometry extents pages sections → 1 + extents * pages + sections ≤ length old.durable
+        → AreNewSections (λ p. latest writes p (page (seen old) p)) extents pages sections
+        → SpellsRoot (latest writes 1 (page (seen old) 1)) 1 0 []
+        → (let x = extents_at pages sections (replicate extents (0, 0)) in
+        let image = (flushed (record { durable = old.durable; volatile = old.volatile ++ writes })).durable in
         (found : Recovers (shape x) (formats_of (shape x)) (page image) 0 (λ id. None))
-        × IsStartOf x (graph_at 1 1) (index_at [] limit) image
+        × IsStartOf x (graph_at (replicate sections 1) 1) (index_at [] limit) image
         (opened_state (shape x) (formats_of (shape x)) (page image) 0 (λ id. None) found)) }
-    // Of an image that has such pages 0 and 1.
-    ensures image { (image : Image) (extents pages limit : ℕ)
-        → SpellsSuperblock (page image 0) 1 pages (replicate extents (0, 0)) → SpellsRoot (page image 1) 1 0 []
-        → (let x = extents_at pages (replicate extents (0, 0)) in
+    // Of an image that has such pages.
+    ensures image { (image : Image) (extents pages sections limit : ℕ) → IsGeometry extents pages sections
+        → AreNewSections (page image) extents pages sections → SpellsRoot (page image 1) 1 0 []
+        → (let x = extents_at pages sections (replicate extents (0, 0)) in
         (found : Recovers (shape x) (formats_of (shape x)) (page image) 0 (λ id. None))
-        × IsStartOf x (graph_at 1 1) (index_at [] limit) image
+        × IsStartOf x (graph_at (replicate sections 1) 1) (index_at [] limit) image
         (opened_state (shape x) (formats_of (shape x)) (page image) 0 (λ id. None) found)) }
 {}
 
 /// A store that was read is a store of the machine, with as many commands as its root says.
 pub fn read_store_refines_start()
-    ensures { (image : Image) (version pages : ℕ) (written : List (ℕ × ℕ)) (root commands limit : ℕ)
+    ensures { (image : Image) (versions : List ℕ) (pages : ℕ) (written : List (ℕ × ℕ)) (root commands limit : ℕ)
         (runs : List StoredRun)
-        → ArePages (2 + length written * pages) (page image)
-        → IsStoreRead (page image) version pages written root commands runs
-        → (let x = extents_at pages written in
+        → ArePages (1 + length written * pages + length versions) (page image)
+        → IsStoreRead (page image) versions pages written root commands runs
+        → (let x = extents_at pages (length versions) written in
         (m : Map) × (found : Recovers (shape x) (formats_of (shape x)) (page image) commands m)
-        × IsStartOf x (graph_at version root) (index_at (newest_first runs) limit) image
+        × IsStartOf x (graph_at versions root) (index_at (newest_first runs) limit) image
         (opened_state (shape x) (formats_of (shape x)) (page image) commands m found)) }
 {}
 

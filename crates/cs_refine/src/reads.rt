@@ -27,7 +27,7 @@ ghost use Rattle.cs_refine.specs.Stores.{IsWorldOf};
 pub fn pages_are_read()
     ensures { (x : ExtentsState) (g : GraphState) (s : State) (held : Image)
         → IsWhole x → IsWholeGraph g → IsWorldOf x g s.world → Sound (shape x) (formats_of (shape x)) s
-        → IsDeviceOf (shape x) (formats_of (shape x)) s held → 2 + (shape x).extents * (shape x).pages ≤ length held
+        → IsDeviceOf (shape x) (formats_of (shape x)) s held → 1 + (shape x).extents * (shape x).pages + (shape x).sections ≤ length held
         → AreNewest g held (pages_now (shape x) s held) }
 {}
 

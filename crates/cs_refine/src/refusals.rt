@@ -1,11 +1,10 @@
 //! Why the calls of a store's parts are refused, as why the machine's events are.
 ghost use Rattle.std.specs.Prelude.{◌≡◌, ◌≢◌, ◌⊎◌, ◌↔◌, ◌+◌, ◌^◌, ◌<◌, ◌≤◌, ℕ, true, false, List, [], Some, None, length};
-ghost use Rattle.cs_chunk.specs.Chunks.{IsPutWorn};
 ghost use Rattle.cs_chunk.specs.Reads.{fault_at, refusal_for as refusal_of_fault};
 ghost use Rattle.cs_deps.specs.Refusals.{number_of};
 ghost use Rattle.cs_deps.specs.State.{State as GraphState};
-ghost use Rattle.cs_extent.specs.Frames.{IsWorn};
 ghost use Rattle.cs_extent.specs.State.{IsWhole, State as ExtentsState, extents_of, shape};
+ghost use Rattle.cs_extent.specs.Worn.{AreWorn, IsFrameWorn};
 ghost use Rattle.cs_frame.specs.declared.faults.FormatFault.{FormatFault};
 ghost use Rattle.cs_frame.specs.declared.frames.FrameKind.{FrameKind};
 ghost use Rattle.cs_frame.specs.declared.locators.Locator.{Locator};
@@ -31,7 +30,7 @@ ghost use Rattle.cs_refine.specs.Parts.{ArePartsOf};
 ghost use Rattle.cs_refine.specs.Refusals.{refusal_for};
 
 /// There is no room for a put where its chunks don't fit, and it would take a number past its greatest where its writes, its
-/// versions of the superblock or the commands would.
+/// versions of a section or the commands would.
 pub fn put_refusals_agree()
     // The machine has no room exactly where, in whatever chunks the bytes are, their frames don't fit.
     ensures full { (x : ExtentsState) (g : GraphState) (i : IndexState) (s : State) (bytes : List ℕ)
@@ -45,7 +44,7 @@ pub fn put_refusals_agree()
         → WouldPass (shape x) (formats_of (shape x)) s (Put id bytes)
         ↔ ((chunks : List (List ℕ)) × Chunked (shape x).chunk_bytes bytes chunks
         × Fits (shape x) (extents_of x) ForPut (page_counts (chunk_frames (shape x) (formats_of (shape x)) chunks))
-        × (IsPutWorn g.staging (page_counts (chunk_frames (shape x) (formats_of (shape x)) chunks))
+        × (AreWorn x g.staging ForPut (page_counts (chunk_frames (shape x) (formats_of (shape x)) chunks))
         ⊎ (2 ^ 63 ≤ s.count + length s.commands + 1))) }
 {}
 
@@ -69,7 +68,7 @@ pub fn stage_refusals_agree()
     ensures worn { (x : ExtentsState) (g : GraphState) (i : IndexState) (s : State)
         → IsWhole x → ArePartsOf x g i s → Sound (shape x) (formats_of (shape x)) s → Bounded (shape x) (formats_of (shape x)) s
         → ¬ IsFull (WritesRun i) x ForRun
-        → WouldPass (shape x) (formats_of (shape x)) s Stage ↔ ((i.table ≢ []) × IsStageWorn (WritesRun i) x g.staging) }
+        → WouldPass (shape x) (formats_of (shape x)) s Stage ↔ ((i.table ≢ []) × IsStageWorn (WritesRun i) x ForRun g.staging) }
 {}
 
 /// There is no room for a Retire where there is no place for the run of all that is live. Where there is room, it would take
@@ -85,7 +84,7 @@ pub fn retire_refusals_agree()
 {}
 
 /// There is no room for a MoveOne where there is no place for the frame of the chunk that is moved. Where there is room, it
-/// would take a number past its greatest where what is staged with the frame would.
+/// would take a number past its greatest where what is staged with the frame, by the section of the extent that it goes to, would.
 pub fn move_refusals_agree()
     // There is no room exactly where no extent takes the frame of the first live chunk, which can be read.
     ensures full { (x : ExtentsState) (g : GraphState) (i : IndexState) (s : State) (e id chunk : ℕ) (l : Place) (payload : List ℕ)
@@ -99,7 +98,7 @@ pub fn move_refusals_agree()
         → FirstLive (index_of i) e id chunk l → ReadsNow (shape x) (formats_of (shape x)) s l ChunkFrame payload
         → s.world.extents.swept e ≡ true → s.opening.damage l ≡ None
         → ¬ NoPlace (shape x) (extents_of x) ForMove (length (chunk_frame x payload))
-        → WouldPass (shape x) (formats_of (shape x)) s (MoveOne e) ↔ IsWorn g.staging (length (chunk_frame x payload)) }
+        → WouldPass (shape x) (formats_of (shape x)) s (MoveOne e) ↔ IsFrameWorn x ForMove g.staging (length (chunk_frame x payload)) }
 {}
 
 /// Where the store isn't halted: BeginSweep is refused exactly where the extent can't be swept; MoveOne, Retire and Abandon are refused 33

@@ -7,6 +7,9 @@ use Rattle.cs_chunk.proofs.puts.append_all.Goals as goal
 next : (c : goal.After-deref) → MayPut c.loop-k.extents c.loop-k.graph (c.deref.result.now ∷ drop (c.loop-k.k + 1) (map (λ f. f.items) c.args.frames.now))
 next c = (so_far_at c.args.extents.now c.args.graph.now _ _ c.deref.result.now _ _ c.loop-k.extents c.loop-k.graph (left_at (λ f. f.items) c.args.frames.now c.loop-k.k c.index-frames-k.result c.deref.result.now c.loop-k-test.true c.index-frames-k.is c.deref.ensures.value) c.loop-k.invariant.so_far).may
 
+pub append_one-place-requires-clause-families : goal.append_one-place-requires-clause-families
+append_one-place-requires-clause-families c = (next c).families
+
 pub append_one-place-requires-clause-pages : goal.append_one-place-requires-clause-pages
 append_one-place-requires-clause-pages c = (next c).pages.0
 

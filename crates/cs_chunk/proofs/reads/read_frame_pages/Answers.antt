@@ -1,7 +1,6 @@
 use Rattle.std.proofs.Common.{◌≡◌, ◌∙◌, ◌-◌, ap, arith, subst, sym, inl, inr, IfOk}
 use Rattle.cs_chunk.specs.Newest.{IsReadAs}
 use Rattle.cs_chunk.specs.Reads.{AreReadAs, IsOfFault, fault_at}
-use Rattle.cs_deps.specs.declared.refusals.Refusal.{Refusal}
 use Rattle.cs_disk.specs.Disk.{State, seen}
 use Rattle.cs_extent.specs.State.{shape}
 use Rattle.cs_frame.specs.Frames.{header_fault, kind_byte, page_count}

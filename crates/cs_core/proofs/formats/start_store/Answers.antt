@@ -1,15 +1,22 @@
-use Rattle.cs_core.specs.Started.{IsHeadWritten}
-use Rattle.cs_core.proofs.Heads.{head_none, on_err, store_made}
+use Rattle.std.proofs.Common.{List, subst, sym}
+use Rattle.cs_frame.specs.declared.superblocks.Superblock.{Superblock}
+use Rattle.cs_core.specs.Started.{AreNew, IsHeadWritten}
+use Rattle.cs_core.proofs.Heads.{head_none, on_err}
 use Rattle.cs_core.proofs.formats.start_store.Goals as goal
 
-pub returns-in_err-superblock-clause-failed : goal.returns-in_err-superblock-clause-failed
-returns-in_err-superblock-clause-failed g c = λ h. on_err c.from_residual.result (IsHeadWritten (g.D.PageDisk.state c.args.disk.now) (g.D.PageDisk.state c.args.disk.now)) (head_none (g.D.PageDisk.state c.args.disk.now))
+pub new_store-requires : goal.new_store-requires
+new_store-requires g c = subst (λ (ss : List Superblock). AreNew c.args.geometry.extents c.args.geometry.pages c.args.geometry.sections ss) (sym c.deref.ensures.value) c.in_ok-sections.ensures
+
+pub write_heads-requires-clause-new : goal.write_heads-requires-clause-new
+write_heads-requires-clause-new g c = subst (λ (ss : List Superblock). AreNew c.args.geometry.extents c.args.geometry.pages c.args.geometry.sections ss) (sym c.deref-2.ensures.value) c.in_ok-sections.ensures
+
+pub returns-in_err-sections-clause-failed : goal.returns-in_err-sections-clause-failed
+returns-in_err-sections-clause-failed g c = λ h.
+    on_err c.from_residual.result (IsHeadWritten c.args.geometry.extents c.args.geometry.pages (g.D.PageDisk.state c.args.disk.now) (g.D.PageDisk.state c.args.disk.now)) (head_none c.args.geometry.extents c.args.geometry.pages (g.D.PageDisk.state c.args.disk.now))
 
 pub returns-in_err-store-clause-failed : goal.returns-in_err-store-clause-failed
-returns-in_err-store-clause-failed g c = λ h. on_err c.from_residual-in_err-store.result (IsHeadWritten (g.D.PageDisk.state c.args.disk.now) (g.D.PageDisk.state c.args.disk.now)) (head_none (g.D.PageDisk.state c.args.disk.now))
+returns-in_err-store-clause-failed g c = λ h.
+    on_err c.from_residual-in_err-store.result (IsHeadWritten c.args.geometry.extents c.args.geometry.pages (g.D.PageDisk.state c.args.disk.now) (g.D.PageDisk.state c.args.disk.now)) (head_none c.args.geometry.extents c.args.geometry.pages (g.D.PageDisk.state c.args.disk.now))
 
-pub returns-in-Ok-clause-made : goal.returns-in-Ok-clause-made
-returns-in-Ok-clause-made g c =
-    let it = c.in_ok-superblock.superblock in
-    store_made (g.D.PageDisk.honest c.args.disk.now) (g.D.PageDisk.state c.args.disk.now) (g.D.PageDisk.state c.write_heads.new.disk) c.args.geometry.extents c.args.geometry.pages it.version it.pages it.extents.items c.in_ok-store.store
-    c.in_ok-superblock.ensures.version c.in_ok-superblock.ensures.pages c.in_ok-superblock.ensures.extents c.in_ok-store.ensures c.in-Ok.ensures.written
+pub returns-in-Ok-clause-geometry : goal.returns-in-Ok-clause-geometry
+returns-in-Ok-clause-geometry g c = c.in_ok-sections.ensures.geometry

@@ -1,10 +1,21 @@
-use Rattle.std.proofs.Common.{List, subst}
+use Rattle.std.proofs.Common.{◌∙◌, List, arith, subst}
 use Rattle.cs_frame.specs.declared.locators.Locator.{Locator}
 use Rattle.cs_frame.specs.Roots.{SpellsRoot}
-use Rattle.cs_core.proofs.Heads.{heads_written}
+use Rattle.cs_core.proofs.Heads.{heads_failed, heads_written}
 use Rattle.cs_core.proofs.formats.write_heads.Goals as goal
 
-pub returns-clause-written : goal.returns-clause-written
-returns-clause-written g c =
-    heads_written (g.D.PageDisk.honest c.args.disk.now) (g.D.PageDisk.state c.args.disk.now) (g.D.PageDisk.state c.write_new.new.disk) c.write_new.result c.args.superblock.now.version c.args.superblock.now.pages c.args.superblock.now.extents.items
-    c.encode_superblock.result c.encode_root.result c.encode_superblock.ensures (subst (λ (ls : List Locator). SpellsRoot c.encode_root.result 1 0 ls) c.new.ensures.items c.encode_root.ensures) c.write_new.ensures.written
+pub write_root-requires : goal.write_root-requires
+write_root-requires g c = omega (arith, c.write_sections.ensures.pages, c.requires.sized, c.requires.new.geometry.fewest_sections)
+
+pub returns-in-Ok-clause-written : goal.returns-in-Ok-clause-written
+returns-in-Ok-clause-written g c = λ h.
+    let s = c.args.geometry in
+    heads_written s.extents s.pages s.sections (g.D.PageDisk.state c.args.disk.now) (g.met.D.PageDisk.sized c.args.disk.now h ∙ c.requires.sized) c.write_root.result (g.D.PageDisk.state c.write_sections.new.disk) (g.D.PageDisk.state c.write_root.new.disk)
+    c.encode_root.result (c.in-Ok.ensures.written h) (subst (λ (ls : List Locator). SpellsRoot c.encode_root.result 1 0 ls) c.new.ensures.items c.encode_root.ensures) c.requires.new.geometry.fewest_sections
+    (c.write_root.ensures.written (c.write_sections.ensures.honest.0 h))
+
+pub returns-in-Ok-clause-failed : goal.returns-in-Ok-clause-failed
+returns-in-Ok-clause-failed g c = λ h.
+    let s = c.args.geometry in
+    heads_failed s.extents s.pages (g.D.PageDisk.state c.args.disk.now) c.write_root.result (g.D.PageDisk.state c.write_sections.new.disk) (g.D.PageDisk.state c.write_root.new.disk) c.encode_root.result (c.in-Ok.ensures.written h).head
+    (c.write_root.ensures.failed (c.write_sections.ensures.honest.0 h))

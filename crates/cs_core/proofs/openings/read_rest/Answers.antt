@@ -1,13 +1,32 @@
-use Rattle.std.proofs.Common.{ap}
-use Rattle.cs_disk.specs.Disk.{page, seen}
+use Rattle.std.proofs.Common.{◌∙◌, ◌+◌, ◌*◌, ℕ, List, ap, length, map, subst, sym}
+use Rattle.std.proofs.lemmas.List.{length-map}
+use Rattle.cs_disk.specs.Disk.{Image, page, seen}
+use Rattle.cs_extent.specs.Sections.{pages_of, rows_of}
+use Rattle.cs_frame.specs.declared.superblocks.Superblock.{Superblock}
+use Rattle.cs_image.specs.Reads.{AreSectionsRead}
 use Rattle.cs_core.proofs.Opening.{made_before, root_damaged}
 use Rattle.cs_core.proofs.openings.read_rest.Goals as goal
+
+-- the versions of these sections
+abbrev versions : List Superblock → List ℕ
+versions sections = map (λ (it : Superblock). it.version) sections
+
+pub read_index-requires-clause-sized : goal.read_index-requires-clause-sized
+read_index-requires-clause-sized g c = c.read_root.ensures.disk.pages ∙ c.requires.sized
+
+pub read_index-requires-clause-sections : goal.read_index-requires-clause-sections
+read_index-requires-clause-sections g c = λ h.
+    let before = c.read_root.ensures.disk.honesty.1 h in
+    let sections : List Superblock = c.args.sections.now in
+    subst (λ (i : Image). AreSectionsRead (page i) (versions sections) (pages_of sections) (rows_of sections)) (sym (ap seen (c.read_root.ensures.disk.same before))) (c.requires.sections before)
 
 pub returns-in-Ok-clause-made : goal.returns-in-Ok-clause-made
 returns-in-Ok-clause-made g c =
     made_before (g.D.PageDisk.state c.args.disk.now) (g.D.PageDisk.state c.read_root.new.disk) (g.D.PageDisk.honest c.args.disk.now) (g.D.PageDisk.honest c.read_root.new.disk) (λ h. c.read_root.ensures.disk.honesty.0 h) (λ h. ap seen (c.read_root.ensures.disk.same h))
-    c.args.superblock.now.version c.args.superblock.now.pages c.args.superblock.now.extents.items c.read_index.result c.read_index.ensures.made
+    (versions c.args.sections.now) (pages_of c.args.sections.now) (rows_of c.args.sections.now) c.read_index.result c.read_index.ensures.made
 
 pub returns-in-Err-clause-why : goal.returns-in-Err-clause-why
 returns-in-Err-clause-why g c = λ h.
-    root_damaged (g.D.PageDisk.page_count c.args.disk.now) (page (seen (g.D.PageDisk.state c.args.disk.now))) c.args.superblock.now.version c.args.superblock.now.pages c.args.superblock.now.extents.items (c.requires.superblock h) c.requires.sized c.in-Err.refusal (c.in-Err.ensures.fault h)
+    let sections : List Superblock = c.args.sections.now in
+    root_damaged (g.D.PageDisk.page_count c.args.disk.now) (page (seen (g.D.PageDisk.state c.args.disk.now))) (versions sections) (pages_of sections) (rows_of sections) (c.requires.sections h)
+    (c.requires.sized ∙ ap (λ (n : ℕ). 1 + length (rows_of sections) * pages_of sections + n) (sym (length-map sections (λ (it : Superblock). it.version)))) c.in-Err.refusal (c.in-Err.ensures.fault h)

@@ -1,17 +1,15 @@
 use Rattle.std.proofs.Common.{refl, sym, ◌∙◌}
-use Rattle.cs_frame.specs.Bytes.{number}
-use Rattle.cs_frame.specs.Superblocks.{extents_in}
-use Rattle.cs_frame.proofs.SuperblockLaws.{one_superblock, spelled_has_none, spells}
+use Rattle.cs_frame.proofs.SuperblockLaws.{one_section, spelled_has_none, spells}
 use Rattle.cs_frame.proofs.laws.superblock_has_one_spelling.Goals as goal
 
 pub returns-clause-exact : goal.returns-clause-exact
 returns-clause-exact c = λ page is. (
-  (λ h. (number 4 12 page, number 14 16 page, extents_in page, spells page _ _ _ is h refl refl refl)),
-  (λ s. spelled_has_none page s.0 s.1 s.2 s.3),
+  (λ h. (_, _, _, _, _, _, spells page _ _ _ _ _ _ is h refl refl refl refl refl refl)),
+  (λ s. spelled_has_none page s.0 s.1 s.2 s.3 s.4 s.5 s.6),
 )
 
-pub returns-clause-one_superblock : goal.returns-clause-one_superblock
-returns-clause-one_superblock c = λ page version w pages p extents es a b.
-    let x = one_superblock page version pages extents a in
-    let y = one_superblock page w p es b in
-    (sym x.0 ∙ y.0, sym x.1 ∙ y.1, sym x.2 ∙ y.2)
+pub returns-clause-one_section : goal.returns-clause-one_section
+returns-clause-one_section c = λ page version w extents e pages p sections s section j written es a b.
+    let x = one_section page version extents pages sections section written a in
+    let y = one_section page w e p s j es b in
+    (sym x.of_version ∙ y.of_version, sym x.of_extents ∙ y.of_extents, sym x.of_pages ∙ y.of_pages, sym x.of_sections ∙ y.of_sections, sym x.of_section ∙ y.of_section, sym x.of_written ∙ y.of_written)

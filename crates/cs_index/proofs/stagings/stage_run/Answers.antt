@@ -3,9 +3,9 @@ use Rattle.std.proofs.lemmas.Result.{IfOk-weaker, err_from_is_err_and}
 use Rattle.cs_deps.specs.declared.refusals.Refusal.TheVariants.{WornOut}
 use Rattle.cs_deps.specs.Staging.{Staging}
 use Rattle.cs_deps.specs.State.{State as GraphState}
-use Rattle.cs_extent.specs.Frames.{IsWorn}
 use Rattle.cs_extent.specs.Purposes.{reason_of}
 use Rattle.cs_extent.specs.State.{extents_of, shape}
+use Rattle.cs_extent.specs.Worn.{IsFrameWorn}
 use Rattle.cs_model.specs.Extents.{NoPlace, Placed}
 use Rattle.cs_index.specs.Staged.{IsRootWorn, run_frame}
 use Rattle.cs_index.proofs.Exact.{why_same, written_why}
@@ -33,7 +33,8 @@ returns-in_err-frame-clause-why c =
 pub returns-clause-why : goal.returns-clause-why
 returns-clause-why c =
     let frame = run_frame c.args.extents.now (map named_entry c.args.run.now.entries.items) in
-    written_why c.write_run.result (NoPlace (shape c.args.extents.now) (extents_of c.args.extents.now) (reason_of c.args.purpose) (length frame)) (IsRootWorn c.args.graph.now.staging) (IsWorn c.args.graph.now.staging (length frame))
+    let reason = reason_of c.args.purpose in
+    written_why c.write_run.result (NoPlace (shape c.args.extents.now) (extents_of c.args.extents.now) (reason_of c.args.purpose) (length frame)) (IsRootWorn c.args.graph.now.staging) (IsFrameWorn c.args.extents.now reason c.args.graph.now.staging (length frame))
     c.in_ok-frame.ensures.why.0 c.in_ok-frame.ensures.why.1
-    (subst (λ (s : Staging). MatchResult c.write_run.result (λ _. IsWorn s (length frame) → ⊥) (λ f. (f ≡ WornOut) × IsWorn s (length frame))) (ap (λ (h : GraphState). h.staging) c.in_ok-frame.ensures.rest)
-    (subst (λ (k : ℕ). MatchResult c.write_run.result (λ _. IsWorn c.prepare.new.graph.staging k → ⊥) (λ f. (f ≡ WornOut) × IsWorn c.prepare.new.graph.staging k)) (ap length (c.deref.ensures.value ∙ c.in_ok-frame.ensures.frame)) c.write_run.ensures.worn))
+    (subst (λ (s : Staging). MatchResult c.write_run.result (λ _. IsFrameWorn c.args.extents.now reason s (length frame) → ⊥) (λ f. (f ≡ WornOut) × IsFrameWorn c.args.extents.now reason s (length frame))) (ap (λ (h : GraphState). h.staging) c.in_ok-frame.ensures.rest)
+    (subst (λ (k : ℕ). MatchResult c.write_run.result (λ _. IsFrameWorn c.args.extents.now reason c.prepare.new.graph.staging k → ⊥) (λ f. (f ≡ WornOut) × IsFrameWorn c.args.extents.now reason c.prepare.new.graph.staging k)) (ap length (c.deref.ensures.value ∙ c.in_ok-frame.ensures.frame)) c.write_run.ensures.worn))

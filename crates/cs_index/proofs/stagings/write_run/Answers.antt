@@ -1,15 +1,22 @@
 use Rattle.std.proofs.Common.{arith, length}
-use Rattle.cs_extent.specs.Frames.{IsWorn}
 use Rattle.cs_extent.specs.Purposes.{reason_of}
 use Rattle.cs_extent.specs.State.{extents_of, shape}
+use Rattle.cs_extent.specs.Worn.{IsFrameWorn}
 use Rattle.cs_model.specs.Extents.{Placed}
 use Rattle.cs_index.proofs.Exact.{append_worn}
+use Rattle.cs_index.proofs.Rooted.{frame_below}
 use Rattle.cs_index.proofs.stagings.write_run.Goals as goal
+
+pub stage_root-version-requires-clause-number : goal.stage_root-version-requires-clause-number
+stage_root-version-requires-clause-number c = frame_below c.args.graph.now.staging c.append.new.graph.staging _ _ _ _ _ c.in-Ok.ensures.staged c.requires.number
+
+pub returns-in-Ok-clause-resets : goal.returns-in-Ok-clause-resets
+returns-in-Ok-clause-resets c = λ e. omega (arith, c.in-Ok.ensures.resets e, c.stage_root-version.ensures.rises)
 
 pub returns-in-Err-clause-worn : goal.returns-in-Err-clause-worn
 returns-in-Err-clause-worn c =
-    append_worn c.append.result c.in-Err.refusal (Placed (shape c.args.extents.now) (extents_of c.args.extents.now) (reason_of c.args.purpose) (length c.args.frame.now)) (IsWorn c.args.graph.now.staging (length c.args.frame.now))
+    append_worn c.append.result c.in-Err.refusal (Placed (shape c.args.extents.now) (extents_of c.args.extents.now) (reason_of c.args.purpose) (length c.args.frame.now)) (IsFrameWorn c.args.extents.now (reason_of c.args.purpose) c.args.graph.now.staging (length c.args.frame.now))
     c.in-Err.is c.append.ensures.full c.append.ensures.worn (c.append.ensures.memory (omega (arith, c.requires.room))) c.in-Err.ensures.refusals c.requires.placed
 
 pub returns-in-Ok-clause-worn : goal.returns-in-Ok-clause-worn
-returns-in-Ok-clause-worn c = λ worn. absurd (let is = c.append.ensures.worn.1 (c.requires.placed, worn) in cc (is, c.in-Ok.is))
+returns-in-Ok-clause-worn c = λ worn. absurd (let is = c.append.ensures.worn.1 worn in cc (is, c.in-Ok.is))

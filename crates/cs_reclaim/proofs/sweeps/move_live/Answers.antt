@@ -28,7 +28,7 @@ returns-in-Err-clause-worn g c = λ is. absurd (not_worn c.in-Err.refusal c.in-E
 
 pub encode_frame-requires : goal.encode_frame-requires
 encode_frame-requires g c =
-    let small : length c.in-Ok.payload.items < 2 ^ 32 = small_payload c.args.live.now.place.page c.args.extents.now.pages c.in-Ok.payload.items c.in-Ok.ensures.whole.most_pages c.in-Ok.ensures.size in
+    let small : length c.in-Ok.payload.items < 2 ^ 32 = small_payload c.args.live.now.place.page c.args.extents.now.pages c.in-Ok.payload.items c.in-Ok.ensures.whole.geometry.most_pages c.in-Ok.ensures.size in
     omega (arith, small, ap length c.deref.ensures.value)
 
 -- the frame is that of the payload

@@ -8,7 +8,7 @@ use Rattle.cs_model.specs.Extents.{ForMove}
 use Rattle.cs_model.specs.Index.{NothingLive}
 use Rattle.cs_index.specs.declared.live.LiveChunk.{LiveChunk}
 use Rattle.cs_reclaim.proofs.Living.{alive, dead}
-use Rattle.cs_reclaim.proofs.Retiring.{why_alive, why_refusals}
+use Rattle.cs_reclaim.proofs.Retiring.{why_alive, why_refusals, why_retired}
 use Rattle.cs_reclaim.proofs.Sweeping.{merge_generation, merge_root, merge_stays, resets_emptied}
 use Rattle.cs_reclaim.proofs.sweeps.retire_extent.Goals as goal
 use Rattle.cs_reclaim.proofs.sweeps.retire_extent.Goals.{Then-is_some}
@@ -44,8 +44,13 @@ returns-clause-resets c =
     resets_emptied (extents_of c.stage_merged.new.extents) (extents_of c.reset.new.self) (extents_of c.set_swept.new.self) c.stage_merged.new.graph.staging c.args.extent c.in_ok-root.root false
     c.in-Ok.ensures.extents c.set_swept.ensures.extents
     (merge_root c.first_live.new.self c.args.extents.now c.args.graph.now ForMove c.in_ok-root.root c.args.commands c.stage_merged.new.self c.stage_merged.new.extents c.stage_merged.new.graph c.args.extent
-    c.in_ok-root.ensures.staged (omega (arith, c.in_ok-root.ensures.families, c.requires.families)))
+    c.in_ok-root.ensures.staged (omega (arith, c.in_ok-root.ensures.families, c.requires.families, c.extent_count-extents.ensures.whole.geometry.fewest_sections)))
     c.in_ok-root.ensures.resets
+
+pub returns-clause-why : goal.returns-clause-why
+returns-clause-why c =
+    let why = rw (c.first_live.ensures.same) at c.in_ok-root.ensures.why in
+    λ none. why_retired _ _ _ why (λ last. c.if-generation.false (c.generation.ensures ∙ last))
 
 pub returns-in_err-root-clause-why : goal.returns-in_err-root-clause-why
 returns-in_err-root-clause-why c =

@@ -1,6 +1,5 @@
 use Rattle.cs_refine.proofs.moves.append_refines_append.Goals as goal
 use Rattle.cs_refine.proofs.Appending.{after_append}
-use Rattle.cs_refine.proofs.Shapes.{store_shape}
 
 pub returns : goal.returns
-returns c = λ x y g h w reason frame l whole is a. after_append x g w (store_shape x whole) is reason frame l y h a
+returns c = λ x y g h w reason frame l whole is a. after_append x g w whole.geometry is reason frame l y h a

@@ -1,6 +1,5 @@
 use Rattle.cs_refine.proofs.moves.appends_refine_appends.Goals as goal
 use Rattle.cs_refine.proofs.Keeping.{after_appends}
-use Rattle.cs_refine.proofs.Shapes.{store_shape}
 
 pub returns : goal.returns
-returns c = λ x y g h w reason frames ls whole is all. after_appends x y g h w reason frames ls (store_shape x whole) is all
+returns c = λ x y g h w reason frames ls whole is all. after_appends x y g h w reason frames ls whole.geometry is all

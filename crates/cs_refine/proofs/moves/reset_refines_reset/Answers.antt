@@ -4,5 +4,5 @@ use Rattle.cs_refine.proofs.moves.reset_refines_reset.Goals as goal
 use Rattle.cs_refine.proofs.Resetting.{after_reset}
 
 pub returns : goal.returns
-returns c = λ x y g w e is inside same extents.
-    after_reset x y g w e is inside same (emptied w.extents e w.root) refl (extents ∙ ap (λ (z : Extents). emptied z e w.root) (sym is.extents))
+returns c = λ x y g w e is same extents.
+    after_reset x y g w e is same (emptied w.extents e w.root) refl (extents ∙ ap (λ (z : Extents). emptied z e w.root) (sym is.extents))

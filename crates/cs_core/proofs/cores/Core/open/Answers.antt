@@ -22,12 +22,12 @@ returns-in-Ok-clause-store g c =
     (λ h. ap (λ d. (g.D.PageDisk.state d).durable) c.of.ensures ∙ ap (λ d. d.durable) (c.in-Ok.ensures.state h))
 
 pub returns-in-Ok-clause-recovers : goal.returns-in-Ok-clause-recovers
-returns-in-Ok-clause-recovers g c = λ h extents pages is sized n m r.
+returns-in-Ok-clause-recovers g c = λ h extents pages sections is sized n m r.
     let made = c.in-Ok.ensures.made in
-    opened_as (g.D.PageDisk.honest c.args.disk) (g.D.PageDisk.state c.args.disk) (g.D.PageDisk.page_count c.args.disk) h (g.met.D.PageDisk.whole c.args.disk h) (g.met.D.PageDisk.sized c.args.disk h) extents pages is sized n m r
+    opened_as (g.D.PageDisk.honest c.args.disk) (g.D.PageDisk.state c.args.disk) (g.D.PageDisk.page_count c.args.disk) h (g.met.D.PageDisk.whole c.args.disk h) (g.met.D.PageDisk.sized c.args.disk h) extents pages sections is sized n m r
     made.0 made.1 made.2 c.in-Ok.found.commands c.in-Ok.found.live c.in-Ok.found.store made.3 made.4
 
 pub returns-in-Err-clause-recovers : goal.returns-in-Err-clause-recovers
-returns-in-Err-clause-recovers g c = λ h extents pages is sized n m r.
-    no_other (g.D.PageDisk.honest c.args.disk) (g.D.PageDisk.state c.args.disk) (g.D.PageDisk.page_count c.args.disk) h (g.met.D.PageDisk.whole c.args.disk h) (g.met.D.PageDisk.sized c.args.disk h) extents pages is sized n m r
+returns-in-Err-clause-recovers g c = λ h extents pages sections is sized n m r.
+    no_other (g.D.PageDisk.honest c.args.disk) (g.D.PageDisk.state c.args.disk) (g.D.PageDisk.page_count c.args.disk) h (g.met.D.PageDisk.whole c.args.disk h) (g.met.D.PageDisk.sized c.args.disk h) extents pages sections is sized n m r
     c.in-Err.refusal (c.in-Err.ensures.why h)

@@ -24,10 +24,10 @@ invariant_of-self-in-Ok c =
     let s : Stored = the_view c.self.inside in
     let e = c.retire.ensures in
     let done = c.in-Ok.ensures.retired in
-    let m = moves_retired s.index s.extents s.graph c.in-Some.sweep c.in-Ok.version _ c.retire.new.index c.retire.new.extents c.retire.new.graph done e.shape in
+    let m = moves_retired s.index s.extents s.graph c.in-Some.sweep c.in-Ok.version _ c.retire.new.index c.retire.new.extents c.retire.new.graph c.extent_count.ensures.whole.geometry.fewest_sections done e.shape in
     kept_on s (record s { extents = c.retire.new.extents; graph = c.retire.new.graph; out = c.retire.new.graph.round; index = c.retire.new.index; roots = c.push_reserved.new.self.items }) c.self.invariant m e.resets e.families e.limit
     (inside_live (shape s.extents) s.index c.retire.new.index c.self.invariant.places e.map) m.round refl c.self.invariant.numbers
-    (swept_retired s.index s.extents s.graph c.in-Some.sweep c.in-Ok.version _ c.retire.new.index c.retire.new.extents c.retire.new.graph done e.shape c.self.invariant.swept)
+    (swept_retired s.index s.extents s.graph c.in-Some.sweep c.in-Ok.version _ c.retire.new.index c.retire.new.extents c.retire.new.graph c.extent_count.ensures.whole.geometry.fewest_sections done e.shape c.self.invariant.swept)
 
 pub invariant_of-self-in-Err : goal.invariant_of-self-in-Err
 invariant_of-self-in-Err c =
@@ -52,7 +52,7 @@ returns-in-Ok-clause-step c = rw (← c.self.view_is) (λ runs.
     let roots : c.push_reserved.new.self.items ≡ v.roots ++ record { version = c.in-Ok.version; commands = v.accepted } ∷ [] = c.push_reserved.ensures.items ∙ ap (λ (rs : List Root). rs ++ record { version = c.in-Ok.version; commands = v.accepted } ∷ []) c.reserve.ensures.items in
     let steps = retire_steps v c.extent_count.ensures.whole runs c.in-Some.sweep marks none c.in-Ok.version c.retire.new.extents c.retire.new.graph c.retire.new.index c.push_reserved.new.self.items why.0 why.1 inside d.retired e.shape roots in
     let w : Stored = record v { extents = c.retire.new.extents; graph = c.retire.new.graph; index = c.retire.new.index; roots = c.push_reserved.new.self.items } in
-    let m = moves_retired v.index v.extents v.graph c.in-Some.sweep c.in-Ok.version _ c.retire.new.index c.retire.new.extents c.retire.new.graph d.retired e.shape in
+    let m = moves_retired v.index v.extents v.graph c.in-Some.sweep c.in-Ok.version _ c.retire.new.index c.retire.new.extents c.retire.new.graph c.extent_count.ensures.whole.geometry.fewest_sections d.retired e.shape in
     round_told (λ (u : Stored). Steps v (Retire c.args.extent) (Retired c.in-Ok.version) u) w m.round (subst (λ (k : ℕ). Steps v (Retire k) (Retired c.in-Ok.version) w) at.0 steps))
 
 pub returns-in-Err-clause-step : goal.returns-in-Err-clause-step
@@ -69,9 +69,9 @@ returns-in-Err-clause-step c = rw (← c.self.view_is) (λ runs.
 pub returns-in-Ok-clause-behind : goal.returns-in-Ok-clause-behind
 returns-in-Ok-clause-behind c = rw (← c.self.view_is) (
     let s : Stored = the_view c.self.inside in
-    (moves_retired s.index s.extents s.graph c.in-Some.sweep c.in-Ok.version _ c.retire.new.index c.retire.new.extents c.retire.new.graph c.in-Ok.ensures.retired c.retire.ensures.shape).behind)
+    (moves_retired s.index s.extents s.graph c.in-Some.sweep c.in-Ok.version _ c.retire.new.index c.retire.new.extents c.retire.new.graph c.extent_count.ensures.whole.geometry.fewest_sections c.in-Ok.ensures.retired c.retire.ensures.shape).behind)
 
 pub returns-in-Ok-clause-round : goal.returns-in-Ok-clause-round
 returns-in-Ok-clause-round c = rw (← c.self.view_is) (
     let s : Stored = the_view c.self.inside in
-    ((moves_retired s.index s.extents s.graph c.in-Some.sweep c.in-Ok.version _ c.retire.new.index c.retire.new.extents c.retire.new.graph c.in-Ok.ensures.retired c.retire.ensures.shape).round, refl))
+    ((moves_retired s.index s.extents s.graph c.in-Some.sweep c.in-Ok.version _ c.retire.new.index c.retire.new.extents c.retire.new.graph c.extent_count.ensures.whole.geometry.fewest_sections c.in-Ok.ensures.retired c.retire.ensures.shape).round, refl))

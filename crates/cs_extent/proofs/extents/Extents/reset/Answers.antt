@@ -10,4 +10,4 @@ returns-clause-extents c =
     let s : State = the_view c.self.inside in
     let inside = rw (← c.self.view_is) at c.requires.exists in
     let entry = get_or_read s.written c.args.extent c.index_mut-entry.result.now inside c.index_mut-entry.ensures.value (0, 0) in
-    rw (← c.self.view_is) (reset_extents s c.args.extent c.args.root (c.index_mut-entry.result.now.1 + 1) inside (omega (arith, inside, c.self.invariant.all_resets)) (add-one c.index_mut-entry.result.now.1 ∙ ap (λ (x : ℕ × ℕ). suc x.1) entry))
+    rw (← c.self.view_is) (reset_extents s c.args.extent c.args.root (c.index_mut-entry.result.now.1 + 1) inside (omega (arith, inside, c.self.invariant.whole.all_resets)) (add-one c.index_mut-entry.result.now.1 ∙ ap (λ (x : ℕ × ℕ). suc x.1) entry))

@@ -18,6 +18,11 @@ returns-in-Err-clause-why c =
     exact_table {T = ℕ} c.args.self.now c.args.extents.now ForRun c.args.graph.now.staging (Err c.in-Err.refusal) c.run_count.ensures.whole.ascending (some_entries (goal.at.returns-in-Err-clause-why c).After-run_count)
     (omega (arith, c.run_count.ensures.count, c.if-run_count-lt4.true)) c.in-Err.ensures.why
 
+pub returns-in-Ok-stage_merged-clause-why : goal.returns-in-Ok-stage_merged-clause-why
+returns-in-Ok-stage_merged-clause-why c =
+    exact_merged {T = ℕ} c.args.self.now c.args.extents.now ForRun c.args.graph.now.staging (Ok c.in-Ok-stage_merged.version) (some_entries (goal.at.returns-in-Ok-stage_merged-clause-why c).After-run_count)
+    (omega (arith, c.run_count.ensures.count, c.if-run_count-lt4.false)) c.in-Ok-stage_merged.ensures.why
+
 pub returns-in-Err-stage_merged-clause-why : goal.returns-in-Err-stage_merged-clause-why
 returns-in-Err-stage_merged-clause-why c =
     exact_merged {T = ℕ} c.args.self.now c.args.extents.now ForRun c.args.graph.now.staging (Err c.in-Err-stage_merged.refusal) (some_entries (goal.at.returns-in-Err-stage_merged-clause-why c).After-run_count)

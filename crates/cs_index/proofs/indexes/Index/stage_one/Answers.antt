@@ -4,7 +4,7 @@ use Rattle.cs_index.proofs.indexes.Index.stage_one.Goals as goal
 
 pub stage_run-requires-clause-run : goal.stage_run-requires-clause-run
 stage_run-requires-clause-run c =
-    is_run c.args.run c.args.extents.now.pages c.requires.ids c.requires.ascending c.requires.short c.requires.some c.extent_count-extents.ensures.whole.most_pages (omega (arith, c.requires.few, c.requires.limit))
+    is_run c.args.run c.args.extents.now.pages c.requires.ids c.requires.ascending c.requires.short c.requires.some c.extent_count-extents.ensures.whole.geometry.most_pages (omega (arith, c.requires.few, c.requires.limit))
 
 pub become_runs-requires-clause-named : goal.become_runs-requires-clause-named
 become_runs-requires-clause-named c =

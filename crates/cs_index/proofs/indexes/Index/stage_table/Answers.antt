@@ -27,7 +27,7 @@ pub stage_run-requires-clause-run : goal.stage_run-requires-clause-run
 stage_run-requires-clause-run c =
     let limit = rw (← c.self.view_is) at c.requires.limit in
     is_run (record { entries = c.self.inside.table.entries }) c.args.extents.now.pages c.self.invariant.ids c.self.invariant.whole.ascending c.self.invariant.whole.short (some_entries c)
-    c.extent_count-extents.ensures.whole.most_pages (omega (arith, most_entries c, limit))
+    c.extent_count-extents.ensures.whole.geometry.most_pages (omega (arith, most_entries c, limit))
 
 pub stage_run-requires-clause-most : goal.stage_run-requires-clause-most
 stage_run-requires-clause-most c =

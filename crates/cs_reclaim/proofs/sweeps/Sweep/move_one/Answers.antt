@@ -16,7 +16,7 @@ use Rattle.cs_model.specs.Formats.{ChunkFrame}
 use Rattle.cs_model.specs.Index.{NothingLive, live_at}
 use Rattle.cs_reclaim.specs.Moves.{chunk_frame}
 use Rattle.cs_reclaim.proofs.Living.{live_there, one_place}
-use Rattle.cs_reclaim.proofs.Moving.{first_here, move_made, not_none, same_answer}
+use Rattle.cs_reclaim.proofs.Moving.{done_cause, first_here, move_made, not_none, same_answer}
 use Rattle.cs_reclaim.proofs.Sweeping.{append_swept}
 use Rattle.cs_reclaim.proofs.sweeps.Sweep.move_one.Given.{Over}
 use Rattle.cs_reclaim.proofs.sweeps.Sweep.move_one.Goals as goal
@@ -69,6 +69,9 @@ pub returns-in-Ok-clause-still : goal.returns-in-Ok-clause-still
 returns-in-Ok-clause-still g c =
     let moved = c.in-Ok.ensures.moved in
     append_swept c.args.extents.now c.move_live.new.extents c.args.graph.now c.move_live.new.graph ForMove (chunk_frame c.args.extents.now moved.0) moved.1 c.args.self.now moved.2 c.requires.swept
+
+pub returns-in-Ok-clause-cause : goal.returns-in-Ok-clause-cause
+returns-in-Ok-clause-cause g c = done_cause _ _ c.move_live.result _ c.move_live.ensures.cause
 
 pub returns-in-Err-clause-none : goal.returns-in-Err-clause-none
 returns-in-Err-clause-none g c = (

@@ -1,0 +1,44 @@
+use Rattle.std.proofs.Common.{◌≡◌, ◌⊎◌, ◌∙◌, ◌+◌, ◌*◌, ◌<◌, inl, inr, ⊎_elim, ℕ, List, Result, Ok, Err, OnErr, OnOk, ap, arith, replicate, subst}
+use Rattle.cs_disk.specs.Disk.{State as DiskState, written}
+use Rattle.cs_frame.specs.Geometries.{section_length}
+use Rattle.cs_frame.specs.Superblocks.{SpellsSuperblock}
+use Rattle.cs_core.proofs.Heads.{head_below, head_page}
+use Rattle.cs_core.proofs.Starting.{spelled_new}
+use Rattle.cs_core.proofs.formats.write_section.Goals as goal
+
+-- what is written, with its bytes
+wrote : {T E : Type 0} (r : Result T E) (old now : DiskState) (number place : ℕ) (bytes : List ℕ) (P : List ℕ → Type 0) → number ≡ place → P bytes → OnOk r (now ≡ written old number bytes)
+    → OnOk r ((b : List ℕ) × P b × (now ≡ written old place b))
+wrote (Ok t) old now number place bytes P same spelled is = (bytes, spelled, is ∙ ap (λ (n : ℕ). written old n bytes) same)
+wrote (Err e) old now number place bytes P same spelled is = tt
+
+-- or not
+faulted : {T E : Type 0} (r : Result T E) (old now : DiskState) (number place : ℕ) (bytes : List ℕ) → number ≡ place → (now ≡ old) ⊎ (now ≡ written old number bytes)
+    → OnErr r ((now ≡ old) ⊎ ((b : List ℕ) × (now ≡ written old place b)))
+faulted (Ok t) old now number place bytes same why = tt
+faulted (Err e) old now number place bytes same why = ⊎_elim (λ (n : now ≡ old). inl n) (λ (w : now ≡ written old number bytes). inr (bytes, w ∙ ap (λ (n : ℕ). written old n bytes) same)) why
+
+pub write-requires : goal.write-requires
+write-requires g c =
+    let it = c.args.superblock.now in
+    let below : head_page c.args.geometry.extents c.args.geometry.pages it.section < 1 + c.args.geometry.extents * c.args.geometry.pages + c.args.geometry.sections =
+    head_below c.args.geometry.extents c.args.geometry.pages c.args.geometry.sections it.section
+    (subst (λ (n : ℕ). it.section < n) c.requires.section.section_at.of_sections c.requires.section.section_at.is.one_of_them) in
+    omega (arith, below, c.section_page-number.ensures, c.requires.sized)
+
+pub encode_superblock-requires : goal.encode_superblock-requires
+encode_superblock-requires g c = c.requires.section.section_at.is
+
+pub returns-clause-written : goal.returns-clause-written
+returns-clause-written g c = λ h.
+    let it = c.args.superblock.now in
+    let s = c.args.geometry in
+    wrote c.write.result (g.D.PageDisk.state c.args.disk.now) (g.D.PageDisk.state c.write.new.self) c.section_page-number.result (head_page s.extents s.pages it.section) c.encode_superblock.result
+    (λ (b : List ℕ). SpellsSuperblock b 1 s.extents s.pages s.sections it.section (replicate (section_length s.extents s.sections it.section) (0, 0))) c.section_page-number.ensures
+    (spelled_new s.extents s.pages s.sections it.section it c.requires.section c.encode_superblock.result c.encode_superblock.ensures) (c.write.ensures.ok h)
+
+pub returns-clause-failed : goal.returns-clause-failed
+returns-clause-failed g c = λ h.
+    let s = c.args.geometry in
+    faulted c.write.result (g.D.PageDisk.state c.args.disk.now) (g.D.PageDisk.state c.write.new.self) c.section_page-number.result (head_page s.extents s.pages c.args.superblock.now.section) c.encode_superblock.result
+    c.section_page-number.ensures (c.write.ensures.fault h)

@@ -1,0 +1,195 @@
+//! The sections of a superblock, as they are read when a store is opened.
+ghost use Rattle.std.specs.Prelude.{◌≡◌, ◌≢◌, ◌+◌, ◌*◌, ◌<◌, ◌≤◌, ◌⊎◌, ◌∷◌, ℕ, List, [], IfErr, IfOk, MatchBool, length, map, vec_capacity};
+ghost use Rattle.cs_chunk.specs.Reads.{IsCaused, IsNoAnswer, IsOfFault, OnlyReads};
+ghost use Rattle.cs_disk.specs.Disk.{page, seen};
+ghost use Rattle.cs_extent.specs.Sections.{AreSections, pages_of, rows_of};
+ghost use Rattle.cs_frame.specs.FirstFormat.{SpellsPageZero, page_zero_fault};
+ghost use Rattle.cs_frame.specs.Superblocks.{SpellsSuperblock, superblock_fault};
+ghost use Rattle.cs_image.specs.Reads.{AreSectionsRead};
+ghost use Rattle.cs_core.specs.Openings.{HasNumbers, IsOpeningRefusal, IsOtherFirst, IsWhyNoSection, IsWhyNoSections};
+
+use cs_chunk::{refusal_of_disk, refusal_of_fault};
+use cs_deps::Refusal;
+use cs_disk::PageDisk;
+use cs_frame::{Superblock, decode_section, decode_superblock};
+use std::alloc::{AllocError, Global};
+
+/// What page 0 spells of a superblock.
+fn decoded_superblock(alloc: Global, page: &[u8; 4096]) -> Result<Superblock, Refusal>
+    ensures spelled { IfOk result (λ it. SpellsPageZero page.now it.version it.extent_count it.pages it.sections it.section it.extents.items) }
+    ensures fault { IfErr result (λ r. (r ≡ Refusal.OutOfMemory) ⊎ IsOfFault (page_zero_fault page.now) r) }
+    ensures number { IfErr result IsOpeningRefusal }
+{
+    match decode_superblock(alloc, page) {
+        Ok(superblock) => Ok(superblock),
+        Err(fault) => Err(refusal_of_fault(fault)),
+    }
+}
+
+/// Reads page 0.
+fn read_superblock<D: PageDisk>(alloc: Global, disk: &mut D) -> Result<Superblock, Refusal>
+    requires { 0 < D.page_count disk.old }
+    ensures read { D.honest disk.old → IfOk result (λ it. SpellsPageZero (page (seen (D.state disk.old)) 0) it.version it.extent_count it.pages it.sections it.section it.extents.items) }
+    ensures some { IfOk result (λ it. (bytes : List ℕ) × SpellsPageZero bytes it.version it.extent_count it.pages it.sections it.section it.extents.items) }
+    ensures fault { D.honest disk.old → IfErr result (λ r. IsNoAnswer r ⊎ IsOfFault (page_zero_fault (page (seen (D.state disk.old)) 0)) r) }
+    ensures number { IfErr result IsOpeningRefusal }
+    ensures disk { OnlyReads D.PageDisk disk.old disk.new }
+    ensures cause { IsCaused (D.failure_count disk.old) (D.failure_count disk.new) result }
+{
+    let mut buffer = [0; 4096];
+    match disk.read(0, &mut buffer) {
+        Ok(()) => decoded_superblock(alloc, &buffer),
+        Err(fault) => Err(refusal_of_disk(fault)),
+    }
+}
+
+/// Whether a section is the first.
+fn is_first(superblock: &Superblock) -> bool
+    ensures { MatchBool result (superblock.now.section ≡ 0) (superblock.now.section ≢ 0) }
+{
+    superblock.section == 0
+}
+
+/// Reads section 0. Refused 43 NotAStore where page 0 has another one.
+pub fn read_first<D: PageDisk>(alloc: Global, disk: &mut D) -> Result<Superblock, Refusal>
+    requires { 0 < D.page_count disk.old }
+    ensures first { IfOk result (λ it. it.section ≡ 0) }
+    ensures read { D.honest disk.old → IfOk result (λ it. SpellsPageZero (page (seen (D.state disk.old)) 0) it.version it.extent_count it.pages it.sections it.section it.extents.items) }
+    ensures some { IfOk result (λ it. (bytes : List ℕ) × SpellsPageZero bytes it.version it.extent_count it.pages it.sections it.section it.extents.items) }
+    ensures why { D.honest disk.old → IfErr result (λ r. IsNoAnswer r ⊎ IsOfFault (page_zero_fault (page (seen (D.state disk.old)) 0)) r ⊎ IsOtherFirst (page (seen (D.state disk.old)) 0) r) }
+    ensures number { IfErr result IsOpeningRefusal }
+    ensures disk { OnlyReads D.PageDisk disk.old disk.new }
+    ensures cause { IsCaused (D.failure_count disk.old) (D.failure_count disk.new) result }
+{
+    let superblock = match read_superblock(alloc, disk) {
+        Ok(superblock) => superblock,
+        Err(refusal) => return Err(refusal),
+    };
+    if !is_first(&superblock) {
+        return Err(Refusal::NotAStore);
+    }
+    Ok(superblock)
+}
+
+/// The further section of a superblock that a page spells.
+fn decoded_section(alloc: Global, page: &[u8; 4096]) -> Result<Superblock, Refusal>
+    ensures spelled { IfOk result (λ it. SpellsSuperblock page.now it.version it.extent_count it.pages it.sections it.section it.extents.items) }
+    ensures fault { IfErr result (λ r. (r ≡ Refusal.OutOfMemory) ⊎ IsOfFault (superblock_fault page.now) r) }
+    ensures number { IfErr result IsOpeningRefusal }
+{
+    match decode_section(alloc, page) {
+        Ok(superblock) => Ok(superblock),
+        Err(fault) => Err(refusal_of_fault(fault)),
+    }
+}
+
+/// Reads a page behind the extents.
+fn read_further<D: PageDisk>(
+    alloc: Global,
+    disk: &mut D,
+    number: u64,
+) -> Result<Superblock, Refusal>
+    requires { number < D.page_count disk.old }
+    ensures read { D.honest disk.old → IfOk result (λ it. SpellsSuperblock (page (seen (D.state disk.old)) number) it.version it.extent_count it.pages it.sections it.section it.extents.items) }
+    ensures some { IfOk result (λ it. (bytes : List ℕ) × SpellsSuperblock bytes it.version it.extent_count it.pages it.sections it.section it.extents.items) }
+    ensures fault { D.honest disk.old → IfErr result (λ r. IsNoAnswer r ⊎ IsOfFault (superblock_fault (page (seen (D.state disk.old)) number)) r) }
+    ensures number { IfErr result IsOpeningRefusal }
+    ensures disk { OnlyReads D.PageDisk disk.old disk.new }
+    ensures cause { IsCaused (D.failure_count disk.old) (D.failure_count disk.new) result }
+{
+    let mut buffer = [0; 4096];
+    match disk.read(number, &mut buffer) {
+        Ok(()) => decoded_section(alloc, &buffer),
+        Err(fault) => Err(refusal_of_disk(fault)),
+    }
+}
+
+/// Whether a section is this one, of a superblock of so many extents, pages and sections.
+fn has_numbers(superblock: &Superblock, extents: u16, pages: u16, sections: u8, section: u8) -> bool
+    ensures { MatchBool result (HasNumbers extents pages sections section superblock.now) (¬ HasNumbers extents pages sections section superblock.now) }
+{
+    superblock.extent_count == extents
+        && superblock.pages == pages
+        && superblock.sections == sections
+        && superblock.section == section
+}
+
+/// The page of the device that has a further section, behind so many extents of so many pages.
+fn further_page(extents: u16, pages: u16, section: u8) -> u64
+    ensures { result ≡ 1 + extents * pages + section }
+{
+    1 + u64::from(extents) * u64::from(pages) + u64::from(section)
+}
+
+/// Reads a further section of a superblock of so many extents, pages and sections. Refused 43 NotAStore where its page has another
+/// section, or one of another superblock.
+fn read_section<D: PageDisk>(
+    alloc: Global,
+    disk: &mut D,
+    extents: u16,
+    pages: u16,
+    sections: u8,
+    section: u8,
+) -> Result<Superblock, Refusal>
+    requires inside { section < sections }
+    requires sized { D.page_count disk.old ≡ 1 + extents * pages + sections }
+    ensures numbers { IfOk result (HasNumbers extents pages sections section) }
+    ensures some { IfOk result (λ it. (bytes : List ℕ) × SpellsSuperblock bytes it.version it.extent_count it.pages it.sections it.section it.extents.items) }
+    ensures read { D.honest disk.old → IfOk result (λ it. SpellsSuperblock (page (seen (D.state disk.old)) (1 + extents * pages + section)) it.version it.extent_count it.pages it.sections it.section it.extents.items) }
+    ensures why { D.honest disk.old → IfErr result (λ r. IsNoAnswer r ⊎ IsWhyNoSection extents pages sections section (page (seen (D.state disk.old)) (1 + extents * pages + section)) r) }
+    ensures number { IfErr result IsOpeningRefusal }
+    ensures disk { OnlyReads D.PageDisk disk.old disk.new }
+    ensures cause { IsCaused (D.failure_count disk.old) (D.failure_count disk.new) result }
+{
+    let number = further_page(extents, pages, section);
+    let superblock = match read_further(alloc, disk, number) {
+        Ok(superblock) => superblock,
+        Err(refusal) => return Err(refusal),
+    };
+    if !has_numbers(&superblock, extents, pages, sections, section) {
+        return Err(Refusal::NotAStore);
+    }
+    Ok(superblock)
+}
+
+/// The first section alone, with room for so many in all.
+fn alone(alloc: Global, first: Superblock, count: u8) -> Result<Vec<Superblock>, AllocError>
+    requires { 1 ≤ count }
+    ensures items { IfOk result (λ sections. sections.items ≡ first ∷ []) }
+    ensures room { IfOk result (λ sections. count ≤ vec_capacity sections) }
+{
+    let mut sections = Vec::with_capacity(alloc, usize::from(count))?;
+    sections.push_reserved(first);
+    Ok(sections)
+}
+
+/// Reads the further sections of a superblock whose first was read, one after another, and gives all of them.
+pub fn read_sections<D: PageDisk>(
+    alloc: Global,
+    disk: &mut D,
+    first: Superblock,
+) -> Result<Vec<Superblock>, Refusal>
+    requires place { first.section ≡ 0 }
+    requires some { (bytes : List ℕ) × SpellsPageZero bytes first.version first.extent_count first.pages first.sections first.section first.extents.items }
+    requires sized { D.page_count disk.old ≡ 1 + first.extent_count * first.pages + first.sections }
+    requires read { D.honest disk.old → SpellsPageZero (page (seen (D.state disk.old)) 0) first.version first.extent_count first.pages first.sections first.section first.extents.items }
+    ensures are { IfOk result (λ sections. AreSections sections.items) }
+    ensures sized { IfOk result (λ sections. D.page_count disk.old ≡ 1 + length (rows_of sections.items) * pages_of sections.items + length sections.items) }
+    ensures read { D.honest disk.old → IfOk result (λ sections. AreSectionsRead (page (seen (D.state disk.old))) (map (λ it. it.version) sections.items) (pages_of sections.items) (rows_of sections.items)) }
+    ensures why { D.honest disk.old → IfErr result (λ r. IsNoAnswer r ⊎ IsWhyNoSections (page (seen (D.state disk.old))) first.extent_count first.pages first.sections r) }
+    ensures number { IfErr result IsOpeningRefusal }
+    ensures disk { OnlyReads D.PageDisk disk.old disk.new }
+    ensures cause { IsCaused (D.failure_count disk.old) (D.failure_count disk.new) result }
+{
+    let extents = first.extent_count;
+    let pages = first.pages;
+    let count = first.sections;
+    let mut sections = alone(alloc, first, count)?;
+    for k in 1..count {
+        match read_section(alloc, disk, extents, pages, count, k) {
+            Ok(superblock) => sections.push_reserved(superblock),
+            Err(refusal) => return Err(refusal),
+        }
+    }
+    Ok(sections)
+}

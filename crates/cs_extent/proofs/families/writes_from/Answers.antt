@@ -1,0 +1,8 @@
+use Rattle.std.proofs.Common.{arith}
+use Rattle.cs_extent.proofs.families.writes_from.Goals as goal
+
+pub returns-then-first-le1-clause-plain : goal.returns-then-first-le1-clause-plain
+returns-then-first-le1-clause-plain c = λ n. (
+  (λ h. let r = (c.through.ensures.plain n).0 h in (omega (arith, r.0, c.if-first-le1.true), r.1)),
+  (λ h. (c.through.ensures.plain n).1 (omega (arith, h.0, c.requires), h.1)),
+)

@@ -1,0 +1,172 @@
+-- A page without a fault as a superblock of the first format is spelled so, and what is spelled so has no fault and is read as it was.
+use Rattle.std.proofs.Common.{◌≡◌, ◌≢◌, ◌⊎◌, ℕ, ◌+◌, ◌*◌, ◌≤◌, ◌==◌, true, false, Bool, List, ◌++◌, length, take, slice_index, codes, None, refl, sym, ap, subst, inl, inr, ⊎_elim, ◌∙◌, arith, length-append, eq-eqb, ne_eqb, if◌then◌else◌}
+use Rattle.byteorder.specs.Endian.{big_bytes}
+use Rattle.cs_frame.specs.Bytes.{IsPage, number}
+use Rattle.cs_frame.specs.Geometries.{greatest_superblock_extents, in_bounds, section_length}
+use Rattle.cs_frame.specs.Pages.{padded, sealed}
+use Rattle.cs_frame.specs.FirstFormat.{FitsFirstFormat, SpellsFirstFormat, first_format_end, first_format_extents, first_format_fault, first_format_fields, page_zero_fault, IsOfFirstFormat, SpellsPageZero, spelled_first_format}
+use Rattle.cs_frame.specs.Superblocks.{FitsSuperblock, SpellsSuperblock, superblock_fault}
+use Rattle.cs_frame.proofs.SuperblockLaws.{fourth_is as fourth_is_2}
+use Rattle.cs_frame.specs.Pointers.{extents_from, spelled_extents}
+use Rattle.cs_frame.proofs.ExtentPageLaws.{are_read, count_again, extents_from-spelled, fourth_byte, head_is_spelled, length-spelled_extents, pages_again, sound, sound_passes, spelled_is_sound, tail_again, version_again}
+use Rattle.cs_frame.proofs.Fields.{field_at, take_more}
+use Rattle.cs_frame.proofs.GeometryLaws.{in_bounds-within, within}
+use Rattle.cs_frame.proofs.PageLaws.{page_is_padded}
+
+-- ---- a page without a fault
+
+-- the numbers of extents and pages pass
+abbrev counts : List ℕ → Bool
+counts page = in_bounds greatest_superblock_extents (number 12 14 page) (number 14 16 page)
+
+-- a page without a fault spells what is read from it
+pub spells : (page : List ℕ) (version pages : ℕ) (extents : List (ℕ × ℕ)) → IsPage page → first_format_fault page ≡ None → version ≡ number 4 12 page → pages ≡ number 14 16 page → extents ≡ first_format_extents page → SpellsFirstFormat page version pages extents
+spells page version pages extents p h v c r =
+    let it = sound page 49 (counts page) (first_format_end page) (first_format_extents page) p.size h in
+    let bounds = within greatest_superblock_extents (number 12 14 page) (number 14 16 page) it.counted in
+    let size = p.size in
+    let bound : first_format_end page + 32 ≤ 4096 = omega (arith, bounds.most_extents) in
+    let there = are_read page (number 14 16 page) 16 (first_format_end page) (number 12 14 page) p refl (omega arith) it.pointers in
+    let k : length (first_format_extents page) ≡ number 12 14 page = there.counted in
+    let fields : take (first_format_end page) page ≡ first_format_fields (number 4 12 page) (number 14 16 page) (first_format_extents page) =
+    take_more page _ _ 16 (first_format_end page) (omega arith) (head_is_spelled page (codes "CSS1") p it.magic) (sym there.spelled)
+    ∙ ap (λ (n : ℕ). codes "CSS1" ++ big_bytes 8 (number 4 12 page) ++ big_bytes 2 n ++ big_bytes 2 (number 14 16 page) ++ spelled_extents (first_format_extents page)) (sym k) in
+    let whole : page ≡ spelled_first_format (number 4 12 page) (number 14 16 page) (first_format_extents page) = page_is_padded page (first_format_end page) size bound it.digest it.padding ∙ ap (λ (xs : List ℕ). padded (sealed xs)) fields in
+    let fits : FitsFirstFormat (number 4 12 page) (number 14 16 page) (first_format_extents page) = record {
+      first_version = it.first_version;
+      last_version = it.last_version;
+      fewest_extents = omega (arith, k, bounds.fewest_extents);
+      most_extents = omega (arith, k, bounds.most_extents);
+      fewest_pages = bounds.fewest_pages;
+      most_pages = bounds.most_pages;
+      each = there.each;
+    } in
+    subst (λ (n : ℕ). SpellsFirstFormat page n pages extents) (sym v)
+    (subst (λ (n : ℕ). SpellsFirstFormat page (number 4 12 page) n extents) (sym c)
+    (subst (λ (es : List (ℕ × ℕ)). SpellsFirstFormat page (number 4 12 page) (number 14 16 page) es) (sym r) (record { fits = fits; spelled = whole })))
+
+-- ---- what is spelled
+
+pub length-first_format_fields : (version pages : ℕ) (extents : List (ℕ × ℕ)) → length (first_format_fields version pages extents) ≡ 16 + 6 * length extents
+length-first_format_fields version pages extents = omega (arith, length-append (codes "CSS1" ++ big_bytes 8 version ++ big_bytes 2 (length extents) ++ big_bytes 2 pages) (spelled_extents extents), length-spelled_extents extents)
+
+module _ (version pages : ℕ) (extents : List (ℕ × ℕ)) (fits : FitsFirstFormat version pages extents) where
+  short : length (first_format_fields version pages extents) + 32 ≤ 4096
+  short = omega (arith, length-first_format_fields version pages extents, fits.most_extents)
+
+  -- what is spelled is read again
+  version_is_read : number 4 12 (spelled_first_format version pages extents) ≡ version
+  version_is_read = version_again 49 version (length extents) pages (spelled_extents extents) (first_format_fields version pages extents) refl short fits.last_version
+
+  count_is_read : number 12 14 (spelled_first_format version pages extents) ≡ length extents
+  count_is_read = count_again 49 version (length extents) pages (spelled_extents extents) (first_format_fields version pages extents) refl short (omega (arith, fits.most_extents))
+
+  pages_are_read : number 14 16 (spelled_first_format version pages extents) ≡ pages
+  pages_are_read = pages_again 49 version (length extents) pages (spelled_extents extents) (first_format_fields version pages extents) refl short (omega (arith, fits.most_pages))
+
+  end_is_read : length (first_format_fields version pages extents) ≡ first_format_end (spelled_first_format version pages extents)
+  end_is_read = omega (arith, length-first_format_fields version pages extents, count_is_read)
+
+  extents_are_read : first_format_extents (spelled_first_format version pages extents) ≡ extents
+  extents_are_read =
+      ap extents_from (field_at (spelled_first_format version pages extents) (spelled_extents extents) _ 16 (first_format_end (spelled_first_format version pages extents))
+      (tail_again 49 version (length extents) pages (spelled_extents extents) (first_format_fields version pages extents) refl short) (omega (arith, length-spelled_extents extents, count_is_read)))
+      ∙ extents_from-spelled pages (omega (arith, fits.most_pages)) extents fits.each
+
+  -- and has no fault
+  first_format_fault-spelled : first_format_fault (spelled_first_format version pages extents) ≡ None
+  first_format_fault-spelled =
+      let page : List ℕ = spelled_first_format version pages extents in
+      let e = count_is_read in
+      let n = pages_are_read in
+      let counted : counts page ≡ true = in_bounds-within greatest_superblock_extents (number 12 14 page) (number 14 16 page) (record {
+        fewest_extents = omega (arith, e, fits.fewest_extents);
+        most_extents = omega (arith, e, fits.most_extents);
+        fewest_pages = omega (arith, n, fits.fewest_pages);
+        most_pages = omega (arith, n, fits.most_pages);
+      }) in
+      sound_passes page 49 (counts page) (first_format_end page) (first_format_extents page)
+      (spelled_is_sound 49 version (length extents) pages (spelled_extents extents) (first_format_fields version pages extents) refl short (counts page) (first_format_end page) extents (first_format_extents page)
+      fits.first_version fits.last_version (omega (arith, fits.most_pages)) end_is_read counted fits.each extents_are_read)
+
+-- what spells one has no fault
+pub spelled_has_none : (page : List ℕ) (version pages : ℕ) (extents : List (ℕ × ℕ)) → SpellsFirstFormat page version pages extents → first_format_fault page ≡ None
+spelled_has_none page version pages extents s = ap first_format_fault s.spelled ∙ first_format_fault-spelled version pages extents s.fits
+
+-- and nothing else is read
+pub one_of_first_format : (page : List ℕ) (version pages : ℕ) (extents : List (ℕ × ℕ)) → SpellsFirstFormat page version pages extents → (number 4 12 page ≡ version) × (number 14 16 page ≡ pages) × (first_format_extents page ≡ extents)
+one_of_first_format page version pages extents s =
+    (ap (number 4 12) s.spelled ∙ version_is_read version pages extents s.fits, ap (number 14 16) s.spelled ∙ pages_are_read version pages extents s.fits, ap first_format_extents s.spelled ∙ extents_are_read version pages extents s.fits)
+
+-- and it has as many extents
+pub count_of : (page : List ℕ) (version pages : ℕ) (extents : List (ℕ × ℕ)) → SpellsFirstFormat page version pages extents → number 12 14 page ≡ length extents
+count_of page version pages extents s = ap (number 12 14) s.spelled ∙ count_is_read version pages extents s.fits
+
+-- its fourth byte is the digit 1
+pub fourth_is : (page : List ℕ) → first_format_fault page ≡ None → slice_index page 3 ≡ 49
+fourth_is page h = fourth_byte page 49 (counts page) (first_format_end page) (first_format_extents page) h
+
+-- ---- page 0
+
+-- so the two formats have no page in common
+pub apart : (page : List ℕ) → first_format_fault page ≡ None → superblock_fault page ≡ None → ⊥
+apart page a b = omega (arith, fourth_is page a, fourth_is_2 page b)
+
+-- the fourth byte says which tests are made
+pub zero_first : (page : List ℕ) → slice_index page 3 ≡ 49 → first_format_fault page ≡ page_zero_fault page
+zero_first page is =
+    let test : (slice_index page 3 == 49) ≡ true = eq-eqb (slice_index page 3) 49 is in
+    ap (λ (b : Bool). if b then first_format_fault page else superblock_fault page) (sym test)
+
+pub zero_second : (page : List ℕ) → slice_index page 3 ≢ 49 → superblock_fault page ≡ page_zero_fault page
+zero_second page other =
+    let test : (slice_index page 3 == 49) ≡ false = ne_eqb (slice_index page 3) 49 other in
+    ap (λ (b : Bool). if b then first_format_fault page else superblock_fault page) (sym test)
+
+pub zero_of_first : (page : List ℕ) → first_format_fault page ≡ None → page_zero_fault page ≡ None
+zero_of_first page h = sym (zero_first page (fourth_is page h)) ∙ h
+
+pub zero_of_section : (page : List ℕ) → superblock_fault page ≡ None → page_zero_fault page ≡ None
+zero_of_section page h = sym (zero_second page (λ same. omega (arith, fourth_is_2 page h, same))) ∙ h
+
+-- what page 0 spells, where it has no fault, it spells in one of the two formats
+pub zero_is_one : (page : List ℕ) → page_zero_fault page ≡ None → (first_format_fault page ≡ None) ⊎ (superblock_fault page ≡ None)
+zero_is_one page h = go (slice_index page 3 == 49) h
+  where
+    go : (b : Bool) → (if b then first_format_fault page else superblock_fault page) ≡ None → (first_format_fault page ≡ None) ⊎ (superblock_fault page ≡ None)
+    go true h = inl h
+    go false h = inr h
+
+-- a superblock of the first format is one section, of all extents
+pub first_format_fits : (version pages : ℕ) (extents : List (ℕ × ℕ)) → FitsFirstFormat version pages extents → FitsSuperblock version (length extents) pages 1 0 extents
+first_format_fits version pages extents fits = record {
+  first_version = fits.first_version;
+  last_version = fits.last_version;
+  geometry = record {
+    fewest_extents = fits.fewest_extents;
+    most_extents = omega (arith, fits.most_extents);
+    fewest_pages = fits.fewest_pages;
+    most_pages = fits.most_pages;
+    fewest_sections = omega arith;
+    most_sections = omega arith;
+    section_fits = omega (arith, fits.most_extents);
+    none_empty = omega (arith, fits.fewest_extents);
+  };
+  one_of_them = omega arith;
+  count = whole (length extents);
+  each = fits.each;
+}
+  where
+    whole : (n : ℕ) → n ≡ section_length n 1 0
+    whole n = omega arith
+
+-- a section that page 0 spells can be spelled
+pub page_zero_fits : (page : List ℕ) (version extents pages sections section : ℕ) (written : List (ℕ × ℕ))
+    → SpellsPageZero page version extents pages sections section written → FitsSuperblock version extents pages sections section written
+page_zero_fits page version extents pages sections section written = ⊎_elim
+    (λ (s : SpellsSuperblock page version extents pages sections section written). s.fits)
+    (λ (s : IsOfFirstFormat page version extents pages sections section written).
+    subst (λ (n : ℕ). FitsSuperblock version n pages sections section written) (sym s.all_extents)
+    (subst (λ (n : ℕ). FitsSuperblock version (length written) pages n section written) (sym s.one_section)
+    (subst (λ (n : ℕ). FitsSuperblock version (length written) pages 1 n written) (sym s.first_section)
+    (first_format_fits version pages written s.spells.fits))))
