@@ -7,9 +7,9 @@ use cs_core::Core;
 use cs_deps::Refusal;
 use cs_disk::{CrashDisk, FileDisk, MemoryDisk};
 use cs_options::{command, geometry_of, race_of};
+use cs_race::{new_core as new_race_core, run_race};
 use cs_script::{
-    new_core as new_race_core, new_in_file, new_in_memory, open_in_file, print_no_store, run_check,
-    run_over, run_race, statuses,
+    new_in_file, new_in_memory, open_in_file, print_no_store, run_check, run_over, statuses,
 };
 use std::alloc::Global;
 use std::fs::File;

@@ -22,10 +22,11 @@ struct Choice {
     help: &'static str,
 }
 
-/// What an option takes: a number, this one where it isn't there; a path; or nothing.
+/// What an option takes: a number, this one where it isn't there; a number for which no other stands; a path; or nothing.
 #[derive(Clone, Copy)]
 enum Takes {
     Number(&'static str),
+    NumberOrNone,
     Path,
     Nothing,
 }
@@ -48,12 +49,17 @@ const FORMS: &[Form] = &[
             Choice {
                 name: "extents",
                 takes: Takes::Number("6"),
-                help: "How many extents a new store has, 4 to 512",
+                help: "How many extents a new store has, 4 to 2,048",
             },
             Choice {
                 name: "pages",
                 takes: Takes::Number("2"),
                 help: "How many pages of 4,096 bytes an extent of a new store has, 2 to 256",
+            },
+            Choice {
+                name: "sections",
+                takes: Takes::NumberOrNone,
+                help: "How many sections the superblock of a new store has, 1 to 8; without it as few as its extents need",
             },
             Choice {
                 name: "file",
@@ -154,6 +160,9 @@ fn option_of<'a>(alloc: Global, choice: &Choice) -> Arg<'a> {
             .action(ArgAction::Set)
             .value_parser(clap::value_parser!(u64))
             .default_value(default),
+        Takes::NumberOrNone => option
+            .action(ArgAction::Set)
+            .value_parser(clap::value_parser!(u64)),
         Takes::Path => option.value_name("PATH").action(ArgAction::Set),
         Takes::Nothing => option.action(ArgAction::SetTrue),
     }
@@ -163,7 +172,11 @@ fn option_of<'a>(alloc: Global, choice: &Choice) -> Arg<'a> {
 pub fn geometry_of(options: &ArgMatches) -> Result<Geometry, Refusal> {
     let extents = options.get_one::<u64>("extents").unwrap_or(6);
     let pages = options.get_one::<u64>("pages").unwrap_or(2);
-    match Geometry::new(extents, pages) {
+    let geometry = match options.get_one::<u64>("sections") {
+        Some(sections) => Geometry::with_sections(extents, pages, sections),
+        None => Geometry::new(extents, pages),
+    };
+    match geometry {
         Ok(geometry) => Ok(geometry),
         Err(_) => Err(Refusal::BadGeometry),
     }

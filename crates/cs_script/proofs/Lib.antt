@@ -12,4 +12,3 @@ pub mod PlanSteps
 pub mod CheckSteps
 pub mod HexSteps
 pub mod CrashSteps
-pub mod RaceSteps

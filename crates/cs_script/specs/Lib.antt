@@ -3,7 +3,7 @@ pub mod Crashes
 pub mod Histories
 pub mod Lines
 pub mod Outputs
-pub mod Races
+pub mod RaceNumbers
 pub mod Rounds
 pub mod Scripts
 pub mod Stops

@@ -52,10 +52,19 @@ refusal_line r = line_of (codes "refused " ++ decimal (number_of r) ++ codes " "
 abbrev pub end_line : ℕ → List ℕ
 end_line n = line_of (codes "end acknowledged " ++ decimal n)
 
--- a plain write, a version of the superblock or one of the root
+-- the letters by family: of the first section of a superblock, of the root, and of the further sections in their order
+abbrev pub letters : List ℕ
+letters = codes "srabcdefg"
+
+-- the letter of a family, the last one for all that come behind it
+abbrev pub letter_of : ℕ → List ℕ
+letter_of f = if f == 0 then codes "s" else if f == 1 then codes "r" else if f == 2 then codes "a" else if f == 3 then codes "b" else if f == 4 then codes "c"
+    else if f == 5 then codes "d" else if f == 6 then codes "e" else if f == 7 then codes "f" else codes "g"
+
+-- a plain write, or a version of a family
 abbrev pub element_name : Element → List ℕ
 element_name (Plain n) = codes "w" ++ decimal n
-element_name (Version f v) = (if f == 0 then codes "s" else codes "r") ++ decimal v
+element_name (Version f v) = letter_of f ++ decimal v
 
 -- a space and a name for each element
 abbrev pub element_names : List Element → List ℕ

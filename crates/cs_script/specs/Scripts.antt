@@ -1,9 +1,10 @@
 -- What a script prints and what its core's history gains, line by line.
-use Rattle.std.specs.Prelude.{◌≡◌, ◌≢◌, ◌⊎◌, ◌↔◌, ℕ, Bool, false, IsTrue, List, [], ◌∷◌, ◌++◌, Option, Some, None, codes, length, map, if◌then◌else◌, nat_lt}
+use Rattle.std.specs.Prelude.{◌≡◌, ◌≢◌, ◌⊎◌, ◌↔◌, ℕ, Bool, false, IsTrue, List, [], ◌∷◌, ◌++◌, Option, Some, None, length, map, take, if◌then◌else◌, nat_lt}
 use Rattle.std.specs.Io.BufRead.{first_piece, drop_through}
 use Rattle.cs_deps.specs.declared.elements.Element.{Element}
 use Rattle.cs_deps.specs.declared.refusals.Refusal.{Refusal}
 use Rattle.cs_deps.specs.declared.refusals.Refusal.TheVariants as refusal
+use Rattle.cs_deps.specs.Pending.{Pending}
 use Rattle.cs_deps.specs.State.{everything}
 use Rattle.cs_disk.specs.declared.disk.PageDisk.{Ghosts as PageDisk}
 use Rattle.cs_plan.specs.Best.{IsBestPlan}
@@ -19,7 +20,7 @@ use Rattle.cs_core.specs.Views.{View}
 use Rattle.cs_script.specs.Crashes.{Crashes, CrashesForGood, IsCrash}
 use Rattle.cs_script.specs.Histories.{IsStopped, Stays, Went}
 use Rattle.cs_script.specs.Lines.{Said, says_put, says_get, says_delete, says_sweep, says_sync, says_step, says_plan, says_document, says_crash, says_nothing, unreadable, said_of}
-use Rattle.cs_script.specs.Outputs.{absent_line, acknowledged_line, bad_line, begin_line, chain_line, delete_line, end_line, flushes_line, idle_line, issue_line, line_of, plan_lines, put_line, refusal_line, round_lines, swept_line, value_line}
+use Rattle.cs_script.specs.Outputs.{absent_line, acknowledged_line, bad_line, begin_line, chain_line, delete_line, end_line, flushes_line, idle_line, issue_line, letters, line_of, plan_lines, put_line, refusal_line, round_lines, swept_line, value_line}
 use Rattle.cs_script.specs.Rounds.{IsOfRound, IsPart, Members, Turn, events_of_all, issues, rest_of_round, rounds_of}
 
 -- these are a best plan of all that waits in this store
@@ -56,21 +57,21 @@ step_line reply out = ⊥
 abbrev pub IsRefusalOf : (Refusal → Type 0) → List ℕ → Type 0
 IsRefusalOf P out = (r : Refusal) × P r × (out ≡ refusal_line r)
 
--- the letters of superblock and root
-abbrev pub document_letters : List ℕ
-document_letters = codes "sr"
+-- a letter for each family
+abbrev pub document_letters : Pending → List ℕ
+document_letters g = take (length g.persistent) letters
 
 -- the document of a best plan of all that waits, which has one, is printed as one line, where no round is out
 abbrev pub Documents : Stored → List ℕ → Type 0
 Documents s out = (s.out ≡ None) × (rounds : List (List Element)) × (chain : List Element) × (text : List ℕ) × IsBestOfAll s rounds chain
-    × HasDocument document_letters s.graph.staging.pending (everything s.graph.staging) rounds chain
-    × IsTextOf text document_letters s.graph.staging.pending (everything s.graph.staging) rounds chain × (out ≡ line_of text)
+    × HasDocument (document_letters s.graph.staging.pending) s.graph.staging.pending (everything s.graph.staging) rounds chain
+    × IsTextOf text (document_letters s.graph.staging.pending) s.graph.staging.pending (everything s.graph.staging) rounds chain × (out ≡ line_of text)
 
 -- a round is out; or there is no memory; or a best plan can't be written
 abbrev pub IsDocumentRefused : Stored → Refusal → Type 0
 IsDocumentRefused s r = ((s.out ≢ None) × (r ≡ refusal.InFlight)) ⊎ (r ≡ refusal.OutOfMemory)
     ⊎ ((r ≡ refusal.BadDocument) × (rounds : List (List Element)) × (chain : List Element) × IsBestOfAll s rounds chain
-    × (¬ HasDocument document_letters s.graph.staging.pending (everything s.graph.staging) rounds chain))
+    × (¬ HasDocument (document_letters s.graph.staging.pending) s.graph.staging.pending (everything s.graph.staging) rounds chain))
 
 module _ {D : Type 0} (disks : PageDisk D) where
   -- the event is refused, and that is printed

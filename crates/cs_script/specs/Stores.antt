@@ -18,8 +18,8 @@ abbrev pub IsJustOpened : {D : Type 0} → View D → Type 0
 IsJustOpened core = IsUnused core × IsOpened ⊥ core.opened core.found core.store
 
 -- a store that was made, with nothing in it
-abbrev pub IsNew : {D : Type 0} → (extents pages : ℕ) → View D → Type 0
-IsNew extents pages core = IsUnused core × (core.store ≡ new_stored extents pages)
+abbrev pub IsNew : {D : Type 0} → (extents pages sections : ℕ) → View D → Type 0
+IsNew extents pages sections core = IsUnused core × (core.store ≡ new_stored extents pages sections)
 
 module _ {D : Type 0} (disks : PageDisk D) (can_crash : D → Type 0) (volatile_count : D → ℕ) where
   -- a script runs over the store that there is; or there is none, and that is printed

@@ -5,6 +5,7 @@ ghost use Rattle.cs_script.specs.Lines.{says_document};
 ghost use Rattle.cs_script.specs.Outputs.{line_of};
 ghost use Rattle.cs_script.specs.Scripts.{Answers, Documents, IsDocumentRefused};
 
+use crate::letters::letters_of;
 use crate::outputs::print_refusal;
 use crate::plans::plan_all;
 use cs_check::to_document;
@@ -14,9 +15,6 @@ use cs_disk::PageDisk;
 use std::alloc::Global;
 use std::io;
 use std::io::Write;
-
-/// The letters of superblock and root in a document.
-const LETTERS: [char; 2] = ['s', 'r'];
 
 /// Prints the plan document of all that waits as one line. It stages nothing.
 pub fn document<D: PageDisk, W: Write>(
@@ -44,7 +42,8 @@ fn document_of<D: PageDisk>(alloc: Global, core: &Core<D>) -> Result<String, Ref
     let plan = plan_all(core)?;
     let view = core.view()?;
     let target = core.everything()?;
-    match to_document(alloc, &view, &target, &plan, &LETTERS) {
+    let letters = letters_of(&view);
+    match to_document(alloc, &view, &target, &plan, letters) {
         Ok(text) => Ok(text),
         Err(fault) => Err(Refusal::from(fault)),
     }

@@ -4,6 +4,7 @@ ghost use Rattle.std.specs.Io.KnownBytes.{Appends};
 ghost use Rattle.hex.specs.Hex.{encode_lower};
 ghost use Rattle.cs_script.specs.Outputs.{absent_line, acknowledged_line, bad_line, begin_line, chain_line, crash_line, delete_line, element_name, element_names, end_line, flushes_line, idle_line, issue_line, open_line, optimal_line, put_line, refusal_line, round_line, swept_line, value_line};
 
+use crate::letters::letter_of;
 use crate::statuses;
 use crate::sweeps::Swept;
 use cs_deps::{Element, Refusal};
@@ -207,13 +208,15 @@ fn print_elements<W: Write>(writer: &mut W, elements: &[Element]) -> io::Result<
     Ok(())
 }
 
-/// The name of an element: `w` for a plain write, `s` for a superblock and `r` for a root, and its number.
+/// The name of an element: `w` for a plain write, or the letter of a family, and its number.
 fn print_element<W: Write>(writer: &mut W, element: Element) -> io::Result<()>
     ensures { OnOk result (Appends (W.contents writer.old) (W.contents writer.new) (element_name element)) }
 {
     match element {
         Element::Plain(number) => write!(writer, "w{number}"),
-        Element::Version(0, version) => write!(writer, "s{version}"),
-        Element::Version(_, version) => write!(writer, "r{version}"),
+        Element::Version(family, version) => {
+            let letter = letter_of(family);
+            write!(writer, "{letter}{version}")
+        }
     }
 }

@@ -44,9 +44,8 @@ fn formatted(
 ) -> Core<FailAt<MemoryDisk>>
     ensures { (result.history ≡ []) × (result.store.accepted ≡ 0) × (result.store.frontier ≡ 0) }
 {
-    let pages = geometry.0.saturating_mul(geometry.1).saturating_add(2);
     let geometry = Geometry::new(geometry.0, geometry.1).expect(rt, "a geometry");
-    let disk = MemoryDisk::new(alloc, pages).expect(rt, "a disk");
+    let disk = MemoryDisk::new(alloc, geometry.device_pages()).expect(rt, "a disk");
     match Core::format(alloc, FailAt::new(disk, at), geometry, Limits { history }) {
         Ok(core) => core,
         Err(_) => panic!(rt; "no core"),

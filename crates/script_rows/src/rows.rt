@@ -3,16 +3,17 @@ use crate::folders::{names_of_rows, text_of, text_or};
 use crate::geometries::geometry_of;
 use crate::reports::{print_ended, print_first_difference};
 use crate::runs::{Ended, run_over_new};
+use cs_deps::Refusal;
 use cs_frame::Geometry;
 use std::io;
 use std::io::ErrorKind;
 use std::rt::Files;
 
-/// A script, the geometry of its store, what it has to print, and with which status it has to end.
+/// A script, the geometry of its store or why there is none, what it has to print, and with which status it has to end.
 #[derive(Drop)]
 struct Row {
     script: String,
-    geometry: Geometry,
+    geometry: Result<Geometry, Refusal>,
     output: String,
     status: u8,
 }

@@ -3,7 +3,7 @@ use cs_core::Core;
 use cs_deps::Refusal;
 use cs_disk::{CrashDisk, MemoryDisk};
 use cs_frame::Geometry;
-use cs_script::{new_in_memory, run_script};
+use cs_script::{new_in_memory, print_no_store, run_script};
 use std::alloc::Global;
 
 /// What a script printed and left behind.
@@ -11,7 +11,7 @@ use std::alloc::Global;
 pub struct Ended {
     pub output: Vec<u8>,
     pub status: u8,
-    /// None where no store could be opened after a crash.
+    /// None where no store could be made, or opened after a crash.
     pub left: Option<Counts>,
 }
 
@@ -25,11 +25,30 @@ pub struct Counts {
     pub volatile: usize,
 }
 
-/// Runs a script over a new store in memory. Refused 9 OutOfMemory alone.
-pub fn run_over_new(alloc: Global, geometry: Geometry, script: &str) -> Result<Ended, Refusal> {
+/// Runs a script over a new store in memory, or tells why there is none of this geometry. Refused 9 OutOfMemory alone.
+pub fn run_over_new(
+    alloc: Global,
+    geometry: Result<Geometry, Refusal>,
+    script: &str,
+) -> Result<Ended, Refusal> {
+    let geometry = match geometry {
+        Ok(geometry) => geometry,
+        Err(refusal) => return Ok(refused(alloc, refusal)),
+    };
     match new_in_memory(alloc, geometry) {
         Ok(core) => Ok(run(alloc, core, script)),
         Err(refusal) => Err(refusal),
+    }
+}
+
+/// What is printed and left where there is no store.
+fn refused(alloc: Global, refusal: Refusal) -> Ended {
+    let mut output = Vec::new(alloc);
+    let status = print_no_store(&mut output, refusal);
+    Ended {
+        output,
+        status,
+        left: None,
     }
 }
 

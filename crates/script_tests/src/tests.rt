@@ -1,16 +1,9 @@
 //! What scripts and documents print and leave behind, by worked rows.
 mod cuts;
-mod damage;
 mod documents;
-mod failures;
 mod files;
-mod images;
-mod moments;
-mod options;
 mod plans;
 mod puts;
-mod races;
-mod stops;
 mod streams;
 
 use cs_core::{Core, Limits};
@@ -24,17 +17,16 @@ use std::test::{Fail, *};
 
 /// A new store in memory with so many extents of 2 pages.
 fn new_core(rt: &(impl Abort + AllocGlobal), extents: u64) -> Result<Core<MemoryDisk>, Fail> {
-    new_core_of(rt, extents, 1000)
+    new_core_of(rt, Geometry::new(extents, 2)?, 1000)
 }
 
-/// A new store in memory with so many extents of 2 pages, whose history may have so many events.
+/// A new store in memory of this geometry, whose history may have so many events.
 fn new_core_of(
     rt: &(impl Abort + AllocGlobal),
-    extents: u64,
+    geometry: Geometry,
     history: usize,
 ) -> Result<Core<MemoryDisk>, Fail> {
     let alloc = rt.alloc();
-    let geometry = Geometry::new(extents, 2)?;
     let disk = MemoryDisk::new(alloc, geometry.device_pages())?;
     match Core::format(alloc, disk, geometry, Limits { history }) {
         Ok(core) => Ok(core),
@@ -51,14 +43,11 @@ struct Ended {
     left: Option<Counts>,
 }
 
-/// How many commands the store found when it was opened, how many it accepted since and how many of these are persistent, and how many
-/// writes are volatile.
+/// How many commands the store accepted, and how many of these are persistent.
 #[derive(Clone, Copy)]
 struct Counts {
-    found: u64,
     accepted: u64,
     persistent: u64,
-    volatile: usize,
 }
 
 /// Runs a script on a core, which is let go here alone: whatever a function has is proved to be let go at each of its exits.
@@ -77,10 +66,8 @@ fn counts_of<D: CrashDisk>(ran: &Ran<D>) -> Option<Counts> {
         return None;
     };
     Some(Counts {
-        found: core.opened().0,
         accepted: core.accepted(),
         persistent: core.frontier(),
-        volatile: core.disk().volatile(),
     })
 }
 
@@ -114,29 +101,11 @@ fn core_after<D: CrashDisk + Drop>(
     }
 }
 
-/// The disk that a script leaves of a new store with so many extents of 2 pages.
-fn disk_after(
-    rt: &(impl Abort + AllocGlobal),
-    extents: u64,
-    text: &str,
-) -> Result<MemoryDisk, Fail> {
-    let core = new_core(rt, extents)?;
-    Ok(core_after(rt, core, text).into_disk())
-}
-
 impl Ended {
     /// Asserts what was printed, and the exit status.
     fn printed(&self, rt: &impl Abort, wanted: &str, status: u8, script: &str) {
         assert_eq!(rt; self.output.as_slice(), wanted.as_bytes(), "{script}");
         assert_eq!(rt; self.status, status, "{script}");
-    }
-
-    /// Asserts how what was printed ends.
-    fn printed_last(&self, rt: &impl Abort, wanted: &str, script: &str) {
-        assert!(rt;
-            self.output.as_slice().ends_with(wanted.as_bytes()),
-            "{script}"
-        );
     }
 
     /// The counts of the core that is left.

@@ -1,10 +1,11 @@
 //! Times a core, with no text around it, beside the digests alone of what it writes or reads. The second argument says what is
 //! timed, the third how often it is done, the fourth how many bytes a shard has, the fifth how many puts a batch has, the sixth
-//! how many extents of 256 pages the store has:
+//! how many extents of 256 pages the store has, whose superblock is one section but for `sections`:
 //!
 //! - `puts`: each batch is put, staged and written back, round by round;
 //! - `gets`: so many puts are written back, and so many gets are timed;
-//! - `beside`: so many puts wait, and 1,000 gets of what was written back before are timed, then as many of what waits.
+//! - `beside`: so many puts wait, and 1,000 gets of what was written back before are timed, then as many of what waits;
+//! - `sections`: as `puts`, on one new store after another, whose superblocks have 1, 4 and 8 sections, with a line for each.
 //!
 //! Where none is given, a few puts are done, and what they wrote is counted and not timed.
 mod counts;
@@ -20,25 +21,44 @@ use cs_core::Core;
 use cs_disk::MemoryDisk;
 use std::alloc::Global;
 use std::time::Clock;
-use timings::{print_puts, time_beside, time_gets, time_puts};
+use timings::{print_puts, time_beside, time_gets, time_puts, time_sections};
 
 /// How many pages an extent has.
 const PAGES: u64 = 256;
 
-/// How often it is done, with how many bytes a shard, how many puts a batch, and how many extents.
+/// How often it is done, with how many bytes a shard, how many puts a batch, how many extents, and how many sections.
 #[derive(Clone, Copy)]
 pub struct Task {
     pub count: u64,
     pub bytes: usize,
     pub batch: u64,
     pub extents: u64,
+    pub sections: u64,
 }
 
 /// Does what the command line asks for.
 pub fn time_core<R: Print + Clock>(rt: &R, alloc: Global, asked: Asked) -> Result<(), Fault> {
     let task = task_of(asked);
-    let mut core = new_core(alloc, task.extents, PAGES)?;
-    run(rt, alloc, &mut core, asked.work, task)
+    match asked.work {
+        Work::Sections => {
+            for sections in [1, 4, 8] {
+                time_store(rt, alloc, asked.work, Task { sections, ..task })?;
+            }
+            Ok(())
+        }
+        _ => time_store(rt, alloc, asked.work, task),
+    }
+}
+
+/// Does the work on a new store.
+fn time_store<R: Print + Clock>(
+    rt: &R,
+    alloc: Global,
+    work: Work,
+    task: Task,
+) -> Result<(), Fault> {
+    let mut core = new_core(alloc, task.extents, PAGES, task.sections)?;
+    run(rt, alloc, &mut core, work, task)
 }
 
 /// The numbers that the command line asks for.
@@ -48,6 +68,7 @@ fn task_of(asked: Asked) -> Task {
         bytes: asked.second.unwrap_or(1024) as usize,
         batch: asked.third.unwrap_or(2),
         extents: asked.fourth.unwrap_or(64),
+        sections: 1,
     }
 }
 
@@ -63,6 +84,7 @@ fn run<R: Print + Clock>(
         Work::Nothing => print_puts(rt, alloc, core, task),
         Work::Gets => time_gets(rt, alloc, core, task),
         Work::Beside => time_beside(rt, alloc, core, task),
+        Work::Sections => time_sections(rt, alloc, core, task),
         _ => time_puts(rt, alloc, core, task),
     }
 }

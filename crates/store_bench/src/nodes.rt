@@ -61,7 +61,7 @@ pub fn time_node<R: Threads + Wait + Sync + Clock + Print>(
         threads: asked.second.unwrap_or(1).max(1),
     };
     let board = Board::new(alloc)?;
-    let core = new_core(alloc, 512, 64)?;
+    let core = new_core(alloc, 512, 64, 1)?;
     let (done, persistent) = run::<Brand, R>(rt, alloc, board, core, task);
     print_done(rt, done?, persistent)
 }

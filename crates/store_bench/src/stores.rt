@@ -11,11 +11,16 @@ use std::alloc::Global;
 /// How many events the core may record.
 const HISTORY: usize = 65_536;
 
-/// A core that did nothing yet, over a new store in memory of so many extents of so many pages.
-pub fn new_core(alloc: Global, extents: u64, pages: u64) -> Result<Core<MemoryDisk>, Fault>
+/// A core that did nothing yet, over a new store in memory of so many extents of so many pages, and of so many sections of its superblock.
+pub fn new_core(
+    alloc: Global,
+    extents: u64,
+    pages: u64,
+    sections: u64,
+) -> Result<Core<MemoryDisk>, Fault>
     ensures { IfOk result (λ core. (core.history ≡ []) × (core.store.accepted ≡ 0) × (core.store.frontier ≡ 0)) }
 {
-    let geometry = Geometry::new(extents, pages)?;
+    let geometry = Geometry::with_sections(extents, pages, sections)?;
     let disk = MemoryDisk::new(alloc, geometry.device_pages())?;
     match format(alloc, disk, geometry) {
         Ok(core) => Ok(core),

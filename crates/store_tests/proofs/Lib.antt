@@ -1,2 +1,3 @@
+mod Divided
 mod Places
 mod Resets

@@ -2,7 +2,7 @@
 ghost use Rattle.std.specs.Prelude.{◌<◌};
 ghost use Rattle.cs_extent.specs.State.{shape};
 
-use crate::stores::{Store, assert_large, plays};
+use crate::stores::{Store, assert_families, assert_large, plays};
 use crate::texts::{text_of, words_of};
 use cs_chunk::{
     pages_have_one_newest, put_chunks, read_chunks, read_frame, refusal_of_disk, refusal_of_fault,
@@ -22,8 +22,7 @@ fn put(
     store: &mut Store,
     bytes: &[u8],
 ) -> Result<Vec<Locator>, Refusal> {
-    let families = store.graph.families();
-    assert!(rt; 1 < families);
+    assert_families(rt, &store.extents, &store.graph);
     put_chunks(alloc, &mut store.extents, &mut store.graph, bytes)
 }
 

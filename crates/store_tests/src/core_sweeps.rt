@@ -3,22 +3,22 @@ use crate::machines::{disk_of_a_put, let_go, opened_failing, play, plays};
 use std::process::Abort;
 
 /// Two puts, which fill the first extent.
-const FILL: &str = "put 10 97 > Accepted(1)
+pub const FILL: &str = "put 10 97 > Accepted(1)
 put 11 98 > Accepted(2)";
 
 /// Both are moved off that extent, and it is emptied.
-const SWEEP: &str = "sweep 0 > Sweeping
+pub const SWEEP: &str = "sweep 0 > Sweeping
 move 0 > Moved(ShardId([0, 0, 0, 0, 0, 0, 0, 0, 0, 0, 0, 0, 0, 0, 0, 10]), 0)
 move 0 > Moved(ShardId([0, 0, 0, 0, 0, 0, 0, 0, 0, 0, 0, 0, 0, 0, 0, 11]), 0)
 move 0 > NoneLive
 retire 0 > Retired(2)";
 
 /// Two puts behind the sweep, of which the second one lies on that extent again.
-const BEHIND: &str = "put 12 99 > Accepted(3)
+pub const BEHIND: &str = "put 12 99 > Accepted(3)
 put 13 100 > Accepted(4)";
 
 /// A root over them.
-const STAGED: &str = "stage > Staged(3)";
+pub const STAGED: &str = "stage > Staged(3)";
 
 /// What is answered while both shards of an extent are moved by a sweep.
 #[test]
@@ -62,7 +62,7 @@ const ROUNDS: &str =
     "plan > [[Plain(1), Plain(2), Plain(3), Plain(4), Plain(5), Plain(6)], [Version(0, 6)], [Version(1, 2)], [Plain(7), Plain(8), Version(0, 7)], [Version(0, 9)], [Version(1, 3)]] [Plain(1), Version(0, 6), Version(1, 2), Plain(7), Version(0, 9), Version(1, 3)]";
 
 /// What is under the identifiers of two puts and of two behind their sweep.
-const HOLDS: &str = "get 10 > Found(Bytes { block: [97] })
+pub const HOLDS: &str = "get 10 > Found(Bytes { block: [97] })
 get 11 > Found(Bytes { block: [98] })
 get 12 > Found(Bytes { block: [99] })
 get 13 > Found(Bytes { block: [100] })";

@@ -1,14 +1,16 @@
 //! The image of one put, each of its bytes damaged in turn, and cut.
 use crate::frames::expected;
 use crate::machines::{answer, disk_of_a_put, opened};
+use crate::migrations::first_format_disk;
 use crate::stores::id;
+use crate::superblocks::{FIRST_FORMAT_FAULTS, ONE_SECTION_FAULTS};
 use cs_core::{Core, Event, Limits, Reply};
 use cs_disk::{MemoryDisk, PageDisk};
 use std::alloc::Global;
 use std::process::Abort;
 
 /// A page of a disk.
-fn page(rt: &impl Abort, disk: &mut MemoryDisk, number: u64) -> [u8; 4096] {
+pub fn page(rt: &impl Abort, disk: &mut MemoryDisk, number: u64) -> [u8; 4096] {
     let mut bytes = [0; 4096];
     assert!(rt; number < disk.pages());
     disk.read(number, &mut bytes).expect(rt, "a read");
@@ -16,7 +18,7 @@ fn page(rt: &impl Abort, disk: &mut MemoryDisk, number: u64) -> [u8; 4096] {
 }
 
 /// Gives a page of a disk these bytes.
-fn set_page(rt: &impl Abort, disk: &mut MemoryDisk, number: u64, bytes: &[u8; 4096]) {
+pub fn set_page(rt: &impl Abort, disk: &mut MemoryDisk, number: u64, bytes: &[u8; 4096]) {
     assert!(rt; number < disk.pages());
     disk.write(number, bytes).expect(rt, "a write");
 }
@@ -45,7 +47,7 @@ fn why_not_got(rt: &(impl Abort + AllocGlobal), disk: MemoryDisk) -> (u8, Memory
 }
 
 /// Asserts why a disk isn't opened, or why its shard isn't got, 0 for one that is, and gives the disk back.
-fn is_refused(
+pub fn is_refused(
     rt: &(impl Abort + AllocGlobal),
     disk: MemoryDisk,
     opens: bool,
@@ -61,10 +63,14 @@ fn is_refused(
     same
 }
 
-/// Asserts why a disk with one put isn't opened, or why its shard isn't got, where the lowest bit of one byte of this page is turned,
-/// byte by byte. Superblock, root, the put's frame and its run's are on pages 0 to 3.
-fn damaged(rt: &(impl Abort + AllocGlobal), number: u64, opens: bool, table: &[(usize, u8)]) {
-    let mut disk = disk_of_a_put(rt);
+/// Asserts why a disk isn't opened, or why its shard isn't got, where the lowest bit of one byte of this page is turned, byte by byte.
+pub fn damaged(
+    rt: &(impl Abort + AllocGlobal),
+    mut disk: MemoryDisk,
+    number: u64,
+    opens: bool,
+    table: &[(usize, u8)],
+) {
     let mut bytes = page(rt, &mut disk, number);
     for i in 0..4096 {
         bytes[i] ^= 1;
@@ -74,28 +80,37 @@ fn damaged(rt: &(impl Abort + AllocGlobal), number: u64, opens: bool, table: &[(
     }
 }
 
+/// Superblock, root, the put's frame and its run's are on pages 0 to 3 of a disk with one put.
+fn damaged_put(rt: &(impl Abort + AllocGlobal), number: u64, opens: bool, table: &[(usize, u8)]) {
+    damaged(rt, disk_of_a_put(rt), number, opens, table);
+}
+
 #[test]
 fn a_damaged_superblock(rt: HostRuntime) {
-    let table = [(3, 20), (4, 24), (14, 21), (15, 22), (84, 21), (4096, 23)];
-    damaged(&rt, 0, true, &table);
+    damaged_put(&rt, 0, true, &ONE_SECTION_FAULTS);
+}
+
+#[test]
+fn a_damaged_superblock_of_the_first_format(rt: HostRuntime) {
+    damaged(&rt, first_format_disk(&rt), 0, true, &FIRST_FORMAT_FAULTS);
 }
 
 #[test]
 fn a_damaged_root(rt: HostRuntime) {
-    damaged(&rt, 1, true, &[(3, 20), (4, 24), (61, 21), (4096, 23)]);
+    damaged_put(&rt, 1, true, &[(3, 20), (4, 24), (61, 21), (4096, 23)]);
 }
 
 #[test]
 fn a_damaged_run(rt: HostRuntime) {
     let table = [(3, 20), (5, 24), (7, 22), (126, 21), (4096, 23)];
-    damaged(&rt, 3, true, &table);
+    damaged_put(&rt, 3, true, &table);
 }
 
 /// The bytes of a shard are read when it is asked for.
 #[test]
 fn a_damaged_shard(rt: HostRuntime) {
     let table = [(3, 20), (5, 24), (7, 22), (42, 21), (4096, 23)];
-    damaged(&rt, 2, false, &table);
+    damaged_put(&rt, 2, false, &table);
 }
 
 /// No page behind these is looked at.
@@ -110,22 +125,26 @@ fn other_pages(rt: HostRuntime) {
 
 /// Asserts whether an image is opened where it is cut to so many pages. The superblock says 14.
 fn opens_with(rt: &(impl Abort + AllocGlobal), image: &[u8], pages: usize) {
-    let bytes = Vec::from_slice(rt.alloc(), image).expect(rt, "memory");
-    let disk = MemoryDisk::of_image(rt.alloc(), bytes).expect(rt, "a disk");
+    let disk = disk_of(rt, image);
     let wanted = if pages == 14 { 0 } else { 43 };
     is_refused(rt, disk, true, wanted, pages);
 }
 
-/// The bytes of a disk with one put.
-fn image_of_a_put(rt: &(impl Abort + AllocGlobal)) -> Vec<u8> {
-    let disk = disk_of_a_put(rt);
+/// The bytes of a disk.
+pub fn image_of(rt: &(impl Abort + AllocGlobal), disk: &MemoryDisk) -> Vec<u8> {
     Vec::from_slice(rt.alloc(), disk.image()).expect(rt, "memory")
+}
+
+/// The disk with these bytes.
+pub fn disk_of(rt: &(impl Abort + AllocGlobal), image: &[u8]) -> MemoryDisk {
+    let bytes = Vec::from_slice(rt.alloc(), image).expect(rt, "memory");
+    MemoryDisk::of_image(rt.alloc(), bytes).expect(rt, "a disk")
 }
 
 /// A disk is as long as its superblock says.
 #[test]
 fn other_lengths(rt: HostRuntime) {
-    let mut bytes = image_of_a_put(&rt);
+    let mut bytes = image_of(&rt, &disk_of_a_put(&rt));
     bytes.resize(15 * 4096, 0).expect(&rt, "memory");
     for pages in (0..16).rev() {
         bytes.truncate(pages * 4096);

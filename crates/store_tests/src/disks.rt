@@ -55,7 +55,7 @@ fn play<D: CrashDisk>(rt: &(impl Abort + AllocGlobal), disk: &mut D, script: &st
 }
 
 /// A disk after a crash that keeps the volatile writes that the mask says.
-fn crashed<D: CrashDisk>(rt: &impl Abort, disk: D, mask: &[bool]) -> D {
+pub fn crashed<D: CrashDisk>(rt: &impl Abort, disk: D, mask: &[bool]) -> D {
     assert!(rt; disk.volatile() == mask.len());
     disk.crash(mask)
 }

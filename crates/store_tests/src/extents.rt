@@ -1,11 +1,14 @@
 //! The worked rows of allocation, and each public function once.
 ghost use Rattle.std.specs.Prelude.{◌^◌, ◌<◌};
 
-use crate::stores::{Store, new_store, plays};
-use crate::texts::{text_of, words_of};
-use cs_deps::{Dependency, Element, Refusal};
-use cs_extent::{Extents, Purpose};
-use cs_frame::{Locator, decode_superblock};
+use crate::stores::{Store, assert_families, geometry, new_extents, plays, plays_divided};
+use crate::texts::{byte, text_of, words_of};
+use cs_deps::{Dependency, Element, Graph, Refusal};
+use cs_extent::{
+    Extents, Purpose, ROOT, joining_adds_nothing_to_one_section, needs_never_fall, on_sections,
+    one_place, pages_are_given_once, section_family,
+};
+use cs_frame::{Locator, decode_section};
 use std::alloc::Global;
 use std::process::Abort;
 
@@ -19,8 +22,7 @@ fn append(
     let pages = store.extents.extent_pages();
     assert!(rt; 1 <= frame.len());
     assert!(rt; frame.len() <= pages);
-    let families = store.graph.families();
-    assert!(rt; 1 < families);
+    assert_families(rt, &store.extents, &store.graph);
     store.extents.append(&mut store.graph, frame, purpose)
 }
 
@@ -47,12 +49,13 @@ fn last_page(store: &Store) -> Option<u64> {
         .page_of(Element::Plain(store.graph.last_plain()))
 }
 
-/// Stages the next version of the root.
+/// Stages the next version of the root, which needs what was staged of all sections.
 fn stage_root(rt: &impl Abort, alloc: Global, store: &mut Store) -> Result<u64, Refusal> {
     let families = store.graph.families();
     assert!(rt; 1 < families);
-    let needs = Dependency::none(alloc);
-    store.graph.stage_version(1, 1, &[0; 4096], needs)
+    assert!(rt; families <= 16);
+    let needs = on_sections(alloc, &store.graph);
+    store.graph.stage_version(ROOT, 1, &[0; 4096], needs)
 }
 
 /// Empties an extent.
@@ -104,14 +107,18 @@ fn state(rt: &impl Abort, store: &Store, extent: usize) -> ((usize, usize), (usi
     ((count, store.extents.empty_count()), (pointer, generation))
 }
 
-/// What the superblock that waits says.
-fn spelled(rt: &(impl Abort + AllocGlobal), store: &Store) -> String {
-    let page = store
-        .graph
-        .bytes_of(Element::Version(0, 2))
-        .expect(rt, "a page");
-    let spelled = decode_superblock(rt.alloc(), page).expect(rt, "a superblock");
-    text_of(rt, &(spelled.version, &spelled.extents))
+/// What a version of a section says that waits.
+fn spelled(rt: &(impl Abort + AllocGlobal), graph: &Graph, section: u8, version: u16) -> String {
+    let element = Element::Version(section_family(section), u64::from(version));
+    let page = graph.bytes_of(element).expect(rt, "a page");
+    let spelled = decode_section(rt.alloc(), page).expect(rt, "a section");
+    text_of(rt, &(spelled.version, spelled.section, &spelled.extents))
+}
+
+/// How many extents there are, of how many pages, and of how many sections.
+fn dimensions(extents: &Extents) -> (u16, u16, u8) {
+    let geometry = extents.geometry();
+    (geometry.extents(), geometry.pages(), geometry.sections())
 }
 
 /// What comes of the words of a line, as text.
@@ -128,7 +135,8 @@ pub fn said(rt: &(impl Abort + AllocGlobal), store: &mut Store, line: &str) -> S
         "root" => text_of(rt, &stage_root(rt, rt.alloc(), store)),
         "two" => text_of(rt, &names_superblock(rt, store)),
         "reserve" => text_of(rt, &reserve(store)),
-        _ => spelled(rt, store),
+        "dimensions" => text_of(rt, &dimensions(&store.extents)),
+        _ => spelled(rt, &store.graph, byte(numbers[0]), numbers[1]),
     }
 }
 
@@ -188,7 +196,108 @@ page 2 > Some(3)
 page 0.2 > Some(0)
 names 0.2 2 > true
 byte 1 > Some(7)
-extent spelled > (2, [(2, 0), (0, 0), (0, 0), (0, 0), (0, 0), (0, 0)])";
+extent spelled 0 2 > (2, 0, [(2, 0), (0, 0), (0, 0), (0, 0), (0, 0), (0, 0)])
+extent dimensions > (6, 2, 1)";
+
+/// Each of three sections has two extents: its versions record these and need what is written there, and are on a page of their own.
+#[test]
+fn frames_of_several_sections(rt: HostRuntime) {
+    plays_divided(&rt, DIVIDED);
+}
+
+const DIVIDED: &str = "extent dimensions > (6, 2, 3)
+extent put > Ok(((0, 0, 0), Some(2)))
+extent put > Ok(((0, 1, 0), Some(3)))
+extent put > Ok(((1, 0, 0), Some(4)))
+extent put > Ok(((1, 1, 0), Some(5)))
+extent put > Ok(((2, 0, 0), Some(6)))
+extent put > Ok(((2, 1, 0), Some(7)))
+extent put > Ok(((3, 0, 0), Some(8)))
+extent run > Ok(((3, 1, 0), Some(9)))
+extent run > Ok(((4, 0, 0), Some(10)))
+page 0.5 > Some(0)
+page 2.5 > Some(14)
+page 3.2 > Some(15)
+extent spelled 0 5 > (5, 0, [(2, 0), (2, 0)])
+extent spelled 1 5 > (5, 1, [(2, 0), (2, 0)])
+extent spelled 2 2 > (2, 2, [(1, 0), (0, 0)])
+names 0.5 1 > true
+names 0.5 4 > true
+names 0.5 5 > false
+names 2.5 4 > false
+names 2.5 5 > true
+names 2.5 8 > true
+names 3.2 8 > false
+names 3.2 9 > true
+extent root > Ok(2)
+names 1.2 0.5 > true
+names 1.2 2.5 > true
+names 1.2 3.2 > true
+names 1.2 9 > false";
+
+/// An extent that is emptied is recorded by the next version of its own section, which alone needs the root that emptied it.
+#[test]
+fn a_reset_of_one_section(rt: HostRuntime) {
+    plays_divided(&rt, RESET_OF_ONE);
+}
+
+const RESET_OF_ONE: &str = "extent put > Ok(((0, 0, 0), Some(2)))
+extent put > Ok(((0, 1, 0), Some(3)))
+extent put > Ok(((1, 0, 0), Some(4)))
+extent put > Ok(((1, 1, 0), Some(5)))
+extent put > Ok(((2, 0, 0), Some(6)))
+extent root > Ok(2)
+extent reset 0 2 > Ok(())
+extent put > Ok(((2, 1, 0), Some(7)))
+names 2.3 1.2 > false
+names 0.5 1.2 > false
+extent put > Ok(((0, 0, 1), Some(2)))
+names 7 1.2 > true
+names 0.6 1.2 > true
+names 0.6 7 > true
+names 0.6 6 > false
+extent spelled 0 6 > (6, 0, [(1, 1), (2, 0)])";
+
+/// Whether the numbers of frames would be worn out: of two that fill the extents of the first of three sections, and of one more, which
+/// goes to the second one.
+fn wears_out(rt: &impl Abort, extents: &Extents, graph: &Graph) -> (bool, bool) {
+    assert_families(rt, extents, graph);
+    let pages = extents.extent_pages();
+    assert!(rt; pages == 2);
+    let three = extents.fits(&[2, 2, 1], Purpose::Put);
+    assert!(rt; three);
+    let two = extents.fits(&[2, 2], Purpose::Put);
+    assert!(rt; two);
+    (
+        extents.are_worn(graph, &[2, 2], Purpose::Put),
+        extents.are_worn(graph, &[2, 2, 1], Purpose::Put),
+    )
+}
+
+/// Of each section the latest version counts, and only where it gets another one.
+#[test]
+fn sections_wear_out_one_by_one(rt: HostRuntime) {
+    let alloc = rt.alloc();
+    let extents = new_extents(&rt, alloc, geometry(&rt, 6, 3));
+    let last: u64 = 0x7fff_ffff_ffff_ffff;
+    let second = Graph::new(alloc, &[1, 1, last, 1]).expect(&rt, "memory");
+    let worn = wears_out(&rt, &extents, &second);
+    assert!(rt; worn == (false, true));
+    let third = Graph::new(alloc, &[1, 1, 1, last]).expect(&rt, "memory");
+    let worn = wears_out(&rt, &extents, &third);
+    assert!(rt; worn == (false, false));
+    let first = Graph::new(alloc, &[last - 1, 1, 1, 1]).expect(&rt, "memory");
+    let worn = wears_out(&rt, &extents, &first);
+    assert!(rt; worn == (true, true));
+}
+
+#[test]
+fn laws() {
+    pages_are_given_once();
+    one_place();
+    needs_never_fall();
+    joining_adds_nothing_to_one_section();
+}
 
 /// Marks an extent as swept, and asserts that another one isn't.
 fn marks(rt: &impl Abort, extents: &mut Extents) {
@@ -201,6 +310,6 @@ fn marks(rt: &impl Abort, extents: &mut Extents) {
 
 #[test]
 fn a_mark_is_that_of_one_extent(rt: HostRuntime) {
-    let mut extents = new_store(&rt, rt.alloc(), 100).extents;
+    let mut extents = new_extents(&rt, rt.alloc(), geometry(&rt, 6, 1));
     marks(&rt, &mut extents);
 }

@@ -1,46 +1,15 @@
-//! The formats by their bytes, and by each byte that is damaged.
+//! The formats of root, frames and runs by their bytes, and by each byte that is damaged.
 use crate::texts::{is_said, prints};
 use cs_frame::{
-    FormatFault, FrameKind, Geometry, Locator, Root, Run, Section, ShardId, Superblock,
-    decode_frame, decode_frame_header, decode_root, decode_run, decode_section, decode_superblock,
-    encode_frame, encode_root, encode_run, encode_section, encode_superblock,
-    frame_has_one_spelling, frame_is_read_by_its_header, frame_pages, root_has_one_spelling,
-    run_has_one_spelling, section_has_one_spelling, superblock_has_one_spelling,
-    these_formats_are_formats,
+    FormatFault, FrameKind, Locator, Root, Run, ShardId, decode_frame, decode_frame_header,
+    decode_root, decode_run, decode_section, decode_superblock, encode_frame, encode_root,
+    encode_run, first_format_has_one_spelling, frame_has_one_spelling, frame_is_read_by_its_header,
+    frame_pages, page_zero_has_one_spelling, root_has_one_spelling, run_has_one_spelling,
+    sections_have_all_extents, superblock_has_one_spelling, these_formats_are_formats,
 };
 use std::process::Abort;
 
 // The expected pages are from the layouts, with digests by sha256sum.
-
-// A superblock as a store of 6 extents of 2 pages begins.
-const FORMAT_SUPERBLOCK: [u8; 84] = [
-    0x43, 0x53, 0x53, 0x31, 0x00, 0x00, 0x00, 0x00, 0x00, 0x00, 0x00, 0x01, 0x00, 0x06, 0x00, 0x02,
-    0x00, 0x00, 0x00, 0x00, 0x00, 0x00, 0x00, 0x00, 0x00, 0x00, 0x00, 0x00, 0x00, 0x00, 0x00, 0x00,
-    0x00, 0x00, 0x00, 0x00, 0x00, 0x00, 0x00, 0x00, 0x00, 0x00, 0x00, 0x00, 0x00, 0x00, 0x00, 0x00,
-    0x00, 0x00, 0x00, 0x00, 0x53, 0xde, 0x10, 0x0a, 0xa5, 0x6e, 0xae, 0xf3, 0x51, 0x95, 0x26, 0x6b,
-    0xcb, 0x33, 0x88, 0x7f, 0x53, 0xd4, 0x67, 0xc5, 0x2d, 0xd1, 0x24, 0xdf, 0xd9, 0xca, 0x5d, 0xb6,
-    0xd5, 0xb5, 0x95, 0x53,
-];
-
-// One put later.
-const SUPERBLOCK: [u8; 84] = [
-    0x43, 0x53, 0x53, 0x31, 0x00, 0x00, 0x00, 0x00, 0x00, 0x00, 0x00, 0x03, 0x00, 0x06, 0x00, 0x02,
-    0x00, 0x02, 0x00, 0x00, 0x00, 0x00, 0x00, 0x00, 0x00, 0x00, 0x00, 0x00, 0x00, 0x00, 0x00, 0x00,
-    0x00, 0x00, 0x00, 0x00, 0x00, 0x00, 0x00, 0x00, 0x00, 0x00, 0x00, 0x00, 0x00, 0x00, 0x00, 0x00,
-    0x00, 0x00, 0x00, 0x00, 0x1f, 0xe2, 0xc4, 0xcb, 0x0b, 0x99, 0x98, 0x63, 0xd2, 0xe2, 0x83, 0xe9,
-    0x16, 0xcc, 0x8d, 0x8e, 0x2a, 0xfd, 0x79, 0x34, 0xc7, 0xfe, 0xb1, 0xcf, 0x30, 0x27, 0xd1, 0xa7,
-    0x95, 0x6d, 0xbe, 0xef,
-];
-
-// The one section of a store of 6 extents of 2 pages, of which two are full.
-const SECTION: [u8; 86] = [
-    0x43, 0x53, 0x53, 0x32, 0x00, 0x00, 0x00, 0x00, 0x00, 0x00, 0x00, 0x05, 0x00, 0x06, 0x00, 0x02,
-    0x01, 0x00, 0x00, 0x02, 0x00, 0x00, 0x00, 0x00, 0x00, 0x02, 0x00, 0x00, 0x00, 0x00, 0x00, 0x00,
-    0x00, 0x00, 0x00, 0x00, 0x00, 0x00, 0x00, 0x00, 0x00, 0x00, 0x00, 0x00, 0x00, 0x00, 0x00, 0x00,
-    0x00, 0x00, 0x00, 0x00, 0x00, 0x00, 0xe0, 0x8f, 0x72, 0xaa, 0x12, 0x51, 0x06, 0x9d, 0xfc, 0xc1,
-    0xa1, 0x89, 0xeb, 0xb4, 0x00, 0xf6, 0xcf, 0x45, 0xc1, 0x53, 0xe3, 0x09, 0xf8, 0xb5, 0x09, 0x4f,
-    0x93, 0xbe, 0xb3, 0xc0, 0x9e, 0x84,
-];
 
 const FORMAT_ROOT: [u8; 53] = [
     0x43, 0x53, 0x52, 0x31, 0x00, 0x00, 0x00, 0x00, 0x00, 0x00, 0x00, 0x01, 0x00, 0x00, 0x00, 0x00,
@@ -94,65 +63,19 @@ const SECOND: Locator = Locator {
     generation: 0,
 };
 
-// The page begins with these bytes, and zeros follow.
-fn is_page(page: &[u8; 4096], start: &[u8]) -> bool {
+/// The page begins with these bytes, and zeros follow.
+pub fn is_page(page: &[u8; 4096], start: &[u8]) -> bool {
     page.strip_prefix(start)
         .is_some_and(|rest| rest.iter().all(|byte| *byte == 0))
 }
 
-/// The page that begins with these bytes.
-fn page_of(rt: &impl Abort, start: &[u8]) -> [u8; 4096] {
+/// The page that begins with these bytes, with zeros behind them.
+pub fn page_of(rt: &impl Abort, start: &[u8]) -> [u8; 4096] {
     assert!(rt; start.len() <= 4096);
     let mut page = [0; 4096];
     page[..start.len()].copy_from_slice(start);
     page
 }
-
-#[test]
-fn superblocks(rt: HostRuntime) {
-    let extents = vec![in rt.alloc(); (0, 0), (0, 0), (0, 0), (0, 0), (0, 0), (0, 0)];
-    let first = Superblock {
-        version: 1,
-        pages: 2,
-        extents: extents.expect(&rt, "memory"),
-    };
-    assert!(rt; is_page(&encode_superblock(&first), &FORMAT_SUPERBLOCK));
-    let extents = vec![in rt.alloc(); (2, 0), (0, 0), (0, 0), (0, 0), (0, 0), (0, 0)];
-    let later = Superblock {
-        version: 3,
-        pages: 2,
-        extents: extents.expect(&rt, "memory"),
-    };
-    let page = encode_superblock(&later);
-    assert!(rt; is_page(&page, &SUPERBLOCK));
-    let read = decode_superblock(rt.alloc(), &page).expect(&rt, "a superblock");
-    prints(&rt, &read, LATER);
-}
-
-/// How the later superblock prints.
-const LATER: &str =
-    "Superblock { version: 3, pages: 2, extents: [(2, 0), (0, 0), (0, 0), (0, 0), (0, 0), (0, 0)] }";
-
-#[test]
-fn sections(rt: HostRuntime) {
-    let extents = vec![in rt.alloc(); (2, 0), (2, 0), (0, 0), (0, 0), (0, 0), (0, 0)];
-    let section = Section {
-        version: 5,
-        extent_count: 6,
-        pages: 2,
-        sections: 1,
-        section: 0,
-        extents: extents.expect(&rt, "memory"),
-    };
-    let page = encode_section(&section);
-    assert!(rt; is_page(&page, &SECTION));
-    let read = decode_section(rt.alloc(), &page).expect(&rt, "a section");
-    prints(&rt, &read, ONE_SECTION);
-}
-
-/// How that section prints.
-const ONE_SECTION: &str =
-    "Section { version: 5, extent_count: 6, pages: 2, sections: 1, section: 0, extents: [(2, 0), (2, 0), (0, 0), (0, 0), (0, 0), (0, 0)] }";
 
 #[test]
 fn roots(rt: HostRuntime) {
@@ -248,8 +171,10 @@ fn frames_of_two_pages(rt: HostRuntime) {
 
 /// What a page is read as.
 #[derive(Clone, Copy)]
-enum Format {
-    Superblock,
+pub enum Format {
+    // page 0
+    First,
+    // another page of a superblock
     Section,
     Root,
     // the first of two pages
@@ -267,9 +192,9 @@ fn number_of<T: Drop>(read: Result<T, FormatFault>) -> u8 {
 }
 
 /// Why a page isn't read, 0 where it is.
-fn fault_of(rt: &(impl Abort + AllocGlobal), format: Format, page: &[u8; 4096]) -> u8 {
+pub fn fault_of(rt: &(impl Abort + AllocGlobal), format: Format, page: &[u8; 4096]) -> u8 {
     match format {
-        Format::Superblock => number_of(decode_superblock(rt.alloc(), page)),
+        Format::First => number_of(decode_superblock(rt.alloc(), page)),
         Format::Section => number_of(decode_section(rt.alloc(), page)),
         Format::Root => number_of(decode_root(rt.alloc(), page)),
         Format::Chunk => number_of(decoded(rt, FrameKind::Chunk, &[*page, *page])),
@@ -292,7 +217,12 @@ fn turn(rt: &impl Abort, bytes: &mut [u8], place: usize) {
 }
 
 /// Asserts why the page that begins with these bytes isn't read where the lowest bit of one of its bytes is turned, byte by byte.
-fn damaged(rt: &(impl Abort + AllocGlobal), format: Format, start: &[u8], table: &[(usize, u8)]) {
+pub fn damaged(
+    rt: &(impl Abort + AllocGlobal),
+    format: Format,
+    start: &[u8],
+    table: &[(usize, u8)],
+) {
     let mut page = page_of(rt, start);
     for i in 0..4096 {
         turn(rt, &mut page, i);
@@ -300,37 +230,6 @@ fn damaged(rt: &(impl Abort + AllocGlobal), format: Format, start: &[u8], table:
         assert!(rt; found == expected(table, i), "at {i}");
         turn(rt, &mut page, i);
     }
-}
-
-#[test]
-fn damaged_superblocks(rt: HostRuntime) {
-    let table = [(3, 20), (4, 24), (14, 21), (15, 22), (84, 21), (4096, 23)];
-    damaged(&rt, Format::Superblock, &SUPERBLOCK, &table);
-}
-
-#[test]
-fn damaged_sections(rt: HostRuntime) {
-    let table = [
-        (3, 20),
-        (4, 24),
-        (14, 21),
-        (15, 22),
-        (16, 21),
-        (18, 22),
-        (86, 21),
-        (4096, 23),
-    ];
-    damaged(&rt, Format::Section, &SECTION, &table);
-}
-
-#[test]
-fn formats_of_superblocks(rt: HostRuntime) {
-    let first = page_of(&rt, &SUPERBLOCK);
-    let found = fault_of(&rt, Format::Section, &first);
-    assert!(rt; found == 24);
-    let second = page_of(&rt, &SECTION);
-    let found = fault_of(&rt, Format::Superblock, &second);
-    assert!(rt; found == 24);
 }
 
 #[test]
@@ -425,41 +324,12 @@ fn damaged_runs(rt: HostRuntime) {
     }
 }
 
-/// A geometry, which has to be one.
-fn geometry(rt: &impl Abort, extents: u64, pages: u64) -> Geometry {
-    Geometry::new(extents, pages).expect(rt, "a geometry")
-}
-
-/// How many extents of how many pages a geometry has, how many pages its device, how many bytes a chunk, and how many identifiers an index.
-fn figures(geometry: Geometry) -> ((u16, u16), u64, (usize, usize)) {
-    (
-        (geometry.extents(), geometry.pages()),
-        geometry.device_pages(),
-        (geometry.payload_bytes(), geometry.named_limit()),
-    )
-}
-
-/// Asserts where a page of an extent lies.
-fn lies_on(rt: &impl Abort, geometry: Geometry, (extent, page): (u16, u16), wanted: u64) {
-    assert!(rt; extent < geometry.extents());
-    assert!(rt; page < geometry.pages());
-    assert!(rt; geometry.device_page(extent, page) == wanted);
-}
-
-#[test]
-fn geometries(rt: HostRuntime) {
-    let six = geometry(&rt, 6, 2);
-    prints(&rt, &figures(six), "((6, 2), 14, (8151, 100))");
-    lies_on(&rt, six, (5, 1), 13);
-    assert!(rt; geometry(&rt, 512, 256).named_limit() == 12944);
-    let refused = Geometry::new(3, 2).err().map(|fault| fault.number());
-    assert!(rt; refused == Some(7));
-}
-
 #[test]
 fn laws() {
     superblock_has_one_spelling();
-    section_has_one_spelling();
+    first_format_has_one_spelling();
+    page_zero_has_one_spelling();
+    sections_have_all_extents();
     root_has_one_spelling();
     run_has_one_spelling();
     frame_has_one_spelling();

@@ -1,11 +1,11 @@
 //! Worked rows of the index, and each public function once.
 ghost use Rattle.std.specs.Prelude.{◌<◌, ◌^◌};
 
-use crate::stores::{Store, id, plays_large, plays_small};
+use crate::stores::{Store, assert_families, id, plays_divided, plays_large, plays_small};
 use crate::texts::{byte, text_of, words_of};
 use cs_deps::{Element, Graph, Refusal};
-use cs_extent::{Extents, Purpose};
-use cs_frame::{Locator, Superblock, decode_root};
+use cs_extent::Purpose;
+use cs_frame::{Locator, decode_root};
 use cs_index::{Entries, Index};
 use std::alloc::Global;
 use std::process::Abort;
@@ -16,24 +16,6 @@ fn place(page: u16) -> Locator {
         extent: 0,
         page,
         generation: 0,
-    }
-}
-
-/// An empty store of 12 extents of 2 pages, which take five runs.
-pub fn new_store(rt: &impl Abort, alloc: Global) -> Store {
-    let superblock = Superblock {
-        version: 1,
-        pages: 2,
-        extents: Vec::from_slice(alloc, &[(0, 0); 12]).expect(rt, "memory"),
-    };
-    assert_eq!(rt; superblock.extents.len(), 12);
-    let extents = Extents::of(alloc, &superblock).expect(rt, "memory");
-    let graph = Graph::new(alloc, &[1, 1]).expect(rt, "memory");
-    let index = Index::load(alloc, 100, Vec::new(alloc)).expect(rt, "an index");
-    Store {
-        index,
-        extents,
-        graph,
     }
 }
 
@@ -74,8 +56,7 @@ fn stage(rt: &impl Abort, store: &mut Store, commands: u64) -> Result<Option<u64
     assert!(rt; pages == 2);
     let limit = store.index.limit();
     assert!(rt; limit == 100);
-    let families = store.graph.families();
-    assert!(rt; 1 < families);
+    assert_families(rt, &store.extents, &store.graph);
     store
         .index
         .stage(&mut store.extents, &mut store.graph, commands)
@@ -89,8 +70,7 @@ fn merge(rt: &impl Abort, store: &mut Store, commands: u64) -> Result<u64, Refus
     assert!(rt; pages == 2);
     let limit = store.index.limit();
     assert!(rt; limit == 100);
-    let families = store.graph.families();
-    assert!(rt; 1 < families);
+    assert_families(rt, &store.extents, &store.graph);
     store.index.stage_merged(
         &mut store.extents,
         &mut store.graph,
@@ -238,3 +218,20 @@ plains > 1
 index merge 2 > Ok(3)
 plains > 1
 index counts > (0, 0)";
+
+/// A root needs the latest version of each section, also of one that its run isn't recorded by.
+#[test]
+fn a_root_needs_all_sections(rt: HostRuntime) {
+    plays_divided(&rt, DIVIDED);
+}
+
+const DIVIDED: &str = "extent put > Ok(((0, 0, 0), Some(2)))
+extent put > Ok(((0, 1, 0), Some(3)))
+extent put > Ok(((1, 0, 0), Some(4)))
+extent put > Ok(((1, 1, 0), Some(5)))
+index set 1 5 > Ok(())
+index stage 4 > Ok(Some(2))
+names 1.2 0.5 > true
+names 1.2 2.2 > true
+names 1.2 5 > false
+all > [[Plain(1), Plain(2), Plain(3), Plain(4), Plain(5)], [Version(0, 5), Version(2, 2)], [Version(1, 2)]] [Plain(1), Version(0, 5), Version(1, 2)]";

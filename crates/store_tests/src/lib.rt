@@ -9,6 +9,8 @@ mod core_sweeps;
 #[cfg(test)]
 mod cores;
 #[cfg(test)]
+mod crashes;
+#[cfg(test)]
 mod damage;
 #[cfg(test)]
 mod disks;
@@ -19,15 +21,23 @@ mod extents;
 #[cfg(test)]
 mod frames;
 #[cfg(test)]
+mod geometries;
+#[cfg(test)]
 mod graphs;
 #[cfg(test)]
 mod indexes;
 #[cfg(test)]
 mod machines;
 #[cfg(test)]
+mod migrations;
+#[cfg(test)]
 mod plans;
 #[cfg(test)]
+mod sections;
+#[cfg(test)]
 mod stores;
+#[cfg(test)]
+mod superblocks;
 #[cfg(test)]
 mod sweeps;
 #[cfg(test)]

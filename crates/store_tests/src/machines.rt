@@ -11,8 +11,17 @@ use std::process::Abort;
 
 /// A new store of 6 extents of 2 pages, whose history may have so many events.
 pub fn new_core(rt: &(impl Abort + AllocGlobal), history: usize) -> Core<MemoryDisk> {
-    let alloc = rt.alloc();
     let geometry = Geometry::new(6, 2).expect(rt, "a geometry");
+    new_core_of(rt, geometry, history)
+}
+
+/// A new store of this geometry.
+pub fn new_core_of(
+    rt: &(impl Abort + AllocGlobal),
+    geometry: Geometry,
+    history: usize,
+) -> Core<MemoryDisk> {
+    let alloc = rt.alloc();
     let disk = MemoryDisk::new(alloc, geometry.device_pages()).expect(rt, "a disk");
     match Core::format(alloc, disk, geometry, Limits { history }) {
         Ok(core) => core,
@@ -109,6 +118,7 @@ fn shown<D: PageDisk>(
         "replay" => text_of(rt, &core.replay(usize::from(number)).expect(rt, "memory")),
         "halted" => text_of(rt, &core.is_halted()),
         "written" => text_of(rt, &writes_back(rt, core)),
+        "opened" => text_of(rt, &core.opened()),
         _ => text_of(rt, &count_of(rt, core, word)),
     }
 }
@@ -162,7 +172,7 @@ pub fn writes_back<D: PageDisk>(rt: &(impl Abort + AllocGlobal), core: &mut Core
 }
 
 /// Writes the next round.
-fn writes_round<D: PageDisk>(rt: &impl Abort, core: &mut Core<D>) {
+pub fn writes_round<D: PageDisk>(rt: &impl Abort, core: &mut Core<D>) {
     answer(rt, core, &Event::Begin);
     for _ in 0..members(core) {
         answer(rt, core, &Event::Issue);
@@ -171,7 +181,7 @@ fn writes_round<D: PageDisk>(rt: &impl Abort, core: &mut Core<D>) {
 }
 
 /// How many members the round that is out has.
-fn members<D: PageDisk>(core: &Core<D>) -> usize {
+pub fn members<D: PageDisk>(core: &Core<D>) -> usize {
     match core.round() {
         Some((members, _)) => members.len(),
         None => 0,

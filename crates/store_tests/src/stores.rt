@@ -1,7 +1,9 @@
 //! The parts of a store, and what is done with them and asked of them by scripts: the first word of a line names a part, and others
 //! are asked of the graph.
-ghost use Rattle.std.specs.Prelude.{ℕ, ◌≤◌, ◌+◌, ◌*◌, slice_index};
+ghost use Rattle.std.specs.Prelude.{ℕ, ◌≡◌, ◌≤◌, ◌+◌, ◌*◌, IfOk, length, replicate, slice_index};
+ghost use Rattle.cs_extent.specs.Sections.{AreSections};
 ghost use Rattle.cs_extent.specs.State.{extents_of, shape};
+ghost use Rattle.cs_frame.specs.Geometries.{section_length};
 
 use crate::disks::memory;
 use crate::graphs::shown;
@@ -10,9 +12,9 @@ use crate::{chunks, extents, indexes, sweeps};
 use cs_deps::Graph;
 use cs_disk::{FailAt, PageDisk};
 use cs_extent::Extents;
-use cs_frame::{ShardId, Superblock};
+use cs_frame::{Geometry, ShardId, Superblock};
 use cs_index::Index;
-use std::alloc::Global;
+use std::alloc::{AllocError, Global};
 use std::process::Abort;
 
 /// An index with the extents where its shards and runs lie, and the graph that all is staged in.
@@ -29,22 +31,81 @@ pub fn id(last: u8) -> ShardId {
     ShardId([0, 0, 0, 0, 0, 0, 0, 0, 0, 0, 0, 0, 0, 0, 0, last])
 }
 
-/// An empty store of 6 extents of 2 pages for so many identifiers, with version 1 of superblock and root persistent.
-pub fn new_store(rt: &impl Abort, alloc: Global, limit: usize) -> Store {
-    let superblock = Superblock {
+/// A geometry of so many extents of 2 pages, and of so many sections.
+pub fn geometry(rt: &impl Abort, extents: u64, sections: u64) -> Geometry {
+    Geometry::with_sections(extents, 2, sections).expect(rt, "a geometry")
+}
+
+/// A section of a new store's superblock.
+fn new_section(alloc: Global, geometry: Geometry, section: u8) -> Result<Superblock, AllocError>
+    ensures version { IfOk result (λ it. it.version ≡ 1) }
+    ensures extents { IfOk result (λ it. it.extent_count ≡ geometry.extents) }
+    ensures pages { IfOk result (λ it. it.pages ≡ geometry.pages) }
+    ensures sections { IfOk result (λ it. it.sections ≡ geometry.sections) }
+    ensures section { IfOk result (λ it. it.section ≡ section) }
+    ensures rows { IfOk result (λ it. it.extents.items ≡ replicate {A = ℕ × ℕ} (section_length geometry.extents geometry.sections section) (0, 0)) }
+{
+    Ok(Superblock {
         version: 1,
-        pages: 2,
-        extents: Vec::from_slice(alloc, &[(0, 0); 6]).expect(rt, "memory"),
+        extent_count: geometry.extents(),
+        pages: geometry.pages(),
+        sections: geometry.sections(),
+        section,
+        extents: vec![in alloc; (0, 0); geometry.section_length(section)]?,
+    })
+}
+
+/// All sections of a new store's superblock, in order.
+fn new_sections(alloc: Global, geometry: Geometry) -> Result<Vec<Superblock>, AllocError>
+    ensures { IfOk result (λ sections. AreSections sections.items) }
+{
+    let count = geometry.sections();
+    let mut sections = Vec::with_capacity(alloc, usize::from(count))?;
+    for k in 0..count {
+        match new_section(alloc, geometry, k) {
+            Ok(superblock) => sections.push_reserved(superblock),
+            Err(fault) => return Err(fault),
+        }
+    }
+    Ok(sections)
+}
+
+/// The graph of a store of one section or of three, whose first versions are persistent.
+fn new_graph(rt: &impl Abort, alloc: Global, sections: u8) -> Graph {
+    let graph = match sections {
+        1 => Graph::new(alloc, &[1, 1]),
+        _ => Graph::new(alloc, &[1, 1, 1, 1]),
     };
-    assert_eq!(rt; superblock.extents.len(), 6);
-    let extents = Extents::of(alloc, &superblock).expect(rt, "memory");
-    let graph = Graph::new(alloc, &[1, 1]).expect(rt, "memory");
+    graph.expect(rt, "memory")
+}
+
+/// The extents of an empty store.
+pub fn new_extents(rt: &impl Abort, alloc: Global, geometry: Geometry) -> Extents
+    ensures { (e : ℕ) → (extents_of result).reset e ≡ 0 }
+{
+    let sections = new_sections(alloc, geometry).expect(rt, "memory");
+    Extents::of(alloc, &sections).expect(rt, "memory")
+}
+
+/// An empty store of one section or of three for so many identifiers, with version 1 of each section and of the root persistent.
+fn new_store(rt: &impl Abort, alloc: Global, geometry: Geometry, limit: usize) -> Store {
+    let extents = new_extents(rt, alloc, geometry);
+    let graph = new_graph(rt, alloc, geometry.sections());
     let index = Index::load(alloc, limit, Vec::new(alloc)).expect(rt, "an index");
     Store {
         index,
         extents,
         graph,
     }
+}
+
+/// Asserts that a graph has a family for each section of the superblock and one for the root.
+pub fn assert_families(rt: &impl Abort, extents: &Extents, graph: &Graph)
+    ensures { length graph.now.staging.latest ≡ 1 + (shape extents.now).sections }
+{
+    let families = graph.families();
+    let sections = extents.geometry().sections();
+    assert!(rt; families == 1 + usize::from(sections));
 }
 
 /// Asserts that a disk has the pages of a store.
@@ -86,23 +147,35 @@ fn play<D: PageDisk>(
     }
 }
 
-/// Does what a script says on a store over an empty disk of which a call fails.
-fn plays_on(rt: &(impl Abort + AllocGlobal), mut store: Store, call: u64, script: &str) {
-    let mut disk = FailAt::new(memory(rt, 14), call);
+/// Does what a script says on an empty store over an empty disk of which a call fails.
+fn plays_on(
+    rt: &(impl Abort + AllocGlobal),
+    geometry: Geometry,
+    limit: usize,
+    call: u64,
+    script: &str,
+) {
+    let mut store = new_store(rt, rt.alloc(), geometry, limit);
+    let mut disk = FailAt::new(memory(rt, geometry.device_pages()), call);
     play(rt, &mut store, &mut disk, script);
 }
 
-/// Does what a script says on an empty store over an empty disk of which a call fails.
+/// Does what a script says on an empty store of 6 extents over an empty disk of which a call fails.
 pub fn plays(rt: &(impl Abort + AllocGlobal), call: u64, script: &str) {
-    plays_on(rt, new_store(rt, rt.alloc(), 100), call, script);
+    plays_on(rt, geometry(rt, 6, 1), 100, call, script);
 }
 
 /// Does what a script says on an empty store whose index has at most so many identifiers.
 pub fn plays_small(rt: &(impl Abort + AllocGlobal), limit: usize, script: &str) {
-    plays_on(rt, new_store(rt, rt.alloc(), limit), 0, script);
+    plays_on(rt, geometry(rt, 6, 1), limit, 0, script);
 }
 
 /// Does what a script says on an empty store of 12 extents, which take five runs.
 pub fn plays_large(rt: &(impl Abort + AllocGlobal), script: &str) {
-    plays_on(rt, indexes::new_store(rt, rt.alloc()), 0, script);
+    plays_on(rt, geometry(rt, 12, 1), 100, 0, script);
+}
+
+/// Does what a script says on an empty store of 6 extents, of which each of three sections has two.
+pub fn plays_divided(rt: &(impl Abort + AllocGlobal), script: &str) {
+    plays_on(rt, geometry(rt, 6, 3), 100, 0, script);
 }

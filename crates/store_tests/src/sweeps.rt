@@ -8,7 +8,7 @@ ghost use Rattle.cs_model.specs.Index.{live_at};
 ghost use Rattle.cs_model.specs.Lists.{◌∈◌, nth};
 ghost use Rattle.cs_reclaim.specs.Sweeps.{IsSwept};
 
-use crate::stores::{Store, assert_large, id, plays};
+use crate::stores::{Store, assert_families, assert_large, id, plays};
 use crate::texts::{byte, text_of, words_of};
 use cs_chunk::put_chunks;
 use cs_deps::Refusal;
@@ -28,8 +28,7 @@ fn put(
     last: u8,
     byte: u8,
 ) -> Result<(), Refusal> {
-    let families = store.graph.families();
-    assert!(rt; 1 < families);
+    assert_families(rt, &store.extents, &store.graph);
     let places = put_chunks(alloc, &mut store.extents, &mut store.graph, &[byte])?;
     let count = places.len();
     assert!(rt; 1 <= count);
@@ -115,8 +114,7 @@ fn move_one<D: PageDisk>(
     sweep: &Sweep,
 ) -> Result<Option<(ShardId, usize)>, Refusal> {
     assert_swept(rt, &store.extents, sweep);
-    let families = store.graph.families();
-    assert!(rt; 1 < families);
+    assert_families(rt, &store.extents, &store.graph);
     let extents = store.extents.extent_count();
     let pages = store.extents.extent_pages();
     assert_inside(rt, &store.index, extents, pages);
@@ -133,8 +131,7 @@ fn move_one<D: PageDisk>(
 /// Retires the extent.
 fn retire(rt: &impl Abort, store: &mut Store, sweep: Sweep) -> Result<u64, (Refusal, Sweep)> {
     assert_swept(rt, &store.extents, &sweep);
-    let families = store.graph.families();
-    assert!(rt; 1 < families);
+    assert_families(rt, &store.extents, &store.graph);
     let pages = store.extents.extent_pages();
     assert!(rt; pages == 2);
     let limit = store.index.limit();

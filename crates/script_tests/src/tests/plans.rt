@@ -3,6 +3,7 @@ use super::{core_after, new_core_of, script_text};
 use cs_check::check;
 use cs_core::Core;
 use cs_disk::MemoryDisk;
+use cs_frame::Geometry;
 use std::alloc::Global;
 use std::process::Abort;
 use std::test::{Fail, *};
@@ -51,19 +52,31 @@ fn judge(rt: &(impl Abort + AllocGlobal), core: &Core<MemoryDisk>) -> bool {
     true
 }
 
-#[test]
-fn the_check_accepts_each_plan(rt: HostRuntime) -> Result<(), Fail> {
-    let lines = lines(rt.alloc(), 2000)?;
-    let mut core = new_core_of(&rt, 6, 8192)?;
+/// Asserts that the check accepts each plan over 6 extents of 2 pages and a superblock of so many sections.
+fn judge_each(
+    rt: &(impl Abort + AllocGlobal),
+    sections: u64,
+    lines: &[String],
+) -> Result<(), Fail> {
+    let mut core = new_core_of(rt, Geometry::with_sections(6, 2, sections)?, 8192)?;
     let mut plans: u64 = 0;
     for line in lines.iter() {
-        core = core_after(&rt, core, line);
-        if judge(&rt, &core) {
+        core = core_after(rt, core, line);
+        if judge(rt, &core) {
             plans = plans.saturating_add(1);
         }
     }
     assert!(rt; core.history().len() >= 2000);
     assert!(rt; plans >= 200);
     assert!(rt; core.frontier() >= 50);
+    Ok(())
+}
+
+#[test]
+fn the_check_accepts_each_plan(rt: HostRuntime) -> Result<(), Fail> {
+    let lines = lines(rt.alloc(), 2000)?;
+    for sections in [1, 3] {
+        judge_each(&rt, sections, &lines)?;
+    }
     Ok(())
 }

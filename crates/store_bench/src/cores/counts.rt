@@ -42,8 +42,8 @@ impl Counts {
     pub fn add_member(&mut self, member: Element) {
         let counted = match member {
             Element::Plain(_) => &mut self.plain,
-            Element::Version(0, _) => &mut self.superblocks,
-            Element::Version(_, _) => &mut self.roots,
+            Element::Version(1, _) => &mut self.roots,
+            Element::Version(_, _) => &mut self.superblocks,
         };
         *counted = counted.saturating_add(1);
     }

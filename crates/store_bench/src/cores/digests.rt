@@ -28,8 +28,9 @@ fn digest_texts(alloc: Global, count: u64, bytes: usize) -> Result<u64, Fault> {
 /// The digests of all that was written or read. Gives how many there are.
 pub fn digest_puts(alloc: Global, counts: Counts, task: Task) -> Result<u64, Fault> {
     let chunks = digest_texts(alloc, counts.puts, task.bytes)?;
-    let superblock = (task.extents as usize).saturating_mul(6).saturating_add(16);
-    let superblocks = digest_texts(alloc, counts.superblocks, superblock)?;
+    let extents = task.extents / task.sections.max(1);
+    let section = (extents as usize).saturating_mul(6).saturating_add(18);
+    let superblocks = digest_texts(alloc, counts.superblocks, section)?;
     let run = (counts.entries / counts.runs.max(1))
         .saturating_mul(81)
         .saturating_add(4);

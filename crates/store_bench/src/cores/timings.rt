@@ -28,6 +28,18 @@ fn print_counts<R: Print>(rt: &R, counts: Counts, persistent: u64) -> Result<(),
     Ok(())
 }
 
+/// Makes the digests alone of what was written or read, and gives how many there are and how long they took.
+fn timed_digests<R: Clock>(
+    rt: &R,
+    alloc: Global,
+    counts: Counts,
+    task: Task,
+) -> Result<(u64, u128), Fault> {
+    let start = now(rt)?;
+    let digests = digest_puts(alloc, counts, task)?;
+    Ok((digests, micros_since(rt, start)?))
+}
+
 /// Prints how long something took that wrote or read so much, and how long its digests alone take.
 fn print_times<R: Print + Clock>(
     rt: &R,
@@ -36,9 +48,7 @@ fn print_times<R: Print + Clock>(
     counts: Counts,
     task: Task,
 ) -> Result<(), Fault> {
-    let start = now(rt)?;
-    let digests = digest_puts(alloc, counts, task)?;
-    let alone = micros_since(rt, start)?;
+    let (digests, alone) = timed_digests(rt, alloc, counts, task)?;
     println!(rt; "in {took} us, its {digests} digests alone in {alone} us")?;
     Ok(())
 }
@@ -78,6 +88,22 @@ pub fn time_puts<R: Print + Clock>(
     print_times(rt, alloc, took, counts, task)
 }
 
+/// Times the puts, and the digests of what they wrote, in one line that begins with the number of sections.
+pub fn time_sections<R: Print + Clock>(
+    rt: &R,
+    alloc: Global,
+    core: &mut Core<MemoryDisk>,
+    task: Task,
+) -> Result<(), Fault> {
+    let (counts, took) = timed_puts(rt, alloc, core, task)?;
+    let (digests, alone) = timed_digests(rt, alloc, counts, task)?;
+    println!(rt;
+        "sections {}: {} puts in {took} us, their {digests} digests alone in {alone} us",
+        task.sections, counts.puts
+    )?;
+    Ok(())
+}
+
 /// Gets, and gives how many shards were found and how long it took.
 fn timed_gets<R: Clock>(
     rt: &R,
@@ -115,6 +141,7 @@ pub fn time_beside<R: Print + Clock>(
         bytes: task.bytes,
         batch: task.batch,
         extents: task.extents,
+        sections: task.sections,
     };
     put_all(alloc, core, written)?;
     put_waiting(alloc, core, task)?;

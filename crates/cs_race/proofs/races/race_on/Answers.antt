@@ -1,0 +1,11 @@
+use Rattle.std.proofs.Common.{ℕ, List, subst, sym}
+use Rattle.std.specs.Io.KnownBytes.{Appends}
+use Rattle.cs_node.specs.Starts.{Start}
+use Rattle.cs_race.specs.Races.{Races}
+use Rattle.cs_race.proofs.races.race_on.Goals as goal
+
+pub returns-in-Ok-close-clause-closes : goal.returns-in-Ok-close-clause-closes
+returns-in-Ok-close-clause-closes g c small =
+    let before = g.W.Write.contents c.args.writer.now in
+    let after = g.W.Write.contents c.close.new.writer in
+    subst (λ (s : Start). (out : List ℕ) × Races g.D.PageDisk s c.in-Ok-close.status out × Appends before after out) (sym c.requires.named.1) c.in-Ok-close.ensures.closes
