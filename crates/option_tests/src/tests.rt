@@ -61,6 +61,7 @@ const NO_GEOMETRIES: &[&[&str]] = &[
     &["cs_cli", "run", "--sections", "0"],
     &["cs_cli", "run", "--sections", "4"],
     &["cs_cli", "run", "--extents=64", "--sections=9"],
+    &["cs_cli", "run", "--extents=64", "--sections=259"],
     &["cs_cli", "run", "--extents=513", "--sections=1"],
 ];
 
