@@ -235,7 +235,7 @@ names 1.2 2.5 > true
 names 1.2 3.2 > true
 names 1.2 9 > false";
 
-/// An extent that is emptied is recorded by the next version of its own section, which alone needs the root that emptied it.
+/// The section of an extent that was emptied says so with its next version, and no version of another section needs the root that emptied it.
 #[test]
 fn a_reset_of_one_section(rt: HostRuntime) {
     plays_divided(&rt, RESET_OF_ONE);
