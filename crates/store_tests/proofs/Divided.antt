@@ -4,7 +4,7 @@ use Rattle.std.proofs.lemmas.List.{length-replicate}
 use Rattle.std.proofs.lemmas.Option.{same_Some}
 use Rattle.std.specs.List.{AllByRecursion}
 use Rattle.std.specs.Prelude.{slice_get}
-use Rattle.cs_extent.specs.Sections.{AreSections, IsSectionAt, count_of, pages_of}
+use Rattle.cs_extent.specs.Sections.{AreSections, IsSectionAt}
 use Rattle.cs_frame.specs.declared.superblocks.Superblock.{Superblock}
 use Rattle.cs_frame.specs.Geometries.{IsGeometry, section_length}
 

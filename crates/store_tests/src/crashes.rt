@@ -16,15 +16,17 @@ pub struct Round<'a> {
     pub all: &'a str,
 }
 
-/// Does what a script says, writes so many rounds, and then so many of the members of the next one, which has to have this size.
+/// Does what scripts say, writes so many rounds, and then so many of the members of the next one, which has to have this size.
 fn stops<D: PageDisk>(
     rt: &(impl Abort + AllocGlobal),
     core: &mut Core<D>,
-    script: &str,
+    scripts: &[&str],
     rounds: usize,
     (size, issued): (usize, usize),
 ) {
-    play(rt, core, script);
+    for script in scripts {
+        play(rt, core, script);
+    }
     for _ in 0..rounds {
         writes_round(rt, core);
     }
@@ -60,11 +62,11 @@ fn leaves(rt: &(impl Abort + AllocGlobal), disk: MemoryDisk, number: usize, want
     let_go(core);
 }
 
-/// Crashes each time a core that is opened on this image and does what a script says, in this round behind so many others.
+/// Crashes each time a core that is opened on this image and does what scripts say, in this round behind so many others.
 fn crashes_in(
     rt: &(impl Abort + AllocGlobal),
     image: &[u8],
-    script: &str,
+    scripts: &[&str],
     before: usize,
     round: Round,
 ) {
@@ -72,7 +74,7 @@ fn crashes_in(
     for issued in 0..=round.size {
         for number in 0..masks {
             let mut core = opened(rt, disk_of(rt, image), 1000);
-            stops(rt, &mut core, script, before, (round.size, issued));
+            stops(rt, &mut core, scripts, before, (round.size, issued));
             let is_all = issued == round.size && number.saturating_add(1) == masks;
             let wanted = if is_all { round.all } else { round.part };
             leaves(rt, core.into_disk(), number, wanted);
@@ -81,11 +83,11 @@ fn crashes_in(
     }
 }
 
-/// Crashes in each round of those that write back what a script leaves waiting.
-pub fn crashes(rt: &(impl Abort + AllocGlobal), image: &[u8], script: &str, rounds: &[Round]) {
+/// Crashes in each round of those that write back what scripts leave waiting.
+pub fn crashes(rt: &(impl Abort + AllocGlobal), image: &[u8], scripts: &[&str], rounds: &[Round]) {
     let mut before: usize = 0;
     for round in rounds {
-        crashes_in(rt, image, script, before, *round);
+        crashes_in(rt, image, scripts, before, *round);
         before = before.saturating_add(1);
     }
 }

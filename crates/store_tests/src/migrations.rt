@@ -109,5 +109,5 @@ fn crashes_of_the_first_sync(rt: HostRuntime) {
             all: BEHIND,
         },
     ];
-    crashes(&rt, first_format_image(&rt).as_slice(), PUT, &rounds);
+    crashes(&rt, first_format_image(&rt).as_slice(), &[PUT], &rounds);
 }

@@ -50,18 +50,6 @@ const ROUNDS: &str =
     "plan > [[Plain(1), Plain(2), Plain(3), Plain(4), Plain(5), Plain(6)], [Version(0, 5), Version(2, 3)], [Version(1, 2)], [Plain(7), Plain(8)], [Version(0, 7)], [Version(1, 3)]] [Plain(1), Version(0, 5), Version(1, 2), Plain(7), Version(0, 7), Version(1, 3)]
 written > 4";
 
-/// All of that in one script.
-const ALL: &str = "put 10 97 > Accepted(1)
-put 11 98 > Accepted(2)
-sweep 0 > Sweeping
-move 0 > Moved(ShardId([0, 0, 0, 0, 0, 0, 0, 0, 0, 0, 0, 0, 0, 0, 0, 10]), 0)
-move 0 > Moved(ShardId([0, 0, 0, 0, 0, 0, 0, 0, 0, 0, 0, 0, 0, 0, 0, 11]), 0)
-move 0 > NoneLive
-retire 0 > Retired(2)
-put 12 99 > Accepted(3)
-put 13 100 > Accepted(4)
-stage > Staged(3)";
-
 /// What a crash leaves before the first root is kept, ..
 const NONE: &str = "CSS2
 opened > (0, 0)
@@ -109,7 +97,8 @@ fn crashes_over_sections(rt: HostRuntime) {
         round_of(1, TWO),
         round_of_root(TWO, FOUR),
     ];
-    crashes(&rt, image.as_slice(), ALL, &rounds);
+    let scripts = [FILL, SWEEP, BEHIND, STAGED];
+    crashes(&rt, image.as_slice(), &scripts, &rounds);
     let_go(core);
 }
 

@@ -1,4 +1,4 @@
-use Rattle.std.proofs.Common.{false, get_or, refl, Ok}
+use Rattle.std.proofs.Common.{false, get_or}
 use Rattle.store_tests.proofs.Resets.{resets_marked}
 use Rattle.store_tests.proofs.sweeps.abandon.Goals as goal
 

@@ -1,4 +1,4 @@
-use Rattle.std.proofs.Common.{◌≡◌, ℕ, List, ap, map, subst, sym}
+use Rattle.std.proofs.Common.{ℕ, List, map, subst}
 use Rattle.cs_frame.specs.Formats.{place_of}
 use Rattle.cs_model.specs.Element.{Entry, Locator as Place}
 use Rattle.cs_model.specs.Index.{live_at}
