@@ -7,7 +7,7 @@ use std::test::{Fail, *};
 
 /// How page 0 begins in the first format after one put and a sync on 6 extents of 2 pages; zeros follow. The digest is that which sha256sum
 /// makes.
-const FIRST_FORMAT: &[u8; 86] =
+const FIRST_FORMAT: &[u8] =
     b"CSS1\0\0\0\0\0\0\0\x03\0\x06\0\x02\0\x02\0\0\0\0\0\0\0\0\0\0\0\0\0\0\0\0\0\0\0\0\0\0\0\0\0\0\0\0\0\0\0\0\0\0\x1f\xe2\xc4\xcb\x0b\x99\x98\x63\xd2\xe2\x83\xe9\x16\xcc\x8d\x8e\x2a\xfd\x79\x34\xc7\xfe\xb1\xcf\x30\x27\xd1\xa7\x95\x6d\xbe\xef\0\0";
 
 /// How page 0 begins once another put was synced.
@@ -19,8 +19,10 @@ fn disk(rt: &(impl Abort + AllocGlobal)) -> Result<MemoryDisk, Fail> {
     let text = script_text(rt.alloc(), "put @a 61 / sync")?;
     let disk = disk_after(rt, 6, &text)?;
     let mut image = Vec::from_slice(rt.alloc(), disk.image())?;
-    assert!(rt; image.len() >= 86);
-    image[..86].copy_from_slice(FIRST_FORMAT);
+    for (at, byte) in FIRST_FORMAT.iter().enumerate() {
+        assert!(rt; at < image.len());
+        image[at] = *byte;
+    }
     Ok(MemoryDisk::of_image(rt.alloc(), image)?)
 }
 
