@@ -1,0 +1,4 @@
+pub mod Times
+pub mod Laws
+pub mod Tallied
+pub mod Accounted
