@@ -39,14 +39,14 @@ module _ (S : Shape) (F : Formats) where
   }
 
 -- a core goes on by what its store serves
-pub goes : {D : Type 0} (state : D → DiskState) (v w : Stored) (disk after : D) (opened : Image) (found : ℕ × ℕ) (history : List (Asked × Told)) (limit limit2 : ℕ) (event : Asked) (reply : Told)
+pub goes : {D : Type 0} (state : D → DiskState) (v w : Stored) (disk after : D) (opened : Image) (found : ℕ × ℕ) (history : List (Asked × Told)) (base base2 limit limit2 : ℕ) (event : Asked) (reply : Told)
     → shape w.extents ≡ shape v.extents → Serves v (state disk) event reply w (state after) → (s : State)
-    → IsIn state (record { disk = disk; opened = opened; found = found; store = but_for_room v; history = history; limit = limit }) s
+    → IsIn state (record { disk = disk; opened = opened; found = found; store = but_for_room v; history = history; base = base; limit = limit }) s
     → (m : Reply) × (t : State) × Says (shape v.extents) (formats_of (shape v.extents)) reply m
     × Step (shape v.extents) (formats_of (shape v.extents)) s (event_of event) m t
-    × IsIn state (record { disk = after; opened = opened; found = found; store = but_for_room w; history = history ++ (event, reply) ∷ []; limit = limit2 }) t
+    × IsIn state (record { disk = after; opened = opened; found = found; store = but_for_room w; history = history ++ (event, reply) ∷ []; base = base2; limit = limit2 }) t
 unfolding Serves
-goes state v w disk after opened found history limit limit2 event reply same serves s was =
+goes state v w disk after opened found history base base2 limit limit2 event reply same serves s was =
     let d = serves s (same_state (but_for_room v) v s was.store refl) was.disk in (
       d.0,
       d.1,

@@ -1,5 +1,5 @@
 -- What a crash leaves of many calls.
-use Rattle.std.proofs.Common.{◌≡◌, ◌∙◌, inl, inr, ⊎_elim, ◌+◌, ◌≤◌, List, [], ◌∷◌, ◌++◌, append_assoc, length, length-append, arith, le_of_eq, refl, sym, ap, subst}
+use Rattle.std.proofs.Common.{◌≡◌, ◌∙◌, inl, inr, ⊎_elim, ◌⊎◌, ℕ, ◌+◌, ◌≤◌, List, [], ◌∷◌, ◌++◌, append_assoc, length, length-append, arith, le_of_eq, refl, sym, ap, subst}
 use Rattle.std.proofs.lemmas.List.{append-nil}
 use Rattle.cs_disk.specs.declared.disk.PageDisk.{Ghosts as PageDisk}
 use Rattle.cs_disk.specs.Disk.{Image, LeavesOnly, State as DiskState, page}
@@ -14,6 +14,7 @@ use Rattle.cs_core.specs.declared.events.Event.{Event}
 use Rattle.cs_core.specs.declared.events.Reply.{Reply}
 use Rattle.cs_core.specs.Meanings.{command_said, commands_said}
 use Rattle.cs_core.specs.Calls.{AreCalls, IsCall}
+use Rattle.cs_core.specs.Checkpoints.{Replaces}
 use Rattle.cs_core.specs.States.{IsStateOf}
 use Rattle.cs_core.specs.Stored.{Stored}
 use Rattle.cs_core.specs.Views.{Applies, IsUntouched, IsFull, IsIn, IsReached, IsStep, View}
@@ -94,13 +95,31 @@ module _ {D : Type 0} (disks : PageDisk D) where
     is_in = d.4;
   }
 
+  -- the history was replaced
+  replaced_follows : (old : View D) (s : State) → disks.honest old.disk → IsIn disks.state old s → Follows old (record old { base = length old.history })
+  replaced_follows old s there is = record {
+    same_shape = refl;
+    opened = refl;
+    more = [];
+    longer = refl;
+    rises = omega arith;
+    counted_old = count_of old s is;
+    counted = count_of old s is;
+    stays_honest = there;
+    state_then = s;
+    is_in = record { store = is.store; disk = is.disk; reached = is.reached };
+  }
+
   call_follows : (old new : View D) (s : State) → disks.honest old.disk → IsCall disks old new → IsIn disks.state old s → Follows old new
   call_follows old new s there call is = ⊎_elim
       (λ (did : (e : Event) × (r : Reply) × Applies disks old e r new). ⊎_elim
-      (λ (full : IsFull old did.1 new). subst (λ (v : View D). Follows old v) (sym full.same) (same_follows old s there is))
+      (λ (full : IsFull old did.0 did.1 new). subst (λ (v : View D). Follows old v) (sym full.same) (same_follows old s there is))
       (λ (step : IsStep disks old did.0 did.1 new). step_follows old new did.0 did.1 s there (call.stays_honest there) call.rises step is)
       did.2)
+      (λ (other : IsUntouched disks old new ⊎ ((n : ℕ) × Replaces old n new)). ⊎_elim
       (λ (asked : IsUntouched disks old new). asked_follows old new s there (call.stays_honest there) asked is)
+      (λ (replaced : (n : ℕ) × Replaces old n new). subst (λ (v : View D). Follows old v) (sym replaced.1.1) (replaced_follows old s there is))
+      other)
       call.did
 
   follows_then : (a b c : View D) → Follows a b → Follows b c → Follows a c

@@ -1,5 +1,5 @@
 -- How a store goes on from one state of the machine to the next.
-use Rattle.std.proofs.Common.{◌≡◌, ◌⊎◌, inl, inr, ⊎_elim, ℕ, suc, ◌+◌, Bool, true, false, List, [], ◌∷◌, ◌++◌, length, map, take, drop, refl, sym, ap, ◌∙◌, subst}
+use Rattle.std.proofs.Common.{◌≡◌, ◌⊎◌, inl, inr, ⊎_elim, ℕ, suc, ◌+◌, ◌≤◌, Bool, true, false, List, [], ◌∷◌, ◌++◌, length, map, take, drop, refl, sym, ap, ◌∙◌, subst}
 use Rattle.std.specs.Prelude.{Contains, Option, is_some}
 use Rattle.std.proofs.lemmas.List.Elements.{Contains-append_left, Contains-push, Contains-push_cases}
 use Rattle.cs_deps.specs.declared.elements.Element.{Element as Name}
@@ -72,17 +72,17 @@ frontier_same S F s t n front same count =
 
 pub roots_same : (roots : List Noted) (s t : State) → AreRootsOf roots s → SameRoots s.world t.world → t.count ≡ s.count → AreRootsOf roots t
 roots_same roots s t are same count = record {
-  all = λ r has. let q = are.all r (subst (λ (rs : List Root). r ∈ rs) same.roots has) in (q.0, q.1, q.2, ap (λ (c : ℕ). c + q.0.commands) count ∙ q.3);
+  all = λ r has young. let q = are.all r (subst (λ (rs : List Root). r ∈ rs) same.roots has) (subst (λ (P : Cut). P.root ≤ r.version) same.persistent young) in (q.0, q.1, q.2, ap (λ (c : ℕ). c + q.0.commands) count ∙ q.3);
   only = λ q has. let r = are.only q has in (r.0, subst (λ (rs : List Root). r.0 ∈ rs) (sym same.roots) r.1, r.2, ap (λ (c : ℕ). c + q.commands) count ∙ r.3);
 }
 
 -- one root more was staged, and noted
-pub roots_more : (roots : List Noted) (s t : State) (r : Root) (q : Noted) → AreRootsOf roots s → roots_of t.world.elements ≡ r ∷ roots_of s.world.elements → q.version ≡ r.version → s.count + q.commands ≡ r.commands → t.count ≡ s.count
+pub roots_more : (roots : List Noted) (s t : State) (r : Root) (q : Noted) → AreRootsOf roots s → roots_of t.world.elements ≡ r ∷ roots_of s.world.elements → q.version ≡ r.version → s.count + q.commands ≡ r.commands → t.world.persistent ≡ s.world.persistent → t.count ≡ s.count
     → AreRootsOf (roots ++ q ∷ []) t
-roots_more roots s t r q are more version commands count = record {
-  all = λ p has. ⊎_elim
+roots_more roots s t r q are more version commands persistent count = record {
+  all = λ p has young. ⊎_elim
       (λ (e : p ≡ r). (q, Contains-push roots q, version ∙ ap (λ (u : Root). u.version) (sym e), ap (λ (c : ℕ). c + q.commands) count ∙ commands ∙ ap (λ (u : Root). u.commands) (sym e)))
-      (λ (old : p ∈ roots_of s.world.elements). let o = are.all p old in (o.0, Contains-append_left roots (q ∷ []) o.0 o.1, o.2, ap (λ (c : ℕ). c + o.0.commands) count ∙ o.3))
+      (λ (old : p ∈ roots_of s.world.elements). let o = are.all p old (subst (λ (P : Cut). P.root ≤ p.version) persistent young) in (o.0, Contains-append_left roots (q ∷ []) o.0 o.1, o.2, ap (λ (c : ℕ). c + o.0.commands) count ∙ o.3))
       (subst (λ (rs : List Root). p ∈ rs) more has);
   only = λ p has. ⊎_elim
       (λ (old : Contains roots p). let o = are.only p old in (o.0, subst (λ (rs : List Root). o.0 ∈ rs) (sym more) (inr o.1), o.2, ap (λ (c : ℕ). c + p.commands) count ∙ o.3))

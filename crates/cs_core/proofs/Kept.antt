@@ -1,13 +1,10 @@
 -- What each step of a store keeps.
-use Rattle.std.proofs.Common.{◌≡◌, ◌∙◌, ℕ, zero, suc, ◌+◌, ◌^◌, ◌<◌, ◌≤◌, Bool, true, false, List, [], ◌∷◌, Some, length, sym, ap, subst, inl, inr, ⊎_elim, arith, refl}
-use Rattle.std.proofs.Common.{get_or}
-use Rattle.std.proofs.lemmas.List.{get_or_default}
-use Rattle.std.specs.Prelude.{Contains, OnErr, Option, Result, None, Ok, Err, map, slice_index, slice_index_or, if◌then◌else◌, ◌==◌}
-use Rattle.std.proofs.lemmas.Bool.Decides.{nat_tests}
+use Rattle.std.proofs.Common.{◌≡◌, ◌∙◌, ℕ, zero, suc, ◌+◌, ◌^◌, ◌<◌, ◌≤◌, Bool, true, false, List, [], ◌∷◌, ◌++◌, Some, length, sym, ap, subst, inl, inr, ⊎_elim, arith, refl}
+use Rattle.std.specs.Prelude.{OnErr, Option, Result, None, Ok, Err, map, slice_index, slice_index_or, if◌then◌else◌, ◌==◌}
 use Rattle.cs_deps.specs.declared.elements.Element.{Element}
 use Rattle.cs_deps.specs.State.{State as GraphState, AddsNone}
 use Rattle.cs_extent.specs.Appended.{AreAppended, IsAppended}
-use Rattle.cs_extent.specs.Frames.{AreResetsStaged}
+use Rattle.cs_extent.specs.Frames.{AreResetsStaged, root_family}
 use Rattle.cs_extent.specs.State.{State as ExtentsState, extents_of, shape}
 use Rattle.cs_chunk.proofs.Chunkings.{length-spelled}
 use Rattle.cs_frame.specs.declared.locators.Locator.{Locator}
@@ -25,7 +22,7 @@ use Rattle.cs_model.specs.Device.{Inside, Shape}
 use Rattle.cs_model.specs.Element.{Locator as Place}
 use Rattle.cs_model.specs.Extents.{Extents, ForRun, Purpose as Reason, marked}
 use Rattle.std.proofs.lemmas.Bool.{cases_eq, cond-false, cond-true, eq-eqb, ne_eqb}
-use Rattle.cs_deps.specs.Staging.{Staging}
+use Rattle.cs_deps.specs.Staging.{IsKept as AreKept, Staging}
 use Rattle.cs_model.specs.Index.{live, live_at, lookup}
 use Rattle.cs_model.specs.Lists.{◌∈◌}
 use Rattle.cs_reclaim.specs.Retired.{IsRetired}
@@ -33,7 +30,10 @@ use Rattle.cs_model.specs.Extents.{ForMove}
 use Rattle.cs_reclaim.specs.Sweeps.{IsSwept}
 use Rattle.cs_reclaim.proofs.Sweeping.{append_swept}
 use Rattle.cs_core.specs.Stored.{AreInside, AreSwept, AreWithin, IsKept, KeepsDevice, Stored, members_of, page_total}
-use Rattle.cs_core.proofs.Moves.{extent_there, frame_fits, moves_extents, moves_merged, moves_then}
+use Rattle.cs_core.specs.declared.roots.Root.{Root}
+use Rattle.cs_core.specs.Frontiers.{AreNoted}
+use Rattle.cs_core.proofs.Moves.{AddsRoot, extent_there, frame_fits, last_root, moves_extents, moves_merged, moves_then}
+use Rattle.cs_core.proofs.Noted.{noted_accepted, noted_pushed}
 
 -- PLACES
 -- the places of some chunks are there
@@ -68,22 +68,6 @@ same_limit i j e = ap (λ (u : IndexState). u.limit) e
 
 pub same_live : (i j : IndexState) → j ≡ record i { room = j.room } → (id : ℕ) → live_at (index_of j) id ≡ live_at (index_of i) id
 same_live i j e id = ap (λ (u : IndexState). live_at (index_of u) id) e
-
--- the locators that an identifier has now
-pub set_found : (i : IndexState) (id : ℕ) (ls : List Place) (j : IndexState) → IsSet i id ls j → lookup id (index_of j) ≡ Some ls
-set_found i id ls j set = split (id == id) same (set.index id)
-  where
-    same : (id == id) ≡ true
-    same = grind (arith, nat_tests)
-
-    split : (b : Bool) → b ≡ true → lookup id (index_of j) ≡ (if b then Some ls else lookup id (index_of i)) → lookup id (index_of j) ≡ Some ls
-    split true e is = is
-    split false e is = absurd (cc e)
-
--- what has locators now is live
-pub set_live : (i : IndexState) (id : ℕ) (ls : List Locator) (j : IndexState) → IsSet i id (map place_of ls) j → 1 ≤ length ls → live_at (index_of j) id ≡ [] → ⊥
-set_live i id [] j set some none = omega (arith, some)
-set_live i id (l ∷ ls) j set some none = let no : place_of l ∷ map place_of ls ≡ [] = ap live (sym (set_found i id (map place_of (l ∷ ls)) j set)) ∙ none in absurd (cc no)
 
 -- an identifier has other locators
 pub inside_set : (S : Shape) (i : IndexState) (id : ℕ) (ls : List Place) (j : IndexState) → AreInside S i → IsSet i id ls j → ((l : Place) → l ∈ ls → Inside S l.extent l.page) → AreInside S j
@@ -154,11 +138,29 @@ swept_retired i x g e v commands j y h some r same swept d is =
     })
     (cases_eq d e)
 
+-- ROOTS THAT ARE NOTED
+-- no root was staged, and no fewer commands were accepted
+pub noted_on : (s : Stored) → IsKept s → (h : GraphState) → last_root h ≡ last_root s.graph → (roots : List Root) → roots ≡ s.roots → (accepted : ℕ) → s.accepted ≤ accepted
+    → AreNoted (slice_index s.graph.staging.pending.persistent root_family) (last_root h) roots s.frontier accepted
+noted_on s kept h latest roots same accepted more =
+    subst (λ (l : ℕ). AreNoted (slice_index s.graph.staging.pending.persistent root_family) l roots s.frontier accepted) (sym latest)
+    (subst (λ (rs : List Root). AreNoted (slice_index s.graph.staging.pending.persistent root_family) (last_root s.graph) rs s.frontier accepted) (sym same)
+    (noted_accepted (slice_index s.graph.staging.pending.persistent root_family) (last_root s.graph) s.roots s.frontier s.accepted kept.noted accepted more))
+
+-- a root was staged
+pub noted_staged : (s : Stored) → IsKept s → AreKept s.graph.staging → (h : GraphState) (v : ℕ) → AddsRoot s.graph h v → (roots : List Root) → roots ≡ s.roots ++ record { version = v; commands = s.accepted } ∷ []
+    → AreNoted (slice_index s.graph.staging.pending.persistent root_family) (last_root h) roots s.frontier s.accepted
+noted_staged s kept graph h v adds roots same =
+    subst (λ (l : ℕ). AreNoted (slice_index s.graph.staging.pending.persistent root_family) l roots s.frontier s.accepted) (sym adds.latest)
+    (subst (λ (rs : List Root). AreNoted (slice_index s.graph.staging.pending.persistent root_family) v rs s.frontier s.accepted) (sym same)
+    (noted_pushed (slice_index s.graph.staging.pending.persistent root_family) (last_root s.graph) s.roots s.frontier s.accepted kept.noted v (graph.persistent_staged root_family) (omega (arith, adds.next))))
+
 -- SOUNDNESS
 pub kept_on : (s w : Stored) → IsKept s → KeepsDevice s.extents s.graph w.extents w.graph → AreResetsStaged (extents_of w.extents) w.graph.staging
     → length w.graph.staging.latest ≡ length s.graph.staging.latest → w.index.limit ≡ s.index.limit → AreInside (shape s.extents) w.index
-    → w.out ≡ s.out → w.issued ≡ s.issued → w.base + w.accepted < 2 ^ 63 → AreSwept w.extents → IsKept w
-kept_on s w kept moves resets families limit inside out issued numbers swept = record {
+    → w.out ≡ s.out → w.issued ≡ s.issued → w.base + w.accepted < 2 ^ 63 → AreSwept w.extents
+    → AreNoted (slice_index s.graph.staging.pending.persistent root_family) (last_root w.graph) w.roots w.frontier w.accepted → IsKept w
+kept_on s w kept moves resets families limit inside out issued numbers swept noted = record {
   families = families ∙ kept.families ∙ ap (λ (S : Shape). 1 + S.sections) (sym moves.same_shape);
   resets = resets;
   writes = subst (λ (S : Shape). AreWithin (page_total S) w.graph) (sym moves.same_shape) (moves.within kept.writes);
@@ -168,6 +170,7 @@ kept_on s w kept moves resets families limit inside out issued numbers swept = r
   some = subst (λ (o : Option (List Element)). w.issued ≤ length (members_of o)) (sym out) (let le = kept.some in omega (arith, issued));
   numbers = numbers;
   swept = swept;
+  noted = subst (λ (vs : List ℕ). AreNoted (slice_index vs root_family) (last_root w.graph) w.roots w.frontier w.accepted) (sym moves.behind.persistent) noted;
 }
 
 -- an extent is marked, or no longer
@@ -190,12 +193,13 @@ marked_resets x y g e b old is = subst (λ (u : Extents). AreResetsStaged u g) (
 pub kept_marked : (s : Stored) → IsKept s → (y : ExtentsState) (e : ℕ) (b : Bool) → shape y ≡ shape s.extents → extents_of y ≡ marked (extents_of s.extents) e b → (b ≡ true → IsSwept (shape y) (extents_of y) e)
     → IsKept (record s { extents = y })
 kept_marked s kept y e b same extents here = kept_on s (record s { extents = y }) kept (moves_extents s.extents s.graph y same) (marked_resets s.extents y s.graph.staging e b kept.resets extents)
-    refl refl kept.places refl refl kept.numbers (swept_marked s.extents y e b same extents kept.swept here)
+    refl refl kept.places refl refl kept.numbers (swept_marked s.extents y e b same extents kept.swept here) kept.noted
 
 -- a round began or ended
-pub kept_round : (s : Stored) → IsKept s → (g : GraphState) → g.staging.latest ≡ s.graph.staging.latest → AddsNone s.graph g → (out : Option (List Element)) → out ≡ g.round → (issued frontier : ℕ) → issued ≤ length (members_of out)
-    → IsKept (record s { graph = g; out = out; issued = issued; frontier = frontier })
-kept_round s kept g latest none out is issued frontier few = record {
+pub kept_round : (s : Stored) → IsKept s → (g : GraphState) → g.staging.latest ≡ s.graph.staging.latest → AddsNone s.graph g → (out : Option (List Element)) → out ≡ g.round → (issued : ℕ) → issued ≤ length (members_of out)
+    → (roots : List Root) (frontier : ℕ) → AreNoted (slice_index g.staging.pending.persistent root_family) (last_root s.graph) roots frontier s.accepted
+    → IsKept (record s { graph = g; roots = roots; out = out; issued = issued; frontier = frontier })
+kept_round s kept g latest none out is issued few roots frontier noted = record {
   families = ap length latest ∙ kept.families;
   resets = subst (λ (vs : List ℕ). (e : ℕ) → (extents_of s.extents).reset e ≤ slice_index vs 1) (sym latest) kept.resets;
   writes = λ x w there. kept.writes x w (none x w there);
@@ -205,8 +209,5 @@ kept_round s kept g latest none out is issued frontier few = record {
   some = few;
   numbers = kept.numbers;
   swept = kept.swept;
+  noted = subst (λ (vs : List ℕ). AreNoted (slice_index g.staging.pending.persistent root_family) (slice_index vs root_family) roots frontier s.accepted) (sym latest) noted;
 }
-
--- a member that is read
-pub is_member : {X : Type 0} (xs : List X) (i : ℕ) (d : X) → i < length xs → Contains xs (get_or xs i d)
-is_member xs i d lt = (i, lt, get_or_default xs i (get_or xs i d) d lt)

@@ -1,5 +1,5 @@
 -- What a move of a chunk keeps.
-use Rattle.std.proofs.Common.{◌≡◌, ◌⊎◌, inl, inr, ⊎_elim, ℕ, zero, suc, List, [], ◌∷◌, Some, None, Ok, Err, ap, length, refl, sym, subst}
+use Rattle.std.proofs.Common.{◌≡◌, ◌⊎◌, inl, inr, ⊎_elim, ℕ, zero, suc, List, [], ◌∷◌, Some, None, Ok, Err, ap, arith, length, refl, sym, subst}
 use Rattle.std.specs.Prelude.{OnErr, OnOk, Option, Result}
 use Rattle.cs_deps.specs.declared.refusals.Refusal.{Refusal as Code}
 use Rattle.cs_deps.specs.State.{State as GraphState}
@@ -13,8 +13,8 @@ use Rattle.cs_model.specs.Index.{live_at}
 use Rattle.cs_model.specs.Lists.{replaced, ◌∈◌}
 use Rattle.cs_reclaim.specs.Moves.{IsMoved, chunk_frame}
 use Rattle.cs_core.specs.Stored.{AreSwept, IsKept, StagesBehind, Stored}
-use Rattle.cs_core.proofs.Kept.{inside_live, inside_set, kept_on, places_there, same_live, swept_appended}
-use Rattle.cs_core.proofs.Moves.{behind_none, moves_appended, moves_refused}
+use Rattle.cs_core.proofs.Kept.{inside_live, inside_set, kept_on, noted_on, places_there, same_live, swept_appended}
+use Rattle.cs_core.proofs.Moves.{behind_none, last_root, moves_appended, moves_refused, root_appended}
 
 -- what is in a list with one item replaced
 in_replaced : {A : Type 0} (xs : List A) (k : ℕ) (y x : A) → x ∈ replaced xs k y → (x ≡ y) ⊎ (x ∈ xs)
@@ -36,6 +36,7 @@ module _ (v : Stored) (kept : IsKept v) (e : ℕ) (y : ExtentsState) (h : GraphS
       (in_replaced (live_at (index_of v.index) id) k (place_of moved.to) l among)))
       refl refl kept.numbers
       (swept_appended v.extents y v.graph h ForMove (chunk_frame v.extents payload) moved.to moved.appended kept.swept)
+      (noted_on v kept h (root_appended v.extents v.graph ForMove (chunk_frame v.extents payload) moved.to y h moved.appended) v.roots refl v.accepted (omega arith))
 
   pub kept_moved : (result : Result (Option (ShardId × ℕ)) Code) → (result ≡ Ok None → (j ≡ v.index) × (y ≡ v.extents) × (h ≡ v.graph))
       → ((id : ShardId) (k : ℕ) → result ≡ Ok (Some (id, k)) → (payload : List ℕ) × IsMoved v.index v.extents v.graph e (id_number id) k payload j y h)
@@ -50,6 +51,7 @@ module _ (v : Stored) (kept : IsKept v) (e : ℕ) (y : ExtentsState) (h : GraphS
       (moves_refused v.extents v.graph y h unwritten unstaged) resets families limit
       (inside_live (shape v.extents) v.index j kept.places (same_live v.index j refused)) refl refl kept.numbers
       (subst (λ (x : ExtentsState). AreSwept x) (sym unwritten) kept.swept)
+      (noted_on v kept h (ap last_root unstaged) v.roots refl v.accepted (omega arith))
 
 -- the round that is out stays
 pub move_round : (i : IndexState) (x : ExtentsState) (g : GraphState) (e : ℕ) (j : IndexState) (y : ExtentsState) (h : GraphState) (result : Result (Option (ShardId × ℕ)) Code)

@@ -11,6 +11,7 @@ use Rattle.cs_deps.specs.declared.refusals.Refusal.{Refusal}
 use Rattle.cs_deps.specs.declared.refusals.Refusal.TheVariants.{DeviceFault, OutOfMemory as NoMemory}
 use Rattle.cs_deps.specs.State.{NoneOn, State as GraphState}
 use Rattle.cs_disk.specs.Disk.{Image, page}
+use Rattle.cs_extent.specs.Frames.{root_family}
 use Rattle.cs_extent.specs.State.{IsWhole, State as ExtentsState, shape}
 use Rattle.cs_frame.specs.declared.faults.FormatFault.{FormatFault}
 use Rattle.cs_frame.specs.declared.faults.FormatFault.TheVariants.{BadGeometry, OutOfMemory, BadMagic, BadDigest, BadLength, BadPadding, BadVersion, OutOfOrder}
@@ -19,11 +20,11 @@ use Rattle.cs_frame.specs.declared.identifiers.ShardId.{ShardId}
 use Rattle.cs_frame.specs.declared.locators.Locator.{Locator}
 use Rattle.cs_frame.specs.Formats.{place_of}
 use Rattle.cs_frame.specs.Runs.{FitsEntry, IsRun, SpellsRun, entries_of as spelled_entries, entry_of, run_fault}
-use Rattle.cs_image.proofs.Families.{length-by_family}
+use Rattle.cs_image.proofs.Families.{length-by_family, root_in}
 use Rattle.cs_image.proofs.Listed.{all_default, found_in, in_entries}
 use Rattle.cs_image.proofs.OneByOne.{place_inside}
 use Rattle.cs_image.specs.Counts.{HasCount}
-use Rattle.cs_image.specs.Openings.{graph_at, index_at}
+use Rattle.cs_image.specs.Openings.{by_family, graph_at, index_at}
 use Rattle.cs_image.specs.Reads.{AreLocated, AreRunsRead, HasRunAt, IsLocated, IsRunRead, extents_at}
 use Rattle.cs_index.proofs.Newest.{all_newest}
 use Rattle.cs_index.proofs.Sorted.{all_append, take_at_get}
@@ -37,6 +38,7 @@ use Rattle.cs_model.specs.Lists.{◌∈◌}
 use Rattle.cs_core.specs.declared.roots.Root.{Root as Noted}
 use Rattle.cs_core.specs.Openings.{IsWhyNoRuns, IsWhyNotRead, opened_stored}
 use Rattle.cs_core.specs.Stored.{IsKept}
+use Rattle.cs_core.proofs.Noted.{noted_alone}
 
 -- ---- refusals
 
@@ -190,4 +192,5 @@ module _ (versions : List ℕ) (pages : ℕ) (written : List (ℕ × ℕ)) (whol
     some = omega arith;
     numbers = omega (arith, few);
     swept = λ e is. let clash : false ≡ true = sym (all_default (length written) e false) ∙ is in absurd (cc clash);
+    noted = noted_alone root (slice_index (by_family versions root) root_family) (root_in versions root whole.geometry.fewest_sections);
   }

@@ -1,5 +1,5 @@
 -- A core over what was opened.
-use Rattle.std.proofs.Common.{◌≡◌, ◌≢◌, ◌⊎◌, inl, inr, ◌∙◌, ℕ, ◌+◌, ◌*◌, List, [], None, length, le_of_eq, refl, sym, ap, subst}
+use Rattle.std.proofs.Common.{◌≡◌, ◌≢◌, ◌⊎◌, inl, inr, ◌∙◌, ℕ, ◌+◌, ◌*◌, List, [], None, length, le_of_eq, refl, sym, ap, subst, arith}
 use Rattle.cs_disk.specs.declared.disk.PageDisk.{Ghosts as PageDisk}
 use Rattle.cs_refine.proofs.Started.{read_started, seen_pages}
 use Rattle.cs_refine.specs.Devices.{IsDiskOf}
@@ -104,9 +104,10 @@ module _ {D : Type 0} (disks : PageDisk D) (disk : D) (old : DiskState) (before 
   total : page_total (shape store.extents) ≡ 1 + length written * pages + length versions
   total = ap (λ (u : Stored). page_total (shape u.extents)) made.made
 
-  base : IsCore disks (record { disk = disk; opened = (disks.state disk).durable; found = (commands, live); store = opened_stored versions pages written made.root commands made.runs; history = []; limit = 0 })
+  base : IsCore disks (record { disk = disk; opened = (disks.state disk).durable; found = (commands, live); store = opened_stored versions pages written made.root commands made.runs; history = []; base = 0; limit = 0 })
   base = record {
     device = sized;
+    replaced = omega arith;
     sized = λ h. long h ∙ sized;
     legal = λ h.
         let b = begins (seen old) versions pages written made.root commands made.runs (are_pages h) (made.read (was h)) in (
@@ -121,15 +122,16 @@ module _ {D : Type 0} (disks : PageDisk D) (disk : D) (old : DiskState) (before 
         (found_there (seen old) versions pages written made.root commands made.runs (are_pages h) (made.read (was h)) live made.counted);
   }
 
-  pub opened_core : (opened : Image) (history : List (Event × Reply)) (limit : ℕ) → opened ≡ (disks.state disk).durable → history ≡ []
-      → IsCore disks (record { disk = disk; opened = opened; found = (commands, live); store = but_for_room store; history = history; limit = limit })
-  opened_core opened history limit as_is none =
-      let core : IsCore disks (record { disk = disk; opened = opened; found = (commands, live); store = but_for_room store; history = history; limit = 0 }) =
-      subst (λ (i : Image). IsCore disks (record { disk = disk; opened = i; found = (commands, live); store = but_for_room store; history = history; limit = 0 })) (sym as_is)
-      (subst (λ (h : List (Event × Reply)). IsCore disks (record { disk = disk; opened = (disks.state disk).durable; found = (commands, live); store = but_for_room store; history = h; limit = 0 })) (sym none)
-      (subst (λ (u : Stored). IsCore disks (record { disk = disk; opened = (disks.state disk).durable; found = (commands, live); store = but_for_room u; history = []; limit = 0 })) (sym made.made) base)) in
+  pub opened_core : (opened : Image) (history : List (Event × Reply)) (first limit : ℕ) → opened ≡ (disks.state disk).durable → history ≡ [] → first ≡ 0
+      → IsCore disks (record { disk = disk; opened = opened; found = (commands, live); store = but_for_room store; history = history; base = first; limit = limit })
+  opened_core opened history first limit as_is none from =
+      let core : IsCore disks (record { disk = disk; opened = opened; found = (commands, live); store = but_for_room store; history = history; base = 0; limit = 0 }) =
+      subst (λ (i : Image). IsCore disks (record { disk = disk; opened = i; found = (commands, live); store = but_for_room store; history = history; base = 0; limit = 0 })) (sym as_is)
+      (subst (λ (h : List (Event × Reply)). IsCore disks (record { disk = disk; opened = (disks.state disk).durable; found = (commands, live); store = but_for_room store; history = h; base = 0; limit = 0 })) (sym none)
+      (subst (λ (u : Stored). IsCore disks (record { disk = disk; opened = (disks.state disk).durable; found = (commands, live); store = but_for_room u; history = []; base = 0; limit = 0 })) (sym made.made) base)) in
       record {
         device = core.device;
+        replaced = omega (arith, from);
         sized = core.sized;
         legal = λ h. let s = core.legal h in (s.0, record { store = s.1.store; disk = s.1.disk; reached = s.1.reached });
         begun = core.begun;

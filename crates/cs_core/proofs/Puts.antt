@@ -175,9 +175,6 @@ module _ (v w : Stored) (whole : IsWhole v.extents) (limit : v.index.limit ≡ (
   IsOut = (cs : List (List ℕ)) × Chunked (shape v.extents).chunk_bytes bytes cs × Fits (shape v.extents) (extents_of v.extents) ForPut (page_counts (chunk_frames (shape v.extents) (formats_of (shape v.extents)) cs))
       × AreWorn v.extents v.graph.staging ForPut (page_counts (chunk_frames (shape v.extents) (formats_of (shape v.extents)) cs))
 
-  abbrev pub IsNamed : Type 0
-  IsNamed = (lookup id (index_of v.index) ≡ None) × (v.index.limit ≤ names (index_of v.index))
-
   pub test_declines : (r ≡ code.TooLarge) ⊎ (r ≡ code.IndexFull) → (r ≡ code.TooLarge → IsLarge) → (r ≡ code.IndexFull → (IsLarge → ⊥) × (lookup id (index_of v.index) ≡ None) × (v.index.limit ≤ names (index_of v.index)))
       → Declines v (Put id bytes) r w
   test_declines (inl e) large index = inr (TooLarge, e, λ s is. (s, put_large v s whole is id bytes limit runs (large e), same_state v w s is same))

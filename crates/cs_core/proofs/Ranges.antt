@@ -1,10 +1,10 @@
 -- The numbers under which an opening is refused.
-use Rattle.std.proofs.Common.{◌≡◌, ◌⊎◌, inl, inr, ⊎_elim, ℕ, ◌+◌, ◌*◌, ◌^◌, ◌≤◌, Bool, true, false, List, [], ◌∷◌, ◌++◌, codes, length, drop, Option, Some, None, Result, Ok, Err, IfErr, arith, refl, sym, subst, bytes_eq, nat_le, if◌then◌else◌}
+use Rattle.std.proofs.Common.{◌≡◌, ◌⊎◌, inl, inr, ℕ, ◌+◌, ◌*◌, ◌^◌, ◌≤◌, Bool, true, false, List, [], ◌∷◌, ◌++◌, codes, length, drop, Option, Some, None, arith, refl, sym, subst, bytes_eq, nat_le, if◌then◌else◌}
 use Rattle.std.specs.Prelude.{◌==◌, ◌&&◌, nat_lt, slice_index}
 use Rattle.std.proofs.lemmas.Option.{same_Some}
-use Rattle.cs_chunk.specs.Reads.{IsNoAnswer, IsOfFault, IsReadRefusal, refusal_for}
+use Rattle.cs_chunk.specs.Reads.{IsOfFault, refusal_for}
 use Rattle.cs_deps.specs.declared.refusals.Refusal.{Refusal}
-use Rattle.cs_deps.specs.declared.refusals.Refusal.TheVariants.{NotAStore, OutOfMemory as NoMemory}
+use Rattle.cs_deps.specs.declared.refusals.Refusal.TheVariants.{OutOfMemory as NoMemory}
 use Rattle.cs_deps.specs.Refusals.{number_of}
 use Rattle.cs_frame.specs.declared.faults.FormatFault.{FormatFault}
 use Rattle.cs_frame.specs.declared.faults.FormatFault.TheVariants.{BadDigest, BadGeometry, BadLength, BadMagic, BadPadding, BadVersion, OutOfMemory, OutOfOrder}
@@ -173,12 +173,3 @@ root_refused bytes r why = of_fault (root_fault bytes) (root_finds bytes) r why
 
 pub run_refused : (payload : List ℕ) (r : Refusal) → (r ≡ NoMemory) ⊎ IsOfFault (run_fault payload) r → IsOpeningRefusal r
 run_refused payload r why = of_fault (run_fault payload) (run_finds payload) r why
-
--- the frame of a run isn't read
-pub frame_refused : (r : Refusal) → IsReadRefusal r → IsOpeningRefusal r
-frame_refused r why = ⊎_elim (λ (none : IsNoAnswer r). inl none) (λ (there : (20 ≤ number_of r) × (number_of r ≤ 24)). inr (inl (there.0, omega (arith, there.1)))) why
-
--- no store is made of what was read
-pub load_refused : {T : Type 0} (P : Type 0) (result : Result T Refusal) → IfErr result (λ r. (r ≡ NoMemory) ⊎ ((r ≡ NotAStore) × P)) → IfErr result IsOpeningRefusal
-load_refused P (Ok x) why = tt
-load_refused P (Err r) why = ⊎_elim (λ (memory : r ≡ NoMemory). inl (inr memory)) (λ (is : (r ≡ NotAStore) × P). inr (inr is.0)) why

@@ -23,7 +23,7 @@ module _ (S : Shape) (F : Formats) (img : ℕ → Page) (n : ℕ) (m : Map) (fou
 -- the one root that is there
 pub noted : (s : State) (r : Root) (version : ℕ) → roots_of s.world.elements ≡ r ∷ [] → r.version ≡ version → r.commands ≡ s.count → AreRootsOf (record { version = version; commands = 0 } ∷ []) s
 noted s r version one same commands = record {
-  all = λ p has. ⊎_elim
+  all = λ p has late. ⊎_elim
       (λ (e : p ≡ r). (record { version = version; commands = 0 }, (0, omega arith, refl), sym (ap (λ (u : Root). u.version) e ∙ same), (let n : s.count + 0 ≡ s.count = omega arith in n) ∙ sym (ap (λ (u : Root). u.commands) e ∙ commands)))
       (λ (none : p ∈ []). absurd none)
       (subst (λ (rs : List Root). p ∈ rs) one has);

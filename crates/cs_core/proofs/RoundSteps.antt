@@ -1,13 +1,13 @@
 -- Rounds of writeback are steps of the machine.
-use Rattle.std.proofs.Common.{◌≡◌, ◌≢◌, ◌⊎◌, inl, inr, ⊎_elim, ℕ, zero, suc, ◌+◌, ◌<◌, ◌≤◌, true, false, List, [], ◌∷◌, ◌++◌, Some, None, Ok, Err, length, map, take, drop, refl, sym, ap, ap₂, ◌∙◌, subst, arith}
+use Rattle.std.proofs.Common.{◌≡◌, ◌≢◌, ◌⊎◌, inl, inr, ⊎_elim, ℕ, suc, ◌+◌, ◌<◌, ◌≤◌, true, false, List, [], ◌∷◌, ◌++◌, Some, None, Ok, Err, length, map, take, drop, refl, sym, ap, ap₂, ◌∙◌, subst, arith}
 use Rattle.std.specs.Prelude.{Contains, Option, is_some, slice_get, slice_index}
 use Rattle.cs_deps.specs.declared.elements.Element.{Element as Name}
-use Rattle.cs_deps.specs.declared.elements.Element.TheVariants.{Plain, Version}
 use Rattle.cs_deps.specs.declared.refusals.Refusal.{Refusal as Code}
 use Rattle.cs_deps.specs.declared.refusals.Refusal.TheVariants as code
 use Rattle.cs_deps.specs.Staging.{settled}
 use Rattle.cs_deps.specs.State.{AddsNone, IsQueue, IsWhole as IsWholeGraph, State as GraphState, write_of}
 use Rattle.cs_disk.specs.Disk.{State as DiskState, flushed, written}
+use Rattle.cs_extent.specs.Frames.{root_family}
 use Rattle.cs_extent.specs.State.{IsWhole, State as ExtentsState, shape}
 use Rattle.cs_frame.specs.Formats.{formats_of}
 use Rattle.cs_index.specs.State.{State as IndexState}
@@ -21,7 +21,6 @@ use Rattle.cs_model.specs.Grounds.{Refuses}
 use Rattle.cs_model.specs.Lists.{◌∈◌}
 use Rattle.cs_model.specs.Machine.{BeginRound, EndRound, happens}
 use Rattle.cs_model.specs.Refusal.{DeviceFault, Halted, InFlight, NoRound, Refusal}
-use Rattle.cs_model.specs.Sound.{Sound}
 use Rattle.cs_model.specs.State.{Begin, Begun, End, Ended, Event, Issue, Issued, Nothing, Refused, State}
 use Rattle.cs_model.specs.Step.{Step}
 use Rattle.cs_model.proofs.Keeps.{steps}
@@ -35,59 +34,40 @@ use Rattle.cs_refine.proofs.Keeping.{ended as keeps_ended, members_named}
 use Rattle.cs_refine.proofs.RoundsOut.{begin, nothing}
 use Rattle.cs_refine.proofs.Shapes.{store_format, store_shape}
 use Rattle.cs_core.specs.declared.roots.Root.{Root as Noted}
-use Rattle.cs_core.specs.Frontiers.{IsRootFrontier, IsRootPersistent}
+use Rattle.cs_core.specs.Frontiers.{AreNoted, LetsGo}
 use Rattle.cs_core.specs.States.{AreRootsOf, IsStateOf}
 use Rattle.cs_core.specs.Rounds.{EndAnswers, IssueAnswers}
 use Rattle.cs_core.specs.Steps.{Declines}
 use Rattle.cs_core.specs.Stored.{Stored, members_of}
 use Rattle.cs_core.proofs.Going.{going, no_more, pass}
+use Rattle.cs_core.proofs.Noted.{left_new, left_old, noted_first, noted_left}
 use Rattle.cs_core.proofs.Members.{are_names, drop_all, drop_left, drop_none, drop_some, map_next, map_none, map_push, member_waits, take_all_of, take_more}
 
--- what is counted by the roots that were noted is the frontier
-frontier_counted : (x : ExtentsState) (h : GraphState) (i : IndexState) (s z : State) (k f : ℕ) (roots : List Noted) → Sound (shape x) (formats_of (shape x)) s → AreRootsOf roots s → ArePartsOf x h i z
-    → IsFrontier (shape x) (formats_of (shape x)) z k → roots_of z.world.elements ≡ roots_of s.world.elements → z.count ≡ s.count → IsRootFrontier h.staging roots f → k ≡ f
-frontier_counted x h i s z k f roots sound are parts (r, has, version, commands) same count reached = omega (arith, up, down)
+-- where a round is persistent, the roots that are left are those of the state from the newest persistent one on, which has the frontier
+roots_left : (x : ExtentsState) (h : GraphState) (i : IndexState) (s z : State) (p l : ℕ) (roots rest : List Noted) (f a k : ℕ) → AreRootsOf roots s → ArePartsOf x h i z → s.world.persistent.root ≤ z.world.persistent.root
+    → IsFrontier (shape x) (formats_of (shape x)) z k → roots_of z.world.elements ≡ roots_of s.world.elements → z.count ≡ s.count
+    → AreNoted p l roots f a → (goes : LetsGo (slice_index h.staging.pending.persistent root_family) roots rest) → AreRootsOf rest z × (k ≡ goes.first.commands)
+roots_left x h i s z p l roots rest f a k are parts rises (r, has, version, commands) same count noted goes = (left, first)
   where
-    old : r ∈ roots_of s.world.elements
-    old = subst (λ (rs : List Root). r ∈ rs) same has
-
-    persistent : slice_index h.staging.pending.persistent 1 ≡ z.world.persistent.root
+    persistent : slice_index h.staging.pending.persistent root_family ≡ z.world.persistent.root
     persistent = parts.world.staging.pending.root
 
-    low : (n : ℕ) → n ≤ z.world.persistent.root → IsRootPersistent h.staging n
-    low n le (Plain m) up = absurd up
-    low n le (Version g w) up =
-        let staged : z.world.persistent.root ≤ z.world.root = parts.world.staging.persistent.root in
-        let latest : z.world.root ≡ slice_index h.staging.latest 1 = parts.world.staging.root in
-        let below : w ≤ n = up.2 in
-        let a : w ≤ slice_index h.staging.latest 1 = omega arith in
-        let b : w ≤ slice_index h.staging.pending.persistent 1 = omega arith in
-        (subst (λ (e : ℕ). w ≤ slice_index h.staging.latest e) (sym up.0) a, subst (λ (e : ℕ). w ≤ slice_index h.staging.pending.persistent e) (sym up.0) b)
+    found : (o : Root) → o ∈ roots_of z.world.elements → z.world.persistent.root ≤ o.version → (q : Noted) × Contains rest q × (q.version ≡ o.version) × (s.count + q.commands ≡ o.commands)
+    found o among young =
+        let q = are.all o (subst (λ (os : List Root). o ∈ os) same among) (omega (arith, rises, young)) in
+        (q.0, left_new p l roots f a noted _ rest goes q.0 q.1 (omega (arith, q.2, young, persistent)), q.2, q.3)
 
-    high : (n : ℕ) → IsRootPersistent h.staging n → n ≤ z.world.persistent.root
-    high zero all = omega arith
-    high (suc n) all = let le : suc n ≤ slice_index h.staging.pending.persistent 1 = (all (Version 1 (suc n)) (refl, omega arith, omega arith)).1 in omega arith
+    left : AreRootsOf rest z
+    left = record {
+      all = λ o among young. let q = found o among young in (q.0, q.1, q.2, ap (λ (c : ℕ). c + q.0.commands) count ∙ q.3);
+      only = λ q there. let o = are.only q (left_old p l roots f a noted _ rest goes q there) in (o.0, subst (λ (os : List Root). o.0 ∈ os) (sym same) o.1, o.2, ap (λ (c : ℕ). c + q.commands) count ∙ o.3);
+    }
 
-    up : k ≤ f
-    up =
-        let q = are.all r old in
-        let le : q.0.version ≤ z.world.persistent.root = (let e : q.0.version ≡ r.version = q.2 in omega arith) in
-        let most : q.0.commands ≤ f = reached.greatest q.0 q.1 (low q.0.version le) in
-        let e : s.count + q.0.commands ≡ r.commands = q.3 in
-        omega arith
-
-    down : f ≤ k
-    down = ⊎_elim
-        (λ (none : f ≡ 0). omega arith)
-        (λ (some : (q : Noted) × Contains roots q × (f ≡ q.commands) × IsRootPersistent h.staging q.version).
-        let p = are.only some.0 some.1 in
-        let le : some.0.version ≤ z.world.persistent.root = high some.0.version some.3 in
-        let older : p.0.version ≤ r.version = (let e : some.0.version ≡ p.0.version = p.2 in omega arith) in
-        let fewer : p.0.commands ≤ r.commands = sound.safe.counts p.0 r p.1 old older in
-        let e : s.count + some.0.commands ≡ p.0.commands = p.3 in
-        let d : f ≡ some.0.commands = some.2 in
-        omega arith)
-        reached.reached
+    first : k ≡ goes.first.commands
+    first =
+        let q = found r has (omega (arith, version)) in
+        let most : q.0.commands ≡ goes.first.commands = noted_first _ l rest goes.first.commands a (noted_left p l roots f a noted _ rest goes) q.0 q.1 (omega (arith, q.2, version, persistent)) in
+        omega (arith, q.3, commands, count, most)
 
 module _ (v : Stored) (s : State) (whole : IsWhole v.extents) (is : IsStateOf v s) (runs : v.halted ≡ false) where
   abbrev S : Shape
@@ -363,13 +343,14 @@ module _ (v : Stored) (s : State) (whole : IsWhole v.extents) (is : IsStateOf v 
           record { durable = on.durable; volatile = on.volatile },
         )
 
-    -- what the code counts is the frontier
+    -- the first of the roots that are left has the frontier
     pub end_done : (h : GraphState) → h.staging ≡ record { pending = settled v.graph.staging.pending (members_of v.out); staged = v.graph.staging.staged; latest = v.graph.staging.latest } → AddsNone v.graph h
-        → (f : ℕ) → IsRootFrontier h.staging v.roots f → (disk : DiskState) → IsDiskOf (shape v.extents) (formats_of (shape v.extents)) s disk
-        → (t : State) × Step (shape v.extents) (formats_of (shape v.extents)) s End (Ended f) t
-        × IsStateOf (record v { graph = h; out = None; issued = 0; frontier = f }) t
+        → (p l : ℕ) → AreNoted p l v.roots v.frontier v.accepted → (rest : List Noted) (goes : LetsGo (slice_index h.staging.pending.persistent root_family) v.roots rest)
+        → (disk : DiskState) → IsDiskOf (shape v.extents) (formats_of (shape v.extents)) s disk
+        → (t : State) × Step (shape v.extents) (formats_of (shape v.extents)) s End (Ended goes.first.commands) t
+        × IsStateOf (record v { graph = h; roots = rest; out = None; issued = 0; frontier = goes.first.commands }) t
         × IsDiskOf (shape v.extents) (formats_of (shape v.extents)) t (flushed disk)
-    end_done h settles adds f reached disk on =
+    end_done h settles adds p l noted rest goes disk on =
         let names : AreNames s.issued (members_of v.out) = are_names s.issued (members_of v.out) (issued_now ∙ take_all_of (members_of v.out) v.issued all) in
         let last = is.sound.safe.round_exact.root in
         let count = is.sound.maps last.0 last.1 in
@@ -383,18 +364,18 @@ module _ (v : Stored) (s : State) (whole : IsWhole v.extents) (is : IsStateOf v 
       where
         at : (t : State) (n : ℕ) → Does (shape v.extents) (formats_of (shape v.extents)) s End (Ended n) t → ArePartsOf v.extents h v.index t
             → IsDiskOf (shape v.extents) (formats_of (shape v.extents)) t (flushed disk)
-            → (z : State) × Step (shape v.extents) (formats_of (shape v.extents)) s End (Ended f) z
-            × IsStateOf (record v { graph = h; out = None; issued = 0; frontier = f }) z
+            → (z : State) × Step (shape v.extents) (formats_of (shape v.extents)) s End (Ended goes.first.commands) z
+            × IsStateOf (record v { graph = h; roots = rest; out = None; issued = 0; frontier = goes.first.commands }) z
             × IsDiskOf (shape v.extents) (formats_of (shape v.extents)) z (flushed disk)
         at t n does parts after =
             let u : State = record s { world = happens (shape v.extents) s.world EndRound; round_out = false; left = []; issued = [] } in
             let tis : t ≡ u = does.2 in
             let parts_u : ArePartsOf v.extents h v.index u = subst (λ (z : State). ArePartsOf v.extents h v.index z) tis parts in
             let front_u : IsFrontier (shape v.extents) (formats_of (shape v.extents)) u n = subst (λ (z : State). IsFrontier (shape v.extents) (formats_of (shape v.extents)) z n) tis does.3 in
-            let count : n ≡ f = counted u n parts_u front_u refl refl in
-            let front : IsFrontier (shape v.extents) (formats_of (shape v.extents)) u f = subst (λ (k : ℕ). IsFrontier (shape v.extents) (formats_of (shape v.extents)) u k) count front_u in
-            let step : Step (shape v.extents) (formats_of (shape v.extents)) s End (Ended f) u = (ends, (is_round, empty, refl, front)) in
-            let kept = steps (shape v.extents) (formats_of (shape v.extents)) (store_shape v.extents whole) (store_format v.extents whole) s u End (Ended f) is.sound is.bounded step in (
+            let left = roots_left v.extents h v.index s u p l v.roots rest v.frontier v.accepted n is.roots parts_u is.sound.safe.within.root front_u refl refl noted goes in
+            let front : IsFrontier (shape v.extents) (formats_of (shape v.extents)) u goes.first.commands = subst (λ (k : ℕ). IsFrontier (shape v.extents) (formats_of (shape v.extents)) u k) left.1 front_u in
+            let step : Step (shape v.extents) (formats_of (shape v.extents)) s End (Ended goes.first.commands) u = (ends, (is_round, empty, refl, front)) in
+            let kept = steps (shape v.extents) (formats_of (shape v.extents)) (store_shape v.extents whole) (store_format v.extents whole) s u End (Ended goes.first.commands) is.sound is.bounded step in (
               u,
               step,
               record {
@@ -410,15 +391,10 @@ module _ (v : Stored) (s : State) (whole : IsWhole v.extents) (is : IsStateOf v 
                 base = is.base;
                 accepted = is.accepted;
                 frontier = front;
-                roots = record { all = is.roots.all; only = is.roots.only };
+                roots = left.0;
               },
               subst (λ (z : State). IsDiskOf (shape v.extents) (formats_of (shape v.extents)) z (flushed disk)) tis after,
             )
-          where
-            counted : (z : State) (k : ℕ) → ArePartsOf v.extents h v.index z → IsFrontier (shape v.extents) (formats_of (shape v.extents)) z k
-                → roots_of z.world.elements ≡ roots_of s.world.elements → z.count ≡ s.count → k ≡ f
-            counted z k parts front same count =
-                frontier_counted v.extents h v.index s z k f v.roots is.sound is.roots parts front same count reached
 
 -- ---- the answers of the calls
 pub begin_declines : (v : Stored) (whole : IsWhole v.extents) (runs : v.halted ≡ false) (r : Code) → (r ≡ code.InFlight → is_some v.out ≡ true) → (r ≡ code.InFlight) ⊎ (r ≡ code.OutOfMemory) → Declines v Begin r v
@@ -462,11 +438,15 @@ issue_declines v whole runs none disk = inr (NoRound, refl, λ s is on. (s, issu
 
 pub end_answers : (v : Stored) (whole : IsWhole v.extents) (runs : v.halted ≡ false) (out : v.out ≢ None) (all : v.issued ≡ length (members_of v.out)) (h : GraphState)
     → h.staging ≡ record { pending = settled v.graph.staging.pending (members_of v.out); staged = v.graph.staging.staged; latest = v.graph.staging.latest } → AddsNone v.graph h
-    → (f : ℕ) → IsRootFrontier h.staging v.roots f → (disk after : DiskState) → after ≡ flushed disk → EndAnswers v disk (Ok f) (record v { graph = h; out = None; issued = 0; frontier = f }) after
+    → (p l : ℕ) → AreNoted p l v.roots v.frontier v.accepted → (rest : List Noted) (goes : LetsGo (slice_index h.staging.pending.persistent root_family) v.roots rest) → (f : ℕ) → f ≡ goes.first.commands
+    → (disk after : DiskState) → after ≡ flushed disk → EndAnswers v disk (Ok f) (record v { graph = h; roots = rest; out = None; issued = 0; frontier = f }) after
 unfolding EndAnswers
-end_answers v whole runs out all h settles adds f reached disk after is_flushed s is on =
-    let d = end_done v s whole is runs out all h settles adds f reached disk on in
-    (d.0, d.1, d.2, subst (λ (z : DiskState). IsDiskOf (shape v.extents) (formats_of (shape v.extents)) d.0 z) (sym is_flushed) d.3)
+end_answers v whole runs out all h settles adds p l noted rest goes f first disk after is_flushed s is on =
+    let d = end_done v s whole is runs out all h settles adds p l noted rest goes disk on in
+    subst
+    (λ (n : ℕ). (t : State) × Step (shape v.extents) (formats_of (shape v.extents)) s End (Ended n) t × IsStateOf (record v { graph = h; roots = rest; out = None; issued = 0; frontier = n }) t
+    × IsDiskOf (shape v.extents) (formats_of (shape v.extents)) t after)
+    (sym first) (d.0, d.1, d.2, subst (λ (z : DiskState). IsDiskOf (shape v.extents) (formats_of (shape v.extents)) d.0 z) (sym is_flushed) d.3)
 
 pub end_faults : (v : Stored) (whole : IsWhole v.extents) (runs : v.halted ≡ false) (out : v.out ≢ None) (all : v.issued ≡ length (members_of v.out)) (disk after : DiskState) → after ≡ disk
     → EndAnswers v disk (Err code.DeviceFault) (record v { halted = true }) after

@@ -127,7 +127,7 @@ module _ (v : Stored) (s : State) (whole : IsWhole v.extents) (is : IsStateOf v 
       goes_on v w s t event reply whole is step same parts so.beside out issued halted base (ap length so.commands ∙ is.accepted ∙ sym accepted)
       (subst (λ (k : ℕ). IsFrontier (shape v.extents) (formats_of (shape v.extents)) t k) (sym frontier) (frontier_stays (shape v.extents) (formats_of (shape v.extents)) s t v.frontier is.frontier (λ r has. subst (λ (rs : List Root). r ∈ rs) (sym so.roots) (inr has)) so.persistent so.beside.count))
       (subst (λ (qs : List Noted). AreRootsOf qs t) (sym roots)
-      (roots_more v.roots s t so.root (record { version = n; commands = v.accepted }) is.roots so.roots so.version (ap (λ (k : ℕ). s.count + k) (sym is.accepted) ∙ sym so.counts) so.beside.count))
+      (roots_more v.roots s t so.root (record { version = n; commands = v.accepted }) is.roots so.roots so.version (ap (λ (k : ℕ). s.count + k) (sym is.accepted) ∙ sym so.counts) so.persistent so.beside.count))
 
   pub stage_done : (n : ℕ) (y : ExtentsState) (h : GraphState) (j : IndexState) → (NoStage → ⊥) → (WornStage → ⊥) → v.index.table ≢ []
       → (length v.index.runs < 4 → IsTableStaged v.index v.extents v.graph n (v.base + v.accepted) j y h)

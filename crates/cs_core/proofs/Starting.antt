@@ -9,6 +9,7 @@ use Rattle.cs_disk.specs.declared.disk.PageDisk.{Ghosts as PageDisk}
 use Rattle.cs_disk.specs.Disk.{Image, State as DiskState, page, written}
 use Rattle.cs_extent.proofs.Sections.{rows_are_all}
 use Rattle.cs_extent.specs.Sections.{AreSections, IsSectionAt, count_of, pages_of, rows_of}
+use Rattle.cs_extent.specs.Frames.{root_family}
 use Rattle.cs_extent.specs.State.{State as ExtentsState, shape}
 use Rattle.cs_frame.specs.declared.superblocks.Superblock.{Superblock}
 use Rattle.cs_frame.specs.Formats.{formats_of}
@@ -16,7 +17,7 @@ use Rattle.cs_frame.specs.Geometries.{IsGeometry, section_length}
 use Rattle.cs_frame.specs.Superblocks.{SpellsSuperblock}
 use Rattle.cs_image.proofs.Families.{length-by_family, root_in}
 use Rattle.cs_image.specs.Counts.{HasCount}
-use Rattle.cs_image.specs.Openings.{graph_at}
+use Rattle.cs_image.specs.Openings.{by_family, graph_at}
 use Rattle.cs_image.specs.Reads.{extents_at}
 use Rattle.cs_index.proofs.Sorted.{some_at}
 use Rattle.cs_index.specs.declared.runs.StoredRun.{StoredRun}
@@ -35,6 +36,7 @@ use Rattle.cs_core.specs.States.{IsStateOf}
 use Rattle.cs_core.specs.Stored.{IsKept, Stored, page_total, but_for_room}
 use Rattle.cs_core.specs.Views.{IsCore, IsReached}
 use Rattle.cs_core.proofs.Heads.{head_page}
+use Rattle.cs_core.proofs.Noted.{noted_alone}
 use Rattle.cs_core.proofs.RootsRead.{noted, read_alone}
 use Rattle.cs_core.proofs.SectionReads.{in_push}
 
@@ -44,8 +46,8 @@ all_default zero e d = refl
 all_default (suc n) zero d = refl
 all_default (suc n) (suc e) d = all_default n e d
 
-pub kept_new : (extents pages sections : ℕ) → IsKept (new_stored extents pages sections)
-kept_new extents pages sections = record {
+pub kept_new : (extents pages sections : ℕ) → 1 ≤ sections → IsKept (new_stored extents pages sections)
+kept_new extents pages sections some = record {
   families = omega (arith, length-by_family (replicate sections 1) 1, length-replicate {A = ℕ} sections 1);
   resets = λ e. let none : slice_index (replicate (length (replicate {A = ℕ × ℕ} extents (0, 0))) 0) e ≡ 0 = all_default (length (replicate {A = ℕ × ℕ} extents (0, 0))) e 0 in omega (arith, none);
   writes = λ x w kept. let clash : None ≡ Some w = kept in absurd (cc clash);
@@ -55,6 +57,7 @@ kept_new extents pages sections = record {
   some = omega arith;
   numbers = omega arith;
   swept = λ e is. let clash : false ≡ true = sym (all_default (length (replicate {A = ℕ × ℕ} extents (0, 0))) e false) ∙ is in absurd (cc clash);
+  noted = noted_alone 1 (slice_index (by_family (replicate sections 1) 1) root_family) (root_in (replicate sections 1) 1 (omega (arith, length-replicate {A = ℕ} sections 1, some)));
 }
 
 -- a new store is of a state of the machine, and recovers no command and no shard
@@ -247,15 +250,16 @@ none_there m none = ([], record { rising = search rules; exact = λ id. (λ has.
     not_in id (k, lt, at) = let l : k < 0 = lt in omega arith
 
 -- a core over a disk on which a new store was written
-pub new_core : {D : Type 0} (disks : PageDisk D) (disk : D) (opened : Image) (v : Stored) (history : List (Event × Reply)) (limit extents pages sections : ℕ)
-    → IsGeometry extents pages sections → v ≡ new_stored extents pages sections → history ≡ [] → disks.page_count disk ≡ 1 + extents * pages + sections → opened ≡ (disks.state disk).durable
+pub new_core : {D : Type 0} (disks : PageDisk D) (disk : D) (opened : Image) (v : Stored) (history : List (Event × Reply)) (base limit extents pages sections : ℕ)
+    → IsGeometry extents pages sections → v ≡ new_stored extents pages sections → history ≡ [] → base ≡ 0 → disks.page_count disk ≡ 1 + extents * pages + sections → opened ≡ (disks.state disk).durable
     → (disks.honest disk → length (disks.state disk).durable ≡ disks.page_count disk) → (old : DiskState) → (disks.honest disk → IsNewOn extents pages sections old (disks.state disk))
-    → IsCore disks (record { disk = disk; opened = opened; found = (0, 0); store = but_for_room v; history = history; limit = limit })
-new_core disks disk opened v history limit extents pages sections is made none size as_is sized old wrote =
+    → IsCore disks (record { disk = disk; opened = opened; found = (0, 0); store = but_for_room v; history = history; base = base; limit = limit })
+new_core disks disk opened v history base limit extents pages sections is made none first size as_is sized old wrote =
     let total : page_total (shape v.extents) ≡ 1 + extents * pages + sections
     = ap (λ (u : Stored). page_total (shape u.extents)) made ∙ ap (λ (n : ℕ). 1 + n * pages + sections) (length-replicate extents (0, 0)) in
     record {
       device = size ∙ sym total;
+      replaced = omega (arith, first);
       sized = λ h. ap length as_is ∙ sized h ∙ size ∙ sym total;
       legal = λ h.
           let s = starts extents pages sections is old (disks.state disk) (wrote h) in (

@@ -1,6 +1,6 @@
 -- What the reply to an event says of the store, whatever its disk does.
 use Rattle.cs_core.specs.declared.events.Event.{Event}
-use Rattle.cs_core.specs.declared.events.Event.TheVariants.{End, Get, Issue, MoveOne, Settle}
+use Rattle.cs_core.specs.declared.events.Event.TheVariants.{BeginSweep, Delete, End, Get, Issue, MoveOne, Put, Settle}
 use Rattle.cs_core.specs.declared.events.Reply.{Reply}
 use Rattle.cs_core.specs.Replies.{MayAnswer}
 use Rattle.cs_core.specs.Stored.{Stored}
@@ -25,3 +25,14 @@ IsAlone Issue = ⊥
 IsAlone End = ⊥
 IsAlone (MoveOne e) = ⊥
 IsAlone event = Unit {0}
+
+-- the events that are refused where as many are kept as may be: those of clients, and those that begin a sweep and move chunks. What writes back,
+-- and what ends a sweep, is never refused for that
+abbrev pub IsLimited : Event → Type 0
+IsLimited (Put id bytes) = Unit {0}
+IsLimited (Get id) = Unit {0}
+IsLimited (Delete id) = Unit {0}
+IsLimited (Settle n) = Unit {0}
+IsLimited (BeginSweep e) = Unit {0}
+IsLimited (MoveOne e) = Unit {0}
+IsLimited event = ⊥

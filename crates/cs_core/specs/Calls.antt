@@ -1,4 +1,4 @@
--- Events one after another.
+-- Events one after another, and checkpoints between them.
 use Rattle.std.specs.Prelude.{List, [], ◌∷◌, ◌≡◌, ◌≤◌, ◌⊎◌, ℕ}
 use Rattle.std.specs.List.{AllByRecursion}
 use Rattle.cs_deps.specs.declared.elements.Element.{Element as Name}
@@ -10,6 +10,7 @@ use Rattle.cs_core.specs.declared.events.Event.{Event}
 use Rattle.cs_core.specs.declared.events.Event.TheVariants.{Begin, End}
 use Rattle.cs_core.specs.declared.events.Reply.{Reply}
 use Rattle.cs_core.specs.declared.events.Reply.TheVariants.{Begun, Ended}
+use Rattle.cs_core.specs.Checkpoints.{Replaces}
 use Rattle.cs_core.specs.Meanings.{commands_said}
 use Rattle.cs_core.specs.Stored.{Stored}
 use Rattle.cs_core.specs.Views.{Applies, IsUntouched, View}
@@ -38,9 +39,10 @@ pub record IsRoundDone (old new : Stored) : Type 0 where
   pub end : WritesBack last End (Ended frontier) new
 
 module _ {D : Type 0} (disks : PageDisk D) where
-  -- One call of `apply`, by what its contract says of crashes: an event was done, or nothing for want of memory.
+  -- One call of `apply` or of `checkpoint`, by what its contract says of crashes: an event was done, or nothing for want of memory, or the history
+  -- was replaced.
   pub record IsCall (old new : View D) : Type 0 where
-    pub did : ((event : Event) × (reply : Reply) × Applies disks old event reply new) ⊎ IsUntouched disks old new
+    pub did : ((event : Event) × (reply : Reply) × Applies disks old event reply new) ⊎ IsUntouched disks old new ⊎ ((n : ℕ) × Replaces old n new)
     pub rises : old.store.frontier ≤ new.store.frontier
     pub stays_honest : disks.honest old.disk → disks.honest new.disk
     pub crash : disks.honest old.disk → LeavesOnly disks.moment disks.left_since old.disk new.disk (IsPrefix (shape old.store.extents) (page old.opened) (commands_said old.history) old.store.frontier old.store.accepted)

@@ -1,7 +1,9 @@
 pub mod Answered
 pub mod Calls
+pub mod Checkpoints
 pub mod Disks
 pub mod Frontiers
+pub mod Histories
 pub mod Meanings
 pub mod Openings
 pub mod Reads

@@ -1,10 +1,10 @@
 -- What a store has in memory, and what it keeps whatever its disk does.
-use Rattle.std.specs.Prelude.{◌≡◌, ◌+◌, ◌*◌, ◌^◌, ◌<◌, ◌≤◌, ◌++◌, ℕ, Bool, true, List, Option, Some, length}
+use Rattle.std.specs.Prelude.{◌≡◌, ◌+◌, ◌*◌, ◌^◌, ◌<◌, ◌≤◌, ◌++◌, ℕ, Bool, true, List, Option, Some, length, slice_index}
 use Rattle.cs_deps.specs.declared.elements.Element.{Element as Name}
 use Rattle.cs_deps.specs.Named.{Named}
 use Rattle.cs_deps.specs.Pending.{Pending}
 use Rattle.cs_deps.specs.State.{State as GraphState, Write, write_of}
-use Rattle.cs_extent.specs.Frames.{AreResetsStaged}
+use Rattle.cs_extent.specs.Frames.{AreResetsStaged, root_family}
 use Rattle.cs_extent.specs.State.{State as ExtentsState, extents_of, shape}
 use Rattle.cs_index.specs.State.{State as IndexState, index_of}
 use Rattle.cs_model.specs.Device.{Inside, Shape}
@@ -20,13 +20,14 @@ use Rattle.cs_model.specs.Extents.{Fits, ForPut}
 use Rattle.cs_reclaim.specs.Sweeps.{IsSwept}
 use Rattle.cs_refine.specs.Rounds.{members_of as members}
 use Rattle.cs_core.specs.declared.roots.Root.{Root}
+use Rattle.cs_core.specs.Frontiers.{AreNoted}
 
 -- What a core has in memory besides its disk and its history.
 pub record Stored : Type 0 where
   pub graph : GraphState
   pub extents : ExtentsState
   pub index : IndexState
-  -- the roots that were staged, and before them the one that was read at open
+  -- the newest root that is persistent, and those that were staged since and wait
   pub roots : List Root
   -- the members of the round that is out, and how many of them were written
   pub out : Option (List Name)
@@ -83,6 +84,7 @@ pub record IsKept (s : Stored) : Type 0 where
   pub some : s.issued ≤ length (members_of s.out)
   pub numbers : s.base + s.accepted < 2 ^ 63
   pub swept : AreSwept s.extents
+  pub noted : AreNoted (slice_index s.graph.staging.pending.persistent root_family) (slice_index s.graph.staging.latest root_family) s.roots s.frontier s.accepted
 
 -- the store with the rooms of graph and index as 0: clauses compare stores so, as how much memory is reserved doesn't matter
 abbrev pub but_for_room : Stored → Stored

@@ -1,5 +1,5 @@
 -- A core as contracts see it, and what one event does to it.
-use Rattle.std.specs.Prelude.{◌≡◌, ◌≢◌, ◌⊎◌, ◌<◌, ◌≤◌, ◌++◌, ◌∷◌, ℕ, List, [], None, length}
+use Rattle.std.specs.Prelude.{◌≡◌, ◌≢◌, ◌⊎◌, ◌<◌, ◌≤◌, ◌++◌, ◌∷◌, ℕ, List, [], None, drop, length}
 use Rattle.cs_deps.specs.declared.refusals.Refusal.TheVariants.{DeviceFault, HistoryFull}
 use Rattle.cs_disk.specs.declared.disk.PageDisk.{Ghosts as PageDisk}
 use Rattle.cs_disk.specs.Disk.{Image, Rises, State as DiskState, page}
@@ -17,19 +17,26 @@ use Rattle.cs_refine.specs.Devices.{IsDiskOf}
 use Rattle.cs_core.specs.declared.events.Event.{Event}
 use Rattle.cs_core.specs.declared.events.Reply.{Reply}
 use Rattle.cs_core.specs.declared.events.Reply.TheVariants.{Refused}
+use Rattle.cs_core.specs.Answered.{IsLimited}
 use Rattle.cs_core.specs.Meanings.{Says, event_of}
 use Rattle.cs_core.specs.States.{IsStateOf}
 use Rattle.cs_core.specs.Stored.{Stored, page_total}
 
 -- A core over a disk of this type: its disk, the image that it was opened on, how many commands the root counted there and
--- how many shards there were, its store, the events with their replies, and how many these may be.
+-- how many shards there were, its store, all events since then with their replies, how many of them, from the first on, checkpoints
+-- replaced, and with how many kept ones no further put or the like is taken. The replaced events are known to contracts alone.
 pub record View (D : Type 0) : Type 0 where
   pub disk : D
   pub opened : Image
   pub found : ℕ × ℕ
   pub store : Stored
   pub history : List (Event × Reply)
+  pub base : ℕ
   pub limit : ℕ
+
+-- the events that the core keeps: those since the last checkpoint
+abbrev pub kept : {D : Type 0} → View D → List (Event × Reply)
+kept v = drop v.base v.history
 
 -- a history says what one of the machine does
 abbrev pub AreSaid : Shape → Formats → List (Event × Reply) → List (model.Event × model.Reply) → Type 0
@@ -57,25 +64,28 @@ pub record IsIn {D : Type 0} (state : D → DiskState) (v : View D) (s : model.S
 abbrev pub IsFound : Shape → Image → (found : ℕ × ℕ) → Type 0
 IsFound S image found = (m : Map) × Recovers S (formats_of S) (page image) found.0 m × HasCount (λ id. m id ≢ None) found.1
 
--- What every core keeps: the disk has the geometry's pages, and where it is honest the core is in a state of the machine that
--- its history leads to, and was opened on an image of that many commands and shards.
+-- What every core keeps: the disk has the geometry's pages, the events that were replaced are some of its history, and where the disk is
+-- honest the core is in a state of the machine that its whole history leads to, and was opened on an image of that many commands and shards.
 pub record IsCore {D : Type 0} (disks : PageDisk D) (v : View D) : Type 0 where
   pub device : disks.page_count v.disk ≡ page_total (shape v.store.extents)
+  pub replaced : v.base ≤ length v.history
   pub sized : disks.honest v.disk → length v.opened ≡ page_total (shape v.store.extents)
   pub legal : disks.honest v.disk → (s : model.State) × IsIn disks.state v s
   pub begun : disks.honest v.disk → IsFound (shape v.store.extents) v.opened v.found
 
--- the history was at its limit, and nothing has changed
-pub record IsFull {D : Type 0} (old : View D) (reply : Reply) (new : View D) : Type 0 where
+-- as many events were kept as may be, and nothing has changed
+pub record IsFull {D : Type 0} (old : View D) (event : Event) (reply : Reply) (new : View D) : Type 0 where
+  pub limited : IsLimited event
   pub reply_is : reply ≡ Refused HistoryFull
-  pub full : old.limit ≤ length old.history
+  pub full : old.limit ≤ length (kept old)
   pub same : new ≡ old
 
 -- The event with its reply was kept in the history, and where the disk is honest the core went on by one step of the machine,
 -- from whichever state it was in.
 pub record IsStep {D : Type 0} (disks : PageDisk D) (old : View D) (event : Event) (reply : Reply) (new : View D) : Type 0 where
-  pub room : length old.history < old.limit
+  pub room : IsLimited event → length (kept old) < old.limit
   pub history : new.history ≡ old.history ++ (event, reply) ∷ []
+  pub base : new.base ≡ old.base
   pub opened : new.opened ≡ old.opened
   pub found : new.found ≡ old.found
   pub limit : new.limit ≡ old.limit
@@ -86,9 +96,9 @@ pub record IsStep {D : Type 0} (disks : PageDisk D) (old : View D) (event : Even
       → (m : model.Reply) × (t : model.State) × Says (shape old.store.extents) (formats_of (shape old.store.extents)) reply m
       × Step (shape old.store.extents) (formats_of (shape old.store.extents)) s (event_of event) m t × IsIn disks.state new t
 
--- what a call does that has memory: the history was full, and nothing has changed; or the event was done or refused by one step, and kept
+-- what a call does that has memory: the kept history was full, and nothing has changed; or the event was done or refused by one step, and kept
 abbrev pub Applies : {D : Type 0} → (disks : PageDisk D) → (old : View D) → Event → Reply → (new : View D) → Type 0
-Applies disks old event reply new = IsFull old reply new ⊎ IsStep disks old event reply new
+Applies disks old event reply new = IsFull old event reply new ⊎ IsStep disks old event reply new
 
 -- What one event does to a store and to an honest disk: whichever state they are in, the machine makes a step from it to one
 -- that they are in then.
@@ -103,5 +113,6 @@ pub record IsUntouched {D : Type 0} (disks : PageDisk D) (old new : View D) : Ty
   pub found : new.found ≡ old.found
   pub store : new.store ≡ old.store
   pub history : new.history ≡ old.history
+  pub base : new.base ≡ old.base
   pub limit : new.limit ≡ old.limit
   pub disk : disks.honest old.disk → disks.state new.disk ≡ disks.state old.disk

@@ -1,12 +1,12 @@
 //! The event machine over one disk.
 //!
-//! **What a crash leaves.** Take a core on an honest disk that was opened on an image in which no shard is damaged, and any events.
-//! Whenever it stops, in the middle of an event or after one, what the crash leaves on the disk can be opened again, unless memory
+//! **What a crash leaves.** Take a core on an honest disk that was opened on an image in which no shard is damaged, and any events and
+//! checkpoints. Whenever it stops, in the middle of one or after one, what the crash leaves on the disk can be opened again, unless memory
 //! or the device refuses. It is then the map after the first n of the commands accepted since, and counts n more than the image did:
 //! n isn't below the frontier, which no acknowledged number exceeds, nor above the number of commands accepted. The clauses `crash` and
 //! `left` of `Core::apply` say that the image is such a one; `a_crash_of_a_run_leaves_a_prefix` says it of many calls in a row;
 //! `recovers` of `Core::open` says that such an image is opened so.
-ghost use Rattle.std.specs.Prelude.{IfErr, IfOk, IsOk, IsSome, IsTrue, MatchOption, MatchResult, None, OnErr, OnOk, Some, [], take, ℕ, ◌*◌, ◌+◌, ◌<◌, ◌^◌, ◌↔◌, ◌≡◌, ◌≢◌, ◌≤◌, ◌⊎◌};
+ghost use Rattle.std.specs.Prelude.{IfErr, IfOk, IsOk, IsSome, IsTrue, MatchOption, MatchResult, None, OnErr, OnOk, Some, [], false, length, take, true, ℕ, ◌*◌, ◌+◌, ◌<◌, ◌^◌, ◌↔◌, ◌≡◌, ◌≢◌, ◌≤◌, ◌⊎◌};
 ghost use Rattle.cs_refine.specs.Crashes.{IsPrefix};
 ghost use Rattle.cs_chunk.specs.Reads.{IsNoAnswer};
 ghost use Rattle.cs_deps.specs.Named.{IsWithin};
@@ -24,22 +24,24 @@ ghost use Rattle.cs_model.specs.Recovery.{Recovers};
 ghost use Rattle.cs_model.specs.State.{State};
 ghost use Rattle.cs_plan.specs.Best.{IsBestPlan};
 ghost use Rattle.cs_reclaim.specs.Sweeps.{IsNotSweepable};
+ghost use Rattle.cs_core.specs.Checkpoints.{IsNotReplaced, IsSettled, Replaces};
 ghost use Rattle.cs_core.specs.Disks.{CountsCalls, IsDiskAfter};
 ghost use Rattle.cs_core.specs.Meanings.{commands_said};
 ghost use Rattle.cs_core.specs.Openings.{IsOpened, IsOpeningRefusal, IsWhyNotOpened};
 ghost use Rattle.cs_core.specs.Replays.{replayed};
 ghost use Rattle.cs_core.specs.Replies.{MayAnswer};
-ghost use Rattle.cs_core.specs.Started.{IsFormatted, IsHeadWritten, new_stored};
-ghost use Rattle.cs_core.specs.Views.{Applies, IsUntouched, IsFound, IsIn};
+ghost use Rattle.cs_core.specs.Started.{IsHeadWritten, IsNewOn, new_stored};
+ghost use Rattle.cs_core.specs.Views.{Applies, IsUntouched, IsFound, IsIn, kept};
 ghost use Rattle.cs_core.specs.Writebacks.{WritesBack};
 
 use crate::contents::Bytes;
 use crate::events::{Event, OutOfMemory, Reply};
 use crate::formats::start_store;
+use crate::histories::History;
 use crate::openings::open_store;
 use crate::replays::replay_events;
 use crate::stores::Store;
-use cs_deps::{Dependency, Element, GraphView, Plan, Refusal};
+use cs_deps::{Dependency, Element, GraphView, LAST_NUMBER, Plan, Refusal};
 use cs_disk::PageDisk;
 use cs_frame::{Geometry, ShardId};
 use cs_reclaim::is_sweepable;
@@ -50,8 +52,9 @@ use std::snapshot::Snapshot;
 /// What bounds a core.
 #[derive(Clone, Copy, Debug, PartialEq, Eq)]
 pub struct Limits {
-    /// How many events its history may have: with so many, any further one is refused 41 HistoryFull. It bounds the
-    /// memory of the history and of the roots; the program takes 65,536.
+    /// How many events it may keep: with so many, a further Put, Get, Delete, Settle, BeginSweep or MoveOne is refused 41 HistoryFull,
+    /// until a checkpoint replaces them. All others are done, so that what was accepted can always be written back. It bounds the memory
+    /// of the history but for those; the program takes 65,536.
     pub history: usize,
 }
 
@@ -65,7 +68,7 @@ pub struct Core<D: PageDisk> {
     // how many commands the root counted then, and how many shards there were
     found: (u64, usize),
     store: Store,
-    history: Vec<(Event, Reply)>,
+    history: History,
     limit: usize,
 }
 
@@ -76,9 +79,9 @@ impl<D: PageDisk> Model for Core<D> {
 
     ghost Value = { View D };
 
-    ghost view = { λ c. record { disk = c.disk; opened = (D.state c.opened.value).durable; found = c.found; store = but_for_room c.store; history = c.history.items; limit = c.limit } };
+    ghost view = { λ c. record { disk = c.disk; opened = (D.state c.opened.value).durable; found = c.found; store = but_for_room c.store; history = c.history.all; base = c.history.base; limit = c.limit } };
 
-    ghost invariant = { λ c. IsCore D.PageDisk (record { disk = c.disk; opened = (D.state c.opened.value).durable; found = c.found; store = but_for_room c.store; history = c.history.items; limit = c.limit }) };
+    ghost invariant = { λ c. IsCore D.PageDisk (record { disk = c.disk; opened = (D.state c.opened.value).durable; found = c.found; store = but_for_room c.store; history = c.history.all; base = c.history.base; limit = c.limit }) };
 }
 
 impl<D: PageDisk> Core<D> {
@@ -92,13 +95,14 @@ impl<D: PageDisk> Core<D> {
         geometry: Geometry,
         limits: Limits,
     ) -> Result<Self, (Refusal, D)>
-        ensures new { IfOk result (λ core. (core.history ≡ []) × (core.limit ≡ limits.history)) }
+        ensures new { IfOk result (λ core. (core.history ≡ []) × (core.base ≡ 0) × (core.limit ≡ limits.history)) }
         ensures store { IfOk result (λ core. core.store ≡ new_stored geometry.extents geometry.pages geometry.sections) }
         // What it starts on recovers no command and no shard.
         ensures found { IfOk result (λ core. core.found ≡ (0, 0)) }
         ensures start { IfOk result (λ core. D.honest disk → Recovers (shape core.store.extents) (formats_of (shape core.store.extents)) (page core.opened) 0 (λ id. None)) }
-        // No page of an extent is written; where it is refused 43 the disk isn't asked for anything.
-        ensures written { D.honest disk → MatchResult result (λ core. IsFormatted geometry.extents geometry.pages (D.state disk) (D.state core.disk)) (λ refused. IsHeadWritten geometry.extents geometry.pages (D.state disk) (D.state refused.1)) }
+        // The sections of the superblock and the root are written, and no page of an extent; where it is refused 43 the disk isn't asked
+        // for anything.
+        ensures written { D.honest disk → MatchResult result (λ core. IsNewOn geometry.extents geometry.pages geometry.sections (D.state disk) (D.state core.disk)) (λ refused. IsHeadWritten geometry.extents geometry.pages (D.state disk) (D.state refused.1)) }
         ensures same { D.page_count disk ≢ 1 + geometry.extents * geometry.pages + geometry.sections → result ≡ Err (Refusal.NotAStore, disk) }
         ensures pages { IfOk result (λ core. D.page_count core.disk ≡ D.page_count disk) }
         ensures honest { MatchResult result (λ core. D.honest disk ↔ D.honest core.disk) (λ refused. D.honest disk ↔ D.honest refused.1) }
@@ -119,7 +123,7 @@ impl<D: PageDisk> Core<D> {
                 disk,
                 found: (0, 0),
                 store,
-                history: Vec::new(alloc),
+                history: History::new(alloc),
                 limit: limits.history,
             }),
             Err(fault) => Err((fault, disk)),
@@ -137,7 +141,7 @@ impl<D: PageDisk> Core<D> {
     /// named than one run may name. 1 DeviceFault and 9 OutOfMemory may come in place of any but the first. Of what was read the
     /// superblock's pointers, the root's numbers and the index are kept in memory.
     pub fn open(alloc: Global, disk: D, limits: Limits) -> Result<Self, (Refusal, D)>
-        ensures new { IfOk result (λ core. (core.history ≡ []) × (core.limit ≡ limits.history)) }
+        ensures new { IfOk result (λ core. (core.history ≡ []) × (core.base ≡ 0) × (core.limit ≡ limits.history)) }
         ensures image { IfOk result (λ core. D.honest disk → (core.opened ≡ seen (D.state disk)) × (D.state core.disk ≡ flushed (D.state disk))) }
         ensures store { IfOk result (λ core. IsOpened (D.honest disk) core.opened core.found core.store) }
         // Where the disk reads as a store of some geometry, that store is opened.
@@ -167,7 +171,7 @@ impl<D: PageDisk> Core<D> {
                 disk,
                 found: (found.commands, found.live),
                 store: found.store,
-                history: Vec::new(alloc),
+                history: History::new(alloc),
                 limit: limits.history,
             }),
             Err(refusal) => Err((refusal, disk)),
@@ -175,11 +179,11 @@ impl<D: PageDisk> Core<D> {
     }
 
     /// Does one event, and keeps it with its reply in the history, a refusal too. Two answers are kept nowhere:
-    /// 41 HistoryFull, where the history stands at its limit and nothing changes, and `OutOfMemory`, the only `Err`, after
+    /// 41 HistoryFull, where as many events are kept as may be and nothing changes, and `OutOfMemory`, the only `Err`, after
     /// which nothing has changed but what memory is reserved.
     ///
-    /// Refused 41 HistoryFull, then 40 Halted where a write or a flush failed (but for Get and Settle), then as `Event`
-    /// says. `step` says that a core goes by two tables of cs_model: `Does` (specs/Events.antt), what each event does, and
+    /// Refused 41 HistoryFull (Put, Get, Delete, Settle, BeginSweep and MoveOne alone), then 40 Halted where a write or a flush failed
+    /// (but for Get and Settle), then as `Event` says. `step` says that a core goes by two tables of cs_model: `Does` (specs/Events.antt), what each event does, and
     /// `Refuses` (specs/Grounds.antt), the grounds of its refusals in their order.
     pub fn apply(&mut self, event: &Event) -> Result<Reply, OutOfMemory>
         ensures step { IfOk result (λ reply. Applies D.PageDisk self.old event.now reply self.new) }
@@ -200,13 +204,13 @@ impl<D: PageDisk> Core<D> {
     {
         // Called for its contract alone: what all extents keep.
         self.store.extent_count();
-        if self.limit <= self.history.len() {
+        if event.is_limited() && self.limit <= self.history.kept().len() {
             return Ok(Reply::Refused(Refusal::HistoryFull));
         }
-        self.history.reserve(1)?;
+        self.history.reserve()?;
         let kept = event.copy()?;
         let (reply, noted) = self.store.serve(&mut self.disk, event)?;
-        self.history.push_reserved((kept, noted));
+        self.history.push(kept, noted);
         Ok(reply)
     }
 
@@ -254,19 +258,58 @@ impl<D: PageDisk> Core<D> {
         self.store.round()
     }
 
-    /// The events so far with their replies, the first one first.
+    /// The events that are kept with their replies, the first one first: those since the last checkpoint, or since the core was opened where
+    /// there was none.
     pub fn history(&self) -> &[(Event, Reply)]
-        ensures { result.now ≡ self.now.history }
+        ensures kept { result.now ≡ kept self.now }
+        ensures replaced { self.now.base ≤ length self.now.history }
     {
-        &self.history
+        self.history.kept()
     }
 
-    /// What the first k events put or deleted, each identifier with its bytes or None, the first of them first; of all
-    /// events where there are fewer. Goes through k events and takes memory for the list alone, since bytes are shared.
-    pub fn replay(&self, k: usize) -> Result<Vec<(ShardId, Option<Bytes>)>, AllocError>
-        ensures { IfOk result (λ changes. changes.items ≡ replayed (take k self.now.history)) }
+    /// How many events checkpoints replaced. So event k of those that are kept, counted from 0, is event `base() + k` of all.
+    pub fn base(&self) -> u64
+        ensures base { result ≡ self.now.base }
+        ensures fits { result < 2 ^ 63 }
     {
-        replay_events(self.alloc, &self.history, k)
+        self.history.base()
+    }
+
+    /// Replaces the events that are kept by the state that they led to, and gives how many they were. Their bytes are let go of. Map, numbers
+    /// of commands, what is persistent, extents and disk stay as they are, and so do the numbers of what comes. It takes no memory, and time
+    /// for each event.
+    ///
+    /// Refused 40 Halted where a write or a flush failed; then 44 Unsettled where something waits, a round is out, the index has changes that
+    /// aren't staged, or an extent is being swept; then 35 WornOut past 2^63 - 1 events.
+    pub fn checkpoint(&mut self) -> Result<u64, Refusal>
+        ensures ok { IfOk result (λ n. Replaces self.old n self.new) }
+        ensures err { IfErr result (λ refusal. IsNotReplaced self.old refusal × (self.new ≡ self.old)) }
+        ensures settled { OnOk result ((self.old.store.halted ≡ false) × IsSettled self.old.store) }
+        // It is refused for no other reason.
+        ensures always { self.old.store.halted ≡ false → IsSettled self.old.store → length self.old.history < 2 ^ 63 → IsOk result }
+        // A crash meanwhile leaves what one before it might have left.
+        ensures crash { D.honest self.old.disk → LeavesOnly D.moment D.left_since self.old.disk self.new.disk (IsPrefix (shape self.old.store.extents) (page self.old.opened) (commands_said self.old.history) self.old.store.frontier self.old.store.accepted) }
+    {
+        // Called for its contract alone: what all extents keep.
+        self.store.extent_count();
+        if self.store.is_halted() {
+            return Err(Refusal::Halted);
+        }
+        if !self.store.is_settled() {
+            return Err(Refusal::Unsettled);
+        }
+        if LAST_NUMBER < self.history.total() {
+            return Err(Refusal::WornOut);
+        }
+        Ok(self.history.replace())
+    }
+
+    /// What the first k events that are kept put or deleted, each identifier with its bytes or None, the first of them first; of all
+    /// that are kept where there are fewer. Goes through k events and takes memory for the list alone, since bytes are shared.
+    pub fn replay(&self, k: usize) -> Result<Vec<(ShardId, Option<Bytes>)>, AllocError>
+        ensures { IfOk result (λ changes. changes.items ≡ replayed (take k (kept self.now))) }
+    {
+        replay_events(self.alloc, self.history.kept(), k)
     }
 
     /// Whether something waits.
@@ -276,7 +319,7 @@ impl<D: PageDisk> Core<D> {
         self.store.graph.has_waiting()
     }
 
-    /// How many events the history may have.
+    /// With how many kept events a further Put, Get, Delete, Settle, BeginSweep or MoveOne is refused 41 HistoryFull.
     pub fn limit(&self) -> usize
         ensures { result ≡ self.now.limit }
     {
@@ -347,7 +390,7 @@ impl<D: PageDisk> Core<D> {
         ensures accepted { result.0 ≡ self.now.store.accepted }
         ensures frontier { result.1 ≡ self.now.store.frontier }
         ensures fits { result.0 < 2 ^ 63 }
-        ensures within { D.honest self.now.disk → result.1 ≤ result.0 }
+        ensures within { result.1 ≤ result.0 }
         // Where the disk is honest the history led to a state of the machine in which disk and store are.
         ensures legal { D.honest self.now.disk → (s : State) × IsIn D.state self.now s }
         // A crash now leaves the map after some of the commands, none of the persistent ones left out.
@@ -388,10 +431,18 @@ impl<D: PageDisk> Core<D> {
         self.store.kept_pages()
     }
 
-    /// The disk, and the events with their replies, the first one first.
+    /// The lowest extent that is being swept, None where none is.
+    pub fn swept_extent(&self) -> Option<usize>
+        ensures { MatchOption result ((e : ℕ) → (extents_of self.now.store.extents).swept e ≡ false)
+            (λ e. ((extents_of self.now.store.extents).swept e ≡ true) × ((k : ℕ) → k < e → (extents_of self.now.store.extents).swept k ≡ false)) }
+    {
+        self.store.swept_extent()
+    }
+
+    /// The disk, and the events that are kept with their replies, the first one first.
     pub fn into_parts(self) -> (D, Vec<(Event, Reply)>)
         ensures disk { result.0 ≡ self.disk }
-        ensures history { result.1.items ≡ self.history }
+        ensures history { result.1.items ≡ kept self }
         // Where the disk is honest the history led to a state of the machine in which disk and store are.
         ensures legal { D.honest self.disk → (s : State) × IsIn D.state self s }
     {
@@ -404,6 +455,6 @@ impl<D: PageDisk> Core<D> {
             history,
             limit: _,
         } = self;
-        (disk, history)
+        (disk, history.into_kept())
     }
 }

@@ -1,6 +1,6 @@
 //! What a core is asked, and what it answers.
 ghost use Rattle.std.specs.Prelude.{◌≡◌, IfOk, MatchBool};
-ghost use Rattle.cs_core.specs.Answered.{IsForDevice};
+ghost use Rattle.cs_core.specs.Answered.{IsForDevice, IsLimited};
 
 use crate::contents::{Bytes, Elements};
 use cs_deps::{Element, Refusal};
@@ -70,6 +70,21 @@ impl Event {
         ensures { MatchBool result (IsForDevice self.now) (¬ IsForDevice self.now) }
     {
         matches!(self, Event::Issue | Event::End | Event::MoveOne(_))
+    }
+
+    /// Whether it is refused where as many events are kept as may be: those of clients, BeginSweep and MoveOne.
+    pub fn is_limited(&self) -> bool
+        ensures { MatchBool result (IsLimited self.now) (¬ IsLimited self.now) }
+    {
+        matches!(
+            self,
+            Event::Put(_, _)
+                | Event::Get(_)
+                | Event::Delete(_)
+                | Event::Settle(_)
+                | Event::BeginSweep(_)
+                | Event::MoveOne(_)
+        )
     }
 
     /// The same event. A put's bytes are shared.

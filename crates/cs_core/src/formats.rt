@@ -6,7 +6,7 @@ ghost use Rattle.cs_frame.specs.Superblocks.{SpellsSuperblock};
 ghost use Rattle.cs_core.specs.Started.{AreNew, AreNewWritten, IsHeadWritten, IsNewOn, IsNewSection, new_stored};
 
 use crate::families::new_graph;
-use crate::roots::Root as Noted;
+use crate::roots::first_root;
 use crate::stores::Store;
 use cs_deps::Refusal;
 use cs_disk::{DiskFault, PageDisk};
@@ -60,18 +60,6 @@ fn new_index(alloc: Global, geometry: Geometry) -> Result<Index, AllocError>
     }
 }
 
-/// The root of a new store, as a store notes it.
-fn new_roots(alloc: Global) -> Result<Vec<Noted>, AllocError>
-    ensures { IfOk result (λ roots. roots.items ≡ record { version = 1; commands = 0 } ∷ []) }
-{
-    let mut roots = Vec::new(alloc);
-    roots.push(Noted {
-        version: 1,
-        commands: 0,
-    })?;
-    Ok(roots)
-}
-
 /// A store of this geometry and of the sections of its superblock, on which nothing was staged yet.
 fn new_store(
     alloc: Global,
@@ -81,7 +69,7 @@ fn new_store(
     requires { AreNew geometry.extents geometry.pages geometry.sections sections.now }
     ensures { IfOk result (λ store. store ≡ new_stored geometry.extents geometry.pages geometry.sections) }
 {
-    let roots = new_roots(alloc)?;
+    let roots = first_root(alloc, 1)?;
     let index = new_index(alloc, geometry)?;
     let extents = Extents::of(alloc, sections)?;
     let graph = new_graph(alloc, sections, 1)?;

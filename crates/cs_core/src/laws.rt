@@ -35,7 +35,7 @@ pub fn a_round_lowers_heights_by_one()
         → IsHeight old.graph.staging.pending x 1 → ¬ Waits new.graph.staging.pending x }
 {}
 
-/// Take any calls of `apply`, one after another, on a core over an honest disk. A crash at any moment since the first began, within
+/// Take any calls of `apply` and `checkpoint`, one after another, on a core over an honest disk. A crash at any moment since the first began, within
 /// a call or between two, leaves an image that recovers the map after the first n of all commands accepted so far, n from
 /// the frontier as the first call began to all of them; `recovers` of `Core::open` says that it is opened as that.
 ///

@@ -1,5 +1,5 @@
 //! The event machine of a shard store over one disk: each call of `apply` is one event, and the history keeps it with its
-//! reply.
+//! reply until a checkpoint replaces it.
 //!
 //! An event goes through `cores` (`apply`), `serves` (whether the store is halted; Get and Settle) and `running` (all others) to
 //! one call of a `Store`: `commands`, `reads`, `stagings`, `rounds` or `sweeps`. `formats` makes a new store; `openings`, `sections`, `runs`
@@ -13,6 +13,7 @@ mod events;
 mod families;
 mod formats;
 mod frontiers;
+mod histories;
 mod laws;
 mod loads;
 mod openings;
@@ -26,6 +27,7 @@ mod running;
 mod runs;
 mod sections;
 mod serves;
+mod settles;
 mod stagings;
 mod stores;
 mod sweeps;

@@ -12,14 +12,15 @@ ghost use Rattle.cs_index.specs.State.{index_of, newest_first};
 ghost use Rattle.cs_model.specs.Index.{entries_of, live_at, names};
 ghost use Rattle.cs_core.specs.Openings.{IsOpeningRefusal, opened_stored};
 
-use crate::roots::Root as Noted;
+use crate::roots::{Root as Noted, first_root};
 use crate::runs::are_located;
 use crate::stores::Store;
 use cs_deps::{Graph, Refusal};
 use cs_extent::Extents;
 use cs_frame::{Locator, Root};
 use cs_index::{Index, StoredRun};
-use std::alloc::{AllocError, Global};
+use std::alloc::Global;
+use std::collections::VecDeque;
 
 /// A store that was opened, how many commands its root counts, and how many shards it has.
 #[derive(Drop)]
@@ -70,25 +71,13 @@ fn load_index(alloc: Global, extents: &Extents, runs: Vec<StoredRun>) -> Result<
     }
 }
 
-/// A root as a store that starts on it notes it.
-fn noted(alloc: Global, root: &Root) -> Result<Vec<Noted>, AllocError>
-    ensures { IfOk result (λ roots. roots.items ≡ record { version = root.now.version; commands = 0 } ∷ []) }
-{
-    let mut roots = Vec::new(alloc);
-    roots.push(Noted {
-        version: root.version,
-        commands: 0,
-    })?;
-    Ok(roots)
-}
-
 /// What a store has beside its extents and its graph: the index of these runs, and the root as it notes it.
 fn load_parts(
     alloc: Global,
     extents: &Extents,
     root: &Root,
     runs: Vec<StoredRun>,
-) -> Result<(Index, Vec<Noted>), Refusal>
+) -> Result<(Index, VecDeque<Noted>), Refusal>
     requires few { length runs.items ≤ 4 }
     requires runs { AllByRecursion (λ run. IsRun (record { entries = run.entries })) runs.items }
     ensures loaded { IfOk result (λ made. made.0 ≡ index_at (newest_first runs.items) (shape extents.now).most_names) }
@@ -102,7 +91,7 @@ fn load_parts(
         Ok(index) => index,
         Err(refusal) => return Err(refusal),
     };
-    match noted(alloc, root) {
+    match first_root(alloc, root.version) {
         Ok(roots) => Ok((index, roots)),
         Err(_) => Err(Refusal::OutOfMemory),
     }

@@ -7,7 +7,7 @@ ghost use Rattle.cs_core.specs.Stored.{members_of, page_total, but_for_room};
 ghost use Rattle.cs_core.specs.Writebacks.{IsMemberIssued, IsRoundBegun, IsRoundEnded, StaysRefused};
 
 use crate::events::{Event, Reply};
-use crate::frontiers::frontier_of;
+use crate::frontiers::let_go;
 use crate::stores::Store;
 use cs_deps::{Element, Refusal};
 use cs_disk::{DiskFault, PageDisk};
@@ -119,9 +119,8 @@ impl Store {
             Ok(()) => {
                 self.graph.settle_round();
                 self.issued = 0;
-                let counted = frontier_of(self.alloc, &self.graph, &self.roots);
-                // No invariant ties the frontier to the roots; so that it never falls is made sure of here.
-                self.frontier = self.frontier.max(counted);
+                let_go(self.alloc, &self.graph, &mut self.roots);
+                self.frontier = self.roots[0].commands;
                 Ok(self.frontier)
             }
             Err(DiskFault::DeviceFault) => {

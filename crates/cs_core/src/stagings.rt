@@ -25,8 +25,9 @@ impl Store {
         ensures frontier { self.new.frontier ≡ self.old.frontier }
         ensures no_fault { IfErr result (λ r. r ≢ Refusal.DeviceFault) }
     {
-        // Called for its contract alone: what all extents keep.
+        // Called for their contracts alone: what all extents and every graph keep.
         self.extents.extent_count();
+        self.graph.families();
         if self.roots.reserve(1).is_err() {
             return Err(Refusal::OutOfMemory);
         }
@@ -37,7 +38,7 @@ impl Store {
             .stage(&mut self.extents, &mut self.graph, commands)
         {
             Ok(Some(version)) => {
-                self.roots.push_reserved(Root {
+                self.roots.push_back_reserved(Root {
                     version,
                     commands: self.accepted,
                 });

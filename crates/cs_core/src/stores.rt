@@ -9,6 +9,7 @@ use cs_deps::{Element, Graph, LAST_NUMBER};
 use cs_extent::Extents;
 use cs_index::Index;
 use std::alloc::Global;
+use std::collections::VecDeque;
 use std::marker::Model;
 
 /// A store without its disk. The round that is out is the one of its graph.
@@ -18,8 +19,8 @@ pub struct Store {
     pub graph: Graph,
     pub extents: Extents,
     pub index: Index,
-    /// The roots that were staged, and before them the one that was read at open.
-    pub roots: Vec<Root>,
+    /// The newest root that is persistent, and behind it those that were staged since and wait.
+    pub roots: VecDeque<Root>,
     /// How many members of the round that is out were written.
     pub issued: usize,
     /// The commands of the root that was read at open.
@@ -60,7 +61,8 @@ impl Store {
 
     /// How many of these are persistent.
     pub fn frontier(&self) -> u64
-        ensures { result ≡ self.now.frontier }
+        ensures frontier { result ≡ self.now.frontier }
+        ensures within { result ≤ self.now.accepted }
     {
         self.frontier
     }

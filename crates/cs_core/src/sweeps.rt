@@ -69,8 +69,9 @@ impl Store {
         ensures frontier { self.new.frontier ≡ self.old.frontier }
         ensures no_fault { IfErr result (λ r. r ≢ Refusal.DeviceFault) }
     {
-        // Called for its contract alone: what all extents keep.
+        // Called for their contracts alone: what all extents and every graph keep.
         self.extents.extent_count();
+        self.graph.families();
         let Some(sweep) = Sweep::resume(&self.extents, extent) else {
             return Err(Refusal::NotSweepable);
         };
@@ -85,7 +86,7 @@ impl Store {
             commands,
         ) {
             Ok(version) => {
-                self.roots.push_reserved(Root {
+                self.roots.push_back_reserved(Root {
                     version,
                     commands: self.accepted,
                 });

@@ -13,10 +13,10 @@ use Rattle.cs_core.specs.Replies.{MayAnswer}
 use Rattle.cs_core.specs.declared.events.Event.{Event}
 use Rattle.cs_core.specs.declared.events.Event.TheVariants.{Abandon, Begin, BeginSweep, Delete, End, Get, Issue, MoveOne, Put, Retire, Settle, Stage}
 use Rattle.cs_core.specs.declared.events.Reply.{Reply}
-use Rattle.cs_core.specs.declared.events.Reply.TheVariants.{Refused}
+use Rattle.cs_core.specs.declared.events.Reply.TheVariants.{Abandoned, Refused}
 use Rattle.cs_core.specs.Views.{Applies, IsFull, IsIn, IsStep, View}
 use Rattle.cs_node.specs.Behind.{IsBehind}
-use Rattle.cs_node.specs.Locks.{Declines}
+use Rattle.cs_node.specs.Locks.{Declines, IsDone}
 use Rattle.cs_node.specs.Starts.{Start, shape_at}
 use Rattle.cs_node.specs.Told.{is_unrecorded}
 use Rattle.cs_node.specs.Under.{Under}
@@ -28,7 +28,7 @@ behind_at disks start u v same behind = subst (λ (w : Under _). IsBehind disks 
 -- what isn't told to be full was recorded
 pub recorded : {D : Type 0} (disks : PageDisk D) (old : View D) (e : Event) (r : Reply) (new : View D)
     → Applies disks old e r new → r ≢ Refused HistoryFull → IsStep disks old e r new
-recorded disks old e r new applies other = ⊎_elim (λ (f : IsFull old r new). absurd (other f.reply_is)) (λ (s : IsStep disks old e r new). s) applies
+recorded disks old e r new applies other = ⊎_elim (λ (f : IsFull old e r new). absurd (other f.reply_is)) (λ (s : IsStep disks old e r new). s) applies
 
 -- no ground of the machine is a full history
 never_full : (f : ground.Refusal) → HistoryFull ≢ refusal_for f
@@ -50,9 +50,9 @@ never_full ground.NoRound e = cc
 
 -- what is told to be full wasn't recorded, and nothing has changed
 pub declined : {D : Type 0} (disks : PageDisk D) (old : View D) (e : Event) (new : View D)
-    → (disks.honest old.disk → (s : State) × IsIn disks.state old s) → Applies disks old e (Refused HistoryFull) new → Declines disks old HistoryFull new
+    → (disks.honest old.disk → (s : State) × IsIn disks.state old s) → Applies disks old e (Refused HistoryFull) new → Declines disks old e HistoryFull new
 declined disks old e new legal applies is_honest = ⊎_elim
-    (λ (f : IsFull old (Refused HistoryFull) new). (f.full, f.same))
+    (λ (f : IsFull old e (Refused HistoryFull) new). (f.limited, f.full, f.same))
     (λ (g : IsStep disks old e (Refused HistoryFull) new). let s = legal is_honest in let m = g.step is_honest s.0 s.1 in absurd (never_full m.2.0 m.2.2))
     applies
 
@@ -78,6 +78,12 @@ no_want (Abandon x) r may full = may
 -- a refusal that was recorded is one that a history records
 pub is_recorded : (e : Event) (r : Refusal) → MayAnswer e (Refused r) → Refused r ≢ Refused HistoryFull → is_unrecorded r ≡ false
 is_recorded e r may other = let full : r ≢ HistoryFull = λ same. other (ap Refused same) in recorded_as r (no_want e r may full) full
+
+-- an Abandon that was done has one reply
+pub abandoned : (e : ℕ) (r : Reply) → MayAnswer (Abandon e) r → IsDone r → r ≡ Abandoned
+abandoned e Abandoned may done = refl
+abandoned e (Refused x) may done = absurd (done x refl)
+abandoned e _ may done = absurd may
 
 -- what is so of a value is so of one that is given on
 pub if_ok : {T E : Type 0} {P Q : T → Type 0} (result : Result T E) → ((t : T) → P t → Q t) → IfOk result P → IfOk result Q

@@ -1,5 +1,6 @@
 pub mod Behind
 pub mod Crosses
+pub mod Given
 pub mod Going
 pub mod LogSteps
 pub mod Resting

@@ -1,74 +1,21 @@
--- Numbers that purses hold, and marks of them.
-use Rattle.std.proofs.Common.{◌≡◌, ◌≢◌, ◌≤◌, ◌<◌, ℕ, zero, suc, ◌+◌, List, [], ◌∷◌, length, cond, refl, sym, ◌∙◌, arith, min, eqb, ne_eqb, eq-eqb}
+-- What is added up over purses: the places of their calls, and the numbers that they and what they handed in hold.
+use Rattle.std.proofs.Common.{◌≡◌, ◌≢◌, ◌≤◌, ◌<◌, ℕ, zero, suc, ◌+◌, ◌-◌, List, [], ◌∷◌, length, cond, refl, sym, ap, ◌∙◌, subst, arith, drop, get_or, min, take, get_or-drop, length-drop}
 use Rattle.std.proofs.lemmas.Bool.Decides.{nat_tests}
-use Rattle.std.specs.Prelude.{All, slice_index, slice_index_or, nat_le}
-use Rattle.std.proofs.lemmas.List.Sums.{sum_by-cons}
+use Rattle.std.specs.Prelude.{All, ◌==◌, nat_le, slice_index, slice_index_or}
+use Rattle.std.proofs.lemmas.List.Elements.{All-head, All-tail}
+use Rattle.std.proofs.lemmas.List.Sums.{sum_by-cons, sum_by_more}
 use mathlib.Core.Logic.{dite}
-use native.Mathlib.Decide.{dec_le, ℕ_discrete}
-use Rattle.cs_node.specs.Told.{Holdings}
+use native.Mathlib.Decide.{dec_le}
+use Rattle.cs_numbers.specs.declared.stretches.Stretch.{Stretch}
+use Rattle.cs_numbers.specs.Numbers.{Within, once_to, times}
+use Rattle.cs_numbers.specs.Numbers as numbers
+use Rattle.cs_numbers.proofs.Laws.{lacking-held}
 use Rattle.cs_core.specs.declared.events.Event.{Event}
 use Rattle.cs_core.specs.declared.events.Event.TheVariants.{Abandon, Begin, BeginSweep, Delete, End, Get, Issue, MoveOne, Put, Retire, Settle, Stage}
 use Rattle.cs_core.specs.declared.events.Reply.{Reply}
-use Rattle.cs_node.specs.Accounts.{Stands, called_at, wanted, AreCalls, times, held, once_to, AreNumbers, Within, AllWithin, wanted_number, unmarked, lacking, AcksWithin, acknowledged_by}
-
-all_head : {X : Type 0} (P : X → Type 0) (x : X) (xs : List X) → All P (x ∷ xs) → P x
-all_head P x xs h = h 0 x (omega arith)
-
-all_tail : {X : Type 0} (P : X → Type 0) (x : X) (xs : List X) → All P (x ∷ xs) → All P xs
-all_tail P x xs h k d here = h (suc k) d (omega arith)
-
-all_cons : {X : Type 0} (P : X → Type 0) (x : X) (xs : List X) → P x → All P xs → All P (x ∷ xs)
-all_cons P x xs p h zero d here = p
-all_cons P x xs p h (suc k) d here = h k d (omega arith)
-
-times_no : (x y : ℕ) (ys : List ℕ) → y ≢ x → times x (y ∷ ys) ≡ times x ys
-times_no x y ys n = sum_by-cons (λ (z : ℕ). cond (eqb z x) 1 0) y ys ∙ rw (ne_eqb y x n) (omega arith)
-
-times_yes : (x y : ℕ) (ys : List ℕ) → y ≡ x → times x (y ∷ ys) ≡ suc (times x ys)
-times_yes x y ys e = sum_by-cons (λ (z : ℕ). cond (eqb z x) 1 0) y ys ∙ rw (eq-eqb y x e) (omega arith)
-
-held_cons : (x : ℕ) (p : Holdings) (ps : List Holdings) → held x (p ∷ ps) ≡ (times x p.tickets + times x p.acks) + held x ps
-held_cons x p ps = sum_by-cons (λ (h : Holdings). times x h.tickets + times x h.acks) p ps
-
-both : (n : ℕ) (p : Holdings) (ps : List Holdings) → AllWithin n (p ∷ ps) → (Within n p.tickets × Within n p.acks) × AllWithin n ps
-both n p ps h = (
-  (all_head (λ (q : Holdings). Within n q.tickets) p ps h.0, all_head (λ (q : Holdings). Within n q.acks) p ps h.1),
-  (all_tail (λ (q : Holdings). Within n q.tickets) p ps h.0, all_tail (λ (q : Holdings). Within n q.acks) p ps h.1),
-)
-
--- a number above all others isn't there
-times_beyond : (n x : ℕ) (xs : List ℕ) → Within n xs → n < x → times x xs ≡ 0
-times_beyond n x [] h lt = refl
-times_beyond n x (y ∷ ys) h lt = let b = all_head (λ z. z ≤ n) y ys h in times_no x y ys (λ e. omega arith) ∙ times_beyond n x ys (all_tail (λ z. z ≤ n) y ys h) lt
-
--- and where none above is there, all are within
-within_from : (n : ℕ) (xs : List ℕ) → ((x : ℕ) → n < x → times x xs ≡ 0) → Within n xs
-within_from n [] h = λ k d here. absurd (omega arith)
-within_from n (y ∷ ys) h = dite (dec_le y n)
-    (λ le. all_cons (λ z. z ≤ n) y ys le (within_from n ys rest))
-    (λ not_le. let lt : n < y = omega arith in let one = times_yes y y ys refl in let none = h y lt in absurd (omega arith))
-  where
-    rest : (x : ℕ) → n < x → times x ys ≡ 0
-    rest x lt = dite (ℕ_discrete y x)
-        (λ e. let one = times_yes x y ys e in let none = h x lt in absurd (omega arith))
-        (λ ne. sym (times_no x y ys ne) ∙ h x lt)
-
-held_beyond : (n x : ℕ) (ps : List Holdings) → AllWithin n ps → n < x → held x ps ≡ 0
-held_beyond n x [] h lt = refl
-held_beyond n x (p ∷ ps) h lt =
-    let b = both n p ps h in
-    let t = times_beyond n x p.tickets b.0.0 lt in
-    let a = times_beyond n x p.acks b.0.1 lt in
-    let r = held_beyond n x ps b.1 lt in
-    omega (arith, held_cons x p ps)
-
-all_within_from : (n : ℕ) (ps : List Holdings) → ((x : ℕ) → n < x → held x ps ≡ 0) → AllWithin n ps
-all_within_from n [] h = ((λ k d here. absurd (omega arith)), (λ k d here. absurd (omega arith)))
-all_within_from n (p ∷ ps) h =
-    let r = all_within_from n ps (λ x lt. let z = h x lt in omega (arith, held_cons x p ps)) in (
-      all_cons (λ (q : Holdings). Within n q.tickets) p ps (within_from n p.tickets (λ x lt. let z = h x lt in omega (arith, held_cons x p ps))) r.0,
-      all_cons (λ (q : Holdings). Within n q.acks) p ps (within_from n p.acks (λ x lt. let z = h x lt in omega (arith, held_cons x p ps))) r.1,
-    )
+use Rattle.cs_core.specs.Views.{View}
+use Rattle.cs_node.specs.Told.{Holdings}
+use Rattle.cs_node.specs.Accounts.{Accounted, AcksWithin, AreAllNumbers, AreCalls, Stands, acknowledged_by, called_at, held, lacking, wanted}
 
 -- a mark up to 2 that is as wanted
 once_marked : (m w : ℕ) → w ≤ 1 → min 2 m ≡ w → m ≡ w
@@ -88,71 +35,103 @@ small (MoveOne e) = omega arith
 small (Retire e) = omega arith
 small (Abandon e) = omega arith
 
--- the marks of places say that the calls are those of the history, and the other way round
-pub calls_from : (history : List (Event × Reply)) (marks : List ℕ) (ps : List Holdings)
-    → ((k : ℕ) → k < length history → slice_index marks k ≡ min 2 (called_at k ps))
-    → ((k : ℕ) (d : Event × Reply) → k < length history → slice_index marks k ≡ wanted (slice_index_or history k d).0)
-    → All (λ (h : Holdings). All (Stands history) h.calls) ps → AreCalls history ps
-calls_from history marks ps marked wants stand = record { stand = stand; once = λ k d lt. once_marked (called_at k ps) (wanted (slice_index_or history k d).0) (small (slice_index_or history k d).0) (sym (marked k lt) ∙ wants k d lt) }
+-- of a history the events from `base` on are kept, and each of them is marked by how often it is called, up to 2
+module _ (base : ℕ) (history kept : List (Event × Reply)) (marks : List ℕ) (ps : List Holdings) (within : base ≤ length history) (is : kept ≡ drop base history)
+    (marked : (k : ℕ) → k < length kept → slice_index marks k ≡ min 2 (called_at (base + k) ps)) where
+  kept_at : (k : ℕ) (d : Event × Reply) → slice_index_or kept k d ≡ slice_index_or history (base + k) d
+  kept_at k d = ap (λ (l : List (Event × Reply)). get_or l k d) is ∙ get_or-drop base history k d
 
-pub wants_of : (history : List (Event × Reply)) (marks : List ℕ) (ps : List Holdings)
-    → ((k : ℕ) → k < length history → slice_index marks k ≡ min 2 (called_at k ps))
-    → AreCalls history ps → (k : ℕ) (d : Event × Reply) → k < length history → slice_index marks k ≡ wanted (slice_index_or history k d).0
-wants_of history marks ps marked h k d lt = let a = marked k lt in let b = h.once k d lt in let c = small (slice_index_or history k d).0 in omega arith
+  kept_length : length kept ≡ length history - base
+  kept_length = ap length is ∙ length-drop base history
 
-wanted_small : (k : ℕ) → wanted_number k ≤ 1
-wanted_small zero = omega arith
-wanted_small (suc k) = omega arith
+  -- as the marks say the calls are those of the history
+  pub calls_from : ((k : ℕ) (d : Event × Reply) → k < length kept → slice_index marks k ≡ wanted (slice_index_or kept k d).0)
+      → All (λ (h : Holdings). All (λ c. base ≤ c.place → Stands history c) h.calls) ps → AreCalls base history ps
+  calls_from wants stand = record {
+    stand = stand;
+    once = λ place d from lt.
+        let e : base + (place - base) ≡ place = omega arith in
+        let here : place - base < length kept = omega (arith, kept_length) in
+        subst (λ (n : ℕ). called_at n ps ≡ wanted (slice_index_or history n d).0) e
+        (once_marked (called_at (base + (place - base)) ps) (wanted (slice_index_or history (base + (place - base)) d).0) (small (slice_index_or history (base + (place - base)) d).0)
+        (sym (marked (place - base) here) ∙ wants (place - base) d here ∙ ap (λ (x : Event × Reply). wanted x.0) (kept_at (place - base) d)));
+  }
 
-once_is_wanted : (n x : ℕ) → x ≤ n → once_to n x ≡ wanted_number x
-once_is_wanted n zero le = grind (arith, nat_tests)
-once_is_wanted n (suc k) le = grind (arith, nat_tests)
+  -- and the other way round
+  pub wants_of : AreCalls base history ps → (k : ℕ) (d : Event × Reply) → k < length kept → slice_index marks k ≡ wanted (slice_index_or kept k d).0
+  wants_of h k d lt =
+      let a = marked k lt in
+      let b = h.once (base + k) d (omega arith) (omega (arith, kept_length)) in
+      let c = small (slice_index_or history (base + k) d).0 in
+      let e = ap (λ (x : Event × Reply). wanted x.0) (kept_at k d) in
+      omega arith
 
-once_beyond : (n x : ℕ) → n < x → once_to n x ≡ 0
-once_beyond n x lt = grind (arith, nat_tests)
+-- the numbers of one purse
+abbrev pub held_by : ℕ → Holdings → ℕ
+held_by x h = times x h.tickets + times x h.acks
 
--- the marks say that each number is there once
-pub numbers_from : (n : ℕ) (marks : List ℕ) (ps : List Holdings) → ((k : ℕ) → k < n + 1 → slice_index marks k ≡ min 2 (held k ps)) → ((k : ℕ) → k < n + 1 → slice_index marks k ≡ wanted_number k) → AllWithin n ps → AreNumbers n ps
-numbers_from n marks ps marked wants within x = dite (dec_le x n)
-    (λ le. let lt : x < n + 1 = omega arith in once_marked (held x ps) (wanted_number x) (wanted_small x) (sym (marked x lt) ∙ wants x lt) ∙ sym (once_is_wanted n x le))
-    (λ not_le. let lt : n < x = omega arith in held_beyond n x ps within lt ∙ sym (once_beyond n x lt))
+held_cons : (x : ℕ) (handed : List Stretch) (p : Holdings) (ps : List Holdings) → held x handed (p ∷ ps) ≡ held_by x p + held x handed ps
+held_cons x handed p ps = omega (arith, sum_by-cons (λ (h : Holdings). times x h.tickets + times x h.acks) p ps)
 
--- and the other way round
-pub within_of : (n : ℕ) (ps : List Holdings) → AreNumbers n ps → AllWithin n ps
-within_of n ps h = all_within_from n ps (λ x lt. h x ∙ once_beyond n x lt)
+-- the first i purses, and the next
+pub held_more : (x : ℕ) (handed : List Stretch) (ps : List Holdings) (i : ℕ) (d : Holdings) → i < length ps → held x handed (take (i + 1) ps) ≡ held x handed (take i ps) + held_by x (get_or ps i d)
+held_more x handed ps i d within = omega (arith, sum_by_more (λ (h : Holdings). times x h.tickets + times x h.acks) ps i d within)
 
-pub wanted_of : (n : ℕ) (marks : List ℕ) (ps : List Holdings) → ((k : ℕ) → k < n + 1 → slice_index marks k ≡ min 2 (held k ps)) → AreNumbers n ps → (k : ℕ) → k < n + 1 → slice_index marks k ≡ wanted_number k
-wanted_of n marks ps marked h k lt = let a = marked k lt in let b = h k in let c = once_is_wanted n k (omega arith) in let d = wanted_small k in omega arith
+-- what a list lacks that has just these numbers
+lacking_of : (all handed : List Stretch) (ps : List Holdings) → ((x : ℕ) → times x all ≡ held x handed ps) → (n : ℕ) → numbers.lacking n all ≡ lacking n handed ps
+lacking_of all handed ps same n = lacking-held all (λ x. held x handed ps) same (λ m. lacking m handed ps) refl (λ m. refl) n
 
--- the unmarked numbers are those that are missing
-pub lacking_of : (n m : ℕ) (marks : List ℕ) (ps : List Holdings) → n ≤ m → ((k : ℕ) → k < m + 1 → slice_index marks k ≡ min 2 (held k ps)) → unmarked n marks ≡ lacking n ps
-lacking_of zero m marks ps le marked = refl
-lacking_of (suc n) m marks ps le marked =
-    let e = marked (suc n) (omega arith) in
-    let r = lacking_of n m marks ps (omega arith) marked in
-    grind (arith, nat_tests)
+once_up : (n f x : ℕ) → f ≤ n → x ≤ f → once_to n x ≡ once_to f x
+once_up n f x le up = grind (arith, nat_tests)
+
+once_above : (f x : ℕ) → f < x → once_to f x ≡ 0
+once_above f x above = grind (arith, nat_tests)
+
+acknowledged_cons : (f x : ℕ) (handed : List Stretch) (p : Holdings) (ps : List Holdings) → acknowledged_by f x handed (p ∷ ps) ≡ (times x p.acks + cond (nat_le x f) (times x p.tickets) 0) + acknowledged_by f x handed ps
+acknowledged_cons f x handed p ps = omega (arith, sum_by-cons (λ (h : Holdings). times x h.acks + cond (nat_le x f) (times x h.tickets) 0) p ps)
 
 -- of numbers up to f, those that become acks are all
-acknowledged_up : (f x : ℕ) (ps : List Holdings) → x ≤ f → acknowledged_by f x ps ≡ held x ps
-acknowledged_up f x [] le = refl
-acknowledged_up f x (p ∷ ps) le =
-    let r = acknowledged_up f x ps le in
-    let a = sum_by-cons (λ (h : Holdings). times x h.acks + cond (nat_le x f) (times x h.tickets) 0) p ps in
+acknowledged_up : (f x : ℕ) (handed : List Stretch) (ps : List Holdings) → x ≤ f → acknowledged_by f x handed ps ≡ held x handed ps
+acknowledged_up f x handed [] le = refl
+acknowledged_up f x handed (p ∷ ps) le =
+    let r = acknowledged_up f x handed ps le in
     let b : cond (nat_le x f) (times x p.tickets) 0 ≡ times x p.tickets = grind (arith, nat_tests) in
-    omega (arith, a, b, r, held_cons x p ps)
+    omega (arith, acknowledged_cons f x handed p ps, held_cons x handed p ps)
 
 -- and above f there is none
-acknowledged_above : (f x : ℕ) (ps : List Holdings) → f < x → AcksWithin f ps → acknowledged_by f x ps ≡ 0
-acknowledged_above f x [] lt h = refl
-acknowledged_above f x (p ∷ ps) lt h =
-    let r = acknowledged_above f x ps lt (all_tail (λ (q : Holdings). Within f q.acks) p ps h) in
-    let a = sum_by-cons (λ (q : Holdings). times x q.acks + cond (nat_le x f) (times x q.tickets) 0) p ps in
+acknowledged_above : (f x : ℕ) (handed : List Stretch) (ps : List Holdings) → f < x → AcksWithin f handed ps → acknowledged_by f x handed ps ≡ 0
+acknowledged_above f x handed [] lt (in_hand, rest) = omega (arith, in_hand x lt)
+acknowledged_above f x handed (p ∷ ps) lt (in_hand, each) =
+    let r = acknowledged_above f x handed ps lt (in_hand, All-tail (λ (q : Holdings). Within f q.acks) p ps each) in
     let b : cond (nat_le x f) (times x p.tickets) 0 ≡ 0 = grind (arith, nat_tests) in
-    let t = times_beyond f x p.acks (all_head (λ (q : Holdings). Within f q.acks) p ps h) lt in
-    omega (arith, a, b, r, t)
+    let t = All-head (λ (q : Holdings). Within f q.acks) p ps each x lt in
+    omega (arith, acknowledged_cons f x handed p ps)
 
--- tickets and acks are 1 to n, each once, and no ack is above f: then those up to f are acknowledged, each once
-pub acknowledged_once : (n f : ℕ) (ps : List Holdings) → f ≤ n → AreNumbers n ps → AcksWithin f ps → (x : ℕ) → acknowledged_by f x ps ≡ once_to f x
-acknowledged_once n f ps le h within x = dite (dec_le x f)
-    (λ up. acknowledged_up f x ps up ∙ h x ∙ once_is_wanted n x (omega arith) ∙ sym (once_is_wanted f x up))
-    (λ not_up. let lt : f < x = omega arith in acknowledged_above f x ps lt within ∙ sym (once_beyond f x lt))
+-- all numbers are 1 to n, each once, and no ack is above f: then those up to f are acknowledged, each once
+pub acknowledged_once : (n f : ℕ) (handed : List Stretch) (ps : List Holdings) → f ≤ n → AreAllNumbers n handed ps → AcksWithin f handed ps → (x : ℕ) → acknowledged_by f x handed ps ≡ once_to f x
+acknowledged_once n f handed ps le all within x = dite (dec_le x f)
+    (λ up. acknowledged_up f x handed ps up ∙ all x ∙ once_up n f x le up)
+    (λ not_up. let lt : f < x = omega arith in acknowledged_above f x handed ps lt within ∙ sym (once_above f x lt))
+
+-- what four tests find is what accounts for a core, with n accepted commands, f persistent ones, and `base` events that were replaced, where a list has
+-- just the numbers that are held
+module _ {D : Type 0} (core : View D) (given n f base : ℕ) (all handed : List Stretch) (ps : List Holdings) (accepted : n ≡ core.store.accepted) (frontier : f ≡ core.store.frontier) (replaced : base ≡ core.base)
+    (same : (x : ℕ) → times x all ≡ held x handed ps) where
+  pub accounted : length ps ≡ given → AreCalls base core.history ps → numbers.AreNumbers n all → AcksWithin f handed ps → Accounted core given handed ps
+  accounted here calls whole within = record {
+    here = here;
+    calls = subst (λ (b : ℕ). AreCalls b core.history ps) replaced calls;
+    numbers = subst (λ (m : ℕ). AreAllNumbers m handed ps) accepted (λ x. sym (same x) ∙ whole x);
+    within = subst (λ (m : ℕ). AcksWithin m handed ps) frontier within;
+  }
+
+  pub passes : Accounted core given handed ps → (length ps ≡ given) × AreCalls base core.history ps × numbers.AreNumbers n all × AcksWithin f handed ps
+  passes a = (
+    a.here,
+    subst (λ (b : ℕ). AreCalls b core.history ps) (sym replaced) a.calls,
+    subst (λ (m : ℕ). numbers.AreNumbers m all) (sym accepted) (λ x. same x ∙ a.numbers x),
+    subst (λ (m : ℕ). AcksWithin m handed ps) (sym frontier) a.within,
+  )
+
+  pub lacks : numbers.lacking n all ≡ lacking core.store.accepted handed ps
+  lacks = ap (λ (m : ℕ). numbers.lacking m all) accepted ∙ lacking_of all handed ps same core.store.accepted

@@ -5,6 +5,7 @@ pub mod Closes
 pub mod Dues
 pub mod Jobs
 pub mod Locks
+pub mod Looks
 pub mod Mirror
 pub mod Starts
 pub mod Streams

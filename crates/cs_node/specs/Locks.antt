@@ -8,7 +8,8 @@ use Rattle.cs_core.specs.declared.events.Event.{Event}
 use Rattle.cs_core.specs.declared.events.Event.TheVariants.{Get, Settle}
 use Rattle.cs_core.specs.declared.events.Reply.{Reply}
 use Rattle.cs_core.specs.declared.events.Reply.TheVariants.{Absent, Found, NotYet, Persistent, Refused}
-use Rattle.cs_core.specs.Views.{IsUntouched, IsStep, View}
+use Rattle.cs_core.specs.Answered.{IsLimited}
+use Rattle.cs_core.specs.Views.{IsUntouched, IsStep, View, kept}
 use Rattle.cs_node.specs.declared.nodes.Settled.{Settled}
 use Rattle.cs_node.specs.declared.nodes.Settled.TheVariants.{Done as SettleDone, Back as SettleBack}
 use Rattle.cs_node.specs.declared.nodes.Why.{Why}
@@ -22,12 +23,12 @@ use Rattle.cs_node.specs.Told.{Holdings, call, is_unrecorded}
 abbrev pub WhileLocked : {D : Type 0} → (disks : PageDisk D) → Start → (View D → View D → Type 0) → Type 0
 WhileLocked {D} disks start goes = (old new : View D) × IsBehind disks start old × goes old new
 
--- An event that no history records: memory was refused, and nothing but rooms has changed; or, where the disk is honest, the history was
--- at its limit, and nothing has changed.
-abbrev pub Declines : {D : Type 0} → (disks : PageDisk D) → (old : View D) → Refusal → (new : View D) → Type 0
-Declines disks old OutOfMemory new = IsUntouched disks old new
-Declines disks old HistoryFull new = disks.honest old.disk → (old.limit ≤ length old.history) × (new ≡ old)
-Declines disks old r new = ⊥
+-- An event that no history records: memory was refused, and nothing but rooms has changed; or, where the disk is honest, it is an event that is
+-- refused where as many are kept as may be, which so many were, and nothing has changed.
+abbrev pub Declines : {D : Type 0} → (disks : PageDisk D) → (old : View D) → Event → Refusal → (new : View D) → Type 0
+Declines disks old event OutOfMemory new = IsUntouched disks old new
+Declines disks old event HistoryFull new = disks.honest old.disk → IsLimited event × (old.limit ≤ length (kept old)) × (new ≡ old)
+Declines disks old event r new = ⊥
 
 -- the reply of an event that was done, and not refused
 abbrev pub IsDone : Reply → Type 0
@@ -35,7 +36,7 @@ IsDone reply = (r : Refusal) → reply ≢ Refused r
 
 -- one event was refused: it was recorded with its refusal, and no other was; or none was
 abbrev pub IsRefused : {D : Type 0} → (disks : PageDisk D) → (old : View D) → Event → Refusal → (new : View D) → Type 0
-IsRefused disks old event r new = MatchBool (is_unrecorded r) (Declines disks old r new) (IsStep disks old event (Refused r) new)
+IsRefused disks old event r new = MatchBool (is_unrecorded r) (Declines disks old event r new) (IsStep disks old event (Refused r) new)
 
 -- One event for a purse: the core went on by it with this reply, and by no other, and the purse has it with that reply as one call
 -- more, at the place that it has in the history.
@@ -45,7 +46,7 @@ pub record IsCalled {D : Type 0} (disks : PageDisk D) (old : View D) (purse : Ho
 
 -- one event for a purse was refused: it was recorded, and is a call; or neither
 abbrev pub IsCallRefused : {D : Type 0} → (disks : PageDisk D) → (old : View D) → Holdings → Event → Refusal → (new : View D) → Holdings → Type 0
-IsCallRefused disks old purse event r new after = MatchBool (is_unrecorded r) (Declines disks old r new) (IsCalled disks old purse event (Refused r) new after)
+IsCallRefused disks old purse event r new after = MatchBool (is_unrecorded r) (Declines disks old event r new) (IsCalled disks old purse event (Refused r) new after)
 
 -- one event for a purse, which was answered by what the reply tells, or refused
 abbrev pub IsAnswered : {D A : Type 0} → (disks : PageDisk D) → (old : View D) → Holdings → Event → (reply : A → Reply) → Result A Refusal → (new : View D) → Holdings → Type 0
@@ -58,8 +59,8 @@ IsGot disks old purse id there new after = MatchBool there ((bytes : List ℕ) �
 -- a settle that gave the ticket n back
 abbrev pub IsBackFor : {D : Type 0} → (disks : PageDisk D) → (old : View D) → Holdings → ℕ → Why → (new : View D) → Holdings → Type 0
 IsBackFor disks old purse n (WhyNotYet f) new after = IsCalled disks old purse (Settle n) (NotYet f) new after
-IsBackFor disks old purse n WhyFull new after = Declines disks old HistoryFull new
-IsBackFor disks old purse n WhyMemory new after = Declines disks old OutOfMemory new
+IsBackFor disks old purse n WhyFull new after = Declines disks old (Settle n) HistoryFull new
+IsBackFor disks old purse n WhyMemory new after = Declines disks old (Settle n) OutOfMemory new
 
 -- a settle of the ticket n: one event, whose reply it answers; or none
 abbrev pub IsSettledBy : {D : Type 0} → {K : _} → (disks : PageDisk D) → (old : View D) → Holdings → ℕ → Settled K → (new : View D) → Holdings → Type 0

@@ -1,5 +1,5 @@
 -- What a reclaimer does, and what each event of a sweep leaves it to do.
-use Rattle.std.specs.Prelude.{◌≡◌, ◌⊎◌, ◌<◌, ◌≤◌, ◌+◌, ◌-◌, ℕ, zero, suc, None, Option, Result, Some, MatchResult}
+use Rattle.std.specs.Prelude.{◌≡◌, ◌⊎◌, ◌<◌, ◌≤◌, ◌+◌, ◌-◌, ℕ, zero, suc, None, Option, Result, Some, MatchResult, if◌then◌else◌}
 use Rattle.cs_deps.specs.declared.refusals.Refusal.{Refusal}
 use Rattle.cs_disk.specs.declared.disk.PageDisk.{Ghosts as PageDisk}
 use Rattle.cs_core.specs.declared.events.Event.{Event}
@@ -13,10 +13,11 @@ use Rattle.cs_reclaim.specs.Sweeps.{IsNotSweepable}
 use Rattle.cs_node.specs.Dues.{step_of}
 use Rattle.cs_node.specs.Locks.{IsDone, IsRefused, WhileLocked}
 use Rattle.cs_node.specs.Starts.{Start}
+use Rattle.cs_node.specs.Told.{is_unrecorded}
 use Rattle.cs_node.specs.declared.gates.Step.{Step}
 use Rattle.cs_node.specs.declared.gates.Step.TheVariants.{Idle}
 use Rattle.cs_node.specs.declared.reclaimers.Next.{Next}
-use Rattle.cs_node.specs.declared.reclaimers.Next.TheVariants.{Abandon, Begin, Move, Retire}
+use Rattle.cs_node.specs.declared.reclaimers.Next.TheVariants.{Abandon, Begin, BeginAt, Move, Retire}
 
 -- the least extent from this one on that may be swept
 pub record IsLeastFrom (s : Stored) (from e : ℕ) : Type 0 where
@@ -43,10 +44,14 @@ pub record Reclaiming : Type 0 where
 abbrev pub unbegun : ℕ → Reclaiming
 unbegun n = record { left = n; begun = None; next = Begin }
 
--- the event that comes next: one more sweep begins, where one is left, of the extent that is next after the last; or the sweep that is
--- going on is moved, retired or abandoned, of the very extent that it began with
+-- one that sweeps this extent alone, and didn't begin yet
+abbrev pub only_of : ℕ → Reclaiming
+only_of e = record { left = 0; begun = None; next = BeginAt e }
+
+-- the event that comes next: one more sweep begins, where one is left, of the extent that is next after the last, or of the one that was asked
+-- for; or the sweep that is going on is moved, retired or abandoned, of the very extent that it began with
 abbrev pub IsNextEvent : Stored → Reclaiming → Event → Type 0
-IsNextEvent s w (asked.BeginSweep e) = (w.next ≡ Begin) × (1 ≤ w.left) × IsNextAfter s w.begun e
+IsNextEvent s w (asked.BeginSweep e) = ((w.next ≡ Begin) × (1 ≤ w.left) × IsNextAfter s w.begun e) ⊎ (w.next ≡ BeginAt e)
 IsNextEvent s w (asked.MoveOne e) = w.next ≡ Move e
 IsNextEvent s w (asked.Retire e) = w.next ≡ Retire e
 IsNextEvent s w (asked.Abandon e) = w.next ≡ Abandon e
@@ -73,11 +78,12 @@ after_event w (asked.Retire e) reply = record w { next = Begin }
 after_event w (asked.Abandon e) reply = record w { next = Begin }
 after_event w event reply = w
 
--- the reclaimer after an event that was refused: a sweep that can't be moved or retired is abandoned, the others come again
-abbrev pub after_refusal : Reclaiming → Event → Reclaiming
-after_refusal w (asked.MoveOne e) = record w { next = Abandon e }
-after_refusal w (asked.Retire e) = record w { next = Abandon e }
-after_refusal w event = w
+-- the reclaimer after an event that was refused: a sweep that can't be moved or retired is abandoned. One that can't be begun or abandoned is
+-- over, but comes again where no history recorded the refusal
+abbrev pub after_refusal : Reclaiming → Event → Refusal → Reclaiming
+after_refusal w (asked.MoveOne e) r = record w { next = Abandon e }
+after_refusal w (asked.Retire e) r = record w { next = Abandon e }
+after_refusal w event r = if is_unrecorded r then w else record w { next = Begin }
 
 -- one event was done, which this step names and which came next, and the reclaimer is what it is after it; or none came next
 abbrev pub Sweeps : {D : Type 0} → (disks : PageDisk D) → (old : View D) → (was : Reclaiming) → Step → (new : View D) → (is : Reclaiming) → Type 0
@@ -86,7 +92,7 @@ Sweeps disks old was step new is = ((step ≡ Idle) × IsIdle old.store was × (
 
 -- the event that came next was refused: it was recorded with its refusal, and no other was; or none was
 abbrev pub IsSweepRefused : {D : Type 0} → (disks : PageDisk D) → (old : View D) → (was : Reclaiming) → Refusal → (new : View D) → (is : Reclaiming) → Type 0
-IsSweepRefused disks old was r new is = (event : Event) × IsNextEvent old.store was event × IsRefused disks old event r new × (is ≡ after_refusal was event)
+IsSweepRefused disks old was r new is = (event : Event) × IsNextEvent old.store was event × IsRefused disks old event r new × (is ≡ after_refusal was event r)
 
 -- at most one event of a sweep: the one that came next, which was done or refused
 abbrev pub IsSweepTurn : {D : Type 0} → (disks : PageDisk D) → (old : View D) → (was : Reclaiming) → Result Step Refusal → (new : View D) → (is : Reclaiming) → Type 0

@@ -1,5 +1,6 @@
 -- What a purse keeps, and what a call adds to it.
-use Rattle.std.specs.Prelude.{◌≡◌, ℕ, ◌+◌, ◌<◌, ◌≤◌, List, [], ◌∷◌, ◌++◌, Option, Some, None, max, All, length, slice_index_or, Bool, true, false, MatchBool}
+use Rattle.std.specs.Prelude.{◌≡◌, ℕ, ◌+◌, ◌<◌, List, [], ◌∷◌, ◌++◌, Option, Some, None, max, nat_le, All, filter, length, slice_index_or, Bool, true, false, MatchBool}
+use Rattle.cs_numbers.specs.declared.stretches.Stretch.{Stretch}
 use Rattle.cs_deps.specs.declared.refusals.Refusal.{Refusal}
 use Rattle.cs_deps.specs.declared.refusals.Refusal.TheVariants.{OutOfMemory, HistoryFull}
 use Rattle.cs_core.specs.declared.events.Event.{Event}
@@ -23,7 +24,7 @@ abbrev pub told_by : Event → Reply → ℕ
 told_by (Settle n) r = told_settle n r
 told_by _ r = 0
 
--- the greatest number that any of the calls told of
+-- the greatest number that any of these calls told of
 abbrev pub floor_of : List Call → ℕ
 floor_of [] = 0
 floor_of (c ∷ cs) = max (told_by c.event c.reply) (floor_of cs)
@@ -43,30 +44,32 @@ found_last (c ∷ d ∷ cs) = found_last (d ∷ cs)
 abbrev pub Below : ℕ → List Call → Type 0
 Below n calls = All (λ c. c.place < n) calls
 
--- the least number that all calls are at places below
-pub record IsLeastAbove (n : ℕ) (calls : List Call) : Type 0 where
-  pub below : Below n calls
-  pub least : (m : ℕ) → Below m calls → n ≤ m
+-- the calls at this place and above
+abbrev pub from_place : ℕ → List Call → List Call
+from_place n calls = filter (λ c. nat_le n c.place) calls
 
 -- each place is above the one before
 abbrev pub Rising : List Call → Type 0
 Rising calls = (k : ℕ) (d : Call) → k + 1 < length calls → (slice_index_or calls k d).place < (slice_index_or calls (k + 1) d).place
 
--- calls as they are kept, and for how many more there is room
+-- calls as they are kept, the greatest number that these and the forgotten ones told of, and for how many more there is room
 pub record Logged : Type 0 where
   pub calls : List Call
+  pub floor : ℕ
   pub room : ℕ
 
--- a purse: its calls, the numbers of its tickets and of its acks, and the view of its seat at the board
+-- a purse: its calls but for those that it forgot, the numbers of its tickets and of its acks, up to which command it was told that all are
+-- persistent, and the view of its seat at the board
 pub record Holdings : Type 0 where
   pub calls : List Call
-  pub tickets : List ℕ
-  pub acks : List ℕ
+  pub tickets : List Stretch
+  pub acks : List Stretch
+  pub floor : ℕ
   pub seen : ℕ
 
 -- a new purse, whose seat has this view
 abbrev pub empty : ℕ → Holdings
-empty n = record { calls = []; tickets = []; acks = []; seen = n }
+empty n = record { calls = []; tickets = []; acks = []; floor = 0; seen = n }
 
 -- one call more, at a place greater than all others
 pub record Adds (old : Holdings) (e : Event) (r : Reply) (new : Holdings) : Type 0 where
@@ -75,6 +78,7 @@ pub record Adds (old : Holdings) (e : Event) (r : Reply) (new : Holdings) : Type
   pub calls : new.calls ≡ old.calls ++ call place e r ∷ []
   pub tickets : new.tickets ≡ old.tickets
   pub acks : new.acks ≡ old.acks
+  pub floor : new.floor ≡ max old.floor (told_by e r)
   pub seen : new.seen ≡ old.seen
 
 -- the refusals that no history records

@@ -1,5 +1,5 @@
 //! The board: one word that tells how many commands are persistent.
-ghost use Rattle.std.specs.Prelude.{◌≡◌, ◌≤◌, [], IfOk, Some};
+ghost use Rattle.std.specs.Prelude.{◌≡◌, ◌≤◌, [], IfOk};
 ghost use Rattle.cs_node.specs.Behind.{IsFrontierOfSome};
 ghost use Rattle.cs_node.specs.Mirror.{knows};
 ghost use Rattle.cs_node.specs.Starts.{start_of};
@@ -158,10 +158,10 @@ impl<D: PageDisk> Board<D> {
     pub(crate) fn name<K: Naming>(self, core: &Core<D>) -> (NamedBoard<D, K>, Reader)
         requires board { self ≡ K.table }
         requires start { start_of core.now ≡ K.start }
-        requires frontier { core.now.store.frontier ≡ 0 }
-        ensures { (result.1.table_id ≡ K.table) × (result.1.id ≡ 0) × (result.1.me ≡ (knows K.start 0, [])) }
+        requires accepted { core.now.store.accepted ≡ 0 }
+        ensures { (result.1.table_id ≡ K.table) × (result.1.id ≡ 0) × (result.1.me ≡ (knows K.start core.now.store.frontier, [])) }
     {
-        // Called for its contract alone: what a core behind the lock keeps.
+        // Called for its contract alone: what a core behind the lock keeps, and that no more is persistent than was accepted.
         core.progress();
         let Board { words, keeper } = self;
         let mut keeper = keeper;

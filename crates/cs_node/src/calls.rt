@@ -1,9 +1,8 @@
 //! Events of clients, under the lock.
-ghost use Rattle.std.specs.Prelude.{◌≡◌, ◌≢◌, ◌⊎◌, ◌^◌, ◌<◌, ◌≤◌, IfErr, IfOk, MatchResult, OnOk, length, true};
+ghost use Rattle.std.specs.Prelude.{◌≡◌, ◌≢◌, ◌⊎◌, ◌-◌, ◌^◌, ◌<◌, ◌≤◌, IfErr, IfOk, MatchResult, OnOk, length, true};
 ghost use Rattle.cs_core.specs.Replies.{MayAnswer};
 ghost use Rattle.cs_core.specs.Views.{IsStep};
 ghost use Rattle.cs_node.specs.Answers.{Gets, Settles, deleted};
-ghost use Rattle.cs_node.specs.Behind.{IsBehind};
 ghost use Rattle.cs_node.specs.Locks.{Declines, IsAnswered, IsCallRefused, IsGot, IsSettledBy};
 ghost use Rattle.cs_node.specs.Told.{Adds, Below, Refuses};
 
@@ -33,14 +32,15 @@ impl<D: PageDisk, K: Naming> Engine<D, K> {
         ensures step { IfOk result (λ told. IsStep D.PageDisk self.old.core event.now told.1 self.new.core) }
         ensures place { IfOk result (λ told. told.0 ≡ length self.old.core.history) }
         ensures answers { IfOk result (λ told. MayAnswer event.now told.1) }
-        ensures above { IfOk result (λ told. Below told.0 log.old.calls × (told.0 < 2 ^ 63)) }
+        ensures above { IfOk result (λ told. Below told.0 log.old.calls × (told.0 < 2 ^ 64 - 1)) }
         ensures recorded { IfOk result (λ told. told.1 ≢ Reply.Refused Refusal.HistoryFull) }
         ensures room { OnOk result (1 ≤ log.new.room) }
         ensures calls { log.new.calls ≡ log.old.calls }
+        ensures floor { log.new.floor ≡ log.old.floor }
         ensures err { IfErr result (λ r. (r ≡ Refusal.OutOfMemory) ⊎ (r ≡ Refusal.HistoryFull)) }
-        ensures declined { IfErr result (λ r. Declines D.PageDisk self.old.core r self.new.core) }
+        ensures declined { IfErr result (λ r. Declines D.PageDisk self.old.core event.now r self.new.core) }
     {
-        let place = self.core().history().len() as u64;
+        let place = self.place();
         if !log.is_above(place) || log.reserve().is_err() {
             return Err(Refusal::OutOfMemory);
         }

@@ -1,12 +1,14 @@
 //! What lies under the lock, and the lock.
 //!
-//! Under one lock at most one event is done. `Engine::apply`, the one function that has the core do an event, requires that none was done since
-//! the lock was taken, and afterwards one was. Outside this file that none was is known of what `Lock::take` gives, and of nothing else: the
+//! Under one lock at most one event is done, or one checkpoint taken. `Engine::apply`, the one function that has the core do an event, requires that
+//! none was done since the lock was taken, and afterwards one was. Outside this file that none was is known of what `Lock::take` gives, and of nothing else: the
 //! mutex, the core and the mark are private to it. So a function that does a second event without taking the lock again isn't proved.
-ghost use Rattle.std.specs.Prelude.{◌≡◌, ◌≢◌, ◌⊎◌, ◌+◌, ◌^◌, ◌≤◌, [], IfErr, IfOk, MatchOption, OnErr, false, true};
+ghost use Rattle.std.specs.Prelude.{◌≡◌, ◌≢◌, ◌⊎◌, ◌+◌, ◌-◌, ◌^◌, ◌<◌, ◌≤◌, [], IfErr, IfOk, MatchOption, MatchResult, OnErr, OnOk, false, length, true};
 ghost use Rattle.std.specs.Sync.Mutex.{mutex_guard_value};
+ghost use Rattle.cs_core.specs.Checkpoints.{IsNotReplaced, Replaces};
 ghost use Rattle.cs_core.specs.Replies.{MayAnswer};
 ghost use Rattle.cs_core.specs.Views.{Applies, IsUntouched, IsStep};
+ghost use Rattle.cs_numbers.specs.Numbers.{GainsAll};
 ghost use Rattle.cs_node.specs.Behind.{IsBehind};
 ghost use Rattle.cs_node.specs.Locks.{Declines};
 ghost use Rattle.cs_node.specs.Mirror.{knows};
@@ -21,7 +23,8 @@ use crate::purses::Purse;
 use cs_core::{Core, Event, OutOfMemory, Reply};
 use cs_deps::{LAST_NUMBER, Refusal};
 use cs_disk::PageDisk;
-use std::alloc::Global;
+use cs_numbers::Numbers;
+use std::alloc::{AllocError, Global};
 use std::marker::{Model, PhantomData};
 use std::snapshot::Snapshot;
 use std::sync::{Mutex, MutexGuard, Wait};
@@ -50,12 +53,13 @@ impl<D: PageDisk, K: Naming> Model for Engine<D, K> {
     ghost invariant = { λ s. (start_of s.core ≡ K.start) × (s.keeper.table_id ≡ K.table) × (s.keeper.id ≡ 0) × (s.keeper.me ≡ (knows K.start s.core.store.frontier, [])) };
 }
 
-/// What does events, and what the node gave: purses and the pilot.
+/// What does events, what the node gave, purses and the pilot, and the numbers of the acks that came back.
 #[derive(Drop)]
 pub struct Locked<D: PageDisk, K: Naming> {
     pub engine: Engine<D, K>,
     given: u64,
     piloted: bool,
+    handed: Numbers,
 }
 
 impl<D: PageDisk, K: Naming> Model for Locked<D, K> {
@@ -63,7 +67,7 @@ impl<D: PageDisk, K: Naming> Model for Locked<D, K> {
 
     ghost Value = { Under D };
 
-    ghost view = { λ s. record { engine = s.engine; given = s.given; piloted = s.piloted } };
+    ghost view = { λ s. record { engine = s.engine; given = s.given; piloted = s.piloted; handed = s.handed } };
 }
 
 /// The lock. Each time it is taken, one event may be done.
@@ -152,7 +156,7 @@ impl<D: PageDisk, K: Naming> Engine<D, K> {
         ensures answers { IfOk result (λ reply. MayAnswer event.now reply) }
         ensures recorded { IfOk result (λ reply. reply ≢ Reply.Refused Refusal.HistoryFull) }
         ensures err { IfErr result (λ r. (r ≡ Refusal.OutOfMemory) ⊎ (r ≡ Refusal.HistoryFull)) }
-        ensures declined { IfErr result (λ r. Declines D.PageDisk self.old.core r self.new.core) }
+        ensures declined { IfErr result (λ r. Declines D.PageDisk self.old.core event.now r self.new.core) }
     {
         // Called for its contract alone: what a core behind the lock keeps.
         self.core();
@@ -164,6 +168,25 @@ impl<D: PageDisk, K: Naming> Engine<D, K> {
         }
         gate.within(step_of(event));
         Ok(reply)
+    }
+
+    /// The place of the next event in the history, of which the replaced events are a part.
+    pub fn place(&self) -> u64
+        ensures place { result ≡ length self.now.core.history }
+        ensures fits { result < 2 ^ 64 - 1 }
+    {
+        self.core.base() + self.core.history().len() as u64
+    }
+
+    /// Replaces the events that are kept by the state that they led to, and gives how many they were. Refused 40 Halted, 44 Unsettled and 35
+    /// WornOut, as `Core::checkpoint` is.
+    pub fn checkpoint(&mut self) -> Result<u64, Refusal>
+        requires fresh { self.old.fresh ≡ true }
+        ensures done { MatchResult result (λ n. Replaces self.old.core n self.new.core) (λ r. IsNotReplaced self.old.core r × (self.new.core ≡ self.old.core)) }
+        ensures spent { self.new.fresh ≡ false }
+    {
+        self.fresh = Snapshot::of(&false);
+        self.core.checkpoint()
     }
 
     /// The core, which was opened on what K names.
@@ -179,16 +202,35 @@ impl<D: PageDisk, K: Naming> Engine<D, K> {
 
 impl<D: PageDisk, K: Naming> Locked<D, K> {
     /// A core and the keeper's seat, where nothing was given yet.
-    pub fn new(core: Core<D>, keeper: Reader) -> Self
+    pub fn new(alloc: Global, core: Core<D>, keeper: Reader) -> Self
         requires start { start_of core ≡ K.start }
         requires keeper { (keeper.table_id ≡ K.table) × (keeper.id ≡ 0) × (keeper.me ≡ (knows K.start core.store.frontier, [])) }
-        ensures { result ≡ record { engine = record { core = core; fresh = false }; given = 0; piloted = false } }
+        ensures { result ≡ record { engine = record { core = core; fresh = false }; given = 0; piloted = false; handed = [] } }
     {
         Locked {
             engine: Engine::new(core, keeper),
             given: 0,
             piloted: false,
+            handed: Numbers::new(alloc),
         }
+    }
+
+    /// Takes the acks of a purse. Refused where a growth is; all are as they were then.
+    pub fn take_in(&mut self, purse: &mut Purse<K>) -> Result<(), AllocError>
+        ensures numbers { OnOk result (GainsAll self.old.handed purse.old.acks self.new.handed) }
+        ensures purse { OnOk result (purse.new ≡ record purse.old { acks = [] }) }
+        ensures others { OnOk result (self.new ≡ record self.old { handed = self.new.handed }) }
+        ensures err { OnErr result ((self.new ≡ self.old) × (purse.new ≡ purse.old)) }
+    {
+        self.handed.add_all(&mut purse.acks)?;
+        Ok(())
+    }
+
+    /// The numbers of the acks that came back.
+    pub fn handed(&self) -> &Numbers
+        ensures { result.now ≡ self.now.handed }
+    {
+        &self.handed
     }
 
     /// A purse with a seat of its own. Refused 35 WornOut past the greatest number of purses.
@@ -231,6 +273,7 @@ impl<D: PageDisk, K: Naming> Locked<D, K> {
             engine,
             given: _,
             piloted: _,
+            handed: _,
         } = self;
         let Engine {
             core,

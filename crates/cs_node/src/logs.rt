@@ -1,6 +1,6 @@
 //! The calls of one thread, with what each was told.
-ghost use Rattle.std.specs.Prelude.{◌≡◌, ◌↔◌, ◌^◌, ◌≤◌, ◌<◌, ◌++◌, ◌∷◌, [], IfOk, IsTrue, MatchOption, OnOk, None, Some, map};
-ghost use Rattle.cs_node.specs.Told.{Below, Rising, call, floor_of, found_last, told_by};
+ghost use Rattle.std.specs.Prelude.{◌≡◌, ◌-◌, ◌^◌, ◌≤◌, ◌<◌, ◌++◌, ◌∷◌, [], IfOk, IsTrue, MatchOption, OnOk, None, Some, map, max};
+ghost use Rattle.cs_node.specs.Told.{Below, Rising, call, floor_of, found_last, from_place, told_by};
 
 use cs_core::{Bytes, Event, Reply};
 use std::alloc::{AllocError, Global};
@@ -14,31 +14,34 @@ pub struct Call {
     pub reply: Reply,
 }
 
-/// The calls of one thread, the first one first. Contracts see them, and for how many more there is room.
+/// The calls of one thread that weren't forgotten, the first one first. Contracts see them, up to which command they and the forgotten ones told
+/// that all are persistent, and for how many more there is room.
 #[derive(Drop)]
 pub struct Log {
     calls: Vec<Call>,
-    // the least number above the places of all calls
+    // a number above the places of all calls
     next: u64,
-    // the greatest number that a call told of
+    // the greatest number that a call told of, a forgotten one too
     floor: u64,
 }
 
 impl Model for Log {
     ghost use Rattle.std.specs.Prelude.{◌≡◌, ◌-◌, length, vec_capacity};
-    ghost use Rattle.cs_node.specs.Told.{IsLeastAbove, Logged, Rising, floor_of};
+    ghost use Rattle.std.specs.Prelude.{◌≤◌};
+    ghost use Rattle.cs_node.specs.Told.{Below, Logged, Rising, floor_of};
 
     ghost Value = { Logged };
 
-    ghost view = { λ l. record { calls = l.calls.items; room = vec_capacity l.calls - length l.calls.items } };
+    ghost view = { λ l. record { calls = l.calls.items; floor = l.floor; room = vec_capacity l.calls - length l.calls.items } };
 
-    ghost invariant = { λ l. IsLeastAbove l.next l.calls.items × Rising l.calls.items × (l.floor ≡ floor_of l.calls.items) };
+    ghost invariant = { λ l. Below l.next l.calls.items × Rising l.calls.items × (floor_of l.calls.items ≤ l.floor) };
 }
 
 impl Log {
     /// No calls.
     pub fn new(alloc: Global) -> Self
-        ensures { result.calls ≡ [] }
+        ensures calls { result.calls ≡ [] }
+        ensures floor { result.floor ≡ 0 }
     {
         Log {
             calls: Vec::new(alloc),
@@ -51,20 +54,21 @@ impl Log {
     pub fn calls(&self) -> &[Call]
         ensures calls { result.now ≡ self.now.calls }
         ensures rising { Rising self.now.calls }
+        ensures floor { floor_of self.now.calls ≤ self.now.floor }
     {
         self.calls.as_slice()
     }
 
-    /// The greatest number that a call told of.
+    /// The greatest number that a call told of, a forgotten one too.
     pub fn floor(&self) -> u64
-        ensures { result ≡ floor_of self.now.calls }
+        ensures { result ≡ self.now.floor }
     {
         self.floor
     }
 
-    /// Whether the place is above those of all calls.
+    /// Whether the place is above those of all calls, of forgotten ones too.
     pub fn is_above(&self, place: u64) -> bool
-        ensures { IsTrue result ↔ Below place self.now.calls }
+        ensures { IsTrue result → Below place self.now.calls }
     {
         self.next <= place
     }
@@ -72,6 +76,7 @@ impl Log {
     /// Makes room for one call more.
     pub fn reserve(&mut self) -> Result<(), AllocError>
         ensures calls { self.new.calls ≡ self.old.calls }
+        ensures floor { self.new.floor ≡ self.old.floor }
         ensures room { OnOk result (1 ≤ self.new.room) }
     {
         self.calls.reserve(1)
@@ -81,8 +86,9 @@ impl Log {
     pub fn push(&mut self, place: u64, event: Event, reply: Reply)
         requires room { 1 ≤ self.old.room }
         requires above { Below place self.old.calls }
-        requires fits { place < 2 ^ 63 }
-        ensures { self.new.calls ≡ self.old.calls ++ call place event reply ∷ [] }
+        requires fits { place < 2 ^ 64 - 1 }
+        ensures calls { self.new.calls ≡ self.old.calls ++ call place event reply ∷ [] }
+        ensures floor { self.new.floor ≡ max self.old.floor (told_by event reply) }
     {
         self.next = place + 1;
         self.floor = self.floor.max(told(&event, &reply));
@@ -91,6 +97,14 @@ impl Log {
             event,
             reply,
         });
+    }
+
+    /// Forgets the calls at places below this one.
+    pub fn forget(&mut self, base: u64)
+        ensures calls { self.new.calls ≡ from_place base self.old.calls }
+        ensures floor { self.new.floor ≡ self.old.floor }
+    {
+        self.calls.retain(|call| base <= call.place);
     }
 
     /// The bytes that the last call found, None where it found none.

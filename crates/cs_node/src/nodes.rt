@@ -1,7 +1,8 @@
 //! The node that threads share.
-ghost use Rattle.std.specs.Prelude.{◌≡◌, [], IfErr, IfOk};
+ghost use Rattle.std.specs.Prelude.{◌≡◌, [], IfErr, IfOk, MatchResult, OnErr, OnOk};
 ghost use Rattle.cs_node.specs.Answers.{Settles, deleted, got};
-ghost use Rattle.cs_node.specs.Locks.{IsAnswered, IsSettledBy, WhileLocked};
+ghost use Rattle.cs_node.specs.Locks.{IsAnswered, IsCallRefused, IsCalled, IsRefused, IsSettledBy, WhileLocked};
+ghost use Rattle.cs_core.specs.Views.{IsStep};
 ghost use Rattle.cs_node.specs.Starts.{start_of};
 ghost use Rattle.cs_node.specs.Told.{Adds, Refuses, empty};
 
@@ -14,7 +15,7 @@ use cs_core::{Bytes, Core, Event, Reply};
 use cs_deps::Refusal;
 use cs_disk::PageDisk;
 use cs_frame::ShardId;
-use std::alloc::Global;
+use std::alloc::{AllocError, Global};
 use std::sync::Wait;
 
 /// A core under its lock, and its board. Each call takes the lock at most once at a time, for at most one event: `Engine::apply` requires
@@ -36,6 +37,13 @@ pub enum Why {
     OutOfMemory,
 }
 
+/// A put that was refused, with its bytes.
+#[derive(Debug, Drop)]
+pub struct RefusedPut {
+    pub why: Refusal,
+    pub bytes: Bytes,
+}
+
 /// What a settle answers.
 #[derive(Drop)]
 pub enum Settled<K: Naming> {
@@ -47,16 +55,15 @@ pub enum Settled<K: Naming> {
 
 impl<D: PageDisk, K: Naming> Node<D, K> {
     /// A node of a board and a core that did nothing yet.
-    pub fn new(board: Board<D>, core: Core<D>) -> Self
+    pub fn new(alloc: Global, board: Board<D>, core: Core<D>) -> Self
         requires board { board ≡ K.table }
         requires start { start_of core ≡ K.start }
         requires history { core.history ≡ [] }
         requires accepted { core.store.accepted ≡ 0 }
-        requires frontier { core.store.frontier ≡ 0 }
     {
         let (board, keeper) = board.name(&core);
         Node {
-            lock: Lock::new(Locked::new(core, keeper)),
+            lock: Lock::new(Locked::new(alloc, core, keeper)),
             board,
         }
     }
@@ -106,6 +113,26 @@ impl<D: PageDisk, K: Naming> Node<D, K> {
             .put(&self.board, purse, id, bytes, gate)
     }
 
+    /// The same as `put_with`, but bytes that are refused come back. It waits while they have the greatest number of owners.
+    pub fn offer<G: Gate, R: Wait>(
+        &self,
+        rt: &R,
+        purse: &mut Purse<K>,
+        id: ShardId,
+        bytes: Bytes,
+        gate: &G,
+    ) -> Result<Ticket<K>, RefusedPut>
+        ensures ok { IfOk result (λ ticket. Adds purse.old (Event.Put id bytes) (Reply.Accepted ticket) purse.new) }
+        ensures err { IfErr result (λ e. (e.bytes ≡ bytes) × Refuses purse.old (Event.Put id bytes) e.why purse.new) }
+        ensures step { WhileLocked D.PageDisk K.start (λ old new. MatchResult result (λ ticket. IsCalled D.PageDisk old purse.old (Event.Put id bytes) (Reply.Accepted ticket) new purse.new) (λ e. IsCallRefused D.PageDisk old purse.old (Event.Put id bytes) e.why new purse.new)) }
+    {
+        let own = shared(rt, &bytes);
+        match self.put_with(rt, purse, id, own, gate) {
+            Ok(ticket) => Ok(ticket),
+            Err(why) => Err(RefusedPut { why, bytes }),
+        }
+    }
+
     /// Reads what is under an identifier, None where there is nothing. The bytes are shared with the history and the purse.
     ///
     /// Refused 1 DeviceFault, 20 to 24 where a chunk is damaged, which are recorded, and 41 HistoryFull and 9 OutOfMemory, which
@@ -120,11 +147,22 @@ impl<D: PageDisk, K: Naming> Node<D, K> {
         ensures err { IfErr result (λ r. Refuses purse.old (Event.Get id) r purse.new) }
         ensures step { WhileLocked D.PageDisk K.start (λ old new. IsAnswered D.PageDisk old purse.old (Event.Get id) got result new purse.new) }
     {
-        let there = self
-            .lock
-            .take(rt)
-            .engine
-            .get(&self.board, purse, id, &Open)?;
+        self.get_with(rt, purse, id, &Open)
+    }
+
+    /// The same with a gate, which is told of the event under the lock.
+    pub fn get_with<G: Gate, R: Wait>(
+        &self,
+        rt: &R,
+        purse: &mut Purse<K>,
+        id: ShardId,
+        gate: &G,
+    ) -> Result<Option<Bytes>, Refusal>
+        ensures ok { IfOk result (λ found. Adds purse.old (Event.Get id) (got found) purse.new) }
+        ensures err { IfErr result (λ r. Refuses purse.old (Event.Get id) r purse.new) }
+        ensures step { WhileLocked D.PageDisk K.start (λ old new. IsAnswered D.PageDisk old purse.old (Event.Get id) got result new purse.new) }
+    {
+        let there = self.lock.take(rt).engine.get(&self.board, purse, id, gate)?;
         if !there {
             return Ok(None);
         }
@@ -147,10 +185,25 @@ impl<D: PageDisk, K: Naming> Node<D, K> {
         ensures err { IfErr result (λ r. Refuses purse.old (Event.Delete id) r purse.new) }
         ensures step { WhileLocked D.PageDisk K.start (λ old new. IsAnswered D.PageDisk old purse.old (Event.Delete id) deleted result new purse.new) }
     {
+        self.delete_with(rt, purse, id, &Open)
+    }
+
+    /// The same with a gate, which is told of the event under the lock.
+    pub fn delete_with<G: Gate, R: Wait>(
+        &self,
+        rt: &R,
+        purse: &mut Purse<K>,
+        id: ShardId,
+        gate: &G,
+    ) -> Result<Option<Ticket<K>>, Refusal>
+        ensures ok { IfOk result (λ ticket. Adds purse.old (Event.Delete id) (deleted ticket) purse.new) }
+        ensures err { IfErr result (λ r. Refuses purse.old (Event.Delete id) r purse.new) }
+        ensures step { WhileLocked D.PageDisk K.start (λ old new. IsAnswered D.PageDisk old purse.old (Event.Delete id) deleted result new purse.new) }
+    {
         self.lock
             .take(rt)
             .engine
-            .delete(&self.board, purse, id, &Open)
+            .delete(&self.board, purse, id, gate)
     }
 
     /// Asks under the lock whether a command is persistent: `Done` with its ack, or `Back` with the same ticket and why. It is recorded, but
@@ -163,6 +216,27 @@ impl<D: PageDisk, K: Naming> Node<D, K> {
             .take(rt)
             .engine
             .settle(&self.board, purse, ticket, &Open)
+    }
+}
+
+impl<D: PageDisk, K: Naming> Node<D, K> {
+    /// Takes the acks of a purse, which `Rest::close` counts with those of the purses. Numbers that follow one another take the room of one, so handed
+    /// in from all purses they take little. Refused 9, where a growth is; the purse is as it was then.
+    pub fn hand_in<R: Wait>(&self, rt: &R, purse: &mut Purse<K>) -> Result<(), AllocError>
+        ensures ok { OnOk result (purse.new ≡ record purse.old { acks = [] }) }
+        ensures err { OnErr result (purse.new ≡ purse.old) }
+    {
+        self.lock.take(rt).take_in(purse)
+    }
+
+    /// Gives up the sweep of an extent that was left marked: by a reclaimer that was dropped, or that its gate or a refusal ended. What was
+    /// moved stays moved. A reclaimer that sweeps it still is refused 33 NotSweepable then, and goes on to the next.
+    ///
+    /// Refused 33 NotSweepable where it isn't being swept and 40 Halted, which are recorded, and 9 OutOfMemory, which isn't.
+    pub fn abandon<R: Wait>(&self, rt: &R, extent: usize) -> Result<(), Refusal>
+        ensures { WhileLocked D.PageDisk K.start (λ old new. MatchResult result (λ _. IsStep D.PageDisk old (Event.Abandon extent) Reply.Abandoned new) (λ r. IsRefused D.PageDisk old (Event.Abandon extent) r new)) }
+    {
+        self.lock.take(rt).engine.abandon(&self.board, extent)
     }
 }
 

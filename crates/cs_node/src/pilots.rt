@@ -1,5 +1,6 @@
 //! Who writes back.
-ghost use Rattle.std.specs.Prelude.{◌≡◌, ◌≤◌, [], IfErr, IfOk, IfSome};
+ghost use Rattle.std.specs.Prelude.{◌≡◌, ◌≤◌, [], IfErr, IfOk, IfSome, MatchResult};
+ghost use Rattle.cs_core.specs.Checkpoints.{IsNotReplaced, Replaces};
 ghost use Rattle.cs_node.specs.Behind.{IsFrontierOfSome};
 ghost use Rattle.cs_node.specs.Dues.{IsSyncRefused, IsTurn, IsTurnRefused, Syncs};
 ghost use Rattle.cs_node.specs.Locks.{WhileLocked};
@@ -56,7 +57,7 @@ impl<K: Naming> Pilot<K> {
     /// Does the event of writeback that is due, under one lock: a round that is out goes on and ends, a new one begins where something
     /// waits, what the index has changed is staged, or nothing is left to do.
     ///
-    /// Refused as the event is, 9 OutOfMemory and 41 HistoryFull.
+    /// Refused as the event is, and 9 OutOfMemory.
     pub fn turn<D: PageDisk, G: Gate, R: Wait>(
         &mut self,
         rt: &R,
@@ -93,6 +94,20 @@ impl<K: Naming> Pilot<K> {
 }
 
 impl<D: PageDisk, K: Naming> Node<D, K> {
+    /// Replaces the events that are kept by the state that they led to, and gives how many they were: their bytes are let go of, and puts, gets,
+    /// deletes, settles and sweeps that were refused 41 HistoryFull are taken again. `look` tells the base then, below which purses may forget their
+    /// calls. It takes no memory, and time for each event, under the lock.
+    ///
+    /// Refused 40 Halted; then 44 Unsettled where something waits, a round is out, something isn't staged, or an extent is being swept, which a
+    /// sync and the end of the sweeps mend; then 35 WornOut past 2^63 - 1 events.
+    pub fn checkpoint<R: Wait>(&self, rt: &R, pilot: &mut Pilot<K>) -> Result<u64, Refusal>
+        ensures replaced { WhileLocked D.PageDisk K.start (λ old new. MatchResult result (λ n. Replaces old n new) (λ r. IsNotReplaced old r × (new ≡ old))) }
+        ensures seen { pilot.new ≡ pilot.old }
+    {
+        let _ = pilot;
+        self.lock.take(rt).engine.checkpoint()
+    }
+
     /// The pilot, whose seat sees the frontier of that moment; None once it was given.
     pub fn pilot<R: Wait>(&self, rt: &R) -> Option<Pilot<K>>
         ensures { IfSome result (λ pilot. WhileLocked D.PageDisk K.start (λ old new. (pilot ≡ old.store.frontier) × (new ≡ old))) }
@@ -104,7 +119,7 @@ impl<D: PageDisk, K: Naming> Node<D, K> {
     /// that is out, and then round by round, each event under a lock of its own. Answers how many are persistent by the board, as the
     /// pilot's seat saw it.
     ///
-    /// Refused as one of its events is, 9 OutOfMemory and 41 HistoryFull. The events before that stand.
+    /// Refused as one of its events is, and 9 OutOfMemory. The events before that stand.
     pub fn sync<R: Wait>(&self, rt: &R, pilot: &mut Pilot<K>) -> Result<u64, Refusal>
         ensures ok { IfOk result (λ frontier. (frontier ≡ pilot.new) × Syncs D.PageDisk K.start frontier) }
         ensures later { pilot.old ≤ pilot.new }

@@ -2,7 +2,6 @@
 ghost use Rattle.std.specs.Prelude.{◌≡◌, ◌≤◌, max};
 ghost use Rattle.cs_node.specs.Answers.{Tells};
 ghost use Rattle.cs_node.specs.Behind.{IsFrontierOfSome};
-ghost use Rattle.cs_node.specs.Told.{floor_of};
 
 use crate::boards::Naming;
 use crate::nodes::Node;
@@ -21,7 +20,7 @@ impl<K: Naming> Purse<K> {
     /// Tells whether a command is known to be persistent, by the board or by what the purse's calls told. It takes no lock and no memory,
     /// waits for nobody and loads one word.
     pub fn poll<D: PageDisk>(&mut self, node: &Node<D, K>, ticket: Ticket<K>) -> Polled<K>
-        ensures told { Tells (max self.new.seen (floor_of self.old.calls)) ticket result }
+        ensures told { Tells (max self.new.seen self.old.floor) ticket result }
         ensures later { self.old.seen ≤ self.new.seen }
         ensures frontier { IsFrontierOfSome D.PageDisk K.start self.new.seen }
         ensures same { self.new ≡ record self.old { seen = self.new.seen } }

@@ -1,23 +1,27 @@
 //! What one thread was told.
-ghost use Rattle.std.specs.Prelude.{◌≡◌, ◌≤◌, ◌∷◌, ◌++◌, [], IfErr, IfOk, map};
+ghost use Rattle.std.specs.Prelude.{◌≡◌, ◌≤◌, ◌↔◌, [], IfErr, IfOk, IsTrue, OnOk, map};
 ghost use Rattle.cs_core.specs.declared.events.Event.{Event};
 ghost use Rattle.cs_core.specs.declared.events.Reply.{Reply};
 ghost use Rattle.cs_node.specs.Mirror.{knows};
-ghost use Rattle.cs_node.specs.Told.{Adds, Holdings, Rising, empty, floor_of, told_by};
+ghost use Rattle.cs_numbers.specs.Numbers.{Gains, Within};
+ghost use Rattle.cs_node.specs.Told.{Adds, Holdings, Rising, empty, floor_of, from_place, told_by};
 
 use crate::boards::{Naming, Reader};
 use crate::logs::{Call, Log, places_of};
 use crate::tickets::{Ack, Ticket};
-use std::alloc::{AllocError, AllocFailed, Global};
+use cs_numbers::{Numbers, Stretch};
+use std::alloc::{AllocError, Global};
 use std::marker::{Model, PhantomData};
 
-/// The calls of a thread, with its tickets and acks. Contracts see these, and the view of its seat at the board: the number that it
-/// last saw there, at first what the keeper's seat knew.
+/// The calls of a thread, with its tickets and acks. Contracts see these, but for the calls that it forgot, and up to which command it was told that
+/// all are persistent; and the view of its seat at the board: the number that it last saw there, at first what the keeper's seat knew.
+///
+/// Tickets and acks take the room of one where their numbers follow one another. Calls take the room of their bytes until they are forgotten.
 #[derive(Drop)]
 pub struct Purse<K: Naming> {
     pub(crate) log: Log,
-    pub(crate) tickets: Vec<Ticket<K>>,
-    pub(crate) acks: Vec<Ack<K>>,
+    pub(crate) tickets: Numbers,
+    pub(crate) acks: Numbers,
     pub(crate) reader: Reader,
     pub(crate) of: PhantomData<K>,
 }
@@ -29,7 +33,7 @@ impl<K: Naming> Model for Purse<K> {
 
     ghost Value = { Holdings };
 
-    ghost view = { λ p. record { calls = p.log.calls; tickets = p.tickets.items; acks = p.acks.items; seen = p.reader.me.0.number } };
+    ghost view = { λ p. record { calls = p.log.calls; tickets = p.tickets; acks = p.acks; floor = p.log.floor; seen = p.reader.me.0.number } };
 
     ghost invariant = { λ p. (p.reader.table_id ≡ K.table) × (p.reader.me ≡ (knows K.start p.reader.me.0.number, [])) };
 }
@@ -41,14 +45,14 @@ impl<K: Naming> Purse<K> {
     {
         Purse {
             log: Log::new(alloc),
-            tickets: Vec::new(alloc),
-            acks: Vec::new(alloc),
+            tickets: Numbers::new(alloc),
+            acks: Numbers::new(alloc),
             reader,
             of: PhantomData,
         }
     }
 
-    /// The places of its calls in the node's history, from 0, rising.
+    /// The places of its calls in the node's history, from 0, rising, but for the calls that it forgot.
     pub fn places(&self, alloc: Global) -> Result<Vec<u64>, AllocError>
         ensures places { IfOk result (λ places. places.items ≡ map (λ c. c.place) self.now.calls) }
         ensures rising { Rising self.now.calls }
@@ -56,49 +60,76 @@ impl<K: Naming> Purse<K> {
         places_of(alloc, self.log.calls())
     }
 
-    /// Its calls, the first one first.
+    /// Its calls, the first one first, but for those that it forgot.
     pub fn calls(&self) -> &[Call]
-        ensures { result.now ≡ self.now.calls }
+        ensures calls { result.now ≡ self.now.calls }
+        ensures floor { floor_of self.now.calls ≤ self.now.floor }
     {
         self.log.calls()
     }
 
-    pub(crate) fn tickets(&self) -> &[Ticket<K>]
-        ensures { result.now ≡ self.now.tickets }
+    /// Up to which command it was told that all are persistent: the greatest number that a call told of, a forgotten one too.
+    pub fn floor(&self) -> u64
+        ensures { result ≡ self.now.floor }
     {
-        self.tickets.as_slice()
+        self.log.floor()
     }
 
-    pub(crate) fn acks(&self) -> &[Ack<K>]
+    /// Forgets its calls at places below this one: with the base that `Node::look` tells, those of events that checkpoints replaced. With a greater
+    /// number it forgets calls that `Rest::close` asks for, which is refused then.
+    pub fn forget(&mut self, base: u64)
+        ensures { self.new ≡ record self.old { calls = from_place base self.old.calls } }
+    {
+        self.log.forget(base);
+    }
+
+    /// The numbers of its tickets.
+    pub fn tickets(&self) -> &[Stretch]
+        ensures { result.now ≡ self.now.tickets }
+    {
+        self.tickets.stretches()
+    }
+
+    /// The numbers of its acks, but for those that it handed in.
+    pub fn acks(&self) -> &[Stretch]
         ensures { result.now ≡ self.now.acks }
     {
-        self.acks.as_slice()
+        self.acks.stretches()
+    }
+
+    /// Whether none of its acks is above this number.
+    pub(crate) fn has_acks_within(&self, most: u64) -> bool
+        ensures { IsTrue result ↔ Within most self.now.acks }
+    {
+        self.acks.is_within(most)
     }
 
     /// Puts a ticket in, or hands it back where there is no memory.
     pub fn keep_ticket(&mut self, ticket: Ticket<K>) -> Result<(), Ticket<K>>
-        ensures ok { IfOk result (λ _. self.new ≡ record self.old { tickets = self.old.tickets ++ ticket ∷ [] }) }
+        ensures ok { OnOk result (Gains ticket self.old.tickets self.new.tickets) }
+        ensures others { OnOk result (self.new ≡ record self.old { tickets = self.new.tickets }) }
         ensures err { IfErr result (λ t. (t ≡ ticket) × (self.new ≡ self.old)) }
     {
-        match self.tickets.push(ticket) {
+        match self.tickets.add(ticket.number()) {
             Ok(()) => Ok(()),
-            Err(AllocFailed { value }) => Err(value),
+            Err(_) => Err(ticket),
         }
     }
 
     /// Puts an ack in, or hands it back where there is no memory.
     pub fn keep_ack(&mut self, ack: Ack<K>) -> Result<(), Ack<K>>
-        ensures ok { IfOk result (λ _. self.new ≡ record self.old { acks = self.old.acks ++ ack ∷ [] }) }
+        ensures ok { OnOk result (Gains ack self.old.acks self.new.acks) }
+        ensures others { OnOk result (self.new ≡ record self.old { acks = self.new.acks }) }
         ensures err { IfErr result (λ a. (a ≡ ack) × (self.new ≡ self.old)) }
     {
-        match self.acks.push(ack) {
+        match self.acks.add(ack.number()) {
             Ok(()) => Ok(()),
-            Err(AllocFailed { value }) => Err(value),
+            Err(_) => Err(ack),
         }
     }
 }
 
 /// The greatest number that a purse was told of never falls with a call, and is no less than what the call told of.
 pub fn the_floor_rises()
-    ensures { (old new : Holdings) (e : Event) (r : Reply) → Adds old e r new → (floor_of old.calls ≤ floor_of new.calls) × (told_by e r ≤ floor_of new.calls) }
+    ensures { (old new : Holdings) (e : Event) (r : Reply) → Adds old e r new → (old.floor ≤ new.floor) × (told_by e r ≤ new.floor) }
 {}

@@ -1,8 +1,8 @@
 //! Who sweeps extents.
-ghost use Rattle.std.specs.Prelude.{ℕ, ◌≡◌, ◌⊎◌, ◌↔◌, ◌^◌, ◌-◌, ◌<◌, ◌≤◌, IfErr, IfOk, IfSome, IsTrue, MatchOption, true};
-ghost use Rattle.cs_node.specs.Behind.{IsBehind};
+ghost use Rattle.std.specs.Prelude.{ℕ, ◌≡◌, ◌⊎◌, ◌↔◌, ◌^◌, ◌-◌, ◌<◌, ◌≤◌, IfErr, IfOk, IfSome, IsTrue, MatchOption, not, true};
 ghost use Rattle.cs_node.specs.Locks.{WhileLocked};
-ghost use Rattle.cs_node.specs.Sweeps.{HasSwept, IsAfterTurns, IsIdle, IsLeastFrom, IsNextAfter, IsNextEvent, IsSweepRefused, IsSweepTurn, NoneFrom, Reclaiming, after_event, after_refusal, unbegun};
+ghost use Rattle.cs_node.specs.Sweeps.{HasSwept, IsAfterTurns, IsIdle, IsLeastFrom, IsNextAfter, IsNextEvent, IsSweepRefused, IsSweepTurn, NoneFrom, Reclaiming, after_event, after_refusal, only_of, unbegun};
+ghost use Rattle.cs_node.specs.Told.{is_unrecorded};
 
 use crate::boards::{NamedBoard, Naming};
 use crate::gates::{Gate, Step, step_of};
@@ -18,7 +18,10 @@ use std::thread;
 /// What comes next of a sweep, and of which extent.
 #[derive(Clone, Copy, Debug)]
 pub enum Next {
+    /// The next sweep begins, of an extent that is chosen then.
     Begin,
+    /// The sweep of this very extent begins.
+    BeginAt(usize),
     Move(usize),
     Retire(usize),
     Abandon(usize),
@@ -55,11 +58,24 @@ impl<K: Naming> Reclaimer<K> {
         }
     }
 
+    /// One that sweeps this extent, once. Where its sweep can't begin, as where it is refused 33 NotSweepable, it is over.
+    pub fn of(extent: usize) -> Self
+        ensures { result ≡ only_of extent }
+    {
+        Reclaimer {
+            sweeps: 0,
+            last: None,
+            next: Next::BeginAt(extent),
+            of: PhantomData,
+        }
+    }
+
     /// Does one event of a sweep under one lock. A sweep begins with the lowest extent above the one that was begun last that may be
     /// swept, else with the lowest that may, else there is nothing to do. Its chunks are moved until none is live, and it is retired.
     /// After a move or a retirement that was refused the next turn abandons it.
     ///
-    /// Refused as the event is, 9 OutOfMemory and 41 HistoryFull.
+    /// Refused as the event is, 9 OutOfMemory, and 41 HistoryFull where it is a sweep's begin or a move. A sweep that isn't gone on with leaves its
+    /// extent marked, which `Node::abandon` undoes.
     pub fn turn<D: PageDisk, G: Gate, R: Wait>(
         &mut self,
         rt: &R,
@@ -121,6 +137,7 @@ impl<K: Naming> Reclaimer<K> {
                     None => None,
                 }
             }
+            Next::BeginAt(extent) => Some(Event::BeginSweep(extent)),
             Next::Move(extent) => Some(Event::MoveOne(extent)),
             Next::Retire(extent) => Some(Event::Retire(extent)),
             Next::Abandon(extent) => Some(Event::Abandon(extent)),
@@ -148,11 +165,13 @@ impl<K: Naming> Reclaimer<K> {
     }
 
     /// Gives a sweep up whose event was refused.
-    fn give_up(&mut self, event: &Event)
-        ensures { self.new ≡ after_refusal self.old event.now }
+    fn give_up(&mut self, event: &Event, refusal: Refusal)
+        ensures { self.new ≡ after_refusal self.old event.now refusal }
     {
-        if let Event::MoveOne(extent) | Event::Retire(extent) = event {
-            self.next = Next::Abandon(*extent);
+        match event {
+            Event::MoveOne(extent) | Event::Retire(extent) => self.next = Next::Abandon(*extent),
+            _ if is_recorded(refusal) => self.next = Next::Begin,
+            _ => {}
         }
     }
 }
@@ -177,11 +196,18 @@ impl<D: PageDisk, K: Naming> Engine<D, K> {
                 Ok(step_of(&event))
             }
             Err(refusal) => {
-                reclaimer.give_up(&event);
+                reclaimer.give_up(&event, refusal);
                 Err(refusal)
             }
         }
     }
+}
+
+/// Whether a history records an event with this refusal.
+fn is_recorded(refusal: Refusal) -> bool
+    ensures { is_unrecorded refusal ≡ not result }
+{
+    !matches!(refusal, Refusal::OutOfMemory | Refusal::HistoryFull)
 }
 
 /// The lowest extent above the last one that may be swept, else the lowest that may.

@@ -2,23 +2,26 @@
 ghost use Rattle.std.specs.Prelude.{◌≡◌, ◌≤◌, ℕ, IfErr, IfOk};
 ghost use Rattle.cs_core.specs.Meanings.{commands_said};
 ghost use Rattle.cs_disk.specs.Disk.{Leaves, page};
+ghost use Rattle.cs_core.specs.Views.{kept};
 ghost use Rattle.cs_refine.specs.Crashes.{IsPrefix};
-ghost use Rattle.cs_node.specs.Accounts.{acknowledged_by, once_to};
+ghost use Rattle.cs_numbers.specs.Numbers.{once_to};
+ghost use Rattle.cs_node.specs.Accounts.{acknowledged_by};
 ghost use Rattle.cs_node.specs.Closes.{Fails, IsClosed};
 ghost use Rattle.cs_node.specs.Starts.{shape_at};
 ghost use Rattle.cs_node.specs.Behind.{IsBehind};
 
 use crate::boards::{NamedBoard, Naming};
+use crate::judges::judge;
 use crate::locked::{Lock, Locked};
 use crate::nodes::Node;
 use crate::purses::Purse;
-use crate::tallies::judge;
 use cs_core::{Core, Event, Reply};
 use cs_disk::PageDisk;
+use cs_numbers::Stretch;
 use std::alloc::Global;
 use std::marker::Model;
 
-/// A node whose lock is open. Contracts see its core, and how many purses it gave.
+/// A node whose lock is open. Contracts see its core, how many purses it gave, and the numbers of the acks that were handed in.
 #[derive(Drop)]
 pub struct Rest<D: PageDisk, K: Naming> {
     locked: Locked<D, K>,
@@ -30,13 +33,14 @@ impl<D: PageDisk, K: Naming> Model for Rest<D, K> {
 
     ghost Value = { RestView D };
 
-    ghost view = { λ r. record { core = r.locked.engine.core; given = r.locked.given } };
+    ghost view = { λ r. record { core = r.locked.engine.core; given = r.locked.given; handed = r.locked.handed } };
 }
 
 /// Why a node wasn't closed.
 #[derive(Clone, Copy, Debug)]
 pub enum Unclosed {
-    /// 50: so many numbers of accepted commands have no ticket and no ack in the purses; 0 where another test failed alone.
+    /// 50: so many numbers of accepted commands have no ticket and no ack in the purses, nor an ack that was handed in; 0 where another test failed
+    /// alone.
     Missing(u64),
     /// 9: a growth was refused.
     OutOfMemory,
@@ -50,13 +54,14 @@ pub struct NotClosed<D: PageDisk, K: Naming> {
     pub purses: Vec<Purse<K>>,
 }
 
-/// What a node did: its disk, how many commands were accepted and how many of them are persistent and so acknowledged, and all
-/// events with their replies, the first one first.
+/// What a node did: its disk, how many commands were accepted and how many of them are persistent and so acknowledged, how many events
+/// checkpoints replaced, and those since then with their replies, the first one first.
 #[derive(Drop)]
 pub struct Closed<D> {
     pub disk: D,
     pub accepted: u64,
     pub acknowledged: u64,
+    pub base: u64,
     pub history: Vec<(Event, Reply)>,
 }
 
@@ -89,6 +94,21 @@ impl<D: PageDisk, K: Naming> Rest<D, K> {
         self.locked.given()
     }
 
+    /// The numbers of the acks that were handed in.
+    pub fn handed(&self) -> &[Stretch]
+        ensures { result.now ≡ self.now.handed }
+    {
+        self.locked.handed().stretches()
+    }
+
+    /// The core, with its disk: for a node that isn't closed.
+    pub fn into_core(self) -> Core<D>
+        ensures { result ≡ self.core }
+    {
+        let Rest { locked, board: _ } = self;
+        locked.into_core()
+    }
+
     /// Locks it again.
     pub fn resume(self) -> Node<D, K> {
         let Rest { locked, board } = self;
@@ -98,20 +118,27 @@ impl<D: PageDisk, K: Naming> Rest<D, K> {
         }
     }
 
-    /// Closes the node where these purses account for its history: they are all that it gave, their calls are those of the history,
-    /// each once, and their tickets and acks are the numbers of all accepted commands, each once, with no ack for one that isn't
-    /// persistent. The tickets for persistent commands become acks then, so that these are the persistent commands, each once.
+    /// Closes the node where these purses account for its history: they are all that it gave, their calls are those of the history as far as it
+    /// is kept, each once, and their tickets and acks, with the acks that were handed in, are the numbers of all accepted commands, each once,
+    /// with no ack for one that isn't persistent. The tickets for persistent commands become acks then, so that these are the persistent
+    /// commands, each once. Calls of events that checkpoints replaced aren't looked at.
     ///
     /// Refused 50 Missing and 9 OutOfMemory; what came is handed back.
     pub fn close(self, alloc: Global, purses: Vec<Purse<K>>) -> Result<Closed<D>, NotClosed<D, K>>
         ensures closed { IfOk result (λ c. IsClosed self purses.items c) }
-        ensures acknowledged { D.honest self.core.disk → IfOk result (λ c. (x : ℕ) → acknowledged_by c.acknowledged x purses.items ≡ once_to c.acknowledged x) }
+        ensures acknowledged { IfOk result (λ c. (x : ℕ) → acknowledged_by c.acknowledged x self.handed purses.items ≡ once_to c.acknowledged x) }
         ensures behind { IsBehind D.PageDisk K.start self.core }
         // A crash of its disk leaves the map after the first n commands, n not below any number that was acknowledged.
-        ensures left { D.honest self.core.disk → IfOk result (λ c. Leaves (D.state c.disk) (IsPrefix (shape_at K.start) (page K.start.opened) (commands_said c.history.items) c.acknowledged c.accepted)) }
+        ensures left { D.honest self.core.disk → IfOk result (λ c. Leaves (D.state c.disk) (IsPrefix (shape_at K.start) (page K.start.opened) (commands_said self.core.history) c.acknowledged c.accepted)) }
         ensures err { IfErr result (λ e. (e.rest ≡ self) × (e.purses.items ≡ purses.items) × Fails self purses.items e.why) }
     {
-        match judge(alloc, self.core(), self.given(), purses.as_slice()) {
+        match judge(
+            alloc,
+            self.core(),
+            self.given(),
+            self.locked.handed(),
+            purses.as_slice(),
+        ) {
             Ok(None) => Ok(self.end()),
             Ok(Some(missing)) => Err(NotClosed {
                 why: Unclosed::Missing(missing),
@@ -131,16 +158,19 @@ impl<D: PageDisk, K: Naming> Rest<D, K> {
         ensures disk { result.disk ≡ self.core.disk }
         ensures accepted { result.accepted ≡ self.core.store.accepted }
         ensures acknowledged { result.acknowledged ≡ self.core.store.frontier }
-        ensures within { D.honest self.core.disk → self.core.store.frontier ≤ self.core.store.accepted }
-        ensures history { result.history.items ≡ self.core.history }
+        ensures within { self.core.store.frontier ≤ self.core.store.accepted }
+        ensures base { result.base ≡ self.core.base }
+        ensures history { result.history.items ≡ kept self.core }
     {
         let (accepted, acknowledged) = self.core().progress();
+        let base = self.core().base();
         let Rest { locked, board: _ } = self;
         let (disk, history) = locked.into_core().into_parts();
         Closed {
             disk,
             accepted,
             acknowledged,
+            base,
             history,
         }
     }

@@ -1,7 +1,7 @@
 //! Who writes back under steady load.
-ghost use Rattle.std.specs.Prelude.{◌≡◌, IfErr, IfOk, MatchOption, true};
+ghost use Rattle.std.specs.Prelude.{◌≡◌, IfErr, IfOk, MatchOption, MatchResult, true};
+ghost use Rattle.cs_core.specs.Checkpoints.{IsNotReplaced, Replaces};
 ghost use Rattle.cs_node.specs.Dues.{IsAtRest};
-ghost use Rattle.cs_node.specs.Behind.{IsBehind};
 ghost use Rattle.cs_node.specs.Locks.{WhileLocked};
 ghost use Rattle.cs_node.specs.Streams.{IsNext, IsStreamRefused, IsStreamTurn};
 
@@ -50,10 +50,22 @@ impl<K: Naming> Stream<K> {
         pilot
     }
 
+    /// `Node::checkpoint`, for the pilot whose seat this is.
+    pub fn checkpoint<D: PageDisk, R: Wait>(
+        &mut self,
+        rt: &R,
+        node: &Node<D, K>,
+    ) -> Result<u64, Refusal>
+        ensures replaced { WhileLocked D.PageDisk K.start (λ old new. MatchResult result (λ n. Replaces old n new) (λ r. IsNotReplaced old r × (new ≡ old))) }
+        ensures seen { self.new ≡ self.old }
+    {
+        node.checkpoint(rt, &mut self.pilot)
+    }
+
     /// Does the event of writeback that is due, under one lock: a round that is out goes on and ends, what the index has changed is
     /// staged, a new round begins where something waits, or nothing is left to do.
     ///
-    /// Refused as the event is, 9 OutOfMemory and 41 HistoryFull.
+    /// Refused as the event is, and 9 OutOfMemory.
     pub fn turn<D: PageDisk, G: Gate, R: Wait>(
         &mut self,
         rt: &R,
@@ -106,7 +118,7 @@ fn next_event<D: PageDisk>(core: &Core<D>) -> Option<Event>
 }
 
 impl<D: PageDisk, K: Naming> Engine<D, K> {
-    /// Does the event of writeback that is due in a stream. Refused as the event is, 9 OutOfMemory and 41 HistoryFull.
+    /// Does the event of writeback that is due in a stream. Refused as the event is, and 9 OutOfMemory.
     pub fn stream<G: Gate>(&mut self, board: &NamedBoard<D, K>, gate: &G) -> Result<Step, Refusal>
         requires fresh { self.old.fresh ≡ true }
         ensures turn { IsStreamTurn D.PageDisk self.old.core result self.new.core }

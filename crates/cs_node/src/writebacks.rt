@@ -1,9 +1,8 @@
 //! Events of writeback, under the lock.
-ghost use Rattle.std.specs.Prelude.{◌≡◌, IfErr, IfOk, MatchOption, None, true};
+ghost use Rattle.std.specs.Prelude.{◌≡◌, IfErr, IfOk, MatchOption, MatchResult, None, true};
 ghost use Rattle.cs_core.specs.Replies.{MayAnswer};
 ghost use Rattle.cs_core.specs.Views.{IsStep};
 ghost use Rattle.cs_node.specs.Dues.{IsAdvance, IsAtRest, IsDue, IsOfRound, IsStaged, IsTurn};
-ghost use Rattle.cs_node.specs.Behind.{IsBehind};
 ghost use Rattle.cs_node.specs.Locks.{IsDone, IsRefused};
 
 use crate::boards::{NamedBoard, Naming};
@@ -62,7 +61,18 @@ impl<D: PageDisk, K: Naming> Engine<D, K> {
         }
     }
 
-    /// Does the event of writeback that is due. Refused as the event is, 9 OutOfMemory and 41 HistoryFull.
+    /// Gives up the sweep of an extent. Refused 33 NotSweepable, 40 Halted and 9 OutOfMemory.
+    pub fn abandon(&mut self, board: &NamedBoard<D, K>, extent: usize) -> Result<(), Refusal>
+        requires fresh { self.old.fresh ≡ true }
+        ensures { MatchResult result (λ _. IsStep D.PageDisk self.old.core (Event.Abandon extent) Reply.Abandoned self.new.core) (λ r. IsRefused D.PageDisk self.old.core (Event.Abandon extent) r self.new.core) }
+    {
+        match self.work(board, &Event::Abandon(extent), &Open) {
+            Ok(_) => Ok(()),
+            Err(refusal) => Err(refusal),
+        }
+    }
+
+    /// Does the event of writeback that is due. Refused as the event is, and 9 OutOfMemory.
     pub fn turn<G: Gate>(&mut self, board: &NamedBoard<D, K>, gate: &G) -> Result<Step, Refusal>
         requires fresh { self.old.fresh ≡ true }
         ensures turn { IsTurn D.PageDisk self.old.core result self.new.core }

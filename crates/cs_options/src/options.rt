@@ -1,4 +1,9 @@
 //! The options of the three commands.
+ghost use Rattle.std.specs.Prelude.{◌≡◌, ◌↔◌, IfErr, IfOk, IfSome, IsOk, MatchOption, codes};
+ghost use Rattle.cs_frame.specs.Geometries.{IsGeometry};
+ghost use Rattle.cs_options.specs.Asked.{TellsFlag, drops_asked, extents_asked, number_at, pages_asked, puts_asked, sections_asked, threads_asked};
+ghost use Rattle.cs_script.specs.RaceNumbers.{IsRaceable};
+
 use clap::{Arg, ArgAction, ArgMatches, Command};
 use cs_deps::Refusal;
 use cs_frame::Geometry;
@@ -168,11 +173,25 @@ fn option_of<'a>(alloc: Global, choice: &Choice) -> Arg<'a> {
     }
 }
 
-/// The geometry that the options ask for. Refused 7 BadGeometry.
-pub fn geometry_of(options: &ArgMatches) -> Result<Geometry, Refusal> {
-    let extents = options.get_one::<u64>("extents").unwrap_or(6);
-    let pages = options.get_one::<u64>("pages").unwrap_or(2);
-    let geometry = match options.get_one::<u64>("sections") {
+/// The number of an option, None where it has none.
+fn number_given(options: &ArgMatches, name: &str) -> Option<u64>
+    ensures { result ≡ number_at options.now name.now }
+{
+    options.get_one(name)
+}
+
+/// The geometry that the options ask for: 6 extents of 2 pages where they aren't given, and as few sections as the extents need. Refused
+/// 7 BadGeometry alone, where there is none.
+pub fn geometry_of(options: &ArgMatches) -> Result<Geometry, Refusal>
+    ensures valid { IsOk result ↔ IsGeometry (extents_asked options.now) (pages_asked options.now) (sections_asked options.now) }
+    ensures extents { IfOk result (λ geometry. geometry.extents ≡ extents_asked options.now) }
+    ensures pages { IfOk result (λ geometry. geometry.pages ≡ pages_asked options.now) }
+    ensures sections { IfOk result (λ geometry. geometry.sections ≡ sections_asked options.now) }
+    ensures refusal { IfErr result (λ refusal. refusal ≡ Refusal.BadGeometry) }
+{
+    let extents = number_given(options, "extents").unwrap_or(6);
+    let pages = number_given(options, "pages").unwrap_or(2);
+    let geometry = match number_given(options, "sections") {
         Some(sections) => Geometry::with_sections(extents, pages, sections),
         None => Geometry::new(extents, pages),
     };
@@ -182,10 +201,15 @@ pub fn geometry_of(options: &ArgMatches) -> Result<Geometry, Refusal> {
     }
 }
 
-/// The race that the options ask for, None where a number is out of its range.
-pub fn race_of(options: &ArgMatches) -> Option<Race> {
-    let threads = options.get_one::<u64>("threads").unwrap_or(4);
-    let puts = options.get_one::<u64>("puts").unwrap_or(10);
-    let dropped = options.get_one::<u64>("drop").unwrap_or(0);
+/// The race that the options ask for, None where a number is out of its range: 4 threads that put 10 shards each and drop no ticket,
+/// where they aren't given.
+pub fn race_of(options: &ArgMatches) -> Option<Race>
+    ensures numbers { MatchOption result (¬ IsRaceable (threads_asked options.now) (puts_asked options.now) (drops_asked options.now))
+        (λ race. (race.threads ≡ threads_asked options.now) × (race.puts ≡ puts_asked options.now) × (race.dropped ≡ drops_asked options.now)) }
+    ensures streams { IfSome result (λ race. TellsFlag options.now (codes "stream") race.streams) }
+{
+    let threads = number_given(options, "threads").unwrap_or(4);
+    let puts = number_given(options, "puts").unwrap_or(10);
+    let dropped = number_given(options, "drop").unwrap_or(0);
     Race::new(threads, puts, dropped, options.get_flag("stream"))
 }

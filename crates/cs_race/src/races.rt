@@ -43,7 +43,7 @@ pub fn run_race<D: PageDisk + Send + Drop, R: Threads + Wait + Sync, W: Write>(
     race: Race,
     writer: &mut W,
 ) -> u8
-    requires { (core.history ≡ []) × (core.store.accepted ≡ 0) × (core.store.frontier ≡ 0) }
+    requires { (core.history ≡ []) × (core.store.accepted ≡ 0) }
     ensures closes { result < 3 → (out : List ℕ) × Races D.PageDisk (start_of core) result out × Appends (W.contents writer.old) (W.contents writer.new) out }
     ensures refused { result ≡ 3 → (r : Why) × IsNoRace r × Appends (W.contents writer.old) (W.contents writer.new) (refusal_line r) }
     ensures status { (result ≤ 1) ⊎ (result ≡ 3) ⊎ (result ≡ 4) }
@@ -56,7 +56,7 @@ pub fn run_race<D: PageDisk + Send + Drop, R: Threads + Wait + Sync, W: Write>(
 
 /// A core that did nothing yet, over a new store in memory. Refused 9 OutOfMemory.
 pub fn new_core(alloc: Global) -> Result<Core<MemoryDisk>, Refusal>
-    ensures { IfOk result (λ core. (core.history ≡ []) × (core.store.accepted ≡ 0) × (core.store.frontier ≡ 0)) }
+    ensures { IfOk result (λ core. (core.history ≡ []) × (core.store.accepted ≡ 0)) }
 {
     let Ok(geometry) = Geometry::new(EXTENTS, PAGES) else {
         return Err(Refusal::BadGeometry);
@@ -74,12 +74,12 @@ fn race_on<D: PageDisk + Send + Drop, K: Naming + Send + Sync, R: Threads + Wait
     writer: &mut W,
 ) -> u8
     requires named { (board ≡ K.table) × (start_of core ≡ K.start) }
-    requires new { (core.history ≡ []) × (core.store.accepted ≡ 0) × (core.store.frontier ≡ 0) }
+    requires new { (core.history ≡ []) × (core.store.accepted ≡ 0) }
     ensures closes { result < 3 → (out : List ℕ) × Races D.PageDisk (start_of core) result out × Appends (W.contents writer.old) (W.contents writer.new) out }
     ensures refused { result ≡ 3 → (r : Why) × IsNoRace r × Appends (W.contents writer.old) (W.contents writer.new) (refusal_line r) }
     ensures status { (result ≤ 1) ⊎ (result ≡ 3) ⊎ (result ≡ 4) }
 {
-    let node = Node::<D, K>::new(board, core);
+    let node = Node::<D, K>::new(alloc, board, core);
     match run_on(rt, alloc, node, race) {
         Ok(left) => match close(alloc, left, writer) {
             Ok(status) => status,
@@ -103,7 +103,9 @@ fn run_on<D: PageDisk + Send + Drop, K: Naming + Send + Sync, R: Threads + Wait 
         return Err(Refusal::WornOut);
     };
     let racers = racers_of(rt, alloc, &node, race, pilot)?;
-    let ran = node.abreast(rt, racers)?;
+    let Ok(ran) = node.abreast(rt, racers) else {
+        return Err(Refusal::OutOfMemory);
+    };
     let (purses, read_back, pilot) = gather(alloc, ran)?;
     if let Some(mut pilot) = pilot {
         let _ = node.sync(rt, &mut pilot);

@@ -1,23 +1,44 @@
 -- Histories of a core, put together and taken apart.
-use Rattle.std.proofs.Common.{◌≡◌, ◌∙◌, ◌+◌, ◌≤◌, List, [], ◌∷◌, ◌++◌, length, sym, ap, subst, refl, inl, inr, arith, append_assoc, length-append}
-use Rattle.std.specs.Prelude.{◌↔◌}
+use Rattle.std.proofs.Common.{◌≡◌, ◌∙◌, ℕ, ◌+◌, ◌-◌, ◌*◌, ◌^◌, ◌<◌, ◌≤◌, List, [], ◌∷◌, ◌++◌, drop, length, sym, ap, subst, refl, inl, inr, arith, append_assoc, length-append, length-drop}
+use Rattle.std.specs.Int.{div_ceil}
+use Rattle.std.specs.Prelude.{◌↔◌, Result, Ok, Err, IfErr, IfOk, OnOk, false}
+use Rattle.std.proofs.lemmas.Grind.{div_ceil_times}
 use Rattle.cs_deps.specs.declared.refusals.Refusal.{Refusal}
-use Rattle.cs_deps.specs.declared.refusals.Refusal.TheVariants.{HistoryFull}
+use Rattle.cs_deps.specs.declared.refusals.Refusal.TheVariants.{Halted, HistoryFull, Unsettled, WornOut}
 use Rattle.cs_disk.specs.declared.disk.PageDisk.{Ghosts as PageDisk}
 use Rattle.cs_disk.specs.Disk.{State as DiskState}
 use Rattle.cs_core.specs.declared.events.Event.{Event}
 use Rattle.cs_core.specs.declared.events.Reply.{Reply}
 use Rattle.cs_core.specs.declared.events.Reply.TheVariants.{Refused}
-use Rattle.cs_core.specs.Views.{Applies, View}
+use Rattle.cs_core.specs.Answered.{IsLimited}
+use Rattle.cs_core.specs.Checkpoints.{IsNotReplaced, IsSettled, Replaces}
+use Rattle.cs_core.specs.Views.{Applies, View, kept}
 use Rattle.cs_core.specs.Writebacks.{WritesBack}
-use Rattle.cs_script.specs.Histories.{Goes, IsNoRefusal, IsStopped, IsUnrecorded, Stays, Went}
+use Rattle.cs_script.specs.Histories.{Goes, IsNoRefusal, IsStopped, IsUnrecorded, MakesRoom, MayReplace, Stays, Went}
 
 same_refusal : (r s : Refusal) → Refused r ≡ Refused s → r ≡ s
 same_refusal r s e = cc
 
+-- where a checkpoint is refused, the events may not be replaced
+not_replaced : {D : Type 0} (v : View D) (r : Refusal) → IsNotReplaced v r → ¬ MayReplace v
+not_replaced v Halted is may = cc
+not_replaced v Unsettled is may = is.1 may.2
+not_replaced v WornOut is may = omega (arith, is.2, may.3)
+not_replaced v r is may = absurd is
+
+-- half as many events are kept as may be, or more, and a checkpoint is asked for
+pub made_room : {D : Type 0} (old new : View D) (half count base : ℕ) (r : Result ℕ Refusal) → half ≡ div_ceil old.limit 2 → count ≡ length (kept old) → half ≤ count
+    → IfOk r (λ n. Replaces old n new) → OnOk r ((old.store.halted ≡ false) × IsSettled old.store) → base ≡ new.base → base < 2 ^ 63
+    → IfErr r (λ refusal. IsNotReplaced old refusal × (new ≡ old)) → MakesRoom old new
+made_room {D = D} old new half count base (Ok n) is are enough taken settled is_base few refused =
+    let some : old.limit ≤ 2 * length (kept old) = omega (arith, is, are, enough, div_ceil_times old.limit 2 (omega arith)) in
+    let replaced : new.base ≡ length old.history = ap (λ (v : View D). v.base) taken.1 in
+    inl ((some, settled.0, settled.1, omega (arith, is_base, few, replaced)), taken.1)
+made_room old new half count base (Err refusal) is are enough taken settled is_base few refused = inr (not_replaced old refusal refused.0, refused.1)
+
 module _ {D : Type 0} (disks : PageDisk D) where
   pub stays_same : (v : View D) → Stays disks v v
-  stays_same v = (record { opened = refl; found = refl; store = refl; history = refl; limit = refl; disk = λ h. refl }, (λ h. h, λ h. h))
+  stays_same v = (record { opened = refl; found = refl; store = refl; history = refl; base = refl; limit = refl; disk = λ h. refl }, (λ h. h, λ h. h))
 
   pub stays_then : (a b c : View D) → Stays disks a b → Stays disks b c → Stays disks a c
   stays_then a b c p q = (
@@ -26,6 +47,7 @@ module _ {D : Type 0} (disks : PageDisk D) where
       found = q.0.found ∙ p.0.found;
       store = q.0.store ∙ p.0.store;
       history = q.0.history ∙ p.0.history;
+      base = q.0.base ∙ p.0.base;
       limit = q.0.limit ∙ p.0.limit;
       disk = λ h. q.0.disk (p.1.0 h) ∙ p.0.disk h;
     },
@@ -62,9 +84,15 @@ module _ {D : Type 0} (disks : PageDisk D) where
   went_limit [] a b s = s.0.limit
   went_limit (x ∷ xs) a b (before, after, s, g, w) = went_limit xs after b w ∙ g.step.limit ∙ s.0.limit
 
-  -- after so many events nothing more is recorded
-  pub went_full : (xs : List (Event × Reply)) (a b : View D) → Went disks a xs b → a.limit ≤ length xs → b.limit ≤ length b.history
-  went_full xs a b w few = omega (arith, went_count xs a b w, went_limit xs a b w, few)
+  pub went_base : (xs : List (Event × Reply)) (a b : View D) → Went disks a xs b → b.base ≡ a.base
+  went_base [] a b s = s.0.base
+  went_base (x ∷ xs) a b (before, after, s, g, w) = went_base xs after b w ∙ g.step.base ∙ s.0.base
+
+  -- after so many events no further put or the like is recorded
+  pub went_full : (xs : List (Event × Reply)) (a b : View D) → Went disks a xs b → a.base ≤ length a.history → a.limit ≤ length xs → b.limit ≤ length (kept b)
+  went_full xs a b w replaced few =
+      let are : length (kept b) ≡ length b.history - b.base = length-drop b.base b.history in
+      omega (arith, are, went_count xs a b w, went_limit xs a b w, went_base xs a b w, replaced, few)
 
   pub stopped_later : (done more : List (Event × Reply)) (a b c : View D) (event : Event) (r : Refusal)
       → Went disks a done b → IsStopped disks b more event r c → IsStopped disks a (done ++ more) event r c
@@ -85,7 +113,7 @@ module _ {D : Type 0} (disks : PageDisk D) where
 
   -- it would be refused after these, for a reason that stands
   pub stopped_unrecorded : (done : List (Event × Reply)) (a b : View D) (event : Event) (r : Refusal)
-      → Went disks a done b → IsUnrecorded b r → IsStopped disks a done event r b
+      → Went disks a done b → IsUnrecorded b event r → IsStopped disks a done event r b
   stopped_unrecorded done a b event r w why = record {
     added = [];
     went = went_then done [] a b b w (stays_same b);
@@ -104,7 +132,7 @@ module _ {D : Type 0} (disks : PageDisk D) where
   refusal old event r new (inl full) writeback same = record {
     added = [];
     went = subst (Stays disks old) (sym full.same) (stays_same old);
-    refused = inr (refl, inr (same_refusal r HistoryFull full.reply_is, subst (λ (v : View D). v.limit ≤ length v.history) (sym full.same) full.full));
+    refused = inr (refl, inr (same_refusal r HistoryFull full.reply_is, full.limited, subst (λ (v : View D). v.limit ≤ length (kept v)) (sym full.same) full.full));
   }
   refusal old event r new (inr step) writeback same = record {
     added = (event, Refused r) ∷ [];

@@ -9,6 +9,7 @@ use Rattle.cs_script.specs.Lines.{Said, says_put, says_get, says_delete, says_sw
 use Rattle.cs_disk.specs.Disk.{State as DiskState}
 use Rattle.cs_core.specs.Views.{View}
 use Rattle.cs_script.specs.Crashes.{Crashes, CrashesForGood, IsCrash}
+use Rattle.cs_script.specs.Histories.{MakesRoom}
 use Rattle.cs_script.specs.declared.scripts.Ran.{Ran}
 use Rattle.cs_script.specs.Scripts.{Answers, GoesOn, said_to, status_after, Runs, ended, then_runs, unopened}
 use Rattle.cs_script.proofs.Appended.{appends_then}
@@ -41,7 +42,7 @@ module _ {D : Type 0} (disks : PageDisk D) (can_crash : D → Type 0) (volatile_
   EndsWith said old out = CrashesForGood disks can_crash volatile_count said old out
 
   small_then : (said : Said) (old new : View D) (status after : ℕ) (out : List ℕ) → status ≤ 1 → GoesOnWith said old status new after out → after ≤ 1
-  small_then said old new status after out h (inl (not, (can, tells, answers, is))) = subst (λ n. n ≤ 1) (sym is) (small_after (said_to can said) status h)
+  small_then said old new status after out h (inl (not, ready, made, (can, tells, answers, is))) = subst (λ n. n ≤ 1) (sym is) (small_after (said_to can said) status h)
   small_then said old new status after out h (inr (mask, is_crash, crashes, is)) = subst (λ n. n ≤ 1) (sym is) h
 
   -- What ran so far: with whatever runs from here on, it is a run of the whole text.
@@ -127,18 +128,18 @@ module _ {D : Type 0} (disks : PageDisk D) (can_crash : D → Type 0) (volatile_
   ended_crash said said' mask old a b r e is_crash h = subst (λ s. IfErr r (Ended s old a b)) (sym is_crash.0 ∙ e) h
 
   -- any other line
-  pub on_answer : {E : Type 0} (said said' heard : Said) (can : Bool) (old : View D) (status : ℕ) (a b : Option (List ℕ)) (r : Result (View D × ℕ) E) → said ≡ said'
+  pub on_answer : {E : Type 0} (said said' heard : Said) (can : Bool) (old ready : View D) (status : ℕ) (a b : Option (List ℕ)) (r : Result (View D × ℕ) E) → said ≡ said'
       → ((mask : List Bool) → ¬ IsCrash can_crash volatile_count said old mask)
-      → (IsTrue can ↔ can_crash old.disk) → heard ≡ said_to can said
-      → IfOk r (λ on. (on.1 ≡ status_after heard status) × ((out : List ℕ) × Answers disks heard old on.0 out × Appends a b out))
+      → MakesRoom old ready → (IsTrue can ↔ can_crash ready.disk) → heard ≡ said_to can said
+      → IfOk r (λ on. (on.1 ≡ status_after heard status) × ((out : List ℕ) × Answers disks heard ready on.0 out × Appends a b out))
       → IfOk r (λ on. (out : List ℕ) × GoesOnWith said' old status on.0 on.1 out × Appends a b out)
-  on_answer said said' heard can old status a b (Ok on) e not tells is_heard (is, (out, answers, printed)) = (
+  on_answer said said' heard can old ready status a b (Ok on) e not made tells is_heard (is, (out, answers, printed)) = (
     out,
     subst (λ s. GoesOnWith s old status on.0 on.1 out) e
-        (inl (not, (can, tells, subst (λ s. Answers disks s old on.0 out) is_heard answers, is ∙ ap (λ s. status_after s status) is_heard))),
+        (inl (not, ready, made, (can, tells, subst (λ s. Answers disks s ready on.0 out) is_heard answers, is ∙ ap (λ s. status_after s status) is_heard))),
     printed,
   )
-  on_answer said said' heard can old status a b (Err x) e not tells is_heard h = tt
+  on_answer said said' heard can old ready status a b (Err x) e not made tells is_heard h = tt
 
   pub ended_answer : {A : Type 0} (said : Said) (old : View D) (a b : Option (List ℕ)) (r : Result A (Ran D)) → IfErr r (λ ran. ran.status ≡ 4) → IfErr r (Ended said old a b)
   ended_answer said old a b (Ok x) h = tt

@@ -12,7 +12,7 @@ use Rattle.cs_core.specs.declared.events.Event.TheVariants.{Abandon, BeginSweep,
 use Rattle.cs_core.specs.declared.events.Reply.{Reply}
 use Rattle.cs_core.specs.declared.events.Reply.TheVariants.{Abandoned, Moved, NoneLive, Retired, Sweeping}
 use Rattle.cs_core.specs.Replies.{MayAnswer}
-use Rattle.cs_core.specs.Views.{View}
+use Rattle.cs_core.specs.Views.{View, kept}
 use Rattle.cs_script.specs.Histories.{Goes, IsNoRefusal, IsStopped, Went}
 use Rattle.cs_script.specs.Scripts.{Abandons, IsSweepRefused, StopsSweep, Sweeps, moves}
 use Rattle.cs_script.specs.Outputs.{swept_line}
@@ -54,13 +54,13 @@ module _ {D : Type 0} (disks : PageDisk D) where
       → (moved : List (ShardId × ℕ)) × IsStopped disks a (moves extent moved) (MoveOne extent) r c
   move_refused extent a b c count r so s = (so.moved, stopped_next disks (moves extent so.moved) a b c (MoveOne extent) r so.went s)
 
-  -- a further move would be refused, since the history stands at its limit
-  pub move_full : (extent : ℕ) (a b : View D) (count limit : ℕ) → limit ≡ a.limit → limit ≤ count → MovesSoFar extent a b count
+  -- a further move would be refused, since as many events are kept as may be
+  pub move_full : (extent : ℕ) (a b : View D) (count limit : ℕ) → limit ≡ a.limit → a.base ≤ length a.history → limit ≤ count → MovesSoFar extent a b count
       → (moved : List (ShardId × ℕ)) × IsStopped disks a (moves extent moved) (MoveOne extent) HistoryFull b
-  move_full extent a b count limit is few so =
+  move_full extent a b count limit is replaced few so =
       let same : length (moves extent so.moved) ≡ length so.moved = length-map so.moved (λ (m : ShardId × ℕ). (MoveOne extent, Moved m.0 m.1)) in
-      let full : b.limit ≤ length b.history = went_full disks (moves extent so.moved) a b so.went (omega (arith, is, few, so.counted, same)) in
-      (so.moved, stopped_unrecorded disks (moves extent so.moved) a b (MoveOne extent) HistoryFull so.went (inr (refl, full)))
+      let full : b.limit ≤ length (kept b) = went_full disks (moves extent so.moved) a b so.went replaced (omega (arith, is, few, so.counted, same)) in
+      (so.moved, stopped_unrecorded disks (moves extent so.moved) a b (MoveOne extent) HistoryFull so.went (inr (refl, tt, full)))
 
   -- the extent is retired
   pub retired : (extent root : ℕ) (a b c : View D) (count : ℕ) (reply : Reply) → reply ≡ Retired root

@@ -1,11 +1,11 @@
 -- The rounds of a sync, one after another, and what is printed.
-use Rattle.std.proofs.Common.{◌≡◌, ◌∙◌, ℕ, ◌+◌, ◌≤◌, List, [], ◌∷◌, ◌++◌, length, sym, ap, subst, refl, inl, inr, arith, append_assoc, length-append}
+use Rattle.std.proofs.Common.{◌≡◌, ◌∙◌, ℕ, ◌+◌, ◌-◌, ◌*◌, ◌^◌, ◌<◌, ◌≤◌, List, [], ◌∷◌, ◌++◌, drop, length, sym, ap, subst, refl, inl, inr, arith, append_assoc, length-append, length-drop}
 use Rattle.std.specs.Prelude.{◌↔◌, ◌≢◌, Bool, IsTrue, false, true, Option, None, Result, Ok, Err, IfErr, IsErrAnd, OnOk}
 use Rattle.std.proofs.lemmas.List.{append-nil, map-append}
 use Rattle.std.specs.Io.KnownBytes.{Appends}
 use Rattle.cs_deps.specs.declared.elements.Element.{Element}
 use Rattle.cs_deps.specs.declared.refusals.Refusal.{Refusal}
-use Rattle.cs_deps.specs.declared.refusals.Refusal.TheVariants.{HistoryFull, OutOfMemory}
+use Rattle.cs_deps.specs.declared.refusals.Refusal.TheVariants.{OutOfMemory}
 use Rattle.cs_deps.specs.Staging.{IsKept}
 use Rattle.cs_disk.specs.declared.disk.PageDisk.{Ghosts as PageDisk}
 use Rattle.cs_disk.specs.Disk.{State as DiskState}
@@ -15,7 +15,7 @@ use Rattle.cs_core.specs.declared.events.Reply.{Reply}
 use Rattle.cs_core.specs.declared.events.Reply.TheVariants.{Ended}
 use Rattle.cs_core.specs.Replies.{MayAnswer}
 use Rattle.cs_core.specs.Stored.{Stored}
-use Rattle.cs_core.specs.Views.{View}
+use Rattle.cs_core.specs.Views.{View, kept}
 use Rattle.cs_script.specs.declared.syncs.Stop.{Stop}
 use Rattle.cs_script.specs.declared.syncs.Stop.TheVariants.{Refused, Output}
 use Rattle.cs_script.specs.Histories.{Goes, IsNoRefusal, IsStopped, Went}
@@ -26,7 +26,7 @@ use Rattle.cs_script.specs.Scripts.{Answers, Finishes, IsBestOfAll, Syncs}
 use Rattle.cs_script.specs.Stops.{StopsAfter, StopsInRounds}
 use Rattle.cs_script.proofs.Appended.{appends_then, appends_same}
 use Rattle.cs_script.proofs.Asked.{stage_does, staged_of}
-use Rattle.cs_script.proofs.Histories.{stays_same, stopped_later, stopped_unrecorded, went_full, went_one, went_parts, went_then}
+use Rattle.cs_script.proofs.Histories.{stopped_later, stopped_unrecorded, went_count, went_one, went_parts, went_then}
 use Rattle.cs_script.proofs.Rounds.{round_lines_more}
 use Rattle.cs_script.proofs.PlanSteps.{best_in_turn}
 use Rattle.cs_script.proofs.Turned.{went_turns}
@@ -36,10 +36,12 @@ all_more : (turns : List Turn) (turn : Turn) → events_of_all (turns ++ turn �
 all_more [] turn = append-nil (events_of turn)
 all_more (t ∷ turns) turn = ap (λ (l : List (Event × Reply)). events_of t ++ l) (all_more turns turn) ∙ sym (append_assoc (events_of t) (events_of_all turns) (events_of turn))
 
--- each turn has an event at least
-count_all : (turns : List Turn) → length turns ≤ length (events_of_all turns)
+-- each turn has two events at least
+count_all : (turns : List Turn) → 2 * length turns ≤ length (events_of_all turns)
 count_all [] = omega arith
-count_all (t ∷ turns) = omega (arith, count_all turns, length-append (events_of t) (events_of_all turns))
+count_all (t ∷ turns) =
+    let last : List (Event × Reply) = (End, Ended t.frontier) ∷ [] in
+    omega (arith, count_all turns, length-append (events_of t) (events_of_all turns), length-append (issues t.members) last)
 
 -- nothing waits
 pub none_left : {X : Type 0} (xs : List X) (b : Bool) → IsTrue b ↔ (xs ≢ []) → b ≡ false → xs ≡ []
@@ -89,13 +91,12 @@ module _ {D : Type 0} (disks : PageDisk D) where
   stops_in_rounds a b c before after ended r so (part, event, is, s) =
       (so.turns, part, event, is, stopped_later disks (events_of_all so.turns) part a b c event r so.went s, so.lines)
 
-  -- the next round can't begin, since the history stands at its limit
-  pub stops_full : (a b : View D) (before after : Option (List ℕ)) (ended limit : ℕ) → limit ≡ a.limit → limit ≤ ended → RoundsSoFar a b before after ended
-      → StopsInRounds disks a b before after (Refused HistoryFull)
-  stops_full a b before after ended limit is few so =
-      let full : b.limit ≤ length b.history = went_full disks (events_of_all so.turns) a b so.went (omega (arith, is, few, so.counted, count_all so.turns)) in
-      let all : Went disks a (events_of_all so.turns ++ []) b = went_then disks (events_of_all so.turns) [] a b b so.went (stays_same disks b) in
-      (so.turns, [], Begin, inl (refl, refl), stopped_unrecorded disks (events_of_all so.turns ++ []) a b Begin HistoryFull all (inr (refl, full)), so.lines)
+  -- no history has the events of so many rounds
+  pub not_so_many : (a b : View D) (before after : Option (List ℕ)) (ended base : ℕ) (events : List (Event × Reply)) → RoundsSoFar a b before after ended
+      → base ≡ b.base → base < 2 ^ 63 → events ≡ kept b → length events < 2 ^ 64 → 2 ^ 64 - 1 ≤ ended → ⊥
+  not_so_many a b before after ended base events so is_base few is_kept fits many =
+      let are : length (kept b) ≡ length b.history - b.base = length-drop b.base b.history in
+      omega (arith, are, went_count disks (events_of_all so.turns) a b so.went, so.counted, count_all so.turns, is_base, few, ap length is_kept, fits, many)
 
   -- the round that was out is ended
   pub finishes_none : (old ended : View D) (out : List ℕ) → Finishes disks old ended out → ended.store.out ≡ None

@@ -30,6 +30,7 @@ module _ {D : Type 0} (disks : PageDisk D) (can_crash : D → Type 0) (volatile_
   -- The store on a disk is opened: a core with an empty history and the same limit, and with the numbers of the image.
   pub record IsReopened (disk : D) (limit : ℕ) (new : View D) : Type 0 where
     pub history : new.history ≡ []
+    pub base : new.base ≡ 0
     pub limit_is : new.limit ≡ limit
     pub image : disks.honest disk → (new.opened ≡ seen (disks.state disk)) × (disks.state new.disk ≡ flushed (disks.state disk))
     pub store : IsOpened (disks.honest disk) new.opened new.found new.store

@@ -1,5 +1,5 @@
 -- How a core came from what it was, event by event.
-use Rattle.std.specs.Prelude.{◌≡◌, ◌⊎◌, ◌↔◌, ◌≤◌, ◌∷◌, ◌++◌, List, [], length}
+use Rattle.std.specs.Prelude.{◌≡◌, ◌⊎◌, ◌↔◌, ◌*◌, ◌^◌, ◌<◌, ◌≤◌, ◌∷◌, ◌++◌, false, List, [], length}
 use Rattle.cs_deps.specs.declared.refusals.Refusal.{Refusal}
 use Rattle.cs_deps.specs.declared.refusals.Refusal.TheVariants.{HistoryFull, OutOfMemory}
 use Rattle.cs_disk.specs.declared.disk.PageDisk.{Ghosts as PageDisk}
@@ -7,7 +7,9 @@ use Rattle.cs_disk.specs.Disk.{State as DiskState}
 use Rattle.cs_core.specs.declared.events.Event.{Event}
 use Rattle.cs_core.specs.declared.events.Reply.{Reply}
 use Rattle.cs_core.specs.declared.events.Reply.TheVariants.{Refused}
-use Rattle.cs_core.specs.Views.{IsUntouched, IsStep, View}
+use Rattle.cs_core.specs.Answered.{IsLimited}
+use Rattle.cs_core.specs.Checkpoints.{IsSettled}
+use Rattle.cs_core.specs.Views.{IsUntouched, IsStep, View, kept}
 use Rattle.cs_core.specs.Writebacks.{WritesBack}
 
 -- the event was done
@@ -15,13 +17,21 @@ abbrev pub IsNoRefusal : Reply → Type 0
 IsNoRefusal (Refused r) = ⊥
 IsNoRefusal reply = Unit {0}
 
--- why an event is refused and not recorded: for want of memory, or since the history stands at its limit
-abbrev pub IsUnrecorded : {D : Type 0} → View D → Refusal → Type 0
-IsUnrecorded new r = (r ≡ OutOfMemory) ⊎ ((r ≡ HistoryFull) × (new.limit ≤ length new.history))
+-- why an event is refused and not recorded: for want of memory; or since it is one that is refused where as many events are kept as may be
+abbrev pub IsUnrecorded : {D : Type 0} → View D → Event → Refusal → Type 0
+IsUnrecorded new event r = (r ≡ OutOfMemory) ⊎ ((r ≡ HistoryFull) × IsLimited event × (new.limit ≤ length (kept new)))
 
 -- what a refused event adds to the history that the core has then
 abbrev pub IsRefused : {D : Type 0} → (new : View D) → Event → Refusal → List (Event × Reply) → Type 0
-IsRefused new event r xs = (xs ≡ (event, Refused r) ∷ []) ⊎ ((xs ≡ []) × IsUnrecorded new r)
+IsRefused new event r xs = (xs ≡ (event, Refused r) ∷ []) ⊎ ((xs ≡ []) × IsUnrecorded new event r)
+
+-- the events that are kept may be replaced by the state that they led to: they are half as many as may be, or more, and the store is settled
+abbrev pub MayReplace : {D : Type 0} → View D → Type 0
+MayReplace v = (v.limit ≤ 2 * length (kept v)) × (v.store.halted ≡ false) × IsSettled v.store × (length v.history < 2 ^ 63)
+
+-- ahead of a line they are replaced where they may be, which changes nothing else; else nothing changes
+abbrev pub MakesRoom : {D : Type 0} → (old new : View D) → Type 0
+MakesRoom old new = (MayReplace old × (new ≡ record old { base = length old.history })) ⊎ ((¬ MayReplace old) × (new ≡ old))
 
 module _ {D : Type 0} (disks : PageDisk D) where
   -- nothing was recorded, and nothing has changed but for how much there is room

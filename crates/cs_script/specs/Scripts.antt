@@ -18,7 +18,7 @@ use Rattle.cs_core.specs.declared.events.Reply.TheVariants.{Abandoned, Absent, A
 use Rattle.cs_core.specs.Stored.{Stored}
 use Rattle.cs_core.specs.Views.{View}
 use Rattle.cs_script.specs.Crashes.{Crashes, CrashesForGood, IsCrash}
-use Rattle.cs_script.specs.Histories.{IsStopped, Stays, Went}
+use Rattle.cs_script.specs.Histories.{IsStopped, MakesRoom, Stays, Went}
 use Rattle.cs_script.specs.Lines.{Said, says_put, says_get, says_delete, says_sweep, says_sync, says_step, says_plan, says_document, says_crash, says_nothing, unreadable, said_of}
 use Rattle.cs_script.specs.Outputs.{absent_line, acknowledged_line, bad_line, begin_line, chain_line, delete_line, end_line, flushes_line, idle_line, issue_line, letters, line_of, plan_lines, put_line, refusal_line, round_lines, swept_line, value_line}
 use Rattle.cs_script.specs.Rounds.{IsOfRound, IsPart, Members, Turn, events_of_all, issues, rest_of_round, rounds_of}
@@ -207,10 +207,11 @@ module _ {D : Type 0} (disks : PageDisk D) (can_crash : D → Type 0) (volatile_
   AnswersOver said old status new after out =
       (can : Bool) × (IsTrue can ↔ can_crash old.disk) × Answers disks (said_to can said) old new out × (after ≡ status_after (said_to can said) status)
 
-  -- a line that isn't a readable `crash` is answered by the core; and after a crash the core goes on that is opened then
+  -- a line that isn't a readable `crash` is answered by the core, which makes room first where it has to; and after a crash the core goes on
+  -- that is opened then
   abbrev pub GoesOn : Said → (old : View D) (status : ℕ) → (new : View D) (after : ℕ) → List ℕ → Type 0
   GoesOn said old status new after out =
-      (((mask : List Bool) → ¬ IsCrash can_crash volatile_count said old mask) × AnswersOver said old status new after out)
+      (((mask : List Bool) → ¬ IsCrash can_crash volatile_count said old mask) × (ready : View D) × MakesRoom old ready × AnswersOver said ready status new after out)
       ⊎ ((mask : List Bool) × IsCrash can_crash volatile_count said old mask × Crashes disks can_crash volatile_count mask old new out × (after ≡ status))
 
   -- A script runs: nothing is left of it; or its first line is answered and the rest runs; or no store is opened after a crash, and

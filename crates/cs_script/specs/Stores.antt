@@ -1,17 +1,17 @@
 -- The stores that scripts run over.
-use Rattle.std.specs.Prelude.{◌≡◌, ℕ, List, [], Option, Result, Ok, Err}
+use Rattle.std.specs.Prelude.{◌≡◌, ◌+◌, ◌*◌, ℕ, List, [], Option, Result, Ok, Err, replicate}
 use Rattle.cs_deps.specs.declared.refusals.Refusal.{Refusal}
 use Rattle.cs_disk.specs.declared.disk.PageDisk.{Ghosts as PageDisk}
 use Rattle.cs_disk.specs.Disk.{State as DiskState}
 use Rattle.cs_core.specs.Openings.{IsOpened}
-use Rattle.cs_core.specs.Started.{new_stored}
+use Rattle.cs_core.specs.Started.{IsNewOn, new_stored}
 use Rattle.cs_core.specs.Views.{View}
 use Rattle.cs_script.specs.Outputs.{refusal_line}
 use Rattle.cs_script.specs.Scripts.{Runs}
 
--- nothing is recorded yet, and 65,536 events may be
+-- nothing is recorded yet, and 65,536 events may be kept
 abbrev pub IsUnused : {D : Type 0} → View D → Type 0
-IsUnused core = (core.history ≡ []) × (core.limit ≡ 65536)
+IsUnused core = (core.history ≡ []) × (core.base ≡ 0) × (core.limit ≡ 65536)
 
 -- a store that was opened on a disk of which nothing is known: it is made of what was read
 abbrev pub IsJustOpened : {D : Type 0} → View D → Type 0
@@ -20,6 +20,14 @@ IsJustOpened core = IsUnused core × IsOpened ⊥ core.opened core.found core.st
 -- a store that was made, with nothing in it
 abbrev pub IsNew : {D : Type 0} → (extents pages sections : ℕ) → View D → Type 0
 IsNew extents pages sections core = IsUnused core × (core.store ≡ new_stored extents pages sections)
+
+-- a disk of so many pages of zeros
+abbrev pub zeros : ℕ → DiskState
+zeros pages = record { durable = replicate pages (replicate 4096 0); volatile = [] }
+
+-- the disk of a new store: its superblock and its root are written and durable, and all other pages are zeros
+abbrev pub IsNewDisk : (extents pages sections : ℕ) → DiskState → Type 0
+IsNewDisk extents pages sections disk = IsNewOn extents pages sections (zeros (1 + extents * pages + sections)) disk
 
 module _ {D : Type 0} (disks : PageDisk D) (can_crash : D → Type 0) (volatile_count : D → ℕ) where
   -- a script runs over the store that there is; or there is none, and that is printed

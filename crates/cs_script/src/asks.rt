@@ -7,8 +7,8 @@ use cs_core::{Core, Event, OutOfMemory, Reply};
 use cs_deps::Refusal;
 use cs_disk::PageDisk;
 
-/// Has the core do one event, and gives its reply. Refused as the event is, 41 HistoryFull where the history stands at its
-/// limit, and 9 OutOfMemory; these two aren't recorded.
+/// Has the core do one event, and gives its reply. Refused as the event is, 41 HistoryFull where as many events are kept as may be,
+/// and 9 OutOfMemory; these two aren't recorded.
 pub fn ask<D: PageDisk>(core: &mut Core<D>, event: &Event) -> Result<Reply, Refusal>
     ensures done { IfOk result (λ reply. Goes D.PageDisk core.old event.now reply core.new) }
     ensures answers { IfOk result (λ reply. MayAnswer event.now reply) }

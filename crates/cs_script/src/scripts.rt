@@ -4,6 +4,7 @@ ghost use Rattle.std.specs.Io.BufRead.{strip_last};
 ghost use Rattle.std.specs.Io.KnownBytes.{Appends};
 ghost use Rattle.cs_script.specs.Lines.{said_by, said_of, says_put, says_get, says_delete};
 ghost use Rattle.cs_script.specs.Crashes.{CrashesForGood};
+ghost use Rattle.cs_script.specs.Histories.{MakesRoom};
 ghost use Rattle.cs_script.specs.Scripts.{Answers, GoesOn, said_to, status_after, Runs};
 
 use crate::asks::ask;
@@ -33,7 +34,7 @@ pub struct Ran<D: PageDisk> {
     /// The exit status: 0, 1 where a line wasn't readable, 3 where the store couldn't be opened after a crash, 4 where the
     /// reader or the writer failed, the input didn't end, or a line's text found no memory.
     pub status: u8,
-    /// The core with what was added to its history, or none where the store couldn't be opened after a crash.
+    /// The core with what was added to its history, of which checkpoints may have replaced the most, or none where the store couldn't be opened after a crash.
     pub core: Option<Core<D>>,
 }
 
@@ -136,9 +137,24 @@ fn run_line<D: CrashDisk + Drop, W: Write>(
     match mask_of(&core, &line) {
         Some(mask) => crash(alloc, core, mask, status, writer),
         None => {
+            let mut core = core;
+            make_room(&mut core);
             let line = line_to(core.disk().crashable(), line);
             answer_line(alloc, core, line, status, writer)
         }
+    }
+}
+
+/// Takes a checkpoint where at least half as many events are kept as may be and the store is settled. So a script that syncs often enough
+/// never meets 41 HistoryFull.
+fn make_room<D: PageDisk>(core: &mut Core<D>)
+    ensures { MakesRoom core.old core.new }
+{
+    if core.limit().div_ceil(2) <= core.history().len() {
+        // Where it is refused the store isn't settled, and the events stay.
+        let _ = core.checkpoint();
+        // Called for its contract alone: how many events may have been replaced.
+        core.base();
     }
 }
 

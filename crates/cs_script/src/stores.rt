@@ -3,9 +3,10 @@ ghost use Rattle.std.specs.Prelude.{◌≡◌, ◌⊎◌, ◌<◌, ◌≤◌, �
 ghost use Rattle.std.specs.Io.KnownBytes.{Appends};
 ghost use Rattle.cs_deps.specs.Refusals.{number_of};
 ghost use Rattle.cs_disk.specs.Faults.{open_fault_number};
+ghost use Rattle.cs_disk.specs.Memory.{memory_state};
 ghost use Rattle.cs_core.specs.Openings.{IsOpeningRefusal};
 ghost use Rattle.cs_script.specs.Outputs.{refusal_line};
-ghost use Rattle.cs_script.specs.Stores.{IsJustOpened, IsNew, RunsOver};
+ghost use Rattle.cs_script.specs.Stores.{IsJustOpened, IsNew, IsNewDisk, RunsOver};
 
 use crate::outputs::print_no_store;
 use crate::scripts::run_script;
@@ -45,6 +46,7 @@ pub fn run_over<D: CrashDisk + Drop, R: Read + Drop, W: Write>(
 /// A new store in memory. Refused 9 OutOfMemory alone.
 pub fn new_in_memory(alloc: Global, geometry: Geometry) -> Result<Core<MemoryDisk>, Refusal>
     ensures store { IfOk result (IsNew geometry.extents geometry.pages geometry.sections) }
+    ensures disk { IfOk result (λ core. IsNewDisk geometry.extents geometry.pages geometry.sections (memory_state core.disk)) }
     ensures memory { IfErr result (λ refusal. refusal ≡ Refusal.OutOfMemory) }
 {
     let Ok(disk) = MemoryDisk::new(alloc, geometry.device_pages()) else {

@@ -101,6 +101,8 @@ fn move_all<D: PageDisk>(core: &mut Core<D>, extent: usize) -> Result<usize, Ref
         × Went D.PageDisk core.old (moves extent moved ++ (MoveOne extent, NoneLive) ∷ []) core.new) }
     ensures refused { IfErr result (λ refusal. (moved : List (ShardId × ℕ)) × IsStopped D.PageDisk core.old (moves extent moved) (MoveOne extent) refusal core.new) }
 {
+    // Called for its contract alone: the events that were replaced are some of all.
+    core.history();
     for moved in 0..core.limit() {
         match ask(core, &Event::MoveOne(extent)) {
             Ok(Reply::Moved(_, _)) => {}
@@ -109,6 +111,6 @@ fn move_all<D: PageDisk>(core: &mut Core<D>, extent: usize) -> Result<usize, Ref
             Err(refusal) => return Err(refusal),
         }
     }
-    // Each move was recorded, so the history stands at its limit.
+    // Each move was recorded, so as many events are kept as may be.
     Err(Refusal::HistoryFull)
 }

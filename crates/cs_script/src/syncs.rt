@@ -92,13 +92,15 @@ fn run_rounds<D: PageDisk, W: Write>(core: &mut Core<D>, writer: &mut W) -> Resu
     ensures none { OnOk result (core.new.store.graph.staging.pending.waiting ≡ []) }
     ensures stopped { IfErr result (StopsInRounds D.PageDisk core.old core.new (W.contents writer.old) (W.contents writer.new)) }
 {
-    for ended in 0..core.limit() {
+    for ended in 0..usize::MAX {
         if !core.has_waiting() {
             return Ok(ended);
         }
         let round = run_round(core)?;
         print_round(writer, ended + 1, round.as_slice())?;
     }
-    // Each round was recorded, so the history stands at its limit.
-    Err(Stop::Refused(Refusal::HistoryFull))
+    // Each round was recorded, and no history has so many events. Called for their contracts alone: how many there may be.
+    core.base();
+    core.history();
+    unreachable!()
 }

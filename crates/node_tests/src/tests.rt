@@ -4,6 +4,7 @@ ghost use Rattle.std.specs.Prelude.{◌≡◌, []};
 
 mod acts;
 mod asks;
+mod checkpoints;
 mod failures;
 mod gates;
 mod histories;
@@ -27,7 +28,7 @@ use cs_core::{Core, Limits};
 use cs_deps::Refusal;
 use cs_disk::{FailAt, MemoryDisk};
 use cs_frame::Geometry;
-use cs_node::Unclosed;
+use cs_node::{Step, Unclosed};
 use std::alloc::Global;
 use std::process::Abort;
 use std::sync::Wait;
@@ -42,7 +43,7 @@ fn formatted(
     history: usize,
     at: u64,
 ) -> Core<FailAt<MemoryDisk>>
-    ensures { (result.history ≡ []) × (result.store.accepted ≡ 0) × (result.store.frontier ≡ 0) }
+    ensures { (result.history ≡ []) × (result.store.accepted ≡ 0) }
 {
     let geometry = Geometry::new(geometry.0, geometry.1).expect(rt, "a geometry");
     let disk = MemoryDisk::new(alloc, geometry.device_pages()).expect(rt, "a disk");
@@ -63,17 +64,20 @@ enum Store {
     Again(u64),
     /// A new store of 64 extents of four pages.
     Wide,
+    /// The same, whose history may have 64 events.
+    WideButShort,
 }
 
 /// A core that did nothing yet, over this store.
 fn core_of(rt: &impl Abort, alloc: Global, store: Store) -> Core<FailAt<MemoryDisk>>
-    ensures { (result.history ≡ []) × (result.store.accepted ≡ 0) × (result.store.frontier ≡ 0) }
+    ensures { (result.history ≡ []) × (result.store.accepted ≡ 0) }
 {
     match store {
         Store::Small(history) => formatted(rt, alloc, (6, 2), history, 0),
         Store::Failing(at) => formatted(rt, alloc, (6, 2), 64, at),
         Store::Again(at) => opened_again(rt, alloc, formatted(rt, alloc, (6, 2), 64, at)),
         Store::Wide => formatted(rt, alloc, (64, 4), 2000, 0),
+        Store::WideButShort => formatted(rt, alloc, (64, 4), 64, 0),
     }
 }
 
@@ -82,6 +86,8 @@ fn core_of(rt: &impl Abort, alloc: Global, store: Store) -> Core<FailAt<MemoryDi
 enum Wanted {
     /// It is closed: how many commands were accepted, and how many are acknowledged.
     Counts(u64, u64),
+    /// It is closed: so many commands were accepted and are acknowledged, and no event is kept.
+    Emptied(u64),
     /// It is closed, and so the steps of its history print.
     Prints(&'static str),
     /// It is closed after two sweeps, the second of the next extent.
@@ -122,6 +128,10 @@ fn is_closed<R: Abort>(rt: &R, alloc: Global, ended: &Ended, wanted: Wanted) {
     match wanted {
         Wanted::Counts(accepted, acknowledged) => {
             are_counted(rt, ended, accepted, acknowledged);
+        }
+        Wanted::Emptied(number) => {
+            are_counted(rt, ended, number, number);
+            assert!(rt; ended.history.is_empty());
         }
         Wanted::Prints(text) => prints(rt, alloc, ended.history.as_slice(), text),
         Wanted::BothExtents => are_both_swept(rt, ended.history.as_slice()),
@@ -219,6 +229,82 @@ fn a_full_history_answers_nothing(rt: HostRuntime) {
         Store::Small(2),
         Task::Plays(FILLS_TWO),
         Wanted::Missing(1),
+    );
+}
+
+/// A history of two events is filled and written back, and goes on after a checkpoint.
+const GOES_ON_AT_THE_LIMIT: &[Act] = &[
+    Act::Hire(true),
+    Act::Put(10, Ok(1)),
+    Act::Get(10, Some(10)),
+    Act::Offer(11, Err(Refusal::HistoryFull)),
+    Act::Settle(Err(Refusal::HistoryFull)),
+    Act::Checkpoint(Err(Refusal::Unsettled)),
+    Act::Sync(Ok(1)),
+    Act::Look(1, 1, 13, 0),
+    Act::Checkpoint(Ok(13)),
+    Act::Look(1, 1, 0, 13),
+    Act::Settle(Ok(None)),
+    Act::KeepAck(1),
+    Act::Forget,
+    Act::Places(&[13]),
+    Act::Offer(11, Ok(2)),
+    Act::KeepTicket,
+    Act::Places(&[13, 14]),
+];
+
+#[test]
+fn a_node_goes_on_at_the_limit(rt: HostRuntime) {
+    tries(
+        &rt,
+        rt.alloc(),
+        Store::Small(2),
+        Task::Plays(GOES_ON_AT_THE_LIMIT),
+        Wanted::Counts(2, 1),
+    );
+}
+
+#[test]
+fn a_hundred_puts_past_a_history_of_64_events(rt: HostRuntime) {
+    tries(
+        &rt,
+        rt.alloc(),
+        Store::WideButShort,
+        Task::Plays(&[Act::Hire(true), Act::Hundred]),
+        Wanted::Emptied(100),
+    );
+}
+
+/// A sweep that is left marked keeps a checkpoint waiting until it is given up.
+const LEFT_MARKED: &[Act] = &[
+    Act::Hire(true),
+    Act::Put(10, Ok(1)),
+    Act::KeepTicket,
+    Act::Put(11, Ok(2)),
+    Act::KeepTicket,
+    Act::ReclaimOf(0),
+    Act::Sweep(Ok(Step::BeginSweep)),
+    Act::ReclaimOf(0),
+    Act::Sync(Ok(2)),
+    Act::Checkpoint(Err(Refusal::Unsettled)),
+    Act::Abandon(0, Ok(())),
+    Act::Abandon(0, Err(Refusal::NotSweepable)),
+    Act::Sweep(Ok(Step::BeginSweep)),
+    Act::Sweep(Ok(Step::MoveOne)),
+    Act::Abandon(0, Ok(())),
+    Act::Sweep(Err(Refusal::NotSweepable)),
+    Act::Sweep(Err(Refusal::NotSweepable)),
+    Act::Sweep(Ok(Step::Idle)),
+];
+
+#[test]
+fn an_extent_that_is_left_marked_is_given_up(rt: HostRuntime) {
+    tries(
+        &rt,
+        rt.alloc(),
+        Store::Small(64),
+        Task::Plays(LEFT_MARKED),
+        Wanted::Counts(2, 2),
     );
 }
 

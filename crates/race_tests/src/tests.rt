@@ -66,7 +66,7 @@ fn numbers_have_ranges(rt: HostRuntime) {
 
 /// A core that did nothing yet, over a new store with room for more shards than tickets may be under way.
 fn large_core(alloc: Global) -> Result<Core<MemoryDisk>, Fail>
-    ensures { IfOk result (λ core. (core.history ≡ []) × (core.store.accepted ≡ 0) × (core.store.frontier ≡ 0)) }
+    ensures { IfOk result (λ core. (core.history ≡ []) × (core.store.accepted ≡ 0)) }
 {
     let geometry = Geometry::new(64, 32)?;
     match new_in_memory(alloc, geometry) {
@@ -91,9 +91,9 @@ fn one_after_another<K: Naming + Send + Sync, R: Wait + Abort>(
     core: Core<MemoryDisk>,
 )
     requires named { (board ≡ K.table) × (start_of core ≡ K.start) }
-    requires new { (core.history ≡ []) × (core.store.accepted ≡ 0) × (core.store.frontier ≡ 0) }
+    requires new { (core.history ≡ []) × (core.store.accepted ≡ 0) }
 {
-    let node = Node::<MemoryDisk, K>::new(board, core);
+    let node = Node::<MemoryDisk, K>::new(alloc, board, core);
     let race = Race::new(2, 600, 0, false).expect(rt, "a race");
     assert_eq!(rt; read_back(rt, alloc, &node, race), 1200);
 }

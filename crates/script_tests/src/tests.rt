@@ -2,6 +2,7 @@
 mod cuts;
 mod documents;
 mod files;
+mod histories;
 mod plans;
 mod puts;
 mod streams;

@@ -4,9 +4,12 @@
 //! - `pilot`: the same, and all is written back by a pilot;
 //! - `puts`: threads put beside a pilot;
 //! - `polls`: threads poll a ticket beside a pilot that ends rounds;
-//! - `settles`: threads settle a ticket beside a pilot that ends rounds.
+//! - `settles`: threads settle a ticket beside a pilot that ends rounds;
+//! - `endless`: threads put beside a stream and a reclaimer, with checkpoints, whatever is refused for want of room or of history;
+//! - `drops`: the same, and the first of the threads drops its first ticket.
 mod batches;
 mod calls;
+mod endless;
 mod jobs;
 
 ghost use Rattle.std.specs.Prelude.{◌≡◌, []};
@@ -19,6 +22,7 @@ use batches::count_flushes;
 use cs_core::Core;
 use cs_disk::MemoryDisk;
 use cs_node::{Board, Naming, Node};
+use endless::{Close, close_of, put_on};
 use jobs::time_jobs;
 use std::alloc::Global;
 use std::io;
@@ -47,6 +51,8 @@ pub enum Done {
     },
     /// So often, in so many microseconds.
     Times(u64, u128),
+    /// What the node's close told.
+    Closed(Close),
 }
 
 /// Does what the command line asks for.
@@ -61,9 +67,17 @@ pub fn time_node<R: Threads + Wait + Sync + Clock + Print>(
         threads: asked.second.unwrap_or(1).max(1),
     };
     let board = Board::new(alloc)?;
-    let core = new_core(alloc, 512, 64, 1)?;
+    let extents = if task.is_endless() { 256 } else { 512 };
+    let core = new_core(alloc, extents, 64, 1)?;
     let (done, persistent) = run::<Brand, R>(rt, alloc, board, core, task);
     print_done(rt, done?, persistent)
+}
+
+impl Task {
+    /// Whether all of it is closed in the end.
+    fn is_endless(self) -> bool {
+        matches!(self.work, Work::Endless | Work::Drops)
+    }
 }
 
 /// Does the task on a node of this board and this core. Gives what was measured, and how many puts are persistent.
@@ -75,11 +89,25 @@ fn run<K: Naming + Send + Sync, R: Threads + Wait + Sync + Clock>(
     task: Task,
 ) -> (Result<Done, Fault>, u64)
     requires named { (board ≡ K.table) × (start_of core ≡ K.start) }
-    requires new { (core.history ≡ []) × (core.store.accepted ≡ 0) × (core.store.frontier ≡ 0) }
+    requires new { (core.history ≡ []) × (core.store.accepted ≡ 0) }
 {
-    let node = Node::<MemoryDisk, K>::new(board, core);
+    let node = Node::<MemoryDisk, K>::new(alloc, board, core);
+    if task.is_endless() {
+        return (run_endless(rt, alloc, node, task), 0);
+    }
     let done = work_on(rt, alloc, &node, task);
     (done, persistent_of(node))
+}
+
+/// Puts on a node without end, and closes it.
+fn run_endless<K: Naming + Send + Sync, R: Threads + Wait + Sync>(
+    rt: &R,
+    alloc: Global,
+    node: Node<MemoryDisk, K>,
+    task: Task,
+) -> Result<Done, Fault> {
+    let purses = put_on(rt, alloc, &node, task)?;
+    Ok(Done::Closed(close_of(alloc, node.rest(), purses)))
 }
 
 /// Does the task on a node.
@@ -116,6 +144,21 @@ fn print_done<R: Print>(rt: &R, done: Done, persistent: u64) -> Result<(), Fault
             )?;
         }
         Done::Times(total, micros) => println!(rt; "{total} in {micros} us")?,
+        Done::Closed(close) => print_close(rt, close)?,
+    }
+    Ok(())
+}
+
+/// Prints what a close told.
+fn print_close<R: Print>(rt: &R, close: Close) -> Result<(), Fault> {
+    match close {
+        Close::Counts {
+            accepted,
+            acknowledged,
+            replaced,
+        } => println!(rt; "accepted {accepted} acknowledged {acknowledged} replaced {replaced}")?,
+        Close::Missing(number) => println!(rt; "missing {number}")?,
+        Close::OutOfMemory => println!(rt; "no memory to close")?,
     }
     Ok(())
 }

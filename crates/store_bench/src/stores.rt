@@ -18,7 +18,7 @@ pub fn new_core(
     pages: u64,
     sections: u64,
 ) -> Result<Core<MemoryDisk>, Fault>
-    ensures { IfOk result (λ core. (core.history ≡ []) × (core.store.accepted ≡ 0) × (core.store.frontier ≡ 0)) }
+    ensures { IfOk result (λ core. (core.history ≡ []) × (core.store.accepted ≡ 0)) }
 {
     let geometry = Geometry::with_sections(extents, pages, sections)?;
     let disk = MemoryDisk::new(alloc, geometry.device_pages())?;
@@ -30,7 +30,7 @@ pub fn new_core(
 
 /// A new store on a disk.
 fn format(alloc: Global, disk: MemoryDisk, geometry: Geometry) -> Result<Core<MemoryDisk>, Refusal>
-    ensures { IfOk result (λ core. (core.history ≡ []) × (core.store.accepted ≡ 0) × (core.store.frontier ≡ 0)) }
+    ensures { IfOk result (λ core. (core.history ≡ []) × (core.store.accepted ≡ 0)) }
 {
     match Core::format(alloc, disk, geometry, Limits { history: HISTORY }) {
         Ok(core) => Ok(core),

@@ -25,6 +25,8 @@ pub enum Work {
     Puts,
     Polls,
     Settles,
+    Endless,
+    Drops,
     Other,
 }
 
@@ -88,6 +90,8 @@ fn work_named(text: &str) -> Work {
         "puts" => Work::Puts,
         "polls" => Work::Polls,
         "settles" => Work::Settles,
+        "endless" => Work::Endless,
+        "drops" => Work::Drops,
         _ => Work::Other,
     }
 }

@@ -72,6 +72,87 @@ put 10 98 > Refused(HistoryFull)
 events > 2
 accepted > 1";
 
+/// What writes back is never refused for a full history, and a checkpoint makes room.
+#[test]
+fn a_checkpoint_at_the_limit(rt: HostRuntime) {
+    plays(&rt, 2, &[FULL_AND_WRITTEN_BACK]);
+}
+
+const FULL_AND_WRITTEN_BACK: &str = "checkpoint > Ok(0)
+put 10 97 > Accepted(1)
+get 10 > Found(Bytes { block: [97] })
+get 10 > Refused(HistoryFull)
+sweep 0 > Refused(HistoryFull)
+move 0 > Refused(HistoryFull)
+abandon 0 > Refused(NotSweepable)
+checkpoint > Err(Unsettled)
+stage > Staged(2)
+begin > Begun(Elements { elements: [Plain(1), Plain(2)] })
+issue > Issued(Plain(1), 2)
+issue > Issued(Plain(2), 3)
+end > Ended(0)
+begin > Begun(Elements { elements: [Version(0, 3)] })
+issue > Issued(Version(0, 3), 0)
+end > Ended(0)
+begin > Begun(Elements { elements: [Version(1, 2)] })
+issue > Issued(Version(1, 2), 1)
+checkpoint > Err(Unsettled)
+end > Ended(1)
+checkpoint > Ok(14)
+events > 0
+base > 14
+accepted > 1
+get 10 > Found(Bytes { block: [97] })
+get 10 > Found(Bytes { block: [97] })
+get 10 > Refused(HistoryFull)
+settle 1 > Refused(HistoryFull)
+replay 9 > []
+base > 14";
+
+/// A full history, as it was told.
+#[test]
+fn thirteen_events_are_replaced(rt: HostRuntime) {
+    plays(&rt, 2, &[THIRTEEN]);
+}
+
+const THIRTEEN: &str = "put 10 97 > Accepted(1)
+get 10 > Found(Bytes { block: [97] })
+get 10 > Refused(HistoryFull)
+checkpoint > Err(Unsettled)
+stage > Staged(2)
+begin > Begun(Elements { elements: [Plain(1), Plain(2)] })
+issue > Issued(Plain(1), 2)
+issue > Issued(Plain(2), 3)
+end > Ended(0)
+begin > Begun(Elements { elements: [Version(0, 3)] })
+issue > Issued(Version(0, 3), 0)
+end > Ended(0)
+begin > Begun(Elements { elements: [Version(1, 2)] })
+issue > Issued(Version(1, 2), 1)
+end > Ended(1)
+checkpoint > Ok(13)
+get 10 > Found(Bytes { block: [97] })
+get 10 > Found(Bytes { block: [97] })
+get 10 > Refused(HistoryFull)
+base > 13";
+
+/// A checkpoint waits for the end of a sweep, and a swept extent can be given up at the limit.
+#[test]
+fn a_sweep_ahead_of_a_checkpoint(rt: HostRuntime) {
+    plays(&rt, 10, &[SWEPT]);
+}
+
+const SWEPT: &str = "put 10 97 > Accepted(1)
+put 11 98 > Accepted(2)
+stage > Staged(2)
+checkpoint > Err(Unsettled)
+swept > None
+sweep 0 > Sweeping
+swept > Some(0)
+checkpoint > Err(Unsettled)
+abandon 0 > Abandoned
+swept > None";
+
 /// A store with one put, which isn't persistent, is halted.
 const HALTED: &str = "halted > true
 put 11 98 > Refused(Halted)
@@ -110,7 +191,9 @@ fn a_halt_at_the_limit(rt: HostRuntime) {
 
 const HALTED_AT_ITS_LIMIT: &str = "issue > Refused(DeviceFault)
 issue > Refused(Halted)
-issue > Refused(HistoryFull)
+put 10 97 > Refused(HistoryFull)
 get 10 > Refused(HistoryFull)
 settle 1 > Refused(HistoryFull)
-events > 4";
+issue > Refused(Halted)
+checkpoint > Err(Halted)
+events > 5";

@@ -95,12 +95,14 @@ fn plan_of_superblock<D: PageDisk>(
     core.plan_for(&target)
 }
 
-/// A number that a core shows: how many pages it keeps in memory, how many commands it accepted, or how many events its history has.
+/// A number that a core shows: how many pages it keeps in memory, how many commands it accepted, how many events it keeps, or how many were
+/// replaced.
 fn count_of<D: PageDisk>(rt: &impl Abort, core: &Core<D>, word: &str) -> usize {
     match word {
         "kept" => core.kept_pages(),
         "accepted" => core.accepted() as usize,
         "events" => core.history().len(),
+        "base" => core.base() as usize,
         _ => panic!(rt; "{word}"),
     }
 }
@@ -119,6 +121,8 @@ fn shown<D: PageDisk>(
         "halted" => text_of(rt, &core.is_halted()),
         "written" => text_of(rt, &writes_back(rt, core)),
         "opened" => text_of(rt, &core.opened()),
+        "checkpoint" => text_of(rt, &core.checkpoint()),
+        "swept" => text_of(rt, &core.swept_extent()),
         _ => text_of(rt, &count_of(rt, core, word)),
     }
 }

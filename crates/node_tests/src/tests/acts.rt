@@ -1,5 +1,6 @@
 //! What tests do on a node, by scripts: each call of a node stands in one function, and a test says which calls come, and what each is to
 //! answer. These functions have no end but the one at their foot, and so little has to be proved of what they hold.
+use super::checkpoints::is_settled;
 use super::threads::{Signals, is_raised};
 use cs_core::Bytes;
 use cs_deps::Refusal;
@@ -72,6 +73,20 @@ pub enum Act {
     PutHundred,
     /// So many turns of the pilot that most have nothing to do.
     FlyOften,
+    /// How many events a checkpoint replaced.
+    Checkpoint(Result<u64, Refusal>),
+    /// How many commands were accepted and are persistent, how many events are kept, and how many were replaced.
+    Look(u64, u64, usize, u64),
+    /// Hands the acks of the purse in, and forgets its calls below the base.
+    Forget,
+    /// Gives the sweep of an extent up.
+    Abandon(usize, Result<(), Refusal>),
+    /// From now on the reclaimer is one of this extent.
+    ReclaimOf(usize),
+    /// Puts this byte as `Put` does. Where it is refused it comes back.
+    Offer(u8, Result<u64, Refusal>),
+    /// Puts other bytes under one identifier a hundred times, each of which becomes persistent, with a checkpoint each time.
+    Hundred,
 }
 
 /// What one thread has that calls a node.
@@ -221,26 +236,26 @@ fn is_shared<D: PageDisk, K: Naming, R: Wait, G: Gate>(
         Act::TakeAll => take_all(rt, hand),
         Act::Rival(mark) => rival(rt, node, hand, mark),
         Act::PutHundred => put_hundred(rt, node, hand, gate),
-        _ => false,
+        _ => is_settled(rt, node, hand, act),
     }
 }
 
 /// The identifier that ends with this byte.
-fn id(last: u8) -> ShardId {
+pub fn id(last: u8) -> ShardId {
     let mut bytes = [0; 16];
     bytes[15] = last;
     ShardId(bytes)
 }
 
 /// So many times this byte, None where there is no memory.
-fn bytes_of(alloc: Global, byte: u8, count: usize) -> Option<Bytes> {
+pub fn bytes_of(alloc: Global, byte: u8, count: usize) -> Option<Bytes> {
     let bytes = vec![in alloc; byte; count].ok()?;
     Bytes::new(alloc, bytes).ok()
 }
 
 impl<K: Naming> Hand<K> {
     /// Takes a ticket into the hand, and tells its number.
-    fn receive(&mut self, ticket: Ticket<K>) -> u64 {
+    pub fn receive(&mut self, ticket: Ticket<K>) -> u64 {
         let number = ticket.number();
         self.ticket = Some(ticket);
         number
@@ -248,7 +263,7 @@ impl<K: Naming> Hand<K> {
 }
 
 /// Puts this byte under the identifier that ends with the other one.
-fn put<D: PageDisk, K: Naming, R: Wait>(
+pub fn put<D: PageDisk, K: Naming, R: Wait>(
     rt: &R,
     node: &Node<D, K>,
     hand: &mut Hand<K>,
@@ -283,7 +298,7 @@ fn put_told<D: PageDisk, K: Naming, R: Wait, G: Gate>(
 }
 
 /// What is under the identifier that ends with this byte.
-fn get<D: PageDisk, K: Naming, R: Wait>(
+pub fn get<D: PageDisk, K: Naming, R: Wait>(
     rt: &R,
     node: &Node<D, K>,
     hand: &mut Hand<K>,
@@ -293,7 +308,7 @@ fn get<D: PageDisk, K: Naming, R: Wait>(
 }
 
 /// Whether this one byte was found, or nothing.
-fn is_content(found: &Result<Option<Bytes>, Refusal>, wanted: Option<u8>) -> bool {
+pub fn is_content(found: &Result<Option<Bytes>, Refusal>, wanted: Option<u8>) -> bool {
     match (found, wanted) {
         (Ok(Some(bytes)), Some(byte)) => bytes.as_slice() == [byte].as_slice(),
         (Ok(None), None) => true,
@@ -336,7 +351,7 @@ pub fn poll<D: PageDisk, K: Naming>(
 }
 
 /// Settles the ticket in the hand.
-fn settle<D: PageDisk, K: Naming, R: Wait>(
+pub fn settle<D: PageDisk, K: Naming, R: Wait>(
     rt: &R,
     node: &Node<D, K>,
     hand: &mut Hand<K>,
@@ -378,7 +393,7 @@ fn keep_ticket<K: Naming>(hand: &mut Hand<K>) -> bool {
 }
 
 /// Puts the ack in the hand, which has this number, into the purse.
-fn keep_ack<K: Naming>(hand: &mut Hand<K>, number: u64) -> bool {
+pub fn keep_ack<K: Naming>(hand: &mut Hand<K>, number: u64) -> bool {
     let Some(ack) = hand.ack.take() else {
         return false;
     };

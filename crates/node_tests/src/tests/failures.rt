@@ -17,7 +17,7 @@ pub fn opened_again(
     alloc: Global,
     core: Core<FailAt<MemoryDisk>>,
 ) -> Core<FailAt<MemoryDisk>>
-    ensures { (result.history ≡ []) × (result.store.accepted ≡ 0) × (result.store.frontier ≡ 0) }
+    ensures { (result.history ≡ []) × (result.store.accepted ≡ 0) }
 {
     match Core::open(alloc, core.into_disk(), Limits { history: 64 }) {
         Ok(core) => core,

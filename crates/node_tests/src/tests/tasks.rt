@@ -69,7 +69,7 @@ pub fn run<D: PageDisk + Send + Drop, R: Threads + Wait + Abort + Sync>(
     core: Core<D>,
     task: Task,
 ) -> End
-    requires new { (core.history ≡ []) × (core.store.accepted ≡ 0) × (core.store.frontier ≡ 0) }
+    requires new { (core.history ≡ []) × (core.store.accepted ≡ 0) }
 {
     let Ok(board) = Board::new(alloc) else {
         panic!(rt; "a board")
@@ -85,9 +85,9 @@ fn run_named<D: PageDisk + Send + Drop, K: Naming + Send + Sync, R: Threads + Wa
     task: Task,
 ) -> End
     requires named { (board ≡ K.table) × (start_of core ≡ K.start) }
-    requires new { (core.history ≡ []) × (core.store.accepted ≡ 0) × (core.store.frontier ≡ 0) }
+    requires new { (core.history ≡ []) × (core.store.accepted ≡ 0) }
 {
-    let node = Node::<D, K>::new(board, core);
+    let node = Node::<D, K>::new(alloc, board, core);
     match task {
         Task::GoesOn => goes_on(rt, alloc, node),
         Task::Rests => rests(rt, alloc, node),
@@ -320,7 +320,10 @@ pub fn abreast<D: PageDisk + Send, K: Naming + Send + Sync, R: Threads + Wait + 
     plays: Vec<Player<K, Open>>,
 ) -> Gave<K> {
     let mut gave = nothing(alloc);
-    for hand in node.abreast(rt, plays).expect(rt, "hands") {
+    let Ok(hands) = node.abreast(rt, plays) else {
+        panic!(rt; "hands")
+    };
+    for hand in hands {
         give(rt, &mut gave, hand);
     }
     gave

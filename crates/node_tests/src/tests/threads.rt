@@ -311,7 +311,9 @@ pub fn numbers_in_order<
     R: Threads + Wait + Abort + Sync,
 >(rt: &R, alloc: Global, node: &Node<D, K>) -> Gave<K> {
     let jobs = three(rt, alloc);
-    let numbers = node.abreast(rt, jobs).expect(rt, "numbers");
+    let Ok(numbers) = node.abreast(rt, jobs) else {
+        panic!(rt; "numbers")
+    };
     assert!(rt; numbers.as_slice() == [1, 2, 3].as_slice());
     let (fourth, fifth) = node.beside(rt, Numbered(4), Numbered(5));
     assert!(rt; fourth == 4);

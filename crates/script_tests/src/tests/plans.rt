@@ -66,7 +66,7 @@ fn judge_each(
             plans = plans.saturating_add(1);
         }
     }
-    assert!(rt; core.history().len() >= 2000);
+    assert!(rt; core.base().saturating_add(core.history().len() as u64) >= 2000);
     assert!(rt; plans >= 200);
     assert!(rt; core.frontier() >= 50);
     Ok(())

@@ -240,7 +240,10 @@ pub fn time_jobs<K: Naming + Send + Sync, R: Threads + Wait + Sync + Clock>(
 ) -> Result<Done, Fault> {
     let workers = workers(rt, alloc, node, task)?;
     let start = now(rt);
-    let total = sum(&node.abreast(rt, workers)?);
+    let Ok(done) = node.abreast(rt, workers) else {
+        return Err(Fault::Memory);
+    };
+    let total = sum(&done);
     let micros = micros_since(rt, start?)?;
     Ok(Done::Times(total, micros))
 }

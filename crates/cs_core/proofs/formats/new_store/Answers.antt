@@ -16,7 +16,7 @@ invariant_of-result c =
     (new_graph_is g.extents g.pages g.sections c.args.sections.now c.requires c.in_ok-graph.graph c.in_ok-graph.ensures)
     (new_extents_are g.extents g.pages g.sections c.args.sections.now c.requires c.in_ok-extents.extents c.in_ok-extents.ensures)
     c.in_ok-index.ensures c.in_ok-roots.ensures in
-    subst IsKept (sym made) (kept_new g.extents g.pages g.sections)
+    subst IsKept (sym made) (kept_new g.extents g.pages g.sections c.requires.geometry.fewest_sections)
 
 pub returns : goal.returns
 returns c =

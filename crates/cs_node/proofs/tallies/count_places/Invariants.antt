@@ -5,4 +5,4 @@ use Rattle.cs_node.proofs.tallies.count_places.Given as goal
 
 -- the calls so far were counted
 abbrev pub invariant-loop-call : goal.invariant-loop-call
-invariant-loop-call l = (k : ℕ) → k < length l.tally → slice_index l.fn.tally k ≤ 2 → slice_index l.tally k ≡ min 2 (slice_index l.fn.tally k + times_at k (take l.call-index l.calls))
+invariant-loop-call l = (k : ℕ) → k < length l.tally → slice_index l.fn.tally k ≤ 2 → slice_index l.tally k ≡ min 2 (slice_index l.fn.tally k + times_at (l.base + k) (take l.call-index l.calls))

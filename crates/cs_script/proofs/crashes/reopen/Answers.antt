@@ -11,7 +11,8 @@ returns-in-Ok-clause-opened g c =
       c.crashed_disk-disk.ensures,
       record {
         history = e.new.0;
-        limit_is = e.new.1 ∙ c.limit.ensures;
+        base = e.new.1;
+        limit_is = e.new.2 ∙ c.limit.ensures;
         image = e.image;
         store = e.store;
         found = λ h. subst (IsFound (shape new.store.extents) new.opened) c.opened.ensures.found (c.opened.ensures.image (e.honest.0 h));

@@ -15,4 +15,4 @@ loop-moved-preserved g c =
 
 pub returns-clause-refused : goal.returns-clause-refused
 returns-clause-refused g c =
-    move_full g.D.PageDisk c.args.extent c.args.core.now c.loop-moved.core c.loop-moved.moved c.limit-moved-end.result c.limit-moved-end.ensures c.loop-moved-test.false c.loop-moved.invariant
+    move_full g.D.PageDisk c.args.extent c.args.core.now c.loop-moved.core c.loop-moved.moved c.limit-moved-end.result c.limit-moved-end.ensures c.history.ensures.replaced c.loop-moved-test.false c.loop-moved.invariant

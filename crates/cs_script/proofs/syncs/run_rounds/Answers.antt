@@ -3,7 +3,7 @@ use Rattle.std.specs.Io.KnownBytes.{Appends}
 use Rattle.cs_deps.specs.declared.elements.Element.{Element}
 use Rattle.cs_script.specs.Outputs.{round_line}
 use Rattle.cs_script.specs.Stops.{StopsInRounds}
-use Rattle.cs_script.proofs.SyncSteps.{if_refused, none_left, so_far_more, stops_full, stops_in_rounds}
+use Rattle.cs_script.proofs.SyncSteps.{if_refused, none_left, not_so_many, so_far_more, stops_in_rounds}
 use Rattle.cs_script.proofs.syncs.run_rounds.Goals as goal
 
 pub returns-then-not-has_waiting-clause-none : goal.returns-then-not-has_waiting-clause-none
@@ -24,6 +24,7 @@ loop-ended-preserved g c =
     so_far_more g.D.PageDisk c.args.core.now c.loop-ended.core c.run_round.new.core before mid after c.loop-ended.ended c.in_ok-round.round c.loop-ended.invariant c.in_ok-round.ensures.done
     (subst (λ (l : List Element). Appends mid after (round_line (c.loop-ended.ended + 1) l)) c.as_slice.ensures c.in_ok-print_round.ensures)
 
-pub returns-clause-stopped : goal.returns-clause-stopped
-returns-clause-stopped g c =
-    stops_full g.D.PageDisk c.args.core.now c.loop-ended.core (g.W.Write.contents c.args.writer.now) (g.W.Write.contents c.loop-ended.writer) c.loop-ended.ended c.limit-ended-end.result c.limit-ended-end.ensures c.loop-ended-test.false c.loop-ended.invariant
+pub unreachable-requires : goal.unreachable-requires
+unreachable-requires g c =
+    not_so_many g.D.PageDisk c.args.core.now c.loop-ended.core (g.W.Write.contents c.args.writer.now) (g.W.Write.contents c.loop-ended.writer) c.loop-ended.ended c.base.result c.history.result.now c.loop-ended.invariant
+    c.base.ensures.base c.base.ensures.fits c.history.ensures.kept c.history.type_inv.0 c.loop-ended-test.false

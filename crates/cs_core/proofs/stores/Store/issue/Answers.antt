@@ -23,7 +23,7 @@ invariant_of-self g c =
     let v : Stored = the_view c.self.inside in
     let next = subst (λ (u : Stored). slice_get (members_of u.out) u.issued ≡ Some c.in-Some.member) (sym c.self.view_is) (search rules) in
     let lt = (drop_some (members_of v.out) v.issued c.in-Some.member next).1 in
-    kept_round v c.self.invariant c.self.inside.graph refl (λ y w kept. kept) v.out c.self.invariant.round (c.self.inside.issued + 1) c.self.inside.frontier (omega (arith, lt))
+    kept_round v c.self.invariant c.self.inside.graph refl (λ y w kept. kept) v.out c.self.invariant.round (c.self.inside.issued + 1) (omega (arith, lt)) v.roots v.frontier c.self.invariant.noted
 
 pub returns-in-Ok-clause-step : goal.returns-in-Ok-clause-step
 returns-in-Ok-clause-step g c = rw (← c.self.view_is) (λ runs honest.

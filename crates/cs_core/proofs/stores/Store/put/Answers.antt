@@ -11,8 +11,8 @@ use Rattle.cs_core.specs.contracts.stores.Store.{the_view}
 use Rattle.cs_core.specs.Steps.{Declines, Steps}
 use Rattle.cs_core.specs.Stored.{AreSwept, Stored}
 use Rattle.cs_core.proofs.Going.{round_told, roomed}
-use Rattle.cs_core.proofs.Kept.{inside_live, inside_set, kept_on, places_there, same_limit, same_live, swept_all}
-use Rattle.cs_core.proofs.Moves.{moves_all, moves_none, moves_refused}
+use Rattle.cs_core.proofs.Kept.{inside_live, inside_set, kept_on, noted_on, places_there, same_limit, same_live, swept_all}
+use Rattle.cs_core.proofs.Moves.{last_root, moves_all, moves_none, moves_refused, root_all}
 use Rattle.cs_core.proofs.Puts.{chunks_decline, last_declines, ok_not, put_done, set_from, test_declines}
 use Rattle.cs_core.proofs.stores.Store.put.Goals as goal
 
@@ -36,7 +36,7 @@ invariant_of-self c =
     let i = c.reserve.new.self in
     let room = c.reserve.ensures.rest in
     kept_on s (record s { index = i }) c.self.invariant (moves_none s.extents s.graph) c.self.invariant.resets refl (same_limit s.index i room)
-    (inside_live (shape s.extents) s.index i c.self.invariant.places (same_live s.index i room)) refl refl c.self.invariant.numbers c.self.invariant.swept
+    (inside_live (shape s.extents) s.index i c.self.invariant.places (same_live s.index i room)) refl refl c.self.invariant.numbers c.self.invariant.swept c.self.invariant.noted
 
 pub invariant_of-self-in-Err-put_chunks : goal.invariant_of-self-in-Err-put_chunks
 invariant_of-self-in-Err-put_chunks c =
@@ -48,6 +48,7 @@ invariant_of-self-in-Err-put_chunks c =
     kept_on s (record s { index = i; extents = c.put_chunks.new.extents; graph = c.put_chunks.new.graph; out = c.put_chunks.new.graph.round }) c.self.invariant m
     c.put_chunks.ensures.resets c.put_chunks.ensures.families (same_limit s.index i room)
     (inside_live (shape s.extents) s.index i c.self.invariant.places (same_live s.index i room)) m.round refl c.self.invariant.numbers (subst (λ x. AreSwept x) (sym e.refused) c.self.invariant.swept)
+    (noted_on s c.self.invariant c.put_chunks.new.graph (ap last_root e.unstaged) s.roots refl s.accepted (omega arith))
 
 pub invariant_of-self-in-Ok-put_chunks : goal.invariant_of-self-in-Ok-put_chunks
 invariant_of-self-in-Ok-put_chunks c =
@@ -64,6 +65,7 @@ invariant_of-self-in-Ok-put_chunks c =
     c.put_chunks.ensures.resets c.put_chunks.ensures.families (c.enter.ensures.limit ∙ same_limit s.index i room)
     (inside_set (shape s.extents) i (id_number c.args.id) (map place_of ls) c.enter.new.index (inside_live (shape s.extents) s.index i c.self.invariant.places (same_live s.index i room)) c.enter.ensures
     (λ p among. places_there s.extents s.graph ForPut (shape s.extents) chunks.0 ls x g refl chunks.2 p among)) m.round refl young (swept_all s.extents x s.graph g ForPut _ ls chunks.2 c.self.invariant.swept)
+    (noted_on s c.self.invariant g (root_all s.extents s.graph ForPut _ ls x g chunks.2) s.roots refl (s.accepted + 1) (omega arith))
 
 pub returns-in-Err-put_chunks-clause-step : goal.returns-in-Err-put_chunks-clause-step
 returns-in-Err-put_chunks-clause-step c = rw (← c.self.view_is) (λ runs.

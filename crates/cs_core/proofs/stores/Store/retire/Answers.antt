@@ -1,17 +1,18 @@
-use Rattle.std.proofs.Common.{◌≡◌, ◌∙◌, ◌<◌, ◌++◌, ◌∷◌, ℕ, List, [], ap, refl, sym, subst, true}
+use Rattle.std.proofs.Common.{◌≡◌, ◌<◌, ◌++◌, ◌∷◌, ℕ, [], ap, arith, refl, sym, subst, true}
 use Rattle.cs_extent.specs.State.{State as ExtentsState, extents_of, shape}
 use Rattle.cs_deps.specs.declared.refusals.Refusal.TheVariants as code
 use Rattle.cs_deps.specs.State.{State as GraphState}
 use Rattle.cs_core.specs.contracts.stores.Store.{the_view}
-use Rattle.cs_core.specs.declared.roots.Root.{Root}
 use Rattle.cs_core.specs.Stored.{AreSwept, Stored}
 use Rattle.cs_core.proofs.Going.{round_told, roomed_roots, same_index}
-use Rattle.cs_core.proofs.Kept.{inside_live, kept_on, moves_retired, swept_retired}
-use Rattle.cs_core.proofs.Moves.{moves_refused}
+use Rattle.cs_core.proofs.Kept.{inside_live, kept_on, moves_retired, noted_on, noted_staged, swept_retired}
+use Rattle.cs_core.proofs.Moves.{last_root, moves_refused, root_merged}
+use Rattle.cs_model.specs.Extents.{ForMove}
 use Rattle.cs_model.specs.State.{Retire, Retired}
 use Rattle.cs_index.specs.State.{index_of}
 use Rattle.cs_core.specs.Stored.{but_for_room}
 use Rattle.cs_core.specs.Steps.{Declines, Steps}
+use Rattle.cs_core.proofs.Noted.{pushed_last}
 use Rattle.cs_core.proofs.StageSteps.{alive_not, retire_refused, retire_steps, settled_nothing}
 use Rattle.cs_core.proofs.SweepSteps.{retire_unmarked, unswept}
 use Rattle.cs_core.proofs.stores.Store.retire.Goals as goal
@@ -25,9 +26,12 @@ invariant_of-self-in-Ok c =
     let e = c.retire.ensures in
     let done = c.in-Ok.ensures.retired in
     let m = moves_retired s.index s.extents s.graph c.in-Some.sweep c.in-Ok.version _ c.retire.new.index c.retire.new.extents c.retire.new.graph c.extent_count.ensures.whole.geometry.fewest_sections done e.shape in
-    kept_on s (record s { extents = c.retire.new.extents; graph = c.retire.new.graph; out = c.retire.new.graph.round; index = c.retire.new.index; roots = c.push_reserved.new.self.items }) c.self.invariant m e.resets e.families e.limit
+    kept_on s (record s { extents = c.retire.new.extents; graph = c.retire.new.graph; out = c.retire.new.graph.round; index = c.retire.new.index; roots = c.push_back_reserved.new.self.items }) c.self.invariant m e.resets e.families e.limit
     (inside_live (shape s.extents) s.index c.retire.new.index c.self.invariant.places e.map) m.round refl c.self.invariant.numbers
     (swept_retired s.index s.extents s.graph c.in-Some.sweep c.in-Ok.version _ c.retire.new.index c.retire.new.extents c.retire.new.graph c.extent_count.ensures.whole.geometry.fewest_sections done e.shape c.self.invariant.swept)
+    (noted_staged s c.self.invariant c.families.ensures.whole.kept c.retire.new.graph c.in-Ok.version
+    (root_merged s.index s.extents s.graph ForMove c.in-Ok.version _ c.retire.new.index done.0 c.retire.new.graph (omega (arith, e.families, c.self.invariant.families, c.extent_count.ensures.whole.geometry.fewest_sections)) done.1)
+    c.push_back_reserved.new.self.items (pushed_last c.push_back_reserved.new.self.items c.reserve.new.self.items s.roots _ c.push_back_reserved.ensures.items c.reserve.ensures.items))
 
 pub invariant_of-self-in-Err : goal.invariant_of-self-in-Err
 invariant_of-self-in-Err c =
@@ -38,6 +42,7 @@ invariant_of-self-in-Err c =
     kept_on s (record s { extents = c.retire.new.extents; graph = c.retire.new.graph; out = c.retire.new.graph.round; index = c.retire.new.index; roots = c.reserve.new.self.items }) c.self.invariant m e.resets e.families e.limit
     (inside_live (shape s.extents) s.index c.retire.new.index c.self.invariant.places e.map) m.round refl c.self.invariant.numbers
     (subst (λ (x : ExtentsState). AreSwept x) (sym d.unwritten) c.self.invariant.swept)
+    (noted_on s c.self.invariant c.retire.new.graph (ap last_root d.unstaged) c.reserve.new.self.items c.reserve.ensures.items s.accepted (omega arith))
 
 pub returns-in-Ok-clause-step : goal.returns-in-Ok-clause-step
 returns-in-Ok-clause-step c = rw (← c.self.view_is) (λ runs.
@@ -49,9 +54,9 @@ returns-in-Ok-clause-step c = rw (← c.self.view_is) (λ runs.
     let why = d.why none in
     let marks : (extents_of v.extents).swept c.in-Some.sweep ≡ true = subst (λ (k : ℕ). (extents_of v.extents).swept k ≡ true) (sym at.0) at.2 in
     let inside : c.in-Some.sweep < (shape v.extents).extents = subst (λ (k : ℕ). k < (shape v.extents).extents) (sym at.0) at.1 in
-    let roots : c.push_reserved.new.self.items ≡ v.roots ++ record { version = c.in-Ok.version; commands = v.accepted } ∷ [] = c.push_reserved.ensures.items ∙ ap (λ (rs : List Root). rs ++ record { version = c.in-Ok.version; commands = v.accepted } ∷ []) c.reserve.ensures.items in
-    let steps = retire_steps v c.extent_count.ensures.whole runs c.in-Some.sweep marks none c.in-Ok.version c.retire.new.extents c.retire.new.graph c.retire.new.index c.push_reserved.new.self.items why.0 why.1 inside d.retired e.shape roots in
-    let w : Stored = record v { extents = c.retire.new.extents; graph = c.retire.new.graph; index = c.retire.new.index; roots = c.push_reserved.new.self.items } in
+    let roots : c.push_back_reserved.new.self.items ≡ v.roots ++ record { version = c.in-Ok.version; commands = v.accepted } ∷ [] = pushed_last c.push_back_reserved.new.self.items c.reserve.new.self.items v.roots _ c.push_back_reserved.ensures.items c.reserve.ensures.items in
+    let steps = retire_steps v c.extent_count.ensures.whole runs c.in-Some.sweep marks none c.in-Ok.version c.retire.new.extents c.retire.new.graph c.retire.new.index c.push_back_reserved.new.self.items why.0 why.1 inside d.retired e.shape roots in
+    let w : Stored = record v { extents = c.retire.new.extents; graph = c.retire.new.graph; index = c.retire.new.index; roots = c.push_back_reserved.new.self.items } in
     let m = moves_retired v.index v.extents v.graph c.in-Some.sweep c.in-Ok.version _ c.retire.new.index c.retire.new.extents c.retire.new.graph c.extent_count.ensures.whole.geometry.fewest_sections d.retired e.shape in
     round_told (λ (u : Stored). Steps v (Retire c.args.extent) (Retired c.in-Ok.version) u) w m.round (subst (λ (k : ℕ). Steps v (Retire k) (Retired c.in-Ok.version) w) at.0 steps))
 

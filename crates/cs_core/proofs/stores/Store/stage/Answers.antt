@@ -1,16 +1,16 @@
-use Rattle.std.proofs.Common.{rules, ◌≡◌, ◌∙◌, ◌++◌, ◌∷◌, List, Some, None, Ok, [], ap, refl, subst}
+use Rattle.std.proofs.Common.{rules, ◌≡◌, Some, None, Ok, [], ap, arith, refl, subst}
 use Rattle.cs_deps.specs.State.{State as GraphState}
 use Rattle.cs_extent.specs.State.{shape}
 use Rattle.cs_index.specs.Staged.{IsExact, IsFull, IsStageWorn, WritesRun}
 use Rattle.cs_model.specs.Extents.{ForRun}
 use Rattle.cs_model.specs.State.{Stage, Staged, Unchanged}
 use Rattle.cs_core.specs.contracts.stores.Store.{the_view}
-use Rattle.cs_core.specs.declared.roots.Root.{Root}
 use Rattle.cs_core.specs.Steps.{Declines, Steps}
 use Rattle.cs_core.specs.Stored.{Stored}
 use Rattle.cs_core.proofs.Going.{round_told, roomed_roots, same_graph, same_index}
-use Rattle.cs_core.proofs.Kept.{inside_live, kept_on, swept_staged}
-use Rattle.cs_core.proofs.Moves.{stage_empties, stage_moves}
+use Rattle.cs_core.proofs.Kept.{inside_live, kept_on, noted_on, noted_staged, swept_staged}
+use Rattle.cs_core.proofs.Moves.{last_root, root_staged, stage_empties, stage_moves}
+use Rattle.cs_core.proofs.Noted.{pushed_last}
 use Rattle.cs_core.proofs.StageSteps.{stage_declines, stage_none, stage_steps, staged_none, staged_some}
 use Rattle.cs_core.proofs.stores.Store.stage.Goals as goal
 
@@ -39,15 +39,19 @@ invariant_of-self-in-Err c =
     kept_on s (record s { extents = c.stage.new.extents; graph = c.stage.new.graph; out = c.stage.new.graph.round; index = c.stage.new.self; roots = c.reserve.new.self.items }) c.self.invariant m.0 e.resets e.families m.1
     (inside_live (shape s.extents) s.index c.stage.new.self c.self.invariant.places e.map) m.0.round refl c.self.invariant.numbers
     (swept_staged c.stage.result _ s.index s.extents s.graph c.stage.new.self c.stage.new.extents c.stage.new.graph e.unchanged e.staged e.merged e.unwritten c.self.invariant.swept)
+    (noted_on s c.self.invariant c.stage.new.graph (ap last_root c.in-Err.ensures.unstaged) c.reserve.new.self.items c.reserve.ensures.items s.accepted (omega arith))
 
 pub invariant_of-self-in-Ok-Some : goal.invariant_of-self-in-Ok-Some
 invariant_of-self-in-Ok-Some c =
     let s : Stored = the_view c.self.inside in
     let e = c.stage.ensures in
     let m = stage_moves c.stage.result _ s.index s.extents s.graph c.stage.new.self c.stage.new.extents c.stage.new.graph c.extent_count.ensures.whole.geometry.fewest_sections e.unchanged e.staged e.merged e.refused e.unwritten e.unstaged in
-    kept_on s (record s { extents = c.stage.new.extents; graph = c.stage.new.graph; out = c.stage.new.graph.round; index = c.stage.new.self; roots = c.push_reserved.new.self.items }) c.self.invariant m.0 e.resets e.families m.1
+    kept_on s (record s { extents = c.stage.new.extents; graph = c.stage.new.graph; out = c.stage.new.graph.round; index = c.stage.new.self; roots = c.push_back_reserved.new.self.items }) c.self.invariant m.0 e.resets e.families m.1
     (inside_live (shape s.extents) s.index c.stage.new.self c.self.invariant.places e.map) m.0.round refl c.self.invariant.numbers
     (swept_staged c.stage.result _ s.index s.extents s.graph c.stage.new.self c.stage.new.extents c.stage.new.graph e.unchanged e.staged e.merged e.unwritten c.self.invariant.swept)
+    (noted_staged s c.self.invariant c.families.ensures.whole.kept c.stage.new.graph c.in-Ok-Some.version
+    (root_staged c.stage.result _ s.index s.extents s.graph c.stage.new.self c.stage.new.extents c.stage.new.graph e.staged e.merged (omega (arith, e.families, c.self.invariant.families, c.extent_count.ensures.whole.geometry.fewest_sections)) c.in-Ok-Some.version (search rules))
+    c.push_back_reserved.new.self.items (pushed_last c.push_back_reserved.new.self.items c.reserve.new.self.items s.roots _ c.push_back_reserved.ensures.items c.reserve.ensures.items))
 
 pub returns-in-Ok-Some-clause-shape : goal.returns-in-Ok-Some-clause-shape
 returns-in-Ok-Some-clause-shape c = rw (← c.self.view_is) (
@@ -62,9 +66,9 @@ returns-in-Ok-Some-clause-step c = rw (← c.self.view_is) (λ runs.
     let done : c.stage.result ≡ Ok (Some c.in-Ok-Some.version) = search rules in
     let why = subst (λ r. IsExact r (IsFull (WritesRun v.index) v.extents ForRun) ((v.index.table ≡ [] → ⊥) × IsStageWorn (WritesRun v.index) v.extents ForRun v.graph.staging)) done e.why in
     let m = stage_moves c.stage.result _ v.index v.extents v.graph c.stage.new.self c.stage.new.extents c.stage.new.graph c.extent_count.ensures.whole.geometry.fewest_sections e.unchanged e.staged e.merged e.refused e.unwritten e.unstaged in
-    round_told (λ (u : Stored). Steps v Stage (Staged c.in-Ok-Some.version) u) (record v { graph = c.stage.new.graph; extents = c.stage.new.extents; index = c.stage.new.self; roots = c.push_reserved.new.self.items }) m.0.round (stage_steps v c.extent_count.ensures.whole runs c.in-Ok-Some.version c.stage.new.extents c.stage.new.graph c.stage.new.self c.push_reserved.new.self.items why.0 why.1 (staged_some c.stage.result (v.index.table ≡ []) c.in-Ok-Some.version e.none done)
+    round_told (λ (u : Stored). Steps v Stage (Staged c.in-Ok-Some.version) u) (record v { graph = c.stage.new.graph; extents = c.stage.new.extents; index = c.stage.new.self; roots = c.push_back_reserved.new.self.items }) m.0.round (stage_steps v c.extent_count.ensures.whole runs c.in-Ok-Some.version c.stage.new.extents c.stage.new.graph c.stage.new.self c.push_back_reserved.new.self.items why.0 why.1 (staged_some c.stage.result (v.index.table ≡ []) c.in-Ok-Some.version e.none done)
     (λ few. e.staged c.in-Ok-Some.version done few) (λ many. e.merged c.in-Ok-Some.version done many) m.0.same_shape
-    (c.push_reserved.ensures.items ∙ ap (λ (rs : List Root). rs ++ record { version = c.in-Ok-Some.version; commands = v.accepted } ∷ []) c.reserve.ensures.items)))
+    (pushed_last c.push_back_reserved.new.self.items c.reserve.new.self.items v.roots _ c.push_back_reserved.ensures.items c.reserve.ensures.items)))
 
 pub returns-in-Ok-Some-clause-staged : goal.returns-in-Ok-Some-clause-staged
 returns-in-Ok-Some-clause-staged c =

@@ -6,4 +6,4 @@ pub returns-clause-within : goal.returns-clause-within
 returns-clause-within g c =
     let same : c.core.result.now ≡ c.args.self.core = c.core.ensures.core in
     let p = c.progress-accepted.ensures in
-    subst (λ (v : View g.row.D.Denot). g.D.PageDisk.honest v.disk → v.store.frontier ≤ v.store.accepted) same (λ honest. let within = p.within honest in omega (arith, within, p.accepted, p.frontier))
+    subst (λ (v : View g.row.D.Denot). v.store.frontier ≤ v.store.accepted) same (let within = p.within in omega (arith, p.accepted, p.frontier))

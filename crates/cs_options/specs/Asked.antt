@@ -1,0 +1,42 @@
+-- What the options of a command ask for.
+use Rattle.std.specs.Prelude.{◌≡◌, ℕ, Bool, false, true, List, Option, None, Some, codes, option_and_then, unwrap_or}
+use Rattle.std.specs.Str.Parse.{without_leading_plus}
+use Rattle.clap.specs.declared.parser.matches.ArgMatches.{ArgMatches}
+use Rattle.clap.specs.Words.{found_of, one_text}
+use Rattle.cs_frame.specs.Geometries.{sections_needed}
+use Rattle.cs_script.specs.Lines.{decimal_of}
+
+-- the number that a text stands for: decimal digits, before which a plus may stand; there is none from 2^64 on
+abbrev pub number_of : List ℕ → Option ℕ
+number_of text = decimal_of (without_leading_plus text)
+
+-- the number of the option of this name: that of the text that was given for it, or of the one that stands for it where none was
+abbrev pub number_at : ArgMatches → (name : List ℕ) → Option ℕ
+number_at options name = option_and_then number_of (one_text (found_of options) name)
+
+-- the numbers that a new store is asked for with: its extents, their pages, and the sections of its superblock, as few as may be where no number is there
+abbrev pub extents_asked : ArgMatches → ℕ
+extents_asked options = unwrap_or (number_at options (codes "extents")) 6
+
+abbrev pub pages_asked : ArgMatches → ℕ
+pages_asked options = unwrap_or (number_at options (codes "pages")) 2
+
+abbrev pub sections_asked : ArgMatches → ℕ
+sections_asked options = unwrap_or (number_at options (codes "sections")) (sections_needed (extents_asked options))
+
+-- the numbers that a race is asked for with: its threads, the shards that each puts, and the tickets that the first drops
+abbrev pub threads_asked : ArgMatches → ℕ
+threads_asked options = unwrap_or (number_at options (codes "threads")) 4
+
+abbrev pub puts_asked : ArgMatches → ℕ
+puts_asked options = unwrap_or (number_at options (codes "puts")) 10
+
+abbrev pub drops_asked : ArgMatches → ℕ
+drops_asked options = unwrap_or (number_at options (codes "drop")) 0
+
+-- the option of this name, which takes nothing, is there where its text is `true`; it isn't where that is `false`, or where there is none
+abbrev pub TellsFlag : ArgMatches → (name : List ℕ) → Bool → Type 0
+TellsFlag options name is_there =
+    (one_text (found_of options) name ≡ Some (codes "true") → is_there ≡ true)
+    × (one_text (found_of options) name ≡ Some (codes "false") → is_there ≡ false)
+    × (one_text (found_of options) name ≡ None → is_there ≡ false)
