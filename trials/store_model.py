@@ -1,6 +1,7 @@
 """A second store, written from the rules in docs/ alone and sharing nothing with the first: it answers scripts line by line.
 
 It keeps sets where the program keeps levels, and counts everything anew at each plan, so it is slow and short."""
+import bisect
 import json
 
 PAGE = 4096
@@ -66,6 +67,8 @@ class Store:
         for section in range(sections):
             there = len(self.extents_of(section))
             self.disk.durable[self.section_page(section)] = (1, [0] * there, [0] * there)
+        # whether a sync takes its rounds from one plan; else each is counted anew
+        self.plans_once = False
         self.open()
 
     def extents_of(self, section):
@@ -261,13 +264,18 @@ class Store:
     def frontier(self):
         return self.root_counts[self.persistent[1]]
 
+    def forget(self):
+        """Lets go of what is persistent, but for the last version of each family, whose needs the next one has too. No answer changes."""
+        last = {e.family: e for e in self.elements if e.family != "w"}
+        self.elements = [e for e in self.elements if not self.is_persistent(e) or last.get(e.family) is e]
+        self.persistent_plain &= {e.number for e in self.elements if e.family == "w"}
+        self.root_counts = {version: count for version, count in self.root_counts.items() if version >= self.persistent[1]}
+
     def plan(self):
         if self.round is not None:
             raise Refused(*IN_FLIGHT)
         waiting = self.waiting()
-        level = {}
-        for element in waiting:
-            level[element] = 1 + max((level[need] for need in waiting if need in level and element.needs(need)), default=0)
+        level = self.levels(waiting)
         rounds = []
         for height in range(1, max(level.values(), default=0) + 1):
             members = [e for e in waiting if level[e] == height]
@@ -285,10 +293,26 @@ class Store:
             chain.insert(0, pick([e for e in waiting if level[e] == level[first] - 1 and of.needs(e)]))
         return rounds, chain
 
+    def levels(self, waiting):
+        """The level of each of these, which are in staging order: one more than the greatest of what it needs."""
+        level, seen = {}, {}
+        for element in waiting:
+            needed = [(("w", element.section), element.through)] + list(zip(self.families, element.versions))
+            greatest = 0
+            for of, through in needed:
+                numbers, tops = seen.get(of, ([], []))
+                count = bisect.bisect_right(numbers, through)
+                greatest = max(greatest, tops[count - 1] if count else 0)
+            level[element] = 1 + greatest
+            numbers, tops = seen.setdefault(("w", element.section) if element.family == "w" else element.family, ([], []))
+            numbers.append(element.number)
+            tops.append(max(level[element], tops[-1] if tops else 0))
+        return level
+
     # ---- writeback
 
-    def begin(self):
-        rounds, _ = self.plan()
+    def begin(self, planned=None):
+        rounds = self.plan()[0] if planned is None else planned
         if not rounds:
             return None
         self.round, self.issued = rounds[0], 0
@@ -316,12 +340,10 @@ class Store:
         if extent >= self.extents or extent == self.open_extent or self.pointer[extent] == 0 or extent in self.swept:
             raise Refused(*NOT_SWEEPABLE)
         moved = 0
-        while True:
-            live = [(name, place) for name, found in sorted(self.live().items())
-                    for place, locator in enumerate(found) if locator[0] == extent]
-            if not live:
-                break
-            name, place = live[0]
+        # What is moved doesn't go to the extent, so the order in which the chunks are found is that of the first look.
+        live = [(name, place) for name, found in sorted(self.live().items())
+                for place, locator in enumerate(found) if locator[0] == extent]
+        for name, place in live:
             found = list(self.lookup(name))
             data = self.read_chunk(found[place])
             found[place] = self.append(len(data), ("chunk", data), 0)
@@ -401,7 +423,7 @@ class Store:
         rounds, chain = self.plan()
         number = 0
         while True:
-            members = self.begin()
+            members = self.begin(rounds[number:] if self.plans_once else None)
             if members is None:
                 break
             number += 1
