@@ -149,6 +149,6 @@ fn prints_text(
     Ok(())
 }
 
-/// The document of one put and the index changes over it.
+/// The document of a put and the index changes over it, in a store that did more before.
 const DOCUMENT: &str =
-    r#"{"chain":["w1","s3","r2"],"elements":[{"e":"w1","needs":[]},{"e":"s2","needs":["w1"]},{"e":"w2","needs":[]},{"e":"s3","needs":["w1","w2"]},{"e":"r2","needs":["s3"]}],"families":["s","r"],"format":1,"persistent":[1,1],"rounds":[["w1","w2"],["s3"],["r2"]],"target":["w1","w2","s3","r2"]}"#;
+    r#"{"chain":["w31","s3","r17"],"elements":[{"e":"w31","needs":[]},{"e":"s2","needs":["w31"]},{"e":"w32","needs":[]},{"e":"s3","needs":["w31","w32"]},{"e":"r17","needs":["s3"]}],"families":["s","r"],"format":1,"persistent":[1,16],"rounds":[["w31","w32"],["s3"],["r17"]],"target":["w31","w32","s3","r17"]}"#;
