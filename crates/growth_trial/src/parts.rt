@@ -1,0 +1,188 @@
+//! Calls of the parts of a store that take no memory.
+ghost use Rattle.std.specs.Prelude.{◌≡◌, ◌∷◌, [], IfOk};
+ghost use Rattle.cs_extent.specs.Sections.{AreSections};
+
+use crate::events::id;
+use crate::faults::Fault;
+use crate::marks::{begin, ended};
+use cs_deps::{Dependency, Element, Graph};
+use cs_disk::PageDisk;
+use cs_extent::Extents;
+use cs_frame::{Locator, Superblock, decode_section};
+use cs_index::Index;
+use std::alloc::Global;
+use std::io;
+
+/// Makes the calls of each part.
+pub fn try_parts<D: PageDisk, R: Print>(rt: &R, alloc: Global, disk: &mut D) -> Result<(), Fault> {
+    if disk.pages() == 0 {
+        return Err(Fault::Missing);
+    }
+    let mut page = [0; 4096];
+    disk.read(0, &mut page)?;
+    try_index(rt, alloc)?;
+    try_extents(rt, alloc, &page)?;
+    try_graph(rt, alloc)
+}
+
+/// Tells what an index has.
+fn try_index<R: Print>(rt: &R, alloc: Global) -> Result<(), Fault> {
+    let mut index = Index::load(alloc, 100, Vec::new(alloc))?;
+    let place = Locator {
+        extent: 0,
+        page: 1,
+        generation: 0,
+    };
+    index.set(id(10), Vec::from_slice(alloc, &[place])?)?;
+    print!(rt; "lookup ")?;
+    begin(rt)?;
+    let found = index.lookup(id(10));
+    ended(rt, &found.is_some())?;
+    Ok(())
+}
+
+/// The superblock that a page spells, which has one section.
+fn superblock_of(alloc: Global, page: &[u8; 4096]) -> Result<Superblock, Fault>
+    ensures { IfOk result (λ it. AreSections (it ∷ [])) }
+{
+    let superblock = decode_section(alloc, page)?;
+    if superblock.sections != 1 || superblock.section != 0 {
+        return Err(Fault::Missing);
+    }
+    Ok(superblock)
+}
+
+/// Tells what is known of the extents that a superblock records, and empties the first.
+fn try_extents<R: Print>(rt: &R, alloc: Global, page: &[u8; 4096]) -> Result<(), Fault> {
+    let superblock = superblock_of(alloc, page)?;
+    let mut extents = Extents::of(alloc, &[superblock])?;
+    tell_counts(rt, &extents)?;
+    tell_extent(rt, &mut extents)?;
+    try_reset(rt, &mut extents)
+}
+
+/// Tells how many extents there are, and how many are empty.
+fn tell_counts<R: Print>(rt: &R, extents: &Extents) -> io::Result<()> {
+    print!(rt; "extent_count ")?;
+    begin(rt)?;
+    let count = extents.extent_count();
+    ended(rt, &count)?;
+    print!(rt; "extent_pages ")?;
+    begin(rt)?;
+    let pages = extents.extent_pages();
+    ended(rt, &pages)?;
+    print!(rt; "empty_count ")?;
+    begin(rt)?;
+    let empty = extents.empty_count();
+    ended(rt, &empty)
+}
+
+/// Tells what is known of an extent, and marks it and takes the mark off.
+fn tell_extent<R: Print>(rt: &R, extents: &mut Extents) -> Result<(), Fault> {
+    if extents.extent_count() == 0 {
+        return Err(Fault::Missing);
+    }
+    print!(rt; "pointer ")?;
+    begin(rt)?;
+    let pointer = extents.pointer(0);
+    ended(rt, &pointer)?;
+    print!(rt; "generation ")?;
+    begin(rt)?;
+    let generation = extents.generation(0);
+    ended(rt, &generation)?;
+    print!(rt; "is_open ")?;
+    begin(rt)?;
+    let is_open = extents.is_open(0);
+    ended(rt, &is_open)?;
+    print!(rt; "set_swept ")?;
+    begin(rt)?;
+    extents.set_swept(0, true);
+    ended(rt, &true)?;
+    print!(rt; "is_swept ")?;
+    begin(rt)?;
+    let is_swept = extents.is_swept(0);
+    ended(rt, &is_swept)?;
+    Ok(())
+}
+
+/// Empties an extent.
+fn try_reset<R: Print>(rt: &R, extents: &mut Extents) -> Result<(), Fault> {
+    if extents.extent_count() == 0 || extents.is_open(0) || extents.pointer(0) == 0 {
+        return Err(Fault::Missing);
+    }
+    print!(rt; "reset ")?;
+    begin(rt)?;
+    let answer = extents.reset(0, 0);
+    ended(rt, &answer)?;
+    Ok(())
+}
+
+/// Stages a version of a family.
+fn stage(graph: &mut Graph, family: usize, needs: Dependency) -> Result<u64, Fault> {
+    if family >= graph.families() {
+        return Err(Fault::Missing);
+    }
+    Ok(graph.stage_version(family, 0, &[7; 4096], needs)?)
+}
+
+/// A graph of eight sections and the root, in which a plain write waits, versions of all sections that need it, and a root that needs these.
+fn new_graph(alloc: Global) -> Result<Graph, Fault> {
+    let mut graph = Graph::new(alloc, &[1; 9])?;
+    graph.stage_plain(2, &[7; 4096], Dependency::none(alloc))?;
+    let mut sections = Dependency::none(alloc);
+    for section in 1..9 {
+        // the root's family comes after that of section 0
+        let family = if section == 1 { 0 } else { section };
+        stage(&mut graph, family, Dependency::on_write(alloc, 1)?)?;
+        sections = sections.and(&Dependency::on_version(alloc, family, 2)?)?;
+    }
+    stage(&mut graph, 1, sections)?;
+    Ok(graph)
+}
+
+/// Tells what is known of a graph, and settles its rounds.
+fn try_graph<R: Print>(rt: &R, alloc: Global) -> Result<(), Fault> {
+    let mut graph = new_graph(alloc)?;
+    match tell_graph(rt, &graph, &Dependency::through(alloc, 1)) {
+        Ok(()) => settle_rounds(rt, &mut graph),
+        Err(_) => Err(Fault::Output),
+    }
+}
+
+/// Tells what is known of a graph.
+fn tell_graph<R: Print>(rt: &R, graph: &Graph, write: &Dependency) -> io::Result<()> {
+    print!(rt; "is_persistent ")?;
+    begin(rt)?;
+    let is_persistent = graph.is_persistent(write);
+    ended(rt, &is_persistent)?;
+    print!(rt; "bytes_of ")?;
+    begin(rt)?;
+    let bytes = graph.bytes_of(Element::Plain(1));
+    ended(rt, &bytes.is_some())?;
+    print!(rt; "kept_pages ")?;
+    begin(rt)?;
+    let kept = graph.kept_pages();
+    ended(rt, &kept)
+}
+
+/// Settles three rounds.
+fn settle_rounds<R: Print>(rt: &R, graph: &mut Graph) -> Result<(), Fault> {
+    for _ in 0..3 {
+        settle(rt, graph)?;
+    }
+    Ok(())
+}
+
+/// Takes the next round, and settles it.
+fn settle<R: Print>(rt: &R, graph: &mut Graph) -> Result<(), Fault> {
+    if graph.is_out() {
+        return Err(Fault::Missing);
+    }
+    let round = graph.queue(1)?;
+    graph.take_round(round);
+    print!(rt; "settle_round ")?;
+    begin(rt)?;
+    graph.settle_round();
+    ended(rt, &true)?;
+    Ok(())
+}
