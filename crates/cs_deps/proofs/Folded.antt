@@ -1,10 +1,10 @@
 -- Entries of persistent versions are folded into one, and what waits stays as it was.
-use Rattle.std.proofs.Common.{◌≡◌, ◌∙◌, ◌≢◌, ℕ, zero, suc, ◌+◌, ◌<◌, ◌≤◌, Bool, true, false, cond, List, [], ◌∷◌, ◌++◌, length, get_or, max, Some, slice_get, refl, sym, ap, subst, ⊎_elim, arith}
-use Rattle.std.specs.Prelude.{filter, map, not, nat_lt, nat_le, ◌==◌, ◌&&◌, if◌then◌else◌}
+use Rattle.std.proofs.Common.{◌≡◌, ◌∙◌, ◌≢◌, ℕ, zero, suc, ◌<◌, ◌≤◌, Bool, true, false, cond, List, [], ◌∷◌, ◌++◌, length, get_or, max, inr, set, get_or-set_same, Some, slice_get, refl, sym, ap, subst, ⊎_elim, arith}
+use Rattle.std.specs.Prelude.{filter, remove, map, not, nat_lt, nat_le, ◌==◌, ◌&&◌, if◌then◌else◌}
 use Rattle.std.proofs.lemmas.Bool.Decides.{nat_tests}
 use Rattle.std.proofs.lemmas.List.{append-nil, append_assoc}
 use Rattle.std.proofs.lemmas.List.Elements.{filter-append}
-use Rattle.std.proofs.lemmas.Option.{some_pair_parts, same_Some}
+use Rattle.std.proofs.lemmas.Option.{some_pair_parts, same_Some, slice_get_within}
 use Rattle.cs_deps.specs.declared.elements.Element.{Element}
 use Rattle.cs_deps.specs.declared.elements.Element.TheVariants.{Plain, Version}
 use Rattle.cs_deps.specs.declared.spans.Span.{Span}
@@ -173,22 +173,18 @@ module _ (f v : ℕ) where
             let same : h ≡ f = grind (arith, nat_tests) in
             subst (λ i. get_or ps i 0 < get_or latest i 0) same (current k h t e at).1
 
-at_most : {X : Type 0} (p : X → Bool) (xs : List X) → length (filter p xs) ≤ length xs
-at_most p [] = omega arith
-at_most p (x ∷ xs) = go (p x) (at_most p xs)
-  where
-    go : (b : Bool) → length (filter p xs) ≤ length xs → length (cond b (x ∷ filter p xs) (filter p xs)) ≤ length (x ∷ xs)
-    go true le = omega (arith, le)
-    go false le = omega (arith, le)
+-- what doesn't pass can be replaced and taken away
+filter_without : {X : Type 0} (p : X → Bool) (xs : List X) (k : ℕ) (x y : X) → slice_get xs k ≡ Some x → p x ≡ false → filter p (remove (set xs k y) k) ≡ filter p xs
+filter_without p [] k x y at out = absurd (cc at)
+filter_without p (z ∷ zs) zero x y at out = sym (ap (λ b. cond b (z ∷ filter p zs) (filter p zs)) (ap p (same_Some z x at) ∙ out))
+filter_without p (z ∷ zs) (suc k) x y at out = ap (λ l. cond (p z) (z ∷ l) l) (filter_without p zs k x y at out)
 
-pub fewer_left : {X : Type 0} (p : X → Bool) (xs : List X) (k : ℕ) (x : X) → slice_get xs k ≡ Some x → p x ≡ false → length (filter p xs) + 1 ≤ length xs
-fewer_left p [] k x at out = absurd (cc at)
-fewer_left p (y ∷ ys) zero x at out = let e = ap p (same_Some y x at) ∙ out in let n = ap (λ b. length (cond b (y ∷ filter p ys) (filter p ys))) e in omega (arith, n, at_most p ys)
-fewer_left p (y ∷ ys) (suc k) x at out = go (p y) (fewer_left p ys k x at out)
-  where
-    go : (b : Bool) → length (filter p ys) + 1 ≤ length ys → length (cond b (y ∷ filter p ys) (filter p ys)) + 1 ≤ length (y ∷ ys)
-    go true le = omega (arith, le)
-    go false le = omega (arith, le)
+-- what is spent is given what all of it needs, taken out, and put behind the others
+pub folded_by : (f v k : ℕ) (es less kept new : List (Element × Named)) (w y r : Element × Named) → slice_get es k ≡ Some w → is_spent f v w ≡ true → y.1 ≡ carried_with f v nothing es → r ≡ get_or (set es k y) k r → less ≡ remove (set es k y) k → kept ≡ filter (λ u. not (is_spent f v u)) less → new ≡ kept ++ (Version f v, r.1) ∷ [] → IsFolded f v es new
+folded_by f v k es less kept new w y r at spent needs taken rest passed put =
+    let left = passed ∙ ap (filter (λ (u : Element × Named). not (is_spent f v u))) rest ∙ filter_without (λ (u : Element × Named). not (is_spent f v u)) es k w y at (ap not spent) in
+    let all = ap (λ (u : Element × Named). u.1) (taken ∙ get_or-set_same es k y r (slice_get_within es k w at)) ∙ needs in
+    inr (k, w, at, spent, put ∙ ap (λ (us : List (Element × Named)). us ++ (Version f v, r.1) ∷ []) left ∙ ap (λ (d : Named). filter (λ (u : Element × Named). not (is_spent f v u)) es ++ (Version f v, d) ∷ []) all)
 
 -- A FOLD KEEPS WHAT WAITS
 pub waiting_kept : (f v : ℕ) (ps : List ℕ) → v ≡ get_or ps f 0 → (old new : List (Element × Named)) → IsFolded f v old new → waiting_of ps new ≡ waiting_of ps old

@@ -370,8 +370,7 @@ impl Graph {
     ///
     /// Over all calls the work is linear in the members and in what ends with them, and each goes through the families; only where a
     /// page's earlier write is settled may finding the one before go down the numbers. What is kept is at most twice what waits, and what
-    /// waiting versions take over from persistent ones. It takes no memory where no element needs versions of more than two families, and
-    /// else no more than it gives back.
+    /// waiting versions take over from persistent ones. It takes no memory.
     pub fn settle_round(&mut self)
         requires out { IsSome self.old.round }
         ensures settled { self.new.staging ≡ record { pending = after self.old; staged = self.old.staging.staged; latest = self.old.staging.latest } }

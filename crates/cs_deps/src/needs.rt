@@ -1,5 +1,5 @@
 //! Needs as a graph keeps them.
-ghost use Rattle.std.specs.Prelude.{◌≡◌, [], ◌∷◌, IfOk, IfSome};
+ghost use Rattle.std.specs.Prelude.{◌≡◌, [], ◌∷◌, IfOk, IfSome, IsTrue};
 ghost use Rattle.cs_deps.specs.Needs.{named_by};
 ghost use Rattle.cs_deps.specs.Spent.{is_foldable};
 
@@ -91,19 +91,28 @@ impl Needs {
         }
     }
 
-    /// What a dependency names. It takes memory where four words won't do.
-    pub fn new(alloc: Global, needs: Dependency) -> Result<Self, AllocError>
-        ensures { IfOk result (λ own. own ≡ needs) }
+    /// Names from now on what a dependency names, in four words or in the place that it has; false, and nothing is changed, where
+    /// four words won't do and it has no place. It takes no memory.
+    pub fn hold(&mut self, needs: Dependency) -> bool
+        ensures held { IsTrue result → self.new ≡ needs }
+        ensures refused { ¬ IsTrue result → self.new ≡ self.old }
     {
-        match few(&needs) {
-            Some(held) => Ok(Needs { held }),
-            None => {
-                let all = Box::new(alloc, needs)?;
-                Ok(Needs {
-                    held: Held::Many(all),
-                })
-            }
+        if let Some(held) = few(&needs) {
+            self.held = held;
+            return true;
         }
+        match &mut self.held {
+            Held::Many(all) => {
+                **all = needs;
+                true
+            }
+            _ => false,
+        }
+    }
+
+    /// Whether it has a place for many needs.
+    pub fn has_place(&self) -> bool {
+        matches!(self.held, Held::Many(_))
     }
 
     /// The same, as a dependency.

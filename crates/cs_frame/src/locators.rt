@@ -35,10 +35,11 @@ pub(crate) fn locators_from(alloc: Global, bytes: &[u8]) -> Result<Vec<Locator>,
     ensures { IfOk result (λ v. v.items ≡ locators_in bytes.now) }
 {
     let (spelled, _) = bytes.as_chunks::<8>();
-    spelled
-        .iter()
-        .map(|bytes| locator_from(bytes))
-        .collect(alloc)
+    let mut locators = Vec::with_capacity(alloc, spelled.len())?;
+    for bytes in spelled {
+        locators.push_reserved(locator_from(bytes));
+    }
+    Ok(locators)
 }
 
 impl Locator {

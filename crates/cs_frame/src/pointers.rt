@@ -67,10 +67,11 @@ pub(crate) fn extents_of(alloc: Global, bytes: &[u8]) -> Result<Vec<(u16, u32)>,
     ensures { IfOk result (λ v. v.items ≡ extents_from bytes.now) }
 {
     let (spelled, _) = bytes.as_chunks::<6>();
-    spelled
-        .iter()
-        .map(|bytes| extent_from(bytes))
-        .collect(alloc)
+    let mut extents = Vec::with_capacity(alloc, spelled.len())?;
+    for bytes in spelled {
+        extents.push_reserved(extent_from(bytes));
+    }
+    Ok(extents)
 }
 
 /// No pointer that these bytes spell is above `pages`.
