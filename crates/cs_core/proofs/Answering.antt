@@ -1,46 +1,55 @@
 -- What each event answers, whatever the disk does.
-use Rattle.std.proofs.Common.{◌≡◌, ◌≢◌, ◌⊎◌, ℕ, ◌<◌, ◌≤◌, List, [], None, Ok, Err, refl, sym, subst, arith}
+use Rattle.std.proofs.Common.{◌≡◌, ◌≢◌, ◌⊎◌, ℕ, ◌<◌, ◌≤◌, List, [], None, Ok, Err, inl, inr, ⊎_elim, refl, sym, subst, true, arith}
 use Rattle.std.specs.Prelude.{IfOk, MatchResult, OnOk, Result}
 use Rattle.cs_deps.specs.declared.elements.Element.{Element as Name}
 use Rattle.cs_deps.specs.declared.refusals.Refusal.{Refusal as Code}
 use Rattle.cs_deps.specs.declared.refusals.Refusal.TheVariants as code
+use Rattle.cs_deps.specs.declared.refusals.Refusal.TheVariants.{DeviceFault, InFlight, NoRound}
 use Rattle.cs_frame.specs.declared.identifiers.ShardId.{ShardId}
 use Rattle.cs_core.specs.declared.events.Event.{Event}
 use Rattle.cs_core.specs.declared.events.Event.TheVariants.{Abandon, Begin, BeginSweep, Delete, End, Get, Issue, MoveOne, Put, Retire, Settle, Stage}
 use Rattle.cs_core.specs.declared.events.OutOfMemory.{OutOfMemory}
 use Rattle.cs_core.specs.declared.events.Reply.{Reply}
 use Rattle.cs_core.specs.declared.events.Reply.TheVariants.{Abandoned, Absent, Accepted, Begun, Ended, Found, Issued, Moved, NoneLive, NotYet, Nothing, Persistent, Refused, Retired, Staged, Sweeping, Unchanged}
-use Rattle.cs_core.specs.Answered.{IsAlone, IsAnswered, IsForDevice}
-use Rattle.cs_core.specs.Replies.{MayAnswer}
+use Rattle.cs_core.specs.Answered.{IsAlone, IsAnswered, IsForDevice, IsLimited}
+use Rattle.cs_core.specs.Replies.{MayAnswer, MayRefuse}
 use Rattle.cs_core.specs.Stored.{Stored}
 use Rattle.cs_core.specs.Writebacks.{AddsCommand, IsMemberIssued, IsRoundBegun, IsRoundEnded, KeepsRound, KeepsStaging, Stages, StaysRefused, WritesBack}
+use Rattle.cs_core.proofs.Refusing.{limited, may_refuse}
 
 -- what an answer that isn't a refusal says
 pub ok_of : {A B : Type 0} (P : Type 0) (r : Result A B) (x : A) → r ≡ Ok x → OnOk r P → P
 ok_of {A} {B} P r x is p = subst (λ (k : Result A B). OnOk k P) is p
 
--- events that no refusal halts, and that may be refused
+-- events that may be refused, where no refusal halts or says what is out
 abbrev pub IsPlain : Event → Type 0
+IsPlain Begin = ⊥
 IsPlain Issue = ⊥
 IsPlain End = ⊥
 IsPlain (Settle n) = ⊥
 IsPlain event = Unit {0}
 
 module _ (v w : Stored) where
-  pub refused_alone : (event : Event) → IsPlain event → (r : Code) → r ≢ code.OutOfMemory → w ≡ v → IsAnswered v event (Refused r) w
+  -- where there was memory, a refused event of these is answered so
+  pub refused_alone : (event : Event) → IsPlain event → (r : Code) → (r ≡ code.OutOfMemory) ⊎ MayRefuse event r → r ≢ code.OutOfMemory → w ≡ v → IsAnswered v event (Refused r) w
   unfolding IsAnswered
-  refused_alone Issue plain r known same = absurd plain
-  refused_alone End plain r known same = absurd plain
-  refused_alone (Settle n) plain r known same = absurd plain
-  refused_alone event plain r known same = (known, same)
+  refused_alone Begin plain r may known same = absurd plain
+  refused_alone Issue plain r may known same = absurd plain
+  refused_alone End plain r may known same = absurd plain
+  refused_alone (Settle n) plain r may known same = absurd plain
+  refused_alone event plain r may known same = (may_refuse event r may known, same)
 
-  pub issue_refused_so : (r : Code) → r ≢ code.OutOfMemory → StaysRefused Issue r v w → IsAnswered v Issue (Refused r) w
+  pub begin_refused_so : (r : Code) → (r ≡ code.OutOfMemory) ⊎ MayRefuse Begin r → r ≢ code.OutOfMemory → StaysRefused Begin r v w → IsAnswered v Begin (Refused r) w
   unfolding IsAnswered
-  issue_refused_so r known stays = (known, stays)
+  begin_refused_so r may known stays = (may_refuse Begin r may known, stays)
 
-  pub end_refused_so : (r : Code) → r ≢ code.OutOfMemory → StaysRefused End r v w → IsAnswered v End (Refused r) w
+  pub issue_refused_so : (r : Code) → (r ≡ code.OutOfMemory) ⊎ MayRefuse Issue r → r ≢ code.OutOfMemory → StaysRefused Issue r v w → IsAnswered v Issue (Refused r) w
   unfolding IsAnswered
-  end_refused_so r known stays = (known, stays)
+  issue_refused_so r may known stays = (may_refuse Issue r may known, stays)
+
+  pub end_refused_so : (r : Code) → (r ≡ code.OutOfMemory) ⊎ MayRefuse End r → r ≢ code.OutOfMemory → StaysRefused End r v w → IsAnswered v End (Refused r) w
+  unfolding IsAnswered
+  end_refused_so r may known stays = (may_refuse End r may known, stays)
 
   pub put_so : (id : ShardId) (bytes : List ℕ) (n : ℕ) → AddsCommand n v w → KeepsRound v w → Stages v w → IsAnswered v (Put id bytes) (Accepted n) w
   unfolding IsAnswered
@@ -136,14 +145,35 @@ module _ (v w : Stored) where
   answered_writes event reply is = is.1
 
 -- a full history
-pub full_shape : (event : Event) → MayAnswer event (Refused code.HistoryFull)
-full_shape (Settle n) = refl
-full_shape event = λ e. cc e
+pub full_shape : (event : Event) → IsLimited event → MayAnswer event (Refused code.HistoryFull)
+full_shape event is = limited event is
 
 pub full_writes : (v : Stored) (event : Event) → WritesBack v event (Refused code.HistoryFull) v
+full_writes v Begin = refl
 full_writes v Issue = refl
 full_writes v End = refl
 full_writes v event = refl
+
+-- a refused event leaves the store as it was, but for a device fault in Issue or End
+pub refused_leaves : (event : Event) (r : Code) (v w : Stored) → StaysRefused event r v w → (w ≡ v) ⊎ (((event ≡ Issue) ⊎ (event ≡ End)) × (r ≡ DeviceFault) × (w ≡ record v { halted = true }))
+refused_leaves Issue DeviceFault v w is = inr (inl refl, refl, is)
+refused_leaves End DeviceFault v w is = inr (inr refl, refl, is)
+refused_leaves Begin InFlight v w is = inl is.1
+refused_leaves Issue NoRound v w is = inl is.1
+refused_leaves End NoRound v w is = inl is.1
+refused_leaves event r v w is = inl is
+
+pub refused_same : (event : Event) (r : Code) (v w : Stored) → r ≢ DeviceFault → StaysRefused event r v w → w ≡ v
+refused_same event r v w other is = ⊎_elim
+    (λ (same : w ≡ v). same)
+    (λ (halts : ((event ≡ Issue) ⊎ (event ≡ End)) × (r ≡ DeviceFault) × (w ≡ record v { halted = true })). absurd (other halts.1))
+    (refused_leaves event r v w is)
+
+pub refused_same_else : (event : Event) (r : Code) (v w : Stored) → event ≢ Issue → event ≢ End → StaysRefused event r v w → w ≡ v
+refused_same_else event r v w issue end is = ⊎_elim
+    (λ (same : w ≡ v). same)
+    (λ (halts : ((event ≡ Issue) ⊎ (event ≡ End)) × (r ≡ DeviceFault) × (w ≡ record v { halted = true })). absurd (⊎_elim issue end halts.0))
+    (refused_leaves event r v w is)
 
 -- which events a store does by itself
 pub alone_of : (e : Event) → (IsForDevice e → ⊥) → ((id : ShardId) → e ≡ Get id → ⊥) → ((n : ℕ) → e ≡ Settle n → ⊥) → IsAlone e
@@ -159,9 +189,10 @@ pub halted_so : (v : Stored) (e : Event) → ((id : ShardId) → e ≡ Get id �
 unfolding IsAnswered
 halted_so v (Get id) get settle = absurd (get id refl)
 halted_so v (Settle n) get settle = absurd (settle n refl)
-halted_so v Issue get settle = ((λ e. cc e), refl)
-halted_so v End get settle = ((λ e. cc e), refl)
-halted_so v e get settle = ((λ k. cc k), refl)
+halted_so v Begin get settle = (tt, refl)
+halted_so v Issue get settle = (tt, refl)
+halted_so v End get settle = (tt, refl)
+halted_so v e get settle = (tt, refl)
 
 -- there is no other
 pub no_other : (e : Event) → IsAlone e → ((id : ShardId) (bytes : List ℕ) → e ≡ Put id bytes → ⊥) → ((id : ShardId) → e ≡ Delete id → ⊥) → (e ≡ Stage → ⊥) → (e ≡ Begin → ⊥) → ((n : ℕ) → e ≡ BeginSweep n → ⊥)

@@ -1,7 +1,8 @@
 -- Which events don't answer that the disk failed, and what a write that failed leaves.
-use Rattle.std.proofs.Common.{◌≡◌, ◌≢◌, ◌⊎◌, inl, inr, ℕ, List, Some}
+use Rattle.std.proofs.Common.{◌≡◌, ◌≢◌, ◌⊎◌, inl, inr, ℕ, List, Some, subst}
 use Rattle.std.specs.Prelude.{slice_get}
 use Rattle.cs_deps.specs.declared.elements.Element.{Element as Name}
+use Rattle.cs_deps.specs.declared.refusals.Refusal.{Refusal as Code}
 use Rattle.cs_deps.specs.declared.refusals.Refusal.TheVariants as code
 use Rattle.cs_deps.specs.State.{write_of}
 use Rattle.cs_disk.specs.Disk.{State as DiskState, written}
@@ -10,11 +11,12 @@ use Rattle.cs_core.specs.declared.events.Reply.{Reply}
 use Rattle.cs_core.specs.declared.events.Reply.TheVariants.{Refused}
 use Rattle.cs_core.specs.Answered.{IsAnswered}
 use Rattle.cs_core.specs.Disks.{IsMemberWritten}
+use Rattle.cs_core.specs.Replies.{MayRefuse}
 use Rattle.cs_core.specs.Stored.{Stored, members_of, but_for_room}
 
 pub settle_never : (v w : Stored) (n : ℕ) (r : Reply) → IsAnswered v (Settle n) r w → r ≢ Refused code.DeviceFault
 unfolding IsAnswered
-settle_never v w n (Refused f) is = λ fault. let a = is.0 in cc (a, fault)
+settle_never v w n (Refused f) is = λ fault. let same : f ≡ code.DeviceFault = cc fault in subst (λ (k : Code). MayRefuse (Settle n) k) same is.0
 settle_never v w n r is = λ fault. cc fault
 
 -- the member of a write that failed may be there or not

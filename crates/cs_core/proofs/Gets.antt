@@ -56,6 +56,10 @@ none_left (l ∷ ls) e = let z : length (l ∷ ls) ≡ 0 = eqb-true (length (l �
 pub some_left : (ls : List Locator) → false ≡ (length ls == 0) → ls ≢ []
 some_left ls e none = let f : false ≡ true = e ∙ eq-eqb (length ls) 0 (ap length none) in cc f
 
+-- where places were found some are live
+pub found_live : (v : Stored) (id : ℕ) (ls : List Locator) → live_at (index_of v.index) id ≡ map place_of ls → ls ≢ [] → live_at (index_of v.index) id ≢ []
+found_live v id ls found some none = some_places ls some (sym found ∙ none)
+
 module _ (v : Stored) (id : ℕ) (disk : DiskState) where
   map_of : (s : State) → IsStateOf v s → (live_at (index_of v.index) id ≡ []) ↔ (map_now s id ≡ None)
   map_of s is = absent (shape v.extents) (formats_of (shape v.extents)) v.index s id is.sound is.parts.index
@@ -72,7 +76,7 @@ module _ (v : Stored) (id : ℕ) (disk : DiskState) where
   module _ (whole : IsWhole v.extents) (graph : IsWholeGraph v.graph) (size : page_total (shape v.extents) ≤ length disk.durable)
       (ls : List Locator) (found : live_at (index_of v.index) id ≡ map place_of ls) (some : ls ≢ []) where
     some_live : live_at (index_of v.index) id ≢ []
-    some_live none = some_places ls some (sym found ∙ none)
+    some_live = found_live v id ls found some
 
     spots : map as_locator (live_at (index_of v.index) id) ≡ ls
     spots = ap (map as_locator) found ∙ there_and_back ls

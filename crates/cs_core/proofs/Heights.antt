@@ -7,7 +7,7 @@ use Rattle.cs_deps.proofs.Extended.{first_gone, round_lowers}
 use Rattle.cs_deps.specs.Chain.{IsHeight}
 use Rattle.cs_deps.specs.declared.elements.Element.{Element as Name}
 use Rattle.cs_deps.specs.declared.refusals.Refusal.{Refusal as Code}
-use Rattle.cs_deps.specs.declared.refusals.Refusal.TheVariants.{DeviceFault}
+use Rattle.cs_deps.specs.declared.refusals.Refusal.TheVariants.{DeviceFault, InFlight, NoRound}
 use Rattle.cs_deps.specs.Pending.{Pending, Waits}
 use Rattle.cs_deps.specs.Staging.{IsKept, Staging, settled}
 use Rattle.cs_core.specs.declared.events.Event.{Event}
@@ -32,6 +32,9 @@ same_store v w same = (ap (λ (u : Stored). u.out) same, same_staging v w (ap (�
 refused_stays : (e : Event) (r : Code) (v w : Stored) → StaysRefused e r v w → Stays v w
 refused_stays Issue DeviceFault v w is = (ap (λ (u : Stored). u.out) is, same_staging v w (ap (λ (u : Stored). u.graph.staging) is))
 refused_stays End DeviceFault v w is = (ap (λ (u : Stored). u.out) is, same_staging v w (ap (λ (u : Stored). u.graph.staging) is))
+refused_stays Begin InFlight v w is = same_store v w is.1
+refused_stays Issue NoRound v w is = same_store v w is.1
+refused_stays End NoRound v w is = same_store v w is.1
 refused_stays e r v w is = same_store v w is
 
 one_stays : (e : Event) (r : Reply) (v w : Stored) → EndsNone e r → v.out ≢ None → WritesBack v e r w → Stays v w

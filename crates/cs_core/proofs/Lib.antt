@@ -17,6 +17,7 @@ pub mod KeptMoves
 pub mod Leaving
 pub mod Living
 pub mod Loading
+pub mod Looking
 pub mod Members
 pub mod MoveSteps
 pub mod Moves
@@ -25,6 +26,7 @@ pub mod Opening
 pub mod Opens
 pub mod Puts
 pub mod Ranges
+pub mod Refusing
 pub mod Replaying
 pub mod Resting
 pub mod RootSteps

@@ -33,12 +33,14 @@ use Rattle.cs_refine.proofs.Disks as disks
 use Rattle.cs_refine.proofs.Keeping.{ended as keeps_ended, members_named}
 use Rattle.cs_refine.proofs.RoundsOut.{begin, nothing}
 use Rattle.cs_refine.proofs.Shapes.{store_format, store_shape}
+use Rattle.cs_core.specs.declared.events.Event.TheVariants as asked
 use Rattle.cs_core.specs.declared.roots.Root.{Root as Noted}
 use Rattle.cs_core.specs.Frontiers.{AreNoted, LetsGo}
 use Rattle.cs_core.specs.States.{AreRootsOf, IsStateOf}
 use Rattle.cs_core.specs.Rounds.{EndAnswers, IssueAnswers}
 use Rattle.cs_core.specs.Steps.{Declines}
 use Rattle.cs_core.specs.Stored.{Stored, members_of}
+use Rattle.cs_core.specs.Writebacks.{StaysRefused}
 use Rattle.cs_core.proofs.Going.{going, no_more, pass}
 use Rattle.cs_core.proofs.Noted.{left_new, left_old, noted_first, noted_left}
 use Rattle.cs_core.proofs.Members.{are_names, drop_all, drop_left, drop_none, drop_some, map_next, map_none, map_push, member_waits, take_all_of, take_more}
@@ -400,6 +402,10 @@ module _ (v : Stored) (s : State) (whole : IsWhole v.extents) (is : IsStateOf v 
 pub begin_declines : (v : Stored) (whole : IsWhole v.extents) (runs : v.halted ≡ false) (r : Code) → (r ≡ code.InFlight → is_some v.out ≡ true) → (r ≡ code.InFlight) ⊎ (r ≡ code.OutOfMemory) → Declines v Begin r v
 begin_declines v whole runs r out (inl e) = inr (InFlight, e, λ s is. (s, begin_out v s whole is runs (out e), is))
 begin_declines v whole runs r out (inr e) = inl e
+
+pub begin_stays : (v : Stored) (r : Code) → (r ≡ code.InFlight → is_some v.out ≡ true) → (r ≡ code.InFlight) ⊎ (r ≡ code.OutOfMemory) → StaysRefused asked.Begin r v v
+begin_stays v r out (inl e) = subst (λ (k : Code). StaysRefused asked.Begin k v v) (sym e) ((λ none. let no : is_some v.out ≡ false = ap (λ (o : Option (List Name)). is_some o) none in absurd (let clash : true ≡ false = sym (out e) ∙ no in cc clash)), refl)
+begin_stays v r out (inr e) = subst (λ (k : Code). StaysRefused asked.Begin k v v) (sym e) refl
 
 pub issue_answers : (v : Stored) (whole : IsWhole v.extents) (runs : v.halted ≡ false) (graph : IsWholeGraph v.graph) (x : Name) (next : slice_get (members_of v.out) v.issued ≡ Some x) (p : ℕ) (bytes : List ℕ)
     → write_of v.graph x ≡ Some (p, bytes) → (disk after : DiskState) → after ≡ written disk p bytes → IssueAnswers v disk (Ok (x, p)) (record v { issued = v.issued + 1 }) after

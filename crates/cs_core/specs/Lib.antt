@@ -4,6 +4,7 @@ pub mod Checkpoints
 pub mod Disks
 pub mod Frontiers
 pub mod Histories
+pub mod Lookups
 pub mod Meanings
 pub mod Openings
 pub mod Reads

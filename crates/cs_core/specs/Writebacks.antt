@@ -1,8 +1,8 @@
 -- What an event does to the graph, the round that is out and the index's table.
-use Rattle.std.specs.Prelude.{◌≡◌, ◌≢◌, ℕ, suc, List, [], Some, None, length, slice_get, true}
+use Rattle.std.specs.Prelude.{◌≡◌, ◌≢◌, ◌⊎◌, ◌<◌, ℕ, suc, List, [], Some, None, length, slice_get, true}
 use Rattle.cs_deps.specs.declared.elements.Element.{Element as Name}
 use Rattle.cs_deps.specs.declared.refusals.Refusal.{Refusal}
-use Rattle.cs_deps.specs.declared.refusals.Refusal.TheVariants.{DeviceFault}
+use Rattle.cs_deps.specs.declared.refusals.Refusal.TheVariants.{DeviceFault, InFlight, NoRound}
 use Rattle.cs_deps.specs.Staging.{settled}
 use Rattle.cs_deps.specs.State.{IsQueue}
 use Rattle.cs_core.specs.declared.events.Event.{Event}
@@ -56,10 +56,14 @@ pub record IsRoundEnded (frontier : ℕ) (old new : Stored) : Type 0 where
   pub same_index : new.index ≡ old.index
   pub is_frontier : new.frontier ≡ frontier
 
--- what a refused event leaves: a device fault in Issue or End halts the store, and nothing else changes
+-- What a refused event leaves: a device fault in Issue or End halts the store, and nothing else changes. A Begin is refused 5 only
+-- where a round is out, an Issue 42 only where none of it is left, and an End 42 only where none is out or some of it isn't issued.
 abbrev pub StaysRefused : Event → Refusal → (old new : Stored) → Type 0
 StaysRefused Issue DeviceFault old new = new ≡ record old { halted = true }
 StaysRefused End DeviceFault old new = new ≡ record old { halted = true }
+StaysRefused Begin InFlight old new = (old.out ≢ None) × (new ≡ old)
+StaysRefused Issue NoRound old new = (slice_get (members_of old.out) old.issued ≡ None) × (new ≡ old)
+StaysRefused End NoRound old new = ((old.out ≡ None) ⊎ (old.issued < length (members_of old.out))) × (new ≡ old)
 StaysRefused event r old new = new ≡ old
 
 -- what an event with this reply does

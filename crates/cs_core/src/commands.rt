@@ -5,10 +5,12 @@ ghost use Rattle.cs_frame.specs.Formats.{place_of};
 ghost use Rattle.cs_index.specs.State.{IsSet, id_number, index_of};
 ghost use Rattle.cs_model.specs.Index.{lookup, names};
 ghost use Rattle.cs_model.specs.State.{Accepted, Delete, Put};
+ghost use Rattle.cs_core.specs.Replies.{MayRefuse};
 ghost use Rattle.cs_core.specs.Steps.{Answers, deleted_or_not};
 ghost use Rattle.cs_core.specs.Stored.{IsWhyWorn, but_for_room};
 ghost use Rattle.cs_core.specs.Writebacks.{AddsCommand, KeepsRound, KeepsStaging, Stages};
 
+use crate::events::Event;
 use crate::stores::Store;
 use cs_chunk::{put_chunks, put_fits, shard_bytes};
 use cs_deps::Refusal;
@@ -27,6 +29,7 @@ impl Store {
         ensures behind { OnOk result (Stages self.old self.new) }
         ensures step { self.old.halted ≡ false → Answers self.old (Put (id_number id) bytes.now) (λ n. Accepted n) result self.new }
         ensures refused { OnErr result (but_for_room self.new ≡ but_for_room self.old) }
+        ensures refusals { IfErr result (λ r. (r ≡ Refusal.OutOfMemory) ⊎ MayRefuse (Event.Put id bytes.now) r) }
         ensures shape { shape self.new.extents ≡ shape self.old.extents }
         ensures frontier { self.new.frontier ≡ self.old.frontier }
         ensures no_fault { IfErr result (λ r. r ≢ Refusal.DeviceFault) }
@@ -58,6 +61,7 @@ impl Store {
         ensures round { KeepsRound self.old self.new }
         ensures staging { KeepsStaging self.old self.new }
         ensures refused { OnErr result (but_for_room self.new ≡ but_for_room self.old) }
+        ensures refusals { IfErr result (λ r. (r ≡ Refusal.OutOfMemory) ⊎ MayRefuse (Event.Delete id) r) }
         ensures shape { shape self.new.extents ≡ shape self.old.extents }
         ensures frontier { self.new.frontier ≡ self.old.frontier }
         ensures no_fault { IfErr result (λ r. r ≢ Refusal.DeviceFault) }

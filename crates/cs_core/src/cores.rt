@@ -62,12 +62,12 @@ pub struct Limits {
 #[derive(Drop)]
 pub struct Core<D: PageDisk> {
     alloc: Global,
-    disk: D,
+    pub(crate) disk: D,
     // the disk as it was when the core was opened
     opened: Snapshot<D>,
     // how many commands the root counted then, and how many shards there were
     found: (u64, usize),
-    store: Store,
+    pub(crate) store: Store,
     history: History,
     limit: usize,
 }

@@ -3,7 +3,7 @@
 //!
 //! An event goes through `cores` (`apply`), `serves` (whether the store is halted; Get and Settle) and `running` (all others) to
 //! one call of a `Store`: `commands`, `reads`, `stagings`, `rounds` or `sweeps`. `formats` makes a new store; `openings`, `sections`, `runs`
-//! and `loads` read one.
+//! and `loads` read one. What `lookups` asks is no event.
 #![tactic(auto)]
 
 mod commands;
@@ -16,6 +16,7 @@ mod frontiers;
 mod histories;
 mod laws;
 mod loads;
+mod lookups;
 mod openings;
 mod plans;
 mod reads;

@@ -2,6 +2,7 @@
 ghost use Rattle.std.specs.Prelude.{◌≡◌, ◌≢◌, ◌+◌, ◌^◌, ◌<◌, ◌≤◌, ◌⊎◌, [], IfOk, IfErr, IfSome, MatchBool, MatchOption, MatchResult, OnErr, IsErrOf, None, Some, false, true, length, slice_get};
 ghost use Rattle.cs_extent.specs.State.{shape};
 ghost use Rattle.cs_core.specs.Disks.{WritesAsTold};
+ghost use Rattle.cs_core.specs.Replies.{MayRefuse};
 ghost use Rattle.cs_core.specs.Rounds.{BeginAnswers, EndAnswers, IssueAnswers};
 ghost use Rattle.cs_core.specs.Stored.{members_of, page_total, but_for_room};
 ghost use Rattle.cs_core.specs.Writebacks.{IsMemberIssued, IsRoundBegun, IsRoundEnded, StaysRefused};
@@ -22,9 +23,11 @@ impl Store {
         ensures twice { IfOk result (λ begun. IfSome begun (λ r. r.0.items ≡ r.1.items)) }
         ensures step { self.old.halted ≡ false → BeginAnswers self.old result self.new }
         ensures refused { OnErr result (but_for_room self.new ≡ but_for_room self.old) }
+        ensures refusals { IfErr result (λ r. (r ≡ Refusal.OutOfMemory) ⊎ MayRefuse Event.Begin r) }
         ensures shape { shape self.new.extents ≡ shape self.old.extents }
         ensures frontier { self.new.frontier ≡ self.old.frontier }
         ensures no_fault { IfErr result (λ r. r ≢ Refusal.DeviceFault) }
+        ensures stays { IfErr result (λ r. StaysRefused Event.Begin r (but_for_room self.old) (but_for_room self.new)) }
     {
         // Called for their contracts alone: what all extents and every graph keep.
         self.extents.extent_count();
@@ -52,6 +55,7 @@ impl Store {
         ensures issued { MatchResult result (λ r. IsMemberIssued r.0 (but_for_room self.old) (but_for_room self.new)) (λ r. StaysRefused Event.Issue r (but_for_room self.old) (but_for_room self.new)) }
         ensures step { self.old.halted ≡ false → D.honest disk.old → IssueAnswers self.old (D.state disk.old) result self.new (D.state disk.new) }
         ensures memory { IsErrOf result Refusal.OutOfMemory → (self.new ≡ self.old) × (D.honest disk.old → D.state disk.new ≡ D.state disk.old) }
+        ensures refusals { IfErr result (λ r. (r ≡ Refusal.OutOfMemory) ⊎ MayRefuse Event.Issue r) }
         ensures shape { shape self.new.extents ≡ shape self.old.extents }
         ensures frontier { self.new.frontier ≡ self.old.frontier }
         ensures disk { WritesAsTold D.PageDisk self.old disk.old Event.Issue (λ r. Reply.Issued r.0 r.1) result disk.new }
@@ -104,6 +108,7 @@ impl Store {
         ensures ended { MatchResult result (λ n. IsRoundEnded n (but_for_room self.old) (but_for_room self.new)) (λ r. StaysRefused Event.End r (but_for_room self.old) (but_for_room self.new)) }
         ensures step { self.old.halted ≡ false → D.honest disk.old → EndAnswers self.old (D.state disk.old) result self.new (D.state disk.new) }
         ensures memory { IsErrOf result Refusal.OutOfMemory → (self.new ≡ self.old) × (D.honest disk.old → D.state disk.new ≡ D.state disk.old) }
+        ensures refusals { IfErr result (λ r. (r ≡ Refusal.OutOfMemory) ⊎ MayRefuse Event.End r) }
         ensures shape { shape self.new.extents ≡ shape self.old.extents }
         ensures number { IfOk result (λ n. self.new.frontier ≡ n) }
         ensures rises { self.old.frontier ≤ self.new.frontier }

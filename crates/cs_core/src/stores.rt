@@ -2,7 +2,7 @@
 ghost use Rattle.std.specs.Prelude.{◌≡◌, ◌+◌, ◌^◌, ◌<◌, ◌≤◌, MatchBool, MatchOption, None, Some};
 ghost use Rattle.cs_deps.specs.State.{AreCounted};
 ghost use Rattle.cs_extent.specs.State.{IsWhole, shape};
-ghost use Rattle.cs_core.specs.Stored.{IsKept, Stored};
+ghost use Rattle.cs_core.specs.Stored.{AreInside, IsKept, Stored};
 
 use crate::roots::Root;
 use cs_deps::{Element, Graph, LAST_NUMBER};
@@ -90,6 +90,14 @@ impl Store {
         ensures whole { IsWhole self.now.extents }
     {
         self.extents.extent_count()
+    }
+
+    /// The index. Its contract tells what all stores keep of it.
+    pub fn index(&self) -> &Index
+        ensures index { result.now ≡ self.now.index }
+        ensures places { AreInside (shape self.now.extents) result.now }
+    {
+        &self.index
     }
 
     /// Whether the number of commands is the greatest.

@@ -1,13 +1,15 @@
 //! Sweeps.
-ghost use Rattle.std.specs.Prelude.{◌≡◌, ◌≢◌, [], IfErr, None, OnErr, OnOk, false};
+ghost use Rattle.std.specs.Prelude.{◌≡◌, ◌≢◌, ◌⊎◌, [], IfErr, None, OnErr, OnOk, false};
 ghost use Rattle.cs_chunk.specs.Reads.{IsCaused, OnlyReads};
 ghost use Rattle.cs_extent.specs.State.{shape};
 ghost use Rattle.cs_model.specs.State.{Abandon, Abandoned, BeginSweep, Retire, Retired, Sweeping};
 ghost use Rattle.cs_core.specs.Reads.{MoveAnswers};
+ghost use Rattle.cs_core.specs.Replies.{MayRefuse};
 ghost use Rattle.cs_core.specs.Steps.{Answers};
 ghost use Rattle.cs_core.specs.Stored.{page_total, but_for_room};
 ghost use Rattle.cs_core.specs.Writebacks.{KeepsRound, KeepsStaging, Stages};
 
+use crate::events::Event;
 use crate::roots::Root;
 use crate::stores::Store;
 use cs_deps::Refusal;
@@ -22,6 +24,7 @@ impl Store {
         ensures round { KeepsRound self.old self.new }
         ensures staging { KeepsStaging self.old self.new }
         ensures refused { OnErr result (but_for_room self.new ≡ but_for_room self.old) }
+        ensures refusals { IfErr result (λ r. (r ≡ Refusal.OutOfMemory) ⊎ MayRefuse (Event.BeginSweep extent) r) }
         ensures shape { shape self.new.extents ≡ shape self.old.extents }
         ensures frontier { self.new.frontier ≡ self.old.frontier }
         ensures no_fault { IfErr result (λ r. r ≢ Refusal.DeviceFault) }
@@ -42,6 +45,7 @@ impl Store {
         ensures round { KeepsRound self.old self.new }
         ensures staging { KeepsStaging self.old self.new }
         ensures refused { OnErr result (but_for_room self.new ≡ but_for_room self.old) }
+        ensures refusals { IfErr result (λ r. (r ≡ Refusal.OutOfMemory) ⊎ MayRefuse (Event.Abandon extent) r) }
         ensures shape { shape self.new.extents ≡ shape self.old.extents }
         ensures frontier { self.new.frontier ≡ self.old.frontier }
         ensures no_fault { IfErr result (λ r. r ≢ Refusal.DeviceFault) }
@@ -65,6 +69,7 @@ impl Store {
         ensures round { KeepsRound self.old self.new }
         ensures behind { OnOk result (Stages self.old self.new) }
         ensures refused { OnErr result (but_for_room self.new ≡ but_for_room self.old) }
+        ensures refusals { IfErr result (λ r. (r ≡ Refusal.OutOfMemory) ⊎ MayRefuse (Event.Retire extent) r) }
         ensures shape { shape self.new.extents ≡ shape self.old.extents }
         ensures frontier { self.new.frontier ≡ self.old.frontier }
         ensures no_fault { IfErr result (λ r. r ≢ Refusal.DeviceFault) }
@@ -111,6 +116,7 @@ impl Store {
         ensures round { KeepsRound self.old self.new }
         ensures behind { OnOk result (Stages self.old self.new) }
         ensures refused { OnErr result (but_for_room self.new ≡ but_for_room self.old) }
+        ensures refusals { IfErr result (λ r. (r ≡ Refusal.OutOfMemory) ⊎ MayRefuse (Event.MoveOne extent) r) }
         ensures shape { shape self.new.extents ≡ shape self.old.extents }
         ensures frontier { self.new.frontier ≡ self.old.frontier }
         ensures disk { OnlyReads D.PageDisk disk.old disk.new }

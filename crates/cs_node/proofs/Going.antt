@@ -1,7 +1,7 @@
 -- What an event leaves of a core.
-use Rattle.std.proofs.Common.{◌≡◌, ◌≢◌, ℕ, List, Err, IfErr, IfOk, IfSome, IsErrAnd, MatchOption, None, Ok, Option, Result, Some, false, ap, ⊎_elim, refl, subst, sym}
+use Rattle.std.proofs.Common.{◌≡◌, ◌≢◌, ℕ, List, Err, IfErr, IfOk, IfSome, IsErrAnd, MatchOption, None, Ok, Option, Result, Some, ⊎_elim, refl, subst, sym}
 use Rattle.cs_deps.specs.declared.refusals.Refusal.{Refusal}
-use Rattle.cs_deps.specs.declared.refusals.Refusal.TheVariants.{HistoryFull, OutOfMemory}
+use Rattle.cs_deps.specs.declared.refusals.Refusal.TheVariants.{HistoryFull}
 use Rattle.cs_disk.specs.declared.disk.PageDisk.{Ghosts as PageDisk}
 use Rattle.cs_disk.specs.Disk.{Leaves, page}
 use Rattle.cs_model.specs.Refusal as ground
@@ -11,14 +11,13 @@ use Rattle.cs_refine.specs.Crashes.{IsPrefix}
 use Rattle.cs_core.specs.Meanings.{commands_said}
 use Rattle.cs_core.specs.Replies.{MayAnswer}
 use Rattle.cs_core.specs.declared.events.Event.{Event}
-use Rattle.cs_core.specs.declared.events.Event.TheVariants.{Abandon, Begin, BeginSweep, Delete, End, Get, Issue, MoveOne, Put, Retire, Settle, Stage}
+use Rattle.cs_core.specs.declared.events.Event.TheVariants.{Abandon}
 use Rattle.cs_core.specs.declared.events.Reply.{Reply}
 use Rattle.cs_core.specs.declared.events.Reply.TheVariants.{Abandoned, Refused}
 use Rattle.cs_core.specs.Views.{Applies, IsFull, IsIn, IsStep, View}
 use Rattle.cs_node.specs.Behind.{IsBehind}
 use Rattle.cs_node.specs.Locks.{Declines, IsDone}
 use Rattle.cs_node.specs.Starts.{Start, shape_at}
-use Rattle.cs_node.specs.Told.{is_unrecorded}
 use Rattle.cs_node.specs.Under.{Under}
 
 -- what a guard holds is behind the lock where what the lock gave is
@@ -56,29 +55,6 @@ declined disks old e new legal applies is_honest = ⊎_elim
     (λ (g : IsStep disks old e (Refused HistoryFull) new). let s = legal is_honest in let m = g.step is_honest s.0 s.1 in absurd (never_full m.2.0 m.2.2))
     applies
 
-recorded_as : (r : Refusal) → r ≢ OutOfMemory → r ≢ HistoryFull → is_unrecorded r ≡ false
-recorded_as OutOfMemory memory full = absurd (memory refl)
-recorded_as HistoryFull memory full = absurd (full refl)
-recorded_as _ memory full = refl
-
-no_want : (e : Event) (r : Refusal) → MayAnswer e (Refused r) → r ≢ HistoryFull → r ≢ OutOfMemory
-no_want (Settle n) r may full = absurd (full may)
-no_want (Put id bytes) r may full = may
-no_want (Get id) r may full = may
-no_want (Delete id) r may full = may
-no_want Stage r may full = may
-no_want Begin r may full = may
-no_want Issue r may full = may
-no_want End r may full = may
-no_want (BeginSweep x) r may full = may
-no_want (MoveOne x) r may full = may
-no_want (Retire x) r may full = may
-no_want (Abandon x) r may full = may
-
--- a refusal that was recorded is one that a history records
-pub is_recorded : (e : Event) (r : Refusal) → MayAnswer e (Refused r) → Refused r ≢ Refused HistoryFull → is_unrecorded r ≡ false
-is_recorded e r may other = let full : r ≢ HistoryFull = λ same. other (ap Refused same) in recorded_as r (no_want e r may full) full
-
 -- an Abandon that was done has one reply
 pub abandoned : (e : ℕ) (r : Reply) → MayAnswer (Abandon e) r → IsDone r → r ≡ Abandoned
 abandoned e Abandoned may done = refl
@@ -93,17 +69,6 @@ if_ok (Err e) gives p = tt
 pub if_some : {T : Type 0} {P Q : T → Type 0} (N : Type 0) (o : Option T) → ((t : T) → P t → Q t) → MatchOption o N P → IfSome o Q
 if_some N (Some t) gives p = gives t p
 if_some N None gives p = tt
-
--- what a crash leaves of a core it leaves of the disk, the history and the counts that were taken of it
-pub left_of_parts : {D : Type 0} (disks : PageDisk D) (start : Start) (core : View D) (disk : D) (history : List (Event × Reply)) (frontier accepted : ℕ)
-    → disk ≡ core.disk → history ≡ core.history → frontier ≡ core.store.frontier → accepted ≡ core.store.accepted
-    → Leaves (disks.state core.disk) (IsPrefix (shape_at start) (page start.opened) (commands_said core.history) core.store.frontier core.store.accepted)
-    → Leaves (disks.state disk) (IsPrefix (shape_at start) (page start.opened) (commands_said history) frontier accepted)
-left_of_parts disks start core disk history frontier accepted same_disk same_history same_frontier same_accepted left =
-    subst (λ d. Leaves (disks.state d) (IsPrefix (shape_at start) (page start.opened) (commands_said history) frontier accepted)) (sym same_disk)
-    (subst (λ (h : List (Event × Reply)). Leaves (disks.state core.disk) (IsPrefix (shape_at start) (page start.opened) (commands_said h) frontier accepted)) (sym same_history)
-    (subst (λ (f : ℕ). Leaves (disks.state core.disk) (IsPrefix (shape_at start) (page start.opened) (commands_said core.history) f accepted)) (sym same_frontier)
-    (subst (λ (n : ℕ). Leaves (disks.state core.disk) (IsPrefix (shape_at start) (page start.opened) (commands_said core.history) core.store.frontier n)) (sym same_accepted) left)))
 
 -- a refusal that is passed on
 pub if_same : {T : Type 0} (result : Result T Refusal) (P : Refusal → Type 0) (r : Refusal) → IsErrAnd result (λ x. x ≡ r) → P r → IfErr result P

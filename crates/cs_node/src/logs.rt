@@ -1,5 +1,5 @@
 //! The calls of one thread, with what each was told.
-ghost use Rattle.std.specs.Prelude.{◌≡◌, ◌-◌, ◌^◌, ◌≤◌, ◌<◌, ◌++◌, ◌∷◌, [], IfOk, IsTrue, MatchOption, OnOk, None, Some, map, max};
+ghost use Rattle.std.specs.Prelude.{◌≡◌, ◌-◌, ◌+◌, ◌^◌, ◌≤◌, ◌<◌, ◌↔◌, ◌++◌, ◌∷◌, [], IfOk, IsTrue, MatchOption, OnOk, None, Some, map, max};
 ghost use Rattle.cs_node.specs.Told.{Below, Rising, call, floor_of, found_last, from_place, told_by};
 
 use cs_core::{Bytes, Event, Reply};
@@ -15,11 +15,11 @@ pub struct Call {
 }
 
 /// The calls of one thread that weren't forgotten, the first one first. Contracts see them, up to which command they and the forgotten ones told
-/// that all are persistent, and for how many more there is room.
+/// that all are persistent, the place behind that of the last call, and for how many more there is room.
 #[derive(Drop)]
 pub struct Log {
     calls: Vec<Call>,
-    // a number above the places of all calls
+    // the place behind that of the last call, a forgotten one too
     next: u64,
     // the greatest number that a call told of, a forgotten one too
     floor: u64,
@@ -32,7 +32,7 @@ impl Model for Log {
 
     ghost Value = { Logged };
 
-    ghost view = { λ l. record { calls = l.calls.items; floor = l.floor; room = vec_capacity l.calls - length l.calls.items } };
+    ghost view = { λ l. record { calls = l.calls.items; floor = l.floor; next = l.next; room = vec_capacity l.calls - length l.calls.items } };
 
     ghost invariant = { λ l. Below l.next l.calls.items × Rising l.calls.items × (floor_of l.calls.items ≤ l.floor) };
 }
@@ -42,6 +42,7 @@ impl Log {
     pub fn new(alloc: Global) -> Self
         ensures calls { result.calls ≡ [] }
         ensures floor { result.floor ≡ 0 }
+        ensures next { result.next ≡ 0 }
     {
         Log {
             calls: Vec::new(alloc),
@@ -68,7 +69,8 @@ impl Log {
 
     /// Whether the place is above those of all calls, of forgotten ones too.
     pub fn is_above(&self, place: u64) -> bool
-        ensures { IsTrue result → Below place self.now.calls }
+        ensures exact { IsTrue result ↔ (self.now.next ≤ place) }
+        ensures above { IsTrue result → Below place self.now.calls }
     {
         self.next <= place
     }
@@ -77,6 +79,7 @@ impl Log {
     pub fn reserve(&mut self) -> Result<(), AllocError>
         ensures calls { self.new.calls ≡ self.old.calls }
         ensures floor { self.new.floor ≡ self.old.floor }
+        ensures next { self.new.next ≡ self.old.next }
         ensures room { OnOk result (1 ≤ self.new.room) }
     {
         self.calls.reserve(1)
@@ -89,6 +92,7 @@ impl Log {
         requires fits { place < 2 ^ 64 - 1 }
         ensures calls { self.new.calls ≡ self.old.calls ++ call place event reply ∷ [] }
         ensures floor { self.new.floor ≡ max self.old.floor (told_by event reply) }
+        ensures next { self.new.next ≡ place + 1 }
     {
         self.next = place + 1;
         self.floor = self.floor.max(told(&event, &reply));
@@ -103,6 +107,7 @@ impl Log {
     pub fn forget(&mut self, base: u64)
         ensures calls { self.new.calls ≡ from_place base self.old.calls }
         ensures floor { self.new.floor ≡ self.old.floor }
+        ensures next { self.new.next ≡ self.old.next }
     {
         self.calls.retain(|call| base <= call.place);
     }
@@ -139,5 +144,9 @@ fn told(event: &Event, reply: &Reply) -> u64
 pub fn places_of(alloc: Global, calls: &[Call]) -> Result<Vec<u64>, AllocError>
     ensures { IfOk result (λ places. places.items ≡ map (λ c. c.place) calls.now) }
 {
-    calls.iter().map(|call| call.place).collect(alloc)
+    let mut places = Vec::with_capacity(alloc, calls.len())?;
+    for call in calls {
+        places.push_reserved(call.place);
+    }
+    Ok(places)
 }

@@ -14,23 +14,27 @@ number_of text = decimal_of (without_leading_plus text)
 abbrev pub number_at : ArgMatches → (name : List ℕ) → Option ℕ
 number_at options name = option_and_then number_of (one_text (found_of options) name)
 
--- the numbers that a new store is asked for with: its extents, their pages, and the sections of its superblock, as few as may be where no number is there
+-- of how many extents a new store is asked for: 6 where no number is there
 abbrev pub extents_asked : ArgMatches → ℕ
 extents_asked options = unwrap_or (number_at options (codes "extents")) 6
 
+-- of how many pages each: 2 where no number is there
 abbrev pub pages_asked : ArgMatches → ℕ
 pages_asked options = unwrap_or (number_at options (codes "pages")) 2
 
+-- in how many sections its superblock: as few as may be where no number is there
 abbrev pub sections_asked : ArgMatches → ℕ
 sections_asked options = unwrap_or (number_at options (codes "sections")) (sections_needed (extents_asked options))
 
--- the numbers that a race is asked for with: its threads, the shards that each puts, and the tickets that the first drops
+-- with how many threads a race is asked for: 4 where no number is there
 abbrev pub threads_asked : ArgMatches → ℕ
 threads_asked options = unwrap_or (number_at options (codes "threads")) 4
 
+-- how many shards each of them puts: 10 where no number is there
 abbrev pub puts_asked : ArgMatches → ℕ
 puts_asked options = unwrap_or (number_at options (codes "puts")) 10
 
+-- how many tickets the first of them drops: none where no number is there
 abbrev pub drops_asked : ArgMatches → ℕ
 drops_asked options = unwrap_or (number_at options (codes "drop")) 0
 

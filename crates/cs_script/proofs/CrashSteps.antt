@@ -4,7 +4,7 @@ use Rattle.std.specs.Prelude.{Option, ◌↔◌}
 use Rattle.std.specs.Io.KnownBytes.{Appends}
 use Rattle.cs_deps.specs.declared.refusals.Refusal.{Refusal}
 use Rattle.cs_disk.specs.declared.disk.PageDisk.{Ghosts as PageDisk}
-use Rattle.cs_disk.specs.Disk.{State as DiskState, crashed}
+use Rattle.cs_disk.specs.Disk.{crashed}
 use Rattle.cs_core.specs.Views.{View}
 use Rattle.cs_script.specs.Crashes.{Crashes, CrashesForGood, IsCrash, IsCrashed, IsNotReopened, Reopens, kept_count}
 use Rattle.cs_script.specs.Lines.{says_crash}

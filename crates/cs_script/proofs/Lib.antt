@@ -1,12 +1,9 @@
 pub mod NumberSteps
 pub mod Appended
 pub mod Words
-pub mod Histories
-pub mod Turned
+pub mod SyncRefusals
 pub mod Rounds
-pub mod Asked
 pub mod SyncSteps
-pub mod SweepSteps
 pub mod LineSteps
 pub mod PlanSteps
 pub mod CheckSteps

@@ -6,10 +6,9 @@ use Rattle.std.specs.Io.BufRead.{strip_last, take_through, drop_through, first_p
 use Rattle.std.specs.Io.KnownBytes.{Appends, IsAtEnd}
 use Rattle.cs_disk.specs.declared.disk.PageDisk.{Ghosts as PageDisk}
 use Rattle.cs_script.specs.Lines.{Said, says_put, says_get, says_delete, says_sweep, says_sync, says_step, says_plan, says_document, says_crash, says_nothing, unreadable, said_of}
-use Rattle.cs_disk.specs.Disk.{State as DiskState}
 use Rattle.cs_core.specs.Views.{View}
 use Rattle.cs_script.specs.Crashes.{Crashes, CrashesForGood, IsCrash}
-use Rattle.cs_script.specs.Histories.{MakesRoom}
+use Rattle.cs_drive.specs.Histories.{MakesRoom}
 use Rattle.cs_script.specs.declared.scripts.Ran.{Ran}
 use Rattle.cs_script.specs.Scripts.{Answers, GoesOn, said_to, status_after, Runs, ended, then_runs, unopened}
 use Rattle.cs_script.proofs.Appended.{appends_then}

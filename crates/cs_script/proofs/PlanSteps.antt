@@ -15,16 +15,15 @@ use Rattle.cs_deps.specs.Turns.{LeadTo}
 use Rattle.cs_deps.proofs.InTurn.{are_queues, everything_is_all, in_turn_is_a_plan}
 use Rattle.cs_disk.specs.declared.disk.PageDisk.{Ghosts as PageDisk}
 use Rattle.cs_plan.specs.Best.{IsBestPlan}
-use Rattle.cs_disk.specs.Disk.{State as DiskState}
 use Rattle.cs_core.specs.declared.events.Event.TheVariants.{Stage}
 use Rattle.cs_core.specs.declared.events.Reply.{Reply}
 use Rattle.cs_core.specs.Replies.{MayAnswer}
 use Rattle.cs_core.specs.Views.{View}
-use Rattle.cs_script.specs.Histories.{Goes, IsNoRefusal}
+use Rattle.cs_drive.specs.Histories.{Goes, IsNoRefusal}
 use Rattle.cs_script.specs.Outputs.{round_line, round_lines}
 use Rattle.cs_script.specs.Scripts.{IsPlanRefused, Stages}
-use Rattle.cs_script.proofs.Asked.{staged_of}
-use Rattle.cs_script.proofs.Histories.{went_one}
+use Rattle.cs_drive.proofs.Asked.{staged_of}
+use Rattle.cs_drive.proofs.Histories.{went_one}
 use Rattle.cs_script.proofs.Appended.{appends_same, appends_then}
 use Rattle.cs_script.proofs.Rounds.{round_lines_more}
 

@@ -4,7 +4,7 @@ use Rattle.cs_chunk.specs.Reads.{IsNoAnswer}
 use Rattle.cs_deps.specs.declared.refusals.Refusal.{Refusal}
 use Rattle.cs_deps.specs.declared.refusals.Refusal.TheVariants.{DeviceFault}
 use Rattle.cs_disk.specs.declared.disk.PageDisk.{Ghosts as PageDisk}
-use Rattle.cs_disk.specs.Disk.{Rises, State as DiskState, crashed, flushed, page, seen}
+use Rattle.cs_disk.specs.Disk.{Rises, crashed, flushed, page, seen}
 use Rattle.cs_extent.specs.State.{shape}
 use Rattle.cs_core.specs.Openings.{IsOpened, IsOpeningRefusal, IsWhyNotOpened}
 use Rattle.cs_core.specs.Views.{IsFound, View}

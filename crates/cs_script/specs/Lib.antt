@@ -1,10 +1,8 @@
 pub mod Checks
 pub mod Crashes
-pub mod Histories
 pub mod Lines
 pub mod Outputs
 pub mod RaceNumbers
-pub mod Rounds
 pub mod Scripts
 pub mod Stops
 pub mod Stores

@@ -1,5 +1,5 @@
 -- The lines that a script prints.
-use Rattle.std.specs.Prelude.{ℕ, ◌+◌, List, [], ◌∷◌, ◌++◌, codes, decimal, length, if◌then◌else◌, ◌==◌}
+use Rattle.std.specs.Prelude.{ℕ, ◌+◌, List, [], ◌∷◌, ◌++◌, codes, decimal, length, Option, None, Some, if◌then◌else◌, ◌==◌}
 use Rattle.std.specs.List.{flat_map}
 use Rattle.cs_deps.specs.declared.elements.Element.{Element}
 use Rattle.cs_deps.specs.declared.elements.Element.TheVariants.{Plain, Version}
@@ -51,6 +51,11 @@ refusal_line r = line_of (codes "refused " ++ decimal (number_of r) ++ codes " "
 -- a round ended, and so many commands are persistent
 abbrev pub end_line : ℕ → List ℕ
 end_line n = line_of (codes "end acknowledged " ++ decimal n)
+
+-- what is printed of a round that was out and was ended: how many commands are persistent then; nothing where none was out
+abbrev pub end_lines : Option ℕ → List ℕ
+end_lines None = []
+end_lines (Some n) = end_line n
 
 -- the letters by family: of the first section of a superblock, of the root, and of the further sections in their order
 abbrev pub letters : List ℕ

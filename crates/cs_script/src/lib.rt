@@ -3,11 +3,11 @@
 //! crate of their own; here are the numbers that one is run with, so that what reads them needs no node.
 #![tactic(auto)]
 
-mod asks;
 mod bounded_readers;
 mod checks;
 mod crashes;
 mod documents;
+mod laws;
 mod letters;
 mod lines;
 mod outputs;
@@ -19,9 +19,9 @@ mod steps;
 mod stores;
 mod sweeps;
 mod syncs;
-mod turns;
 
 pub use checks::run_check;
+pub use laws::a_sync_line_is_never_out_of_turn;
 pub use outputs::{print_acknowledged, print_no_store, print_refusal};
 pub use race_numbers::Race;
 pub use scripts::{Ran, run_script};

@@ -6,8 +6,8 @@ ghost use Rattle.cs_script.specs.Outputs.{absent_line, acknowledged_line, bad_li
 
 use crate::letters::letter_of;
 use crate::statuses;
-use crate::sweeps::Swept;
 use cs_deps::{Element, Refusal};
+use cs_drive::Swept;
 use std::io;
 use std::io::Write;
 

@@ -7,11 +7,11 @@ ghost use Rattle.cs_script.specs.Lines.{says_plan};
 ghost use Rattle.cs_script.specs.Outputs.{plan_lines, round_lines};
 ghost use Rattle.cs_script.specs.Scripts.{Answers, IsBestOfAll, IsPlanRefused, Stages};
 
-use crate::asks::ask;
 use crate::outputs::{print_chain, print_flushes, print_refusal, print_round};
 use cs_core::{Core, Event};
 use cs_deps::{Element, Plan, Refusal};
 use cs_disk::PageDisk;
+use cs_drive::ask;
 use std::io;
 use std::io::Write;
 

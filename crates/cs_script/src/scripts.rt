@@ -4,10 +4,8 @@ ghost use Rattle.std.specs.Io.BufRead.{strip_last};
 ghost use Rattle.std.specs.Io.KnownBytes.{Appends};
 ghost use Rattle.cs_script.specs.Lines.{said_by, said_of, says_put, says_get, says_delete};
 ghost use Rattle.cs_script.specs.Crashes.{CrashesForGood};
-ghost use Rattle.cs_script.specs.Histories.{MakesRoom};
 ghost use Rattle.cs_script.specs.Scripts.{Answers, GoesOn, said_to, status_after, Runs};
 
-use crate::asks::ask;
 use crate::bounded_readers::{BoundedReader, READS};
 use crate::crashes::{crash, mask_of};
 use crate::documents::document;
@@ -23,6 +21,7 @@ use crate::syncs::sync;
 use cs_core::{Bytes, Core, Event, Reply};
 use cs_deps::Refusal;
 use cs_disk::{CrashDisk, PageDisk};
+use cs_drive::{ask, make_room};
 use cs_frame::ShardId;
 use std::alloc::{AllocError, Global};
 use std::io;
@@ -142,19 +141,6 @@ fn run_line<D: CrashDisk + Drop, W: Write>(
             let line = line_to(core.disk().crashable(), line);
             answer_line(alloc, core, line, status, writer)
         }
-    }
-}
-
-/// Takes a checkpoint where at least half as many events are kept as may be and the store is settled. So a script that syncs often enough
-/// never meets 41 HistoryFull.
-fn make_room<D: PageDisk>(core: &mut Core<D>)
-    ensures { MakesRoom core.old core.new }
-{
-    if core.limit().div_ceil(2) <= core.history().len() {
-        // Where it is refused the store isn't settled, and the events stay.
-        let _ = core.checkpoint();
-        // Called for its contract alone: how many events may have been replaced.
-        core.base();
     }
 }
 

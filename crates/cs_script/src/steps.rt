@@ -1,13 +1,14 @@
 //! The line `step`. Where the writer fails, it ends with that error.
 ghost use Rattle.std.specs.Prelude.{◌≡◌, ℕ, List, OnOk};
 ghost use Rattle.std.specs.Io.KnownBytes.{Appends};
+ghost use Rattle.cs_drive.specs.Rounds.{step_event};
 ghost use Rattle.cs_script.specs.Lines.{says_step};
-ghost use Rattle.cs_script.specs.Scripts.{Answers, step_event};
+ghost use Rattle.cs_script.specs.Scripts.{Answers};
 
-use crate::asks::ask;
 use crate::outputs::{print_begin, print_end, print_idle, print_issue, print_refusal};
 use cs_core::{Core, Event, Reply};
 use cs_disk::PageDisk;
+use cs_drive::ask;
 use std::io;
 use std::io::Write;
 

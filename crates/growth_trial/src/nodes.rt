@@ -144,7 +144,7 @@ fn play_lines<D: PageDisk, K: Naming, R: Wait + Print>(
     Ok(())
 }
 
-/// Makes a ferry, and another ramp to it.
+/// Makes a ferry.
 fn try_ferry<K: Naming, R: Print>(rt: &R, alloc: Global) -> Result<(), Fault> {
     print!(rt; "ferry ")?;
     for _ in 0..2 {

@@ -5,7 +5,7 @@ use Rattle.cs_script.specs.Lines.{says_get}
 use Rattle.cs_script.specs.Outputs.{absent_line, refusal_line, value_line}
 use Rattle.cs_script.specs.Scripts.{Answers}
 use Rattle.cs_script.proofs.Appended.{prints}
-use Rattle.cs_script.proofs.Histories.{went_as}
+use Rattle.cs_drive.proofs.Histories.{went_as}
 use Rattle.cs_script.proofs.scripts.get.Goals as goal
 
 pub returns-in-Ok-Found : goal.returns-in-Ok-Found

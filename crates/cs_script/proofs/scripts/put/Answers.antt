@@ -7,7 +7,7 @@ use Rattle.cs_script.specs.Lines.{says_put}
 use Rattle.cs_script.specs.Outputs.{refusal_line}
 use Rattle.cs_script.specs.Scripts.{Answers}
 use Rattle.cs_script.proofs.Appended.{prints}
-use Rattle.cs_script.proofs.Histories.{stays_same, stopped_unrecorded}
+use Rattle.cs_drive.proofs.Histories.{stays_same, stopped_unrecorded}
 use Rattle.cs_script.proofs.scripts.put.Goals as goal
 
 pub returns-in-Ok : goal.returns-in-Ok

@@ -5,7 +5,7 @@ use Rattle.cs_script.specs.Lines.{says_put}
 use Rattle.cs_script.specs.Outputs.{put_line, refusal_line}
 use Rattle.cs_script.specs.Scripts.{Answers}
 use Rattle.cs_script.proofs.Appended.{prints}
-use Rattle.cs_script.proofs.Histories.{stopped_as, went_as}
+use Rattle.cs_drive.proofs.Histories.{stopped_as, went_as}
 use Rattle.cs_script.proofs.scripts.put_bytes.Goals as goal
 
 pub returns-in-Ok-Accepted : goal.returns-in-Ok-Accepted

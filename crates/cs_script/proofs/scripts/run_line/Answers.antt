@@ -17,5 +17,5 @@ returns-in-Some-clause-ended g c =
 pub returns-in-None-clause-on : goal.returns-in-None-clause-on
 returns-in-None-clause-on g c =
     on_answer g.D.PageDisk g.D.CrashDisk.can_crash g.D.CrashDisk.volatile_count (said_by c.in-Ok.line) (said_of c.args.text.now) (said_by c.line_to-line.result) c.crashable.result c.args.core c.make_room.new.core c.args.status
-    (g.W.Write.contents c.args.writer.now) (g.W.Write.contents c.answer_line.new.writer) c.answer_line.result c.in-Ok.ensures c.in-None.ensures c.make_room.ensures
+    (g.W.Write.contents c.args.writer.now) (g.W.Write.contents c.answer_line.new.writer) c.answer_line.result c.in-Ok.ensures c.in-None.ensures c.make_room.ensures.made
     (subst (λ d. IsTrue c.crashable.result ↔ g.D.CrashDisk.can_crash d) c.disk.ensures c.crashable.ensures) c.line_to-line.ensures c.answer_line.ensures.on

@@ -2,9 +2,10 @@ use Rattle.std.proofs.Common.{ap, inl, inr, refl}
 use Rattle.cs_core.specs.declared.events.Reply.TheVariants.{Begun, Ended, Issued, Nothing}
 use Rattle.cs_script.specs.Lines.{says_step}
 use Rattle.cs_script.specs.Outputs.{begin_line, end_line, idle_line, issue_line, refusal_line}
-use Rattle.cs_script.specs.Scripts.{Answers, step_event}
+use Rattle.cs_drive.specs.Rounds.{step_event}
+use Rattle.cs_script.specs.Scripts.{Answers}
 use Rattle.cs_script.proofs.Appended.{prints}
-use Rattle.cs_script.proofs.Histories.{stopped_as, went_as}
+use Rattle.cs_drive.proofs.Histories.{stopped_as, went_as}
 use Rattle.cs_script.proofs.steps.step.Goals as goal
 
 pub returns-in-Ok-Issued : goal.returns-in-Ok-Issued

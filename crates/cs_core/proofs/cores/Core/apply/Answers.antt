@@ -1,11 +1,11 @@
-use Rattle.std.proofs.Common.{◌∙◌, ◌<◌, List, arith, drop, length, sym, subst, inr}
+use Rattle.std.proofs.Common.{◌∙◌, ◌<◌, List, drop, length, sym, subst, inr}
 use Rattle.cs_disk.specs.Disk.{Leaves}
 use Rattle.cs_core.specs.Answered.{IsLimited}
 use Rattle.cs_core.specs.declared.events.Event.{Event as Asked}
 use Rattle.cs_core.specs.declared.events.Reply.{Reply as Told}
 use Rattle.cs_core.specs.Stored.{but_for_room}
 use Rattle.cs_core.specs.Views.{View}
-use Rattle.cs_core.proofs.Answering.{answered_shape, answered_writes}
+use Rattle.cs_core.proofs.Answering.{answered_shape, answered_writes, full_shape}
 use Rattle.cs_core.proofs.Applied.{core_of, core_then, core_untouched, crash_then, crash_untouched, kept_is, left_then, left_untouched, step_then}
 use Rattle.cs_core.proofs.Leaving.{LeftBy, left_now, only_left_now}
 use Rattle.cs_core.proofs.cores.Core.apply.Goals as goal
@@ -27,6 +27,9 @@ pub returns-in_err-reply-clause-crash : goal.returns-in_err-reply-clause-crash
 returns-in_err-reply-clause-crash g c = rw (← c.self.view_is) (λ honest.
     crash_untouched g.D.PageDisk c.self.invariant c.in_err-reply.ensures.served c.reserve.new.self.all c.reserve.ensures.all c.reserve.new.self.base c.reserve.ensures.base
     c.extent_count.ensures.whole honest (g.met.D.PageDisk.sized c.self.inside.disk honest) (λ image since. g.met.D.PageDisk.only_now c.self.inside.disk image honest since))
+
+pub returns-then-self-kept-clause-answers : goal.returns-then-self-kept-clause-answers
+returns-then-self-kept-clause-answers g c = full_shape c.args.event.now c.if-is_limited.ensures
 
 pub returns-then-self-kept-clause-left : goal.returns-then-self-kept-clause-left
 returns-then-self-kept-clause-left g c = λ honest.

@@ -1,10 +1,10 @@
-use Rattle.std.proofs.Common.{◌∙◌, ap, le_of_eq, sym}
+use Rattle.std.proofs.Common.{◌∙◌, ap, le_of_eq, refl, sym}
 use Rattle.cs_extent.specs.State.{shape}
 use Rattle.cs_index.specs.State.{id_number}
 use Rattle.cs_model.specs.Index.{live}
 use Rattle.cs_core.specs.contracts.stores.Store.{the_view}
 use Rattle.cs_core.specs.Stored.{Stored, page_total}
-use Rattle.cs_core.proofs.Gets.{get_absent, get_found_answers, get_refused_answers, none_left, some_left}
+use Rattle.cs_core.proofs.Gets.{found_live, get_absent, get_found_answers, get_refused_answers, none_left, some_left}
 use Rattle.cs_core.proofs.Kept.{found_there}
 use Rattle.cs_core.proofs.stores.Store.get.Goals as goal
 
@@ -30,3 +30,21 @@ returns-in-Err-clause-step g c = rw (← c.self.view_is) (λ honest.
     get_refused_answers (the_view c.self.inside) (id_number c.args.id) (g.D.PageDisk.state c.args.disk.now) c.extent_count.ensures.whole c.families.ensures.whole
     (le_of_eq (ap (λ (u : Stored). page_total (shape u.extents)) c.self.view_is ∙ c.requires.device ∙ sym (g.met.D.PageDisk.sized c.args.disk.now honest))) c.in-Some.places.now (sym (ap live c.in-Some.ensures.last)) (some_left c.in-Some.places.now c.if-is_empty.ensures)
     c.in-Err.refusal c.in-Err.ensures.refusals (c.in-Err.ensures.fault honest))
+
+pub returns-in_default-clause-absent : goal.returns-in_default-clause-absent
+returns-in_default-clause-absent g c = rw (← c.self.view_is) ((λ _. sym (ap live c.in_default.ensures.last)), (λ _. refl))
+
+pub returns-then-is_empty-clause-absent : goal.returns-then-is_empty-clause-absent
+returns-then-is_empty-clause-absent g c = rw (← c.self.view_is) ((λ _. sym (ap live c.in-Some.ensures.last) ∙ none_left c.in-Some.places.now c.if-is_empty.ensures), (λ _. refl))
+
+pub returns-in-Ok-clause-absent : goal.returns-in-Ok-clause-absent
+returns-in-Ok-clause-absent g c = rw (← c.self.view_is) (
+  (λ told. absurd (cc told)),
+  (λ none. absurd (found_live (the_view c.self.inside) (id_number c.args.id) c.in-Some.places.now (sym (ap live c.in-Some.ensures.last)) (some_left c.in-Some.places.now c.if-is_empty.ensures) none)),
+)
+
+pub returns-in-Err-clause-absent : goal.returns-in-Err-clause-absent
+returns-in-Err-clause-absent g c = rw (← c.self.view_is) (
+  (λ told. absurd (cc told)),
+  (λ none. absurd (found_live (the_view c.self.inside) (id_number c.args.id) c.in-Some.places.now (sym (ap live c.in-Some.ensures.last)) (some_left c.in-Some.places.now c.if-is_empty.ensures) none)),
+)

@@ -15,7 +15,7 @@ use Rattle.std.specs.Prelude.{IfOk, MatchOption}
 use Rattle.cs_core.specs.Answered.{IsAnswered}
 use Rattle.cs_core.specs.Stored.{but_for_room}
 use Rattle.cs_core.specs.Writebacks.{AddsCommand, IsRoundBegun, Stages}
-use Rattle.cs_core.proofs.Answering.{abandon_so, begin_none_so, begin_so, begin_sweep_so, delete_absent_so, delete_so, if_refused_so, no_other, ok_of, put_so, refused_alone, retire_so, stage_none_so, stage_so}
+use Rattle.cs_core.proofs.Answering.{abandon_so, begin_none_so, begin_refused_so, begin_so, begin_sweep_so, delete_absent_so, delete_so, if_refused_so, no_other, ok_of, put_so, refused_alone, retire_so, stage_none_so, stage_so}
 use Rattle.cs_core.proofs.ServeSteps.{begun_served, declined, if_refused, nothing_served, on_any, on_any_refused, served}
 use Rattle.cs_core.proofs.stores.Store.serve_alone.Goals as goal
 
@@ -37,7 +37,7 @@ pub returns-in-Err-clause-answered : goal.returns-in-Err-clause-answered
 returns-in-Err-clause-answered c =
     let v = but_for_room c.args.self.now in
     let w = but_for_room c.put.new.self in
-    if_refused_so v w c.args.event.now c.in-Err.refusal c.refused.result c.refused.ensures (λ known. subst (λ (e : Asked). IsAnswered v e (told.Refused c.in-Err.refusal) w) (sym c.in-Put.is) (refused_alone v w (asked.Put c.in-Put.id c.in-Put.bytes) tt c.in-Err.refusal known c.in-Err.ensures.refused))
+    if_refused_so v w c.args.event.now c.in-Err.refusal c.refused.result c.refused.ensures (λ known. subst (λ (e : Asked). IsAnswered v e (told.Refused c.in-Err.refusal) w) (sym c.in-Put.is) (refused_alone v w (asked.Put c.in-Put.id c.in-Put.bytes) tt c.in-Err.refusal c.in-Err.ensures.refusals known c.in-Err.ensures.refused))
 
 pub returns-in-Ok-clause-answered : goal.returns-in-Ok-clause-answered
 returns-in-Ok-clause-answered c =
@@ -71,7 +71,7 @@ pub returns-in-Err-delete-clause-answered : goal.returns-in-Err-delete-clause-an
 returns-in-Err-delete-clause-answered c =
     let v = but_for_room c.args.self.now in
     let w = but_for_room c.delete.new.self in
-    if_refused_so v w c.args.event.now c.in-Err-delete.refusal c.refused-in-Err-delete.result c.refused-in-Err-delete.ensures (λ known. subst (λ (e : Asked). IsAnswered v e (told.Refused c.in-Err-delete.refusal) w) (sym c.in-Delete.is) (refused_alone v w (asked.Delete c.in-Delete.id) tt c.in-Err-delete.refusal known c.in-Err-delete.ensures.refused))
+    if_refused_so v w c.args.event.now c.in-Err-delete.refusal c.refused-in-Err-delete.result c.refused-in-Err-delete.ensures (λ known. subst (λ (e : Asked). IsAnswered v e (told.Refused c.in-Err-delete.refusal) w) (sym c.in-Delete.is) (refused_alone v w (asked.Delete c.in-Delete.id) tt c.in-Err-delete.refusal c.in-Err-delete.ensures.refusals known c.in-Err-delete.ensures.refused))
 
 pub returns-in-Ok-Some-clause-answered : goal.returns-in-Ok-Some-clause-answered
 returns-in-Ok-Some-clause-answered c =
@@ -115,7 +115,7 @@ pub returns-in-Err-stage-clause-answered : goal.returns-in-Err-stage-clause-answ
 returns-in-Err-stage-clause-answered c =
     let v = but_for_room c.args.self.now in
     let w = but_for_room c.stage.new.self in
-    if_refused_so v w c.args.event.now c.in-Err-stage.refusal c.refused-in-Err-stage.result c.refused-in-Err-stage.ensures (λ known. subst (λ (e : Asked). IsAnswered v e (told.Refused c.in-Err-stage.refusal) w) (sym c.in-Stage.is) (refused_alone v w asked.Stage tt c.in-Err-stage.refusal known c.in-Err-stage.ensures.refused))
+    if_refused_so v w c.args.event.now c.in-Err-stage.refusal c.refused-in-Err-stage.result c.refused-in-Err-stage.ensures (λ known. subst (λ (e : Asked). IsAnswered v e (told.Refused c.in-Err-stage.refusal) w) (sym c.in-Stage.is) (refused_alone v w asked.Stage tt c.in-Err-stage.refusal c.in-Err-stage.ensures.refusals known c.in-Err-stage.ensures.refused))
 
 pub returns-in-Ok-Some-stage-clause-answered : goal.returns-in-Ok-Some-stage-clause-answered
 returns-in-Ok-Some-stage-clause-answered c =
@@ -159,7 +159,7 @@ pub returns-in-Err-begin-clause-answered : goal.returns-in-Err-begin-clause-answ
 returns-in-Err-begin-clause-answered c =
     let v = but_for_room c.args.self.now in
     let w = but_for_room c.begin.new.self in
-    if_refused_so v w c.args.event.now c.in-Err-begin.refusal c.refused-in-Err-begin.result c.refused-in-Err-begin.ensures (λ known. subst (λ (e : Asked). IsAnswered v e (told.Refused c.in-Err-begin.refusal) w) (sym c.in-Begin.is) (refused_alone v w asked.Begin tt c.in-Err-begin.refusal known c.in-Err-begin.ensures.refused))
+    if_refused_so v w c.args.event.now c.in-Err-begin.refusal c.refused-in-Err-begin.result c.refused-in-Err-begin.ensures (λ known. subst (λ (e : Asked). IsAnswered v e (told.Refused c.in-Err-begin.refusal) w) (sym c.in-Begin.is) (begin_refused_so v w c.in-Err-begin.refusal c.in-Err-begin.ensures.refusals known c.in-Err-begin.ensures.stays))
 
 pub returns-in-Ok-Some-begin-clause-answered : goal.returns-in-Ok-Some-begin-clause-answered
 returns-in-Ok-Some-begin-clause-answered c =
@@ -195,7 +195,7 @@ pub returns-in-Err-begin_sweep-clause-answered : goal.returns-in-Err-begin_sweep
 returns-in-Err-begin_sweep-clause-answered c =
     let v = but_for_room c.args.self.now in
     let w = but_for_room c.begin_sweep.new.self in
-    if_refused_so v w c.args.event.now c.in-Err-begin_sweep.refusal c.refused-in-Err-begin_sweep.result c.refused-in-Err-begin_sweep.ensures (λ known. subst (λ (e : Asked). IsAnswered v e (told.Refused c.in-Err-begin_sweep.refusal) w) (sym c.in-BeginSweep.is) (refused_alone v w (asked.BeginSweep c.in-BeginSweep.e) tt c.in-Err-begin_sweep.refusal known c.in-Err-begin_sweep.ensures.refused))
+    if_refused_so v w c.args.event.now c.in-Err-begin_sweep.refusal c.refused-in-Err-begin_sweep.result c.refused-in-Err-begin_sweep.ensures (λ known. subst (λ (e : Asked). IsAnswered v e (told.Refused c.in-Err-begin_sweep.refusal) w) (sym c.in-BeginSweep.is) (refused_alone v w (asked.BeginSweep c.in-BeginSweep.e) tt c.in-Err-begin_sweep.refusal c.in-Err-begin_sweep.ensures.refusals known c.in-Err-begin_sweep.ensures.refused))
 
 pub returns-in-Ok-begin_sweep-clause-answered : goal.returns-in-Ok-begin_sweep-clause-answered
 returns-in-Ok-begin_sweep-clause-answered c =
@@ -221,7 +221,7 @@ pub returns-in-Err-retire-clause-answered : goal.returns-in-Err-retire-clause-an
 returns-in-Err-retire-clause-answered c =
     let v = but_for_room c.args.self.now in
     let w = but_for_room c.retire.new.self in
-    if_refused_so v w c.args.event.now c.in-Err-retire.refusal c.refused-in-Err-retire.result c.refused-in-Err-retire.ensures (λ known. subst (λ (e : Asked). IsAnswered v e (told.Refused c.in-Err-retire.refusal) w) (sym c.in-Retire.is) (refused_alone v w (asked.Retire c.in-Retire.e) tt c.in-Err-retire.refusal known c.in-Err-retire.ensures.refused))
+    if_refused_so v w c.args.event.now c.in-Err-retire.refusal c.refused-in-Err-retire.result c.refused-in-Err-retire.ensures (λ known. subst (λ (e : Asked). IsAnswered v e (told.Refused c.in-Err-retire.refusal) w) (sym c.in-Retire.is) (refused_alone v w (asked.Retire c.in-Retire.e) tt c.in-Err-retire.refusal c.in-Err-retire.ensures.refusals known c.in-Err-retire.ensures.refused))
 
 pub returns-in-Ok-retire-clause-answered : goal.returns-in-Ok-retire-clause-answered
 returns-in-Ok-retire-clause-answered c =
@@ -247,7 +247,7 @@ pub returns-in-Err-abandon-clause-answered : goal.returns-in-Err-abandon-clause-
 returns-in-Err-abandon-clause-answered c =
     let v = but_for_room c.args.self.now in
     let w = but_for_room c.abandon.new.self in
-    if_refused_so v w c.args.event.now c.in-Err-abandon.refusal c.refused-in-Err-abandon.result c.refused-in-Err-abandon.ensures (λ known. subst (λ (e : Asked). IsAnswered v e (told.Refused c.in-Err-abandon.refusal) w) (sym c.in-Abandon.is) (refused_alone v w (asked.Abandon c.in-Abandon.e) tt c.in-Err-abandon.refusal known c.in-Err-abandon.ensures.refused))
+    if_refused_so v w c.args.event.now c.in-Err-abandon.refusal c.refused-in-Err-abandon.result c.refused-in-Err-abandon.ensures (λ known. subst (λ (e : Asked). IsAnswered v e (told.Refused c.in-Err-abandon.refusal) w) (sym c.in-Abandon.is) (refused_alone v w (asked.Abandon c.in-Abandon.e) tt c.in-Err-abandon.refusal c.in-Err-abandon.ensures.refusals known c.in-Err-abandon.ensures.refused))
 
 pub returns-in-Ok-abandon-clause-answered : goal.returns-in-Ok-abandon-clause-answered
 returns-in-Ok-abandon-clause-answered c =

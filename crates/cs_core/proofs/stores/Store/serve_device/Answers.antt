@@ -23,7 +23,7 @@ pub returns-in-Err : goal.returns-in-Err
 returns-in-Err g c =
     let disk = g.D.PageDisk.state c.args.disk.now in
     let after = g.D.PageDisk.state c.issue.new.disk in
-    let answered = λ (known : c.in-Err.refusal ≢ code.OutOfMemory). issue_refused_so (but_for_room c.args.self.now) (but_for_room c.issue.new.self) c.in-Err.refusal known c.in-Err.ensures.issued in
+    let answered = λ (known : c.in-Err.refusal ≢ code.OutOfMemory). issue_refused_so (but_for_room c.args.self.now) (but_for_room c.issue.new.self) c.in-Err.refusal c.in-Err.ensures.refusals known c.in-Err.ensures.issued in
     let step = λ (honest : g.D.PageDisk.honest c.args.disk.now) (known : c.in-Err.refusal ≢ code.OutOfMemory). issue_refused c.args.self.now c.issue.new.self disk after c.in-Err.refusal (c.in-Err.ensures.step c.requires.running honest) known in
     search (rules, if_refused_so, if_refused)
 
@@ -39,7 +39,7 @@ pub returns-in-Err-end : goal.returns-in-Err-end
 returns-in-Err-end g c =
     let disk = g.D.PageDisk.state c.args.disk.now in
     let after = g.D.PageDisk.state c.end.new.disk in
-    let answered = λ (known : c.in-Err-end.refusal ≢ code.OutOfMemory). end_refused_so (but_for_room c.args.self.now) (but_for_room c.end.new.self) c.in-Err-end.refusal known c.in-Err-end.ensures.ended in
+    let answered = λ (known : c.in-Err-end.refusal ≢ code.OutOfMemory). end_refused_so (but_for_room c.args.self.now) (but_for_room c.end.new.self) c.in-Err-end.refusal c.in-Err-end.ensures.refusals known c.in-Err-end.ensures.ended in
     let step = λ (honest : g.D.PageDisk.honest c.args.disk.now) (known : c.in-Err-end.refusal ≢ code.OutOfMemory). end_refused c.args.self.now c.end.new.self disk after c.in-Err-end.refusal (c.in-Err-end.ensures.step c.requires.running honest) known in
     search (rules, if_refused_so, if_refused)
 
@@ -67,6 +67,6 @@ pub returns-in-Err-move_one : goal.returns-in-Err-move_one
 returns-in-Err-move_one g c =
     let disk = g.D.PageDisk.state c.args.disk.now in
     let after = g.D.PageDisk.state c.move_one.new.disk in
-    let answered = λ (known : c.in-Err-move_one.refusal ≢ code.OutOfMemory). refused_alone (but_for_room c.args.self.now) (but_for_room c.move_one.new.self) (asked.MoveOne c.in-MoveOne.e) tt c.in-Err-move_one.refusal known c.in-Err-move_one.ensures.refused in
+    let answered = λ (known : c.in-Err-move_one.refusal ≢ code.OutOfMemory). refused_alone (but_for_room c.args.self.now) (but_for_room c.move_one.new.self) (asked.MoveOne c.in-MoveOne.e) tt c.in-Err-move_one.refusal c.in-Err-move_one.ensures.refusals known c.in-Err-move_one.ensures.refused in
     let step = λ (honest : g.D.PageDisk.honest c.args.disk.now) (known : c.in-Err-move_one.refusal ≢ code.OutOfMemory). move_refused c.args.self.now c.move_one.new.self disk after c.in-MoveOne.e c.in-Err-move_one.refusal (c.move_one.ensures.disk.same honest) (c.in-Err-move_one.ensures.step c.requires.running honest) known in
     search (rules, if_refused_so, if_refused)

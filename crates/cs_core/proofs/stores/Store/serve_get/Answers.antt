@@ -8,6 +8,7 @@ use Rattle.cs_core.specs.declared.events.Event.TheVariants as asked
 use Rattle.cs_core.specs.Reads.{GetAnswers}
 use Rattle.cs_core.specs.Stored.{but_for_room}
 use Rattle.cs_core.proofs.Answering.{get_absent_so, get_found_so, if_found_so, if_refused_so, refused_alone}
+use Rattle.cs_core.proofs.Refusing.{get_refuses}
 use Rattle.cs_core.proofs.ServeSteps.{absent_served, found_served, get_refused, if_found, if_refused}
 use Rattle.cs_core.proofs.stores.Store.serve_get.Goals as goal
 
@@ -23,7 +24,7 @@ returns-in-Ok-None-clause-served g c =
 pub returns-in-Err-clause-served : goal.returns-in-Err-clause-served
 returns-in-Err-clause-served g c =
     let v = but_for_room c.args.self.now in
-    let answered = λ (known : c.in-Err.refusal ≢ code.OutOfMemory). refused_alone v v (asked.Get c.args.id) tt c.in-Err.refusal known refl in
+    let answered = λ (known : c.in-Err.refusal ≢ code.OutOfMemory). refused_alone v v (asked.Get c.args.id) tt c.in-Err.refusal (get_refuses c.args.id c.in-Err.refusal c.in-Err.ensures.refusals) known refl in
     let step = λ (honest : g.D.PageDisk.honest c.args.disk.now) (known : c.in-Err.refusal ≢ code.OutOfMemory).
     get_refused c.args.self.now (g.D.PageDisk.state c.args.disk.now) (g.D.PageDisk.state c.get.new.disk) c.args.id c.in-Err.refusal (c.get.ensures.disk.same honest) (c.in-Err.ensures.step honest) known in
     search (rules, if_refused_so, if_refused)

@@ -1,0 +1,107 @@
+//! What a core is asked outside of its history.
+//!
+//! These calls are no events: nothing is recorded of them, so the history doesn't keep the bytes that they give, and they are answered
+//! however many events are kept, and in a halted core too.
+ghost use Rattle.std.specs.Prelude.{IfErr, IfOk, IsTrue, List, MatchResult, None, [], length, ℕ, ◌+◌, ◌<◌, ◌↔◌, ◌≡◌, ◌≢◌, ◌≤◌};
+ghost use Rattle.cs_chunk.specs.Chunks.{IsFrameAt, kind_of};
+ghost use Rattle.cs_chunk.specs.Newest.{AreNewest};
+ghost use Rattle.cs_chunk.specs.Reads.{AnswersFault, IsCaused, IsNoAnswer, IsReadRefusal, OnlyReads, fault_at};
+ghost use Rattle.cs_disk.specs.Disk.{LeavesOnly, page, seen};
+ghost use Rattle.cs_extent.specs.State.{shape};
+ghost use Rattle.cs_frame.specs.Formats.{formats_of};
+ghost use Rattle.cs_index.specs.State.{id_number, index_of};
+ghost use Rattle.cs_model.specs.Index.{live_at};
+ghost use Rattle.cs_model.specs.State.{State, map_now};
+ghost use Rattle.cs_refine.specs.Crashes.{IsPrefix};
+ghost use Rattle.cs_core.specs.Lookups.{IsReading};
+ghost use Rattle.cs_core.specs.Meanings.{commands_said};
+ghost use Rattle.cs_core.specs.Stored.{AreInside};
+ghost use Rattle.cs_core.specs.Views.{IsIn};
+
+use crate::cores::Core;
+use cs_deps::Refusal;
+use cs_disk::PageDisk;
+use cs_extent::Extents;
+use cs_frame::{FrameKind, Locator, ShardId};
+use cs_index::Index;
+
+impl<D: PageDisk> Core<D> {
+    /// The bytes of a shard, None where there is none: what the event Get would answer. Searches the index, and reads each page of each
+    /// chunk once, from the newest write to it that waits, else from the device. It takes memory for the bytes and for the pages of a chunk.
+    ///
+    /// Refused 1 DeviceFault where a read failed, 20 BadMagic, 21 BadDigest, 22 BadLength, 23 BadPadding or 24 BadVersion where a chunk is
+    /// damaged, by the first test that fails, and 9 OutOfMemory.
+    pub fn read(&mut self, id: ShardId) -> Result<Option<Vec<u8>>, Refusal>
+        ensures answer { D.honest self.old.disk → (s : State) → IsIn D.state self.old s → IsReading (map_now s (id_number id)) result }
+        // Whatever the disk does, None is answered where the index has no places of the shard's chunks, and nowhere else.
+        ensures absent { (result ≡ Ok None) ↔ (live_at (index_of self.old.store.index) (id_number id) ≡ []) }
+        ensures refusals { IfErr result IsReadRefusal }
+        ensures same { self.new ≡ record self.old { disk = self.new.disk } }
+        ensures disk { OnlyReads D.PageDisk self.old.disk self.new.disk }
+        ensures cause { IsCaused (D.failure_count self.old.disk) (D.failure_count self.new.disk) result }
+        // A crash meanwhile leaves what one before it might have left.
+        ensures crash { D.honest self.old.disk → LeavesOnly D.moment D.left_since self.old.disk self.new.disk (IsPrefix (shape self.old.store.extents) (page self.old.opened) (commands_said self.old.history) self.old.store.frontier self.old.store.accepted) }
+    {
+        // Called for its contract alone: what all extents keep.
+        self.store.extent_count();
+        self.store.get(&mut self.disk, id)
+    }
+
+    /// Whether there is a shard, by the index alone: neither the device nor memory is asked for anything. Its chunks may be damaged.
+    pub fn contains(&self, id: ShardId) -> bool
+        ensures map { (s : State) → IsIn D.state self.now s → (IsTrue result ↔ (map_now s (id_number id) ≢ None)) }
+        ensures lookup { IsTrue result ↔ (live_at (index_of self.now.store.index) (id_number id) ≢ []) }
+    {
+        self.store.is_live(id)
+    }
+
+    /// The payload of the frame of this kind that begins at a place, for whoever goes through the frames to see that they can be read. Each
+    /// page is read once, from the newest write to it that waits, else from the device; the header's tests are made before the second
+    /// page is read. It takes memory for the pages and the payload.
+    ///
+    /// Refused 20 BadMagic, 21 BadDigest, 22 BadLength, 23 BadPadding or 24 BadVersion, the first test that fails, where no frame of this
+    /// kind begins there; 1 DeviceFault where a read failed; 9 OutOfMemory.
+    pub fn read_frame(&mut self, kind: FrameKind, place: Locator) -> Result<Vec<u8>, Refusal>
+        requires extent { place.extent < (shape self.old.store.extents).extents }
+        requires page { place.page < (shape self.old.store.extents).pages }
+        // What is read is the payload of a frame there.
+        ensures payload { D.honest self.old.disk → (view : ℕ → List ℕ) → AreNewest self.old.store.graph (seen (D.state self.old.disk)) view
+            → IfOk result (λ payload. IsFrameAt (shape self.old.store.extents) view (kind_of kind) place payload.items) }
+        // Where there is a frame its payload is read, unless the device or memory refuses.
+        ensures read { D.honest self.old.disk → (view : ℕ → List ℕ) (payload : List ℕ) → AreNewest self.old.store.graph (seen (D.state self.old.disk)) view
+            → IsFrameAt (shape self.old.store.extents) view (kind_of kind) place payload → MatchResult result (λ found. found.items ≡ payload) IsNoAnswer }
+        // Each other refusal is that of the first test that fails.
+        ensures fault { D.honest self.old.disk → (view : ℕ → List ℕ) → AreNewest self.old.store.graph (seen (D.state self.old.disk)) view
+            → AnswersFault (fault_at (shape self.old.store.extents) view kind place) result }
+        ensures refusals { IfErr result IsReadRefusal }
+        // Whatever the disk answers, the frame of what is read lies in the extent.
+        ensures size { IfOk result (λ payload. place.page + length ((formats_of (shape self.old.store.extents)).frame (kind_of kind) payload.items) ≤ (shape self.old.store.extents).pages) }
+        ensures same { self.new ≡ record self.old { disk = self.new.disk } }
+        ensures disk { OnlyReads D.PageDisk self.old.disk self.new.disk }
+        ensures cause { IsCaused (D.failure_count self.old.disk) (D.failure_count self.new.disk) result }
+        // A crash meanwhile leaves what one before it might have left.
+        ensures crash { D.honest self.old.disk → LeavesOnly D.moment D.left_since self.old.disk self.new.disk (IsPrefix (shape self.old.store.extents) (page self.old.opened) (commands_said self.old.history) self.old.store.frontier self.old.store.accepted) }
+    {
+        // Called for its contract alone: what all extents keep.
+        self.store.extent_count();
+        self.store.read_frame(&mut self.disk, kind, place)
+    }
+
+    /// The extents: their geometry, and of each its pointer, its generation, and whether it is open or being swept.
+    pub fn extents(&self) -> &Extents
+        ensures { result.now ≡ self.now.store.extents }
+    {
+        &self.store.extents
+    }
+
+    /// The index: its runs, how many identifiers are named, and their entries with the places of the chunks. `read_frame` takes each place of
+    /// a shard that is there.
+    pub fn index(&self) -> &Index
+        // For how many more entries there is room isn't part of a core's value.
+        ensures index { self.now.store.index ≡ record result.now { room = 0 } }
+        // All chunks of all shards that are there begin on pages of the extents.
+        ensures places { AreInside (shape self.now.store.extents) result.now }
+    {
+        self.store.index()
+    }
+}
