@@ -7,6 +7,12 @@ pub fn begin<R: Print>(rt: &R) -> io::Result<()> {
     print!(rt; "[")
 }
 
+/// A call of this name begins.
+pub fn begin_call<R: Print>(rt: &R, name: &str) -> io::Result<()> {
+    print!(rt; "{name} ")?;
+    begin(rt)
+}
+
 /// It has ended.
 pub fn end<R: Print>(rt: &R) -> io::Result<()> {
     print!(rt; "]")

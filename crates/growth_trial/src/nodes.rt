@@ -124,20 +124,21 @@ fn play_all<D: PageDisk, K: Naming, R: Wait + Print>(
 ) -> Result<Purse<K>, Fault> {
     try_ferry::<K, R>(rt, alloc)?;
     let mut hand = new_hand(rt, alloc, node)?;
-    match play_lines(rt, alloc, node, &mut hand) {
+    match play_lines(rt, alloc, node, &mut hand, CALLS) {
         Ok(()) => Ok(hand.purse),
         Err(fault) => Err(fault),
     }
 }
 
-/// Makes the calls of the lines.
+/// Makes the calls of a script's lines.
 fn play_lines<D: PageDisk, K: Naming, R: Wait + Print>(
     rt: &R,
     alloc: Global,
     node: &Node<D, K>,
     hand: &mut Hand<K>,
+    script: &str,
 ) -> Result<(), Fault> {
-    for text in CALLS.lines() {
+    for text in script.lines() {
         print!(rt; "{text} ")?;
         play(rt, alloc, node, hand, line_of(text))?;
     }

@@ -22,7 +22,7 @@ pub fn try_parts<D: PageDisk, R: Print>(rt: &R, alloc: Global, disk: &mut D) -> 
     disk.read(0, &mut page)?;
     try_index(rt, alloc)?;
     try_extents(rt, alloc, &page)?;
-    try_graph(rt, alloc)
+    try_graph(rt, alloc, &page)
 }
 
 /// Tells what an index has.
@@ -117,32 +117,38 @@ fn try_reset<R: Print>(rt: &R, extents: &mut Extents) -> Result<(), Fault> {
     Ok(())
 }
 
-/// Stages a version of a family.
-fn stage(graph: &mut Graph, family: usize, needs: Dependency) -> Result<u64, Fault> {
+/// Stages a version of a family, with these bytes.
+fn stage(
+    graph: &mut Graph,
+    page: &[u8; 4096],
+    family: usize,
+    needs: Dependency,
+) -> Result<u64, Fault> {
     if family >= graph.families() {
         return Err(Fault::Missing);
     }
-    Ok(graph.stage_version(family, 0, &[7; 4096], needs)?)
+    Ok(graph.stage_version(family, 0, page, needs)?)
 }
 
-/// A graph of eight sections and the root, in which a plain write waits, versions of all sections that need it, and a root that needs these.
-fn new_graph(alloc: Global) -> Result<Graph, Fault> {
+/// A graph of eight sections and the root, in which a plain write waits, versions of all sections that need it, and a root that needs these, all
+/// of them with these bytes.
+fn new_graph(alloc: Global, page: &[u8; 4096]) -> Result<Graph, Fault> {
     let mut graph = Graph::new(alloc, &[1; 9])?;
-    graph.stage_plain(2, &[7; 4096], Dependency::none(alloc))?;
+    graph.stage_plain(2, page, Dependency::none(alloc))?;
     let mut sections = Dependency::none(alloc);
     for section in 1..9 {
         // the root's family comes after that of section 0
         let family = if section == 1 { 0 } else { section };
-        stage(&mut graph, family, Dependency::on_write(alloc, 1)?)?;
+        stage(&mut graph, page, family, Dependency::on_write(alloc, 1)?)?;
         sections = sections.and(&Dependency::on_version(alloc, family, 2)?)?;
     }
-    stage(&mut graph, 1, sections)?;
+    stage(&mut graph, page, 1, sections)?;
     Ok(graph)
 }
 
 /// Tells what is known of a graph, and settles its rounds.
-fn try_graph<R: Print>(rt: &R, alloc: Global) -> Result<(), Fault> {
-    let mut graph = new_graph(alloc)?;
+fn try_graph<R: Print>(rt: &R, alloc: Global, page: &[u8; 4096]) -> Result<(), Fault> {
+    let mut graph = new_graph(alloc, page)?;
     match tell_graph(rt, &graph, &Dependency::through(alloc, 1)) {
         Ok(()) => settle_rounds(rt, &mut graph),
         Err(_) => Err(Fault::Output),

@@ -20,8 +20,8 @@ pub fn line_of(text: &str) -> Line<'_> {
 
 /// The number that a word is, 0 where there is none.
 fn number(word: Option<&str>) -> u8 {
-    match word {
-        Some(word) => word.parse::<u8>().unwrap_or(0),
-        None => 0,
+    match word.unwrap_or("0").parse::<u8>() {
+        Ok(number) => number,
+        Err(_) => 0,
     }
 }

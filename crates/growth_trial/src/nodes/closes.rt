@@ -1,6 +1,6 @@
 //! The end of a node.
 use crate::faults::Fault;
-use crate::marks::{begin, end, ended, refused};
+use crate::marks::{begin, begin_call, end, ended, refused};
 use cs_disk::PageDisk;
 use cs_node::{Closed, Naming, Node, NotClosed, Purse, Rest, Unclosed};
 use std::alloc::Global;
@@ -42,15 +42,16 @@ fn resumed<D: PageDisk + Drop, K: Naming, R: Print>(
     rt: &R,
     node: Node<D, K>,
 ) -> Result<Node<D, K>, Fault> {
-    print!(rt; "rest ")?;
-    begin(rt)?;
+    let told = begin_call(rt, "rest");
     let rest = node.rest();
-    ended(rt, &rest.given())?;
-    print!(rt; "resume ")?;
-    begin(rt)?;
+    let told = told
+        .and(ended(rt, &rest.given()))
+        .and(begin_call(rt, "resume"));
     let node = rest.resume();
-    ended(rt, &true)?;
-    Ok(node)
+    match told.and(ended(rt, &true)) {
+        Ok(()) => Ok(node),
+        Err(error) => Err(Fault::from(error)),
+    }
 }
 
 /// What comes back where memory was refused.

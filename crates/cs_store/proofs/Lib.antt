@@ -1,0 +1,10 @@
+pub mod Commanding
+pub mod Commands
+pub mod Accepting
+pub mod Asking
+pub mod Deleting
+pub mod Filling
+pub mod Getting
+pub mod Maps
+pub mod Refusing
+pub mod Running

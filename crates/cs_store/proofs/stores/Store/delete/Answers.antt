@@ -1,0 +1,80 @@
+use Rattle.std.proofs.Common.{◌∙◌, ap, refl, subst, sym}
+use Rattle.cs_extent.specs.State.{IsWhole}
+use Rattle.cs_core.specs.declared.events.Event.TheVariants.{Delete}
+use Rattle.cs_core.specs.declared.events.Reply.TheVariants.{Absent, Accepted}
+use Rattle.cs_store.specs.Errors.{delete_refusal}
+use Rattle.cs_store.proofs.Commanding.{absent_maps, absent_number, delete_declines, delete_maps, delete_number, does_as}
+use Rattle.cs_store.proofs.Deleting.{absent_there, deleted_there}
+use Rattle.cs_store.proofs.Running.{ran_leaves, ran_rises}
+use Rattle.cs_store.proofs.Refusing.{delete_is}
+use Rattle.cs_store.proofs.stores.Store.delete.Goals as goal
+
+pub returns-in-Ok-Accepted-clause-done : goal.returns-in-Ok-Accepted-clause-done
+returns-in-Ok-Accepted-clause-done g c = rw (← c.self.view_is)
+    (does_as g.D.PageDisk c.self.inside.core c.ask_ready.new.core (Delete c.args.id) c.in-Ok-Accepted.field-0 (Accepted c.in-Ok-Accepted.number) c.in-Ok-Accepted.field-0-is c.in-Ok-Accepted.ensures.done)
+
+pub returns-in-Ok-Accepted-clause-number : goal.returns-in-Ok-Accepted-clause-number
+returns-in-Ok-Accepted-clause-number g c = rw (← c.self.view_is) (λ honest.
+    let s = c.progress.ensures.legal honest in
+    delete_number g.D.PageDisk c.self.inside.core c.ask_ready.new.core c.args.id c.in-Ok-Accepted.field-0 c.in-Ok-Accepted.number c.in-Ok-Accepted.field-0-is c.in-Ok-Accepted.ensures.done c.in-Ok-Accepted.ensures.accepts s.0 honest s.1 c.ask_ready.ensures.ran)
+
+pub returns-in-Ok-Accepted-clause-map : goal.returns-in-Ok-Accepted-clause-map
+returns-in-Ok-Accepted-clause-map g c = rw (← c.self.view_is) (delete_maps g.D.PageDisk c.self.inside.core c.ask_ready.new.core c.args.id c.in-Ok-Accepted.field-0 c.in-Ok-Accepted.number c.in-Ok-Accepted.field-0-is c.in-Ok-Accepted.ensures.accepts)
+
+pub returns-in-Ok-Accepted-clause-absent : goal.returns-in-Ok-Accepted-clause-absent
+returns-in-Ok-Accepted-clause-absent g c = rw (← c.self.view_is) (λ m has honest. (
+  (λ e. absurd (cc e)),
+  λ none. absurd (deleted_there g.D.PageDisk c.self.inside.core c.ask_ready.new.core c.args.id (subst IsWhole c.extents.ensures c.extent_count.ensures.whole) m has honest c.in-Ok-Accepted.field-0 c.in-Ok-Accepted.number c.in-Ok-Accepted.field-0-is (c.in-Ok-Accepted.ensures.machine honest) none),
+))
+
+pub returns-in-Ok-Accepted-clause-crash : goal.returns-in-Ok-Accepted-clause-crash
+returns-in-Ok-Accepted-clause-crash g c = rw (← c.self.view_is) (λ honest.
+    let s = c.progress.ensures.legal honest in
+    ran_leaves g.D.PageDisk c.self.inside.core c.ask_ready.new.core s.0 honest s.1 (c.progress.ensures.left honest) (λ image since. g.met.D.PageDisk.only_now c.self.inside.core.disk image honest since) c.ask_ready.ensures.ran)
+
+pub returns-in-Ok-Absent-clause-done : goal.returns-in-Ok-Absent-clause-done
+returns-in-Ok-Absent-clause-done g c = rw (← c.self.view_is)
+    (does_as g.D.PageDisk c.self.inside.core c.ask_ready.new.core (Delete c.args.id) c.in-Ok-Absent.field-0 Absent c.in-Ok-Absent.field-0-is c.in-Ok-Absent.ensures.done)
+
+pub returns-in-Ok-Absent-clause-number : goal.returns-in-Ok-Absent-clause-number
+returns-in-Ok-Absent-clause-number g c = rw (← c.self.view_is) (λ honest.
+    let s = c.progress.ensures.legal honest in
+    absent_number g.D.PageDisk c.self.inside.core c.ask_ready.new.core c.args.id c.in-Ok-Absent.field-0 c.in-Ok-Absent.field-0-is c.in-Ok-Absent.ensures.accepts s.0 honest s.1 c.ask_ready.ensures.ran)
+
+pub returns-in-Ok-Absent-clause-map : goal.returns-in-Ok-Absent-clause-map
+returns-in-Ok-Absent-clause-map g c = rw (← c.self.view_is) (absent_maps g.D.PageDisk c.self.inside.core c.ask_ready.new.core c.args.id c.in-Ok-Absent.field-0 c.in-Ok-Absent.field-0-is c.in-Ok-Absent.ensures.accepts)
+
+pub returns-in-Ok-Absent-clause-absent : goal.returns-in-Ok-Absent-clause-absent
+returns-in-Ok-Absent-clause-absent g c = rw (← c.self.view_is) (λ m has honest. (
+  (λ e. absent_there g.D.PageDisk c.self.inside.core c.ask_ready.new.core c.args.id (subst IsWhole c.extents.ensures c.extent_count.ensures.whole) m has honest c.in-Ok-Absent.field-0 c.in-Ok-Absent.field-0-is (c.in-Ok-Absent.ensures.machine honest)),
+  λ none. refl,
+))
+
+pub returns-in-Ok-Absent-clause-crash : goal.returns-in-Ok-Absent-clause-crash
+returns-in-Ok-Absent-clause-crash g c = rw (← c.self.view_is) (λ honest.
+    let s = c.progress.ensures.legal honest in
+    ran_leaves g.D.PageDisk c.self.inside.core c.ask_ready.new.core s.0 honest s.1 (c.progress.ensures.left honest) (λ image since. g.met.D.PageDisk.only_now c.self.inside.core.disk image honest since) c.ask_ready.ensures.ran)
+
+pub returns-clause-refused : goal.returns-clause-refused
+returns-clause-refused g c = rw (← c.self.view_is)
+    (delete_declines g.D.PageDisk c.self.inside.core c.ask_ready.new.core c.args.id c.in-Err.refusal (delete_refusal c.of.result) c.of.ensures c.in-Err.ensures.declined)
+
+pub returns-clause-crash : goal.returns-clause-crash
+returns-clause-crash g c = rw (← c.self.view_is) (λ honest.
+    let s = c.progress.ensures.legal honest in
+    ran_leaves g.D.PageDisk c.self.inside.core c.ask_ready.new.core s.0 honest s.1 (c.progress.ensures.left honest) (λ image since. g.met.D.PageDisk.only_now c.self.inside.core.disk image honest since) c.ask_ready.ensures.ran)
+
+pub returns-clause-full : goal.returns-clause-full
+returns-clause-full g c = rw (← c.self.view_is) (λ honest full. c.in-Err.ensures.full honest (sym c.of.ensures ∙ ap delete_refusal full))
+
+pub of-requires : goal.of-requires
+of-requires g c = delete_is c.args.id c.in-Err.refusal c.in-Err.ensures.refusals
+
+pub returns-in-Ok-Accepted-clause-rises : goal.returns-in-Ok-Accepted-clause-rises
+returns-in-Ok-Accepted-clause-rises g c = rw (← c.self.view_is) (ran_rises g.D.PageDisk c.self.inside.core c.ask_ready.new.core c.ask_ready.ensures.ran)
+
+pub returns-in-Ok-Absent-clause-rises : goal.returns-in-Ok-Absent-clause-rises
+returns-in-Ok-Absent-clause-rises g c = rw (← c.self.view_is) (ran_rises g.D.PageDisk c.self.inside.core c.ask_ready.new.core c.ask_ready.ensures.ran)
+
+pub returns-clause-rises : goal.returns-clause-rises
+returns-clause-rises g c = rw (← c.self.view_is) (ran_rises g.D.PageDisk c.self.inside.core c.ask_ready.new.core c.ask_ready.ensures.ran)

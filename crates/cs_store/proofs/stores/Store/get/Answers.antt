@@ -1,0 +1,22 @@
+use Rattle.std.proofs.Common.{subst, sym}
+use Rattle.cs_extent.specs.State.{IsWhole}
+use Rattle.cs_index.specs.State.{id_number}
+use Rattle.cs_model.specs.State.{map_now}
+use Rattle.cs_store.specs.Gets.{IsGot}
+use Rattle.cs_store.proofs.Getting.{got, got_not, map_is}
+use Rattle.cs_store.proofs.Refusing.{get_is}
+use Rattle.cs_store.proofs.stores.Store.get.Goals as goal
+use Rattle.cs_store.proofs.stores.Store.get.Goals.{in-Err, in-Ok}
+
+pub returns-clause-answer : goal.returns-clause-answer
+returns-clause-answer g c = rw (← c.self.view_is) (λ m has honest.
+    let s = c.progress.ensures.legal honest in
+    let id = id_number c.args.id in
+    let is = map_is g.D.PageDisk.state c.self.inside.core m s.0 (subst IsWhole c.extents.ensures c.extent_count.ensures.whole) has s.1 id in
+    elim c.match-read.branch [
+      | in-Ok w ↦ subst (IsGot (m id)) (sym w.result-is) (got (m id) (map_now s.0 id) w.in-Ok.found is (w.in-Ok.ensures.answer honest s.0 s.1))
+      | in-Err w ↦ subst (IsGot (m id)) (sym w.result-is) (got_not (m id) (map_now s.0 id) w.in-Err.refusal w.of.result is w.of.ensures (w.in-Err.ensures.answer honest s.0 s.1))
+    ])
+
+pub of-requires : goal.of-requires
+of-requires g c = get_is c.in-Err.refusal c.in-Err.ensures.refusals

@@ -1,0 +1,60 @@
+//! Sweeps.
+ghost use Rattle.std.specs.Prelude.{◌≤◌, ◌↔◌, ◌⊎◌, IfErr, IfOk, []};
+ghost use Rattle.cs_disk.specs.Disk.{LeavesOnly, page};
+ghost use Rattle.cs_extent.specs.State.{shape};
+ghost use Rattle.cs_model.specs.Element.{Map};
+ghost use Rattle.cs_refine.specs.Crashes.{IsPrefix};
+ghost use Rattle.cs_core.specs.Meanings.{commands_said};
+ghost use Rattle.cs_drive.specs.Runs.{Ran};
+ghost use Rattle.cs_drive.specs.Sweeps.{MayRefuseSweep};
+ghost use Rattle.cs_store.specs.Errors.{IsDeleteRefusal, sweep_refusal};
+ghost use Rattle.cs_store.specs.Maps.{Accepts, HasMap};
+ghost use Rattle.cs_store.specs.Sweeps.{DeclinesSweep, SweepsReady};
+
+use crate::errors::SweepError;
+use crate::rooms::make_ready;
+use crate::stores::Store;
+use cs_core::Core;
+use cs_deps::Refusal;
+use cs_disk::PageDisk;
+use cs_drive::{Swept, sweep};
+
+/// Makes room for a sweep and has the core do it.
+fn sweep_ready<D: PageDisk>(core: &mut Core<D>, extent: usize) -> Result<Swept, Refusal>
+    ensures done { IfOk result (λ swept. SweepsReady D.PageDisk extent core.old core.new swept.moved swept.root) }
+    ensures declined { IfErr result (λ refusal. DeclinesSweep D.PageDisk extent core.old core.new refusal) }
+    ensures refusals { IfErr result (λ refusal. IsDeleteRefusal refusal ⊎ MayRefuseSweep refusal) }
+    ensures accepts { Accepts D.PageDisk [] core.old core.new }
+    ensures ran { Ran D.PageDisk core.old core.new }
+{
+    match make_ready(core) {
+        Ok(()) => sweep(core, extent),
+        Err(refusal) => Err(refusal),
+    }
+}
+
+impl<D: PageDisk> Store<D> {
+    /// Moves what is live on an extent off it and retires it, so that its pages can be written anew once that is persistent, and gives how many chunks
+    /// were moved and under which root it was retired. Each chunk is read and staged again. A sweep that is refused after it began is abandoned; what
+    /// was moved stays where it is then.
+    ///
+    /// Refused 33 NotSweepable where the extent is open, empty, being swept or not there; 1 DeviceFault; 9 OutOfMemory, where the extent may be being
+    /// swept still; 20 BadMagic, 21 BadDigest, 22 BadLength, 23 BadPadding or 24 BadVersion where a chunk is damaged; 30 Full; 34 StillLive; 35 WornOut;
+    /// 40 Halted; and 41 HistoryFull where more chunks are to be moved than events may be kept.
+    pub fn sweep(&mut self, extent: usize) -> Result<Swept, SweepError>
+        ensures done { IfOk result (λ swept. SweepsReady D.PageDisk extent self.old self.new swept.moved swept.root) }
+        ensures refused { IfErr result (λ error. DeclinesSweep D.PageDisk extent self.old self.new (sweep_refusal error)) }
+        ensures map { (m : Map) → HasMap self.old m → HasMap self.new m }
+        ensures rises { self.old.store.frontier ≤ self.new.store.frontier }
+        // A crash at any moment of it leaves the map after some of the commands, none of those left out that were persistent before.
+        ensures crash { D.honest self.old.disk → LeavesOnly D.moment D.left_since self.old.disk self.new.disk (IsPrefix (shape self.old.store.extents) (page self.old.opened) (commands_said self.new.history) self.old.store.frontier self.new.store.accepted) }
+        ensures honest { D.honest self.old.disk ↔ D.honest self.new.disk }
+    {
+        // Called for its contract alone: which state of the machine the store is in.
+        self.core.progress();
+        match sweep_ready(&mut self.core, extent) {
+            Ok(swept) => Ok(swept),
+            Err(refusal) => Err(SweepError::of(refusal)),
+        }
+    }
+}

@@ -1,0 +1,42 @@
+//! Syncs.
+ghost use Rattle.std.specs.Prelude.{◌≡◌, ◌≤◌, ◌↔◌, IfErr, IfOk};
+ghost use Rattle.cs_disk.specs.Disk.{LeavesOnly, page};
+ghost use Rattle.cs_extent.specs.State.{shape};
+ghost use Rattle.cs_model.specs.Element.{Map};
+ghost use Rattle.cs_refine.specs.Crashes.{IsPrefix};
+ghost use Rattle.cs_core.specs.Meanings.{commands_said};
+ghost use Rattle.cs_drive.specs.Syncs.{StopsSync, Syncs};
+ghost use Rattle.cs_store.specs.Errors.{sync_refusal};
+ghost use Rattle.cs_store.specs.Maps.{HasMap};
+
+use crate::errors::SyncError;
+use crate::stores::Store;
+use cs_disk::PageDisk;
+use cs_drive::sync;
+
+impl<D: PageDisk> Store<D> {
+    /// Makes all accepted commands persistent, and gives how many they are since the store was opened. It is a write for each element that waits, and
+    /// a flush a round.
+    ///
+    /// Refused 1 DeviceFault, 9 OutOfMemory, 30 Full, 35 WornOut or 40 Halted. The map is as it was then, and what was persistent stays so; the
+    /// next sync goes on where this one stopped, unless the store is halted.
+    pub fn sync(&mut self) -> Result<u64, SyncError>
+        ensures done { IfOk result (λ frontier. Syncs D.PageDisk self.old self.new × (frontier ≡ self.new.store.frontier)) }
+        // What it gives is the number of commands accepted, so the whole map is persistent.
+        ensures all { D.honest self.old.disk → IfOk result (λ frontier. frontier ≡ self.new.store.accepted) }
+        ensures refused { IfErr result (λ error. StopsSync D.PageDisk self.old (sync_refusal error) self.new) }
+        ensures same { D.honest self.old.disk → self.new.store.accepted ≡ self.old.store.accepted }
+        ensures map { (m : Map) → HasMap self.old m → HasMap self.new m }
+        ensures rises { self.old.store.frontier ≤ self.new.store.frontier }
+        // A crash at any moment of it leaves the map after some of the commands, none of those left out that were persistent before.
+        ensures crash { D.honest self.old.disk → LeavesOnly D.moment D.left_since self.old.disk self.new.disk (IsPrefix (shape self.old.store.extents) (page self.old.opened) (commands_said self.new.history) self.old.store.frontier self.new.store.accepted) }
+        ensures honest { D.honest self.old.disk ↔ D.honest self.new.disk }
+    {
+        // Called for its contract alone: which state of the machine the store is in.
+        self.core.progress();
+        match sync(&mut self.core) {
+            Ok(frontier) => Ok(frontier),
+            Err(refusal) => Err(SyncError::of(refusal)),
+        }
+    }
+}
