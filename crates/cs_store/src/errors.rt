@@ -274,7 +274,7 @@ pub enum SweepError {
     /// 40 Halted: a write or a flush failed earlier.
     #[error("the store is halted")]
     Halted,
-    /// 41 HistoryFull: as many events are kept as may be: more chunks are live on the extent than may be moved by one sweep, or an extent is being swept still, so that no checkpoint can be taken.
+    /// 41 HistoryFull: as many events are kept as may be, so that no further chunk is moved; or an extent is being swept still, so that no checkpoint can be taken.
     #[error("the history is full")]
     HistoryFull,
 }

@@ -40,7 +40,8 @@ impl<D: PageDisk> Store<D> {
     ///
     /// Refused 33 NotSweepable where the extent is open, empty, being swept or not there; 1 DeviceFault; 9 OutOfMemory, where the extent may be being
     /// swept still; 20 BadMagic, 21 BadDigest, 22 BadLength, 23 BadPadding or 24 BadVersion where a chunk is damaged; 30 Full; 34 StillLive; 35 WornOut;
-    /// 40 Halted; and 41 HistoryFull where more chunks are to be moved than events may be kept.
+    /// 40 Halted; and 41 HistoryFull where more chunks are to be moved than further events may be kept, of which it makes sure of one alone: sync ahead
+    /// of it, or sweep again.
     pub fn sweep(&mut self, extent: usize) -> Result<Swept, SweepError>
         ensures done { IfOk result (λ swept. SweepsReady D.PageDisk extent self.old self.new swept.moved swept.root) }
         ensures refused { IfErr result (λ error. DeclinesSweep D.PageDisk extent self.old self.new (sweep_refusal error)) }
