@@ -31,7 +31,7 @@ ghost use Rattle.cs_core.specs.Openings.{IsOpened, IsOpeningRefusal, IsWhyNotOpe
 ghost use Rattle.cs_core.specs.Replays.{replayed};
 ghost use Rattle.cs_core.specs.Replies.{MayAnswer};
 ghost use Rattle.cs_core.specs.Started.{IsHeadWritten, IsNewOn, new_stored};
-ghost use Rattle.cs_core.specs.Views.{Applies, IsUntouched, IsFound, IsIn, kept};
+ghost use Rattle.cs_core.specs.Views.{Applies, IsCore, IsUntouched, IsFound, IsIn, kept};
 ghost use Rattle.cs_core.specs.Writebacks.{WritesBack};
 
 use crate::contents::Bytes;
@@ -391,6 +391,8 @@ impl<D: PageDisk> Core<D> {
         ensures frontier { result.1 ≡ self.now.store.frontier }
         ensures fits { result.0 < 2 ^ 63 }
         ensures within { result.1 ≤ result.0 }
+        // What the laws of cores ask for.
+        ensures core { IsCore D.PageDisk self.now }
         // Where the disk is honest the history led to a state of the machine in which disk and store are.
         ensures legal { D.honest self.now.disk → (s : State) × IsIn D.state self.now s }
         // A crash now leaves the map after some of the commands, none of the persistent ones left out.

@@ -104,6 +104,20 @@ impl Index {
         entries_from(&self.table.entries, &self.runs)
     }
 
+    /// The same from behind an identifier on, which needn't be named. Searches for it in the table and in each run.
+    pub fn entries_behind(&self, id: ShardId) -> Entries<'_>
+        ensures { result ≡ record { index = index_of self.now; after = Some (id_number id) } }
+    {
+        entries_after(&self.table.entries, &self.runs, Some(id))
+    }
+
+    /// The runs, oldest first, each with the place of its frame and its entries.
+    pub fn runs(&self) -> &[StoredRun]
+        ensures { newest_first result.now ≡ self.now.runs }
+    {
+        &self.runs
+    }
+
     /// The first live chunk on an extent, by identifier and then by chunk. Where the last search was of
     /// the same extent it reads on from there, unless a shard that it had passed was given a locator there since, or all
     /// entries became one run: so searching an extent again and again, while its chunks are moved, reads each entry once.

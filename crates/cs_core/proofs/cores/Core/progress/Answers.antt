@@ -15,3 +15,6 @@ returns-clause-left g c = λ honest.
     let there : g.D.PageDisk.honest c.self.inside.disk = subst (λ (v : View g.row.D.Denot). g.D.PageDisk.honest v.disk) (sym c.self.view_is) honest in
     subst (λ (v : View g.row.D.Denot). Leaves (g.D.PageDisk.state v.disk) (LeftBy v)) c.self.view_is
     (left_now g.D.PageDisk c.self.invariant c.extent_count.ensures.whole there (g.met.D.PageDisk.sized c.self.inside.disk there))
+
+pub returns-clause-core : goal.returns-clause-core
+returns-clause-core g c = rw (← c.self.view_is) c.self.invariant
