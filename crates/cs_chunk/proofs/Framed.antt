@@ -80,6 +80,12 @@ module _ (x : State) (whole : IsWhole x) (view : ℕ → List ℕ) (kind : Frame
       let same : l.page + 0 ≡ l.page = omega arith in
       at_from (shape x) (formats_of (shape x)) view l.extent l.page (x.pages - l.page) 0 (omega (arith, inside)) ∙ ap (λ q. view ((shape x).address l.extent q)) same
 
+  -- what the header at the place is refused for, the frame is
+  pub header_at : (f : FormatFault) → header_fault (kind_byte kind) (view ((shape x).address l.extent l.page)) (x.pages - l.page) ≡ Some f → fault_at (shape x) view kind l ≡ Some f
+  header_at f is =
+      header_first (kind_byte kind) all f
+      (ap (λ b. header_fault (kind_byte kind) b (length all)) first_is ∙ ap (λ n. header_fault (kind_byte kind) (view ((shape x).address l.extent l.page)) n) length-all ∙ is)
+
   module _ (g : Graph) (image : Image) (are : AreNewest g image view) (number : ℕ) (at : number ≡ (shape x).address l.extent l.page) (first : List ℕ) (read : IsReadAs g image number first) where
     first_read : first_page all ≡ first
     first_read = first_is ∙ ap view (sym at) ∙ sym (reads_same g image view number first are read)

@@ -9,4 +9,5 @@ pub mod FrameFaults
 pub mod OnlyRead
 pub mod Framed
 pub mod Sharded
+pub mod Lengths
 pub mod Staying

@@ -36,7 +36,7 @@ one_more S view ls k l bytes new chunk c lt at was is same pushed = (
 pub all_read : (S : Shape) (view : ℕ → List ℕ) (ls : List Locator) (k : ℕ) (bytes : List ℕ) → length ls ≤ k → IsRead S view ls k bytes → (cs : List (List ℕ)) × AreChunksAt S view ls cs × (bytes ≡ joined cs)
 all_read S view ls k bytes le was = (was.0, subst (λ ks. AreChunksAt S view ks was.0) (take_all k ls le) was.1, was.2)
 
-at_place : (ls : List Locator) (k : ℕ) (l : Locator) → k < length ls → l ≡ get_or ls k l → slice_get ls k ≡ Some l
+pub at_place : (ls : List Locator) (k : ℕ) (l : Locator) → k < length ls → l ≡ get_or ls k l → slice_get ls k ≡ Some l
 at_place [] k l lt at = absurd (omega (arith, lt))
 at_place (m ∷ ls) zero l lt at = ap (λ (n : Locator). Some n) (sym at)
 at_place (m ∷ ls) (suc k) l lt at = at_place ls k l (omega (arith, lt)) at
@@ -63,7 +63,7 @@ module _ (x : State) (whole : IsWhole x) (view : ℕ → List ℕ) where
   one_list (l ∷ ls) [] ds inside a b = absurd a
   one_list (l ∷ ls) (c ∷ cs) [] inside a b = absurd b
 
-  chunk_at : (ls : List Locator) (cs : List (List ℕ)) (k : ℕ) (l : Locator) → slice_get ls k ≡ Some l → AreChunksAt (shape x) view ls cs → (c : List ℕ) × IsFrameAt (shape x) view ChunkFrame l c
+  pub chunk_at : (ls : List Locator) (cs : List (List ℕ)) (k : ℕ) (l : Locator) → slice_get ls k ≡ Some l → AreChunksAt (shape x) view ls cs → (c : List ℕ) × IsFrameAt (shape x) view ChunkFrame l c
   chunk_at [] cs k l at are = absurd (cc at)
   chunk_at (m ∷ ls) [] k l at are = absurd are
   chunk_at (m ∷ ls) (c ∷ cs) zero l at are = (c, subst (λ n. IsFrameAt (shape x) view ChunkFrame n c) (let s : m ≡ l = cc at in s) are.0)

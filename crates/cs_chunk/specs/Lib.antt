@@ -1,5 +1,6 @@
 pub mod Chunks
 pub mod Cuts
+pub mod Lengths
 pub mod Newest
 pub mod Puts
 pub mod Reads

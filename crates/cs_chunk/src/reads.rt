@@ -1,6 +1,7 @@
 //! Reads of frames.
 ghost use Rattle.std.specs.Prelude.{◌≡◌, ◌⊎◌, ◌+◌, ◌*◌, ◌-◌, ◌^◌, ◌<◌, ◌≤◌, ℕ, List, IfErr, IfOk, IsOk, MatchResult, OnOk, length};
 ghost use Rattle.cs_chunk.specs.Chunks.{IsFrameAt, kind_of};
+ghost use Rattle.cs_chunk.specs.Lengths.{IsHeaderRefusal, header_fault_at, length_at};
 ghost use Rattle.cs_chunk.specs.Newest.{AreNewest, IsReadAs};
 ghost use Rattle.cs_chunk.specs.Reads.{AnswersFault, AreReadAs, IsCaused, IsFrameFront, IsNoAnswer, IsOfFault, IsReadRefusal, OnlyReads, fault_at, pages_at};
 ghost use Rattle.cs_deps.specs.Refusals.{number_of};
@@ -8,7 +9,7 @@ ghost use Rattle.cs_deps.specs.State.{NoneOn};
 ghost use Rattle.cs_disk.specs.Disk.{seen};
 ghost use Rattle.cs_extent.specs.State.{IsWhole, shape};
 ghost use Rattle.cs_frame.specs.Formats.{formats_of};
-ghost use Rattle.cs_frame.specs.Frames.{SpellsFrame, frame_fault, kind_byte};
+ghost use Rattle.cs_frame.specs.Frames.{SpellsFrame, frame_fault, kind_byte, page_count};
 
 use crate::refusals::{refusal_of_disk, refusal_of_fault};
 use cs_deps::{Graph, Refusal};
@@ -174,5 +175,54 @@ pub fn read_frame<D: PageDisk>(
     match read_frame_pages(alloc, extents, graph, disk, kind, locator) {
         Ok(pages) => decoded(alloc, kind, &pages),
         Err(refusal) => Err(refusal),
+    }
+}
+
+/// How many bytes the payload has of the frame that begins at a place, by the frame's first page alone: the newest waiting write
+/// to it where there is one, and then the device isn't asked. Only the header's tests are made: there is a length also where digest
+/// or padding are damaged. It asks for no memory itself.
+///
+/// 20 `BadMagic`, 24 `BadVersion` or 22 `BadLength`, the first test that fails, where no header of this kind is there; 1 `DeviceFault`
+/// or 9 `OutOfMemory` where the disk refused the read so. The disk holds what it held.
+pub fn read_length<D: PageDisk>(
+    extents: &Extents,
+    graph: &Graph,
+    disk: &mut D,
+    kind: FrameKind,
+    locator: Locator,
+) -> Result<u32, Refusal>
+    requires extent { locator.extent < (shape extents.now).extents }
+    requires page { locator.page < (shape extents.now).pages }
+    requires device { 2 + (shape extents.now).extents * (shape extents.now).pages ≤ D.page_count disk.old }
+
+    // What is told is what the header says.
+    ensures told { D.honest disk.old → (view : ℕ → List ℕ) → AreNewest graph.now (seen (D.state disk.old)) view
+        → IfOk result (λ count. count ≡ length_at (shape extents.now) view locator) }
+    // Where there is a frame its payload's length is told, unless the device or memory refuses.
+    ensures read { D.honest disk.old → (view : ℕ → List ℕ) (payload : List ℕ) → AreNewest graph.now (seen (D.state disk.old)) view
+        → IsFrameAt (shape extents.now) view (kind_of kind) locator payload → MatchResult result (λ count. count ≡ length payload) IsNoAnswer }
+    // Each other refusal is that of the first of the header's tests that fails.
+    ensures header { D.honest disk.old → (view : ℕ → List ℕ) → AreNewest graph.now (seen (D.state disk.old)) view
+        → AnswersFault (header_fault_at (shape extents.now) view kind locator) result }
+    // So it is that of the frame's first test that fails.
+    ensures fault { D.honest disk.old → (view : ℕ → List ℕ) → AreNewest graph.now (seen (D.state disk.old)) view
+        → IfErr result (λ r. IsNoAnswer r ⊎ IsOfFault (fault_at (shape extents.now) view kind locator) r) }
+    ensures refusals { IfErr result IsHeaderRefusal }
+    // Whatever the disk answers, a frame of so many bytes lies in the extent.
+    ensures size { IfOk result (λ count. locator.page + page_count count ≤ (shape extents.now).pages) }
+
+    ensures disk { OnlyReads D.PageDisk disk.old disk.new }
+    ensures cause { IsCaused (D.failure_count disk.old) (D.failure_count disk.new) result }
+{
+    let number = page_number(extents, locator);
+    let there = extents.extent_pages() - usize::from(locator.page);
+    let mut first = [0; 4096];
+    match read_page(graph, disk, number, &mut first) {
+        Ok(()) => {}
+        Err(refusal) => return Err(refusal),
+    }
+    match decode_frame_header(kind, &first, there) {
+        Ok(header) => Ok(header.payload_len),
+        Err(fault) => Err(refusal_of_fault(fault)),
     }
 }

@@ -1,13 +1,14 @@
 //! Reads of shards.
-ghost use Rattle.std.specs.Prelude.{All, ◌≡◌, ◌+◌, ◌*◌, ◌<◌, ◌≤◌, ℕ, List, IfErr, IfOk, MatchResult};
+ghost use Rattle.std.specs.Prelude.{All, ◌≡◌, ◌+◌, ◌*◌, ◌<◌, ◌≤◌, ℕ, List, IfErr, IfOk, MatchResult, length};
 ghost use Rattle.cs_chunk.specs.Chunks.{AreChunksAt};
+ghost use Rattle.cs_chunk.specs.Lengths.{AreHeadersAt, IsHeaderRefusal, IsOfHeader, lengths_at};
 ghost use Rattle.cs_chunk.specs.Newest.{AreNewest};
 ghost use Rattle.cs_chunk.specs.Reads.{IsCaused, IsNoAnswer, IsOfChunk, IsReadRefusal, OnlyReads};
 ghost use Rattle.cs_disk.specs.Disk.{seen};
 ghost use Rattle.cs_extent.specs.State.{shape};
 ghost use Rattle.cs_model.specs.Index.{joined};
 
-use crate::reads::read_frame;
+use crate::reads::{read_frame, read_length};
 use cs_deps::{Graph, Refusal};
 use cs_disk::PageDisk;
 use cs_extent::Extents;
@@ -53,4 +54,44 @@ pub fn read_chunks<D: PageDisk>(
         }
     }
     Ok(bytes)
+}
+
+/// How many bytes the chunks have together whose frames begin at these places, by the first page of each frame alone.
+///
+/// The first refusal that is met is answered: 20, 22 and 24 as `read_length` does, 1 `DeviceFault`, 9 `OutOfMemory`. No page behind it is
+/// read. Where digest or padding of a chunk are damaged there is a length.
+pub fn read_lengths<D: PageDisk>(
+    extents: &Extents,
+    graph: &Graph,
+    disk: &mut D,
+    locators: &[Locator],
+) -> Result<usize, Refusal>
+    requires few { length locators.now ≤ 8 }
+    requires places { All (λ l. (l.extent < (shape extents.now).extents) × (l.page < (shape extents.now).pages)) locators.now }
+    requires device { 2 + (shape extents.now).extents * (shape extents.now).pages ≤ D.page_count disk.old }
+
+    // What is told is what the headers say together.
+    ensures told { D.honest disk.old → (view : ℕ → List ℕ) → AreNewest graph.now (seen (D.state disk.old)) view
+        → IfOk result (λ count. AreHeadersAt (shape extents.now) view locators.now × (count ≡ lengths_at (shape extents.now) view locators.now)) }
+    // Where there are chunks the length of their bytes is told, unless the device or memory refuses.
+    ensures read { D.honest disk.old → (view : ℕ → List ℕ) (cs : List (List ℕ)) → AreNewest graph.now (seen (D.state disk.old)) view
+        → AreChunksAt (shape extents.now) view locators.now cs → MatchResult result (λ count. count ≡ length (joined cs)) IsNoAnswer }
+    // Each other refusal is that of the first place that has no chunk's header.
+    ensures header { D.honest disk.old → (view : ℕ → List ℕ) → AreNewest graph.now (seen (D.state disk.old)) view
+        → IfErr result (IsOfHeader (shape extents.now) view locators.now) }
+    ensures refusals { IfErr result IsHeaderRefusal }
+
+    ensures disk { OnlyReads D.PageDisk disk.old disk.new }
+    ensures cause { IsCaused (D.failure_count disk.old) (D.failure_count disk.new) result }
+{
+    let mut total: usize = 0;
+    // Called for its contract alone: what all extents keep.
+    extents.extent_count();
+    for k in 0..locators.len() {
+        match read_length(extents, graph, disk, FrameKind::Chunk, locators[k]) {
+            Ok(count) => total += count as usize,
+            Err(refusal) => return Err(refusal),
+        }
+    }
+    Ok(total)
 }

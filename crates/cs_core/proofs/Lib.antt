@@ -36,6 +36,7 @@ pub mod RootsStay
 pub mod SectionReads
 pub mod ServeSteps
 pub mod Settling
+pub mod Sizes
 pub mod StageSteps
 pub mod Starting
 pub mod SweepSteps

@@ -18,7 +18,7 @@ use Rattle.cs_model.specs.State.{State, map_now}
 use Rattle.cs_refine.proofs.Indexes.{absent}
 use Rattle.cs_refine.specs.Devices.{IsDiskOf}
 use Rattle.cs_refine.specs.Refusals.{refusal_for}
-use Rattle.cs_core.specs.Lookups.{IsReading}
+use Rattle.cs_core.specs.Lookups.{IsReading, IsSize, TellsSize}
 use Rattle.cs_core.specs.Reads.{GetAnswers}
 use Rattle.cs_core.specs.States.{IsStateOf}
 use Rattle.cs_core.specs.Stored.{Stored, but_for_room}
@@ -58,6 +58,14 @@ pub read_tells : {D : Type 0} (state : D → DiskState) {v : View D} (store : St
     → GetAnswers store (state v.disk) id result → (live_at (index_of store.index) id ≡ [] → result ≡ Ok None) → IsReading (map_now s id) result
 read_tells state {v} store id result s is same answers only =
     got store (state v.disk) id result answers only s (same_state v.store store s is.store (ap but_for_room same))
+    (subst (λ (u : Stored). IsDiskOf (shape u.extents) (formats_of (shape u.extents)) s (state v.disk)) (sym same) is.disk)
+
+-- so is a size
+pub size_told : {D : Type 0} (state : D → DiskState) {v : View D} (store : Stored) (id : ℕ) (result : Result (Option ℕ) Code) (s : State) → IsIn state v s → but_for_room store ≡ v.store
+    → TellsSize store (state v.disk) id result → IsSize (map_now s id) result
+unfolding TellsSize
+size_told state {v} store id result s is same tells =
+    tells s (same_state v.store store s is.store (ap but_for_room same))
     (subst (λ (u : Stored). IsDiskOf (shape u.extents) (formats_of (shape u.extents)) s (state v.disk)) (sym same) is.disk)
 
 -- what is live is there

@@ -1,11 +1,21 @@
 -- What a core answers outside of its history.
-use Rattle.std.specs.Prelude.{◌≡◌, ◌≢◌, ◌⊎◌, ℕ, Option, Some, None, Result, Ok, Err, Vec}
+use Rattle.std.specs.Prelude.{◌≡◌, ◌≢◌, ◌⊎◌, ℕ, List, [], MatchResult, Option, Some, None, Result, Ok, Err, Vec, length}
 use Rattle.std.specs.declared.alloc.Global.{Global}
+use Rattle.cs_chunk.specs.Lengths.{AreHeadersAt, IsHeaderRefusal, IsOfHeader, lengths_at}
 use Rattle.cs_chunk.specs.Reads.{IsNoAnswer}
 use Rattle.cs_deps.specs.declared.refusals.Refusal.{Refusal}
+use Rattle.cs_disk.specs.Disk.{State as DiskState}
+use Rattle.cs_extent.specs.State.{shape}
+use Rattle.cs_frame.specs.declared.locators.Locator.{Locator}
+use Rattle.cs_frame.specs.Formats.{formats_of}
+use Rattle.cs_model.specs.Device.{Shape}
 use Rattle.cs_model.specs.Element.{Bytes, Content, Damaged}
 use Rattle.cs_model.specs.Refusal.{Refusal as Ground}
+use Rattle.cs_model.specs.State.{State, map_now}
+use Rattle.cs_refine.specs.Devices.{IsDiskOf}
 use Rattle.cs_refine.specs.Refusals.{refusal_for}
+use Rattle.cs_core.specs.States.{IsStateOf}
+use Rattle.cs_core.specs.Stored.{Stored}
 
 -- what a read gives of an identifier that has this in the map: None where there is nothing; where there is something its bytes, or the refusal that its
 -- damage has, unless the device or memory refuses
@@ -13,3 +23,21 @@ abbrev pub IsReading : Option Content → Result (Option (Vec ℕ Global)) Refus
 IsReading content (Ok None) = content ≡ None
 IsReading content (Ok (Some bytes)) = content ≡ Some (Bytes bytes.items)
 IsReading content (Err r) = ((content ≢ None) × IsNoAnswer r) ⊎ ((f : Ground) × (r ≡ refusal_for f) × (content ≡ Some (Damaged f)))
+
+-- what is told of the size of an identifier that has this in the map: None where there is nothing; where there are bytes, how many, unless the device or memory
+-- refuses; of a damaged shard some number, or it is refused as a header is
+abbrev pub IsSize : Option Content → Result (Option ℕ) Refusal → Type 0
+IsSize None result = result ≡ Ok None
+IsSize (Some (Bytes bytes)) result = MatchResult result (λ found. found ≡ Some (length bytes)) IsNoAnswer
+IsSize (Some (Damaged f)) result = MatchResult result (λ found. found ≢ None) IsHeaderRefusal
+
+-- whichever state store and disk are in, this is told of the size of what its map has
+unfoldable pub TellsSize : Stored → DiskState → (id : ℕ) → Result (Option ℕ) Refusal → Type 0
+TellsSize v disk id result = (s : State) → IsStateOf v s → IsDiskOf (shape v.extents) (formats_of (shape v.extents)) s disk → IsSize (map_now s id) result
+
+-- what the headers at these places say: how many bytes together, None where there are no places; a refusal is that of the first header that fails, or the
+-- device or memory refused
+abbrev pub IsSaid : Shape → (view : ℕ → List ℕ) → List Locator → Result (Option ℕ) Refusal → Type 0
+IsSaid S view ls (Ok None) = ls ≡ []
+IsSaid S view ls (Ok (Some count)) = AreHeadersAt S view ls × (count ≡ lengths_at S view ls)
+IsSaid S view ls (Err r) = IsOfHeader S view ls r

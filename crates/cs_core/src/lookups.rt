@@ -2,18 +2,20 @@
 //!
 //! These calls are no events: nothing is recorded of them, so the history doesn't keep the bytes that they give, and they are answered
 //! however many events are kept, and in a halted core too.
-ghost use Rattle.std.specs.Prelude.{IfErr, IfOk, IsTrue, List, MatchResult, None, [], length, ℕ, ◌+◌, ◌<◌, ◌↔◌, ◌≡◌, ◌≢◌, ◌≤◌};
+ghost use Rattle.std.specs.Prelude.{IfErr, IfOk, IsTrue, List, MatchResult, None, [], length, map, ℕ, ◌+◌, ◌<◌, ◌↔◌, ◌≡◌, ◌≢◌, ◌≤◌, ◌⊎◌};
 ghost use Rattle.cs_chunk.specs.Chunks.{IsFrameAt, kind_of};
+ghost use Rattle.cs_chunk.specs.Lengths.{IsHeaderRefusal, header_fault_at, length_at};
 ghost use Rattle.cs_chunk.specs.Newest.{AreNewest};
-ghost use Rattle.cs_chunk.specs.Reads.{AnswersFault, IsCaused, IsNoAnswer, IsReadRefusal, OnlyReads, fault_at};
+ghost use Rattle.cs_chunk.specs.Reads.{AnswersFault, IsCaused, IsNoAnswer, IsOfFault, IsReadRefusal, OnlyReads, fault_at};
 ghost use Rattle.cs_disk.specs.Disk.{LeavesOnly, page, seen};
 ghost use Rattle.cs_extent.specs.State.{shape};
-ghost use Rattle.cs_frame.specs.Formats.{formats_of};
+ghost use Rattle.cs_frame.specs.Formats.{as_locator, formats_of};
+ghost use Rattle.cs_frame.specs.Frames.{page_count};
 ghost use Rattle.cs_index.specs.State.{id_number, index_of};
 ghost use Rattle.cs_model.specs.Index.{live_at};
 ghost use Rattle.cs_model.specs.State.{State, map_now};
 ghost use Rattle.cs_refine.specs.Crashes.{IsPrefix};
-ghost use Rattle.cs_core.specs.Lookups.{IsReading};
+ghost use Rattle.cs_core.specs.Lookups.{IsReading, IsSaid, IsSize};
 ghost use Rattle.cs_core.specs.Meanings.{commands_said};
 ghost use Rattle.cs_core.specs.Stored.{AreInside};
 ghost use Rattle.cs_core.specs.Views.{IsIn};
@@ -45,6 +47,31 @@ impl<D: PageDisk> Core<D> {
         // Called for its contract alone: what all extents keep.
         self.store.extent_count();
         self.store.get(&mut self.disk, id)
+    }
+
+    /// How many bytes a shard has, None where there is none: as many as `read` gives. Searches the index, and reads the first page alone of each
+    /// chunk's frame, from the newest write to it that waits, else from the device. It takes no memory itself. The bytes themselves aren't tested:
+    /// a shard with a damaged chunk may have a size here, though `read` refuses it.
+    ///
+    /// Refused 1 DeviceFault or 9 OutOfMemory where the disk refused a read so, and 20 BadMagic, 22 BadLength or 24 BadVersion where the header of a
+    /// chunk is damaged, by the first test that fails.
+    pub fn size_of(&mut self, id: ShardId) -> Result<Option<usize>, Refusal>
+        ensures answer { D.honest self.old.disk → (s : State) → IsIn D.state self.old s → IsSize (map_now s (id_number id)) result }
+        // Also of a damaged shard what is told is what the headers say.
+        ensures headers { D.honest self.old.disk → (view : ℕ → List ℕ) → AreNewest self.old.store.graph (seen (D.state self.old.disk)) view
+            → IsSaid (shape self.old.store.extents) view (map as_locator (live_at (index_of self.old.store.index) (id_number id))) result }
+        // Whatever the disk does, None is answered where the index has no places of the shard's chunks, and nowhere else.
+        ensures absent { (result ≡ Ok None) ↔ (live_at (index_of self.old.store.index) (id_number id) ≡ []) }
+        ensures refusals { IfErr result IsHeaderRefusal }
+        ensures same { self.new ≡ record self.old { disk = self.new.disk } }
+        ensures disk { OnlyReads D.PageDisk self.old.disk self.new.disk }
+        ensures cause { IsCaused (D.failure_count self.old.disk) (D.failure_count self.new.disk) result }
+        // A crash meanwhile leaves what one before it might have left.
+        ensures crash { D.honest self.old.disk → LeavesOnly D.moment D.left_since self.old.disk self.new.disk (IsPrefix (shape self.old.store.extents) (page self.old.opened) (commands_said self.old.history) self.old.store.frontier self.old.store.accepted) }
+    {
+        // Called for its contract alone: what all extents keep.
+        self.store.extent_count();
+        self.store.size_of(&mut self.disk, id)
     }
 
     /// Whether there is a shard, by the index alone: neither the device nor memory is asked for anything. Its chunks may be damaged.
@@ -85,6 +112,41 @@ impl<D: PageDisk> Core<D> {
         // Called for its contract alone: what all extents keep.
         self.store.extent_count();
         self.store.read_frame(&mut self.disk, kind, place)
+    }
+
+    /// How many bytes the payload has of the frame of this kind that begins at a place, by the frame's first page alone: the newest write to it
+    /// that waits, else what the device has. Only the header's tests are made: there is a length also where digest or padding are damaged. It takes
+    /// no memory itself.
+    ///
+    /// Refused 20 BadMagic, 24 BadVersion or 22 BadLength, the first test that fails, where no header of this kind is there; 1 DeviceFault or
+    /// 9 OutOfMemory where the disk refused the read so.
+    pub fn read_length(&mut self, kind: FrameKind, place: Locator) -> Result<u32, Refusal>
+        requires extent { place.extent < (shape self.old.store.extents).extents }
+        requires page { place.page < (shape self.old.store.extents).pages }
+        // What is told is what the header says.
+        ensures told { D.honest self.old.disk → (view : ℕ → List ℕ) → AreNewest self.old.store.graph (seen (D.state self.old.disk)) view
+            → IfOk result (λ count. count ≡ length_at (shape self.old.store.extents) view place) }
+        // Where there is a frame its payload's length is told, unless the device or memory refuses.
+        ensures read { D.honest self.old.disk → (view : ℕ → List ℕ) (payload : List ℕ) → AreNewest self.old.store.graph (seen (D.state self.old.disk)) view
+            → IsFrameAt (shape self.old.store.extents) view (kind_of kind) place payload → MatchResult result (λ count. count ≡ length payload) IsNoAnswer }
+        // Each other refusal is that of the first of the header's tests that fails.
+        ensures header { D.honest self.old.disk → (view : ℕ → List ℕ) → AreNewest self.old.store.graph (seen (D.state self.old.disk)) view
+            → AnswersFault (header_fault_at (shape self.old.store.extents) view kind place) result }
+        // So it is that of the frame's first test that fails.
+        ensures fault { D.honest self.old.disk → (view : ℕ → List ℕ) → AreNewest self.old.store.graph (seen (D.state self.old.disk)) view
+            → IfErr result (λ r. IsNoAnswer r ⊎ IsOfFault (fault_at (shape self.old.store.extents) view kind place) r) }
+        ensures refusals { IfErr result IsHeaderRefusal }
+        // Whatever the disk answers, a frame of so many bytes lies in the extent.
+        ensures size { IfOk result (λ count. place.page + page_count count ≤ (shape self.old.store.extents).pages) }
+        ensures same { self.new ≡ record self.old { disk = self.new.disk } }
+        ensures disk { OnlyReads D.PageDisk self.old.disk self.new.disk }
+        ensures cause { IsCaused (D.failure_count self.old.disk) (D.failure_count self.new.disk) result }
+        // A crash meanwhile leaves what one before it might have left.
+        ensures crash { D.honest self.old.disk → LeavesOnly D.moment D.left_since self.old.disk self.new.disk (IsPrefix (shape self.old.store.extents) (page self.old.opened) (commands_said self.old.history) self.old.store.frontier self.old.store.accepted) }
+    {
+        // Called for its contract alone: what all extents keep.
+        self.store.extent_count();
+        self.store.read_length(&mut self.disk, kind, place)
     }
 
     /// The extents: their geometry, and of each its pointer, its generation, and whether it is open or being swept.

@@ -1,6 +1,6 @@
 -- Which commands calls accept.
 use Rattle.std.proofs.Common.{◌≡◌, ◌∙◌, ◌⊎◌, ℕ, ◌<◌, ◌≤◌, List, [], ◌∷◌, ◌++◌, Option, Some, None, sym, ap, subst, refl, inl, inr}
-use Rattle.std.specs.Prelude.{length}
+use Rattle.std.specs.Prelude.{IfErr, IfOk, Result, Ok, Err, length}
 use Rattle.std.proofs.lemmas.List.{append_assoc}
 use Rattle.cs_deps.specs.declared.refusals.Refusal.{Refusal}
 use Rattle.cs_disk.specs.declared.disk.PageDisk.{Ghosts as PageDisk}
@@ -156,6 +156,10 @@ module _ {D : Type 0} (disks : PageDisk D) where
   stops_quiet extent a b r (moved, inl move) = stopped_quiet (moves extent moved) (MoveOne extent) r a b (moves_quiet extent moved) move
   stops_quiet extent a b r (moved, inr retire) = stopped_quiet (moves extent moved ++ (MoveOne extent, NoneLive) ∷ []) (Retire extent) r a b
       (quiet_both (moves extent moved) ((MoveOne extent, NoneLive) ∷ []) (moves_quiet extent moved) refl) retire
+
+  pub abandon_quiet : (extent : ℕ) (a b : View D) (r : Result Reply Refusal) → IfOk r (λ reply. Goes disks a (Abandon extent) reply b) → IfErr r (λ why. IsStopped disks a [] (Abandon extent) why b) → Accepts disks [] a b
+  abandon_quiet extent a b (Ok reply) goes stopped = goes_accepts a (Abandon extent) reply b goes
+  abandon_quiet extent a b (Err r) goes stopped = stopped_quiet [] (Abandon extent) r a b refl stopped
 
   abandons_quiet : (extent : ℕ) (a b : View D) (r told : Refusal) → Abandons disks extent a b r told → Accepts disks [] a b
   abandons_quiet extent a b r told (inl (went, is)) = went_quiet ((Abandon extent, Abandoned) ∷ []) a b refl went

@@ -36,7 +36,7 @@ module _ {D : Type 0} (disks : PageDisk D) (old new : View D) where
     put_does reply n is does = subst (λ (b : List ℕ). Does disks old (Put id b) (Accepted n) new) same (does_as (Put id copy) reply (Accepted n) is does)
 
     pub put_declines : (r r' : Refusal) → r' ≡ r → Declines disks old (Put id copy) r new → DeclinesCopy disks old (Put id bytes) r' new
-    put_declines r r' is declines = inr (subst (λ (b : List ℕ). Declines disks old (Put id b) r' new) same (subst (λ (x : Refusal). Declines disks old (Put id copy) x new) (sym is) declines))
+    put_declines r r' is declines = inr (inr (subst (λ (b : List ℕ). Declines disks old (Put id b) r' new) same (subst (λ (x : Refusal). Declines disks old (Put id copy) x new) (sym is) declines)))
 
     pub put_adds : (reply : Reply) (n : ℕ) → reply ≡ Accepted n → Accepts disks (command_said (Put id copy) reply) old new → Accepts disks ((id_number id, Some bytes) ∷ []) old new
     put_adds reply n is accepts = subst (λ (b : List ℕ). Accepts disks ((id_number id, Some b) ∷ []) old new) same (accepts_as (Put id copy) reply (Accepted n) is accepts)

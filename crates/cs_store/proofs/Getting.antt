@@ -1,9 +1,10 @@
 -- What a get answers, in the words of its clauses.
-use Rattle.std.proofs.Common.{◌≡◌, ◌≢◌, ℕ, Option, None, Ok, Err, sym, subst}
-use Rattle.std.specs.Prelude.{◌↔◌, IsTrue, Bool, Vec}
+use Rattle.std.proofs.Common.{◌≡◌, ◌≢◌, ◌∙◌, ℕ, Option, None, Ok, Err, ap, sym, subst}
+use Rattle.std.specs.Prelude.{◌↔◌, IsTrue, Bool, Result, Vec}
 use Rattle.std.specs.declared.alloc.Global.{Global}
+use Rattle.cs_chunk.specs.Reads.{IsCaused}
 use Rattle.cs_deps.specs.declared.refusals.Refusal.{Refusal}
-use Rattle.cs_disk.specs.Disk.{State as DiskState}
+use Rattle.cs_disk.specs.Disk.{Rises, State as DiskState}
 use Rattle.cs_extent.specs.State.{IsWhole}
 use Rattle.cs_model.specs.Element.{Content, Map}
 use Rattle.cs_model.specs.State.{State, map_now}
@@ -11,6 +12,7 @@ use Rattle.cs_refine.proofs.Shapes.{store_format}
 use Rattle.cs_core.specs.Lookups.{IsReading}
 use Rattle.cs_core.specs.Views.{IsIn, View}
 use Rattle.cs_store.specs.declared.errors.GetError.{GetError}
+use Rattle.cs_store.specs.declared.errors.GetError.TheVariants.{DeviceFault}
 use Rattle.cs_store.specs.Errors.{get_refusal}
 use Rattle.cs_store.specs.Gets.{IsGot}
 use Rattle.cs_store.specs.Maps.{HasMap}
@@ -30,3 +32,7 @@ got_not content content' r e is told reading =
 -- a shard is there just where the map has it
 pub there_is : (b : Bool) (content content' : Option Content) → content' ≡ content → IsTrue b ↔ (content' ≢ None) → IsTrue b ↔ (content ≢ None)
 there_is b content content' is told = subst (λ (c : Option Content). IsTrue b ↔ (c ≢ None)) is told
+
+-- what was told as a device fault is one
+pub told_cause : {T : Type 0} (before after : ℕ) (r : Refusal) (e : GetError) → IsCaused {T = T} before after (Err r) → get_refusal e ≡ r → e ≡ DeviceFault → Rises before after
+told_cause before after r e caused told device = caused.failed (ap Err (sym told ∙ ap get_refusal device))

@@ -1,3 +1,4 @@
+pub mod Abandoning
 pub mod Commanding
 pub mod Commands
 pub mod Accepting

@@ -11,17 +11,8 @@ use Rattle.cs_core.specs.Replies.{MayRefuse}
 use Rattle.cs_core.specs.Views.{View}
 use Rattle.cs_drive.specs.Sweeps.{MayRefuseSweep}
 use Rattle.cs_drive.specs.Syncs.{MayRefuseSync}
-use Rattle.cs_store.specs.Errors.{IsDeleteRefusal, IsGetRefusal, IsPutRefusal, IsSweepRefusal, IsSyncRefusal}
+use Rattle.cs_store.specs.Errors.{IsDeleteRefusal, IsGetRefusal, IsPutRefusal}
 use Rattle.cs_store.specs.Rooms.{room_refusal}
-
--- a sync
-pub sync_is : (r : Refusal) → MayRefuseSync r → IsSyncRefusal r
-sync_is refusal.DeviceFault may = tt
-sync_is refusal.OutOfMemory may = tt
-sync_is refusal.Full may = tt
-sync_is refusal.WornOut may = tt
-sync_is refusal.Halted may = tt
-sync_is other may = absurd may
 
 -- a sync that makes room
 pub room_by_sync : (r : Refusal) → MayRefuseSync r → IsDeleteRefusal r
@@ -74,7 +65,7 @@ delete_is id r (inl room) = room
 delete_is id r (inr event) = delete_by_event id r event
 
 -- room for a sweep, and the sweep itself
-sweep_by_room : (r : Refusal) → IsDeleteRefusal r → IsSweepRefusal r
+sweep_by_room : (r : Refusal) → IsDeleteRefusal r → MayRefuseSweep r
 sweep_by_room refusal.DeviceFault may = tt
 sweep_by_room refusal.OutOfMemory may = tt
 sweep_by_room refusal.Full may = tt
@@ -83,25 +74,9 @@ sweep_by_room refusal.Halted may = tt
 sweep_by_room refusal.HistoryFull may = tt
 sweep_by_room other may = absurd may
 
-sweep_by_itself : (r : Refusal) → MayRefuseSweep r → IsSweepRefusal r
-sweep_by_itself refusal.DeviceFault may = tt
-sweep_by_itself refusal.OutOfMemory may = tt
-sweep_by_itself refusal.BadMagic may = tt
-sweep_by_itself refusal.BadDigest may = tt
-sweep_by_itself refusal.BadLength may = tt
-sweep_by_itself refusal.BadPadding may = tt
-sweep_by_itself refusal.BadVersion may = tt
-sweep_by_itself refusal.Full may = tt
-sweep_by_itself refusal.NotSweepable may = tt
-sweep_by_itself refusal.StillLive may = tt
-sweep_by_itself refusal.WornOut may = tt
-sweep_by_itself refusal.Halted may = tt
-sweep_by_itself refusal.HistoryFull may = tt
-sweep_by_itself other may = absurd may
-
-pub sweep_is : (r : Refusal) → IsDeleteRefusal r ⊎ MayRefuseSweep r → IsSweepRefusal r
+pub sweep_is : (r : Refusal) → IsDeleteRefusal r ⊎ MayRefuseSweep r → MayRefuseSweep r
 sweep_is r (inl room) = sweep_by_room r room
-sweep_is r (inr may) = sweep_by_itself r may
+sweep_is r (inr may) = may
 
 -- a get
 get_by_number : (r : Refusal) → 20 ≤ number_of r → number_of r ≤ 24 → IsGetRefusal r

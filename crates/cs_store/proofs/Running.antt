@@ -1,6 +1,6 @@
 -- Calls of a core, one after another: what a crash within them leaves, and how many commands were accepted.
 use Rattle.std.proofs.Common.{◌≡◌, ◌∙◌, ◌⊎◌, ◌≤◌, ◌+◌, ℕ, List, [], ◌∷◌, length, length-append, sym, ap, subst, inl, inr, arith}
-use Rattle.std.specs.Prelude.{IfErr, IfOk, Result, Ok, Err}
+use Rattle.std.specs.Prelude.{IfErr, IfOk, OnOk, Result, Ok, Err}
 use Rattle.cs_disk.specs.declared.disk.PageDisk.{Ghosts as PageDisk}
 use Rattle.cs_disk.specs.Disk.{Image, Leaves, LeavesOnly, MayLeave, State as DiskState, page}
 use Rattle.cs_extent.specs.State.{shape}
@@ -38,6 +38,12 @@ refused_ok r x P is = subst (λ r. IfErr r P) (sym is) tt
 
 pub refused_err : {T E : Type 0} (r : Result T E) (e : E) (P : E → Type 0) → r ≡ Err e → P e → IfErr r P
 refused_err r e P is p = subst (λ r. IfErr r P) (sym is) p
+
+pub on_ok : {T E : Type 0} (r : Result T E) (x : T) (P : Type 0) → r ≡ Ok x → P → OnOk r P
+on_ok r x P is p = subst (λ r. OnOk r P) (sym is) p
+
+pub on_err : {T E : Type 0} (r : Result T E) (e : E) (P : Type 0) → r ≡ Err e → OnOk r P
+on_err r e P is = subst (λ r. OnOk r P) (sym is) tt
 
 module _ {D : Type 0} (disks : PageDisk D) where
   -- a crash at any moment of these calls

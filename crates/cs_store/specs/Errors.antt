@@ -11,6 +11,8 @@ use Rattle.cs_store.specs.declared.errors.SyncError.{SyncError}
 use Rattle.cs_store.specs.declared.errors.SyncError.TheVariants as sync
 use Rattle.cs_store.specs.declared.errors.SweepError.{SweepError}
 use Rattle.cs_store.specs.declared.errors.SweepError.TheVariants as sweep
+use Rattle.cs_store.specs.declared.errors.OpenError.{OpenError}
+use Rattle.cs_store.specs.declared.errors.OpenError.TheVariants as opening
 
 -- the refusal that a put tells by its error
 abbrev pub put_refusal : PutError → Refusal
@@ -66,6 +68,20 @@ sweep_refusal sweep.WornOut = refusal.WornOut
 sweep_refusal sweep.Halted = refusal.Halted
 sweep_refusal sweep.HistoryFull = refusal.HistoryFull
 
+-- the refusal that making or opening a store tells by its error
+abbrev pub open_refusal : OpenError → Refusal
+open_refusal opening.DeviceFault = refusal.DeviceFault
+open_refusal opening.OddLength = refusal.OddLength
+open_refusal opening.BadGeometry = refusal.BadGeometry
+open_refusal opening.OutOfMemory = refusal.OutOfMemory
+open_refusal opening.BadMagic = refusal.BadMagic
+open_refusal opening.BadDigest = refusal.BadDigest
+open_refusal opening.BadLength = refusal.BadLength
+open_refusal opening.BadPadding = refusal.BadPadding
+open_refusal opening.BadVersion = refusal.BadVersion
+open_refusal opening.OutOfOrder = refusal.OutOfOrder
+open_refusal opening.NotAStore = refusal.NotAStore
+
 -- the refusals that a put may have: 1, 9, 30, 31, 32, 35, 40 and 41
 abbrev pub IsPutRefusal : Refusal → Type 0
 IsPutRefusal refusal.DeviceFault = Unit {0}
@@ -99,28 +115,17 @@ IsGetRefusal refusal.BadPadding = Unit {0}
 IsGetRefusal refusal.BadVersion = Unit {0}
 IsGetRefusal other = ⊥
 
--- the refusals that a sync may have: 1, 9, 30, 35 and 40
-abbrev pub IsSyncRefusal : Refusal → Type 0
-IsSyncRefusal refusal.DeviceFault = Unit {0}
-IsSyncRefusal refusal.OutOfMemory = Unit {0}
-IsSyncRefusal refusal.Full = Unit {0}
-IsSyncRefusal refusal.WornOut = Unit {0}
-IsSyncRefusal refusal.Halted = Unit {0}
-IsSyncRefusal other = ⊥
-
--- the refusals that a sweep may have: 1, 9, 20, 21, 22, 23, 24, 30, 33, 34, 35, 40 and 41
-abbrev pub IsSweepRefusal : Refusal → Type 0
-IsSweepRefusal refusal.DeviceFault = Unit {0}
-IsSweepRefusal refusal.OutOfMemory = Unit {0}
-IsSweepRefusal refusal.BadMagic = Unit {0}
-IsSweepRefusal refusal.BadDigest = Unit {0}
-IsSweepRefusal refusal.BadLength = Unit {0}
-IsSweepRefusal refusal.BadPadding = Unit {0}
-IsSweepRefusal refusal.BadVersion = Unit {0}
-IsSweepRefusal refusal.Full = Unit {0}
-IsSweepRefusal refusal.NotSweepable = Unit {0}
-IsSweepRefusal refusal.StillLive = Unit {0}
-IsSweepRefusal refusal.WornOut = Unit {0}
-IsSweepRefusal refusal.Halted = Unit {0}
-IsSweepRefusal refusal.HistoryFull = Unit {0}
-IsSweepRefusal other = ⊥
+-- the refusals that making or opening a store may have: 1, 6, 7, 9, 20, 21, 22, 23, 24, 25 and 43
+abbrev pub IsOpenRefusal : Refusal → Type 0
+IsOpenRefusal refusal.DeviceFault = Unit {0}
+IsOpenRefusal refusal.OddLength = Unit {0}
+IsOpenRefusal refusal.BadGeometry = Unit {0}
+IsOpenRefusal refusal.OutOfMemory = Unit {0}
+IsOpenRefusal refusal.BadMagic = Unit {0}
+IsOpenRefusal refusal.BadDigest = Unit {0}
+IsOpenRefusal refusal.BadLength = Unit {0}
+IsOpenRefusal refusal.BadPadding = Unit {0}
+IsOpenRefusal refusal.BadVersion = Unit {0}
+IsOpenRefusal refusal.OutOfOrder = Unit {0}
+IsOpenRefusal refusal.NotAStore = Unit {0}
+IsOpenRefusal other = ⊥

@@ -1,7 +1,7 @@
 -- What a call does that asks for one event.
-use Rattle.std.specs.Prelude.{◌≡◌, ◌⊎◌, ◌∷◌, []}
+use Rattle.std.specs.Prelude.{◌≡◌, ◌⊎◌, ◌∷◌, [], true}
 use Rattle.cs_deps.specs.declared.refusals.Refusal.{Refusal}
-use Rattle.cs_deps.specs.declared.refusals.Refusal.TheVariants.{OutOfMemory}
+use Rattle.cs_deps.specs.declared.refusals.Refusal.TheVariants.{Halted, OutOfMemory}
 use Rattle.cs_disk.specs.declared.disk.PageDisk.{Ghosts as PageDisk}
 use Rattle.cs_model.specs.State.{State}
 use Rattle.cs_core.specs.declared.events.Event.{Event}
@@ -10,6 +10,10 @@ use Rattle.cs_core.specs.Views.{IsIn, View}
 use Rattle.cs_drive.specs.Histories.{IsStopped, Went}
 use Rattle.cs_store.specs.Maps.{Accepts}
 use Rattle.cs_store.specs.Rooms.{IsMadeReady, IsNoRoom}
+
+-- the store is halted, and nothing has changed
+abbrev pub IsHalted : {D : Type 0} → (old : View D) → Refusal → (new : View D) → Type 0
+IsHalted old refusal new = (old.store.halted ≡ true) × (refusal ≡ Halted) × (new ≡ old)
 
 module _ {D : Type 0} (disks : PageDisk D) where
   -- the store is made ready, and then the event is done with this reply
@@ -29,6 +33,6 @@ module _ {D : Type 0} (disks : PageDisk D) where
   Declines old event refusal new = IsNoRoom disks old refusal new
       ⊎ ((ready : View D) × IsMadeReady disks old ready × IsStopped disks ready [] event refusal new)
 
-  -- there was no memory for the event's bytes, and nothing has changed; or it is declined
+  -- the store is halted; or there was no memory for the event's bytes, and nothing has changed; or it is declined
   abbrev pub DeclinesCopy : (old : View D) → Event → Refusal → (new : View D) → Type 0
-  DeclinesCopy old event refusal new = ((refusal ≡ OutOfMemory) × (new ≡ old)) ⊎ Declines old event refusal new
+  DeclinesCopy old event refusal new = IsHalted old refusal new ⊎ ((refusal ≡ OutOfMemory) × (new ≡ old)) ⊎ Declines old event refusal new

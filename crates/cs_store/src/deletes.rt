@@ -1,6 +1,6 @@
 //! Deletes.
-ghost use Rattle.std.specs.Prelude.{◌≡◌, ◌≤◌, ◌↔◌, IfErr, IfOk, IfSome, MatchOption, MatchResult, None, suc};
-ghost use Rattle.cs_disk.specs.Disk.{LeavesOnly, page};
+ghost use Rattle.std.specs.Prelude.{◌≡◌, ◌≤◌, ◌↔◌, ◌⊎◌, Err, IfErr, IfOk, IfSome, MatchOption, MatchResult, None, suc, true};
+ghost use Rattle.cs_disk.specs.Disk.{Leaves, LeavesOnly, page};
 ghost use Rattle.cs_extent.specs.State.{shape};
 ghost use Rattle.cs_index.specs.State.{id_number};
 ghost use Rattle.cs_model.specs.Element.{Map};
@@ -10,7 +10,7 @@ ghost use Rattle.cs_core.specs.declared.events.Event.TheVariants.{Delete};
 ghost use Rattle.cs_core.specs.declared.events.Reply.TheVariants.{Absent, Accepted};
 ghost use Rattle.cs_core.specs.Meanings.{commands_said};
 ghost use Rattle.cs_store.specs.Errors.{delete_refusal};
-ghost use Rattle.cs_store.specs.Events.{Declines, Does};
+ghost use Rattle.cs_store.specs.Events.{Declines, Does, IsHalted};
 ghost use Rattle.cs_store.specs.Maps.{HasMap};
 ghost use Rattle.cs_store.specs.Rooms.{HasNoRoom};
 
@@ -31,7 +31,9 @@ impl<D: PageDisk> Store<D> {
     /// may be and an extent is being swept still. The map is as it was then.
     pub fn delete(&mut self, id: ShardId) -> Result<Option<u64>, DeleteError>
         ensures done { IfOk result (λ deleted. MatchOption deleted (Does D.PageDisk self.old (Delete id) Absent self.new) (λ n. Does D.PageDisk self.old (Delete id) (Accepted n) self.new)) }
-        ensures refused { IfErr result (λ error. Declines D.PageDisk self.old (Delete id) (delete_refusal error) self.new) }
+        ensures refused { IfErr result (λ error. IsHalted self.old (delete_refusal error) self.new ⊎ Declines D.PageDisk self.old (Delete id) (delete_refusal error) self.new) }
+        // A halted store refuses it, and nothing is asked of the core: no event more is kept.
+        ensures halted { self.old.store.halted ≡ true → (result ≡ Err DeleteError.Halted) × (self.new ≡ self.old) }
         // It is refused 41 only where no event may be kept at all, or an extent is being swept.
         ensures full { D.honest self.old.disk → IfErr result (λ error. error ≡ DeleteError.HistoryFull → HasNoRoom self.new) }
         ensures number { D.honest self.old.disk → IfOk result (λ deleted. MatchOption deleted (self.new.store.accepted ≡ self.old.store.accepted) (λ n. n ≡ suc self.old.store.accepted)) }
@@ -43,11 +45,16 @@ impl<D: PageDisk> Store<D> {
         ensures rises { self.old.store.frontier ≤ self.new.store.frontier }
         // A crash at any moment of it leaves the map after some of the commands, none of those left out that were persistent before.
         ensures crash { D.honest self.old.disk → LeavesOnly D.moment D.left_since self.old.disk self.new.disk (IsPrefix (shape self.old.store.extents) (page self.old.opened) (commands_said self.new.history) self.old.store.frontier self.new.store.accepted) }
+        // A crash after it does so for the commands and the frontier then.
+        ensures left { D.honest self.new.disk → Leaves (D.state self.new.disk) (IsPrefix (shape self.new.store.extents) (page self.new.opened) (commands_said self.new.history) self.new.store.frontier self.new.store.accepted) }
         ensures honest { D.honest self.old.disk ↔ D.honest self.new.disk }
     {
         // Called for their contracts alone: which state of the machine the store is in, and what all extents keep.
         self.core.progress();
         self.core.extents().extent_count();
+        if self.core.is_halted() {
+            return Err(DeleteError::Halted);
+        }
         match ask_ready(&mut self.core, &Event::Delete(id)) {
             Ok(Reply::Accepted(number)) => Ok(Some(number)),
             Ok(Reply::Absent) => Ok(None),

@@ -1,6 +1,8 @@
 //! Why calls were refused: for each call an enum of just the refusals that it may have, under the numbers and names that all layers share.
 ghost use Rattle.std.specs.Prelude.{◌≡◌};
-ghost use Rattle.cs_store.specs.Errors.{IsDeleteRefusal, IsGetRefusal, IsPutRefusal, IsSweepRefusal, IsSyncRefusal, delete_refusal, get_refusal, put_refusal, sweep_refusal, sync_refusal};
+ghost use Rattle.cs_drive.specs.Sweeps.{MayRefuseSweep};
+ghost use Rattle.cs_drive.specs.Syncs.{MayRefuseSync};
+ghost use Rattle.cs_store.specs.Errors.{IsDeleteRefusal, IsGetRefusal, IsOpenRefusal, IsPutRefusal, delete_refusal, get_refusal, open_refusal, put_refusal, sweep_refusal, sync_refusal};
 
 use cs_deps::Refusal;
 use thiserror::Error;
@@ -221,7 +223,7 @@ impl SyncError {
 
     /// The error that a refusal of a sync is.
     pub(crate) fn of(refusal: Refusal) -> Self
-        requires { IsSyncRefusal refusal }
+        requires { MayRefuseSync refusal }
         ensures { sync_refusal result ≡ refusal }
     {
         match refusal {
@@ -303,7 +305,7 @@ impl SweepError {
 
     /// The error that a refusal of a sweep is.
     pub(crate) fn of(refusal: Refusal) -> Self
-        requires { IsSweepRefusal refusal }
+        requires { MayRefuseSweep refusal }
         ensures { sweep_refusal result ≡ refusal }
     {
         match refusal {
@@ -320,6 +322,86 @@ impl SweepError {
             Refusal::WornOut => SweepError::WornOut,
             Refusal::Halted => SweepError::Halted,
             Refusal::HistoryFull => SweepError::HistoryFull,
+            _ => unreachable!(),
+        }
+    }
+}
+
+/// Why no store was made or opened.
+#[derive(Clone, Copy, Debug, PartialEq, Eq, Error)]
+pub enum OpenError {
+    /// 1 DeviceFault: the operating system refused the file, or the device a read, a write or a flush.
+    #[error("the device failed")]
+    DeviceFault,
+    /// 6 OddLength: the file's length is no multiple of 4,096 bytes.
+    #[error("the length is no multiple of the page size")]
+    OddLength,
+    /// 7 BadGeometry: the number of extents or of their pages is out of range.
+    #[error("the geometry is out of range")]
+    BadGeometry,
+    /// 9 OutOfMemory: memory was asked for and refused.
+    #[error("out of memory")]
+    OutOfMemory,
+    /// 20 BadMagic: a page of the superblock, the root or the index doesn't begin as its format does.
+    #[error("the magic bytes are wrong")]
+    BadMagic,
+    /// 21 BadDigest: a digest isn't that of the bytes.
+    #[error("the digest is wrong")]
+    BadDigest,
+    /// 22 BadLength: a length or a count is out of range.
+    #[error("a length is out of range")]
+    BadLength,
+    /// 23 BadPadding: padding isn't zero.
+    #[error("the padding is not zero")]
+    BadPadding,
+    /// 24 BadVersion: a format has another version, or a frame another kind.
+    #[error("a version is wrong")]
+    BadVersion,
+    /// 25 OutOfOrder: the identifiers of the index don't rise.
+    #[error("the identifiers are out of order")]
+    OutOfOrder,
+    /// 43 NotAStore: there is no store of that many pages.
+    #[error("the device holds no store")]
+    NotAStore,
+}
+
+impl OpenError {
+    /// The refusal that it is, with its number and its name.
+    pub fn refusal(self) -> Refusal
+        ensures { result ≡ open_refusal self }
+    {
+        match self {
+            OpenError::DeviceFault => Refusal::DeviceFault,
+            OpenError::OddLength => Refusal::OddLength,
+            OpenError::BadGeometry => Refusal::BadGeometry,
+            OpenError::OutOfMemory => Refusal::OutOfMemory,
+            OpenError::BadMagic => Refusal::BadMagic,
+            OpenError::BadDigest => Refusal::BadDigest,
+            OpenError::BadLength => Refusal::BadLength,
+            OpenError::BadPadding => Refusal::BadPadding,
+            OpenError::BadVersion => Refusal::BadVersion,
+            OpenError::OutOfOrder => Refusal::OutOfOrder,
+            OpenError::NotAStore => Refusal::NotAStore,
+        }
+    }
+
+    /// The error that a refusal of making or opening a store is.
+    pub(crate) fn of(refusal: Refusal) -> Self
+        requires { IsOpenRefusal refusal }
+        ensures { open_refusal result ≡ refusal }
+    {
+        match refusal {
+            Refusal::DeviceFault => OpenError::DeviceFault,
+            Refusal::OddLength => OpenError::OddLength,
+            Refusal::BadGeometry => OpenError::BadGeometry,
+            Refusal::OutOfMemory => OpenError::OutOfMemory,
+            Refusal::BadMagic => OpenError::BadMagic,
+            Refusal::BadDigest => OpenError::BadDigest,
+            Refusal::BadLength => OpenError::BadLength,
+            Refusal::BadPadding => OpenError::BadPadding,
+            Refusal::BadVersion => OpenError::BadVersion,
+            Refusal::OutOfOrder => OpenError::OutOfOrder,
+            Refusal::NotAStore => OpenError::NotAStore,
             _ => unreachable!(),
         }
     }

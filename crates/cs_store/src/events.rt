@@ -1,6 +1,9 @@
 //! Events that are done once there is room for them.
 ghost use Rattle.std.specs.Prelude.{◌≡◌, ◌⊎◌, IfErr, IfOk, MatchResult, []};
-ghost use Rattle.cs_core.specs.Meanings.{command_said};
+ghost use Rattle.cs_disk.specs.Disk.{Leaves, page};
+ghost use Rattle.cs_extent.specs.State.{shape};
+ghost use Rattle.cs_refine.specs.Crashes.{IsPrefix};
+ghost use Rattle.cs_core.specs.Meanings.{command_said, commands_said};
 ghost use Rattle.cs_core.specs.Replies.{MayAnswer, MayRefuse};
 ghost use Rattle.cs_drive.specs.Histories.{IsNoRefusal};
 ghost use Rattle.cs_drive.specs.Runs.{Ran};
@@ -26,13 +29,20 @@ pub(crate) fn ask_ready<D: PageDisk>(core: &mut Core<D>, event: &Event) -> Resul
     ensures full { D.honest core.old.disk → IfErr result (λ refusal. refusal ≡ Refusal.HistoryFull → HasNoRoom core.new) }
     ensures accepts { MatchResult result (λ reply. Accepts D.PageDisk (command_said event.now reply) core.old core.new) (λ _. Accepts D.PageDisk [] core.old core.new) }
     ensures ran { Ran D.PageDisk core.old core.new }
+    ensures left { D.honest core.new.disk → Leaves (D.state core.new.disk) (IsPrefix (shape core.new.store.extents) (page core.new.opened) (commands_said core.new.history) core.new.store.frontier core.new.store.accepted) }
 {
     match make_ready(core) {
         Ok(()) => {
             // Called for its contract alone: which state of the machine the core is in.
             core.progress();
-            ask(core, event)
+            let asked = ask(core, event);
+            // And what a crash leaves now.
+            core.progress();
+            asked
         }
-        Err(refusal) => Err(refusal),
+        Err(refusal) => {
+            core.progress();
+            Err(refusal)
+        }
     }
 }

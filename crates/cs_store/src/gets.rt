@@ -1,7 +1,7 @@
 //! What is under an identifier.
-ghost use Rattle.std.specs.Prelude.{◌≡◌, ◌≢◌, ◌↔◌, IsTrue, None, []};
+ghost use Rattle.std.specs.Prelude.{◌≡◌, ◌≢◌, ◌↔◌, IfErr, IsTrue, None, []};
 ghost use Rattle.cs_chunk.specs.Reads.{OnlyReads};
-ghost use Rattle.cs_disk.specs.Disk.{LeavesOnly, page};
+ghost use Rattle.cs_disk.specs.Disk.{LeavesOnly, Rises, page};
 ghost use Rattle.cs_extent.specs.State.{shape};
 ghost use Rattle.cs_index.specs.State.{id_number, index_of};
 ghost use Rattle.cs_model.specs.Element.{Map};
@@ -29,6 +29,8 @@ impl<D: PageDisk> Store<D> {
         ensures absent { (result ≡ Ok None) ↔ (live_at (index_of self.old.store.index) (id_number id) ≡ []) }
         ensures same { self.new ≡ record self.old { disk = self.new.disk } }
         ensures disk { OnlyReads D.PageDisk self.old.disk self.new.disk }
+        // 1 is answered only where the disk's count of failures rose, or stood at its end.
+        ensures cause { IfErr result (λ error. error ≡ GetError.DeviceFault → Rises (D.failure_count self.old.disk) (D.failure_count self.new.disk)) }
         // A crash meanwhile leaves what one before it might have left.
         ensures crash { D.honest self.old.disk → LeavesOnly D.moment D.left_since self.old.disk self.new.disk (IsPrefix (shape self.old.store.extents) (page self.old.opened) (commands_said self.old.history) self.old.store.frontier self.old.store.accepted) }
     {

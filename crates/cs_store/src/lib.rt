@@ -9,12 +9,26 @@ mod counts;
 mod deletes;
 mod errors;
 mod events;
+mod extents;
+mod files;
 mod gets;
+mod memories;
+mod options;
 mod puts;
+mod refusals;
 mod rooms;
 mod stores;
 mod sweeps;
 mod syncs;
 
-pub use errors::{DeleteError, GetError, PutError, SweepError, SyncError};
+pub use errors::{DeleteError, GetError, OpenError, PutError, SweepError, SyncError};
+pub use extents::ExtentLook;
+pub use options::{LIMITS, Options};
 pub use stores::Store;
+
+// What callers need of the crates below, so that this one is enough.
+pub use cs_core::Limits;
+pub use cs_deps::Refusal;
+pub use cs_disk::{FileDisk, MemoryDisk, PageDisk};
+pub use cs_drive::Swept;
+pub use cs_frame::{Geometry, ShardId};

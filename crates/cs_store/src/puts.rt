@@ -1,6 +1,6 @@
 //! Puts.
-ghost use Rattle.std.specs.Prelude.{◌≡◌, ◌≤◌, ◌↔◌, IfErr, IfOk, MatchResult, Some, suc};
-ghost use Rattle.cs_disk.specs.Disk.{LeavesOnly, page};
+ghost use Rattle.std.specs.Prelude.{◌≡◌, ◌≤◌, ◌↔◌, Err, IfErr, IfOk, MatchResult, Some, suc, true};
+ghost use Rattle.cs_disk.specs.Disk.{Leaves, LeavesOnly, page};
 ghost use Rattle.cs_extent.specs.State.{shape};
 ghost use Rattle.cs_index.specs.State.{id_number};
 ghost use Rattle.cs_model.specs.Element.{Map};
@@ -42,6 +42,8 @@ impl<D: PageDisk> Store<D> {
     pub fn put(&mut self, id: ShardId, bytes: &[u8]) -> Result<u64, PutError>
         ensures done { IfOk result (λ n. Does D.PageDisk self.old (Put id bytes.now) (Accepted n) self.new) }
         ensures refused { IfErr result (λ error. DeclinesCopy D.PageDisk self.old (Put id bytes.now) (put_refusal error) self.new) }
+        // A halted store refuses it, and nothing is asked of the core: no event more is kept.
+        ensures halted { self.old.store.halted ≡ true → (result ≡ Err PutError.Halted) × (self.new ≡ self.old) }
         // It is refused 41 only where no event may be kept at all, or an extent is being swept.
         ensures full { D.honest self.old.disk → IfErr result (λ error. error ≡ PutError.HistoryFull → HasNoRoom self.new) }
         ensures number { D.honest self.old.disk → IfOk result (λ n. n ≡ suc self.old.store.accepted) }
@@ -50,10 +52,15 @@ impl<D: PageDisk> Store<D> {
         ensures rises { self.old.store.frontier ≤ self.new.store.frontier }
         // A crash at any moment of it leaves the map after some of the commands, none of those left out that were persistent before.
         ensures crash { D.honest self.old.disk → LeavesOnly D.moment D.left_since self.old.disk self.new.disk (IsPrefix (shape self.old.store.extents) (page self.old.opened) (commands_said self.new.history) self.old.store.frontier self.new.store.accepted) }
+        // A crash after it does so for the commands and the frontier then.
+        ensures left { D.honest self.new.disk → Leaves (D.state self.new.disk) (IsPrefix (shape self.new.store.extents) (page self.new.opened) (commands_said self.new.history) self.new.store.frontier self.new.store.accepted) }
         ensures honest { D.honest self.old.disk ↔ D.honest self.new.disk }
     {
         // Called for its contract alone: which state of the machine the store is in.
         self.core.progress();
+        if self.core.is_halted() {
+            return Err(PutError::Halted);
+        }
         let Ok(copy) = copy_of(self.alloc, bytes) else {
             return Err(PutError::OutOfMemory);
         };

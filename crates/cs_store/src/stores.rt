@@ -53,6 +53,7 @@ impl<D: PageDisk> Store<D> {
         ensures map { D.honest disk → IfOk result (λ made. HasMap made (λ id. None)) }
         ensures written { D.honest disk → MatchResult result (λ made. IsNewOn geometry.extents geometry.pages geometry.sections (D.state disk) (D.state made.disk)) (λ refused. IsHeadWritten geometry.extents geometry.pages (D.state disk) (D.state refused.1)) }
         ensures same { D.page_count disk ≢ 1 + geometry.extents * geometry.pages + geometry.sections → result ≡ Err (Refusal.NotAStore, disk) }
+        ensures not_a_store { IfErr result (λ refused. (refused.0 ≡ Refusal.NotAStore) ↔ (D.page_count disk ≢ 1 + geometry.extents * geometry.pages + geometry.sections)) }
         ensures pages { IfOk result (λ made. D.page_count made.disk ≡ D.page_count disk) }
         ensures honest { MatchResult result (λ made. D.honest disk ↔ D.honest made.disk) (λ refused. D.honest disk ↔ D.honest refused.1) }
         ensures sized { OnOk result (D.page_count disk ≡ 1 + geometry.extents * geometry.pages + geometry.sections) }

@@ -1,23 +1,28 @@
 //! Sweeps.
-ghost use Rattle.std.specs.Prelude.{◌≤◌, ◌↔◌, ◌⊎◌, IfErr, IfOk, []};
-ghost use Rattle.cs_disk.specs.Disk.{LeavesOnly, page};
-ghost use Rattle.cs_extent.specs.State.{shape};
+ghost use Rattle.std.specs.Prelude.{◌≡◌, ◌≤◌, ◌↔◌, ◌⊎◌, Err, IfErr, IfOk, OnOk, [], ◌∷◌, false, true};
+ghost use Rattle.cs_disk.specs.Disk.{Leaves, LeavesOnly, page};
+ghost use Rattle.cs_extent.specs.State.{extents_of, shape};
 ghost use Rattle.cs_model.specs.Element.{Map};
+ghost use Rattle.cs_model.specs.Extents.{marked};
 ghost use Rattle.cs_refine.specs.Crashes.{IsPrefix};
+ghost use Rattle.cs_core.specs.declared.events.Event.TheVariants.{Abandon};
+ghost use Rattle.cs_core.specs.declared.events.Reply.TheVariants.{Abandoned};
 ghost use Rattle.cs_core.specs.Meanings.{commands_said};
+ghost use Rattle.cs_drive.specs.Histories.{IsStopped, Went};
 ghost use Rattle.cs_drive.specs.Runs.{Ran};
 ghost use Rattle.cs_drive.specs.Sweeps.{MayRefuseSweep};
 ghost use Rattle.cs_store.specs.Errors.{IsDeleteRefusal, sweep_refusal};
+ghost use Rattle.cs_store.specs.Events.{IsHalted};
 ghost use Rattle.cs_store.specs.Maps.{Accepts, HasMap};
 ghost use Rattle.cs_store.specs.Sweeps.{DeclinesSweep, SweepsReady};
 
 use crate::errors::SweepError;
 use crate::rooms::make_ready;
 use crate::stores::Store;
-use cs_core::Core;
+use cs_core::{Core, Event};
 use cs_deps::Refusal;
 use cs_disk::PageDisk;
-use cs_drive::{Swept, sweep};
+use cs_drive::{Swept, ask, sweep};
 
 /// Makes room for a sweep and has the core do it.
 fn sweep_ready<D: PageDisk>(core: &mut Core<D>, extent: usize) -> Result<Swept, Refusal>
@@ -44,17 +49,61 @@ impl<D: PageDisk> Store<D> {
     /// of it, or sweep again.
     pub fn sweep(&mut self, extent: usize) -> Result<Swept, SweepError>
         ensures done { IfOk result (λ swept. SweepsReady D.PageDisk extent self.old self.new swept.moved swept.root) }
-        ensures refused { IfErr result (λ error. DeclinesSweep D.PageDisk extent self.old self.new (sweep_refusal error)) }
+        ensures refused { IfErr result (λ error. IsHalted self.old (sweep_refusal error) self.new ⊎ DeclinesSweep D.PageDisk extent self.old self.new (sweep_refusal error)) }
+        // A halted store refuses it, and nothing is asked of the core: no event more is kept.
+        ensures halted { self.old.store.halted ≡ true → (result ≡ Err SweepError.Halted) × (self.new ≡ self.old) }
         ensures map { (m : Map) → HasMap self.old m → HasMap self.new m }
         ensures rises { self.old.store.frontier ≤ self.new.store.frontier }
         // A crash at any moment of it leaves the map after some of the commands, none of those left out that were persistent before.
         ensures crash { D.honest self.old.disk → LeavesOnly D.moment D.left_since self.old.disk self.new.disk (IsPrefix (shape self.old.store.extents) (page self.old.opened) (commands_said self.new.history) self.old.store.frontier self.new.store.accepted) }
+        // A crash after it does so for the commands and the frontier then.
+        ensures left { D.honest self.new.disk → Leaves (D.state self.new.disk) (IsPrefix (shape self.new.store.extents) (page self.new.opened) (commands_said self.new.history) self.new.store.frontier self.new.store.accepted) }
         ensures honest { D.honest self.old.disk ↔ D.honest self.new.disk }
     {
         // Called for its contract alone: which state of the machine the store is in.
         self.core.progress();
-        match sweep_ready(&mut self.core, extent) {
+        if self.core.is_halted() {
+            return Err(SweepError::Halted);
+        }
+        let swept = sweep_ready(&mut self.core, extent);
+        // Called for its contract alone: what a crash leaves now.
+        self.core.progress();
+        match swept {
             Ok(swept) => Ok(swept),
+            Err(refusal) => Err(SweepError::of(refusal)),
+        }
+    }
+
+    /// Takes the mark off an extent that is being swept: what a sweep leaves to do that was refused 9 OutOfMemory. Where one is marked no checkpoint can
+    /// be taken, so that puts are refused 41 HistoryFull at last. What was moved stays where it is. Neither the disk nor room for an event is needed.
+    ///
+    /// Refused 33 NotSweepable where the extent isn't marked, 40 Halted and 9 OutOfMemory.
+    pub fn abandon(&mut self, extent: usize) -> Result<(), SweepError>
+        ensures done { OnOk result (Went D.PageDisk self.old ((Abandon extent, Abandoned) ∷ []) self.new) }
+        // The extent isn't marked any more, and nothing else of the extents has changed.
+        ensures mark { D.honest self.old.disk → OnOk result (extents_of self.new.store.extents ≡ marked (extents_of self.old.store.extents) extent false) }
+        ensures refused { IfErr result (λ error. IsHalted self.old (sweep_refusal error) self.new ⊎ IsStopped D.PageDisk self.old [] (Abandon extent) (sweep_refusal error) self.new) }
+        // A halted store refuses it, and nothing is asked of the core: no event more is kept.
+        ensures halted { self.old.store.halted ≡ true → (result ≡ Err SweepError.Halted) × (self.new ≡ self.old) }
+        ensures refusals { IfErr result (λ error. (error ≡ SweepError.NotSweepable) ⊎ (error ≡ SweepError.Halted) ⊎ (error ≡ SweepError.OutOfMemory)) }
+        ensures map { (m : Map) → HasMap self.old m → HasMap self.new m }
+        ensures rises { self.old.store.frontier ≤ self.new.store.frontier }
+        // A crash at any moment of it leaves the map after some of the commands, none of those left out that were persistent before.
+        ensures crash { D.honest self.old.disk → LeavesOnly D.moment D.left_since self.old.disk self.new.disk (IsPrefix (shape self.old.store.extents) (page self.old.opened) (commands_said self.new.history) self.old.store.frontier self.new.store.accepted) }
+        // A crash after it does so for the commands and the frontier then.
+        ensures left { D.honest self.new.disk → Leaves (D.state self.new.disk) (IsPrefix (shape self.new.store.extents) (page self.new.opened) (commands_said self.new.history) self.new.store.frontier self.new.store.accepted) }
+        ensures honest { D.honest self.old.disk ↔ D.honest self.new.disk }
+    {
+        // Called for its contract alone: which state of the machine the store is in.
+        self.core.progress();
+        if self.core.is_halted() {
+            return Err(SweepError::Halted);
+        }
+        let asked = ask(&mut self.core, &Event::Abandon(extent));
+        // Called for its contract alone: what a crash leaves now.
+        self.core.progress();
+        match asked {
+            Ok(_) => Ok(()),
             Err(refusal) => Err(SweepError::of(refusal)),
         }
     }

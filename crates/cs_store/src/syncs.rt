@@ -1,12 +1,13 @@
 //! Syncs.
-ghost use Rattle.std.specs.Prelude.{◌≡◌, ◌≤◌, ◌↔◌, IfErr, IfOk};
-ghost use Rattle.cs_disk.specs.Disk.{LeavesOnly, page};
+ghost use Rattle.std.specs.Prelude.{◌≡◌, ◌≤◌, ◌↔◌, ◌⊎◌, Err, IfErr, IfOk, true};
+ghost use Rattle.cs_disk.specs.Disk.{Leaves, LeavesOnly, page};
 ghost use Rattle.cs_extent.specs.State.{shape};
 ghost use Rattle.cs_model.specs.Element.{Map};
 ghost use Rattle.cs_refine.specs.Crashes.{IsPrefix};
 ghost use Rattle.cs_core.specs.Meanings.{commands_said};
 ghost use Rattle.cs_drive.specs.Syncs.{StopsSync, Syncs};
 ghost use Rattle.cs_store.specs.Errors.{sync_refusal};
+ghost use Rattle.cs_store.specs.Events.{IsHalted};
 ghost use Rattle.cs_store.specs.Maps.{HasMap};
 
 use crate::errors::SyncError;
@@ -24,17 +25,27 @@ impl<D: PageDisk> Store<D> {
         ensures done { IfOk result (λ frontier. Syncs D.PageDisk self.old self.new × (frontier ≡ self.new.store.frontier)) }
         // What it gives is the number of commands accepted, so the whole map is persistent.
         ensures all { D.honest self.old.disk → IfOk result (λ frontier. frontier ≡ self.new.store.accepted) }
-        ensures refused { IfErr result (λ error. StopsSync D.PageDisk self.old (sync_refusal error) self.new) }
+        ensures refused { IfErr result (λ error. IsHalted self.old (sync_refusal error) self.new ⊎ StopsSync D.PageDisk self.old (sync_refusal error) self.new) }
+        // A halted store refuses it, and nothing is asked of the core: no event more is kept.
+        ensures halted { self.old.store.halted ≡ true → (result ≡ Err SyncError.Halted) × (self.new ≡ self.old) }
         ensures same { D.honest self.old.disk → self.new.store.accepted ≡ self.old.store.accepted }
         ensures map { (m : Map) → HasMap self.old m → HasMap self.new m }
         ensures rises { self.old.store.frontier ≤ self.new.store.frontier }
         // A crash at any moment of it leaves the map after some of the commands, none of those left out that were persistent before.
         ensures crash { D.honest self.old.disk → LeavesOnly D.moment D.left_since self.old.disk self.new.disk (IsPrefix (shape self.old.store.extents) (page self.old.opened) (commands_said self.new.history) self.old.store.frontier self.new.store.accepted) }
+        // A crash after it does so for the commands and the frontier then.
+        ensures left { D.honest self.new.disk → Leaves (D.state self.new.disk) (IsPrefix (shape self.new.store.extents) (page self.new.opened) (commands_said self.new.history) self.new.store.frontier self.new.store.accepted) }
         ensures honest { D.honest self.old.disk ↔ D.honest self.new.disk }
     {
         // Called for its contract alone: which state of the machine the store is in.
         self.core.progress();
-        match sync(&mut self.core) {
+        if self.core.is_halted() {
+            return Err(SyncError::Halted);
+        }
+        let synced = sync(&mut self.core);
+        // Called for its contract alone: what a crash leaves now.
+        self.core.progress();
+        match synced {
             Ok(frontier) => Ok(frontier),
             Err(refusal) => Err(SyncError::of(refusal)),
         }

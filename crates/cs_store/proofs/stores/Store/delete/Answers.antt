@@ -1,11 +1,14 @@
-use Rattle.std.proofs.Common.{◌∙◌, ap, refl, subst, sym}
+use Rattle.std.proofs.Common.{◌∙◌, ap, inl, inr, refl, subst, sym}
+use Rattle.cs_disk.specs.Disk.{Leaves}
+use Rattle.cs_core.specs.Views.{View}
+use Rattle.cs_drive.proofs.Runs.{ran_none}
 use Rattle.cs_extent.specs.State.{IsWhole}
 use Rattle.cs_core.specs.declared.events.Event.TheVariants.{Delete}
 use Rattle.cs_core.specs.declared.events.Reply.TheVariants.{Absent, Accepted}
 use Rattle.cs_store.specs.Errors.{delete_refusal}
 use Rattle.cs_store.proofs.Commanding.{absent_maps, absent_number, delete_declines, delete_maps, delete_number, does_as}
 use Rattle.cs_store.proofs.Deleting.{absent_there, deleted_there}
-use Rattle.cs_store.proofs.Running.{ran_leaves, ran_rises}
+use Rattle.cs_store.proofs.Running.{Left, ran_leaves, ran_rises}
 use Rattle.cs_store.proofs.Refusing.{delete_is}
 use Rattle.cs_store.proofs.stores.Store.delete.Goals as goal
 
@@ -57,7 +60,7 @@ returns-in-Ok-Absent-clause-crash g c = rw (← c.self.view_is) (λ honest.
 
 pub returns-clause-refused : goal.returns-clause-refused
 returns-clause-refused g c = rw (← c.self.view_is)
-    (delete_declines g.D.PageDisk c.self.inside.core c.ask_ready.new.core c.args.id c.in-Err.refusal (delete_refusal c.of.result) c.of.ensures c.in-Err.ensures.declined)
+    (inr (delete_declines g.D.PageDisk c.self.inside.core c.ask_ready.new.core c.args.id c.in-Err.refusal (delete_refusal c.of.result) c.of.ensures c.in-Err.ensures.declined))
 
 pub returns-clause-crash : goal.returns-clause-crash
 returns-clause-crash g c = rw (← c.self.view_is) (λ honest.
@@ -78,3 +81,27 @@ returns-in-Ok-Absent-clause-rises g c = rw (← c.self.view_is) (ran_rises g.D.P
 
 pub returns-clause-rises : goal.returns-clause-rises
 returns-clause-rises g c = rw (← c.self.view_is) (ran_rises g.D.PageDisk c.self.inside.core c.ask_ready.new.core c.ask_ready.ensures.ran)
+
+pub returns-in-Ok-Accepted-clause-halted : goal.returns-in-Ok-Accepted-clause-halted
+returns-in-Ok-Accepted-clause-halted g c = rw (← c.self.view_is) (λ is. absurd (cc (sym is ∙ sym c.is_halted.ensures ∙ c.if-is_halted.false)))
+
+pub returns-in-Ok-Absent-clause-halted : goal.returns-in-Ok-Absent-clause-halted
+returns-in-Ok-Absent-clause-halted g c = rw (← c.self.view_is) (λ is. absurd (cc (sym is ∙ sym c.is_halted.ensures ∙ c.if-is_halted.false)))
+
+pub returns-clause-halted : goal.returns-clause-halted
+returns-clause-halted g c = rw (← c.self.view_is) (λ is. absurd (cc (sym is ∙ sym c.is_halted.ensures ∙ c.if-is_halted.false)))
+
+pub returns-then-is_halted-clause-refused : goal.returns-then-is_halted-clause-refused
+returns-then-is_halted-clause-refused g c = rw (← c.self.view_is) (inl (sym c.is_halted.ensures ∙ c.if-is_halted.true, refl, refl))
+
+pub returns-then-is_halted-clause-halted : goal.returns-then-is_halted-clause-halted
+returns-then-is_halted-clause-halted g c = rw (← c.self.view_is) (λ is. (refl, refl))
+
+pub returns-then-is_halted-clause-crash : goal.returns-then-is_halted-clause-crash
+returns-then-is_halted-clause-crash g c = rw (← c.self.view_is) (λ honest.
+    let s = c.progress.ensures.legal honest in
+    ran_leaves g.D.PageDisk c.self.inside.core c.self.inside.core s.0 honest s.1 (c.progress.ensures.left honest) (λ image since. g.met.D.PageDisk.only_now c.self.inside.core.disk image honest since) (ran_none g.D.PageDisk c.self.inside.core))
+
+pub returns-then-is_halted-clause-left : goal.returns-then-is_halted-clause-left
+returns-then-is_halted-clause-left g c =
+    subst (λ (v : View g.row.D.Denot). g.D.PageDisk.honest v.disk → Leaves (g.D.PageDisk.state v.disk) (Left v v)) c.self.view_is c.progress.ensures.left

@@ -1,10 +1,14 @@
-use Rattle.std.proofs.Common.{subst, sym}
+use Rattle.std.proofs.Common.{◌≡◌, subst, sym}
+use Rattle.cs_disk.specs.Disk.{Rises}
 use Rattle.cs_extent.specs.State.{IsWhole}
 use Rattle.cs_index.specs.State.{id_number}
 use Rattle.cs_model.specs.State.{map_now}
+use Rattle.cs_store.specs.declared.errors.GetError.{GetError}
+use Rattle.cs_store.specs.declared.errors.GetError.TheVariants.{DeviceFault}
 use Rattle.cs_store.specs.Gets.{IsGot}
-use Rattle.cs_store.proofs.Getting.{got, got_not, map_is}
+use Rattle.cs_store.proofs.Getting.{got, got_not, map_is, told_cause}
 use Rattle.cs_store.proofs.Refusing.{get_is}
+use Rattle.cs_store.proofs.Running.{refused_err, refused_ok}
 use Rattle.cs_store.proofs.stores.Store.get.Goals as goal
 use Rattle.cs_store.proofs.stores.Store.get.Goals.{in-Err, in-Ok}
 
@@ -20,3 +24,11 @@ returns-clause-answer g c = rw (← c.self.view_is) (λ m has honest.
 
 pub of-requires : goal.of-requires
 of-requires g c = get_is c.in-Err.refusal c.in-Err.ensures.refusals
+
+pub returns-clause-cause : goal.returns-clause-cause
+returns-clause-cause g c = rw (← c.self.view_is) (
+    let caused = λ (error : GetError). error ≡ DeviceFault → Rises (g.D.PageDisk.failure_count c.self.inside.core.disk) (g.D.PageDisk.failure_count c.read.new.self.disk) in
+    elim c.match-read.branch [
+      | in-Ok w ↦ refused_ok c.match-read.result w.in-Ok.found caused w.result-is
+      | in-Err w ↦ refused_err c.match-read.result w.of.result caused w.result-is (told_cause (g.D.PageDisk.failure_count c.self.inside.core.disk) (g.D.PageDisk.failure_count c.read.new.self.disk) w.in-Err.refusal w.of.result w.in-Err.ensures.cause w.of.ensures)
+    ])

@@ -1,8 +1,10 @@
-use Rattle.std.proofs.Common.{◌∙◌, ap, sym}
+use Rattle.std.proofs.Common.{◌∙◌, ap, inl, inr, refl, subst, sym}
+use Rattle.cs_disk.specs.Disk.{Leaves}
+use Rattle.cs_core.specs.Views.{View}
 use Rattle.cs_drive.proofs.Runs.{ran_none}
 use Rattle.cs_store.specs.Errors.{put_refusal}
 use Rattle.cs_store.proofs.Commanding.{put_declines, put_does, put_maps, put_number}
-use Rattle.cs_store.proofs.Running.{ran_leaves, ran_rises}
+use Rattle.cs_store.proofs.Running.{Left, ran_leaves, ran_rises}
 use Rattle.cs_store.proofs.Refusing.{put_is}
 use Rattle.cs_store.proofs.stores.Store.put.Goals as goal
 
@@ -47,3 +49,34 @@ returns-in-Ok-Accepted-clause-rises g c = rw (← c.self.view_is) (ran_rises g.D
 
 pub returns-clause-rises : goal.returns-clause-rises
 returns-clause-rises g c = rw (← c.self.view_is) (ran_rises g.D.PageDisk c.self.inside.core c.ask_ready.new.core c.ask_ready.ensures.ran)
+
+pub returns-in_default-clause-halted : goal.returns-in_default-clause-halted
+returns-in_default-clause-halted g c = rw (← c.self.view_is) (λ is. absurd (cc (sym is ∙ sym c.is_halted.ensures ∙ c.if-is_halted.false)))
+
+pub returns-in-Ok-Accepted-clause-halted : goal.returns-in-Ok-Accepted-clause-halted
+returns-in-Ok-Accepted-clause-halted g c = rw (← c.self.view_is) (λ is. absurd (cc (sym is ∙ sym c.is_halted.ensures ∙ c.if-is_halted.false)))
+
+pub returns-clause-halted : goal.returns-clause-halted
+returns-clause-halted g c = rw (← c.self.view_is) (λ is. absurd (cc (sym is ∙ sym c.is_halted.ensures ∙ c.if-is_halted.false)))
+
+pub returns-in_default-clause-left : goal.returns-in_default-clause-left
+returns-in_default-clause-left g c =
+    subst (λ (v : View g.row.D.Denot). g.D.PageDisk.honest v.disk → Leaves (g.D.PageDisk.state v.disk) (Left v v)) c.self.view_is c.progress.ensures.left
+
+pub returns-then-is_halted-clause-refused : goal.returns-then-is_halted-clause-refused
+returns-then-is_halted-clause-refused g c = rw (← c.self.view_is) (inl (sym c.is_halted.ensures ∙ c.if-is_halted.true, refl, refl))
+
+pub returns-then-is_halted-clause-halted : goal.returns-then-is_halted-clause-halted
+returns-then-is_halted-clause-halted g c = rw (← c.self.view_is) (λ is. (refl, refl))
+
+pub returns-then-is_halted-clause-crash : goal.returns-then-is_halted-clause-crash
+returns-then-is_halted-clause-crash g c = rw (← c.self.view_is) (λ honest.
+    let s = c.progress.ensures.legal honest in
+    ran_leaves g.D.PageDisk c.self.inside.core c.self.inside.core s.0 honest s.1 (c.progress.ensures.left honest) (λ image since. g.met.D.PageDisk.only_now c.self.inside.core.disk image honest since) (ran_none g.D.PageDisk c.self.inside.core))
+
+pub returns-then-is_halted-clause-left : goal.returns-then-is_halted-clause-left
+returns-then-is_halted-clause-left g c =
+    subst (λ (v : View g.row.D.Denot). g.D.PageDisk.honest v.disk → Leaves (g.D.PageDisk.state v.disk) (Left v v)) c.self.view_is c.progress.ensures.left
+
+pub returns-in_default-clause-refused : goal.returns-in_default-clause-refused
+returns-in_default-clause-refused g c = rw (← c.self.view_is) (inr (inl (refl, refl)))

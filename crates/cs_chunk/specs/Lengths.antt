@@ -1,0 +1,37 @@
+-- The lengths of payloads, as the first pages of their frames say them.
+use Rattle.std.specs.Prelude.{◌≡◌, ◌⊎◌, ◌-◌, ℕ, List, Option, Some, None, slice_get, take}
+use Rattle.std.specs.List.{AllByRecursion, sum_by}
+use Rattle.cs_chunk.specs.Reads.{IsNoAnswer, IsOfFault}
+use Rattle.cs_deps.specs.declared.refusals.Refusal.{Refusal}
+use Rattle.cs_deps.specs.declared.refusals.Refusal.TheVariants.{BadLength, BadMagic, BadVersion}
+use Rattle.cs_frame.specs.declared.faults.FormatFault.{FormatFault}
+use Rattle.cs_frame.specs.declared.frames.FrameKind.{FrameKind}
+use Rattle.cs_frame.specs.declared.frames.FrameKind.TheVariants.{Chunk}
+use Rattle.cs_frame.specs.declared.locators.Locator.{Locator}
+use Rattle.cs_frame.specs.Frames.{header_fault, kind_byte, payload_length}
+use Rattle.cs_model.specs.Device.{Shape}
+
+-- the first test that fails of the header at a place
+abbrev pub header_fault_at : Shape → (view : ℕ → List ℕ) → FrameKind → Locator → Option FormatFault
+header_fault_at S view kind l = header_fault (kind_byte kind) (view (S.address l.extent l.page)) (S.pages - l.page)
+
+-- the length of a payload that the header at a place says
+abbrev pub length_at : Shape → (view : ℕ → List ℕ) → Locator → ℕ
+length_at S view l = payload_length (view (S.address l.extent l.page))
+
+-- the device or memory refused, or one of a header's tests: 1, 9, 20, 22 and 24
+abbrev pub IsHeaderRefusal : Refusal → Type 0
+IsHeaderRefusal r = IsNoAnswer r ⊎ (r ≡ BadMagic) ⊎ (r ≡ BadVersion) ⊎ (r ≡ BadLength)
+
+-- a chunk's header is at each of these places
+abbrev pub AreHeadersAt : Shape → (view : ℕ → List ℕ) → List Locator → Type 0
+AreHeadersAt S view ls = AllByRecursion (λ l. header_fault_at S view Chunk l ≡ None) ls
+
+-- the lengths that the headers at these places say, together
+abbrev pub lengths_at : Shape → (view : ℕ → List ℕ) → List Locator → ℕ
+lengths_at S view ls = sum_by (length_at S view) ls
+
+-- The headers before place k are there, and the refusal is that of the header at k; or the device or memory refused.
+abbrev pub IsOfHeader : Shape → (view : ℕ → List ℕ) → List Locator → Refusal → Type 0
+IsOfHeader S view ls r = IsNoAnswer r
+    ⊎ ((k : ℕ) × (l : Locator) × (slice_get ls k ≡ Some l) × AreHeadersAt S view (take k ls) × IsOfFault (header_fault_at S view Chunk l) r)

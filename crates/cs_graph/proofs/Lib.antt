@@ -1,0 +1,4 @@
+pub mod Appended
+pub mod Steps
+pub mod Tests
+pub mod Shown

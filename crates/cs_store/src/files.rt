@@ -1,0 +1,75 @@
+//! Stores in files.
+ghost use Rattle.std.specs.Prelude.{◌+◌, ◌*◌, ◌↔◌, ◌≡◌, ◌≢◌, ◌⊎◌, Err, IfErr, IfOk, []};
+ghost use Rattle.cs_disk.specs.Files.{file_pages};
+ghost use Rattle.cs_frame.specs.Geometries.{IsGeometry, sections_needed};
+ghost use Rattle.cs_core.specs.Openings.{IsOpened};
+ghost use Rattle.cs_core.specs.Started.{new_stored};
+
+use crate::errors::OpenError;
+use crate::options::Options;
+use crate::stores::Store;
+use cs_core::Limits;
+use cs_disk::{FileDisk, OpenFault};
+use cs_frame::Geometry;
+use std::alloc::Global;
+use std::fs::File;
+use std::rt::Files;
+
+// No clause can say what the operating system answers, so bodies that always refuse, or take another file, would be proved too. A program that is tested
+// makes a file, and opens it again.
+impl Store<FileDisk> {
+    /// Makes a new store in a file, with nothing in it. The file is made, or emptied where it is there, and locked for as long as the store lives. All of
+    /// it is written and synced, 4,096 bytes for each page of the disk.
+    ///
+    /// Refused 7 BadGeometry, before any file is touched, 1 DeviceFault and 9 OutOfMemory, after which the file may be there, with anything in it.
+    pub fn create_file<R: Files<File = File>>(
+        rt: &R,
+        alloc: Global,
+        path: &str,
+        options: Options,
+    ) -> Result<Self, OpenError>
+        ensures new { IfOk result (λ made. (made.history ≡ []) × (made.base ≡ 0) × (made.limit ≡ options.limits.history)) }
+        ensures store { IfOk result (λ made. made.store ≡ new_stored options.extents options.pages (sections_needed options.extents)) }
+        ensures found { IfOk result (λ made. made.found ≡ (0, 0)) }
+        ensures pages { IfOk result (λ made. file_pages made.disk ≡ 1 + options.extents * options.pages + sections_needed options.extents) }
+        // It is refused 7 just where there is no store of so many extents and pages.
+        ensures geometry { (result ≡ Err OpenError.BadGeometry) ↔ ¬ IsGeometry options.extents options.pages (sections_needed options.extents) }
+        ensures refusals { IfErr result (λ error. (error ≡ OpenError.BadGeometry) ⊎ (error ≡ OpenError.DeviceFault) ⊎ (error ≡ OpenError.OutOfMemory)) }
+    {
+        let Ok(geometry) = Geometry::new(options.extents, options.pages) else {
+            return Err(OpenError::BadGeometry);
+        };
+        let Ok(disk) = FileDisk::create(rt, alloc, path, geometry.device_pages()) else {
+            return Err(OpenError::DeviceFault);
+        };
+        match Store::make(alloc, disk, geometry, options.limits) {
+            Ok(store) => Ok(store),
+            Err((refusal, _)) => Err(OpenError::of(refusal)),
+        }
+    }
+
+    /// Opens the store that is in a file, as it was made persistent or as a crash left it. The file is locked for as long as the store lives.
+    ///
+    /// Refused 1 DeviceFault where the operating system refuses a call, as where there is no such file or another process has it; 6 OddLength; 43 NotAStore
+    /// where no store of that many pages is in it; 20 to 25 for a page that is damaged; and 9 OutOfMemory. The file is as it was then.
+    pub fn open_file<R: Files<File = File>>(
+        rt: &R,
+        alloc: Global,
+        path: &str,
+        limits: Limits,
+    ) -> Result<Self, OpenError>
+        ensures new { IfOk result (λ opened. (opened.history ≡ []) × (opened.base ≡ 0) × (opened.limit ≡ limits.history)) }
+        ensures store { IfOk result (λ opened. IsOpened ⊥ opened.opened opened.found opened.store) }
+        ensures refusals { IfErr result (λ error. error ≢ OpenError.BadGeometry) }
+    {
+        let disk = match FileDisk::open(rt, alloc, path) {
+            Ok(disk) => disk,
+            Err(OpenFault::DeviceFault) => return Err(OpenError::DeviceFault),
+            Err(OpenFault::OddLength) => return Err(OpenError::OddLength),
+        };
+        match Store::open(alloc, disk, limits) {
+            Ok(store) => Ok(store),
+            Err((refusal, _)) => Err(OpenError::of(refusal)),
+        }
+    }
+}

@@ -1,0 +1,39 @@
+//! The chunks of all shards that are there.
+ghost use Rattle.std.specs.Prelude.{◌≡◌, ◌++◌, IfOk, OnOk, map};
+ghost use Rattle.cs_frame.specs.Formats.{place_of};
+ghost use Rattle.cs_index.specs.State.{IsId, id_number, index_of};
+ghost use Rattle.cs_survey.specs.Chunks.{AreLiveChunks, chunk_of, chunks_from};
+
+use cs_frame::{Locator, ShardId};
+use cs_index::{Index, LiveChunk};
+use std::alloc::{AllocError, Global};
+
+/// All chunks of all shards that are there, by rising identifiers, and those of a shard in their order. Takes memory for all of them, and time for
+/// all entries of the index.
+pub fn live_chunks(alloc: Global, index: &Index) -> Result<Vec<LiveChunk>, AllocError>
+    ensures { IfOk result (λ chunks. AreLiveChunks (index_of index.now) (map chunk_of chunks.items)) }
+{
+    let mut chunks = Vec::new(alloc);
+    let mut read = index.entries();
+    while let Some((id, places)) = read.next_entry() {
+        add_chunks(&mut chunks, id, places)?;
+    }
+    Ok(chunks)
+}
+
+/// Adds the chunks of a shard behind the others.
+fn add_chunks(
+    chunks: &mut Vec<LiveChunk>,
+    id: ShardId,
+    places: &[Locator],
+) -> Result<(), AllocError>
+    ensures chunks { OnOk result (map chunk_of chunks.new.items ≡ map chunk_of chunks.old.items ++ chunks_from (id_number id) 0 (map place_of places.now)) }
+    ensures id { IsId id }
+{
+    let _bytes = id.bytes();
+    for chunk in 0..places.len() {
+        let place = places[chunk];
+        chunks.push(LiveChunk { id, chunk, place })?;
+    }
+    Ok(())
+}
