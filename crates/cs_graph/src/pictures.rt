@@ -20,7 +20,7 @@ use std::io::Write;
 /// - A box `round k` has the elements that round k writes, by their names in the document.
 /// - Dashed elements wait, and no round writes them: a round that writes a later version stands for them, or the
 ///   target needs none of them.
-/// - An arrow `s3 -> w1` says that s3 waits for w1: s3 needs w1, and w1 waits too. Of the versions of a family that it needs
+/// - An arrow `s3 -> w31` says that s3 waits for w31: it needs it, and both wait. Of the versions of a family that it needs
 ///   it has an arrow to the last alone, which stands for the earlier ones. What is persistent isn't drawn.
 /// - Elements of the target have two borders, of each family the last version that the target names.
 /// - Elements of the chain and the arrows from each of them to the one before are bold (`penwidth=2`).

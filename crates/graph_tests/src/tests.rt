@@ -23,15 +23,15 @@ fn one_put(rt: HostRuntime) -> Result<(), Fail> {
 }
 
 const ONE_PUT: &str =
-    "{\"chain\":[\"w1\",\"s3\",\"r2\"],\"elements\":[{\"e\":\"w1\",\"needs\":[]},{\"e\":\"s2\",\"needs\":[\"w1\"]},{\"e\":\"w2\",\"needs\":[]},{\"e\":\"s3\",\"needs\":[\"w1\",\"w2\"]},{\"e\":\"r2\",\"needs\":[\"s3\"]}],\"families\":[\"s\",\"r\"],\"format\":1,\"persistent\":[1,1],\"rounds\":[[\"w1\",\"w2\"],[\"s3\"],[\"r2\"]],\"target\":[\"w1\",\"w2\",\"s3\",\"r2\"]}";
+    "{\"chain\":[\"w31\",\"s3\",\"r22\"],\"elements\":[{\"e\":\"w31\",\"needs\":[]},{\"e\":\"s2\",\"needs\":[\"w31\"]},{\"e\":\"w32\",\"needs\":[]},{\"e\":\"s3\",\"needs\":[\"w31\",\"w32\"]},{\"e\":\"r22\",\"needs\":[\"s3\"]}],\"families\":[\"s\",\"r\"],\"format\":1,\"persistent\":[1,21],\"rounds\":[[\"w31\",\"w32\"],[\"s3\"],[\"r22\"]],\"target\":[\"w31\",\"w32\",\"s3\",\"r22\"]}";
 
 const ONE_PUT_PICTURE: &str = "strict digraph plan {
   rankdir=RL;
   node [shape=box, style=solid];
   subgraph cluster_1 {
     label=\"round 1\";
-    w1;
-    w2;
+    w31;
+    w32;
   }
   subgraph cluster_2 {
     label=\"round 2\";
@@ -39,27 +39,27 @@ const ONE_PUT_PICTURE: &str = "strict digraph plan {
   }
   subgraph cluster_3 {
     label=\"round 3\";
-    r2;
+    r22;
   }
   node [style=dashed];
-  w1;
+  w31;
   s2;
-  w2;
+  w32;
   s3;
-  r2;
-  s2 -> w1;
-  s3 -> w1;
-  s3 -> w2;
-  r2 -> s3;
-  w1 [peripheries=2];
-  w2 [peripheries=2];
+  r22;
+  s2 -> w31;
+  s3 -> w31;
+  s3 -> w32;
+  r22 -> s3;
+  w31 [peripheries=2];
+  w32 [peripheries=2];
   s3 [peripheries=2];
-  r2 [peripheries=2];
-  w1 [penwidth=2];
+  r22 [peripheries=2];
+  w31 [penwidth=2];
   s3 [penwidth=2];
-  r2 [penwidth=2];
-  s3 -> w1 [penwidth=2];
-  r2 -> s3 [penwidth=2];
+  r22 [penwidth=2];
+  s3 -> w31 [penwidth=2];
+  r22 -> s3 [penwidth=2];
 }
 ";
 
@@ -70,14 +70,14 @@ fn a_part(rt: HostRuntime) -> Result<(), Fail> {
 }
 
 const A_PART: &str =
-    "{\"chain\":[\"w7\",\"a5\",\"w8\"],\"elements\":[{\"e\":\"w7\",\"needs\":[]},{\"e\":\"a5\",\"needs\":[\"w7\"]},{\"e\":\"a6\",\"needs\":[\"w7\"]},{\"e\":\"w8\",\"needs\":[\"a6\"]},{\"e\":\"w9\",\"needs\":[\"w8\"]}],\"families\":[\"a\",\"b\"],\"format\":1,\"persistent\":[4,9],\"rounds\":[[\"w7\"],[\"a6\"],[\"w8\"]],\"target\":[\"w8\"]}";
+    "{\"chain\":[\"w37\",\"a5\",\"w38\"],\"elements\":[{\"e\":\"w37\",\"needs\":[]},{\"e\":\"a5\",\"needs\":[\"w37\"]},{\"e\":\"a6\",\"needs\":[\"w37\"]},{\"e\":\"w38\",\"needs\":[\"a6\"]},{\"e\":\"w39\",\"needs\":[\"w38\"]}],\"families\":[\"a\",\"b\"],\"format\":1,\"persistent\":[4,9],\"rounds\":[[\"w37\"],[\"a6\"],[\"w38\"]],\"target\":[\"w38\"]}";
 
 const A_PART_PICTURE: &str = "strict digraph plan {
   rankdir=RL;
   node [shape=box, style=solid];
   subgraph cluster_1 {
     label=\"round 1\";
-    w7;
+    w37;
   }
   subgraph cluster_2 {
     label=\"round 2\";
@@ -85,24 +85,24 @@ const A_PART_PICTURE: &str = "strict digraph plan {
   }
   subgraph cluster_3 {
     label=\"round 3\";
-    w8;
+    w38;
   }
   node [style=dashed];
-  w7;
+  w37;
   a5;
   a6;
-  w8;
-  w9;
-  a5 -> w7;
-  a6 -> w7;
-  w8 -> a6;
-  w9 -> w8;
-  w8 [peripheries=2];
-  w7 [penwidth=2];
+  w38;
+  w39;
+  a5 -> w37;
+  a6 -> w37;
+  w38 -> a6;
+  w39 -> w38;
+  w38 [peripheries=2];
+  w37 [penwidth=2];
   a5 [penwidth=2];
-  w8 [penwidth=2];
-  a5 -> w7 [penwidth=2];
-  w8 -> a5 [penwidth=2];
+  w38 [penwidth=2];
+  a5 -> w37 [penwidth=2];
+  w38 -> a5 [penwidth=2];
 }
 ";
 
