@@ -1,5 +1,5 @@
 -- Gathering the chunks of all shards, shard by shard.
-use Rattle.std.proofs.Common.{◌≡◌, ◌∙◌, ◌++◌, ◌∷◌, ◌≤◌, ◌<◌, ◌+◌, ℕ, suc, add-one, List, [], Option, None, Some, refl, sym, ap, subst, append_assoc, append-nil, map, drop, length}
+use Rattle.std.proofs.Common.{◌≡◌, ◌∙◌, ◌++◌, ◌∷◌, ℕ, List, [], Option, None, Some, refl, sym, ap, append_assoc, append-nil}
 use Rattle.cs_index.proofs.Merged.{merged_end, merged_start, merged_step}
 use Rattle.cs_index.specs.Sorted.{IsMergedTo, live_entry}
 use Rattle.cs_index.specs.State.{IsNext}

@@ -1,2 +1,7 @@
 pub mod Gathered
 pub mod Listed
+pub mod Tallied
+pub mod Garbage
+pub mod Inside
+pub mod Reading
+pub mod Counted

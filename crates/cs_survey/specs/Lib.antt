@@ -1,2 +1,4 @@
 pub mod Chunks
 pub mod Listings
+pub mod Stats
+pub mod Uses

@@ -1,7 +1,9 @@
 //! The chunks of all shards that are there.
-ghost use Rattle.std.specs.Prelude.{◌≡◌, ◌++◌, IfOk, OnOk, map};
+ghost use Rattle.std.specs.Prelude.{◌≡◌, ◌++◌, IfOk, MatchOption, OnOk, map};
 ghost use Rattle.cs_frame.specs.Formats.{place_of};
+ghost use Rattle.cs_index.specs.Live.{IsFirstOn, NoneOn};
 ghost use Rattle.cs_index.specs.State.{IsId, id_number, index_of};
+ghost use Rattle.cs_model.specs.Index.{FirstLive, NothingLive};
 ghost use Rattle.cs_survey.specs.Chunks.{AreLiveChunks, chunk_of, chunks_from};
 
 use cs_frame::{Locator, ShardId};
@@ -36,4 +38,32 @@ fn add_chunks(
         chunks.push(LiveChunk { id, chunk, place })?;
     }
     Ok(())
+}
+
+/// The first chunk that lives on an extent, by identifier and then by number, None where none lives there. Takes no memory, and time for the
+/// entries up to it.
+pub fn first_on(index: &Index, extent: usize) -> Option<LiveChunk>
+    ensures { MatchOption result (NothingLive (index_of index.now) extent) (λ found. FirstLive (index_of index.now) extent (id_number found.id) found.chunk (place_of found.place)) }
+{
+    let mut read = index.entries();
+    while let Some((id, places)) = read.next_entry() {
+        let _bytes = id.bytes();
+        if let Some(chunk) = place_on(places, extent) {
+            let place = places[chunk];
+            return Some(LiveChunk { id, chunk, place });
+        }
+    }
+    None
+}
+
+/// The first of these places that is on the extent.
+fn place_on(places: &[Locator], extent: usize) -> Option<usize>
+    ensures { MatchOption result (NoneOn (map place_of places.now) extent) (IsFirstOn (map place_of places.now) extent) }
+{
+    for k in 0..places.len() {
+        if usize::from(places[k].extent) == extent {
+            return Some(k);
+        }
+    }
+    None
 }

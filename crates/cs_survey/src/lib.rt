@@ -1,8 +1,15 @@
-//! What is in a store, by its index: the identifiers of its shards, and their chunks. Nothing here asks the disk.
+//! What is in a store: its identifiers, its chunks, and how its extents are used. Nothing here is kept in the history.
 #![tactic(auto)]
 
 mod chunks;
+mod extent_uses;
+mod figures;
 mod listings;
+mod surveys;
+mod tallies;
 
-pub use chunks::live_chunks;
+pub use chunks::{first_on, live_chunks};
+pub use extent_uses::{ExtentUse, most_garbage};
+pub use figures::{RunUse, Stats};
 pub use listings::{ids, ids_from};
+pub use surveys::uses;

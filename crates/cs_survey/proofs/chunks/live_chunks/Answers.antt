@@ -5,7 +5,7 @@ use Rattle.cs_index.specs.State.{IsNext, id_number, index_of}
 use Rattle.cs_index.proofs.Merged.{IsSmall}
 use Rattle.cs_index.proofs.Numbers.{small_number}
 use Rattle.cs_model.specs.Element.{Entry, Locator as Place}
-use Rattle.cs_survey.specs.Chunks.{Chunk, chunk_of}
+use Rattle.cs_survey.specs.Chunks.{chunk_of}
 use Rattle.cs_survey.proofs.Gathered.{AreGathered, gathered_all, gathered_step}
 use Rattle.cs_survey.proofs.chunks.live_chunks.Goals as goal
 

@@ -1,4 +1,4 @@
-use Rattle.std.proofs.Common.{◌≡◌, ◌∙◌, rules, ap, arith, length, map, subst, sym, List, Option, None, Some, ℕ, refl}
+use Rattle.std.proofs.Common.{◌≡◌, ◌∙◌, rules, ap, arith, length, map, subst, sym, List, Option, None, Some, ℕ}
 use Rattle.std.proofs.lemmas.List.{length-map}
 use Rattle.cs_frame.specs.Formats.{place_of}
 use Rattle.cs_frame.specs.declared.identifiers.ShardId.{ShardId}

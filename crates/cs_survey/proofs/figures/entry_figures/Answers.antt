@@ -1,0 +1,18 @@
+use Rattle.std.proofs.Common.{◌≢◌, ◌∙◌, ℕ, List, [], ap, length, map, sym}
+use Rattle.std.proofs.lemmas.List.{length-map}
+use Rattle.cs_index.specs.State.{id_number, index_of}
+use Rattle.cs_model.specs.Index.{live_at}
+use Rattle.cs_survey.specs.Chunks.{Chunk, chunk_of}
+use Rattle.cs_survey.proofs.Counted.{all_one}
+use Rattle.cs_survey.proofs.Inside.{live_chunks_one}
+use Rattle.cs_survey.proofs.figures.entry_figures.Goals as goal
+
+pub returns-clause-shards : goal.returns-clause-shards
+returns-clause-shards c = λ ids are.
+    c.len-shards.ensures ∙ c.in_ok-ids.field-0.ok.0 ∙ sym (length-map c.in_ok-ids.field-0.items id_number)
+    ∙ ap (λ (ns : List ℕ). length ns) (all_one (λ id. live_at (index_of c.args.index.now) id ≢ []) (map id_number c.in_ok-ids.field-0.items) ids c.in_ok-ids.ensures are)
+
+pub returns-clause-chunks : goal.returns-clause-chunks
+returns-clause-chunks c = λ chunks are.
+    c.len-chunks.ensures ∙ c.in_ok-live_chunks.field-0.ok.0 ∙ sym (length-map c.in_ok-live_chunks.field-0.items chunk_of)
+    ∙ ap (λ (cs : List Chunk). length cs) (live_chunks_one (index_of c.args.index.now) (map chunk_of c.in_ok-live_chunks.field-0.items) chunks c.in_ok-live_chunks.ensures are)

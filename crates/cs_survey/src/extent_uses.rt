@@ -1,0 +1,63 @@
+//! How an extent is used.
+ghost use Rattle.std.specs.Prelude.{◌≡◌, ◌-◌, MatchOption};
+ghost use Rattle.cs_survey.specs.Uses.{HasNoGarbage, IsMostGarbage, garbage};
+
+/// How the pages of an extent are used, as the chunks say that are there.
+#[derive(Clone, Copy, Debug)]
+pub struct ExtentUse {
+    /// How many of its pages are given.
+    pub pointer: usize,
+    /// How often it was reset.
+    pub generation: u32,
+    /// Whether frames are appended to it.
+    pub is_open: bool,
+    /// Whether it is being swept.
+    pub is_swept: bool,
+    /// How many pages the frames have together of the live chunks that begin there, by their headers; `usize::MAX` where there are more.
+    pub live: usize,
+    /// How many live chunks begin there whose header couldn't be read. Their pages don't count as live.
+    pub unreadable: usize,
+}
+
+impl ExtentUse {
+    /// The given pages that aren't live, in pages of 4,096 bytes. Those of the index's runs are among them. None where damaged headers
+    /// count more pages than are given.
+    ///
+    /// The pages behind the pointer aren't given, so they don't count here. Opening a store gives up those of an extent that was being filled,
+    /// and so does an append that doesn't fit there: nothing is written to them until the extent is emptied.
+    pub fn dead(&self) -> usize
+        ensures { result ≡ self.now.pointer - self.now.live }
+    {
+        self.pointer.saturating_sub(self.live)
+    }
+
+    /// The pages that a sweep could free.
+    fn garbage(&self) -> usize
+        ensures { result ≡ garbage self.now }
+    {
+        if self.is_open {
+            return 0;
+        }
+        if self.is_swept {
+            return 0;
+        }
+        self.dead()
+    }
+}
+
+/// The extent with most dead pages of those that may be swept, the first of them where several have as many; None where none of them has a
+/// dead page. Where frames are appended, and where a sweep goes on, none is begun. Costs a pass over the extents.
+pub fn most_garbage(uses: &[ExtentUse]) -> Option<usize>
+    ensures { MatchOption result (HasNoGarbage uses.now) (IsMostGarbage uses.now) }
+{
+    let mut found = None;
+    let mut most: usize = 0;
+    for extent in 0..uses.len() {
+        let garbage = uses[extent].garbage();
+        if most < garbage {
+            most = garbage;
+            found = Some(extent);
+        }
+    }
+    found
+}
