@@ -1,6 +1,6 @@
 -- What a get answers, in the words of its clauses.
 use Rattle.std.proofs.Common.{◌≡◌, ◌≢◌, ◌∙◌, ℕ, Option, None, Ok, Err, ap, sym, subst}
-use Rattle.std.specs.Prelude.{◌↔◌, IsTrue, Bool, Result, Vec}
+use Rattle.std.specs.Prelude.{◌↔◌, IsTrue, Bool, Vec}
 use Rattle.std.specs.declared.alloc.Global.{Global}
 use Rattle.cs_chunk.specs.Reads.{IsCaused}
 use Rattle.cs_deps.specs.declared.refusals.Refusal.{Refusal}

@@ -3,9 +3,13 @@ pub mod Commanding
 pub mod Commands
 pub mod Accepting
 pub mod Asking
+pub mod Choosing
 pub mod Deleting
 pub mod Filling
 pub mod Getting
+pub mod Listing
 pub mod Maps
+pub mod Reclaiming
 pub mod Refusing
 pub mod Running
+pub mod Sizing

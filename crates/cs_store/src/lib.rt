@@ -10,20 +10,28 @@ mod deletes;
 mod errors;
 mod events;
 mod extents;
+mod figures;
 mod files;
 mod gets;
+mod lists;
 mod memories;
 mod options;
 mod puts;
+mod reclaims;
 mod refusals;
 mod rooms;
+mod scrubs;
+mod sizes;
 mod stores;
 mod sweeps;
 mod syncs;
 
 pub use errors::{DeleteError, GetError, OpenError, PutError, SweepError, SyncError};
 pub use extents::ExtentLook;
+pub use figures::StoreStats;
 pub use options::{LIMITS, Options};
+pub use reclaims::Reclaimed;
+pub use sizes::SizeError;
 pub use stores::Store;
 
 // What callers need of the crates below, so that this one is enough.
@@ -31,4 +39,7 @@ pub use cs_core::Limits;
 pub use cs_deps::Refusal;
 pub use cs_disk::{FileDisk, MemoryDisk, PageDisk};
 pub use cs_drive::Swept;
-pub use cs_frame::{Geometry, ShardId};
+pub use cs_frame::{Geometry, Locator, ShardId};
+pub use cs_index::LiveChunk;
+pub use cs_scrub::{Damage, Scrubbed};
+pub use cs_survey::{ExtentUse, RunUse, Stats};

@@ -25,7 +25,7 @@ use cs_disk::PageDisk;
 use cs_drive::{Swept, ask, sweep};
 
 /// Makes room for a sweep and has the core do it.
-fn sweep_ready<D: PageDisk>(core: &mut Core<D>, extent: usize) -> Result<Swept, Refusal>
+pub(crate) fn sweep_ready<D: PageDisk>(core: &mut Core<D>, extent: usize) -> Result<Swept, Refusal>
     ensures done { IfOk result (λ swept. SweepsReady D.PageDisk extent core.old core.new swept.moved swept.root) }
     ensures declined { IfErr result (λ refusal. DeclinesSweep D.PageDisk extent core.old core.new refusal) }
     ensures refusals { IfErr result (λ refusal. IsDeleteRefusal refusal ⊎ MayRefuseSweep refusal) }
@@ -44,7 +44,7 @@ impl<D: PageDisk> Store<D> {
     /// was moved stays where it is then.
     ///
     /// Refused 33 NotSweepable where the extent is open, empty, being swept or not there; 1 DeviceFault; 9 OutOfMemory, where the extent may be being
-    /// swept still; 20 BadMagic, 21 BadDigest, 22 BadLength, 23 BadPadding or 24 BadVersion where a chunk is damaged; 30 Full; 34 StillLive; 35 WornOut;
+    /// swept still; 20 BadMagic, 21 BadDigest, 22 BadLength, 23 BadPadding or 24 BadVersion where a chunk is damaged, the one that `first_on` tells; 30 Full; 34 StillLive; 35 WornOut;
     /// 40 Halted; and 41 HistoryFull where more chunks are to be moved than further events may be kept, of which it makes sure of one alone: sync ahead
     /// of it, or sweep again.
     pub fn sweep(&mut self, extent: usize) -> Result<Swept, SweepError>

@@ -1,0 +1,51 @@
+-- How a reclaim chooses the extent that it sweeps.
+use Rattle.std.specs.Prelude.{◌≡◌, ◌+◌, ◌*◌, ◌<◌, ◌≤◌, ℕ, List, Option, Some, None, slice_get}
+use Rattle.cs_chunk.specs.Reads.{OnlyReads}
+use Rattle.cs_core.specs.Views.{View}
+use Rattle.cs_disk.specs.declared.disk.PageDisk.{Ghosts as PageDisk}
+use Rattle.cs_disk.specs.Disk.{Rises}
+use Rattle.cs_extent.specs.State.{extents_of, shape}
+use Rattle.cs_frame.specs.Frames.{page_count}
+use Rattle.cs_store.specs.declared.reclaims.Found.{Found}
+use Rattle.cs_store.specs.declared.reclaims.Reclaimed.{Reclaimed}
+use Rattle.cs_store.specs.Sweeps.{SweepsReady}
+use Rattle.cs_survey.specs.declared.extent_uses.ExtentUse.{ExtentUse}
+use Rattle.cs_survey.specs.Uses.{AreBounded, AreCounted, AreExtents, Head, IsMostGarbage, garbage}
+
+-- how many pages a run with so many entries takes
+abbrev pub run_pages : ℕ → ℕ
+run_pages entries = page_count (4 + 81 * entries)
+
+-- an extent, and how many of its pages no shard has, of an answer
+abbrev pub chosen_extent : Option Found → Option (ℕ × ℕ)
+chosen_extent None = None
+chosen_extent (Some found) = Some (found.extent, found.dead)
+
+abbrev pub reclaimed_extent : Option Reclaimed → Option (ℕ × ℕ)
+reclaimed_extent None = None
+reclaimed_extent (Some swept) = Some (swept.extent, swept.dead)
+
+-- what is chosen of extents that are used so: the first with most garbage, where that is more than so many pages; None where no extent has more
+abbrev pub Chooses : List ExtentUse → (pages : ℕ) → Option (ℕ × ℕ) → Type 0
+Chooses uses pages None = (e : ℕ) (used : ExtentUse) → slice_get uses e ≡ Some used → garbage used ≤ pages
+Chooses uses pages (Some (extent, dead)) = (best : IsMostGarbage uses extent) × (garbage best.its ≡ dead) × (pages < dead)
+
+module _ {D : Type 0} (disks : PageDisk D) where
+  -- nothing but reads was asked of the disk, and nothing else has changed
+  abbrev pub ReadsOn : (old new : View D) → Type 0
+  ReadsOn old new = (new ≡ record old { disk = new.disk }) × OnlyReads disks old.disk new.disk
+
+  -- An extent is chosen, or none, by how the extents are used as these headers say, where a chunk whose read failed counts as unreadable; it has more
+  -- garbage than a run takes that has so many entries.
+  pub record GoesBy (heads : List Head) (entries : ℕ) (old new : View D) (chosen : Option (ℕ × ℕ)) : Type 0 where
+    pub uses : List ExtentUse
+    pub extents : AreExtents (shape old.store.extents).extents (extents_of old.store.extents) uses
+    pub bounded : AreBounded heads uses
+    pub counted : ¬ Rises (disks.failure_count old.disk) (disks.failure_count new.disk) → AreCounted heads uses
+    pub chooses : Chooses uses (run_pages entries) chosen
+
+  -- After the reads the extent that was chosen is swept, so many chunks are moved off it and it is retired under this root; where none was chosen
+  -- nothing else is done.
+  abbrev pub Reclaims : (read : View D) → Option Reclaimed → (new : View D) → Type 0
+  Reclaims read None new = new ≡ read
+  Reclaims read (Some swept) new = SweepsReady disks swept.extent read new swept.moved swept.root

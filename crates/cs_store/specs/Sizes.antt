@@ -1,0 +1,22 @@
+-- What is told of a shard's size.
+use Rattle.std.specs.Prelude.{ℕ, Option, Result, Ok, Err}
+use Rattle.cs_deps.specs.declared.refusals.Refusal.{Refusal}
+use Rattle.cs_deps.specs.declared.refusals.Refusal.TheVariants as refusal
+use Rattle.cs_model.specs.Element.{Content}
+use Rattle.cs_core.specs.Lookups.{IsSize}
+use Rattle.cs_store.specs.declared.sizes.SizeError.{SizeError}
+use Rattle.cs_store.specs.declared.sizes.SizeError.TheVariants as size
+
+-- the refusal that such an error is
+abbrev pub size_refusal : SizeError → Refusal
+size_refusal size.DeviceFault = refusal.DeviceFault
+size_refusal size.OutOfMemory = refusal.OutOfMemory
+size_refusal size.BadMagic = refusal.BadMagic
+size_refusal size.BadLength = refusal.BadLength
+size_refusal size.BadVersion = refusal.BadVersion
+
+-- what is told of an identifier that has this in the map: None where there is nothing; where there are bytes, how many, unless the device or memory
+-- refuses; of a damaged shard some number, or the error of a header
+abbrev pub IsSized : Option Content → Result (Option ℕ) SizeError → Type 0
+IsSized content (Ok found) = IsSize content (Ok found)
+IsSized content (Err error) = IsSize content (Err (size_refusal error))
