@@ -2,6 +2,7 @@
 ghost use Rattle.std.specs.Prelude.{◌≤◌};
 
 use crate::progress::{takes_time, tell_ended, tell_making};
+use crate::tools::run_tool;
 use clap::ArgMatches;
 use cs_core::Core;
 use cs_deps::Refusal;
@@ -17,15 +18,25 @@ use std::io::{BufWriter, Write};
 use std::rt::{Env, Files};
 use std::sync::Wait;
 use std::thread::Threads;
+use std::time::Clock;
 use std::{env, io};
 
 /// Does what the command line asks for, and gives the exit status. It is told whether standard error is a terminal.
 pub fn run<
-    R: Env + AllocGlobal + Files<File = File> + Input + Print + Eprint + Threads + Wait + Sync,
+    R: Env
+        + AllocGlobal
+        + Clock
+        + Files<File = File>
+        + Input
+        + Print
+        + Eprint
+        + Threads
+        + Wait
+        + Sync,
 >(rt: &R, terminal: bool) -> u8
 where
     R::Reader: Drop,
-    ensures { result ≤ 4 }
+    ensures { result ≤ 5 }
 {
     match words_given(rt) {
         Ok(words) => run_words(rt, &words, terminal),
@@ -46,14 +57,12 @@ fn words_given<R: Env + AllocGlobal>(rt: &R) -> io::Result<Vec<String>> {
 }
 
 /// Does what these words ask for, and gives the exit status.
-fn run_words<R: AllocGlobal + Files<File = File> + Input + Print + Eprint + Threads + Wait + Sync>(
-    rt: &R,
-    words: &[String],
-    terminal: bool,
-) -> u8
+fn run_words<
+    R: AllocGlobal + Clock + Files<File = File> + Input + Print + Eprint + Threads + Wait + Sync,
+>(rt: &R, words: &[String], terminal: bool) -> u8
 where
     R::Reader: Drop,
-    ensures { result ≤ 4 }
+    ensures { result ≤ 5 }
 {
     let Ok(command) = command(rt.alloc()) else {
         let _ = eprintln!(rt; "out of memory");
@@ -76,20 +85,23 @@ fn print_error<R: Print + Eprint>(rt: &R, error: &clap::Error) -> u8
     }
 }
 
-/// Does what the words were found to ask for, and gives the exit status. A subcommand is required, and there are but three.
+/// Does what the words were found to ask for, and gives the exit status. A subcommand is required.
 fn run_matches<
-    R: AllocGlobal + Files<File = File> + Input + Print + Eprint + Threads + Wait + Sync,
+    R: AllocGlobal + Clock + Files<File = File> + Input + Print + Eprint + Threads + Wait + Sync,
 >(rt: &R, matches: &ArgMatches, terminal: bool) -> u8
 where
     R::Reader: Drop,
-    ensures { result ≤ 4 }
+    ensures { result ≤ 5 }
 {
     if let Some(options) = matches.subcommand_matches("run") {
         return run_standard_input(rt, options, terminal);
     }
-    match matches.subcommand_matches("race") {
-        Some(options) => race_threads(rt, options),
-        None => check_standard_input(rt),
+    if let Some(options) = matches.subcommand_matches("race") {
+        return race_threads(rt, options);
+    }
+    match matches.subcommand_matches("check") {
+        Some(_) => check_standard_input(rt),
+        None => run_tool(rt, matches, terminal),
     }
 }
 

@@ -1,8 +1,10 @@
 //! The program: its command line, by which it runs a script, checks a plan document, or runs a race.
 #![tactic(auto)]
 
+mod benches;
 mod command_lines;
 mod progress;
+mod tools;
 
 use std::io::IsTerminal;
 use std::process::ExitCode;

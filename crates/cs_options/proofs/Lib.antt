@@ -1,1 +1,2 @@
+pub mod IdSteps
 pub mod NumberSteps

@@ -1,8 +1,9 @@
 -- What the options of a command ask for.
-use Rattle.std.specs.Prelude.{◌≡◌, ℕ, Bool, false, true, List, Option, None, Some, codes, option_and_then, unwrap_or}
+use Rattle.std.specs.Prelude.{◌≡◌, ◌-◌, ◌^◌, ◌≤◌, ℕ, Bool, false, true, List, Option, None, Some, codes, option_and_then, replicate, unwrap_or}
 use Rattle.std.specs.Str.Parse.{without_leading_plus}
 use Rattle.clap.specs.declared.parser.matches.ArgMatches.{ArgMatches}
-use Rattle.clap.specs.Words.{found_of, one_text}
+use Rattle.clap.specs.Words.{first_value, found_of, one_text}
+use Rattle.uuid.specs.Text.{parsed}
 use Rattle.cs_frame.specs.Geometries.{sections_needed}
 use Rattle.cs_script.specs.Lines.{decimal_of}
 
@@ -44,3 +45,36 @@ TellsFlag options name is_there =
     (one_text (found_of options) name ≡ Some (codes "true") → is_there ≡ true)
     × (one_text (found_of options) name ≡ Some (codes "false") → is_there ≡ false)
     × (one_text (found_of options) name ≡ None → is_there ≡ false)
+
+-- the identifier that was given under this name: that of its text; there is none where that is no UUID
+abbrev pub id_at : ArgMatches → (name : List ℕ) → Option (List ℕ)
+id_at options name = option_and_then parsed (first_value (found_of options) name)
+
+-- the bytes of a text, and where there is no text these
+abbrev pub id_or : (none : List ℕ) → (text : Option (List ℕ)) → Option (List ℕ)
+id_or none None = Some none
+id_or none (Some text) = parsed text
+
+-- from which identifier on is to be listed: the first one of all where none is given
+abbrev pub from_asked : ArgMatches → Option (List ℕ)
+from_asked options = id_or (replicate 16 0) (first_value (found_of options) (codes "from"))
+
+-- how many at most: as many as there are where no number is there
+abbrev pub limit_asked : ArgMatches → ℕ
+limit_asked options = unwrap_or (number_at options (codes "limit")) (2 ^ 64 - 1)
+
+-- how many calls are to be measured: 100 where no number is there
+abbrev pub calls_asked : ArgMatches → ℕ
+calls_asked options = unwrap_or (number_at options (codes "calls")) 100
+
+-- how many puts a batch has: 100 where no number is there
+abbrev pub batch_asked : ArgMatches → ℕ
+batch_asked options = unwrap_or (number_at options (codes "batch")) 100
+
+-- how many bytes a shard has: 4,000 where no number is there
+abbrev pub bytes_asked : ArgMatches → ℕ
+bytes_asked options = unwrap_or (number_at options (codes "bytes")) 4000
+
+-- the numbers are in their ranges
+abbrev pub IsMeasurable : (calls batch bytes : ℕ) → Type 0
+IsMeasurable calls batch bytes = (1 ≤ calls) × (calls ≤ 100000) × (1 ≤ batch) × (batch ≤ 10000) × (bytes ≤ 8388280)

@@ -1,177 +1,13 @@
-//! The options of the three commands.
-ghost use Rattle.std.specs.Prelude.{◌≡◌, ◌↔◌, IfErr, IfOk, IfSome, IsOk, MatchOption, codes};
+//! What the options of a command ask for.
+ghost use Rattle.std.specs.Prelude.{◌≡◌, ◌↔◌, IfErr, IfOk, IfSome, IsOk, MatchBool, MatchOption, codes, option_map};
 ghost use Rattle.cs_frame.specs.Geometries.{IsGeometry};
-ghost use Rattle.cs_options.specs.Asked.{TellsFlag, drops_asked, extents_asked, number_at, pages_asked, puts_asked, sections_asked, threads_asked};
+ghost use Rattle.cs_options.specs.Asked.{IsMeasurable, TellsFlag, batch_asked, bytes_asked, calls_asked, drops_asked, extents_asked, from_asked, id_at, limit_asked, number_at, pages_asked, puts_asked, sections_asked, threads_asked};
 ghost use Rattle.cs_script.specs.RaceNumbers.{IsRaceable};
 
-use clap::{Arg, ArgAction, ArgMatches, Command};
+use clap::ArgMatches;
 use cs_deps::Refusal;
-use cs_frame::Geometry;
+use cs_frame::{Geometry, ShardId};
 use cs_script::Race;
-use std::alloc::{AllocError, Global};
-
-/// A command: its name, what it does, what help says after its options, and these.
-#[derive(Clone, Copy)]
-struct Form {
-    name: &'static str,
-    about: &'static str,
-    after: Option<&'static str>,
-    options: &'static [Choice],
-}
-
-/// An option: its name, what it takes, and what help says of it.
-#[derive(Clone, Copy)]
-struct Choice {
-    name: &'static str,
-    takes: Takes,
-    help: &'static str,
-}
-
-/// What an option takes: a number, this one where it isn't there; a number for which no other stands; a path; or nothing.
-#[derive(Clone, Copy)]
-enum Takes {
-    Number(&'static str),
-    NumberOrNone,
-    Path,
-    Nothing,
-}
-
-/// What help says after the options of `run`.
-const RUN_EXAMPLES: &str = "Examples:
-  cs_cli run --extents 64 --pages 8 < script             a store in memory, gone at the end
-  cs_cli run --file s.store --new --extents 64 < script  a new store of 130 pages in a file
-  cs_cli run --file s.store < script                     the store that is there, as it is there
-
-With --file alone the geometry is the store's own. Without --file, --new has no effect.";
-
-/// The three commands.
-const FORMS: &[Form] = &[
-    Form {
-        name: "run",
-        about: "Runs a script from standard input over a store in memory, or in a file",
-        after: Some(RUN_EXAMPLES),
-        options: &[
-            Choice {
-                name: "extents",
-                takes: Takes::Number("6"),
-                help: "How many extents a new store has, 4 to 2,048",
-            },
-            Choice {
-                name: "pages",
-                takes: Takes::Number("2"),
-                help: "How many pages of 4,096 bytes an extent of a new store has, 2 to 256",
-            },
-            Choice {
-                name: "sections",
-                takes: Takes::NumberOrNone,
-                help: "How many sections the superblock of a new store has, 1 to 8; without it as few as its extents need",
-            },
-            Choice {
-                name: "file",
-                takes: Takes::Path,
-                help: "The file that the store is in; without it the store is in memory",
-            },
-            Choice {
-                name: "new",
-                takes: Takes::Nothing,
-                help: "Makes a new store in the file, and loses what is in it",
-            },
-        ],
-    },
-    Form {
-        name: "race",
-        about: "Runs threads that put, get back and poll on one store in memory, and closes it",
-        after: None,
-        options: &[
-            Choice {
-                name: "threads",
-                takes: Takes::Number("4"),
-                help: "How many threads put, 1 to 64",
-            },
-            Choice {
-                name: "puts",
-                takes: Takes::Number("10"),
-                help: "How many shards each of them puts, 0 to 1,000",
-            },
-            Choice {
-                name: "drop",
-                takes: Takes::Number("0"),
-                help: "How many of its first tickets the first thread drops, at most as many as it puts",
-            },
-            Choice {
-                name: "stream",
-                takes: Takes::Nothing,
-                help: "Stages ahead of each round, so that rounds of several syncs overlap",
-            },
-        ],
-    },
-    Form {
-        name: "check",
-        about: "Checks a plan document from standard input",
-        after: None,
-        options: &[],
-    },
-];
-
-/// The command line that is understood.
-pub fn command<'a>(alloc: Global) -> Result<Command<'a>, AllocError> {
-    let forms = commands_of(alloc, FORMS)?;
-    Command::new(alloc, "cs_cli")
-        .about("A shard store that writes back with the fewest flushes")
-        .subcommand_required(true)
-        .subcommands(forms)
-}
-
-/// These commands.
-fn commands_of<'a>(alloc: Global, forms: &[Form]) -> Result<Vec<Command<'a>>, AllocError> {
-    let mut commands = Vec::new(alloc);
-    for form in forms {
-        commands.push(command_of(alloc, form)?)?;
-    }
-    Ok(commands)
-}
-
-/// A command.
-fn command_of<'a>(alloc: Global, form: &Form) -> Result<Command<'a>, AllocError> {
-    let options = options_of(alloc, form.options)?;
-    named(alloc, form).args(options)
-}
-
-/// A command without its options.
-fn named<'a>(alloc: Global, form: &Form) -> Command<'a> {
-    let command = Command::new(alloc, form.name).about(form.about);
-    match form.after {
-        Some(text) => command.after_help(text),
-        None => command,
-    }
-}
-
-/// These options.
-fn options_of<'a>(alloc: Global, choices: &[Choice]) -> Result<Vec<Arg<'a>>, AllocError> {
-    let mut options = Vec::new(alloc);
-    for choice in choices {
-        options.push(option_of(alloc, choice))?;
-    }
-    Ok(options)
-}
-
-/// An option.
-fn option_of<'a>(alloc: Global, choice: &Choice) -> Arg<'a> {
-    let option = Arg::new(alloc, choice.name)
-        .long(choice.name)
-        .help(choice.help);
-    match choice.takes {
-        Takes::Number(default) => option
-            .action(ArgAction::Set)
-            .value_parser(clap::value_parser!(u64))
-            .default_value(default),
-        Takes::NumberOrNone => option
-            .action(ArgAction::Set)
-            .value_parser(clap::value_parser!(u64)),
-        Takes::Path => option.value_name("PATH").action(ArgAction::Set),
-        Takes::Nothing => option.action(ArgAction::SetTrue),
-    }
-}
 
 /// The number of an option, None where it has none.
 fn number_given(options: &ArgMatches, name: &str) -> Option<u64>
@@ -212,4 +48,95 @@ pub fn race_of(options: &ArgMatches) -> Option<Race>
     let puts = number_given(options, "puts").unwrap_or(10);
     let dropped = number_given(options, "drop").unwrap_or(0);
     Race::new(threads, puts, dropped, options.get_flag("stream"))
+}
+
+/// The identifier that stands alone, None where that is none.
+pub fn id_of(options: &ArgMatches) -> Option<ShardId>
+    ensures { option_map (λ id. id.0) result ≡ id_at options.now (codes "id") }
+{
+    id_given(options, "id")
+}
+
+/// The identifier of an option, None where it has none.
+fn id_given(options: &ArgMatches, name: &str) -> Option<ShardId>
+    ensures { option_map (λ id. id.0) result ≡ id_at options.now name.now }
+{
+    match options.get_str(name) {
+        Some(text) => ShardId::parse(text).ok(),
+        None => None,
+    }
+}
+
+/// Which identifiers are to be listed, and how.
+#[derive(Clone, Copy)]
+pub struct Listing {
+    /// From this one on.
+    pub from: ShardId,
+    /// So many at most.
+    pub most: u64,
+    /// Whether each line is a JSON object.
+    pub json: bool,
+}
+
+/// The identifiers that the options ask for, None where `--from` isn't one: all of them where nothing is given.
+pub fn listing_of(options: &ArgMatches) -> Option<Listing>
+    ensures from { option_map (λ listing. listing.from.0) result ≡ from_asked options.now }
+    ensures most { IfSome result (λ listing. listing.most ≡ limit_asked options.now) }
+    ensures json { IfSome result (λ listing. TellsFlag options.now (codes "json") listing.json) }
+{
+    let from = from_given(options)?;
+    Some(Listing {
+        from,
+        most: number_given(options, "limit").unwrap_or(u64::MAX),
+        json: options.get_flag("json"),
+    })
+}
+
+/// From which identifier on is to be listed: the first of all where none is given, None where the text is none.
+fn from_given(options: &ArgMatches) -> Option<ShardId>
+    ensures { option_map (λ id. id.0) result ≡ from_asked options.now }
+{
+    match options.get_str("from") {
+        Some(text) => ShardId::parse(text).ok(),
+        None => Some(ShardId([0; 16])),
+    }
+}
+
+/// What is to be measured.
+#[derive(Clone, Copy)]
+pub struct Measure {
+    /// How many puts, batches and gets, 1 to 100,000.
+    pub calls: u64,
+    /// How many puts a batch has, 1 to 10,000.
+    pub batch: u64,
+    /// How many bytes a shard has, 0 to 8,388,280.
+    pub bytes: u64,
+}
+
+/// What the options ask to measure, None where a number is out of its range: 100 calls and batches of 100 puts of 4,000 bytes, where they
+/// aren't given.
+pub fn measure_of(options: &ArgMatches) -> Option<Measure>
+    ensures { MatchOption result (¬ IsMeasurable (calls_asked options.now) (batch_asked options.now) (bytes_asked options.now))
+        (λ measure. (measure.calls ≡ calls_asked options.now) × (measure.batch ≡ batch_asked options.now) × (measure.bytes ≡ bytes_asked options.now)
+        × IsMeasurable measure.calls measure.batch measure.bytes) }
+{
+    let calls = number_given(options, "calls").unwrap_or(100);
+    let batch = number_given(options, "batch").unwrap_or(100);
+    let bytes = number_given(options, "bytes").unwrap_or(4_000);
+    if is_measurable(calls, batch, bytes) {
+        Some(Measure {
+            calls,
+            batch,
+            bytes,
+        })
+    } else {
+        None
+    }
+}
+
+/// Whether so many calls can be measured, with batches of so many puts, of so many bytes.
+fn is_measurable(calls: u64, batch: u64, bytes: u64) -> bool
+    ensures { MatchBool result (IsMeasurable calls batch bytes) (¬ IsMeasurable calls batch bytes) }
+{
+    1 <= calls && calls <= 100_000 && 1 <= batch && batch <= 10_000 && bytes <= 8_388_280
 }

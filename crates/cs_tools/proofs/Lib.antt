@@ -1,0 +1,13 @@
+pub mod Appended
+pub mod Changing
+pub mod Exported
+pub mod Exporting
+pub mod Getting
+pub mod Hexes
+pub mod Payloads
+pub mod Putting
+pub mod Quiet
+pub mod Reading
+pub mod Scrubbing
+pub mod Still
+pub mod Tidying

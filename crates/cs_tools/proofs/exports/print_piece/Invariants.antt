@@ -1,0 +1,18 @@
+use Rattle.std.specs.Prelude.{◌≡◌, ◌≢◌, [], take}
+use Rattle.std.specs.List.{AllByRecursion}
+use Rattle.cs_chunk.specs.Reads.{OnlyReads}
+use Rattle.cs_core.specs.Views.{IsIn}
+use Rattle.cs_index.specs.State.{id_number, index_of}
+use Rattle.cs_model.specs.Index.{live_at}
+use Rattle.cs_model.specs.State.{State, map_now}
+use Rattle.cs_tools.proofs.Exporting.{ArePrinted}
+use Rattle.cs_tools.proofs.exports.print_piece.Given as goal
+
+abbrev pub invariant-loop-id : goal.invariant-loop-id
+invariant-loop-id g l = record {
+  same : l.core ≡ record l.fn.core { disk = l.core.disk };
+  disk : OnlyReads g.D.PageDisk l.fn.core.disk l.core.disk;
+  lines : (s : State) → IsIn g.D.PageDisk.state l.fn.core s → g.D.PageDisk.honest l.fn.core.disk
+      → AllByRecursion (λ id. live_at (index_of l.fn.core.store.index) (id_number id) ≢ []) l.ids
+      → ArePrinted (map_now s) (take l.id-index l.ids) l.whole (g.W.Write.contents l.fn.writer) (g.W.Write.contents l.writer);
+}

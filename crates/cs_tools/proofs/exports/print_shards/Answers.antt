@@ -1,0 +1,51 @@
+use Rattle.std.proofs.Common.{List, true, ap, refl, subst, sym, ◌∙◌}
+use Rattle.std.specs.declared.slice.Chunks.{Chunks}
+use Rattle.cs_chunk.proofs.OnlyRead.{reads_on}
+use Rattle.cs_core.proofs.SectionReads.{reads_none}
+use Rattle.cs_frame.specs.declared.identifiers.ShardId.{ShardId}
+use Rattle.cs_model.specs.State.{map_now}
+use Rattle.cs_tools.proofs.Exporting.{IsPrintedUpTo, all_printed, nothing_printed, piece_of, piece_printed}
+use Rattle.cs_tools.proofs.Still.{same_live, same_on, stays_in}
+use Rattle.cs_tools.proofs.exports.print_shards.Goals as goal
+
+pub loop-piece-init : goal.loop-piece-init
+loop-piece-init g c =
+    let contents = g.W.Write.contents c.args.writer.now in
+    let same = c.into_iter-piece-iterator.ensures.into_iter_gives in
+    let rest = ap (λ (items : Chunks ShardId). items.rest.now) same ∙ c.chunks-piece-items.ensures.rest in
+    record {
+      size = ap (λ (items : Chunks ShardId). items.size) same ∙ c.chunks-piece-items.ensures.size;
+      same = refl;
+      disk = reads_none g.D.PageDisk c.args.core.now.disk;
+      lines = λ s is honest live. subst (λ (ids : List ShardId). IsPrintedUpTo (map_now s) c.args.ids.now ids true contents contents) (sym rest) (nothing_printed (map_now s) c.args.ids.now contents);
+    }
+
+pub loop-piece-preserved : goal.loop-piece-preserved
+loop-piece-preserved g c =
+    let disks = g.D.PageDisk in
+    let contents = g.W.Write.contents in
+    let was = c.loop-piece.invariant in
+    let first = c.args.core.now in
+    let now = c.loop-piece.core in
+    let ids = c.args.ids.now in
+    let rest = c.loop-piece.piece-iterator.rest.now in
+    let piece = c.in-Some.piece.now in
+    let left = c.next.new.self.rest.now in
+    let step = c.in-Some.ensures.steps in
+    record {
+      size = step.0 ∙ was.size;
+      same = same_on first now c.print_piece.new.core was.same c.in_ok-read.ensures.same;
+      disk = reads_on disks first.disk now.disk c.print_piece.new.core.disk was.disk c.in_ok-read.ensures.disk;
+      lines = λ s is honest live.
+          let so_far = was.lines s is honest live in
+          piece_printed (map_now s) c.loop-piece.piece-iterator.size ids rest piece left c.loop-piece.whole c.in_ok-read.read (contents c.args.writer.now) (contents c.loop-piece.writer) (contents c.print_piece.new.writer)
+          was.size so_far step.1.0 step.1.1 step.1.2
+          (c.in_ok-read.ensures.lines s (stays_in disks first now was.same was.disk honest s is) (was.disk.honesty.0 honest)
+          (same_live disks first now was.same was.disk piece (piece_of _ (map_now s) ids rest piece left c.loop-piece.whole (contents c.args.writer.now) (contents c.loop-piece.writer) so_far step.1.0 live)));
+    }
+
+pub returns-clause-script : goal.returns-clause-script
+returns-clause-script g c s is honest live =
+    let contents = g.W.Write.contents in
+    all_printed (map_now s) c.args.ids.now c.loop-piece.piece-iterator.rest.now c.loop-piece.whole (contents c.args.writer.now) (contents c.loop-piece.writer) (contents c.flush.new.self)
+    (c.loop-piece.invariant.lines s is honest live) c.in-None.ensures.steps.1.0 c.in_ok-flush.ensures.bytes

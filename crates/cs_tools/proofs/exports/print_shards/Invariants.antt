@@ -1,0 +1,19 @@
+use Rattle.std.specs.Prelude.{◌≡◌, ◌≢◌, []}
+use Rattle.std.specs.List.{AllByRecursion}
+use Rattle.cs_chunk.specs.Reads.{OnlyReads}
+use Rattle.cs_core.specs.Views.{IsIn}
+use Rattle.cs_index.specs.State.{id_number, index_of}
+use Rattle.cs_model.specs.Index.{live_at}
+use Rattle.cs_model.specs.State.{State, map_now}
+use Rattle.cs_tools.proofs.Exporting.{IsPrintedUpTo}
+use Rattle.cs_tools.proofs.exports.print_shards.Given as goal
+
+abbrev pub invariant-loop-piece : goal.invariant-loop-piece
+invariant-loop-piece g l = record {
+  size : l.piece-iterator.size ≡ 1000;
+  same : l.core ≡ record l.fn.core { disk = l.core.disk };
+  disk : OnlyReads g.D.PageDisk l.fn.core.disk l.core.disk;
+  lines : (s : State) → IsIn g.D.PageDisk.state l.fn.core s → g.D.PageDisk.honest l.fn.core.disk
+      → AllByRecursion (λ id. live_at (index_of l.fn.core.store.index) (id_number id) ≢ []) l.ids
+      → IsPrintedUpTo (map_now s) l.ids l.piece-iterator.rest.now l.whole (g.W.Write.contents l.fn.writer) (g.W.Write.contents l.writer);
+}

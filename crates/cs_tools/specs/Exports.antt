@@ -1,0 +1,92 @@
+-- What the command `export` prints.
+use Rattle.std.specs.Prelude.{◌≡◌, ◌<◌, ◌≤◌, ℕ, Bool, true, false, List, [], ◌∷◌, ◌++◌, None, Option, Some, Result, Ok, Err, ◌≢◌, codes, flat_map, length, map}
+use Rattle.std.specs.Io.KnownBytes.{Appends}
+use Rattle.std.specs.List.{AllByRecursion, list_all}
+use Rattle.cs_core.specs.Lookups.{IsReading}
+use Rattle.cs_deps.specs.declared.refusals.Refusal.{Refusal}
+use Rattle.cs_deps.specs.declared.refusals.Refusal.TheVariants.{OutOfMemory}
+use Rattle.cs_frame.specs.declared.identifiers.ShardId.{ShardId}
+use Rattle.cs_index.specs.State.{id_number}
+use Rattle.cs_model.specs.Element.{Bytes, Map}
+use Rattle.cs_survey.specs.Listings.{AreAll}
+use Rattle.cs_tools.specs.Outputs.{id_text, payload_text, refusal_text}
+use Rattle.cs_tools.specs.declared.outcomes.Outcome.{Outcome}
+use Rattle.cs_tools.specs.declared.outcomes.Outcome.TheVariants.{Absent, Damaged, Done, Failed, NoStore, Refused, Unread}
+
+-- the line of a script that puts a shard
+abbrev pub put_line : ShardId → List ℕ → List ℕ
+put_line id bytes = codes "put " ++ id_text id ++ codes " " ++ payload_text bytes ++ 10 ∷ []
+
+-- the remark in a script of a shard that can't be read
+abbrev pub remark_line : ShardId → Refusal → List ℕ
+remark_line id r = codes "# " ++ id_text id ++ codes " " ++ refusal_text r ++ 10 ∷ []
+
+-- the line of a script that makes all persistent
+abbrev pub sync_line : List ℕ
+sync_line = codes "sync" ++ 10 ∷ []
+
+-- a shard by its identifier, with its bytes, or with why they can't be read
+abbrev pub Shard : Type 0
+Shard = ShardId × Result (List ℕ) Refusal
+
+-- its line
+abbrev pub shard_line : Shard → List ℕ
+shard_line (id, Ok bytes) = put_line id bytes
+shard_line (id, Err r) = remark_line id r
+
+-- whether it could be read
+abbrev pub is_whole : Shard → Bool
+is_whole (id, Ok bytes) = true
+is_whole (id, Err r) = false
+
+-- the lines of some shards, and a sync behind them
+abbrev pub piece_lines : List Shard → List ℕ
+piece_lines shards = flat_map shard_line shards ++ sync_line
+
+-- Pieces of a list: each has 1,000 elements, but the last one may have fewer. None is empty.
+abbrev pub ArePieces : {X : Type 0} → List (List X) → Type 0
+ArePieces [] = Unit {0}
+ArePieces (piece ∷ []) = (0 < length piece) × (length piece ≤ 1000)
+ArePieces (piece ∷ next ∷ pieces) = (length piece ≡ 1000) × ArePieces (next ∷ pieces)
+
+-- The script of some shards: their lines in order, with a sync behind each 1,000 of them and behind the last.
+pub record IsScript (shards : List Shard) (text : List ℕ) : Type 0 where
+  pub pieces : List (List Shard)
+  pub cut : ArePieces pieces
+  pub all : flat_map (λ piece. piece) pieces ≡ shards
+  pub lines : text ≡ flat_map piece_lines pieces
+
+-- what is told of a shard is what the map has, unless the device or memory refuses
+abbrev pub IsToldBy : Map → Shard → Type 0
+IsToldBy m (id, Ok bytes) = m (id_number id) ≡ Some (Bytes bytes)
+IsToldBy m (id, Err r) = IsReading (m (id_number id)) (Err r)
+
+-- it is told of the shard with this identifier, and whether it could be read
+abbrev pub IsReadOf : (m : Map) → ShardId → (whole : Bool) → Shard → Type 0
+IsReadOf m id whole shard = (shard.0 ≡ id) × IsToldBy m shard × (whole ≡ is_whole shard)
+
+-- it is told of the shards with these identifiers, in order, and whether all could be read
+pub record AreReadOf (m : Map) (ids : List ShardId) (whole : Bool) (shards : List Shard) : Type 0 where
+  pub ids_are : map (λ shard. shard.0) shards ≡ ids
+  pub each : AllByRecursion (IsToldBy m) shards
+  pub whole_is : whole ≡ list_all is_whole shards
+
+-- the script of all shards of a map was written out, by rising identifiers, and whether all could be read
+pub record IsExported (m : Map) (before after : Option (List ℕ)) (whole : Bool) : Type 0 where
+  pub ids : List ShardId
+  pub all : AreAll (λ id. m id ≢ None) (map id_number ids)
+  pub shards : List Shard
+  pub are : AreReadOf m ids whole shards
+  pub text : List ℕ
+  pub script : IsScript shards text
+  pub written : Appends before after text
+
+-- With this map: the script of all its shards was written out, and all could be read, or some couldn't; or memory ran out, or the writer failed.
+abbrev pub Exports : Map → (before after : Option (List ℕ)) → Outcome → Type 0
+Exports m before after Done = IsExported m before after true
+Exports m before after Damaged = IsExported m before after false
+Exports m before after (Refused r) = r ≡ OutOfMemory
+Exports m before after Failed = Unit {0}
+Exports m before after Absent = ⊥
+Exports m before after (NoStore r) = ⊥
+Exports m before after (Unread r) = ⊥

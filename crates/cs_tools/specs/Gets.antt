@@ -1,0 +1,18 @@
+-- What the command `get` does.
+use Rattle.std.specs.Prelude.{◌≡◌, ℕ, List, Option, Some, None, Err}
+use Rattle.std.specs.Io.KnownBytes.{Appends}
+use Rattle.cs_core.specs.Lookups.{IsReading}
+use Rattle.cs_model.specs.Element.{Bytes, Content}
+use Rattle.cs_tools.specs.declared.outcomes.Outcome.{Outcome}
+use Rattle.cs_tools.specs.declared.outcomes.Outcome.TheVariants.{Absent, Damaged, Done, Failed, NoStore, Refused, Unread}
+
+-- Of an identifier that has this in the map: its bytes are written out, and nothing else; or nothing is written, as there is nothing, or as it
+-- can't be read; or the writer failed.
+abbrev pub Gets : Option Content → (before after : Option (List ℕ)) → Outcome → Type 0
+Gets content before after Done = (bytes : List ℕ) × (content ≡ Some (Bytes bytes)) × Appends before after bytes
+Gets content before after Absent = (content ≡ None) × (after ≡ before)
+Gets content before after (Unread r) = IsReading content (Err r) × (after ≡ before)
+Gets content before after Failed = Unit {0}
+Gets content before after Damaged = ⊥
+Gets content before after (Refused r) = ⊥
+Gets content before after (NoStore r) = ⊥

@@ -1,0 +1,21 @@
+-- What the command `graph` writes.
+use Rattle.std.specs.Prelude.{◌≡◌, ℕ, List, Some}
+use Rattle.serde_json.specs.Data.{Data}
+use Rattle.serde_json.specs.Read.{read}
+use Rattle.cs_check.specs.Documents.{IsDocumentOf}
+use Rattle.cs_deps.specs.declared.elements.Element.{Element}
+use Rattle.cs_deps.specs.Named.{Named}
+use Rattle.cs_deps.specs.Pending.{Pending}
+use Rattle.cs_graph.specs.Picture.{picture}
+
+-- The text is a plan document, and this is its picture.
+pub record IsPictureOf (text drawn : List ℕ) : Type 0 where
+  pub value : Data
+  pub letters : List ℕ
+  pub waits : Pending
+  pub target : Named
+  pub rounds : List (List Element)
+  pub chain : List Element
+  pub reads : read text ≡ Some value
+  pub document : IsDocumentOf value letters waits target rounds chain
+  pub picture_is : drawn ≡ picture letters waits.waiting target rounds chain

@@ -1,0 +1,47 @@
+//! The command `get`.
+ghost use Rattle.std.specs.Prelude.{◌≡◌, ◌⊎◌, OnOk};
+ghost use Rattle.std.specs.Io.KnownBytes.{Appends};
+ghost use Rattle.cs_chunk.specs.Reads.{OnlyReads};
+ghost use Rattle.cs_index.specs.State.{id_number};
+ghost use Rattle.cs_model.specs.Element.{Map};
+ghost use Rattle.cs_store.specs.Maps.{HasMap};
+ghost use Rattle.cs_tools.specs.Gets.{Gets};
+ghost use Rattle.cs_tools.specs.declared.outcomes.Outcome.TheVariants.{Done, Failed};
+
+use crate::outcomes::Outcome;
+use cs_disk::PageDisk;
+use cs_frame::ShardId;
+use cs_store::Store;
+use std::io;
+use std::io::Write;
+
+/// Writes out the bytes under an identifier, and nothing else.
+pub fn get<D: PageDisk, W: Write>(store: &mut Store<D>, id: ShardId, writer: &mut W) -> Outcome
+    ensures answer { (m : Map) → HasMap store.old m → D.honest store.old.disk → Gets (m (id_number id)) (W.contents writer.old) (W.contents writer.new) result }
+    ensures same { store.new ≡ record store.old { disk = store.new.disk } }
+    ensures disk { OnlyReads D.PageDisk store.old.disk store.new.disk }
+{
+    match store.get(id) {
+        Ok(Some(bytes)) => write_out(writer, &bytes),
+        Ok(None) => Outcome::Absent,
+        Err(error) => Outcome::Unread(error.refusal()),
+    }
+}
+
+/// Writes these bytes out.
+fn write_out<W: Write>(writer: &mut W, bytes: &[u8]) -> Outcome
+    ensures { ((result ≡ Done) × Appends (W.contents writer.old) (W.contents writer.new) bytes.now) ⊎ (result ≡ Failed) }
+{
+    match write_and_flush(writer, bytes) {
+        Ok(()) => Outcome::Done,
+        Err(_) => Outcome::Failed,
+    }
+}
+
+/// The same, with the writer's error.
+fn write_and_flush<W: Write>(writer: &mut W, bytes: &[u8]) -> io::Result<()>
+    ensures { OnOk result (Appends (W.contents writer.old) (W.contents writer.new) bytes.now) }
+{
+    writer.write_all(bytes)?;
+    writer.flush()
+}

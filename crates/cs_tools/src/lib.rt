@@ -1,0 +1,35 @@
+//! What the program does at one word, over one store: each command in a file of its own, over streams that it is given.
+#![tactic(auto)]
+
+mod advices;
+mod benches;
+mod commits;
+mod deletes;
+mod exports;
+mod gets;
+mod graphs;
+mod lists;
+mod outcomes;
+mod outputs;
+mod puts;
+mod reclaims;
+mod scrubs;
+mod stats;
+mod timings;
+
+pub use advices::advice;
+pub use benches::{Load, bench};
+pub use deletes::delete;
+pub use exports::export;
+pub use gets::get;
+pub use graphs::graph;
+pub use lists::list;
+pub use outcomes::{Outcome, explain};
+pub use outputs::Style;
+pub use puts::put;
+pub use reclaims::reclaim;
+pub use scrubs::scrub;
+pub use stats::stat;
+
+// What callers need of the crate below.
+pub use cs_scrub::Progress;
