@@ -1,0 +1,37 @@
+-- Examples: a new store, and some events of one of 6 extents of 2 pages, one of which may hold runs.
+use Rattle.std.specs.Prelude.{◌≡◌, ◌∷◌, ℕ, true, List, None, []}
+use Rattle.cs_model.specs.Device.{Shape}
+use Rattle.cs_model.specs.Geometry.{shape_of}
+use Rattle.cs_room.specs.Events.{Abandon, BeginSweep, Delete, Does, Event, MoveOne, Put, Retire, Stage}
+use Rattle.cs_room.specs.Rooms.{Empty, Room}
+
+-- a store in which nothing lies, and whose root names nothing
+abbrev pub new_room : Room
+new_room = record {
+  pointer = λ e. 0;
+  holds = λ e. Empty;
+  chunks = [];
+  runs = [];
+  rooted = true;
+  open_extent = None;
+  sweep = None;
+  last = None;
+  roots = record { chunks = []; runs = []; pointers = λ e. 0 } ∷ [];
+}
+
+-- the events one after another
+abbrev pub Plays : Shape → ℕ → Room → List Event → Room → Type 0
+Plays S J s [] t = t ≡ s
+Plays S J s (event ∷ events) t = (mid : Room) × Does S J s event mid × Plays S J mid events t
+
+abbrev pub example_shape : Shape
+example_shape = shape_of 6 2 1 8 1
+
+-- two shards are put and staged; the first is put again, and the extent where they lay is swept: two chunks are moved, to one
+-- extent that the sweep opens
+abbrev pub example_events : List Event
+example_events = Put 1 (1 ∷ []) ∷ Put 2 (1 ∷ []) ∷ Stage 0 1 1 ∷ BeginSweep 0 ∷ MoveOne ∷ MoveOne ∷ Retire 0 1 1 ∷ []
+
+-- the same with a deletion between, and the sweep is given up
+abbrev pub example_abandoned : List Event
+example_abandoned = Put 1 (1 ∷ []) ∷ Put 2 (1 ∷ []) ∷ BeginSweep 0 ∷ MoveOne ∷ Delete 1 ∷ Stage 0 1 1 ∷ Abandon ∷ []

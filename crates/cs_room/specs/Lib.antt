@@ -1,0 +1,5 @@
+pub mod Events
+pub mod Example
+pub mod Invariant
+pub mod Rooms
+pub mod Sweeps

@@ -1,0 +1,23 @@
+//! Room: rules under which no store is ever stuck. Their definitions are in `specs`, and each function here has a law over
+//! them as its contract and an empty body.
+//!
+//! In its laws `S` is a shape, and `J` how many extents may hold runs; `s`, `t` and `u` are states one after another, `a`, `b`, `d`
+//! and `e` numbers of extents, and `n` numbers of extents that are wanted. `w` is a sweep, `c` a chunk, `r` a root.
+#![tactic(auto)]
+
+mod examples;
+mod gain;
+mod keeping;
+mod newest;
+mod room;
+mod share;
+
+pub use examples::{a_new_store_keeps, the_events_can_happen};
+pub use gain::{no_sweep_takes_extents, one_sweep_may_gain, two_sweeps_gain};
+pub use keeping::{every_event_keeps, what_lives_goes_on_living};
+pub use newest::{extents_are_reset_under_a_root, the_newest_root_stands};
+pub use room::{there_is_room, what_needs_a_place_happens};
+pub use share::{
+    a_put_finds_its_extents, a_put_finds_room, a_sweep_can_be_made, pairs_of_sweeps_gain,
+    two_sweeps_an_extent_are_enough,
+};
