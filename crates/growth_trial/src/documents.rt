@@ -21,10 +21,10 @@ pub fn write_document<D: PageDisk, R: Print>(
 
 /// Tells that memory was refused, or that something else was.
 fn excused<R: Print>(rt: &R, fault: CheckFault) -> Result<(), Fault> {
-    match fault {
-        CheckFault::OutOfMemory => Ok(refused(rt, true)?),
-        fault => Err(Fault::Document(fault)),
+    if let CheckFault::OutOfMemory = fault {
+        return Ok(refused(rt, true)?);
     }
+    Err(Fault::Document(fault))
 }
 
 /// Writes a document.

@@ -1,4 +1,5 @@
 //! Marks around a call, and what is told of it.
+use crate::faults::Fault;
 use std::fmt::Debug;
 use std::io;
 
@@ -46,5 +47,13 @@ pub fn is_answered<R: Print, T: Debug, E>(rt: &R, answer: &Result<T, E>) -> io::
             Ok(true)
         }
         Err(_) => Ok(false),
+    }
+}
+
+/// A value, where the output didn't fail.
+pub fn and_told<T: Drop>(told: io::Result<()>, value: T) -> Result<T, Fault> {
+    match told {
+        Ok(()) => Ok(value),
+        Err(error) => Err(Fault::from(error)),
     }
 }

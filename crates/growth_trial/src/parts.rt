@@ -4,7 +4,7 @@ ghost use Rattle.cs_extent.specs.Sections.{AreSections};
 
 use crate::events::id;
 use crate::faults::Fault;
-use crate::marks::{begin, ended};
+use crate::marks::{begin_call, ended};
 use cs_deps::{Dependency, Element, Graph};
 use cs_disk::PageDisk;
 use cs_extent::Extents;
@@ -34,8 +34,12 @@ fn try_index<R: Print>(rt: &R, alloc: Global) -> Result<(), Fault> {
         generation: 0,
     };
     index.set(id(10), Vec::from_slice(alloc, &[place])?)?;
-    print!(rt; "lookup ")?;
-    begin(rt)?;
+    tell_shard(rt, &index)
+}
+
+/// Tells what is known of a shard.
+fn tell_shard<R: Print>(rt: &R, index: &Index) -> Result<(), Fault> {
+    begin_call(rt, "lookup")?;
     let found = index.lookup(id(10));
     ended(rt, &found.is_some())?;
     Ok(())
@@ -63,16 +67,13 @@ fn try_extents<R: Print>(rt: &R, alloc: Global, page: &[u8; 4096]) -> Result<(),
 
 /// Tells how many extents there are, and how many are empty.
 fn tell_counts<R: Print>(rt: &R, extents: &Extents) -> io::Result<()> {
-    print!(rt; "extent_count ")?;
-    begin(rt)?;
+    begin_call(rt, "extent_count")?;
     let count = extents.extent_count();
     ended(rt, &count)?;
-    print!(rt; "extent_pages ")?;
-    begin(rt)?;
+    begin_call(rt, "extent_pages")?;
     let pages = extents.extent_pages();
     ended(rt, &pages)?;
-    print!(rt; "empty_count ")?;
-    begin(rt)?;
+    begin_call(rt, "empty_count")?;
     let empty = extents.empty_count();
     ended(rt, &empty)
 }
@@ -82,24 +83,19 @@ fn tell_extent<R: Print>(rt: &R, extents: &mut Extents) -> Result<(), Fault> {
     if extents.extent_count() == 0 {
         return Err(Fault::Missing);
     }
-    print!(rt; "pointer ")?;
-    begin(rt)?;
+    begin_call(rt, "pointer")?;
     let pointer = extents.pointer(0);
     ended(rt, &pointer)?;
-    print!(rt; "generation ")?;
-    begin(rt)?;
+    begin_call(rt, "generation")?;
     let generation = extents.generation(0);
     ended(rt, &generation)?;
-    print!(rt; "is_open ")?;
-    begin(rt)?;
+    begin_call(rt, "is_open")?;
     let is_open = extents.is_open(0);
     ended(rt, &is_open)?;
-    print!(rt; "set_swept ")?;
-    begin(rt)?;
+    begin_call(rt, "set_swept")?;
     extents.set_swept(0, true);
     ended(rt, &true)?;
-    print!(rt; "is_swept ")?;
-    begin(rt)?;
+    begin_call(rt, "is_swept")?;
     let is_swept = extents.is_swept(0);
     ended(rt, &is_swept)?;
     Ok(())
@@ -110,8 +106,7 @@ fn try_reset<R: Print>(rt: &R, extents: &mut Extents) -> Result<(), Fault> {
     if extents.extent_count() == 0 || extents.is_open(0) || extents.pointer(0) == 0 {
         return Err(Fault::Missing);
     }
-    print!(rt; "reset ")?;
-    begin(rt)?;
+    begin_call(rt, "reset")?;
     let answer = extents.reset(0, 0);
     ended(rt, &answer)?;
     Ok(())
@@ -157,16 +152,13 @@ fn try_graph<R: Print>(rt: &R, alloc: Global, page: &[u8; 4096]) -> Result<(), F
 
 /// Tells what is known of a graph.
 fn tell_graph<R: Print>(rt: &R, graph: &Graph, write: &Dependency) -> io::Result<()> {
-    print!(rt; "is_persistent ")?;
-    begin(rt)?;
+    begin_call(rt, "is_persistent")?;
     let is_persistent = graph.is_persistent(write);
     ended(rt, &is_persistent)?;
-    print!(rt; "bytes_of ")?;
-    begin(rt)?;
+    begin_call(rt, "bytes_of")?;
     let bytes = graph.bytes_of(Element::Plain(1));
     ended(rt, &bytes.is_some())?;
-    print!(rt; "kept_pages ")?;
-    begin(rt)?;
+    begin_call(rt, "kept_pages")?;
     let kept = graph.kept_pages();
     ended(rt, &kept)
 }
@@ -186,8 +178,7 @@ fn settle<R: Print>(rt: &R, graph: &mut Graph) -> Result<(), Fault> {
     }
     let round = graph.queue(1)?;
     graph.take_round(round);
-    print!(rt; "settle_round ")?;
-    begin(rt)?;
+    begin_call(rt, "settle_round")?;
     graph.settle_round();
     ended(rt, &true)?;
     Ok(())

@@ -1,46 +1,57 @@
 //! Making a store, and opening it.
 use crate::faults::Fault;
-use crate::marks::{answered, begin, end, refused};
+use crate::marks::{and_told, answered, begin, end, refused};
 use cs_core::{Core, Limits};
 use cs_deps::Refusal;
 use cs_disk::PageDisk;
 use cs_frame::Geometry;
 use std::alloc::Global;
+use std::io;
 
 /// What bounds the cores.
 pub const LIMITS: Limits = Limits { history: 65_536 };
 
-/// A core, or the disk where memory was refused.
-type Made<D> = Result<Core<D>, D>;
+/// What a call answers that makes a core.
+type Answer<D> = Result<Core<D>, (Refusal, D)>;
 
-/// What a call answered that makes a core.
-fn made<D: PageDisk + Drop>(answer: Result<Core<D>, (Refusal, D)>) -> Result<Made<D>, Fault> {
-    match answer {
-        Ok(core) => Ok(Ok(core)),
-        Err((Refusal::OutOfMemory, disk)) => Ok(Err(disk)),
-        Err((refusal, _)) => Err(Fault::Refused(refusal)),
-    }
-}
-
-/// Makes a store on a disk.
+/// Makes a store on a disk, and tells whether the output failed.
 fn format<D: PageDisk + Drop, R: Print>(
     rt: &R,
     alloc: Global,
     disk: D,
     geometry: Geometry,
-) -> Result<Made<D>, Fault> {
-    begin(rt)?;
+) -> (io::Result<()>, Answer<D>) {
+    let told = begin(rt);
     let answer = Core::format(alloc, disk, geometry, LIMITS);
-    end(rt)?;
-    made(answer)
+    (told.and(end(rt)), answer)
 }
 
-/// Opens the store on a disk.
-fn open<D: PageDisk + Drop, R: Print>(rt: &R, alloc: Global, disk: D) -> Result<Made<D>, Fault> {
-    begin(rt)?;
+/// Opens the store on a disk, and tells whether the output failed.
+fn open<D: PageDisk + Drop, R: Print>(
+    rt: &R,
+    alloc: Global,
+    disk: D,
+) -> (io::Result<()>, Answer<D>) {
+    let told = begin(rt);
     let answer = Core::open(alloc, disk, LIMITS);
-    end(rt)?;
-    made(answer)
+    (told.and(end(rt)), answer)
+}
+
+/// Tells of a refusal for want of memory, and whether the pages of the disk have the sum that they had.
+fn excused<D: PageDisk, R: Print>(
+    rt: &R,
+    told: io::Result<()>,
+    refusal: Refusal,
+    disk: &mut D,
+    pages: (u64, u64),
+    sum: u64,
+) -> Result<(), Fault> {
+    and_told(told, ())?;
+    if refusal != Refusal::OutOfMemory {
+        return Err(Fault::Refused(refusal));
+    }
+    let is_same = sum_of(disk, pages.0, pages.1)? == sum;
+    and_told(refused(rt, is_same), ())
 }
 
 /// A new store of this geometry on a disk of zeros. Where it is refused 9 nothing was written to the extents.
@@ -51,14 +62,29 @@ pub fn formatted<D: PageDisk + Drop, R: Print>(
     geometry: Geometry,
 ) -> Result<Core<D>, Fault> {
     print!(rt; "format ")?;
-    let mut back = match format(rt, alloc, disk, geometry)? {
-        Ok(core) => return of(rt, core),
-        Err(back) => back,
-    };
-    let sum = sum_of(&mut back, 2, 14)?;
-    refused(rt, sum == 0)?;
-    match format(rt, alloc, back, geometry)? {
-        Ok(core) => of(rt, core),
+    let (told, answer) = format(rt, alloc, disk, geometry);
+    match answer {
+        Ok(core) => of(rt, told, core),
+        Err((refusal, disk)) => {
+            let mut disk = disk;
+            match excused(rt, told, refusal, &mut disk, (2, 14), 0) {
+                Ok(()) => format_last(rt, alloc, disk, geometry),
+                Err(fault) => Err(fault),
+            }
+        }
+    }
+}
+
+/// A new store that is refused 9 no more.
+fn format_last<D: PageDisk + Drop, R: Print>(
+    rt: &R,
+    alloc: Global,
+    disk: D,
+    geometry: Geometry,
+) -> Result<Core<D>, Fault> {
+    let (told, answer) = format(rt, alloc, disk, geometry);
+    match answer {
+        Ok(core) => of(rt, told, core),
         Err(_) => Err(Fault::Memory),
     }
 }
@@ -72,22 +98,40 @@ pub fn reopened<D: PageDisk + Drop, R: Print>(
     let mut disk = disk;
     let before = sum_of(&mut disk, 0, u64::MAX)?;
     print!(rt; "open {before} ")?;
-    let mut back = match open(rt, alloc, disk)? {
-        Ok(core) => return of(rt, core),
-        Err(back) => back,
-    };
-    let after = sum_of(&mut back, 0, u64::MAX)?;
-    refused(rt, before == after)?;
-    match open(rt, alloc, back)? {
-        Ok(core) => of(rt, core),
+    let (told, answer) = open(rt, alloc, disk);
+    match answer {
+        Ok(core) => of(rt, told, core),
+        Err((refusal, disk)) => {
+            let mut disk = disk;
+            match excused(rt, told, refusal, &mut disk, (0, u64::MAX), before) {
+                Ok(()) => open_last(rt, alloc, disk),
+                Err(fault) => Err(fault),
+            }
+        }
+    }
+}
+
+/// The store on a disk that is refused 9 no more.
+fn open_last<D: PageDisk + Drop, R: Print>(
+    rt: &R,
+    alloc: Global,
+    disk: D,
+) -> Result<Core<D>, Fault> {
+    let (told, answer) = open(rt, alloc, disk);
+    match answer {
+        Ok(core) => of(rt, told, core),
         Err(_) => Err(Fault::Memory),
     }
 }
 
 /// A core, of which it is told how many commands and shards its disk held.
-fn of<D: PageDisk + Drop, R: Print>(rt: &R, core: Core<D>) -> Result<Core<D>, Fault> {
-    answered(rt, &core.opened())?;
-    Ok(core)
+fn of<D: PageDisk + Drop, R: Print>(
+    rt: &R,
+    told: io::Result<()>,
+    core: Core<D>,
+) -> Result<Core<D>, Fault> {
+    let told = told.and(answered(rt, &core.opened()));
+    and_told(told, core)
 }
 
 /// A sum of the pages from one on and below another, by which one disk can be told from another; 0 where they are zeros.

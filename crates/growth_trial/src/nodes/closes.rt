@@ -1,9 +1,10 @@
 //! The end of a node.
 use crate::faults::Fault;
-use crate::marks::{begin, begin_call, end, ended, refused};
+use crate::marks::{and_told, begin, begin_call, end, ended, refused};
 use cs_disk::PageDisk;
 use cs_node::{Closed, Naming, Node, NotClosed, Purse, Rest, Unclosed};
 use std::alloc::Global;
+use std::io;
 
 /// Opens the lock, locks it again, and closes the node with its one purse.
 pub fn close<D: PageDisk + Drop, K: Naming, R: Print>(
@@ -26,15 +27,56 @@ fn close_twice<D: PageDisk + Drop, K: Naming, R: Print>(
     rest: Rest<D, K>,
     purses: Vec<Purse<K>>,
 ) -> Result<Closed<D>, Fault> {
-    let (rest, purses) = match close_once(rt, alloc, rest, purses)? {
-        Ok(closed) => return Ok(closed),
-        Err(back) => back,
-    };
-    refused(rt, true)?;
-    match close_once(rt, alloc, rest, purses)? {
-        Ok(closed) => Ok(closed),
+    let (told, answer) = close_once(rt, alloc, rest, purses);
+    match answer {
+        Ok(closed) => and_told(told, closed),
+        Err(not_closed) => close_again(rt, alloc, told, not_closed),
+    }
+}
+
+/// Closes a node once more that wasn't closed for want of memory.
+fn close_again<D: PageDisk + Drop, K: Naming, R: Print>(
+    rt: &R,
+    alloc: Global,
+    told: io::Result<()>,
+    not_closed: NotClosed<D, K>,
+) -> Result<Closed<D>, Fault> {
+    let NotClosed { why, rest, purses } = not_closed;
+    match excused(rt, told, is_for_memory(why)) {
+        Ok(()) => close_last(rt, alloc, rest, purses),
+        Err(fault) => Err(fault),
+    }
+}
+
+/// Whether memory was refused.
+fn is_for_memory(why: Unclosed) -> bool {
+    match why {
+        Unclosed::OutOfMemory => true,
+        Unclosed::Missing(_) => false,
+    }
+}
+
+/// Closes a node that is refused 9 no more.
+fn close_last<D: PageDisk + Drop, K: Naming, R: Print>(
+    rt: &R,
+    alloc: Global,
+    rest: Rest<D, K>,
+    purses: Vec<Purse<K>>,
+) -> Result<Closed<D>, Fault> {
+    let (told, answer) = close_once(rt, alloc, rest, purses);
+    match answer {
+        Ok(closed) => and_told(told, closed),
         Err(_) => Err(Fault::Memory),
     }
+}
+
+/// Tells that memory was refused, where nothing else was.
+fn excused<R: Print>(rt: &R, told: io::Result<()>, is_for_memory: bool) -> Result<(), Fault> {
+    and_told(told, ())?;
+    if !is_for_memory {
+        return Err(Fault::Missing);
+    }
+    and_told(refused(rt, true), ())
 }
 
 /// A node whose lock was opened and locked again.
@@ -54,31 +96,17 @@ fn resumed<D: PageDisk + Drop, K: Naming, R: Print>(
     }
 }
 
-/// What comes back where memory was refused.
-type Back<D, K> = (Rest<D, K>, Vec<Purse<K>>);
+/// What a close answers.
+type Answer<D, K> = Result<Closed<D>, NotClosed<D, K>>;
 
-/// Closes a node.
+/// Closes a node, and tells whether the output failed.
 fn close_once<D: PageDisk + Drop, K: Naming, R: Print>(
     rt: &R,
     alloc: Global,
     rest: Rest<D, K>,
     purses: Vec<Purse<K>>,
-) -> Result<Result<Closed<D>, Back<D, K>>, Fault> {
-    begin(rt)?;
+) -> (io::Result<()>, Answer<D, K>) {
+    let told = begin(rt);
     let answer = rest.close(alloc, purses);
-    end(rt)?;
-    match answer {
-        Ok(closed) => Ok(Ok(closed)),
-        Err(not_closed) => back(not_closed),
-    }
-}
-
-/// What came back of a node that wasn't closed for want of memory.
-fn back<D: PageDisk + Drop, K: Naming>(
-    it: NotClosed<D, K>,
-) -> Result<Result<Closed<D>, Back<D, K>>, Fault> {
-    match it.why {
-        Unclosed::OutOfMemory => Ok(Err((it.rest, it.purses))),
-        Unclosed::Missing(_) => Err(Fault::Missing),
-    }
+    (told.and(end(rt)), answer)
 }
