@@ -1,0 +1,345 @@
+"""The typed store by the rules of docs/API.md, over the store of store_model.py: what its calls answer, with the count of its events, its device calls, of
+which one may fail, and its openings. It answers the lines of crates/calls_trial, and shares nothing with that program."""
+from store_model import ENTRY, NOT_SWEEPABLE, PAGE, Refused, Store, bytes_of
+
+DEVICE_FAULT = (1, "DeviceFault")
+BAD_GEOMETRY = (7, "BadGeometry")
+HALTED = (40, "Halted")
+HISTORY_FULL = (41, "HistoryFull")
+
+
+def frame_pages(payload):
+    """How many pages a frame has whose payload has so many bytes: 41 bytes stand ahead of it."""
+    return -(-(41 + payload) // PAGE)
+
+
+def truth(fact):
+    return "true" if fact else "false"
+
+
+class Calls(Store):
+    """A typed store."""
+
+    def __init__(self, extents, pages, limit, sections=1):
+        self.limit, self.fails = limit, 0
+        super().__init__(extents, pages, sections)
+
+    # ---- the device
+
+    def device_call(self):
+        """A read, a write or a flush: the one that is to fail does."""
+        if self.fails > 0:
+            self.fails -= 1
+            if self.fails == 0:
+                raise Refused(*DEVICE_FAULT)
+
+    def read_pages(self, page, count):
+        """Reads pages, those that wait for a sync from memory."""
+        for number in range(page, page + count):
+            if number not in self.newest:
+                self.device_call()
+
+    def payload_of(self, locator):
+        """How many bytes a frame's payload has, which its first page says."""
+        kind, content = self.content_of(self.page_of(locator))
+        return len(content) if kind == "chunk" else 4 + ENTRY * len(content)
+
+    def content_of(self, page):
+        if page in self.newest:
+            return self.newest[page].content
+        for where, content in reversed(self.disk.volatile):
+            if where == page:
+                return content
+        return self.disk.durable[page]
+
+    def read_first(self, locator):
+        """Reads the first page of a frame."""
+        self.read_pages(self.page_of(locator), 1)
+        return frame_pages(self.payload_of(locator))
+
+    def read_frame(self, locator):
+        self.read_pages(self.page_of(locator), 1)
+        self.read_pages(self.page_of(locator) + 1, frame_pages(self.payload_of(locator)) - 1)
+
+    def read_chunk(self, locator):
+        self.read_frame(locator)
+        return self.content_of(self.page_of(locator))[1]
+
+    def open(self):
+        """Opens what is on the disk: flushes, and reads the superblock, the root and the runs."""
+        self.device_call()
+        self.disk.flush()
+        for _ in range(self.sections + 1):
+            self.device_call()
+        self.newest, self.halted, self.events = {}, False, 0
+        self.found = super().open()
+        for entries, locator in self.runs:
+            first = self.page_of(locator)
+            self.read_pages(first, frame_pages(4 + ENTRY * len(entries)))
+        return self.found
+
+    # ---- events
+
+    def ask(self, limited=False):
+        """An event that is kept, also where it is refused then; where as many are kept as may be some aren't taken."""
+        if limited and self.events >= self.limit:
+            raise Refused(*HISTORY_FULL)
+        self.events += 1
+
+    def is_settled(self):
+        return not self.table and self.round is None and not any(not self.is_persistent(e) for e in self.elements)
+
+    def make_ready(self):
+        """Takes a checkpoint where half of the limit is used and nothing waits; where all is used, syncs and takes one."""
+        if 2 * self.events >= self.limit and self.is_settled():
+            self.events = 0
+        if self.events < self.limit:
+            return
+        self.write_back()
+        self.events = 0
+
+    def must_go_on(self):
+        if self.halted:
+            raise Refused(*HALTED)
+
+    def append(self, payload_bytes, content, left):
+        count = len(self.elements)
+        locator = super().append(payload_bytes, content, left)
+        for element in self.elements[count:]:
+            if element.family == "w":
+                self.newest[element.page] = element
+        return locator
+
+    def or_halt(self):
+        """A write or a flush."""
+        self.ask()
+        try:
+            self.device_call()
+        except Refused:
+            self.halted = True
+            raise
+
+    def write_back(self):
+        """Stages the index's changes, and writes round after round until nothing waits."""
+        self.ask()
+        self.stage_table()
+        planned = self.plan()[0] if self.plans_once else None
+        while True:
+            members = self.begin(planned)
+            if members is None:
+                break
+            self.ask()
+            for _ in members:
+                self.or_halt()
+                self.issue()
+            self.or_halt()
+            self.end()
+            self.let_go(members)
+            planned = planned and planned[1:]
+        self.forget()
+
+    def let_go(self, members):
+        for element in members:
+            if self.newest.get(element.page) is element:
+                del self.newest[element.page]
+
+    # ---- calls
+
+    def call_put(self, name, text):
+        self.must_go_on()
+        self.make_ready()
+        self.ask(limited=True)
+        return f"put {self.put(name, bytes_of(text))}"
+
+    def call_get(self, name):
+        found = self.get(name)
+        return "absent" if found is None else f"value {found.hex() or '-'}"
+
+    def call_del(self, name):
+        self.must_go_on()
+        self.make_ready()
+        self.ask(limited=True)
+        number = self.delete(name)
+        return "absent" if number is None else f"del {number}"
+
+    def call_contains(self, name):
+        return truth(self.lookup(name))
+
+    def call_size(self, name):
+        found = self.lookup(name)
+        if not found:
+            return "absent"
+        return f"size {sum(self.size_of_chunk(locator) for locator in found)}"
+
+    def size_of_chunk(self, locator):
+        self.read_first(locator)
+        return self.payload_of(locator)
+
+    def call_sync(self):
+        self.must_go_on()
+        self.write_back()
+        return f"persistent {self.frontier()}"
+
+    def call_ids(self):
+        return self.listed(sorted(self.live()))
+
+    def call_from(self, name, most):
+        return self.listed([each for each in sorted(self.live()) if each >= name][:int(most)])
+
+    def listed(self, names):
+        return "\n".join([f"ids {len(names)}", *names])
+
+    def uses(self):
+        """Of each extent how many pages the chunks have that live there, and how many chunks' headers weren't read."""
+        live, unreadable = [0] * self.extents, [0] * self.extents
+        for _, _, locator in self.chunks():
+            try:
+                live[locator[0]] += self.read_first(locator)
+            except Refused:
+                unreadable[locator[0]] += 1
+        return live, unreadable
+
+    def chunks(self):
+        return [(name, number, locator) for name, found in sorted(self.live().items()) for number, locator in enumerate(found)]
+
+    def call_stats(self):
+        live, unreadable = self.uses()
+        lines = [f"{self.look(e)} live {live[e]} dead {self.pointer[e] - live[e]} unreadable {unreadable[e]}" for e in range(self.extents)]
+        lines += [f"run extent {extent} page {page} entries {len(entries)}" for entries, (extent, page, _) in self.runs]
+        lines.append(f"empty {self.pointer.count(0)} named {len(self.named())} of {(PAGE * self.pages - 45) // ENTRY}"
+                     f" shards {len(self.live())} chunks {len(self.chunks())}")
+        lines.append(f"events {self.events} of {self.limit} accepted {self.accepted} persistent {self.frontier()}")
+        return "\n".join(lines)
+
+    def look(self, extent):
+        is_open = truth(extent == self.open_extent)
+        return f"pointer {self.pointer[extent]} generation {self.generation[extent]} open {is_open} swept false"
+
+    def call_scrub(self):
+        """Nothing is damaged here, so what isn't read is what the device refused."""
+        chunks = self.chunks()
+        lines = []
+        for what, locator in [(f"{name} chunk {number}", locator) for name, number, locator in chunks] + [("run", locator) for _, locator in self.runs]:
+            try:
+                self.read_frame(locator)
+            except Refused as refused:
+                lines.append(f"damaged {what} extent {locator[0]} page {locator[1]} {refused}")
+        return "\n".join([*lines, f"read chunks {len(chunks)} runs {len(self.runs)}"])
+
+    def call_sweep(self, extent):
+        moved, root = self.sweep(int(extent))
+        return f"moved {moved} root {root}"
+
+    def sweep(self, extent):
+        self.must_go_on()
+        self.make_ready()
+        self.ask(limited=True)
+        if extent >= self.extents or extent == self.open_extent or self.pointer[extent] == 0:
+            raise Refused(*NOT_SWEEPABLE)
+        try:
+            moved = self.move_all(extent)
+            self.ask()
+            root = self.stage_merged(0)
+        except Refused:
+            # the sweep is abandoned
+            self.ask()
+            raise
+        self.pointer[extent] = 0
+        self.generation[extent] += 1
+        self.reset_root[extent] = root
+        return moved, root
+
+    def move_all(self, extent):
+        moved = [(name, number) for name, number, locator in self.chunks() if locator[0] == extent]
+        for name, number in moved:
+            self.ask(limited=True)
+            found = list(self.lookup(name))
+            data = self.read_chunk(found[number])
+            found[number] = self.append(len(data), ("chunk", data), 0)
+            self.table[name] = found
+        self.ask(limited=True)
+        return len(moved)
+
+    def call_abandon(self, _extent):
+        """A sweep that is refused is abandoned by itself, unless memory for that is refused: so no extent is marked."""
+        self.must_go_on()
+        self.ask()
+        raise Refused(*NOT_SWEEPABLE)
+
+    def call_reclaim(self):
+        """Sweeps the extent with most pages that no shard has, the first of several, where they are more than the index takes."""
+        self.must_go_on()
+        index_pages = frame_pages(4 + ENTRY * len(self.named()))
+        live, _ = self.uses()
+        garbage = [0 if e == self.open_extent else self.pointer[e] - live[e] for e in range(self.extents)]
+        extent = garbage.index(max(garbage))
+        if garbage[extent] <= index_pages:
+            return "none"
+        moved, root = self.sweep(extent)
+        return f"extent {extent} dead {garbage[extent]} moved {moved} root {root}"
+
+    def call_numbers(self):
+        return (f"accepted {self.accepted} persistent {self.frontier()} events {self.events} limit {self.limit} halted {truth(self.halted)}"
+                f" found {self.found[0]} {self.found[1]}")
+
+    def call_room(self):
+        return f"extents {self.extents} pages {self.pages} sections {self.sections} empty {self.pointer.count(0)}"
+
+    def call_extent(self, extent):
+        return self.look(int(extent)) if int(extent) < self.extents else "absent"
+
+    def call_first(self, extent):
+        """The first chunk that lives on an extent, by identifier and then by number."""
+        return next((f"first {name} {number}" for name, number, locator in self.chunks() if locator[0] == int(extent)), "none")
+
+
+class Trial:
+    """What the lines are played on: no store yet, one that is open, or one that couldn't be opened."""
+
+    def __init__(self):
+        self.store, self.is_open = None, False
+
+    def answer(self, line):
+        """The lines that one line prints."""
+        words = line.split(" ")
+        try:
+            if words[0] == "make":
+                return self.make(*(int(word) for word in words[1:]))
+            if words[0] in ("close", "crash"):
+                return self.reopen(words)
+            if not self.is_open:
+                return ["no store"]
+            return getattr(self.store, f"call_{words[0]}")(*words[1:]).split("\n")
+        except Refused as refused:
+            return [str(refused)]
+
+    def make(self, extents, pages, limit):
+        self.store, self.is_open = None, False
+        if not 4 <= extents <= 2048 or not 2 <= pages <= 256:
+            raise Refused(*BAD_GEOMETRY)
+        self.store, self.is_open = Calls(extents, pages, limit), True
+        return ["made"]
+
+    def reopen(self, words):
+        """Closes the store, lets its disk crash where that is asked for, and opens what is left."""
+        if self.store is None:
+            return ["no store"]
+        printed, store = [], self.store
+        if words[0] == "crash":
+            printed.append(self.crash("" if words[1] == "-" else words[1]))
+        store.disk.flush()
+        store.fails = int(words[-1])
+        try:
+            count, live = store.open()
+            self.is_open = True
+            return [*printed, f"open commands {count} shards {live}"]
+        except Refused as refused:
+            self.is_open = False
+            return [*printed, str(refused)]
+
+    def crash(self, bits):
+        volatile = len(self.store.disk.volatile)
+        if len(bits) != volatile:
+            return f"no crash of {volatile}"
+        self.store.disk.crash([bit == "1" for bit in bits])
+        return f"crash kept {bits.count('1')} of {volatile}"

@@ -1,0 +1,157 @@
+"""A second reader of a store's bytes, written from docs/FORMATS.md alone: what it opens, what it refuses, and which frames it can't read."""
+import hashlib
+import struct
+
+PAGE = 4096
+NAMES = {6: "OddLength", 20: "BadMagic", 21: "BadDigest", 22: "BadLength", 23: "BadPadding", 24: "BadVersion", 25: "OutOfOrder", 43: "NotAStore"}
+GREATEST = 2**63
+
+
+class Unread(Exception):
+    """Why something can't be read."""
+
+    def __init__(self, number):
+        super().__init__(f"refused {number} {NAMES[number]}")
+
+
+def must(fact, number):
+    if not fact:
+        raise Unread(number)
+
+
+def has_digest(text):
+    return hashlib.sha256(text[:-32]).digest() == text[-32:]
+
+
+def geometry_of(extents, pages, sections):
+    """How many extents a section has, None where there is no such geometry."""
+    if not 4 <= extents <= 2048 or not 2 <= pages <= 256 or not 1 <= sections <= 8:
+        return None
+    most = -(-extents // sections)
+    return most if most <= 512 and (sections - 1) * most < extents else None
+
+
+def section(page):
+    """Extents, pages, sections, which section it is, and the pointer and the generation of each of its extents."""
+    must(page[:3] == b"CSS", 20)
+    must(page[3:4] in (b"1", b"2"), 24)
+    version, extents, pages = struct.unpack(">QHH", page[4:16])
+    sections, number, at = (page[16], page[17], 18) if page[3:4] == b"2" else (1, 0, 16)
+    most = geometry_of(extents, pages, sections)
+    must(most is not None and number < sections, 22)
+    count = min(most, extents - number * most)
+    end = at + 6 * count + 32
+    must(has_digest(page[:end]), 21)
+    must(1 <= version < GREATEST, 24)
+    records = [struct.unpack(">HI", page[at + 6 * k:at + 6 * k + 6]) for k in range(count)]
+    must(all(pointer <= pages for pointer, _ in records), 22)
+    must(not any(page[end:]), 23)
+    return extents, pages, sections, number, records
+
+
+def root(page):
+    """How many commands, and where the runs lie, oldest first."""
+    must(page[:3] == b"CSR", 20)
+    must(page[3:4] == b"1", 24)
+    version, commands, count = struct.unpack(">QQB", page[4:21])
+    must(count <= 4, 22)
+    end = 21 + 8 * count + 32
+    must(has_digest(page[:end]), 21)
+    must(1 <= version < GREATEST and commands < GREATEST, 24)
+    must(not any(page[end:]), 23)
+    return commands, [struct.unpack(">HHI", page[21 + 8 * k:29 + 8 * k]) for k in range(count)]
+
+
+def frame(pages, kind):
+    """The payload of a frame that begins where these bytes begin, which end with its extent."""
+    must(pages[:3] == b"CSF", 20)
+    must(pages[3:4] == b"1" and pages[4] == kind, 24)
+    length = struct.unpack(">I", pages[5:9])[0]
+    must(41 + length <= len(pages), 22)
+    payload = pages[41:41 + length]
+    must(hashlib.sha256(payload).digest() == pages[9:41], 21)
+    must(not any(pages[41 + length:-(-(41 + length) // PAGE) * PAGE]), 23)
+    return payload
+
+
+def run(payload):
+    """The places of each identifier; none where it was deleted."""
+    must(len(payload) >= 4, 22)
+    count = struct.unpack(">I", payload[:4])[0]
+    must(count >= 1 and len(payload) == 4 + 81 * count, 22)
+    entries, last = {}, b""
+    for at in range(4, len(payload), 81):
+        name, places = bytes(payload[at:at + 16]), payload[at + 16]
+        must(last < name, 25)
+        must(places <= 8, 22)
+        must(not any(payload[at + 17 + 8 * places:at + 81]), 23)
+        entries[name] = [struct.unpack(">HHI", payload[at + 17 + 8 * k:at + 25 + 8 * k]) for k in range(places)]
+        last = name
+    return entries
+
+
+class Store:
+    """The store that these bytes are. Raises `Unread` where it can't be opened."""
+
+    def __init__(self, image):
+        must(len(image) % PAGE == 0, 6)
+        must(len(image) >= 10 * PAGE, 43)
+        self.image = image
+        self.extents, self.pages, self.sections, first, records = section(self.page(0))
+        must(first == 0 and len(image) == PAGE * (1 + self.extents * self.pages + self.sections), 43)
+        self.records = list(records)
+        for number in range(1, self.sections):
+            *shape, found, records = section(self.page(1 + self.extents * self.pages + number))
+            must(shape == [self.extents, self.pages, self.sections] and found == number, 43)
+            self.records += records
+        self.commands, self.runs = root(self.page(1))
+        self.entries = {}
+        for place in self.runs:
+            must(self.is_there(place), 43)
+            self.entries.update(run(frame(self.rest(place), 1)))
+        must(len(self.entries) <= (PAGE * self.pages - 45) // 81, 43)
+        must(all(self.is_there(place) for places in self.entries.values() for place in places), 43)
+
+    def page(self, number):
+        return self.image[PAGE * number:PAGE * (number + 1)]
+
+    def is_there(self, place):
+        extent, page, generation = place
+        return extent < self.extents and page < self.records[extent][0] and generation == self.records[extent][1]
+
+    def rest(self, place):
+        """The pages of an extent from a place on."""
+        extent, page, _ = place
+        return self.image[PAGE * (2 + extent * self.pages + page):PAGE * (2 + (extent + 1) * self.pages)]
+
+    def chunks(self):
+        """Each chunk of each shard that is there, by rising identifiers."""
+        return [(name, number, place) for name, places in sorted(self.entries.items()) for number, place in enumerate(places)]
+
+    def why_not(self, place, kind):
+        """Why a frame can't be read, None where it can."""
+        try:
+            frame(self.rest(place), kind)
+        except Unread as why:
+            return why
+        return None
+
+    def damages(self):
+        """The lines of a scrub, and which shards are damaged."""
+        lines, names = [], []
+        for name, number, (extent, page, generation) in self.chunks():
+            why = self.why_not((extent, page, generation), 0)
+            if why is not None:
+                lines.append(f"shard {spelled(name)} chunk {number} at extent {extent} page {page} {why}")
+                names.append((spelled(name), str(why)))
+        for extent, page, generation in self.runs:
+            why = self.why_not((extent, page, generation), 1)
+            if why is not None:
+                lines.append(f"run at extent {extent} page {page} {why}")
+        lines.append(f"read {len(self.chunks())} chunks and {len(self.runs)} runs, {len(lines)} damaged")
+        return lines, names
+
+
+def spelled(name):
+    digits = name.hex()
+    return "-".join([digits[:8], digits[8:12], digits[12:16], digits[16:20], digits[20:]])
