@@ -27,8 +27,8 @@ Plays S J s (event ∷ events) t = (mid : Room) × Does S J s event mid × Plays
 abbrev pub example_shape : Shape
 example_shape = shape_of 6 2 1 8 1
 
--- two shards are put and staged; the first is put again, and the extent where they lay is swept: two chunks are moved, to one
--- extent that the sweep opens
+-- two shards are put and staged, and the extent where they lie is swept: two chunks are moved, to one extent that the sweep
+-- opens
 abbrev pub example_events : List Event
 example_events = Put 1 (1 ∷ []) ∷ Put 2 (1 ∷ []) ∷ Stage 0 1 1 ∷ BeginSweep 0 ∷ MoveOne ∷ MoveOne ∷ Retire 0 1 1 ∷ []
 
