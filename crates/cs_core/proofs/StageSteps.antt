@@ -49,8 +49,8 @@ module _ (S : Shape) (F : Formats) (s : State) where
   rooted_so w runs pointers v same number = record {
     beside = record { round_out = refl; left = refl; issued = refl; halted = refl; count = refl };
     commands = refl;
-    root = root_now w (s.count + length s.commands) runs (map_now s) pointers;
-    roots = ap (λ (rs : List Root). root_now w (s.count + length s.commands) runs (map_now s) pointers ∷ rs) same.roots;
+    root = root_now S w (s.count + length s.commands) runs (map_now s) pointers;
+    roots = ap (λ (rs : List Root). root_now S w (s.count + length s.commands) runs (map_now s) pointers ∷ rs) same.roots;
     version = number ∙ ap suc (sym same.root);
     counts = refl;
     persistent = same.persistent;

@@ -226,7 +226,8 @@ module _ (view : ℕ → List ℕ) (versions : List ℕ) (pages : ℕ) (written 
         let f = found_as m (record {
           runs_read = λ run has. (in_all RunIn (newest_first runs) runs_in run has).reads;
           table_passes = λ id. tt;
-          runs_pass = λ run has id. all_pass run.entries (in_all RunIn (newest_first runs) runs_in run has).entries id;
+          visible_pass = all_pass (entries_of (newest_first runs)) all_entries;
+          runs_pass = λ stand run has id. all_pass run.entries (in_all RunIn (newest_first runs) runs_in run has).entries id;
           holds = λ id l has. holds l (live_pass id l has);
           values = λ id. (value (lookup id (entries_of (newest_first runs))) (live_pass id)).1;
         }) in (m, f.0, f.1)

@@ -75,7 +75,8 @@ module _ (view : ℕ → List ℕ) (extents pages sections : ℕ) (is : IsGeomet
     found_read = found_as view versions pages (replicate extents (0, 0)) 1 0 [] read (λ id. None) (record {
       runs_read = λ run none. absurd none;
       table_passes = λ id. tt;
-      runs_pass = λ run none. absurd none;
+      visible_pass = λ id. tt;
+      runs_pass = λ stand run none. absurd none;
       holds = λ id l none. absurd none;
       values = λ id. refl;
     })

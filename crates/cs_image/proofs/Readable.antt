@@ -212,7 +212,7 @@ module _ (view : ℕ → List ℕ) (versions : List ℕ) (pages : ℕ) (written 
 
   entry_located : (run : Run) → run ∈ r.runs → (e : Entry) → e ∈ run.entries → (l : Place) → l ∈ e.locators → Located l
   entry_located run has e there = subst (AllPass (shape x) (formats_of (shape x)) view r.pointers r.generations)
-      (ascending_lookup run.entries e (tests_of run.entries (r.runs_fit run has)).ascending there) (r.gives.runs_pass run has e.id)
+      (ascending_lookup run.entries e (tests_of run.entries (r.runs_fit run has)).ascending there) (r.gives.runs_pass refl run has e.id)
 
   pub has_run : (run : Run) → run ∈ r.runs → HasRunAt x view (as_locator run.place) (map as_entry run.entries)
   has_run run has =

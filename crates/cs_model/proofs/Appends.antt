@@ -1,5 +1,5 @@
 -- A frame is appended.
-use Rattle.std.proofs.Common.{Option, ◌≡◌, ◌≢◌, inl, inr, ⊎_elim, ℕ, suc, ◌+◌, ◌<◌, ◌≤◌, true, false, List, [], ◌∷◌, length, le_of_eq, le_trans, true≢false, refl, sym, ap, ◌∙◌, subst, arith}
+use Rattle.std.proofs.Common.{Option, ◌≡◌, ◌≢◌, inl, inr, ⊎_elim, ℕ, suc, ◌+◌, ◌<◌, ◌≤◌, Bool, true, false, if◌then◌else◌, List, [], ◌∷◌, length, le_of_eq, le_trans, true≢false, refl, sym, ap, ◌∙◌, subst, arith}
 use Rattle.std.proofs.lemmas.Bool.{cases_eq, cases_lt}
 use Rattle.cs_model.specs.Append.{Append, AppendAll, IsNeed, appended, stage_pages, with_open}
 use Rattle.cs_model.specs.Cut.{page_in}
@@ -8,7 +8,7 @@ use Rattle.cs_model.specs.Element.{A_root, A_superblock, A_write, Element, Locat
 use Rattle.cs_model.specs.Extents.{Purpose, open_after}
 use Rattle.cs_model.specs.Formats.{Formats, Stand}
 use Rattle.cs_model.specs.Lists.{with, ◌∈◌}
-use Rattle.cs_model.specs.Machine.{StagePage, StageSuperblock, World, everything, happens}
+use Rattle.cs_model.specs.Machine.{StagePage, StageSuperblock, World, everything, happens, superblock_now}
 use Rattle.cs_model.specs.Recovery.{RootGives}
 use Rattle.cs_model.specs.Round.{IsMember}
 use Rattle.cs_model.specs.Safe.{Safe, Settled}
@@ -86,7 +86,8 @@ module _ (S : Shape) (F : Formats) (opening : Opening) (shape : IsShape S) (open
           inl refl,
           sym same,
           sym (with_same u.superblocks (S.section e) (suc (u.superblocks (S.section e))) (S.section e) refl),
-          le_of_eq (with_same u.behind (S.section e) u.written (S.section e) refl),
+          λ first. le_of_eq (with_same u.behind (S.section e) u.written (S.section e) refl
+              ∙ ap (λ (b : Bool). if b then u.written else 0) (sym first)),
         );
         pages = λ x has at. subst (λ (n : ℕ). x.number ≤ n)
             (sym (with_same u.behind (S.section e) u.written (S.section d) same)) (g.safe.writes_below x has);
@@ -113,8 +114,8 @@ module _ (S : Shape) (F : Formats) (opening : Opening) (shape : IsShape S) (open
               last.3 ∙ ap (λ (f : ℕ → ℕ). f last.0.section) (sym g.latest_superblocks)
                   ∙ sym (with_other u.superblocks (S.section e)
                   (suc (u.superblocks (S.section e))) last.0.section apart),
-              subst (λ (n : ℕ). n ≤ last.0.writes) (ap (λ (f : ℕ → ℕ). f last.0.section) (sym g.behind)
-                  ∙ sym (with_other u.behind (S.section e) u.written last.0.section apart)) last.4,
+              λ first. subst (λ (n : ℕ). n ≤ last.0.writes) (ap (λ (f : ℕ → ℕ). f last.0.section) (sym g.behind)
+                  ∙ sym (with_other u.behind (S.section e) u.written last.0.section apart)) (last.4 first),
             );
             pages = λ x has at. subst (λ (n : ℕ). x.number ≤ n) (ap (λ (f : ℕ → ℕ). f (S.section d)) (sym g.behind)
                 ∙ sym (with_other u.behind (S.section e) u.written (S.section d) not))
@@ -133,15 +134,7 @@ module _ (S : Shape) (F : Formats) (opening : Opening) (shape : IsShape S) (open
     ]
       where
         new : Superblock
-        new = record {
-          format = S.format;
-          section = S.section e;
-          version = suc (u.superblocks (S.section e));
-          pointers = u.extents.pointer;
-          generations = u.extents.generation;
-          writes = u.written;
-          root = need;
-        }
+        new = superblock_now S u (S.section e) need
 
     pub framed : Framed w (appended S w e need bs) e (w.extents.pointer e) bs
     unfolding u v

@@ -5,7 +5,7 @@ use Rattle.std.proofs.lemmas.Bool.{cases_eq, cases_Bool}
 use Rattle.cs_model.proofs.Parts.{each}
 use Rattle.cs_model.proofs.Counting.{names_le, ascending_names, ascending_lookup, lookup_here, lookup_there}
 use Rattle.cs_model.proofs.Roots.{RootFits}
-use Rattle.cs_model.proofs.Gives.{lookup_append}
+use Rattle.cs_model.proofs.Gives.{front_passes, lookup_append}
 use Rattle.cs_model.specs.Device.{IsShape, Page, Shape}
 use Rattle.cs_model.specs.Disk.{written}
 use Rattle.cs_model.specs.Element.{Entry, Locator, Map, Run}
@@ -89,13 +89,13 @@ module _ (S : Shape) (F : Formats) (shape : IsShape S) (format : IsFormat S F) w
 
   -- the next root of these runs
   fits : (s : State) (runs : List Run) (img : ℕ → Page) (p : ℕ → ℕ) (m : Map) → Sound S F s
-      → Gives S F s.opening img p s.world.extents.generation [] runs m
+      → Gives S F s.opening img p s.world.extents.generation [] runs m → length runs ≤ 4
       → InBounds S (suc s.world.root) (s.count + length s.commands) (length runs) (entries_of runs)
       → ((run : Run) → run ∈ runs → F.fits_run run.entries ≡ true) → RootFits S F s runs
-  fits s runs img p m sound gives bounds all = (
+  fits s runs img p m sound gives few bounds all = (
     format.root_fits (suc s.world.root) (s.count + length s.commands)
         (places runs) bounds.some_version bounds.version_fits bounds.commands_fit
-        (le_trans (le_of_eq (places_length runs)) bounds.few_runs)
+        (le_trans (le_of_eq (places_length runs)) few)
         (places_in runs (λ run has. in_range s img p run.place sound (gives.runs_read run has).passes)),
     all,
     bounds,
@@ -109,12 +109,12 @@ module _ (S : Shape) (F : Formats) (shape : IsShape S) (format : IsFormat S F) w
       → RootFits S F s (record { place = l; entries = entries } ∷ s.runs)
   stage_fits s l entries sound b root few some order same gives =
       fits s (record { place = l; entries = entries } ∷ s.runs) (newest_page s) s.world.extents.pointer
-      (map_now s) sound gives
+      (map_now s) sound gives few
       (record {
         some_version = omega arith;
         version_fits = root;
         commands_fit = b.bounds.commands_fit;
-        few_runs = few;
+        few_runs = le_trans few shape.enough_runs;
         named = le_trans (names_le (entries ++ entries_of s.runs) (s.table ++ entries_of s.runs)
             (λ id is. ap (λ (o : Option (List Locator)). is_some o) (sym (both id)) ∙ is)) b.bounds.named;
         chunks_fit = λ id. subst (λ (o : Option (List Locator)). length (live o) ≤ S.most_chunks) (sym (both id))
@@ -125,7 +125,7 @@ module _ (S : Shape) (F : Formats) (shape : IsShape S) (format : IsFormat S F) w
       (run_list s _ _ _ (s.table ++ entries_of s.runs) entries
       (newest_page s) s.world.extents.pointer sound b.bounds some order
       (λ id ls at. lookup_front id s.table (entries_of s.runs) ls (sym (same id) ∙ at))
-      (λ id. gives.runs_pass (record { place = l; entries = entries }) (inl refl) id)))
+      (λ id. front_passes S F shape format _ _ _ id entries (entries_of s.runs) (gives.visible_pass id))))
       b.runs_fit)
     where
       both : (id : ℕ) → lookup id (entries ++ entries_of s.runs) ≡ lookup id (s.table ++ entries_of s.runs)
@@ -139,11 +139,12 @@ module _ (S : Shape) (F : Formats) (shape : IsShape S) (format : IsFormat S F) w
       → RootFits S F s (record { place = l; entries = entries } ∷ [])
   merged_fits s l entries q sound b root some order same gives =
       fits s (record { place = l; entries = entries } ∷ []) (newest_page s) q (map_now s) sound gives
+      (omega arith)
       (record {
         some_version = omega arith;
         version_fits = root;
         commands_fit = b.bounds.commands_fit;
-        few_runs = omega arith;
+        few_runs = le_trans (omega arith) shape.enough_runs;
         named = le_trans (names_le (entries ++ []) (index_now s)
             (λ id is. (let at = some_named (lookup id (entries ++ [])) is in
             ap (λ (o : Option (List Locator)). is_some o) (in_index id at.0 (sym (whole id) ∙ at.1)))))
@@ -153,7 +154,7 @@ module _ (S : Shape) (F : Formats) (shape : IsShape S) (format : IsFormat S F) w
       (each (λ (run : Run). F.fits_run run.entries ≡ true) _ []
       (format.run_fits entries
       (run_list s _ _ _ (index_now s) entries (newest_page s) q sound b.bounds some order in_index
-      (λ id. gives.runs_pass (record { place = l; entries = entries }) (inl refl) id)))
+      (λ id. front_passes S F shape format _ _ _ id entries [] (gives.visible_pass id))))
       (λ r none. absurd none))
     where
       append_none : (xs : List Entry) → xs ++ [] ≡ xs
@@ -173,7 +174,7 @@ module _ (S : Shape) (F : Formats) (shape : IsShape S) (format : IsFormat S F) w
 
   pub empty_fits : (s : State) (q : ℕ → ℕ) → Sound S F s → Bounded S F s → suc s.world.root ≤ S.greatest_number
       → Gives S F s.opening (newest_page s) q s.world.extents.generation [] [] (map_now s) → RootFits S F s []
-  empty_fits s q sound b root gives = fits s [] (newest_page s) q (map_now s) sound gives
+  empty_fits s q sound b root gives = fits s [] (newest_page s) q (map_now s) sound gives (omega arith)
       (record {
         some_version = omega arith;
         version_fits = root;

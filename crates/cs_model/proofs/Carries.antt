@@ -110,7 +110,8 @@ module _ (S : Shape) (F : Formats) (opening : Opening) (img old : ℕ → Page) 
   carry table runs m gives = record {
     runs_read = λ run has. carry_reads run.place _ (gives.runs_read run has);
     table_passes = λ id. carry_pass (lookup id table) (gives.table_passes id);
-    runs_pass = λ run has id. carry_pass (lookup id run.entries) (gives.runs_pass run has id);
+    visible_pass = λ id. carry_pass (lookup id (table ++ entries_of runs)) (gives.visible_pass id);
+    runs_pass = λ stand run has id. carry_pass (lookup id run.entries) (gives.runs_pass stand run has id);
     holds = λ id l has. carry_holds l (gives.holds id l has);
     values = λ id. carry_value (lookup id (_ ++ entries_of runs)) (m id) (gives.values id);
   }

@@ -37,8 +37,12 @@ module _ (S : Shape) (log : Log) (opened : ℕ → Page) (X : Cut) (r : Root) (h
       let u_section : u.section ≡ section_of S h.page = needed.2 in
       let u_version : u.version ≡ r.superblocks u.section = needed.3 in
       let within : r.superblocks u.section ≤ X.superblocks u.section = needs_met u.section in
-      let bound : w.number ≤ u.writes = le_trans before (subst (λ (j : ℕ). r.writes j ≤ u.writes) u_section needed.4) in
-      closed.superblock_writes u w needed.1 has (omega arith) (ap (section_of S) at ∙ sym u_section) bound
+      let counted : w.number ≤ r.writes u.section = subst (λ (j : ℕ). w.number ≤ r.writes j) (sym u_section) before in
+      ⊎_elim
+      (λ (by_u : r.writes u.section ≤ u.writes). closed.superblock_writes u w needed.1 has (omega arith)
+      (ap (section_of S) at ∙ sym u_section) (le_trans counted by_u))
+      (λ (by_r : r.writes u.section ≤ r.pages). closed.root_writes r w is has (le_of_eq greatest)
+      (le_trans counted by_r)) needed.4
 
   has_not_after : (w : Write) → w ∈ log.writes → w.page ≡ h.page → r.writes (section_of S h.page) < w.number
       → X.writes w.number ≡ false

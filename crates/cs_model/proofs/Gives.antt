@@ -51,6 +51,10 @@ module _ (S : Shape) (F : Formats) (shape : IsShape S) (format : IsFormat S F) w
     gives_set table runs m new id ls gives passes hold value same = record {
       runs_read = gives.runs_read;
       runs_pass = gives.runs_pass;
+      visible_pass = λ x. elim (cases_eq id x) [
+        | inl is ↦ let test : (id == x) ≡ true = eq-eqb id x is in rw test passes
+        | inr not ↦ let test : (id == x) ≡ false = ne_eqb id x not in rw test (gives.visible_pass x)
+      ];
       holds = λ x l. elim (cases_eq id x) [
         | inl is ↦ let test : (id == x) ≡ true = eq-eqb id x is in rw test (hold l)
         | inr not ↦ let test : (id == x) ≡ false = ne_eqb id x not in rw test (gives.holds x l)
@@ -78,9 +82,11 @@ module _ (S : Shape) (F : Formats) (shape : IsShape S) (format : IsFormat S F) w
       runs_read = each (λ (r : Run). Reads S F opening img p g r.place (F.frame RunFrame (F.run r.entries))) _ _
           reads gives.runs_read;
       table_passes = λ id. tt;
-      runs_pass = each (λ (r : Run). (id : ℕ) → AllPass S F img p g (lookup id r.entries)) _ _
+      visible_pass = λ id. subst (λ (o : Option (List Locator)). AllPass S F img p g o)
+          (sym (lookup_append id entries table (entries_of runs) (same id))) (gives.visible_pass id);
+      runs_pass = λ stand. each (λ (r : Run). (id : ℕ) → AllPass S F img p g (lookup id r.entries)) _ _
           (λ id. subst (λ (o : Option (List Locator)). AllPass S F img p g o) (sym (same id))
-          (gives.table_passes id)) gives.runs_pass;
+          (gives.table_passes id)) (gives.runs_pass stand);
       holds = λ id k has. gives.holds id k
           (subst (λ (o : Option (List Locator)). k ∈ live o)
           (lookup_append id entries table (entries_of runs) (same id)) has);
@@ -154,25 +160,12 @@ module _ (S : Shape) (F : Formats) (shape : IsShape S) (format : IsFormat S F) w
   pass_if img p g true ls o r on a = a
   pass_if img p g false ls o r on a = on a
 
-  pass_append : (img : ℕ → Page) (p g : ℕ → ℕ) (id : ℕ) (xs ys : List Entry) → AllPass S F img p g (lookup id xs)
-      → AllPass S F img p g (lookup id ys) → AllPass S F img p g (lookup id (xs ++ ys))
-  pass_append img p g id [] ys a b = b
-  pass_append img p g id (x ∷ xs) ys a b = pass_if img p g (x.id == id) x.locators _ _
-      (λ old. pass_append img p g id xs ys old b) a
-
-  pass_runs : (img : ℕ → Page) (p g : ℕ → ℕ) (id : ℕ) (runs : List Run)
-      → ((run : Run) → run ∈ runs → AllPass S F img p g (lookup id run.entries))
-      → AllPass S F img p g (lookup id (entries_of runs))
-  pass_runs img p g id [] all = tt
-  pass_runs img p g id (run ∷ runs) all = pass_append img p g id run.entries (entries_of runs) (all run (inl refl))
-      (pass_runs img p g id runs (λ r has. all r (inr has)))
-
-  -- each locator of what an identifier has passes
-  pub entry_passes : {opening : Opening}
-      → (img : ℕ → Page) (p g : ℕ → ℕ) (table : List Entry) (runs : List Run) (m : Map)
-      → Gives S F opening img p g table runs m → (id : ℕ) → AllPass S F img p g (lookup id (table ++ entries_of runs))
-  entry_passes img p g table runs m gives id = pass_append img p g id table (entries_of runs)
-      (gives.table_passes id) (pass_runs img p g id runs (λ run has. gives.runs_pass run has id))
+  -- what the first entries name passes where it does among all
+  pub front_passes : (img : ℕ → Page) (p g : ℕ → ℕ) (id : ℕ) (xs ys : List Entry)
+      → AllPass S F img p g (lookup id (xs ++ ys)) → AllPass S F img p g (lookup id xs)
+  front_passes img p g id [] ys all = tt
+  front_passes img p g id (x ∷ xs) ys all = pass_if img p g (x.id == id) x.locators _ _
+      (λ rest. front_passes img p g id xs ys rest) all
 
   none_value : (opening : Opening) → (img : ℕ → Page) (p g : ℕ → ℕ) (o : Option (List Locator)) (v : Option Content)
       → live o ≡ [] → Value S F opening img p g o v → v ≡ None
@@ -192,9 +185,10 @@ module _ (S : Shape) (F : Formats) (shape : IsShape S) (format : IsFormat S F) w
     runs_read = each (λ (r : Run). Reads S F opening img q g r.place (F.frame RunFrame (F.run r.entries))) _ []
         (reads_under opening img p q g l (F.frame RunFrame (F.run entries)) here reads) (λ r none. absurd none);
     table_passes = λ id. tt;
-    runs_pass = each (λ (r : Run). (id : ℕ) → AllPass S F img q g (lookup id r.entries)) _ []
-        (λ id. subst (λ (o : Option (List Locator)). AllPass S F img q g o) (sym (same id))
-        (live_pass img p q g _ (agree id) (entry_passes img p g table runs m gives id))) (λ r none. absurd none);
+    visible_pass = λ id. subst (λ (o : Option (List Locator)). AllPass S F img q g o) (sym (lookup_nil id entries))
+        (merged_pass id);
+    runs_pass = λ stand. each (λ (r : Run). (id : ℕ) → AllPass S F img q g (lookup id r.entries)) _ []
+        merged_pass (λ r none. absurd none);
     holds = λ id k has.
         (let old : k ∈ live (lookup id (table ++ entries_of runs)) = in_live
         (lookup id (table ++ entries_of runs)) k
@@ -207,6 +201,10 @@ module _ (S : Shape) (F : Formats) (shape : IsShape S) (format : IsFormat S F) w
       lookup_nil : (id : ℕ) (xs : List Entry) → lookup id (xs ++ []) ≡ lookup id xs
       lookup_nil id xs = ap (lookup id) (append-nil xs)
 
+      merged_pass : (id : ℕ) → AllPass S F img q g (lookup id entries)
+      merged_pass id = subst (λ (o : Option (List Locator)). AllPass S F img q g o) (sym (same id))
+          (live_pass img p q g _ (agree id) (gives.visible_pass id))
+
   pub gives_nothing : {opening : Opening}
       → (img : ℕ → Page) (p q g : ℕ → ℕ) (table : List Entry) (runs : List Run) (m : Map)
       → Gives S F opening img p g table runs m
@@ -214,7 +212,8 @@ module _ (S : Shape) (F : Formats) (shape : IsShape S) (format : IsFormat S F) w
   gives_nothing {opening} img p q g table runs m gives none = record {
     runs_read = λ r has. absurd has;
     table_passes = λ id. tt;
-    runs_pass = λ r has. absurd has;
+    visible_pass = λ id. tt;
+    runs_pass = λ stand r has. absurd has;
     holds = λ id l has. absurd has;
     values = λ id. none_value opening img p g _ (m id) (none id) (gives.values id);
   }

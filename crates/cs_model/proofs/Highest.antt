@@ -94,8 +94,10 @@ module _ (S : Shape) (F : Formats) {opening : Opening} (opened : ℕ → Page) (
         ]
       ]
 
-  root_ready : (r : Root) → r ∈ roots_of w.elements → RootReady S w r ⊎ (RootReady S w r → ⊥)
-  root_ready r has = ⊎_elim
+  sections_ready : (r : Root) → r ∈ roots_of w.elements
+      → ((j : ℕ) → r.superblocks j ≤ w.persistent.superblocks j)
+      ⊎ (((j : ℕ) → r.superblocks j ≤ w.persistent.superblocks j) → ⊥)
+  sections_ready r has = ⊎_elim
       (λ (all : (j : ℕ) → j < S.sections → r.superblocks j ≤ w.persistent.superblocks j). inl
       (λ j. elim (cases_lt j S.sections) [
         | inl lt ↦ all j lt
@@ -110,6 +112,29 @@ module _ (S : Shape) (F : Formats) {opening : Opening} (opened : ℕ → Page) (
       (λ found. inr (λ ready. let le : r.superblocks found.0 ≤ w.persistent.superblocks found.0 = ready found.0 in
       let lt : w.persistent.superblocks found.0 < r.superblocks found.0 = found.1 in omega arith))
       (below r.superblocks w.persistent.superblocks S.sections)
+
+  pages_ready : (r : Root)
+      → ((x : Write) → x ∈ writes_of w.elements → x.number ≤ r.pages → w.persistent.writes x.number ≡ true)
+      ⊎ (((x : Write) → x ∈ writes_of w.elements → x.number ≤ r.pages → w.persistent.writes x.number ≡ true) → ⊥)
+  pages_ready r = ⊎_elim (λ all. inl all) (λ some. inr (λ ready. some.2 (λ bound. ready some.0 some.1 bound)))
+      (all_or_some (λ (x : Write). x.number ≤ r.pages → w.persistent.writes x.number ≡ true) test
+      (writes_of w.elements))
+    where
+      test : (x : Write) → (x.number ≤ r.pages → w.persistent.writes x.number ≡ true)
+          ⊎ ((x.number ≤ r.pages → w.persistent.writes x.number ≡ true) → ⊥)
+      test x = elim (cases_Bool (w.persistent.writes x.number)) [
+        | inl there ↦ inl (λ bound. there)
+        | inr not ↦ elim (cases_lt r.pages x.number) [
+          | inl later ↦ inl (λ bound. absurd (omega arith))
+          | inr bound ↦ inr (λ all. true≢false (sym (all bound) ∙ not))
+        ]
+      ]
+
+  root_ready : (r : Root) → r ∈ roots_of w.elements → RootReady S w r ⊎ (RootReady S w r → ⊥)
+  root_ready r has = ⊎_elim
+      (λ sections. ⊎_elim (λ pages. inl (sections, pages)) (λ not. inr (λ ready. not ready.1)) (pages_ready r))
+      (λ not. inr (λ ready. not ready.0))
+      (sections_ready r has)
 
   -- the greatest ready version of a section
   pub record HighestSuperblock (us : List Superblock) (j n : ℕ) : Type 0 where

@@ -79,7 +79,10 @@ module _ (S : Shape) (F : Formats) (shape : IsShape S) (format : IsFormat S F) w
             (le_trans ver (le_of_eq (sym new.3)))).1))) (is.only_superblocks u.section);
         roots = λ r has ver. ⊎_elim (λ same. inl (le_trans ver (le_of_eq same)))
             (λ new. inr (λ j. le_trans (safe.nested_roots r new.0 has new.1 (le_trans ver (le_of_eq (sym new.2))) j)
-            (new.3 j))) is.only_root;
+            (new.3.0 j))) is.only_root;
+        root_writes = λ r x has has_x ver bound. ⊎_elim (λ same. inl (le_trans ver (le_of_eq same)))
+            (λ new. inr (new.3.1 x has_x (le_trans bound
+            (safe.nested_pages r new.0 has new.1 (le_trans ver (le_of_eq (sym new.2))))))) is.only_root;
       }
 
   pub keeps_take : (s t : State) (members : List Element) → Sound S F s → Does S F s Begin (Begun members) t

@@ -50,6 +50,7 @@ pub mod Staying
 pub mod SuperblockMoves
 pub mod Taking
 pub mod Tests
+pub mod TwoRounds
 pub mod Unique
 pub mod Waiting
 pub mod Wants

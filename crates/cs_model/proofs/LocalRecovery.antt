@@ -1,5 +1,5 @@
 -- Recovery looks at the pages of the store alone.
-use Rattle.std.proofs.Common.{◌≡◌, inl, inr, ⊎_elim, ℕ, zero, suc, ◌+◌, ◌-◌, ◌*◌, ◌<◌, ◌≤◌, Bool, true, false, nat_lt, ◌==◌, ◌&&◌, List, [], ◌∷◌, ◌++◌, Option, Some, None, if◌then◌else◌, mul-le-mul_right, ne_eqb, refl, sym, ap, ap₂, ◌∙◌, subst, arith}
+use Rattle.std.proofs.Common.{◌≡◌, inl, inr, ⊎_elim, ℕ, zero, suc, ◌+◌, ◌-◌, ◌*◌, ◌<◌, ◌≤◌, true, false, nat_lt, ◌==◌, ◌&&◌, List, [], ◌∷◌, ◌++◌, Option, Some, None, if◌then◌else◌, mul-le-mul_right, ne_eqb, refl, sym, ap, ap₂, ◌∙◌, subst, arith}
 use Rattle.std.proofs.lemmas.Bool.{cases_eq}
 use Rattle.cs_model.specs.Device.{Inside, Page, Shape}
 use Rattle.cs_model.specs.Element.{Content, Entry, Locator, Map, Opening, Run}
@@ -11,34 +11,11 @@ use Rattle.cs_model.specs.Local.{AgreeBelow, LiesBelow}
 use Rattle.cs_model.specs.Recovery.{Recovers, RecoversBut}
 use Rattle.cs_model.proofs.Carries.{carry}
 
--- what each locator has that an identifier has in one list or in the other
-live_if : (P : Locator → Type 0) (b : Bool) (ls : List Locator) (o r : Option (List Locator))
-    → (((l : Locator) → l ∈ live o → P l) → (l : Locator) → l ∈ live r → P l)
-    → ((l : Locator) → l ∈ live (if b then Some ls else o) → P l) → (l : Locator) → l ∈ live (if b then Some ls else r)
-    → P l
-live_if P true ls o r on all = all
-live_if P false ls o r on all = on all
-
-live_append : (P : Locator → Type 0) (id : ℕ) (xs ys : List Entry) → ((l : Locator) → l ∈ live (lookup id xs) → P l)
-    → ((l : Locator) → l ∈ live (lookup id ys) → P l) → (l : Locator) → l ∈ live (lookup id (xs ++ ys)) → P l
-live_append P id [] ys a b = b
-live_append P id (x ∷ xs) ys a b = live_if P (x.id == id) x.locators (lookup id xs) (lookup id (xs ++ ys))
-    (λ old. live_append P id xs ys old b) a
-
-live_runs : (P : Locator → Type 0) (id : ℕ) (runs : List Run)
-    → ((run : Run) → run ∈ runs → (l : Locator) → l ∈ live (lookup id run.entries) → P l)
-    → (l : Locator) → l ∈ live (lookup id (entries_of runs)) → P l
-live_runs P id [] all = λ l none. absurd none
-live_runs P id (run ∷ runs) all = live_append P id run.entries (entries_of runs) (all run (inl refl))
-    (live_runs P id runs (λ r has. all r (inr has)))
-
--- each of them passes
+-- each locator that an identifier has passes
 pub live_passes : (S : Shape) (F : Formats) (opening : Opening) (img : ℕ → Page) (p g : ℕ → ℕ) (table : List Entry)
     (runs : List Run) (m : Map) → Gives S F opening img p g table runs m → (id : ℕ) (l : Locator)
     → l ∈ live (lookup id (table ++ entries_of runs)) → Passes S F img p g l
-live_passes S F opening img p g table runs m gives id = live_append (Passes S F img p g) id table (entries_of runs)
-    (passes (lookup id table) (gives.table_passes id))
-    (live_runs (Passes S F img p g) id runs (λ run has. passes (lookup id run.entries) (gives.runs_pass run has id)))
+live_passes S F opening img p g table runs m gives id = passes (lookup id (table ++ entries_of runs)) (gives.visible_pass id)
   where
     passes : (o : Option (List Locator)) → AllPass S F img p g o → (l : Locator) → l ∈ live o → Passes S F img p g l
     passes None pass l none = absurd none
@@ -83,6 +60,7 @@ module _ (S : Shape) (F : Formats) (d h : Opening) (img : ℕ → Page) (p g : �
   gives_by table runs m gives = record {
     runs_read = λ run has. reads_by run.place _ (gives.runs_read run has);
     table_passes = gives.table_passes;
+    visible_pass = gives.visible_pass;
     runs_pass = gives.runs_pass;
     holds = λ id l has. holds_by l (live_passes S F d img p g table runs m gives id l has) (gives.holds id l has);
     values = λ id. value_by (lookup id (table ++ entries_of runs)) (m id)

@@ -28,6 +28,9 @@ module _ (S : Shape) (Good : Root → (ℕ → Page) → Type 0) (frozen : ℕ �
         each _ _ _ (λ bound. absurd (let old : u.writes ≤ w.written = (s.superblocks_below u has).1 in omega arith))
             (s.earlier r u is has ver q up).1,
       );
+      earlier_pages = λ r x is. each _ _ _
+          (λ bound. absurd (let old : r.pages ≤ w.written = s.pages_below r is in omega arith))
+          (λ y. s.earlier_pages r y is) x;
     };
     reads = record {
       good = λ r is. local r _ _ (λ h held. skips r is h.page) (λ d i fz some inside. skips r is (S.address d i))
@@ -80,6 +83,7 @@ module _ (S : Shape) (Good : Root → (ℕ → Page) → Type 0) (frozen : ℕ �
         (λ y has. let old : y.number ≤ w.written = s.writes_below y has in omega arith),
         s.writes_order,
       );
+      writes_from_one = each _ _ _ (omega arith) s.writes_from_one;
       writes_below = each _ _ _ (le_refl _)
           (λ x has. let old : x.number ≤ w.written = s.writes_below x has in omega arith);
       frames = each _ _ _ next.1 s.frames;
@@ -96,8 +100,10 @@ module _ (S : Shape) (Good : Root → (ℕ → Page) → Type 0) (frozen : ℕ �
         (s.roots_below r is).1,
         λ j. (let old : r.writes j ≤ w.written = (s.roots_below r is).2 j in omega arith),
       );
+      pages_below = λ r is. (let old : r.pages ≤ w.written = s.pages_below r is in omega arith);
       behind_below = λ j. (let old : w.behind j ≤ w.written = s.behind_below j in omega arith);
     };
+    by_rule = s.by_rule;
     needs = record {
       write_roots = each _ _ _ (s.reset_roots (S.extent p)) s.write_roots;
       superblock_roots = s.superblock_roots;
@@ -114,6 +120,9 @@ module _ (S : Shape) (Good : Root → (ℕ → Page) → Type 0) (frozen : ℕ �
             (λ v sec bound. absurd (let old : u.writes ≤ w.written = (s.superblocks_below u has).1 in omega arith))
             (λ y. s.closed.superblock_writes u y has) x;
         root_superblocks = s.closed.root_superblocks;
+        root_writes = λ r x is. each _ _ _
+            (λ v bound. absurd (let old : r.pages ≤ w.written = s.pages_below r is in omega arith))
+            (λ y. s.closed.root_writes r y is) x;
       };
       exact = still_exact s.exact (λ u has. has) (λ r has. has);
       round_exact = still_exact s.round_exact (λ u has. has) (λ r has. has);
@@ -129,6 +138,9 @@ module _ (S : Shape) (Good : Root → (ℕ → Page) → Type 0) (frozen : ℕ �
             (λ v sec bound. absurd (let old : u.writes ≤ w.written = (s.superblocks_below u has).1 in omega arith))
             (λ y. s.ready.superblock_writes u y has) x;
         roots = s.ready.roots;
+        root_writes = λ r x is. each _ _ _
+            (λ v bound. absurd (let old : r.pages ≤ w.written = s.pages_below r is in omega arith))
+            (λ y. s.ready.root_writes r y is) x;
       };
     };
   }

@@ -15,7 +15,6 @@ use Rattle.cs_model.specs.State.{MoveOne, Moved, State, after_all, index_now, ma
 use Rattle.std.specs.Prelude.{is_some}
 use Rattle.cs_model.proofs.Bounds.{not_first, not_found, bounded_same, bounded_entry}
 use Rattle.cs_model.proofs.Carries.{carry_reads, carry_value, carry_pass, carry_holds}
-use Rattle.cs_model.proofs.Gives.{entry_passes}
 use Rattle.cs_model.proofs.Frames.{added}
 use Rattle.cs_model.proofs.Roots.{moved_entry}
 use Rattle.cs_model.proofs.Commands.{same_index, both, in_room, in_number}
@@ -115,7 +114,7 @@ module _ (S : Shape) (F : Formats) (shape : IsShape S) (format : IsFormat S F) w
       let value = carry_value S F s.opening _ _ _ _ _ _ a.carries a.still (lookup id (index_now s)) (map_now s id)
       (sound.gives.values id) in
       let pass = carry_pass S F s.opening _ _ _ _ _ _ a.carries a.still (lookup id (index_now s))
-      (entry_passes S F shape format _ _ _ s.table s.runs (map_now s) sound.gives id) in
+      (sound.gives.visible_pass id) in
       let fresh : Reads S F s.opening (newest_page mid) mid.world.extents.pointer mid.world.extents.generation new
       (F.frame ChunkFrame payload) =
       subst (λ (o : Opening). Reads S F o

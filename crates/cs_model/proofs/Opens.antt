@@ -100,12 +100,13 @@ module _ (S : Shape) (F : Formats) (shape : IsShape S) (img : ℕ → Page) (n :
               there S.sections (S.section e) (shape.section e),
               refl,
               refl,
-              le_refl _,
+              inl (le_refl _),
             ));
         earlier = λ r u is has ver q up. (
           subst (λ (k : ℕ). k ≤ q) (sym (root_zero u has)) (omega arith),
           λ x none. absurd (no_write x none),
         );
+        earlier_pages = λ r x is none. absurd (no_write x none);
       };
       reads = record {
         good = only_root _
@@ -129,6 +130,7 @@ module _ (S : Shape) (F : Formats) (shape : IsShape S) (img : ℕ → Page) (n :
       };
       writes_rise = record {
         writes_order = subst (λ (ws : List Write). Descends WriteBefore ws) (sym (no_writes S.sections)) tt;
+        writes_from_one = λ x none. absurd (no_write x none);
         writes_below = λ x none. absurd (no_write x none);
         frames = λ x none. absurd (no_write x none);
       };
@@ -152,12 +154,18 @@ module _ (S : Shape) (F : Formats) (shape : IsShape S) (img : ℕ → Page) (n :
           subst (λ (rs : List Root). Descends RootBefore rs) (sym (no_roots S.sections)) tt,
         );
         nested_roots = λ r q is_r is_q ver j. le_of_eq (only r is_r j ∙ sym (only q is_q j));
+        nested_pages = λ r q is_r is_q ver. le_of_eq (pages r is_r ∙ sym (pages q is_q));
         counts = λ r q is_r is_q ver. le_of_eq (count r is_r ∙ sym (count q is_q));
       };
       below = record {
         superblocks_below = λ u has. (le_of_eq (version_is u has), le_of_eq (writes_zero u has));
         roots_below = only_root _ (le_refl _, (λ j. le_refl _), (λ j. le_refl _));
+        pages_below = λ r is. le_of_eq (pages r is);
         behind_below = λ j. le_refl _;
+      };
+      by_rule = record {
+        no_root_pages = λ first. pages;
+        no_superblock_writes = λ later. writes_zero;
       };
       needs = record {
         write_roots = λ x none. absurd (no_write x none);
@@ -175,6 +183,7 @@ module _ (S : Shape) (F : Formats) (shape : IsShape S) (img : ℕ → Page) (n :
             superblock_root = λ u has ver. subst (λ (k : ℕ). k ≤ g.version) (sym (root_zero u has)) (omega arith);
             superblock_writes = λ u w has none. absurd (no_write w none);
             root_superblocks = only_root _ (λ ver j. le_refl _);
+            root_writes = λ r x is none. absurd (no_write x none);
           })
           (record {
             superblock = superblock_read S F img n m g;
@@ -193,7 +202,7 @@ module _ (S : Shape) (F : Formats) (shape : IsShape S) (img : ℕ → Page) (n :
         there S.sections (S.section e) (shape.section e),
         refl,
         refl,
-        le_refl _,
+        λ first. le_refl _,
       );
       pages = λ x none. absurd (no_write x none);
       current = λ u has sec ver. inl (
@@ -230,6 +239,10 @@ module _ (S : Shape) (F : Formats) (shape : IsShape S) (img : ℕ → Page) (n :
       only : (r : Root) → r ∈ (root_read S F img n m g ∷ roots_of (superblocks_read S F img n m g S.sections))
           → (j : ℕ) → r.superblocks j ≡ g.versions j
       only = only_root _ (λ j. refl)
+
+      pages : (r : Root) → r ∈ (root_read S F img n m g ∷ roots_of (superblocks_read S F img n m g S.sections))
+          → r.pages ≡ 0
+      pages = only_root _ refl
 
       count : (r : Root) → r ∈ (root_read S F img n m g ∷ roots_of (superblocks_read S F img n m g S.sections))
           → r.commands ≡ n

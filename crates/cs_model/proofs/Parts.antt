@@ -1,5 +1,5 @@
 -- Members of a list, functions changed at one place, and sets of elements as more is staged.
-use Rattle.std.proofs.Common.{◌≡◌, ◌≢◌, inl, inr, ℕ, ◌≤◌, Bool, true, false, ◌&&◌, List, ◌∷◌, ◌==◌, le_refl, le_trans, refl, sym, subst, arith}
+use Rattle.std.proofs.Common.{◌≡◌, ◌≢◌, inl, inr, ℕ, ◌≤◌, Bool, true, false, ◌&&◌, if◌then◌else◌, List, ◌∷◌, ◌==◌, le_refl, le_trans, refl, sym, subst, arith}
 use Rattle.std.proofs.lemmas.Bool.{cases_eq}
 use Rattle.std.proofs.lemmas.Bool.Decides.{nat_tests}
 use Rattle.cs_model.specs.Cut.{Cut, Exact, page_in}
@@ -40,6 +40,15 @@ grows f e v x up = with_case (λ n. f x ≤ n) f e v x (λ is. subst (λ (y : �
 
 pub with_below : (f : ℕ → ℕ) (e v x n : ℕ) → v ≤ n → f x ≤ n → with f e v x ≤ n
 with_below f e v x n new old = with_case (λ m. m ≤ n) f e v x (λ is. new) (λ not. old)
+
+-- what either choice keeps to, the chosen one does
+pub chosen_below : (b : Bool) (x y n : ℕ) → x ≤ n → y ≤ n → (if b then x else y) ≤ n
+chosen_below true x y n first second = first
+chosen_below false x y n first second = second
+
+pub below_chosen : (b : Bool) (x y n : ℕ) → (b ≡ true → n ≤ x) → (b ≡ false → n ≤ y) → n ≤ (if b then x else y)
+below_chosen true x y n first second = first refl
+below_chosen false x y n first second = second refl
 
 pub page_skips : (X : Cut) (opened : ℕ → Page) (w : Write) (ws : List Write) (p : ℕ) → X.writes w.number ≡ false
     → page_in X opened (w ∷ ws) p ≡ page_in X opened ws p

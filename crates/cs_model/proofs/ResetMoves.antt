@@ -54,6 +54,7 @@ module _ (S : Shape) (Good : Root → (ℕ → Page) → Type 0) (frozen : ℕ �
     superblocks_rise = s.superblocks_rise;
     roots_rise = s.roots_rise;
     below = s.below;
+    by_rule = s.by_rule;
     needs = record {
       write_roots = s.write_roots;
       superblock_roots = s.superblock_roots;

@@ -49,7 +49,7 @@ module _ (S : Shape) (F : Formats) (shape : IsShape S) (format : IsFormat S F) w
               (λ r is ver. absurd (let old : r.version ≤ s.world.root = (sound.safe.roots_below r is).0 in
               omega arith)),
           (
-            root_now s.world n runs (map_now s) pointers,
+            root_now S s.world n runs (map_now s) pointers,
             inl refl,
             refl,
             λ x is at. subst (λ (d : ℕ). x.number ≤ s.world.behind (S.section d)) refl

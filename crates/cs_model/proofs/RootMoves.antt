@@ -1,14 +1,14 @@
 -- Staging a root keeps what makes a crash safe.
-use Rattle.std.proofs.Common.{Bool, ◌≡◌, inl, inr, ⊎_elim, ℕ, suc, ◌<◌, ◌≤◌, true, List, le_refl, le-leb, refl, sym, ap, ◌∙◌, subst, arith}
-use Rattle.std.proofs.lemmas.Bool.{cases_eq}
+use Rattle.std.proofs.Common.{Bool, ◌≡◌, inl, inr, ⊎_elim, ℕ, suc, ◌<◌, ◌≤◌, true, if◌then◌else◌, List, le_of_eq, le_refl, le-leb, true≢false, refl, sym, ap, ◌∙◌, subst, arith}
+use Rattle.std.proofs.lemmas.Bool.{cases_Bool, cases_eq}
 use Rattle.cs_model.specs.Cut.{held_by, page_in, section_of}
 use Rattle.cs_model.specs.Device.{Inside, Page, Place, Shape}
-use Rattle.cs_model.specs.Element.{Map, Root, Run, writes_of}
-use Rattle.cs_model.specs.Guard.{Covers, Records, page_as_staged}
+use Rattle.cs_model.specs.Element.{Map, Root, Run, log_of, writes_of}
+use Rattle.cs_model.specs.Guard.{Covers, Needed, Records, page_as_staged}
 use Rattle.cs_model.specs.Machine.{StageRoot, World, everything, happens, root_now}
 use Rattle.cs_model.specs.Safe.{Allowed, Safe}
 use Rattle.cs_model.proofs.ClosedSets.{page_same}
-use Rattle.cs_model.proofs.Parts.{each, each_two, still_exact, still_staged}
+use Rattle.cs_model.proofs.Parts.{below_chosen, chosen_below, each, each_two, still_exact, still_staged}
 
 module _ (S : Shape) (Good : Root → (ℕ → Page) → Type 0) (frozen : ℕ → ℕ → Bool) (opened : ℕ → Page)
     (local : (r : Root) (a b : ℕ → Page) → ((h : Place) → Covers S r h → b h.page ≡ a h.page)
@@ -32,13 +32,16 @@ module _ (S : Shape) (Good : Root → (ℕ → Page) → Type 0) (frozen : ℕ �
                 (settled.current u is sec ver));
           })
           (λ r is h has. let g = s.guarded r is h has in record { kept = g.kept; recorded = g.recorded });
-      needed = each _ _ _ (λ e. (next.0 e).last) s.needed;
+      needed = each _ _ _ counted s.needed;
       earlier = λ r u is has. each _ _ _
           (λ ver k up. (
             (let old : u.root ≤ w.root = s.superblock_roots u has in omega arith),
             (λ x has_x bound. (let old : x.root ≤ w.root = s.write_roots x has_x in omega arith)),
           ))
           (λ q is_q. s.earlier q u is_q has) r is;
+      earlier_pages = λ r x is has. each _ _ _
+          (λ bound k up. (let old : x.root ≤ w.root = s.write_roots x has in omega arith))
+          (λ q is_q. s.earlier_pages q x is_q has) r is;
     };
     reads = record {
       good = each _ _ _
@@ -64,6 +67,10 @@ module _ (S : Shape) (Good : Root → (ℕ → Page) → Type 0) (frozen : ℕ �
       nested_roots = each_two _ _ _ (λ v j. le_refl _)
           (λ q is v. absurd (let old : q.version ≤ w.root = (s.roots_below q is).0 in omega arith))
           (λ r is v. (s.roots_below r is).1) s.nested_roots;
+      nested_pages = each_two _ _ _ (λ v. le_refl _)
+          (λ q is v. absurd (let old : q.version ≤ w.root = (s.roots_below q is).0 in omega arith))
+          (λ r is v. below_chosen S.pages_first 0 w.written r.pages
+          (λ first. le_of_eq (s.no_root_pages first r is)) (λ later. s.pages_below r is)) s.nested_pages;
       counts = each_two _ _ _ (λ v. le_refl _)
           (λ q is v. absurd (let old : q.version ≤ w.root = (s.roots_below q is).0 in omega arith))
           (λ r is v. next.3 r is) s.counts;
@@ -76,7 +83,14 @@ module _ (S : Shape) (Good : Root → (ℕ → Page) → Type 0) (frozen : ℕ �
             (s.roots_below r is).1,
             (s.roots_below r is).2,
           ));
+      pages_below = each _ _ _ (chosen_below S.pages_first 0 w.written w.written (omega arith) (le_refl _))
+          s.pages_below;
       behind_below = s.behind_below;
+    };
+    by_rule = record {
+      no_root_pages = λ first. each _ _ _ (ap (λ (b : Bool). if b then 0 else w.written) first)
+          (s.no_root_pages first);
+      no_superblock_writes = s.no_superblock_writes;
     };
     needs = record {
       write_roots = λ x has. (let old : x.root ≤ w.root = s.write_roots x has in omega arith);
@@ -98,6 +112,9 @@ module _ (S : Shape) (Good : Root → (ℕ → Page) → Type 0) (frozen : ℕ �
         root_superblocks = each _ _ _
             (λ v. absurd (let old : w.persistent.root ≤ w.root = s.staged.root in omega arith))
             s.closed.root_superblocks;
+        root_writes = λ r x is has. each _ _ _
+            (λ v. absurd (let old : w.persistent.root ≤ w.root = s.staged.root in omega arith))
+            (λ q is_q. s.closed.root_writes q x is_q has) r is;
       };
       exact = still_exact s.exact (λ u has. has) (λ r has. inr has);
       round_exact = still_exact s.round_exact (λ u has. has) (λ r has. inr has);
@@ -110,12 +127,29 @@ module _ (S : Shape) (Good : Root → (ℕ → Page) → Type 0) (frozen : ℕ �
         superblock_writes = s.ready.superblock_writes;
         roots = each _ _ _
             (λ v. absurd (let old : w.round.root ≤ w.root = s.round_staged.root in omega arith)) s.ready.roots;
+        root_writes = λ r x is has. each _ _ _
+            (λ v. absurd (let old : w.round.root ≤ w.root = s.round_staged.root in omega arith))
+            (λ q is_q. s.ready.root_writes q x is_q has) r is;
       };
     };
   }
     where
       new : Root
-      new = root_now w n runs m pointers
+      new = root_now S w n runs m pointers
+
+      -- it counts on no more than the last versions need, or than it needs itself
+      counted : (e : ℕ) → Needed S (log_of w.elements) new e
+      counted e = let last = (next.0 e).last in (
+        last.0,
+        last.1,
+        last.2,
+        last.3,
+        elim (cases_Bool S.pages_first) [
+          | inl first ↦ inl (last.4 first)
+          | inr later ↦ inr (below_chosen S.pages_first 0 w.written (w.behind last.0.section)
+              (λ first. absurd (true≢false (sym first ∙ later))) (λ not. s.behind_below last.0.section))
+        ],
+      )
 
       all : ℕ → Page
       all = page_in (everything w) opened (writes_of w.elements)

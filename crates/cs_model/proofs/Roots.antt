@@ -103,14 +103,14 @@ module _ (S : Shape) (F : Formats) (shape : IsShape S) (format : IsFormat S F) w
   )
 
   pub root_maps : (s : State) (runs : List Run) (pointers : ℕ → ℕ) → Sound S F s → (r : Root)
-      → r ∈ (root_now s.world (s.count + length s.commands) runs (map_now s) pointers ∷ (roots_of s.world.elements))
+      → r ∈ (root_now S s.world (s.count + length s.commands) runs (map_now s) pointers ∷ (roots_of s.world.elements))
       → (n : ℕ) × (n ≤ length s.commands) × (r.commands ≡ s.count + n) × (r.map ≡ map_after s.start s.commands n)
   root_maps s runs pointers sound = each (λ (r : Root). (n : ℕ) × (n ≤ length s.commands)
       × (r.commands ≡ s.count + n) × (r.map ≡ map_after s.start s.commands n)) _ _
       (length s.commands, le_refl _, refl, sym (map_after_all s.start s.commands)) sound.maps
 
   pub root_last : (s : State) (runs : List Run) (pointers : ℕ → ℕ) → Sound S F s → (r : Root)
-      → r ∈ (root_now s.world (s.count + length s.commands) runs (map_now s) pointers ∷ roots_of s.world.elements)
+      → r ∈ (root_now S s.world (s.count + length s.commands) runs (map_now s) pointers ∷ roots_of s.world.elements)
       → r.version ≡ suc s.world.root → r.commands ≡ s.count + length s.commands
   root_last s runs pointers sound = each
       (λ (r : Root). r.version ≡ suc s.world.root → r.commands ≡ s.count + length s.commands) _ _
@@ -135,7 +135,7 @@ module _ (S : Shape) (F : Formats) (shape : IsShape S) (format : IsFormat S F) w
   root_back s runs pointers sound (A_superblock u) is = is
   root_back s runs pointers sound (A_root r) is = (
     ⊎_elim
-        (λ (is_new : r ≡ root_now s.world (s.count + length s.commands) runs (map_now s) pointers). absurd (
+        (λ (is_new : r ≡ root_now S s.world (s.count + length s.commands) runs (map_now s) pointers). absurd (
         let above : suc s.world.root ≡ s.world.round.root = ap (λ (q : Root). q.version) (sym is_new) ∙ is.1 in
         let below : s.world.round.root ≤ s.world.root = sound.safe.round_staged.root in omega arith))
         (λ (old : r ∈ roots_of s.world.elements). old) is.0,

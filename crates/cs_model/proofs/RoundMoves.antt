@@ -25,6 +25,7 @@ none_out S closed exact staged = record {
     superblock_root = λ u is ver. inl ver;
     superblock_writes = λ u x is has ver sec bound. inl ver;
     roots = λ r is ver. inl ver;
+    root_writes = λ r x is has ver bound. inl ver;
   };
 }
 
@@ -51,6 +52,10 @@ module _ (S : Shape) (Good : Root → (ℕ → Page) → Type 0) (frozen : ℕ �
         (low.superblocks j))
         (λ (met : (i : ℕ) → r.superblocks i ≤ w.persistent.superblocks i). le_trans (met j) (low.superblocks j))
         (s.ready.roots r is (le_trans ver high.root));
+    root_writes = λ r x is has ver bound. ⊎_elim
+        (λ (old : r.version ≤ w.persistent.root). low.writes _ (s.closed.root_writes r x is has old bound))
+        (λ (met : w.persistent.writes x.number ≡ true). low.writes _ met)
+        (s.ready.root_writes r x is has (le_trans ver high.root) bound);
   }
 
   suc_le : {a b : ℕ} → a ≤ b → suc a ≤ suc b
@@ -75,6 +80,7 @@ module _ (S : Shape) (Good : Root → (ℕ → Page) → Type 0) (frozen : ℕ �
     superblocks_rise = s.superblocks_rise;
     roots_rise = s.roots_rise;
     below = s.below;
+    by_rule = s.by_rule;
     needs = s.needs;
     there = there;
     round = round;

@@ -43,10 +43,15 @@ module _ (S : Shape) (F : Formats) {opening : Opening} (shape : IsShape S) (open
       let need = safe.needed r again.1 (S.extent x.page) in
       let u = need.0 in
       let ver : u.version ≡ r.superblocks u.section = need.3 in
+      let done : r.version ≤ w.persistent.root = le_trans (le_of_eq again.2) root in
       let below : r.superblocks u.section ≤ w.persistent.superblocks u.section = safe.closed.root_superblocks r
-      again.1 (le_trans (le_of_eq again.2) root) u.section in
-      safe.closed.superblock_writes u x need.1 is_x (le_trans (le_of_eq ver) below) (sym need.2)
-      (le_trans again.3 (subst (λ (j : ℕ). r.writes j ≤ u.writes) need.2 need.4))
+      again.1 done u.section in
+      let counted : x.number ≤ r.writes u.section = subst (λ (j : ℕ). x.number ≤ r.writes j) (sym need.2) again.3 in
+      ⊎_elim
+      (λ (by_u : r.writes u.section ≤ u.writes). safe.closed.superblock_writes u x need.1 is_x
+      (le_trans (le_of_eq ver) below) (sym need.2) (le_trans counted by_u))
+      (λ (by_r : r.writes u.section ≤ r.pages). safe.closed.root_writes r x again.1 is_x done
+      (le_trans counted by_r)) need.4
 
   module _ (X : Cut) (high : Within X w.round) where
     img : ℕ → Page

@@ -114,8 +114,8 @@ module _ (S : Shape) (F : Formats) (s : State) where
       halted = refl;
     };
     roots = record {
-      root = root_now w (s.count + length s.commands) runs (map_now s) pointers;
-      roots = ap (λ (rs : List Root). root_now w (s.count + length s.commands) runs (map_now s) pointers ∷ rs)
+      root = root_now S w (s.count + length s.commands) runs (map_now s) pointers;
+      roots = ap (λ (rs : List Root). root_now S w (s.count + length s.commands) runs (map_now s) pointers ∷ rs)
           same.roots;
       version_is = ap suc same.root ∙ sym number;
       commands = refl;

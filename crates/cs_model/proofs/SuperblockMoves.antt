@@ -1,5 +1,5 @@
 -- Staging a superblock version keeps what makes a crash safe.
-use Rattle.std.proofs.Common.{Bool, ◌≡◌, inl, inr, ⊎_elim, ℕ, suc, ◌<◌, ◌≤◌, true, ◌∷◌, le_of_eq, le_trans, le_refl, refl, sym, subst, arith}
+use Rattle.std.proofs.Common.{Bool, ◌≡◌, inl, inr, ⊎_elim, ℕ, suc, ◌<◌, ◌≤◌, true, if◌then◌else◌, ◌∷◌, le_of_eq, le_trans, le_refl, refl, sym, ap, subst, arith}
 use Rattle.std.proofs.lemmas.Bool.{cases_eq}
 use Rattle.cs_model.specs.Device.{Inside, Page, Place, Shape}
 use Rattle.cs_model.specs.Element.{Root, Superblock, superblocks_of}
@@ -7,7 +7,7 @@ use Rattle.cs_model.specs.Guard.{Covers, Records}
 use Rattle.cs_model.specs.Lists.{with, ◌∈◌}
 use Rattle.cs_model.specs.Machine.{StageSuperblock, World, happens, superblock_now}
 use Rattle.cs_model.specs.Safe.{Allowed, Safe}
-use Rattle.cs_model.proofs.Parts.{each, each_two, still_exact, still_staged, with_case, with_same, grows, with_below}
+use Rattle.cs_model.proofs.Parts.{below_chosen, chosen_below, each, each_two, still_exact, still_staged, with_case, with_same, grows, with_below}
 
 module _ (S : Shape) (Good : Root → (ℕ → Page) → Type 0) (frozen : ℕ → ℕ → Bool) (opened : ℕ → Page)
     (local : (r : Root) (a b : ℕ → Page) → ((h : Place) → Covers S r h → b h.page ≡ a h.page)
@@ -30,6 +30,7 @@ module _ (S : Shape) (Good : Root → (ℕ → Page) → Type 0) (frozen : ℕ �
       earlier = λ r u is has. each _ new (superblocks_of w.elements)
           (λ ver. absurd (let old : r.superblocks j ≤ w.superblocks j = (s.roots_below r is).1 j in omega arith))
           (λ v has_v. s.earlier r v is has_v) u has;
+      earlier_pages = s.earlier_pages;
     };
     reads = s.reads;
     since_resets = s.since_resets;
@@ -45,20 +46,33 @@ module _ (S : Shape) (Good : Root → (ℕ → Page) → Type 0) (frozen : ℕ �
           (λ v has sec ver. absurd
           (let old : v.version ≤ w.superblocks j = subst (λ (i : ℕ). v.version ≤ w.superblocks i) (sym sec)
           (s.superblocks_below v has).0 in omega arith))
-          (λ u has sec ver. (next.1 u has sec, (s.superblocks_below u has).1)) s.nested_superblocks;
+          (λ u has sec ver. (
+            next.1 u has sec,
+            below_chosen S.pages_first w.written 0 u.writes (λ first. (s.superblocks_below u has).1)
+                (λ later. le_of_eq (s.no_superblock_writes later u has)),
+          )) s.nested_superblocks;
       sections_there = each _ _ _ next.2 s.sections_there;
       superblocks_fit = each _ _ _ (omega arith, next.4, s.extents_fit) s.superblocks_fit;
     };
     roots_rise = s.roots_rise;
     below = record {
-      superblocks_below = each _ _ _ (le_of_eq (sym (with_same w.superblocks j _ j refl)), le_refl _)
+      superblocks_below = each _ _ _ (
+        le_of_eq (sym (with_same w.superblocks j _ j refl)),
+        chosen_below S.pages_first w.written 0 w.written (le_refl _) (omega arith),
+      )
           (λ u has. (le_trans (s.superblocks_below u has).0 (up u.section), (s.superblocks_below u has).1));
       roots_below = λ r is. (
         (s.roots_below r is).0,
         λ i. le_trans ((s.roots_below r is).1 i) (up i),
         (s.roots_below r is).2,
       );
+      pages_below = s.pages_below;
       behind_below = λ i. with_below w.behind j w.written i w.written (le_refl _) (s.behind_below i);
+    };
+    by_rule = record {
+      no_root_pages = s.no_root_pages;
+      no_superblock_writes = λ later. each _ _ _ (ap (λ (b : Bool). if b then w.written else 0) later)
+          (s.no_superblock_writes later);
     };
     needs = record {
       write_roots = s.write_roots;
@@ -85,6 +99,7 @@ module _ (S : Shape) (Good : Root → (ℕ → Page) → Type 0) (frozen : ℕ �
             (λ m v. absurd (let old : w.persistent.superblocks j ≤ w.superblocks j = s.staged.superblocks j in
             omega arith)) (λ v. s.closed.superblock_writes v x) u has;
         root_superblocks = s.closed.root_superblocks;
+        root_writes = s.closed.root_writes;
       };
       exact = still_exact s.exact (λ u has. inr has) (λ r has. has);
       round_exact = still_exact s.round_exact (λ u has. inr has) (λ r has. has);
@@ -100,6 +115,7 @@ module _ (S : Shape) (Good : Root → (ℕ → Page) → Type 0) (frozen : ℕ �
             (λ m v. absurd (let old : w.round.superblocks j ≤ w.superblocks j = s.round_staged.superblocks j in
             omega arith)) (λ v. s.ready.superblock_writes v x) u has;
         roots = s.ready.roots;
+        root_writes = s.ready.root_writes;
       };
     };
   }

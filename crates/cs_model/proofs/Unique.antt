@@ -130,7 +130,8 @@ new_store S F img new = record {
   gives = record {
     runs_read = λ r none. absurd none;
     table_passes = λ id. tt;
-    runs_pass = λ r none. absurd none;
+    visible_pass = λ id. tt;
+    runs_pass = λ stand r none. absurd none;
     holds = λ id l none. absurd none;
     values = λ id. refl;
   };

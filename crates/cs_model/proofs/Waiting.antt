@@ -9,7 +9,7 @@ use Rattle.cs_model.specs.Formats.{Formats}
 use Rattle.cs_model.specs.Lists.{◌∈◌}
 use Rattle.cs_model.specs.Machine.{World}
 use Rattle.cs_model.specs.Recovery.{RootGives}
-use Rattle.cs_model.specs.Round.{IsRound, NothingWaits}
+use Rattle.cs_model.specs.Round.{IsRound, NothingWaits, RootReady}
 use Rattle.cs_model.specs.Safe.{Safe}
 use Rattle.cs_model.specs.Sound.{Sound}
 use Rattle.cs_model.specs.State.{State}
@@ -80,8 +80,8 @@ module _ (S : Shape) (F : Formats) {opening : Opening} (opened : ℕ → Page) (
             (λ (done : n ≤ w.persistent.root). done)
             (cases_lt w.persistent.root n)
 
-        ready : (j : ℕ) → r.superblocks j ≤ w.persistent.superblocks j
-        ready j = ⊎_elim
+        sections_ready : (j : ℕ) → r.superblocks j ≤ w.persistent.superblocks j
+        sections_ready j = ⊎_elim
             (λ (waits : w.persistent.superblocks j < r.superblocks j).
             let at = safe.superblocks_there j (r.superblocks j) waits ((safe.roots_below r has).1 j) in
             let u : Superblock = at.0 in
@@ -96,6 +96,13 @@ module _ (S : Shape) (F : Formats) {opening : Opening} (opened : ℕ → Page) (
             le_trans (le_of_eq (sym at.3)) (subst (λ (i : ℕ). u.version ≤ w.persistent.superblocks i) at.2 there))
             (λ (done : r.superblocks j ≤ w.persistent.superblocks j). done)
             (cases_lt (w.persistent.superblocks j) (r.superblocks j))
+
+        ready : RootReady S w r
+        ready = (
+          sections_ready,
+          (λ x has_x bound. is.writes x has_x
+              (done_below x.root (safe.earlier_pages r x has has_x bound q below) (safe.write_roots x has_x))),
+        )
 
     roots_done : (q : ℕ) (r : Root) → r ∈ roots_of w.elements → r.version ≤ q → r.version ≤ w.persistent.root
     roots_done zero r has below = omega arith

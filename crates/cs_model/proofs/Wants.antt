@@ -27,7 +27,8 @@ listed_needs S els X (A_superblock u)
 listed_needs S els X (A_superblock u) (A_superblock v) closed has_x has_y is need = absurd need
 listed_needs S els X (A_superblock u) (A_root r) closed has_x has_y is need = le-leb _ _
     (le_trans need (closed.superblock_root u has_x (leb-true _ _ is)))
-listed_needs S els X (A_root r) (A_write y) closed has_x has_y is need = absurd need
+listed_needs S els X (A_root r) (A_write y) closed has_x has_y is need =
+    closed.root_writes r y has_x has_y (leb-true _ _ is) need
 listed_needs S els X (A_root r) (A_superblock v) closed has_x has_y is need = le-leb _ _
     (le_trans need (closed.root_superblocks r has_x (leb-true _ _ is) v.section))
 listed_needs S els X (A_root r) (A_root q) closed has_x has_y is need = absurd need

@@ -73,6 +73,7 @@ module _ (S : Shape) (F : Formats) (d h : Opening) (img : ℕ → Page) (p g : �
     runs_read = λ run has. more_reads run.place
         (F.frame RunFrame (F.run run.entries)) (gives.runs_read run has);
     table_passes = gives.table_passes;
+    visible_pass = gives.visible_pass;
     runs_pass = gives.runs_pass;
     holds = λ id l has. whole_holds (lookup id (table ++ entries_of runs)) (m id) (whole id) (gives.values id) l has;
     values = λ id. whole_value (lookup id (table ++ entries_of runs)) (m id) (whole id) (gives.values id);

@@ -46,6 +46,8 @@ module _ (S : Shape) where
         → X.writes w.number ≡ true
     pub root_superblocks : (r : Root) → r ∈ log.roots → r.version ≤ X.root
         → (j : ℕ) → r.superblocks j ≤ X.superblocks j
+    pub root_writes : (r : Root) (w : Write) → r ∈ log.roots → w ∈ log.writes → r.version ≤ X.root → w.number ≤ r.pages
+        → X.writes w.number ≡ true
 
 -- X with one element more
 abbrev pub join : Cut → Element → Cut
@@ -70,4 +72,5 @@ Needs S (A_write x) (A_root r) = r.version ≤ x.root
 Needs S (A_superblock u) (A_write x) = (section_of S x.page ≡ u.section) × (x.number ≤ u.writes)
 Needs S (A_superblock u) (A_root r) = r.version ≤ u.root
 Needs S (A_root r) (A_superblock u) = u.version ≤ r.superblocks u.section
+Needs S (A_root r) (A_write x) = x.number ≤ r.pages
 Needs S x y = ⊥

@@ -1,5 +1,5 @@
 -- The device: its pages, what lies on each, and the limits of a store.
-use Rattle.std.specs.Prelude.{◌≡◌, ◌<◌, ℕ, List}
+use Rattle.std.specs.Prelude.{◌≡◌, ◌<◌, ◌≤◌, ℕ, Bool, List}
 
 -- the bytes of a page
 abbrev pub Page : Type 0
@@ -19,6 +19,11 @@ pub record Shape : Type 0 where
   pub sections : ℕ
   -- the format that new superblocks are written in
   pub format : ℕ
+  -- a version of the superblock needs the page writes that it counts; where not, a root needs all page writes that were
+  -- staged before it
+  pub pages_first : Bool
+  -- each entry of a root's runs names what is there; where not, one that a newer entry hides may name what is gone
+  pub hidden_stand : Bool
   -- what is written to a page; the pages of the root and of the sections
   pub kind : ℕ → PageKind
   pub root_page : ℕ
@@ -29,10 +34,12 @@ pub record Shape : Type 0 where
   pub address : ℕ → ℕ → ℕ
   -- the section that speaks of an extent
   pub section : ℕ → ℕ
-  -- the greatest chunk in bytes, how many chunks a shard may have, and how many identifiers may be named
+  -- the greatest chunk in bytes, how many chunks a shard may have, how many identifiers may be named, and how many runs
+  -- a root may have
   pub chunk_bytes : ℕ
   pub most_chunks : ℕ
   pub most_names : ℕ
+  pub most_runs : ℕ
   -- the greatest number of a write, of a version or of commands, and the greatest generation
   pub greatest_number : ℕ
   pub greatest_generation : ℕ
@@ -41,7 +48,7 @@ pub record Shape : Type 0 where
 abbrev pub Inside : Shape → ℕ → ℕ → Type 0
 Inside S e i = (e < S.extents) × (i < S.pages)
 
--- no two things lie on one page, and a shard can be put
+-- no two things lie on one page, a shard can be put, and a root may have as many runs as Stage leaves
 pub record IsShape (S : Shape) : Type 0 where
   pub root_kind : S.kind S.root_page ≡ RootPage
   pub section_kind : (j : ℕ) → j < S.sections → S.kind (S.section_page j) ≡ SectionPage j
@@ -53,6 +60,7 @@ pub record IsShape (S : Shape) : Type 0 where
   pub section : (e : ℕ) → S.section e < S.sections
   pub some_chunk : 0 < S.most_chunks
   pub some_byte : 0 < S.chunk_bytes
+  pub enough_runs : 4 ≤ S.most_runs
 
 -- a page of the device as one generation of its extent has it
 pub record Place : Type 0 where

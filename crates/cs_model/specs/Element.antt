@@ -63,8 +63,9 @@ pub record Root : Type 0 where
   -- the puts and deletes that it includes, and the runs of its index, newest first
   pub commands : ℕ
   pub runs : List Run
-  -- it needs these versions of the sections
+  -- it needs these versions of the sections, and the plain writes up to this number
   pub superblocks : ℕ → ℕ
+  pub pages : ℕ
   -- what its page doesn't say, the state in which it was staged: the map, the plain writes that those versions need,
   -- the pointers and the generations, where an extent that is reset right after it counts as empty
   pub map : Map

@@ -21,7 +21,7 @@ pub record IsFormat (S : Shape) (F : Formats) : Type 0 where
   pub one_payload : (img : ℕ → Page) (e i : ℕ) (kind : FrameKind) (a b : List ℕ)
       → length (F.frame kind a) ≤ S.pages → length (F.frame kind b) ≤ S.pages
       → Stand S F img e i (F.frame kind a) → Stand S F img e i (F.frame kind b) → a ≡ b
-  -- what keeps to its bounds can be spelled
+  -- what is staged keeps to these bounds, and can be spelled
   pub root_fits : (v n : ℕ) (ls : List Locator) → 1 ≤ v → v ≤ S.greatest_number → n ≤ S.greatest_number
       → length ls ≤ 4 → ((l : Locator) → l ∈ ls → InRange S l) → F.fits_root v n ls ≡ true
   pub run_fits : (entries : List Entry) → IsRunList S entries → F.fits_run entries ≡ true

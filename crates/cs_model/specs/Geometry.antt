@@ -1,14 +1,17 @@
 -- Where everything lies on the device, for a superblock of any number of sections.
-use Rattle.std.specs.Prelude.{◌+◌, ◌*◌, ◌-◌, ◌/◌, ◌%◌, ◌<◌, ◌≤◌, ◌==◌, ℕ, nat_lt, if◌then◌else◌}
+use Rattle.std.specs.Prelude.{◌+◌, ◌*◌, ◌-◌, ◌/◌, ◌%◌, ◌<◌, ◌≤◌, ◌==◌, ℕ, nat_le, nat_lt, if◌then◌else◌}
 use Rattle.cs_model.specs.Device.{FramePage, RootPage, SectionPage, Shape}
 
--- section 0 is on page 0, the root on page 1, the extents begin at page 2, and behind them are the other sections
+-- section 0 is on page 0, the root on page 1, the extents begin at page 2, and behind them are the other sections.
+-- Up to format 2 page writes come first, hidden entries name what is there, and a root has few runs
 abbrev pub shape_of : (extents pages sections per_section format : ℕ) → Shape
 shape_of extents pages sections per_section format = record {
   extents = extents;
   pages = pages;
   sections = sections;
   format = format;
+  pages_first = nat_le format 2;
+  hidden_stand = nat_le format 2;
   kind = λ p. if p == 0 then SectionPage 0 else if p == 1 then RootPage
       else if nat_lt p (2 + extents * pages) then FramePage else SectionPage (p - (1 + extents * pages));
   root_page = 1;
@@ -20,6 +23,7 @@ shape_of extents pages sections per_section format = record {
   chunk_bytes = 4096 * pages - 41;
   most_chunks = 8;
   most_names = (4096 * pages - 45) / 81;
+  most_runs = if nat_le format 2 then 4 else 24;
   greatest_number = 9223372036854775807;
   greatest_generation = 4294967295;
 }

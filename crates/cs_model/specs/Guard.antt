@@ -15,10 +15,10 @@ module _ (S : Shape) where
   abbrev pub Covers : Root → Place → Type 0
   Covers r h = Records r.pointers r.generations h
 
-  -- the version that a root needs of an extent's section needs what the root counts on there
+  -- what a root counts on in an extent's section is needed by the version that it needs of that section, or by itself
   abbrev pub Needed : Log → Root → ℕ → Type 0
   Needed log r e = (u : Superblock) × (u ∈ log.superblocks) × (u.section ≡ S.section e)
-      × (u.version ≡ r.superblocks u.section) × (r.writes u.section ≤ u.writes)
+      × (u.version ≡ r.superblocks u.section) × ((r.writes u.section ≤ u.writes) ⊎ (r.writes u.section ≤ r.pages))
 
   -- why a crash that leaves this root, and no later one, leaves what lies at this place
   pub record Guarded (log : Log) (r : Root) (h : Place) : Type 0 where

@@ -71,7 +71,7 @@ pub record InBounds (S : Shape) (version commands runs : ℕ) (entries : List En
   pub some_version : 1 ≤ version
   pub version_fits : version ≤ S.greatest_number
   pub commands_fit : commands ≤ S.greatest_number
-  pub few_runs : runs ≤ 4
+  pub few_runs : runs ≤ S.most_runs
   pub named : names entries ≤ S.most_names
   pub chunks_fit : (id : ℕ) → length (live (lookup id entries)) ≤ S.most_chunks
 
@@ -145,7 +145,9 @@ module _ (S : Shape) (F : Formats) where
       pub runs_read : (run : Run) → run ∈ runs
           → Reads run.place (F.frame RunFrame (F.run run.entries))
       pub table_passes : (id : ℕ) → AllPass img pointers generations (lookup id table)
-      pub runs_pass : (run : Run) → run ∈ runs → (id : ℕ) → AllPass img pointers generations (lookup id run.entries)
+      pub visible_pass : (id : ℕ) → AllPass img pointers generations (lookup id (table ++ entries_of runs))
+      pub runs_pass : S.hidden_stand ≡ true → (run : Run) → run ∈ runs → (id : ℕ)
+          → AllPass img pointers generations (lookup id run.entries)
       pub holds : (id : ℕ) (l : Locator) → l ∈ live (lookup id (table ++ entries_of runs)) → Holds l
       pub values : (id : ℕ) → Value (lookup id (table ++ entries_of runs)) (m id)
 

@@ -1,5 +1,5 @@
 -- The store as a machine of primitive moves: what each event of the core is made of.
-use Rattle.std.specs.Prelude.{◌⊎◌, ◌<◌, ◌∷◌, ℕ, suc, true, List}
+use Rattle.std.specs.Prelude.{◌⊎◌, ◌<◌, ◌∷◌, ℕ, suc, true, List, if◌then◌else◌}
 use Rattle.cs_model.specs.Cut.{Cut, page_in}
 use Rattle.cs_model.specs.Device.{Page, Shape}
 use Rattle.cs_model.specs.Element.{A_root, A_superblock, A_write, Element, Map, Root, Run, Superblock, Write, writes_of}
@@ -36,19 +36,6 @@ pub data Move : Type 0 where
   -- it is persistent
   EndRound : Move
 
--- the root that is staged now
-abbrev pub root_now : World → ℕ → List Run → Map → (ℕ → ℕ) → Root
-root_now w n runs m pointers = record {
-  version = suc w.root;
-  commands = n;
-  runs = runs;
-  superblocks = w.superblocks;
-  map = m;
-  writes = w.behind;
-  pointers = pointers;
-  generations = w.extents.generation;
-}
-
 -- all that was staged
 abbrev pub everything : World → Cut
 everything w = record { writes = λ n. true; superblocks = w.superblocks; root = w.root }
@@ -77,8 +64,22 @@ module _ (S : Shape) where
     version = suc (w.superblocks j);
     pointers = w.extents.pointer;
     generations = w.extents.generation;
-    writes = w.written;
+    writes = if S.pages_first then w.written else 0;
     root = r;
+  }
+
+  -- the root that is staged now
+  abbrev pub root_now : World → ℕ → List Run → Map → (ℕ → ℕ) → Root
+  root_now w n runs m pointers = record {
+    version = suc w.root;
+    commands = n;
+    runs = runs;
+    superblocks = w.superblocks;
+    pages = if S.pages_first then 0 else w.written;
+    map = m;
+    writes = w.behind;
+    pointers = pointers;
+    generations = w.extents.generation;
   }
 
   -- what each move does

@@ -38,6 +38,7 @@ module _ (S : Shape) (F : Formats) where
       commands = n;
       runs = runs;
       superblocks = versions;
+      pages = 0;
       map = m;
       writes = λ j. 0;
       pointers = pointers;

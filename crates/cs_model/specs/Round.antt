@@ -1,10 +1,10 @@
 -- The round that is out, and what a round takes.
 use Rattle.std.specs.Prelude.{◌≡◌, ◌⊎◌, ◌<◌, ◌≤◌, ℕ, true, false}
-use Rattle.cs_model.specs.Cut.{Cut, Within, satisfied, section_of}
+use Rattle.cs_model.specs.Cut.{Cut, Needs, Within, satisfied, section_of}
 use Rattle.cs_model.specs.Device.{Shape}
 use Rattle.cs_model.specs.Element.{A_root, A_superblock, A_write, Element, Root, Superblock, Write, roots_of, superblocks_of, writes_of}
 use Rattle.cs_model.specs.Lists.{◌∈◌}
-use Rattle.cs_model.specs.Machine.{World}
+use Rattle.cs_model.specs.Machine.{BeginRound, EndRound, World, happens}
 
 -- it is staged, of the round, and not persistent
 abbrev pub IsMember : Shape → World → Element → Type 0
@@ -20,6 +20,15 @@ abbrev pub NothingWaits : World → Type 0
 NothingWaits w = (x : Element) → x ∈ w.elements → satisfied w.persistent x ≡ true
 
 module _ (S : Shape) where
+  -- no element that waits needs a root that waits
+  abbrev pub NoRootIsAwaited : World → Type 0
+  NoRootIsAwaited w = (x : Element) (r : Root) → x ∈ w.elements → r ∈ roots_of w.elements
+      → satisfied w.persistent x ≡ false → Needs S x (A_root r) → satisfied w.persistent (A_root r) ≡ true
+
+  -- a round of what R adds went out and is persistent
+  abbrev pub after_round : World → Cut → World
+  after_round w R = happens S (happens S w (BeginRound R)) EndRound
+
   -- the needs of a write are satisfied in what is persistent
   abbrev pub WriteReady : World → Write → Type 0
   WriteReady w x = x.root ≤ w.persistent.root
@@ -32,7 +41,8 @@ module _ (S : Shape) where
 
   -- those of a root
   abbrev pub RootReady : World → Root → Type 0
-  RootReady w r = (j : ℕ) → r.superblocks j ≤ w.persistent.superblocks j
+  RootReady w r = ((j : ℕ) → r.superblocks j ≤ w.persistent.superblocks j)
+      × ((x : Write) → x ∈ writes_of w.elements → x.number ≤ r.pages → w.persistent.writes x.number ≡ true)
 
   -- R is what is persistent together with what a round takes: each waiting plain write that is ready, nothing that
   -- isn't, and one ready version a family, the greatest

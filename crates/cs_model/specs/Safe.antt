@@ -13,12 +13,13 @@ pub record IsNoLater (written : ℕ) (versions : ℕ → ℕ) (last : ℕ) (X : 
   pub superblocks : (j : ℕ) → X.superblocks j ≤ versions j
   pub root : X.root ≤ last
 
--- roots come in order, newest first, and each has no less than those before it
+-- roots come in order, newest first, and each has and needs no less than those before it
 pub record RootsRise (roots : List Root) : Type 0 where
   pub roots_order : Descends RootBefore roots
   -- it needs what an earlier one needs
   pub nested_roots : (r q : Root) → r ∈ roots → q ∈ roots → r.version ≤ q.version
       → (j : ℕ) → r.superblocks j ≤ q.superblocks j
+  pub nested_pages : (r q : Root) → r ∈ roots → q ∈ roots → r.version ≤ q.version → r.pages ≤ q.pages
   -- it has no fewer commands
   pub counts : (r q : Root) → r ∈ roots → q ∈ roots → r.version ≤ q.version → r.commands ≤ q.commands
 
@@ -28,6 +29,7 @@ pub record KeepBelow (superblocks : List Superblock) (roots : List Root) (writte
   pub superblocks_below : (u : Superblock) → u ∈ superblocks → (u.version ≤ versions u.section) × (u.writes ≤ written)
   pub roots_below : (r : Root) → r ∈ roots
       → (r.version ≤ last) × ((j : ℕ) → r.superblocks j ≤ versions j) × ((j : ℕ) → r.writes j ≤ written)
+  pub pages_below : (r : Root) → r ∈ roots → r.pages ≤ written
   pub behind_below : (j : ℕ) → behind j ≤ written
 
 -- no element, and no extent, needs a root that isn't staged
@@ -44,10 +46,17 @@ pub record AreThere (superblocks : List Superblock) (roots : List Root) (version
   pub roots_there : (n : ℕ) → persistent.root < n → n ≤ last → (r : Root) × (r ∈ roots) × (r.version ≡ n)
 
 module _ (S : Shape) where
-  -- the last version of the extent's section has all its pages, but where it was reset since
+  -- what is needed follows the rule of writeback: where page writes come first no root needs any itself, else no
+  -- superblock version does
+  pub record NeedByRule (superblocks : List Superblock) (roots : List Root) : Type 0 where
+    pub no_root_pages : S.pages_first ≡ true → (r : Root) → r ∈ roots → r.pages ≡ 0
+    pub no_superblock_writes : S.pages_first ≡ false → (u : Superblock) → u ∈ superblocks → u.writes ≡ 0
+
+  -- the last version of the extent's section has all its pages, but where it was reset since; where page writes come
+  -- first it needs them
   pub record Settled (w : World) (e : ℕ) : Type 0 where
     pub last : (u : Superblock) × (u ∈ superblocks_of w.elements) × (u.section ≡ S.section e)
-        × (u.version ≡ w.superblocks u.section) × (w.behind u.section ≤ u.writes)
+        × (u.version ≡ w.superblocks u.section) × (S.pages_first ≡ true → w.behind u.section ≤ u.writes)
     pub pages : (x : Write) → x ∈ writes_of w.elements → S.extent x.page ≡ e → x.number ≤ w.behind (S.section e)
     pub current : (u : Superblock) → u ∈ superblocks_of w.elements → u.section ≡ S.section e
         → w.superblocks u.section ≤ u.version
@@ -65,6 +74,8 @@ module _ (S : Shape) where
         → (u.version ≤ P.superblocks u.section) ⊎ (P.writes x.number ≡ true)
     pub roots : (r : Root) → r ∈ log.roots → r.version ≤ R.root
         → (r.version ≤ P.root) ⊎ ((j : ℕ) → r.superblocks j ≤ P.superblocks j)
+    pub root_writes : (r : Root) (x : Write) → r ∈ log.roots → x ∈ log.writes → r.version ≤ R.root → x.number ≤ r.pages
+        → (r.version ≤ P.root) ⊎ (P.writes x.number ≡ true)
 
   -- X names nothing that isn't staged
   abbrev pub IsStaged : World → Cut → Type 0
@@ -74,9 +85,10 @@ module _ (S : Shape) where
   abbrev pub FitsExtent : (pointer generation : ℕ) → Type 0
   FitsExtent pointer generation = (pointer ≤ S.pages) × (generation ≤ S.greatest_generation)
 
-  -- plain writes come in order, newest first, numbered up to the last, and go to pages of frames
+  -- plain writes come in order, newest first, numbered from 1 up to the last, and go to pages of frames
   pub record WritesRise (writes : List Write) (written : ℕ) : Type 0 where
     pub writes_order : Descends WriteBefore writes
+    pub writes_from_one : (x : Write) → x ∈ writes → 1 ≤ x.number
     pub writes_below : (x : Write) → x ∈ writes → x.number ≤ written
     pub frames : (x : Write) → x ∈ writes → S.kind x.page ≡ FramePage
 
@@ -101,6 +113,8 @@ module _ (S : Shape) where
     pub earlier : (r : Root) (u : Superblock) → r ∈ log.roots → u ∈ log.superblocks
         → u.version ≤ r.superblocks u.section → (q : ℕ) → r.version ≤ suc q
         → (u.root ≤ q) × ((x : Write) → x ∈ log.writes → x.number ≤ u.writes → x.root ≤ q)
+    pub earlier_pages : (r : Root) (x : Write) → r ∈ log.roots → x ∈ log.writes → x.number ≤ r.pages → (q : ℕ)
+        → r.version ≤ suc q → x.root ≤ q
 
   -- what is persistent is closed; so is all between it and the round
   pub record ClosesRound (log : Log) (written : ℕ) (versions : ℕ → ℕ) (last : ℕ) (persistent round : Cut) : Type 0 where
@@ -163,7 +177,7 @@ module _ (S : Shape) where
     -- what it holds is there, as it should be, and its superblock is staged
     Allowed w (StageRoot n runs m pointers) = ((e : ℕ) → Settled w e)
         × ((e : ℕ) → (pointers e ≡ w.extents.pointer e) ⊎ (pointers e ≡ 0))
-        × Good (root_now w n runs m pointers) (page_in (everything w) opened (writes_of w.elements))
+        × Good (root_now S w n runs m pointers) (page_in (everything w) opened (writes_of w.elements))
         × ((r : Root) → r ∈ roots_of w.elements → r.commands ≤ n)
     -- the last root locates nothing there, and all that was written there was staged before it
     Allowed w (ResetExtent e) = ((r : Root) → r ∈ roots_of w.elements → w.root ≤ r.version → r.pointers e ≡ 0)
@@ -197,6 +211,8 @@ module _ (S : Shape) where
       pub open roots_rise use *
       pub below : KeepBelow (superblocks_of w.elements) (roots_of w.elements) w.written w.superblocks w.behind w.root
       pub open below use *
+      pub by_rule : NeedByRule (superblocks_of w.elements) (roots_of w.elements)
+      pub open by_rule use *
       pub needs : NeedStagedRoots (log_of w.elements) w.extents.reset w.root
       pub open needs use *
       -- what isn't persistent yet

@@ -37,4 +37,6 @@ pub use sets::{
     closed_sets_are_intact, crashes_leave_sets, every_move_keeps, needs_are_met_in_closed_sets,
     nothing_ready_is_nothing_waits, one_list_of_elements, rounds_are_closed,
 };
-pub use writeback::{a_flush_makes_the_next_image, an_issue_adds_one_write};
+pub use writeback::{
+    a_flush_makes_the_next_image, an_issue_adds_one_write, two_rounds_make_all_persistent,
+};

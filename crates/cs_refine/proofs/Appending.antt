@@ -153,7 +153,7 @@ module _ (x : State) (g : GraphState) (w : World) (geometry : IsGeometry (length
 
     all_staged : IsStagingOf (shape x) (need_of x) next h.staging
     all_staged = moved (shape x) (need_of x) (happens (shape x) after_pages (StageSuperblock j (need_of x j))) h.staging next.extents next.round
-        (section_step (shape x) (need_of x) after_pages a.staged.between pages_staged j there (own_first x.sections g.staging.staged) (first_some (x.sections == 1))
+        (section_step (shape x) (need_of x) after_pages a.staged.between pages_staged refl j there (own_first x.sections g.staging.staged) (first_some (x.sections == 1))
         (λ v has late. own (x.sections == 1) refl v has late)
         (λ v has early at. older (x.sections == 1) refl v has early)
         h.staging a.staged.section)
@@ -176,7 +176,7 @@ module _ (x : State) (g : GraphState) (w : World) (geometry : IsGeometry (length
       inl refl,
       sym at,
       sym (with_same after_pages.superblocks j (suc (after_pages.superblocks j)) j refl),
-      ((pages_staged.numbers v.number).1 (v, has, refl)).1,
+      λ rule. ((pages_staged.numbers v.number).1 (v, has, refl)).1,
     )
 
     -- and one of another section by the version that did so before

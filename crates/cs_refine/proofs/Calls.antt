@@ -74,12 +74,12 @@ run_append x y g h w reason entries place whole is a =
 -- the root over these runs is the machine's next, whatever it remembers
 module _ (x : ExtentsState) (g h : GraphState) (w : World) (v commands : ℕ) (runs : List Run) (some : 0 < (shape x).sections) (is : IsWorldOf x g w) (root : IsRootStaged g h v commands runs) where
   pub root_version : v ≡ suc w.root
-  root_version = next_version (shape x) some (need_of x) w g.staging is.staging v root.needs h.staging root.version root.names
+  root_version = next_version (shape x) some (need_of x) w g.staging is.staging refl v root.needs h.staging root.version root.names
 
   pub root_staged : (m : Map) (pointers : ℕ → ℕ) → IsWorldOf x h (happens (shape x) w (StageRoot commands runs m pointers))
   root_staged m pointers =
       let oldest : List Locator = map as_locator (reverse (places runs)) in
-      let kept : write_of h (Version root_family v) ≡ Some (page_write (shape x) (formats_of (shape x)) (A_root (root_now w commands runs m pointers))) =
+      let kept : write_of h (Version root_family v) ≡ Some (page_write (shape x) (formats_of (shape x)) (A_root (root_now (shape x) w commands runs m pointers))) =
       root.page.1 ∙ ap (λ (b : List ℕ). Some (1, b)) (root.page.2.spelled ∙ ap (λ (k : ℕ). spelled_root k commands oldest) root_version) in
       after_root x g h w some is v root.needs root.version root.names commands runs m pointers kept root.others
 

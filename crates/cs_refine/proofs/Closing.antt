@@ -83,7 +83,7 @@ module _ (S : Shape) (F : Formats) {opening : Opening} (opened : ℕ → Page) (
     need_met (A_write x) has there (Version f v) needs = subst (λ (i : ℕ). Satisfied g xs (Version i v)) (sym needs.0) (root_sat v (le_trans needs.2 (closed.write_root x there (cut.has (A_write x) has))))
     need_met (A_superblock u) has there (Plain n) needs = plain_sat n (ap X.writes (sym needs.4) ∙ closed.superblock_writes u needs.0 there needs.1 (leb-true _ _ (cut.has (A_superblock u) has)) needs.2 needs.3)
     need_met (A_superblock u) has there (Version f v) needs = subst (λ (i : ℕ). Satisfied g xs (Version i v)) (sym needs.0) (root_sat v (le_trans needs.2 (closed.superblock_root u there (leb-true _ _ (cut.has (A_superblock u) has)))))
-    need_met (A_root r) has there (Plain n) needs = absurd needs
+    need_met (A_root r) has there (Plain n) needs = plain_sat n (ap X.writes (sym needs.3) ∙ closed.root_writes r needs.0 there needs.1 (leb-true _ _ (cut.has (A_root r) has)) needs.2)
     need_met (A_root r) has there (Version f v) needs = subst (λ (i : ℕ). Satisfied g xs (Version i v)) (sym needs.2)
         (superblock_sat needs.0 v needs.1 (le_trans needs.4 (closed.root_superblocks r there (leb-true _ _ (cut.has (A_root r) has)) needs.0)))
 
@@ -127,6 +127,11 @@ module _ (S : Shape) (F : Formats) {opening : Opening} (opened : ℕ → Page) (
           (λ (same : X.root ≡ w.persistent.root). le_trans (safe.closed.root_superblocks r has (le_trans ver (le_of_eq same)) j) (cut.low.superblocks j))
           (λ new. (let there : new.0 ∈ roots_of w.elements = listed w.elements (A_root new.0) (waits (A_root new.0) new.1).0 in
           le_trans (safe.nested_roots r new.0 has there (le_trans ver (le_of_eq (sym new.2))) j) (of_section new.0 new.1 there j)))
+          cut.root;
+      root_writes = λ r x has has_x ver bound. ⊎_elim
+          (λ (same : X.root ≡ w.persistent.root). cut.low.writes x.number (safe.closed.root_writes r x has has_x (le_trans ver (le_of_eq same)) bound))
+          (λ new. (let there : new.0 ∈ roots_of w.elements = listed w.elements (A_root new.0) (waits (A_root new.0) new.1).0 in
+          sat_plain x has_x (need (A_root new.0) new.1 (Plain x.number) (x, has_x, le_trans bound (safe.nested_pages r new.0 has there (le_trans ver (le_of_eq (sym new.2)))), refl))))
           cut.root;
     }
       where

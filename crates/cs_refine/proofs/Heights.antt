@@ -78,11 +78,20 @@ module _ (S : Shape) (F : Formats) {opening : Opening} (opened : ℕ → Page) (
           (name_needs S F opened w g safe is (A_superblock u) (Plain x.number) waits (x, has_x, sec, bound, refl))
     ],
   )
-  ready (A_root r) waits has none = λ j. ⊎_elim
-      (λ (low : w.persistent.superblocks j < r.superblocks j). (let at = superblock_waits j (r.superblocks j) low ((safe.roots_below r has).1 j) in
-      absurd (none (Version (family_of j) (r.superblocks j)) (version_needs S F opened w g safe is (A_root r) (family_of j) (r.superblocks j) waits (j, at.0, refl, omega arith, le_refl _)) at.1)))
-      (λ (met : r.superblocks j ≤ w.persistent.superblocks j). met)
-      (cases_lt (w.persistent.superblocks j) (r.superblocks j))
+  ready (A_root r) waits has none = (
+    λ j. ⊎_elim
+        (λ (low : w.persistent.superblocks j < r.superblocks j). (let at = superblock_waits j (r.superblocks j) low ((safe.roots_below r has).1 j) in
+        absurd (none (Version (family_of j) (r.superblocks j)) (version_needs S F opened w g safe is (A_root r) (family_of j) (r.superblocks j) waits (j, at.0, refl, omega arith, le_refl _)) at.1)))
+        (λ (met : r.superblocks j ≤ w.persistent.superblocks j). met)
+        (cases_lt (w.persistent.superblocks j) (r.superblocks j)),
+    λ x has_x bound. elim (cases_Bool (w.persistent.writes x.number)) [
+      | inl met ↦ met
+      | inr not ↦ ⊎_elim
+          (λ (named : Needs g (name (A_root r)) (Plain x.number)). absurd (none (Plain x.number) named (waits_name S F opened w g safe is (A_write x) (write_in w.elements x has_x, not))))
+          (λ (out : MayLeaveOut S w.persistent (A_root r) (Plain x.number)). absurd out)
+          (name_needs S F opened w g safe is (A_root r) (Plain x.number) waits (x, has_x, bound, refl))
+    ],
+  )
 
   -- a waiting version is above the persistent one
   root_above : (n : ℕ) → Waits g (Version 1 n) → w.persistent.root < n
@@ -137,10 +146,12 @@ module _ (S : Shape) (F : Formats) {opening : Opening} (opened : ℕ → Page) (
   not_ready (A_superblock u) waits met (Version f v) needs wait =
       let n = needs_name S F opened w g safe is (A_superblock u) (Version f v) waits needs in
       let low : w.persistent.root < v = root_above v (subst (λ (i : ℕ). Waits g (Version i v)) n.0 wait) in let le : v ≤ u.root = n.2 in let up : u.root ≤ w.persistent.root = met.0 in absurd (omega arith)
-  not_ready (A_root r) waits met (Plain n) needs wait = absurd (needs_name S F opened w g safe is (A_root r) (Plain n) waits needs)
+  not_ready (A_root r) waits met (Plain n) needs wait =
+      let at = needs_name S F opened w g safe is (A_root r) (Plain n) waits needs in
+      absurd (true≢false (sym (met.1 at.0 at.1 at.2) ∙ ap w.persistent.writes at.3 ∙ write_waits n wait))
   not_ready (A_root r) waits met (Version f v) needs wait =
       let n = needs_name S F opened w g safe is (A_root r) (Version f v) waits needs in
-      let low : w.persistent.superblocks n.0 < v = superblock_above n.0 v (subst (λ (i : ℕ). Waits g (Version i v)) n.2 wait) in let le : v ≤ r.superblocks n.0 = n.4 in let up : r.superblocks n.0 ≤ w.persistent.superblocks n.0 = met n.0 in absurd (omega arith)
+      let low : w.persistent.superblocks n.0 < v = superblock_above n.0 v (subst (λ (i : ℕ). Waits g (Version i v)) n.2 wait) in let le : v ≤ r.superblocks n.0 = n.4 in let up : r.superblocks n.0 ≤ w.persistent.superblocks n.0 = met.0 n.0 in absurd (omega arith)
 
   module _ (target : Named) (all : NamesAll g target) where
     pub due : (m : Element) → IsWaiting w m → IsReady m → IsDue g target 1 (name m)

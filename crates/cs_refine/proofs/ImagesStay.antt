@@ -79,7 +79,7 @@ module _ (S : Shape) (F : Formats) (P : Cut) (opened : ℕ → Page) where
 
   pub root_stays : (w : World) (n : ℕ) (runs : List Run) (m : Map) (pointers : ℕ → ℕ) → IsStaged S w P → Stays w (happens S w (StageRoot n runs m pointers))
   root_stays w n runs m pointers staged = record {
-    same = λ q. root_outside (root_now w n runs m pointers) w.elements q (let le : P.root ≤ w.root = staged.root in omega arith);
+    same = λ q. root_outside (root_now S w n runs m pointers) w.elements q (let le : P.root ≤ w.root = staged.root in omega arith);
     staged = still_staged staged (le_refl _) (λ j. le_refl _) (omega arith);
     persistent = refl;
   }

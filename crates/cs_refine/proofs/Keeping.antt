@@ -65,6 +65,10 @@ round_closed S els P R closed low ready = record {
       (λ (old : r.version ≤ P.root). le_trans (closed.root_superblocks r has old j) (low.superblocks j))
       (λ (here : (i : ℕ) → r.superblocks i ≤ P.superblocks i). le_trans (here j) (low.superblocks j))
       (ready.roots r has met);
+  root_writes = λ r x has has_x met bound. ⊎_elim
+      (λ (old : r.version ≤ P.root). low.writes x.number (closed.root_writes r x has has_x old bound))
+      (λ (here : P.writes x.number ≡ true). low.writes x.number here)
+      (ready.root_writes r x has has_x met bound);
 }
 
 module _ (F : Formats) (s : State) (x : ExtentsState) (g h : GraphState) (round : List Name) (sound : Sound (shape x) F s)

@@ -1,5 +1,5 @@
 -- A store that is opened has the machine's world at open.
-use Rattle.std.proofs.Common.{◌≡◌, inl, inr, ⊎_elim, ℕ, zero, suc, ◌<◌, ◌≤◌, Bool, if◌then◌else◌, List, [], ◌∷◌, ◌++◌, length, true≢false, le_refl, le-leb, refl, sym, ap, ◌∙◌, subst, arith}
+use Rattle.std.proofs.Common.{◌≡◌, inl, inr, ⊎_elim, ℕ, zero, suc, ◌<◌, ◌≤◌, Bool, true, if◌then◌else◌, List, [], ◌∷◌, ◌++◌, length, true≢false, le_refl, le-leb, refl, sym, ap, ◌∙◌, subst, arith}
 use Rattle.std.specs.Prelude.{slice_index}
 use Rattle.cs_deps.specs.Staging.{Staging}
 use Rattle.cs_deps.specs.State.{State as GraphState}
@@ -87,6 +87,7 @@ module _ (x : State) (g : GraphState) (F : Formats) (img : ℕ → Page) (n : �
     write_root = λ a has met. absurd (no_write (shape x).sections a has);
     superblock_root = λ u has met. of_all (λ (v : Superblock). v.root ≤ found.version) (λ j lt. omega arith) u has;
     superblock_writes = λ u a has has_a met sec bound. absurd (no_write (shape x).sections a has_a);
+    root_writes = λ r a has has_a met bound. absurd (no_write (shape x).sections a has_a);
     root_superblocks = λ r has met. of_root (λ (q : Root). (j : ℕ) → q.superblocks j ≤ found.versions j) (λ j. le_refl _) r has;
   }
 
@@ -107,7 +108,8 @@ module _ (x : State) (g : GraphState) (F : Formats) (img : ℕ → Page) (n : �
     numbers = λ k. ((λ low. absurd (omega (arith, low.0, low.1))), (λ from. absurd (no_write (shape x).sections from.0 from.1)));
     superblocks = of_all (λ (v : Superblock). (v.section < (shape x).sections) × (v.version ≤ found.versions v.section) × (v.writes ≤ 0) × (v.root ≤ need_of x v.section))
         (λ j lt. (lt, le_refl _, le_refl _, omega arith));
-    roots = of_root (λ (q : Root). (q.version ≤ found.version) × ((j : ℕ) → q.superblocks j ≤ found.versions j)) (le_refl _, (λ j. le_refl _));
+    roots = of_root (λ (q : Root). (q.version ≤ found.version) × ((j : ℕ) → q.superblocks j ≤ found.versions j) × (q.pages ≤ 0) × ((shape x).pages_first ≡ true → q.pages ≡ 0))
+        (le_refl _, (λ j. le_refl _), le_refl _, (λ rule. refl));
   }
 
   pub opened : g.staging ≡ start → IsWorldOf x g w

@@ -1,5 +1,5 @@
 -- A root that is staged in the graph is the machine's root.
-use Rattle.std.proofs.Common.{◌≡◌, ◌↔◌, inl, ⊎_elim, ℕ, suc, ◌+◌, ◌<◌, ◌≤◌, List, ◌∷◌, Some, get_or, length, length-set, get_or-set_same, get_or-set_other}
+use Rattle.std.proofs.Common.{◌≡◌, ◌↔◌, inl, ⊎_elim, ℕ, suc, ◌+◌, ◌<◌, ◌≤◌, Bool, true, if◌then◌else◌, List, ◌∷◌, Some, get_or, length, length-set, get_or-set_same, get_or-set_other}
 use Rattle.std.proofs.Common.{le_of_eq, le_trans, le_refl, refl, sym, ap, ◌∙◌, subst, arith}
 use Rattle.std.specs.Prelude.{slice_get}
 use Rattle.std.proofs.lemmas.Option.{same_Some}
@@ -11,7 +11,7 @@ use Rattle.cs_deps.specs.State.{AddsOnly, State as GraphState, write_of}
 use Rattle.cs_model.specs.Cut.{Closed}
 use Rattle.cs_model.specs.Device.{Shape}
 use Rattle.cs_model.specs.Disk.{page_write}
-use Rattle.cs_model.specs.Element.{A_root, A_superblock, A_write, Element, Map, Root, Run, log_of, roots_of}
+use Rattle.cs_model.specs.Element.{A_root, A_superblock, A_write, Element, Map, Root, Run, Write, log_of, roots_of, writes_of}
 use Rattle.cs_model.specs.Lists.{◌∈◌}
 use Rattle.cs_model.specs.Machine.{StageRoot, World, happens, root_now}
 use Rattle.cs_model.proofs.Waiting.{listed}
@@ -23,9 +23,13 @@ use Rattle.cs_refine.specs.Stores.{AreWritesOf, IsStagingOf, IsWorldOf}
 use Rattle.cs_refine.proofs.Places.{At, from_waiting, match_at, not_one, section_of_family, some_at}
 use Rattle.cs_refine.proofs.Stagings.{root_staged}
 
-module _ (S : Shape) (some : 0 < S.sections) (need : ℕ → ℕ) (w : World) (s : Staging) (is : IsStagingOf S need w s) where
-  -- a root that needs the last version of each section
-  module _ (q : Root) (same : q.superblocks ≡ w.superblocks) where
+module _ (S : Shape) (some : 0 < S.sections) (need : ℕ → ℕ) (w : World) (s : Staging) (is : IsStagingOf S need w s) (rule : S.pages_first ≡ true) where
+  -- plain writes are numbered from 1 on
+  none_needed : (r : Root) → r.pages ≡ 0 → (x : Write) → x ∈ writes_of w.elements → x.number ≤ r.pages → ⊥
+  none_needed r none x has bound = let low : 1 ≤ x.number = ((is.numbers x.number).1 (x, has, refl)).0 in omega arith
+
+  -- a root that needs the last version of each section, and no plain write itself
+  module _ (q : Root) (same : q.superblocks ≡ w.superblocks) (none : q.pages ≡ 0) where
     as_latest : (j : ℕ) → j < S.sections → q.superblocks j ≡ get_or s.latest (family_of j) 0
     as_latest j lt = ap (λ (g : ℕ → ℕ). g j) same ∙ is.sections j lt
 
@@ -37,7 +41,7 @@ module _ (S : Shape) (some : 0 < S.sections) (need : ℕ → ℕ) (w : World) (s
         (at.0, at.1, at.2, h.1, le_trans h.2 (le_of_eq (ap (λ (k : ℕ). get_or s.latest k 0) at.2 ∙ sym (as_latest at.0 at.1))))
 
     to_own : (z : Name) → NeedsName S (A_root q ∷ w.elements) (A_root q) z → IsSectionVersionUpTo s.latest z
-    to_own (Plain n) needs = absurd needs
+    to_own (Plain n) needs = absurd (none_needed q none needs.0 needs.1 needs.2)
     to_own (Version f v) needs = (
       (λ root. not_one needs.0 (sym needs.2 ∙ root)),
       needs.3,
@@ -46,7 +50,7 @@ module _ (S : Shape) (some : 0 < S.sections) (need : ℕ → ℕ) (w : World) (s
 
     -- it needs what a root that was staged before needs
     of_root : (r : Root) → r ∈ roots_of w.elements → (z : Name) → NeedsName S w.elements (A_root r) z → NeedsName S (A_root q ∷ w.elements) (A_root q) z
-    of_root r has (Plain n) needs = absurd needs
+    of_root r has (Plain n) needs = absurd (none_needed r ((is.roots r has).3 rule) needs.0 needs.1 needs.2)
     of_root r has (Version f v) needs =
         (needs.0, needs.1, needs.2, needs.3, le_trans needs.4 (le_trans ((is.roots r has).1 needs.0) (le_of_eq (ap (λ (g : ℕ → ℕ). g needs.0) (sym same)))))
 
@@ -68,39 +72,52 @@ module _ (S : Shape) (some : 0 < S.sections) (need : ℕ → ℕ) (w : World) (s
         let number : r.version ≡ suc w.root = ap (λ (p : Root). p.version) here ∙ version in omega arith))
         (λ (old : r ∈ roots_of w.elements). is.closed.root_superblocks r old met)
         has;
+    root_writes = λ r x has has_x met bound. ⊎_elim
+        (λ (here : r ≡ q). absurd (
+        let low : r.version ≤ w.persistent.root = met in
+        let high : w.persistent.root ≤ w.root = is.persistent.root in
+        let number : r.version ≡ suc w.root = ap (λ (p : Root). p.version) here ∙ version in omega arith))
+        (λ (old : r ∈ roots_of w.elements). is.closed.root_writes r x old has_x met bound)
+        has;
   }
 
   module _ (v : ℕ) (own : Named) (new : Staging) (staged : IsVersionStaged s root_family v own new) (names : (z : Name) → Names own z ↔ IsSectionVersionUpTo s.latest z) where
-    pub root_needs : (q : Root) → q.superblocks ≡ w.superblocks → (z : Name) → Names (staged.1) z ↔ NeedsName S (A_root q ∷ w.elements) (A_root q) z
-    root_needs q same z = (
+    pub root_needs : (q : Root) → q.superblocks ≡ w.superblocks → q.pages ≡ 0 → (z : Name) → Names (staged.1) z ↔ NeedsName S (A_root q ∷ w.elements) (A_root q) z
+    root_needs q same none z = (
       (λ h. ⊎_elim
-          (λ (given : Names own z). of_own q same z ((names z).0 given))
+          (λ (given : Names own z). of_own q same none z ((names z).0 given))
           (λ (before : (k : ℕ) × (d : Named) × (slice_get s.pending.waiting k ≡ Some (Version root_family staged.0, d)) × Names d z).
           let from = match_at S w.persistent w.elements (waiting_in w.persistent w.elements) s.pending.waiting before.0 (Version root_family staged.0) before.1 is.pending.waiting before.2 in
-          of_before q same z from.0 (from_waiting w.persistent w.elements from.0 from.1).0 staged.0 before.1 from.2 before.3)
+          of_before q same none z from.0 (from_waiting w.persistent w.elements from.0 from.1).0 staged.0 before.1 from.2 before.3)
           ((staged.4 z).0 h)),
-      (λ h. (staged.4 z).1 (inl ((names z).1 (to_own q same z h)))),
+      (λ h. (staged.4 z).1 (inl ((names z).1 (to_own q same none z h)))),
     )
 
     pub next_version : v ≡ suc w.root
     next_version = let a : v ≡ staged.0 + 1 = staged.3 in let b : staged.0 ≡ get_or s.latest root_family 0 = staged.2 in let e : w.root ≡ get_or s.latest root_family 0 = is.root in omega arith
 
+    -- the machine's root needs no plain write itself
+    free : (n : ℕ) (runs : List Run) (m : Map) (pointers : ℕ → ℕ) → (root_now S w n runs m pointers).pages ≡ 0
+    free n runs m pointers = ap (λ (b : Bool). if b then 0 else w.written) rule
+
     pub root_step : (n : ℕ) (runs : List Run) (m : Map) (pointers : ℕ → ℕ) → IsStagingOf S need (happens S w (StageRoot n runs m pointers)) new
     root_step n runs m pointers = subst (λ (t : Staging). IsStagingOf S need (happens S w (StageRoot n runs m pointers)) t) (sym staged.5) (record {
       pending = subst (λ (k : ℕ). IsPendingOf S (happens S w (StageRoot n runs m pointers)) (staged_after s.pending (Version 1 k) staged.1)) (sym next_version)
-          (root_staged S w s.pending is.persistent (λ u has. (is.superblocks u has).2) is.pending (root_now w n runs m pointers) staged.1 (happens S w (StageRoot n runs m pointers)) refl refl refl
-          (root_needs (root_now w n runs m pointers) refl));
+          (root_staged S w s.pending is.persistent (λ u has. (is.superblocks u has).2) (λ r has. (is.roots r has).2) is.pending (root_now S w n runs m pointers) staged.1 (happens S w (StageRoot n runs m pointers)) refl refl refl
+          (root_needs (root_now S w n runs m pointers) refl (free n runs m pointers)));
       written = is.written;
       families = length-set s.latest root_family v ∙ is.families;
       sections = λ j lt. is.sections j lt ∙ sym (get_or-set_other s.latest root_family (family_of j) v 0 (not_one j));
       root = sym next_version ∙ sym (get_or-set_same s.latest root_family v 0 (let e : length s.latest ≡ suc S.sections = is.families in let lt : 0 < S.sections = some in omega arith));
       persistent = record { writes = is.persistent.writes; superblocks = is.persistent.superblocks; root = (let le : w.persistent.root ≤ w.root = is.persistent.root in omega arith) };
-      closed = closed_on (root_now w n runs m pointers) refl;
+      closed = closed_on (root_now S w n runs m pointers) refl;
       numbers = is.numbers;
       superblocks = is.superblocks;
       roots = λ r has. ⊎_elim
-          (λ (here : r ≡ root_now w n runs m pointers). subst (λ (q : Root). (q.version ≤ suc w.root) × ((j : ℕ) → q.superblocks j ≤ w.superblocks j)) (sym here) (le_refl _, (λ j. le_refl _)))
-          (λ (old : r ∈ roots_of w.elements). (let from = is.roots r old in ((let le : r.version ≤ w.root = from.0 in omega arith), from.1)))
+          (λ (here : r ≡ root_now S w n runs m pointers).
+          subst (λ (q : Root). (q.version ≤ suc w.root) × ((j : ℕ) → q.superblocks j ≤ w.superblocks j) × (q.pages ≤ w.written) × (S.pages_first ≡ true → q.pages ≡ 0)) (sym here)
+          (le_refl _, (λ j. le_refl _), le_trans (le_of_eq (free n runs m pointers)) (omega arith), (λ first. free n runs m pointers)))
+          (λ (old : r ∈ roots_of w.elements). (let from = is.roots r old in ((let le : r.version ≤ w.root = from.0 in omega arith), from.1, from.2, from.3)))
           has;
     })
 
@@ -115,7 +132,7 @@ module _ (S : Shape) (some : 0 < S.sections) (need : ℕ → ℕ) (w : World) (s
 module _ (x : State) (g h : GraphState) (w : World) (some : 0 < (shape x).sections) (is : IsWorldOf x g w) (v : ℕ) (own : Named) (staged : IsVersionStaged g.staging root_family v own h.staging)
     (names : (z : Name) → Names own z ↔ IsSectionVersionUpTo g.staging.latest z) (n : ℕ) (runs : List Run) (m : Map) (pointers : ℕ → ℕ) where
   abbrev root : Root
-  root = root_now w n runs m pointers
+  root = root_now (shape x) w n runs m pointers
 
   abbrev next : World
   next = happens (shape x) w (StageRoot n runs m pointers)
@@ -126,18 +143,18 @@ module _ (x : State) (g h : GraphState) (w : World) (some : 0 < (shape x).sectio
         (λ (here : k ≡ A_root root).
         same_Some p (page_write (shape x) (formats_of (shape x)) (A_root root))
         (sym there ∙ ap (λ (e : Element). write_of h (name e)) here
-        ∙ ap (λ (i : ℕ). write_of h (Version root_family i)) (sym (next_version (shape x) some (need_of x) w g.staging is.staging v own h.staging staged names)) ∙ kept)
+        ∙ ap (λ (i : ℕ). write_of h (Version root_family i)) (sym (next_version (shape x) some (need_of x) w g.staging is.staging refl v own h.staging staged names)) ∙ kept)
         ∙ ap (page_write (shape x) (formats_of (shape x))) (sym here))
         (λ (old : k ∈ w.elements). ⊎_elim
         (λ (before : write_of g (name k) ≡ Some p). is.writes k p (old, waits.1) before)
-        (λ (new : name k ≡ Version root_family v). absurd (not_the_root (shape x) some (need_of x) w g.staging is.staging v own h.staging staged names k old new))
+        (λ (new : name k ≡ Version root_family v). absurd (not_the_root (shape x) some (need_of x) w g.staging is.staging refl v own h.staging staged names k old new))
         (others (name k) p there))
         waits.0
 
     pub after_root : IsWorldOf x h next
     after_root = record {
       extents = is.extents;
-      staging = root_step (shape x) some (need_of x) w g.staging is.staging v own h.staging staged names n runs m pointers;
+      staging = root_step (shape x) some (need_of x) w g.staging is.staging refl v own h.staging staged names n runs m pointers;
       recorded = λ a has. is.recorded a has;
       resets = λ e. (let le : w.extents.reset e ≤ w.root = is.resets e in omega arith);
       writes = root_writes;

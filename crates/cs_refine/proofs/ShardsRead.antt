@@ -12,7 +12,6 @@ use Rattle.cs_frame.specs.Formats.{as_locator, formats_of, refusal_of}
 use Rattle.cs_frame.specs.Frames.{frame_fault}
 use Rattle.cs_index.specs.State.{State as IndexState, index_of}
 use Rattle.cs_model.proofs.Frozen.{damage_stays}
-use Rattle.cs_model.proofs.Gives.{entry_passes}
 use Rattle.cs_model.specs.Device.{Inside, Page, PageKind}
 use Rattle.cs_model.specs.Element.{Bytes, Content, Damaged, Locator as Place}
 use Rattle.cs_model.specs.Events.{ReadsNow, newest_page}
@@ -132,8 +131,7 @@ module _ (x : ExtentsState) (s : State) (held : Image) (whole : IsWhole x) (soun
     same_live = live_same (index_of i) (index_now s) (looked_up i s.table s.runs is) id
 
     located : (l : Place) → l ∈ live_at (index_of i) id → IsLocated l
-    located l has = go (lookup id (index_now s)) (entry_passes (shape x) (formats_of (shape x)) (store_shape x whole) (store_format x whole) (newest_page s) s.world.extents.pointer s.world.extents.generation
-        s.table s.runs (map_now s) sound.gives id) (subst (λ (ls : List Place). l ∈ ls) same_live has)
+    located l has = go (lookup id (index_now s)) (sound.gives.visible_pass id) (subst (λ (ls : List Place). l ∈ ls) same_live has)
       where
         go : (o : Option (List Place)) → AllPass (shape x) (formats_of (shape x)) (newest_page s) s.world.extents.pointer s.world.extents.generation o → l ∈ live o → IsLocated l
         go None all none = absurd none

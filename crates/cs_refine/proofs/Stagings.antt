@@ -8,7 +8,7 @@ use Rattle.cs_deps.specs.Pending.{Pending}
 use Rattle.cs_deps.specs.Staging.{staged_after}
 use Rattle.cs_model.specs.Lists.{◌∈◌}
 use Rattle.cs_model.specs.Device.{Shape, Page}
-use Rattle.cs_model.specs.Element.{Element, A_write, A_superblock, A_root, Write, Superblock, Root, superblocks_of, writes_of}
+use Rattle.cs_model.specs.Element.{Element, A_write, A_superblock, A_root, Write, Superblock, Root, roots_of, superblocks_of, writes_of}
 use Rattle.cs_model.specs.Cut.{Cut, satisfied}
 use Rattle.cs_model.specs.Machine.{World, StagePage, happens}
 use Rattle.cs_model.specs.Safe.{IsStaged}
@@ -60,10 +60,12 @@ same_needs S old new same (A_write x) (Version f v) = ((λ h. h), (λ h. h))
 same_needs S old new same (A_superblock u) (Plain n) =
     ((λ h. (h.0, subst (λ (ws : List Write). h.0 ∈ ws) (sym same) h.1, h.2, h.3, h.4)), (λ h. (h.0, subst (λ (ws : List Write). h.0 ∈ ws) same h.1, h.2, h.3, h.4)))
 same_needs S old new same (A_superblock u) (Version f v) = ((λ h. h), (λ h. h))
-same_needs S old new same (A_root r) (Plain n) = ((λ h. h), (λ h. h))
+same_needs S old new same (A_root r) (Plain n) =
+    ((λ h. (h.0, subst (λ (ws : List Write). h.0 ∈ ws) (sym same) h.1, h.2, h.3)), (λ h. (h.0, subst (λ (ws : List Write). h.0 ∈ ws) same h.1, h.2, h.3)))
 same_needs S old new same (A_root r) (Version f v) = ((λ h. h), (λ h. h))
 
-module _ (S : Shape) (w : World) (g : Pending) (low : IsStaged S w w.persistent) (below : (u : Superblock) → u ∈ superblocks_of w.elements → u.writes ≤ w.written) (is : IsPendingOf S w g) where
+module _ (S : Shape) (w : World) (g : Pending) (low : IsStaged S w w.persistent) (below : (u : Superblock) → u ∈ superblocks_of w.elements → u.writes ≤ w.written)
+    (below_root : (r : Root) → r ∈ roots_of w.elements → r.pages ≤ w.written) (is : IsPendingOf S w g) where
   pushed : (e : Element) (d : Named) (b : Bool) → b ≡ false → ((m : Element) → m ∈ waiting_in w.persistent w.elements → (z : Name) → NeedsName S w.elements m z ↔ NeedsName S (e ∷ w.elements) m z)
       → AreNeedsOf S w.persistent (e ∷ w.elements) e d
       → Matches S w.persistent (e ∷ w.elements) (if b then waiting_in w.persistent w.elements else waiting_in w.persistent w.elements ++ e ∷ []) (g.waiting ++ (name e, d) ∷ [])
@@ -85,7 +87,16 @@ module _ (S : Shape) (w : World) (g : Pending) (low : IsStaged S w w.persistent)
     )),
   )
   page_needs x new (A_superblock u) has (Version f v) = ((λ h. h), (λ h. h))
-  page_needs x new (A_root r) has (Plain n) = ((λ h. h), (λ h. h))
+  page_needs x new (A_root r) has (Plain n) = (
+    (λ h. (h.0, inr h.1, h.2, h.3)),
+    (λ h. (
+      h.0,
+      ⊎_elim (λ (same : h.0 ≡ x). absurd (let old : r.pages ≤ w.written = below_root r has in let le : h.0.number ≤ r.pages = h.2 in let e : h.0.number ≡ x.number = ap (λ (y : Write). y.number) same in omega arith))
+          (λ (old : h.0 ∈ writes_of w.elements). old) h.1,
+      h.2,
+      h.3,
+    )),
+  )
   page_needs x new (A_root r) has (Version f v) = ((λ h. h), (λ h. h))
 
   pub page_staged : (p : ℕ) (b : Page) (d : Named) → (let x : Write = record { number = suc w.written; page = p; bytes = b; root = w.extents.reset (S.extent p) } in

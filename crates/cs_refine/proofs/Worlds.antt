@@ -1,5 +1,5 @@
 -- What was staged in the world was staged in the graph, move by move.
-use Rattle.std.proofs.Common.{◌≡◌, ◌⊎◌, ◌↔◌, inl, inr, ⊎_elim, ℕ, suc, ◌+◌, ◌<◌, ◌≤◌, Bool, true, false, List, [], ◌∷◌, ◌++◌, length, set, Some, get_or, slice_get, append_assoc}
+use Rattle.std.proofs.Common.{◌≡◌, ◌⊎◌, ◌↔◌, inl, inr, ⊎_elim, ℕ, suc, ◌+◌, ◌<◌, ◌≤◌, Bool, true, false, if◌then◌else◌, List, [], ◌∷◌, ◌++◌, length, set, Some, get_or, slice_get, append_assoc}
 use Rattle.std.proofs.Common.{append-nil, length-set, get_or-set_same, get_or-set_other, le_of_eq, leb-true}
 use Rattle.std.proofs.Common.{le_trans, le_refl, refl, sym, ap, ◌∙◌, subst, arith}
 use Rattle.std.proofs.lemmas.Bool.{cases_eq, cases_lt}
@@ -95,13 +95,20 @@ module _ (S : Shape) (need : ℕ → ℕ) where
           (λ (old : y ∈ writes_of w.elements). is.closed.superblock_writes u y has old met sec bound)
           has_y;
       root_superblocks = λ r has met. is.closed.root_superblocks r has met;
+      root_writes = λ r y has has_y met bound. ⊎_elim
+          (λ (here : y ≡ x). absurd (
+          let low : y.number ≤ r.pages = bound in
+          let staged : r.pages ≤ w.written = (is.roots r has).2 in
+          let number : y.number ≡ suc w.written = ap (λ (a : Write). a.number) here ∙ new in omega arith))
+          (λ (old : y ∈ writes_of w.elements). is.closed.root_writes r y has old met bound)
+          has_y;
     }
 
     pub page_step : (p root : ℕ) (b : Page) (d : Named) → w.extents.reset (S.extent p) ≡ root → ((z : Name) → Names d z ↔ IsVersionUpTo root_family root z)
         → IsStagingOf S need (happens S w (StagePage p b)) (record { pending = staged_after s.pending (Plain (suc s.staged)) d; staged = suc s.staged; latest = s.latest })
     page_step p root b d same names = record {
       pending = subst (λ (n : ℕ). IsPendingOf S (happens S w (StagePage p b)) (staged_after s.pending (Plain (suc n)) d)) is.written
-          (page_staged S w s.pending is.persistent (λ u has. (is.superblocks u has).2) is.pending p b d (page_needs (write_now S w p b) root same d names));
+          (page_staged S w s.pending is.persistent (λ u has. (is.superblocks u has).2) (λ r has. (is.roots r has).2) is.pending p b d (page_needs (write_now S w p b) root same d names));
       written = ap suc is.written;
       families = is.families;
       sections = is.sections;
@@ -110,7 +117,7 @@ module _ (S : Shape) (need : ℕ → ℕ) where
       closed = closed_still (write_now S w p b) refl;
       numbers = more_numbers (write_now S w p b) refl;
       superblocks = λ u has. (let old = is.superblocks u has in (old.0, old.1, (let le : u.writes ≤ w.written = old.2 in omega arith), old.3));
-      roots = is.roots;
+      roots = λ r has. (let old = is.roots r has in (old.0, old.1, (let le : r.pages ≤ w.written = old.2 in omega arith), old.3));
     }
 
   -- the pages of a frame
@@ -173,9 +180,9 @@ module _ (S : Shape) (need : ℕ → ℕ) where
     pub needs_within : (j k v : ℕ) (d : Named) (z : Name) → slice_get s.pending.waiting k ≡ Some (Version (family_of j) v, d) → Names d z → IsSectionNeed 1 s.staged (need j) z
     needs_within j k v d z at names = let u = waiting_version j k v d at in within j u.0 u.1 u.2 z (u.3 z names)
 
-  -- A version of section j, which needs of its own the plain writes from `first` on, all on extents of its section. An older one of them
-  -- is needed by the version before.
-  module _ (w : World) (s : Staging) (is : IsStagingOf S need w s) (j : ℕ) (there : j < S.sections) (first : ℕ) (some : 1 ≤ first)
+  -- Where page writes come first: a version of section j, which needs of its own the plain writes from `first` on, all on extents of its
+  -- section. An older one of them is needed by the version before.
+  module _ (w : World) (s : Staging) (is : IsStagingOf S need w s) (rule : S.pages_first ≡ true) (j : ℕ) (there : j < S.sections) (first : ℕ) (some : 1 ≤ first)
       (own : (x : Write) → x ∈ writes_of w.elements → first ≤ x.number → section_of S x.page ≡ j)
       (older : (x : Write) → x ∈ writes_of w.elements → x.number < first → section_of S x.page ≡ j → (1 < S.sections) × IsRecorded S w x)
       (new : Staging) (staged : IsSectionStaged s new j first (need j)) where
@@ -188,14 +195,17 @@ module _ (S : Shape) (need : ℕ → ℕ) where
     abbrev latest : ℕ
     latest = get_or s.latest (family_of j) 0
 
+    all_needed : it.writes ≡ w.written
+    all_needed = ap (λ (b : Bool). if b then w.written else 0) rule
+
     of_own : (z : Name) → IsSectionNeed first s.staged (need j) z → NeedsName S more (A_superblock it) z
     of_own (Plain n) h =
         let from = (is.numbers n).0 (le_trans some h.0, le_trans h.1 (le_of_eq (sym is.written))) in
-        (from.0, from.1, own from.0 from.1 (le_trans h.0 (le_of_eq (sym from.2))), le_trans (le_of_eq from.2) (le_trans h.1 (le_of_eq (sym is.written))), from.2)
+        (from.0, from.1, own from.0 from.1 (le_trans h.0 (le_of_eq (sym from.2))), le_trans (le_of_eq from.2) (le_trans h.1 (le_of_eq (sym is.written ∙ sym all_needed))), from.2)
     of_own (Version f v) h = (h.0, h.1, h.2)
 
     of_before : (u : Superblock) → u ∈ superblocks_of w.elements → u.section ≡ j → (z : Name) → NeedsName S w.elements (A_superblock u) z → NeedsName S more (A_superblock it) z
-    of_before u has same (Plain n) needs = (needs.0, needs.1, needs.2 ∙ same, le_trans needs.3 (is.superblocks u has).2, needs.4)
+    of_before u has same (Plain n) needs = (needs.0, needs.1, needs.2 ∙ same, le_trans needs.3 (le_trans (is.superblocks u has).2 (le_of_eq (sym all_needed))), needs.4)
     of_before u has same (Version f v) needs = (needs.0, needs.1, le_trans needs.2 (subst (λ (i : ℕ). u.root ≤ need i) same (is.superblocks u has).3))
 
     needs_only : (z : Name) → Names staged.version.1 z → NeedsName S more (A_superblock it) z
@@ -230,14 +240,14 @@ module _ (S : Shape) (need : ℕ → ℕ) where
     older_one : (x : Write) → x ∈ writes_of w.elements → section_of S x.page ≡ j → (1 < S.sections) × IsRecorded S w x
         → Names staged.version.1 (Plain x.number) ⊎ MayLeaveOut S w.persistent (A_superblock it) (Plain x.number)
     older_one x has sec (several, (q, has_q, same, last, bound)) =
-        by_last x q has has_q (sym same) (same ∙ sec) last bound several (satisfied w.persistent (A_superblock q)) refl
+        by_last x q has has_q (sym same) (same ∙ sec) last (bound rule) several (satisfied w.persistent (A_superblock q)) refl
 
     needs_all : (z : Name) → NeedsName S more (A_superblock it) z → Names staged.version.1 z ⊎ MayLeaveOut S w.persistent (A_superblock it) z
     needs_all (Version f v) needs = inl (own_named (Version f v) (needs.0, needs.1, needs.2))
     needs_all (Plain n) needs = subst (λ (i : ℕ). Names staged.version.1 (Plain i) ⊎ MayLeaveOut S w.persistent (A_superblock it) (Plain i)) needs.4
         (elim (cases_lt needs.0.number first) [
           | inl old ↦ older_one needs.0 needs.1 needs.2 (older needs.0 needs.1 old needs.2)
-          | inr late ↦ inl (own_named (Plain needs.0.number) (late, le_trans needs.3 (le_of_eq is.written)))
+          | inr late ↦ inl (own_named (Plain needs.0.number) (late, le_trans needs.3 (le_of_eq (all_needed ∙ is.written))))
         ])
 
     next_is : suc (w.superblocks j) ≡ latest + 1
@@ -272,6 +282,7 @@ module _ (S : Shape) (need : ℕ → ℕ) where
           (λ (old : u ∈ superblocks_of w.elements). is.closed.superblock_writes u x old has_x met sec bound)
           has;
       root_superblocks = λ r has met. is.closed.root_superblocks r has met;
+      root_writes = λ r x has has_x met bound. is.closed.root_writes r x has has_x met bound;
     }
 
     rises : (i : ℕ) → w.superblocks i ≤ with w.superblocks j (suc (w.superblocks j)) i
@@ -280,7 +291,7 @@ module _ (S : Shape) (need : ℕ → ℕ) where
     pub section_step : IsStagingOf S need (happens S w (StageSuperblock j (need j))) new
     section_step = subst (λ (t : Staging). IsStagingOf S need (happens S w (StageSuperblock j (need j))) t) (sym staged.version.5) (record {
       pending = subst (λ (v : ℕ). IsPendingOf S (happens S w (StageSuperblock j (need j))) (staged_after s.pending (Version (family_of j) v) staged.version.1)) next_is
-          (version_staged S w s.pending is.persistent (λ u has. (is.superblocks u has).2) is.pending it staged.version.1 (happens S w (StageSuperblock j (need j))) refl refl refl
+          (version_staged S w s.pending is.persistent (λ u has. (is.superblocks u has).2) (λ r has. (is.roots r has).2) is.pending it staged.version.1 (happens S w (StageSuperblock j (need j))) refl refl refl
           (record { only = needs_only; all = needs_all }));
       written = is.written;
       families = length-set s.latest (family_of j) (latest + 1) ∙ is.families;
@@ -292,8 +303,8 @@ module _ (S : Shape) (need : ℕ → ℕ) where
       superblocks = λ u has. ⊎_elim
           (λ (here : u ≡ it). subst
           (λ (v : Superblock). (v.section < S.sections) × (v.version ≤ with w.superblocks j (suc (w.superblocks j)) v.section) × (v.writes ≤ w.written) × (v.root ≤ need v.section))
-          (sym here) (there, le_of_eq (sym (with_same w.superblocks j (suc (w.superblocks j)) j refl)), le_refl _, le_refl _))
+          (sym here) (there, le_of_eq (sym (with_same w.superblocks j (suc (w.superblocks j)) j refl)), le_of_eq all_needed, le_refl _))
           (λ (old : u ∈ superblocks_of w.elements). (let from = is.superblocks u old in (from.0, le_trans from.1 (rises u.section), from.2, from.3)))
           has;
-      roots = λ r has. (let old = is.roots r has in (old.0, (λ i. le_trans (old.1 i) (rises i))));
+      roots = λ r has. (let old = is.roots r has in (old.0, (λ i. le_trans (old.1 i) (rises i)), old.2, old.3));
     })

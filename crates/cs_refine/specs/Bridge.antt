@@ -23,7 +23,7 @@ NeedsName S staged (A_write x) (Plain n) = ⊥
 NeedsName S staged (A_write x) (Version f v) = (f ≡ 1) × (1 ≤ v) × (v ≤ x.root)
 NeedsName S staged (A_superblock u) (Plain n) = (x : Write) × (x ∈ writes_of staged) × (section_of S x.page ≡ u.section) × (x.number ≤ u.writes) × (x.number ≡ n)
 NeedsName S staged (A_superblock u) (Version f v) = (f ≡ 1) × (1 ≤ v) × (v ≤ u.root)
-NeedsName S staged (A_root r) (Plain n) = ⊥
+NeedsName S staged (A_root r) (Plain n) = (x : Write) × (x ∈ writes_of staged) × (x.number ≤ r.pages) × (x.number ≡ n)
 NeedsName S staged (A_root r) (Version f v) = (j : ℕ) × (j < S.sections) × (f ≡ family_of j) × (1 ≤ v) × (v ≤ r.superblocks j)
 
 -- what isn't satisfied in P, oldest first

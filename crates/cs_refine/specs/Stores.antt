@@ -1,5 +1,5 @@
 -- Which world a store is: its extents, and the graph of what it staged.
-use Rattle.std.specs.Prelude.{◌≡◌, ◌↔◌, ◌<◌, ◌≤◌, ℕ, suc, Contains, List, Some, length, slice_index}
+use Rattle.std.specs.Prelude.{◌≡◌, ◌↔◌, ◌<◌, ◌≤◌, ℕ, suc, true, Contains, List, Some, length, slice_index}
 use Rattle.cs_deps.specs.declared.elements.Element.{Element as Name}
 use Rattle.cs_deps.specs.Staging.{Staging}
 use Rattle.cs_deps.specs.State.{State as GraphState, Write as PageWrite, write_of}
@@ -36,13 +36,14 @@ pub record IsStagingOf (S : Shape) (need : ℕ → ℕ) (w : World) (s : Staging
   -- a version of a section is of one that is there, and needs staged plain writes
   pub superblocks : (u : Superblock) → u ∈ superblocks_of w.elements
       → (u.section < S.sections) × (u.version ≤ w.superblocks u.section) × (u.writes ≤ w.written) × (u.root ≤ need u.section)
-  -- a version of the root needs staged versions of the sections
-  pub roots : (r : Root) → r ∈ roots_of w.elements → (r.version ≤ w.root) × ((j : ℕ) → r.superblocks j ≤ w.superblocks j)
+  -- a version of the root needs staged versions of the sections and staged plain writes, and none where page writes come first
+  pub roots : (r : Root) → r ∈ roots_of w.elements → (r.version ≤ w.root) × ((j : ℕ) → r.superblocks j ≤ w.superblocks j) × (r.pages ≤ w.written)
+      × (S.pages_first ≡ true → r.pages ≡ 0)
 
--- the last version of its extent's section needs the plain write
+-- the last version of its extent's section is staged, and needs the plain write where page writes come first
 abbrev pub IsRecorded : Shape → World → Write → Type 0
 IsRecorded S w x = (u : Superblock) × (u ∈ superblocks_of w.elements) × (u.section ≡ section_of S x.page)
-    × (u.version ≡ w.superblocks u.section) × (x.number ≤ u.writes)
+    × (u.version ≡ w.superblocks u.section) × (S.pages_first ≡ true → x.number ≤ u.writes)
 
 -- whatever write is kept for an element that waits, it is one to the element's page, with its bytes
 abbrev pub AreWritesOf : Shape → World → GraphState → Type 0

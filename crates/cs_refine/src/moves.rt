@@ -45,7 +45,7 @@ pub fn root_refines_root()
     ensures { (x : ExtentsState) (g h : GraphState) (w : World) (v : ℕ) (needs : Named) (n : ℕ) (runs : List Run) (m : Map) (pointers : ℕ → ℕ)
         → IsWhole x → IsWorldOf x g w → IsVersionStaged g.staging root_family v needs h.staging
         → ((z : Name) → Names needs z ↔ IsSectionVersionUpTo g.staging.latest z)
-        → write_of h (Version root_family v) ≡ Some (page_write (shape x) (formats_of (shape x)) (A_root (root_now w n runs m pointers))) → AddsOnly g h (Version root_family v)
+        → write_of h (Version root_family v) ≡ Some (page_write (shape x) (formats_of (shape x)) (A_root (root_now (shape x) w n runs m pointers))) → AddsOnly g h (Version root_family v)
         → IsWorldOf x h (happens (shape x) w (StageRoot n runs m pointers)) }
 {}
 
