@@ -1,3 +1,4 @@
+pub mod Counting
 pub mod Crashing
 pub mod Hiding
 pub mod Inside

@@ -1,5 +1,5 @@
 -- What a scrub goes through, and what it names.
-use Rattle.std.specs.Prelude.{◌≡◌, ◌⊎◌, ◌∷◌, ◌++◌, ◌↔◌, ℕ, List, [], Some, None, Result, MatchResult, length, map, reverse}
+use Rattle.std.specs.Prelude.{◌≡◌, ◌⊎◌, ◌∷◌, ◌++◌, ◌+◌, ℕ, List, [], Some, None, Result, MatchResult, length, map, reverse}
 use Rattle.std.specs.List.{AllByRecursion}
 use Rattle.cs_chunk.specs.Reads.{IsOfFault, fault_at}
 use Rattle.cs_deps.specs.declared.refusals.Refusal.{Refusal}
@@ -92,6 +92,16 @@ pub record IsScrubbed (S : Shape) (view : ℕ → List ℕ) (index : Index) (fou
 abbrev pub AreCaused : (before after : ℕ) → List Damage → Type 0
 AreCaused before after damages = AllByRecursion (λ d. refusal_in d ≡ DeviceFault → Rises before after) damages
 
+-- one, where a read failed
+abbrev pub failed_reads : Refusal → ℕ
+failed_reads DeviceFault = 1
+failed_reads refusal = 0
+
+-- how many damages are named 1
+abbrev pub device_faults : List Damage → ℕ
+device_faults [] = 0
+device_faults (d ∷ damages) = failed_reads (refusal_in d) + device_faults damages
+
 -- a damage is of a chunk of this shard
 abbrev pub IsOfShard : ℕ → Damage → Type 0
 IsOfShard id (damage.Chunk d chunk place refusal) = id_number d ≡ id
@@ -105,6 +115,10 @@ NamesShard damages id = (d : Damage) × (d ∈ damages) × IsOfShard id d
 abbrev pub HasFault : Shape → (view : ℕ → List ℕ) → Index → ℕ → Type 0
 HasFault S view index id = (l : Place) × (f : FormatFault) × (l ∈ live_at (index_of index) id) × (fault_at S view kind.Chunk (as_locator l) ≡ Some f)
 
--- a damage is named of each shard with such a chunk, and of no other
+-- a damage is named of each shard with such a chunk
 abbrev pub HidesNothing : Shape → (view : ℕ → List ℕ) → Index → List Damage → Type 0
-HidesNothing S view index damages = (id : ℕ) → NamesShard damages id ↔ HasFault S view index id
+HidesNothing S view index damages = (id : ℕ) → HasFault S view index id → NamesShard damages id
+
+-- and of no other
+abbrev pub NamesNoOther : Shape → (view : ℕ → List ℕ) → Index → List Damage → Type 0
+NamesNoOther S view index damages = (id : ℕ) → NamesShard damages id → HasFault S view index id

@@ -8,7 +8,8 @@ ghost use Rattle.cs_frame.specs.Formats.{place_of};
 ghost use Rattle.cs_refine.specs.Crashes.{IsPrefix};
 ghost use Rattle.cs_core.specs.Meanings.{commands_said};
 ghost use Rattle.cs_survey.specs.Chunks.{chunk_of};
-ghost use Rattle.cs_scrub.specs.Scrubs.{AreCaused, AreNamed, IsScrubbed, OfChunk, OfRun};
+ghost use Rattle.cs_survey.specs.Failures.{RisesBy};
+ghost use Rattle.cs_scrub.specs.Scrubs.{AreCaused, AreNamed, IsScrubbed, OfChunk, OfRun, device_faults};
 
 use crate::damages::{Damage, Scrubbed};
 use crate::frames::{read_chunk, read_run};
@@ -53,6 +54,7 @@ fn damaged_chunks<D: PageDisk, P: Progress>(
     ensures named { D.honest core.old.disk → (view : ℕ → List ℕ) → AreNewest core.old.store.graph (seen (D.state core.old.disk)) view
         → IfOk result (λ damages. AreNamed (shape core.old.store.extents) view (map OfChunk (map chunk_of chunks.now)) damages.items) }
     ensures caused { IfOk result (λ damages. AreCaused (D.failure_count core.old.disk) (D.failure_count core.new.disk) damages.items) }
+    ensures counted { IfOk result (λ damages. RisesBy (device_faults damages.items) (D.failure_count core.old.disk) (D.failure_count core.new.disk)) }
     ensures same { core.new ≡ record core.old { disk = core.new.disk } }
     ensures disk { OnlyReads D.PageDisk core.old.disk core.new.disk }
 {
@@ -81,6 +83,7 @@ fn damaged_runs<D: PageDisk>(
     ensures named { D.honest core.old.disk → (view : ℕ → List ℕ) → AreNewest core.old.store.graph (seen (D.state core.old.disk)) view
         → IfOk result (λ damages. AreNamed (shape core.old.store.extents) view (map OfRun (map place_of runs.now)) damages.items) }
     ensures caused { IfOk result (λ damages. AreCaused (D.failure_count core.old.disk) (D.failure_count core.new.disk) damages.items) }
+    ensures counted { IfOk result (λ damages. RisesBy (device_faults damages.items) (D.failure_count core.old.disk) (D.failure_count core.new.disk)) }
     ensures same { core.new ≡ record core.old { disk = core.new.disk } }
     ensures disk { OnlyReads D.PageDisk core.old.disk core.new.disk }
 {
@@ -111,6 +114,8 @@ pub fn scrub<D: PageDisk, P: Progress>(
         → IfOk result (IsScrubbed (shape core.old.store.extents) view core.old.store.index) }
     ensures runs { IfOk result (λ found. found.runs ≡ length core.old.store.index.runs) }
     ensures caused { IfOk result (λ found. AreCaused (D.failure_count core.old.disk) (D.failure_count core.new.disk) found.damages.items) }
+    // It rose by as many as are named 1 at least: no frame is named so for the read of another.
+    ensures counted { IfOk result (λ found. RisesBy (device_faults found.damages.items) (D.failure_count core.old.disk) (D.failure_count core.new.disk)) }
     ensures same { core.new ≡ record core.old { disk = core.new.disk } }
     ensures disk { OnlyReads D.PageDisk core.old.disk core.new.disk }
     // A crash meanwhile leaves what one before it might have left.

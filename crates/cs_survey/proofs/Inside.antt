@@ -11,17 +11,17 @@ use Rattle.cs_model.specs.Element.{Entry, Locator as Place}
 use Rattle.cs_model.specs.Index.{live, live_at}
 use Rattle.cs_model.specs.Lists.{◌∈◌}
 use Rattle.cs_survey.specs.Chunks.{AreLiveChunks, BeginsInside, Chunk, chunk_of, chunks_from, chunks_of}
-use Rattle.cs_survey.specs.Uses.{AreReadAs, Head, heads_of}
+use Rattle.cs_survey.specs.Uses.{AreRead, Head, heads_of}
 
 pub live_chunks_one : (index : List Entry) (a b : List Chunk) → AreLiveChunks index a → AreLiveChunks index b → a ≡ b
 live_chunks_one index a b one two = one.2 ∙ ap (λ (xs : List Entry). chunks_of xs) (merged_one index one.0 two.0 one.1 two.1) ∙ sym two.2
 
 -- what was read of the chunks that were found was read of any list of all
-pub read_of : (S : Shape) (view : ℕ → List ℕ) (index held : Index) (found slice : List LiveChunk) (chunks : List Chunk) (failed : Type 0) (read : List Head) → index ≡ record held { room = 0 } → slice ≡ found
+pub read_of : (S : Shape) (view : ℕ → List ℕ) (index held : Index) (found slice : List LiveChunk) (chunks : List Chunk) (before after : ℕ) (read : List Head) → index ≡ record held { room = 0 } → slice ≡ found
     → AreLiveChunks (index_of held) (map chunk_of found) → AreLiveChunks (index_of index) chunks
-    → AreReadAs failed (heads_of S view (map chunk_of slice)) read → AreReadAs failed (heads_of S view chunks) read
-read_of S view index held found slice chunks failed read same sliced all live =
-    subst (λ (cs : List Chunk). AreReadAs failed (heads_of S view cs) read)
+    → AreRead before after (heads_of S view (map chunk_of slice)) read → AreRead before after (heads_of S view chunks) read
+read_of S view index held found slice chunks before after read same sliced all live =
+    subst (λ (cs : List Chunk). AreRead before after (heads_of S view cs) read)
     (ap (λ (cs : List LiveChunk). map chunk_of cs) sliced
     ∙ live_chunks_one (index_of held) (map chunk_of found) chunks all (subst (λ (i : Index). AreLiveChunks (index_of i) chunks) same live))
 

@@ -4,4 +4,5 @@ pub mod Tallied
 pub mod Garbage
 pub mod Inside
 pub mod Reading
+pub mod Risen
 pub mod Counted

@@ -21,8 +21,10 @@ use Rattle.cs_frame.specs.Frames.{page_count}
 use Rattle.cs_index.specs.declared.live.LiveChunk.{LiveChunk}
 use Rattle.cs_model.specs.Device.{Shape}
 use Rattle.cs_survey.specs.Chunks.{BeginsInside, chunk_of}
-use Rattle.cs_survey.specs.Uses.{AreReadAs, AreSums, AreTallied, Head, head_of, heads_of, pages_counted, unless_fault}
-use Rattle.cs_survey.proofs.Tallied.{read_more}
+use Rattle.cs_survey.specs.Uses.{AreRead, AreReadAs, AreSums, AreTallied, Head, head_of, heads_of, lost_in, lost_one, pages_counted, unless_fault}
+use Rattle.cs_survey.specs.Failures.{RisesBy}
+use Rattle.cs_survey.proofs.Risen.{risen_none, risen_one, risen_so, risen_still}
+use Rattle.cs_survey.proofs.Tallied.{lost_at_most, lost_more, lost_none, read_more}
 
 -- ---- failures
 
@@ -96,20 +98,45 @@ inside_at S (d ∷ cs) (suc k) c at all = inside_at S cs k c at all.1
 pub place_inside : (S : Shape) (cs : List LiveChunk) (k : ℕ) (d : LiveChunk) → k < length cs → AllByRecursion (BeginsInside S) (map chunk_of cs) → BeginsInside S (chunk_of (get_or cs k d))
 place_inside S cs k d lt all = inside_at S cs k (get_or cs k d) (slice_get-get_or cs k d lt) all
 
--- one header more was read, from the first count of failures a, over b, to c
+-- one header more was read, from the first count of failures a, over b, to d
+module _ (heads read : List Head) (e : ℕ) (said pages : Option ℕ) (a b d : ℕ) (was : AreRead a b heads read) (here : (pages ≡ said) ⊎ ((pages ≡ None) × Rises b d)) (le : a ≤ b) (le' : b ≤ d) where
+  each_more : AreReadAs (Rises a d) (heads ++ (e, said) ∷ []) (read ++ (e, pages) ∷ [])
+  each_more = read_more (Rises a b) (Rises a d) heads read (e, said) (e, pages) (λ rise. rises_later a b d rise le') was.each
+      (⊎_elim
+      (λ (is : pages ≡ said). inl (ap (λ (p : Option ℕ). (e, p)) is))
+      (λ (lost : (pages ≡ None) × Rises b d). inr (ap (λ (p : Option ℕ). (e, p)) lost.0, rises_since a b d le lost.1))
+      here)
+
+  lost_now : RisesBy (lost_in heads read + lost_one said pages) a d
+  lost_now = ⊎_elim
+      (λ (is : pages ≡ said). risen_still (lost_in heads read) (lost_one said pages) a b d (lost_none said pages is) le' was.lost)
+      (λ (lost : (pages ≡ None) × Rises b d). risen_one (lost_in heads read) (lost_one said pages) a b d (lost_at_most said pages) lost.1 was.lost)
+      here
+
+  one_read : AreRead a d (heads ++ (e, said) ∷ []) (read ++ (e, pages) ∷ [])
+  one_read = record {
+    each = each_more;
+    lost = risen_so (lost_in heads read + lost_one said pages) (lost_in (heads ++ (e, said) ∷ []) (read ++ (e, pages) ∷ [])) a d (lost_more (Rises a b) heads read (e, said) (e, pages) was.each) lost_now;
+  }
+
 pub heads_step : (S T : Shape) (view : ℕ → List ℕ) (cs : List LiveChunk) (k : ℕ) (c : LiveChunk) (read : List Head) (pages : Option ℕ) (a b d : ℕ) → T ≡ S → slice_get cs k ≡ Some c
     → a ≤ b → b ≤ d
-    → AreReadAs (Rises a b) (heads_of S view (map chunk_of (take k cs))) read
+    → AreRead a b (heads_of S view (map chunk_of (take k cs))) read
     → (pages ≡ pages_counted (view (T.address c.place.extent c.place.page)) (T.pages - c.place.page)) ⊎ ((pages ≡ None) × Rises b d)
-    → AreReadAs (Rises a d) (heads_of S view (map chunk_of (take (k + 1) cs))) (read ++ (c.place.extent, pages) ∷ [])
+    → AreRead a d (heads_of S view (map chunk_of (take (k + 1) cs))) (read ++ (c.place.extent, pages) ∷ [])
 heads_step S T view cs k c read pages a b d shapes at le le' was here =
-    subst (λ (hs : List Head). AreReadAs (Rises a d) hs (read ++ (c.place.extent, pages) ∷ [])) (sym (heads_more S view cs k c at))
-    (read_more (Rises a b) (Rises a d) (heads_of S view (map chunk_of (take k cs))) read (head_of S view (chunk_of c)) (c.place.extent, pages) (λ rise. rises_later a b d rise le') was
+    subst (λ (hs : List Head). AreRead a d hs (read ++ (c.place.extent, pages) ∷ [])) (sym (heads_more S view cs k c at))
+    (one_read (heads_of S view (map chunk_of (take k cs))) read c.place.extent (pages_counted (view (S.address c.place.extent c.place.page)) (S.pages - c.place.page)) pages a b d was
     (⊎_elim
     (λ (is : pages ≡ pages_counted (view (T.address c.place.extent c.place.page)) (T.pages - c.place.page)).
-    inl (ap (λ (p : Option ℕ). (c.place.extent, p)) (is ∙ ap (λ (U : Shape). pages_counted (view (U.address c.place.extent c.place.page)) (U.pages - c.place.page)) shapes)))
-    (λ (lost : (pages ≡ None) × Rises b d). inr (ap (λ (p : Option ℕ). (c.place.extent, p)) lost.0, rises_since a b d le lost.1))
-    here))
+    inl (is ∙ ap (λ (U : Shape). pages_counted (view (U.address c.place.extent c.place.page)) (U.pages - c.place.page)) shapes))
+    (λ (lost : (pages ≡ None) × Rises b d). inr lost)
+    here)
+    le le')
+
+-- and none at first
+pub none_read : (a : ℕ) → AreRead a a [] []
+none_read a = record { each = tt; lost = risen_none 0 a refl }
 
 -- ---- what was read of a header
 

@@ -5,9 +5,10 @@ use Rattle.std.proofs.lemmas.Bool.{cases_eq}
 use Rattle.std.proofs.lemmas.Grind.{get_or-set_at}
 use Rattle.std.proofs.lemmas.List.{get_or-set_other, length-set, length_push}
 use Rattle.std.proofs.lemmas.Option.{same_Some, slice_get_within}
+use Rattle.cs_disk.specs.Disk.{Rises}
 use Rattle.cs_model.specs.Extents.{Extents}
 use Rattle.cs_survey.specs.declared.extent_uses.ExtentUse.{ExtentUse}
-use Rattle.cs_survey.specs.Uses.{AreBounded, AreCounted, AreReadAs, AreSums, AreTallied, AreUses, Head, IsExtent, missing_in, pages_in, sum_on}
+use Rattle.cs_survey.specs.Uses.{AreBounded, AreCounted, AreCountedAsRead, AreRead, AreReadAs, AreSums, AreTallied, AreUses, Head, IsExtent, lost_in, lost_one, missing_in, pages_in, sum_on}
 
 -- ---- sums
 
@@ -100,6 +101,31 @@ read_more failed later (i ∷ hs) (s ∷ rs) h r on are here = (
 read_more failed later [] (r' ∷ rs) h r on are here = absurd are
 read_more failed later (h' ∷ hs) [] h r on are here = absurd are
 
+-- ---- what was lost
+
+lost_same : (x : Option ℕ) → lost_one x x ≡ 0
+lost_same None = refl
+lost_same (Some n) = refl
+
+pub lost_none : (x y : Option ℕ) → y ≡ x → lost_one x y ≡ 0
+lost_none x y is = ap (λ (z : Option ℕ). lost_one x z) is ∙ lost_same x
+
+pub lost_at_most : (x y : Option ℕ) → lost_one x y ≤ 1
+lost_at_most None y = omega arith
+lost_at_most (Some n) None = omega arith
+lost_at_most (Some n) (Some m) = omega arith
+
+pub lost_more : (failed : Type 0) (hs rs : List Head) (h r : Head) → AreReadAs failed hs rs → lost_in (hs ++ h ∷ []) (rs ++ r ∷ []) ≡ lost_in hs rs + lost_one h.1 r.1
+lost_more failed [] [] h r are = omega arith
+lost_more failed (i ∷ hs) (s ∷ rs) h r are = plus (lost_one i.1 s.1) (lost_in (hs ++ h ∷ []) (rs ++ r ∷ [])) (lost_in hs rs) (lost_one h.1 r.1) (lost_more failed hs rs h r are.1)
+  where
+    plus : (a b c d : ℕ) → b ≡ c + d → a + b ≡ a + c + d
+    plus a b c d e = omega (arith, e)
+lost_more failed [] (s ∷ rs) h r are = absurd are
+lost_more failed (i ∷ hs) [] h r are = absurd are
+
+-- ---- what that says of sums
+
 -- how one number stands to another
 module _ (count : Option ℕ → ℕ) (R : ℕ → ℕ → Type 0) (same : (n : ℕ) → R n n) (plus : (a b c d : ℕ) → R a b → R c d → R (a + c) (b + d)) (lost : (x : Option ℕ) → R (count None) (count x)) where
   sums_stand : (failed : Type 0) (hs rs : List Head) (e : ℕ) → AreReadAs failed hs rs → R (sum_on count e rs) (sum_on count e hs)
@@ -146,35 +172,32 @@ uses_more n x live unreadable uses new used was its is_live is_unreadable is = s
       (get_last uses used u e at),
 )
 
-module _ (n : ℕ) (x : Extents) (live unreadable : List ℕ) (uses : List ExtentUse) (are : AreUses n x live unreadable uses) where
-  module _ (read : List Head) (live_size : length live ≡ n) (unreadable_size : length unreadable ≡ n) (tallied : AreTallied read live unreadable) (failed : Type 0) (heads : List Head) (got : AreReadAs failed heads read) where
-    inside : (e : ℕ) (used : ExtentUse) → slice_get uses e ≡ Some used → e < n
-    inside e used at = omega (arith, slice_get_within uses e used at, are.0)
-
-    pub counted_of : (failed → ⊥) → AreCounted heads uses
-    counted_of not e used at =
-        let lt : e < n = inside e used at in
+-- what was read is what is counted
+pub counted_as_read : (n : ℕ) (x : Extents) (live unreadable : List ℕ) (uses : List ExtentUse) (before after : ℕ) (heads read : List Head) → AreUses n x live unreadable uses → length live ≡ n → length unreadable ≡ n
+    → AreTallied read live unreadable → AreRead before after heads read → AreCountedAsRead before after heads uses
+counted_as_read n x live unreadable uses before after heads read are live_size unreadable_size tallied got = (read, got, count)
+  where
+    count : AreCounted read uses
+    count e used at =
+        let lt : e < n = omega (arith, slice_get_within uses e used at, are.0) in
         let its = are.1 e used at in
-        let same : read ≡ heads = read_exactly failed heads read not got in (
-          its.1 ∙ tallied.0 e (omega (arith, lt, live_size)) ∙ ap (λ (hs : List Head). min (sum_on pages_in e hs) (2 ^ 64 - 1)) same,
-          its.2 ∙ tallied.1 e (omega (arith, lt, unreadable_size)) ∙ ap (λ (hs : List Head). min (sum_on missing_in e hs) (2 ^ 64 - 1)) same,
-        )
+        (its.1 ∙ tallied.0 e (omega (arith, lt, live_size)), its.2 ∙ tallied.1 e (omega (arith, lt, unreadable_size)))
 
-    pub bounded_of : AreBounded heads uses
-    bounded_of e used at =
-        let lt : e < n = inside e used at in
-        let its = are.1 e used at in
-        let is_live : used.live ≡ min (sum_on pages_in e read) (2 ^ 64 - 1) = its.1 ∙ tallied.0 e (omega (arith, lt, live_size)) in
-        let is_unreadable : used.unreadable ≡ min (sum_on missing_in e read) (2 ^ 64 - 1) = its.2 ∙ tallied.1 e (omega (arith, lt, unreadable_size)) in (
-          below used.live (sum_on pages_in e read) (sum_on pages_in e heads) (2 ^ 64 - 1) is_live (fewer_live failed heads read e got),
-          above used.unreadable (sum_on missing_in e read) (sum_on missing_in e heads) (2 ^ 64 - 1) is_unreadable (more_unreadable failed heads read e got),
-        )
-      where
-        below : (u r h m : ℕ) → u ≡ min r m → r ≤ h → u ≤ h
-        below u r h m is le = omega (arith, is, le)
+module _ (before after : ℕ) (heads : List Head) (uses : List ExtentUse) (are : AreCountedAsRead before after heads uses) where
+  -- where no read failed that is what the headers say
+  pub counted_then : ¬ Rises before after → AreCounted heads uses
+  counted_then not = subst (λ (hs : List Head). AreCounted hs uses) (read_exactly (Rises before after) heads are.0 not are.1.each) are.2
 
-        above : (u r h m : ℕ) → u ≡ min r m → h ≤ r → min h m ≤ u
-        above u r h m is le = omega (arith, is, le)
+  -- and else no more pages, and no fewer headers that say nothing
+  pub bounded_then : AreBounded heads uses
+  bounded_then e used at =
+      let its = are.2 e used at in (
+        below used.live (sum_on pages_in e are.0) (sum_on pages_in e heads) (2 ^ 64 - 1) its.0 (fewer_live (Rises before after) heads are.0 e are.1.each),
+        above used.unreadable (sum_on missing_in e are.0) (sum_on missing_in e heads) (2 ^ 64 - 1) its.1 (more_unreadable (Rises before after) heads are.0 e are.1.each),
+      )
+    where
+      below : (u r h m : ℕ) → u ≡ min r m → r ≤ h → u ≤ h
+      below u r h m is le = omega (arith, is, le)
 
-    pub all_of : ((failed → ⊥) → AreCounted heads uses) × AreBounded heads uses
-    all_of = (counted_of, bounded_of)
+      above : (u r h m : ℕ) → u ≡ min r m → h ≤ r → min h m ≤ u
+      above u r h m is le = omega (arith, is, le)

@@ -1,4 +1,5 @@
 pub mod Chunks
+pub mod Failures
 pub mod Listings
 pub mod Stats
 pub mod Uses

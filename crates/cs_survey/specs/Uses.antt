@@ -1,5 +1,6 @@
 -- How the extents of a store are used.
 use Rattle.std.specs.Prelude.{◌≡◌, ◌⊎◌, ◌↔◌, ◌+◌, ◌-◌, ◌^◌, ◌<◌, ◌≤◌, ◌==◌, ℕ, List, [], ◌∷◌, Option, Some, None, IsTrue, if◌then◌else◌, length, map, min, slice_get, slice_index}
+use Rattle.cs_disk.specs.Disk.{Rises}
 use Rattle.cs_frame.specs.declared.faults.FormatFault.{FormatFault}
 use Rattle.cs_frame.specs.declared.frames.FrameKind.TheVariants.{Chunk as ChunkKind}
 use Rattle.cs_frame.specs.Frames.{header_fault, kind_byte, page_count, payload_length}
@@ -7,6 +8,7 @@ use Rattle.cs_model.specs.Device.{Shape}
 use Rattle.cs_model.specs.Extents.{Extents}
 use Rattle.cs_survey.specs.Chunks.{Chunk}
 use Rattle.cs_survey.specs.declared.extent_uses.ExtentUse.{ExtentUse}
+use Rattle.cs_survey.specs.Failures.{RisesBy}
 
 -- ---- what headers say
 
@@ -97,6 +99,25 @@ AreReadAs failed [] [] = Unit {0}
 AreReadAs failed (h ∷ hs) (r ∷ rs) = ((r ≡ h) ⊎ ((r ≡ (h.0, None)) × failed)) × AreReadAs failed hs rs
 AreReadAs failed [] (r ∷ rs) = ⊥
 AreReadAs failed (h ∷ hs) [] = ⊥
+
+-- one, where a header says something and was read as saying nothing
+abbrev pub lost_one : (said read : Option ℕ) → ℕ
+lost_one (Some pages) None = 1
+lost_one said read = 0
+
+-- how many headers were lost so
+abbrev pub lost_in : (heads read : List Head) → ℕ
+lost_in (h ∷ hs) (r ∷ rs) = lost_one h.1 r.1 + lost_in hs rs
+lost_in heads read = 0
+
+-- Each header was read as it says, or, where a read failed, as saying nothing; and the count of failures rose by as many as were lost so.
+pub record AreRead (before after : ℕ) (heads read : List Head) : Type 0 where
+  pub each : AreReadAs (Rises before after) heads read
+  pub lost : RisesBy (lost_in heads read) before after
+
+-- of each extent it is counted what was read of these headers
+abbrev pub AreCountedAsRead : (before after : ℕ) → (heads : List Head) → List ExtentUse → Type 0
+AreCountedAsRead before after heads uses = (read : List Head) × AreRead before after heads read × AreCounted read uses
 
 -- ---- what to sweep
 

@@ -10,7 +10,7 @@ ghost use Rattle.cs_model.specs.Index.{live_at, names};
 ghost use Rattle.cs_survey.specs.Chunks.{AreLiveChunks, Chunk};
 ghost use Rattle.cs_survey.specs.Listings.{AreAll};
 ghost use Rattle.cs_survey.specs.Stats.{newest_uses, run_figure};
-ghost use Rattle.cs_survey.specs.Uses.{AreBounded, AreCounted, AreExtents, heads_of};
+ghost use Rattle.cs_survey.specs.Uses.{AreBounded, AreCounted, AreCountedAsRead, AreExtents, heads_of};
 
 use crate::chunks::live_chunks;
 use crate::extent_uses::ExtentUse;
@@ -54,11 +54,15 @@ impl Stats {
     /// The figures of a store. Costs what `uses` costs, and two passes over the entries of the index.
     pub fn of<D: PageDisk>(alloc: Global, core: &mut Core<D>) -> Result<Self, AllocError>
         ensures extents { IfOk result (λ stats. AreExtents (shape core.old.store.extents).extents (extents_of core.old.store.extents) stats.extents.items) }
-        // Where no read failed the counts are those of the headers.
+        // Whatever reads failed, the counts are those of what was read.
+        ensures read { D.honest core.old.disk
+            → (view : ℕ → List ℕ) (chunks : List Chunk) → AreNewest core.old.store.graph (seen (D.state core.old.disk)) view → AreLiveChunks (index_of core.old.store.index) chunks
+            → IfOk result (λ stats. AreCountedAsRead (D.failure_count core.old.disk) (D.failure_count core.new.disk) (heads_of (shape core.old.store.extents) view chunks) stats.extents.items) }
+        // So where none failed they are those of the headers.
         ensures counted { D.honest core.old.disk → ¬ Rises (D.failure_count core.old.disk) (D.failure_count core.new.disk)
             → (view : ℕ → List ℕ) (chunks : List Chunk) → AreNewest core.old.store.graph (seen (D.state core.old.disk)) view → AreLiveChunks (index_of core.old.store.index) chunks
             → IfOk result (λ stats. AreCounted (heads_of (shape core.old.store.extents) view chunks) stats.extents.items) }
-        // A chunk whose read failed isn't live, and counts as unreadable.
+        // And else a chunk whose read failed isn't live, and counts as unreadable.
         ensures bounded { D.honest core.old.disk
             → (view : ℕ → List ℕ) (chunks : List Chunk) → AreNewest core.old.store.graph (seen (D.state core.old.disk)) view → AreLiveChunks (index_of core.old.store.index) chunks
             → IfOk result (λ stats. AreBounded (heads_of (shape core.old.store.extents) view chunks) stats.extents.items) }

@@ -7,7 +7,7 @@ ghost use Rattle.cs_disk.specs.Disk.{Rises, seen};
 ghost use Rattle.cs_extent.specs.State.{extents_of, shape};
 ghost use Rattle.cs_index.specs.State.{index_of};
 ghost use Rattle.cs_survey.specs.Chunks.{AreLiveChunks, BeginsInside, Chunk, chunk_of};
-ghost use Rattle.cs_survey.specs.Uses.{AreBounded, AreCounted, AreExtents, AreReadAs, AreTallied, Head, heads_of, pages_counted};
+ghost use Rattle.cs_survey.specs.Uses.{AreBounded, AreCounted, AreCountedAsRead, AreExtents, AreRead, AreTallied, Head, heads_of, pages_counted};
 
 use crate::chunks::live_chunks;
 use crate::extent_uses::ExtentUse;
@@ -24,11 +24,15 @@ use std::alloc::{AllocError, Global};
 /// unreadable. Costs a read for each live chunk, and memory for all of them and for the extents.
 pub fn uses<D: PageDisk>(alloc: Global, core: &mut Core<D>) -> Result<Vec<ExtentUse>, AllocError>
     ensures extents { IfOk result (λ uses. AreExtents (shape core.old.store.extents).extents (extents_of core.old.store.extents) uses.items) }
-    // Where no read failed the counts are those of the headers.
+    // Whatever reads failed, the counts are those of what was read.
+    ensures read { D.honest core.old.disk
+        → (view : ℕ → List ℕ) (chunks : List Chunk) → AreNewest core.old.store.graph (seen (D.state core.old.disk)) view → AreLiveChunks (index_of core.old.store.index) chunks
+        → IfOk result (λ uses. AreCountedAsRead (D.failure_count core.old.disk) (D.failure_count core.new.disk) (heads_of (shape core.old.store.extents) view chunks) uses.items) }
+    // So where none failed they are those of the headers.
     ensures counted { D.honest core.old.disk → ¬ Rises (D.failure_count core.old.disk) (D.failure_count core.new.disk)
         → (view : ℕ → List ℕ) (chunks : List Chunk) → AreNewest core.old.store.graph (seen (D.state core.old.disk)) view → AreLiveChunks (index_of core.old.store.index) chunks
         → IfOk result (λ uses. AreCounted (heads_of (shape core.old.store.extents) view chunks) uses.items) }
-    // A chunk whose read failed isn't live, and counts as unreadable.
+    // And else a chunk whose read failed isn't live, and counts as unreadable.
     ensures bounded { D.honest core.old.disk
         → (view : ℕ → List ℕ) (chunks : List Chunk) → AreNewest core.old.store.graph (seen (D.state core.old.disk)) view → AreLiveChunks (index_of core.old.store.index) chunks
         → IfOk result (λ uses. AreBounded (heads_of (shape core.old.store.extents) view chunks) uses.items) }
@@ -58,7 +62,7 @@ fn tally_chunks<D: PageDisk>(
     ensures unreadable { IfOk result (λ tally. length tally.unreadable.items ≡ (shape core.old.store.extents).extents) }
     ensures tallied { IfOk result (λ tally. (read : List Head) × AreTallied read tally.live.items tally.unreadable.items
         × (D.honest core.old.disk → (view : ℕ → List ℕ) → AreNewest core.old.store.graph (seen (D.state core.old.disk)) view
-        → AreReadAs (Rises (D.failure_count core.old.disk) (D.failure_count core.new.disk)) (heads_of (shape core.old.store.extents) view (map chunk_of chunks.now)) read)) }
+        → AreRead (D.failure_count core.old.disk) (D.failure_count core.new.disk) (heads_of (shape core.old.store.extents) view (map chunk_of chunks.now)) read)) }
     ensures same { core.new ≡ record core.old { disk = core.new.disk } }
     ensures disk { OnlyReads D.PageDisk core.old.disk core.new.disk }
 {

@@ -9,6 +9,7 @@ use Rattle.cs_survey.specs.Chunks.{chunk_of}
 use Rattle.cs_scrub.specs.declared.damages.Damage.{Damage}
 use Rattle.cs_scrub.specs.declared.damages.Damage.TheVariants as damage
 use Rattle.cs_scrub.specs.Scrubs.{OfChunk}
+use Rattle.cs_scrub.proofs.Counting.{counted_more, counted_still}
 use Rattle.cs_scrub.proofs.Naming.{all_named, caused_more, caused_still, step_named, step_passed}
 use Rattle.cs_scrub.proofs.Telling.{same_on, told_here, why_none, why_some}
 use Rattle.cs_scrub.proofs.scrubs.damaged_chunks.Goals as goal
@@ -53,6 +54,12 @@ loop-k-preserved g c =
             (let no = why_some read c.in_ok-refusal.field-0 w.in-Some.refusal w.in-Some.is c.in_ok-refusal.ensures in
             caused_more first before after read ds es (damage.Chunk x.id x.chunk x.place w.in-Some.refusal) w.in-Some.refusal c.loop-k.invariant.disk.failures c.loop-k.invariant.caused c.read_chunk.ensures.cause no.0 refl (ap items w.damages-is ∙ w.in_ok-push.ensures.items))
         | in_default w ↦ caused_still first before after ds es c.read_chunk.ensures.cause.later c.loop-k.invariant.caused (ap items w.damages-is)
+      ];
+      counted = elim c.match-branch-2.branch [
+        | in-Some+in_ok-push w ↦
+            (let no = why_some read c.in_ok-refusal.field-0 w.in-Some.refusal w.in-Some.is c.in_ok-refusal.ensures in
+            counted_more first before after read ds es (damage.Chunk x.id x.chunk x.place w.in-Some.refusal) w.in-Some.refusal c.loop-k.invariant.counted c.read_chunk.ensures.cause no.0 refl (ap items w.damages-is ∙ w.in_ok-push.ensures.items))
+        | in_default w ↦ counted_still first before after ds es c.read_chunk.ensures.cause.later c.loop-k.invariant.counted (ap items w.damages-is)
       ];
     }
 

@@ -5,7 +5,9 @@ use Rattle.cs_core.specs.Stored.{Stored}
 use Rattle.cs_extent.specs.State.{shape}
 use Rattle.cs_frame.specs.Formats.{place_of}
 use Rattle.cs_survey.specs.Chunks.{chunk_of}
-use Rattle.cs_scrub.specs.Scrubs.{AreCaused, AreNamed, OfChunk, OfRun}
+use Rattle.cs_survey.specs.Failures.{RisesBy}
+use Rattle.cs_scrub.specs.Scrubs.{AreCaused, AreNamed, OfChunk, OfRun, device_faults}
+use Rattle.cs_scrub.proofs.Counting.{counted_both}
 use Rattle.cs_scrub.proofs.Crashing.{crash_now, crash_still}
 use Rattle.cs_scrub.proofs.Naming.{caused_both, caused_earlier, caused_later}
 use Rattle.cs_scrub.proofs.Scrubbing.{run_count, run_places_are, scrubbed}
@@ -54,6 +56,12 @@ returns-clause-caused g c =
     (caused_both (g.D.PageDisk.failure_count c.args.core.now.disk) (g.D.PageDisk.failure_count c.damaged_runs.new.core.disk) c.in_ok-damages.damages.items c.in_ok-of_runs.of_runs.items
     (caused_later (g.D.PageDisk.failure_count c.args.core.now.disk) (g.D.PageDisk.failure_count c.damaged_chunks.new.core.disk) (g.D.PageDisk.failure_count c.damaged_runs.new.core.disk) c.in_ok-damages.damages.items c.damaged_runs.ensures.disk.failures c.in_ok-damages.ensures.caused)
     (caused_earlier (g.D.PageDisk.failure_count c.args.core.now.disk) (g.D.PageDisk.failure_count c.damaged_chunks.new.core.disk) (g.D.PageDisk.failure_count c.damaged_runs.new.core.disk) c.in_ok-of_runs.of_runs.items c.damaged_chunks.ensures.disk.failures c.in_ok-of_runs.ensures.caused))
+
+pub returns-clause-counted : goal.returns-clause-counted
+returns-clause-counted g c =
+    subst (λ ds. RisesBy (device_faults ds) (g.D.PageDisk.failure_count c.args.core.now.disk) (g.D.PageDisk.failure_count c.damaged_runs.new.core.disk)) (sym c.in_ok-append.ensures.items)
+    (counted_both (g.D.PageDisk.failure_count c.args.core.now.disk) (g.D.PageDisk.failure_count c.damaged_chunks.new.core.disk) (g.D.PageDisk.failure_count c.damaged_runs.new.core.disk) c.in_ok-damages.damages.items c.in_ok-of_runs.of_runs.items
+    c.in_ok-damages.ensures.counted c.in_ok-of_runs.ensures.counted)
 
 pub returns-clause-runs : goal.returns-clause-runs
 returns-clause-runs g c =

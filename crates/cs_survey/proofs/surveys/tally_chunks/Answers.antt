@@ -1,13 +1,12 @@
 use Rattle.std.proofs.Common.{◌≡◌, ◌∙◌, ◌<◌, ◌∷◌, ◌++◌, [], ℕ, List, ap, arith, get_or, length, map, refl, replicate, rules, subst, sym, take_all}
 use Rattle.std.proofs.lemmas.Option.{slice_get-get_or}
 use Rattle.cs_chunk.proofs.OnlyRead.{reads_on}
-use Rattle.cs_disk.specs.Disk.{Rises}
 use Rattle.cs_extent.specs.State.{shape}
 use Rattle.cs_index.specs.declared.live.LiveChunk.{LiveChunk}
 use Rattle.cs_model.specs.Device.{Shape}
 use Rattle.cs_survey.specs.Chunks.{chunk_of}
-use Rattle.cs_survey.specs.Uses.{AreReadAs, AreTallied, heads_of, missing_in, pages_in}
-use Rattle.cs_survey.proofs.Reading.{all_written, heads_step, newest_there, no_sums, place_inside, same_on, shape_there, tallied_so}
+use Rattle.cs_survey.specs.Uses.{AreRead, AreTallied, heads_of, missing_in, pages_in}
+use Rattle.cs_survey.proofs.Reading.{all_written, heads_step, newest_there, no_sums, none_read, place_inside, same_on, shape_there, tallied_so}
 use Rattle.cs_survey.proofs.surveys.tally_chunks.Goals as goal
 
 -- the chunk at a place
@@ -25,7 +24,7 @@ loop-k-init g c =
         [],
         tallied_so [] (replicate n 0) (replicate n 0) c.in_ok-live.live.items c.in_ok-unreadable.unreadable.items (c.in_ok-live.ensures.items_if_clones_equal (λ y is. is)) (c.in_ok-unreadable.ensures.items_if_clones_equal (λ y is. is))
             (no_sums pages_in n, no_sums missing_in n),
-        λ h view are. tt,
+        λ h view are. none_read (g.D.PageDisk.failure_count c.args.core.now.disk),
       );
     }
 
@@ -92,6 +91,6 @@ returns-clause-tallied g c =
     let tallied = c.loop-k.invariant.tallied in (
       tallied.0,
       tallied.1,
-      λ h view are. subst (λ (chunks : List LiveChunk). AreReadAs (Rises (g.D.PageDisk.failure_count c.args.core.now.disk) (g.D.PageDisk.failure_count c.loop-k.core.disk)) (heads_of S view (map chunk_of chunks)) tallied.0)
+      λ h view are. subst (λ (chunks : List LiveChunk). AreRead (g.D.PageDisk.failure_count c.args.core.now.disk) (g.D.PageDisk.failure_count c.loop-k.core.disk) (heads_of S view (map chunk_of chunks)) tallied.0)
           (take_all c.loop-k.k c.args.chunks.now c.loop-k-test.false) (tallied.2 h view are),
     )
