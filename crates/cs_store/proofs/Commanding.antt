@@ -58,11 +58,17 @@ module _ {D : Type 0} (disks : PageDisk D) (old new : View D) where
     pub delete_declines : (r r' : Refusal) → r' ≡ r → Declines disks old (Delete id) r new → Declines disks old (Delete id) r' new
     delete_declines r r' is declines = subst (λ (x : Refusal). Declines disks old (Delete id) x new) (sym is) declines
 
+    pub delete_adds : (reply : Reply) (n : ℕ) → reply ≡ Accepted n → Accepts disks (command_said (Delete id) reply) old new → Accepts disks ((id_number id, None) ∷ []) old new
+    delete_adds reply n is accepts = accepts_as (Delete id) reply (Accepted n) is accepts
+
+    pub absent_adds : (reply : Reply) → reply ≡ Absent → Accepts disks (command_said (Delete id) reply) old new → Accepts disks [] old new
+    absent_adds reply is accepts = accepts_as (Delete id) reply Absent is accepts
+
     pub delete_maps : (reply : Reply) (n : ℕ) → reply ≡ Accepted n → Accepts disks (command_said (Delete id) reply) old new → (m : Map) → HasMap old m → HasMap new (changed m (id_number id, None))
-    delete_maps reply n is accepts m has = map_changed disks (id_number id, None) old new (accepts_as (Delete id) reply (Accepted n) is accepts) m has
+    delete_maps reply n is accepts m has = map_changed disks (id_number id, None) old new (delete_adds reply n is accepts) m has
 
     pub absent_maps : (reply : Reply) → reply ≡ Absent → Accepts disks (command_said (Delete id) reply) old new → (m : Map) → HasMap old m → HasMap new m
-    absent_maps reply is accepts m has = map_kept disks old new (accepts_as (Delete id) reply Absent is accepts) m has
+    absent_maps reply is accepts m has = map_kept disks old new (absent_adds reply is accepts) m has
 
     pub delete_accepted : (reply : Reply) (n : ℕ) → reply ≡ Accepted n → Does disks old (Delete id) reply new → new.store.accepted ≡ n
     delete_accepted reply n is does = go (does_as (Delete id) reply (Accepted n) is does)
@@ -72,8 +78,8 @@ module _ {D : Type 0} (disks : PageDisk D) (old new : View D) where
 
     pub delete_number : (reply : Reply) (n : ℕ) → reply ≡ Accepted n → Does disks old (Delete id) reply new → Accepts disks (command_said (Delete id) reply) old new
         → (s : State) → disks.honest old.disk → IsIn disks.state old s → Ran disks old new → n ≡ suc old.store.accepted
-    delete_number reply n is does accepts s there is_in ran = one_more (id_number id, None) n s there is_in ran (accepts_as (Delete id) reply (Accepted n) is accepts) (delete_accepted reply n is does)
+    delete_number reply n is does accepts s there is_in ran = one_more (id_number id, None) n s there is_in ran (delete_adds reply n is accepts) (delete_accepted reply n is does)
 
     pub absent_number : (reply : Reply) → reply ≡ Absent → Accepts disks (command_said (Delete id) reply) old new
         → (s : State) → disks.honest old.disk → IsIn disks.state old s → Ran disks old new → new.store.accepted ≡ old.store.accepted
-    absent_number reply is accepts s there is_in ran = counted_none disks old new s there is_in ran (accepts_as (Delete id) reply Absent is accepts)
+    absent_number reply is accepts s there is_in ran = counted_none disks old new s there is_in ran (absent_adds reply is accepts)

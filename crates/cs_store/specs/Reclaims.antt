@@ -1,16 +1,17 @@
 -- How a reclaim chooses the extent that it sweeps.
-use Rattle.std.specs.Prelude.{◌≡◌, ◌+◌, ◌*◌, ◌<◌, ◌≤◌, ℕ, List, Option, Some, None, slice_get}
+use Rattle.std.specs.Prelude.{◌≡◌, ◌⊎◌, ◌+◌, ◌*◌, ◌<◌, ◌≤◌, ℕ, List, Option, Some, None, slice_get}
 use Rattle.cs_chunk.specs.Reads.{OnlyReads}
 use Rattle.cs_core.specs.Views.{View}
+use Rattle.cs_deps.specs.declared.refusals.Refusal.{Refusal}
+use Rattle.cs_deps.specs.declared.refusals.Refusal.TheVariants.{OutOfMemory}
 use Rattle.cs_disk.specs.declared.disk.PageDisk.{Ghosts as PageDisk}
-use Rattle.cs_disk.specs.Disk.{Rises}
 use Rattle.cs_extent.specs.State.{extents_of, shape}
 use Rattle.cs_frame.specs.Frames.{page_count}
 use Rattle.cs_store.specs.declared.reclaims.Found.{Found}
 use Rattle.cs_store.specs.declared.reclaims.Reclaimed.{Reclaimed}
-use Rattle.cs_store.specs.Sweeps.{SweepsReady}
+use Rattle.cs_store.specs.Sweeps.{DeclinesSweep, SweepsReady}
 use Rattle.cs_survey.specs.declared.extent_uses.ExtentUse.{ExtentUse}
-use Rattle.cs_survey.specs.Uses.{AreBounded, AreCounted, AreExtents, Head, IsMostGarbage, garbage}
+use Rattle.cs_survey.specs.Uses.{AreCountedAsRead, AreExtents, Head, IsMostGarbage, garbage}
 
 -- how many pages a run with so many entries takes
 abbrev pub run_pages : ℕ → ℕ
@@ -35,13 +36,12 @@ module _ {D : Type 0} (disks : PageDisk D) where
   abbrev pub ReadsOn : (old new : View D) → Type 0
   ReadsOn old new = (new ≡ record old { disk = new.disk }) × OnlyReads disks old.disk new.disk
 
-  -- An extent is chosen, or none, by how the extents are used as these headers say, where a chunk whose read failed counts as unreadable; it has more
-  -- garbage than a run takes that has so many entries.
+  -- An extent is chosen, or none, by how the extents are used as these headers say, where one whose read failed says nothing; it has more garbage than a
+  -- run takes that has so many entries.
   pub record GoesBy (heads : List Head) (entries : ℕ) (old new : View D) (chosen : Option (ℕ × ℕ)) : Type 0 where
     pub uses : List ExtentUse
     pub extents : AreExtents (shape old.store.extents).extents (extents_of old.store.extents) uses
-    pub bounded : AreBounded heads uses
-    pub counted : ¬ Rises (disks.failure_count old.disk) (disks.failure_count new.disk) → AreCounted heads uses
+    pub read : AreCountedAsRead (disks.failure_count old.disk) (disks.failure_count new.disk) heads uses
     pub chooses : Chooses uses (run_pages entries) chosen
 
   -- After the reads the extent that was chosen is swept, so many chunks are moved off it and it is retired under this root; where none was chosen
@@ -49,3 +49,9 @@ module _ {D : Type 0} (disks : PageDisk D) where
   abbrev pub Reclaims : (read : View D) → Option Reclaimed → (new : View D) → Type 0
   Reclaims read None new = new ≡ read
   Reclaims read (Some swept) new = SweepsReady disks swept.extent read new swept.moved swept.root
+
+  -- Memory was refused for the reads; or after them the extent that was chosen is declined.
+  abbrev pub DeclinesChosen : List Head → (entries : ℕ) → (old : View D) → Refusal → (new : View D) → Type 0
+  DeclinesChosen heads entries old refusal new = (read : View D) × ReadsOn old read
+      × (((refusal ≡ OutOfMemory) × (new ≡ read))
+      ⊎ ((extent : ℕ) × (dead : ℕ) × GoesBy heads entries old read (Some (extent, dead)) × DeclinesSweep disks extent read new refusal))

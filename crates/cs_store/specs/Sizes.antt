@@ -1,9 +1,11 @@
 -- What is told of a shard's size.
-use Rattle.std.specs.Prelude.{ℕ, Option, Result, Ok, Err}
+use Rattle.std.specs.Prelude.{ℕ, List, Option, Result, Ok, Err}
 use Rattle.cs_deps.specs.declared.refusals.Refusal.{Refusal}
 use Rattle.cs_deps.specs.declared.refusals.Refusal.TheVariants as refusal
+use Rattle.cs_frame.specs.declared.locators.Locator.{Locator}
+use Rattle.cs_model.specs.Device.{Shape}
 use Rattle.cs_model.specs.Element.{Content}
-use Rattle.cs_core.specs.Lookups.{IsSize}
+use Rattle.cs_core.specs.Lookups.{IsSaid, IsSize}
 use Rattle.cs_store.specs.declared.sizes.SizeError.{SizeError}
 use Rattle.cs_store.specs.declared.sizes.SizeError.TheVariants as size
 
@@ -20,3 +22,9 @@ size_refusal size.BadVersion = refusal.BadVersion
 abbrev pub IsSized : Option Content → Result (Option ℕ) SizeError → Type 0
 IsSized content (Ok found) = IsSize content (Ok found)
 IsSized content (Err error) = IsSize content (Err (size_refusal error))
+
+-- what the headers at these places say: how many bytes together, None where there are no places; or the error of the first header that fails, or that of
+-- device or memory
+abbrev pub IsSaidByHeaders : Shape → (view : ℕ → List ℕ) → List Locator → Result (Option ℕ) SizeError → Type 0
+IsSaidByHeaders S view places (Ok found) = IsSaid S view places (Ok found)
+IsSaidByHeaders S view places (Err error) = IsSaid S view places (Err (size_refusal error))

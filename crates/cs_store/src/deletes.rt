@@ -1,5 +1,5 @@
 //! Deletes.
-ghost use Rattle.std.specs.Prelude.{◌≡◌, ◌≤◌, ◌↔◌, ◌⊎◌, Err, IfErr, IfOk, IfSome, MatchOption, MatchResult, None, suc, true};
+ghost use Rattle.std.specs.Prelude.{◌≡◌, ◌≤◌, ◌↔◌, ◌⊎◌, ◌∷◌, [], Err, IfErr, IfOk, IfSome, MatchOption, MatchResult, None, suc, true};
 ghost use Rattle.cs_disk.specs.Disk.{Leaves, LeavesOnly, page};
 ghost use Rattle.cs_extent.specs.State.{shape};
 ghost use Rattle.cs_index.specs.State.{id_number};
@@ -11,7 +11,7 @@ ghost use Rattle.cs_core.specs.declared.events.Reply.TheVariants.{Absent, Accept
 ghost use Rattle.cs_core.specs.Meanings.{commands_said};
 ghost use Rattle.cs_store.specs.Errors.{delete_refusal};
 ghost use Rattle.cs_store.specs.Events.{Declines, Does, IsHalted};
-ghost use Rattle.cs_store.specs.Maps.{HasMap};
+ghost use Rattle.cs_store.specs.Maps.{Accepts, HasMap};
 ghost use Rattle.cs_store.specs.Rooms.{HasNoRoom};
 
 use crate::errors::DeleteError;
@@ -38,6 +38,8 @@ impl<D: PageDisk> Store<D> {
         ensures full { D.honest self.old.disk → IfErr result (λ error. error ≡ DeleteError.HistoryFull → HasNoRoom self.new) }
         ensures number { D.honest self.old.disk → IfOk result (λ deleted. MatchOption deleted (self.new.store.accepted ≡ self.old.store.accepted) (λ n. n ≡ suc self.old.store.accepted)) }
         ensures accepted { IfOk result (λ deleted. IfSome deleted (λ n. self.new.store.accepted ≡ n)) }
+        // It alone was accepted where it has a number, and nothing where it has none or is refused.
+        ensures accepts { MatchResult result (λ deleted. MatchOption deleted (Accepts D.PageDisk [] self.old self.new) (λ _. Accepts D.PageDisk ((id_number id, None) ∷ []) self.old self.new)) (λ _. Accepts D.PageDisk [] self.old self.new) }
         // Where there is nothing under it the map stays as it was.
         ensures map { (m : Map) → HasMap self.old m → MatchResult result (λ deleted. MatchOption deleted (HasMap self.new m) (λ _. HasMap self.new (changed m (id_number id, None)))) (λ _. HasMap self.new m) }
         // Nothing is accepted just where there is nothing under the identifier.

@@ -15,7 +15,7 @@ ghost use Rattle.cs_refine.specs.Crashes.{IsPrefix};
 ghost use Rattle.cs_store.specs.Maps.{HasMap};
 ghost use Rattle.cs_survey.specs.Chunks.{AreLiveChunks, Chunk};
 ghost use Rattle.cs_survey.specs.Stats.{newest_uses, run_figure};
-ghost use Rattle.cs_survey.specs.Uses.{AreBounded, AreCounted, AreExtents, heads_of};
+ghost use Rattle.cs_survey.specs.Uses.{AreBounded, AreCounted, AreCountedAsRead, AreExtents, heads_of};
 
 use crate::stores::Store;
 use cs_disk::PageDisk;
@@ -44,11 +44,15 @@ impl<D: PageDisk> Store<D> {
     /// `AllocError` is 9 OutOfMemory.
     pub fn stats(&mut self) -> Result<StoreStats, AllocError>
         ensures extents { IfOk result (λ stats. AreExtents (shape self.old.store.extents).extents (extents_of self.old.store.extents) stats.space.extents.items) }
-        // Where no read failed the counts are those of the headers.
+        // Whatever reads failed, the counts are those of what was read.
+        ensures read { D.honest self.old.disk
+            → (view : ℕ → List ℕ) (chunks : List Chunk) → AreNewest self.old.store.graph (seen (D.state self.old.disk)) view → AreLiveChunks (index_of self.old.store.index) chunks
+            → IfOk result (λ stats. AreCountedAsRead (D.failure_count self.old.disk) (D.failure_count self.new.disk) (heads_of (shape self.old.store.extents) view chunks) stats.space.extents.items) }
+        // So where none failed they are those of the headers.
         ensures counted { D.honest self.old.disk → ¬ Rises (D.failure_count self.old.disk) (D.failure_count self.new.disk)
             → (view : ℕ → List ℕ) (chunks : List Chunk) → AreNewest self.old.store.graph (seen (D.state self.old.disk)) view → AreLiveChunks (index_of self.old.store.index) chunks
             → IfOk result (λ stats. AreCounted (heads_of (shape self.old.store.extents) view chunks) stats.space.extents.items) }
-        // A chunk whose read failed isn't live, and counts as unreadable.
+        // And else a chunk whose read failed isn't live, and counts as unreadable.
         ensures bounded { D.honest self.old.disk
             → (view : ℕ → List ℕ) (chunks : List Chunk) → AreNewest self.old.store.graph (seen (D.state self.old.disk)) view → AreLiveChunks (index_of self.old.store.index) chunks
             → IfOk result (λ stats. AreBounded (heads_of (shape self.old.store.extents) view chunks) stats.space.extents.items) }

@@ -1,5 +1,5 @@
 //! Puts.
-ghost use Rattle.std.specs.Prelude.{◌≡◌, ◌≤◌, ◌↔◌, Err, IfErr, IfOk, MatchResult, Some, suc, true};
+ghost use Rattle.std.specs.Prelude.{◌≡◌, ◌≤◌, ◌↔◌, ◌∷◌, [], Err, IfErr, IfOk, MatchResult, Some, suc, true};
 ghost use Rattle.cs_disk.specs.Disk.{Leaves, LeavesOnly, page};
 ghost use Rattle.cs_extent.specs.State.{shape};
 ghost use Rattle.cs_index.specs.State.{id_number};
@@ -11,7 +11,7 @@ ghost use Rattle.cs_core.specs.declared.events.Reply.TheVariants.{Accepted};
 ghost use Rattle.cs_core.specs.Meanings.{commands_said};
 ghost use Rattle.cs_store.specs.Errors.{put_refusal};
 ghost use Rattle.cs_store.specs.Events.{DeclinesCopy, Does};
-ghost use Rattle.cs_store.specs.Maps.{HasMap};
+ghost use Rattle.cs_store.specs.Maps.{Accepts, HasMap};
 ghost use Rattle.cs_store.specs.Rooms.{HasNoRoom};
 
 use crate::errors::PutError;
@@ -48,6 +48,8 @@ impl<D: PageDisk> Store<D> {
         ensures full { D.honest self.old.disk → IfErr result (λ error. error ≡ PutError.HistoryFull → HasNoRoom self.new) }
         ensures number { D.honest self.old.disk → IfOk result (λ n. n ≡ suc self.old.store.accepted) }
         ensures accepted { IfOk result (λ n. self.new.store.accepted ≡ n) }
+        // It alone was accepted where it is done, and nothing where it is refused.
+        ensures accepts { MatchResult result (λ _. Accepts D.PageDisk ((id_number id, Some bytes.now) ∷ []) self.old self.new) (λ _. Accepts D.PageDisk [] self.old self.new) }
         ensures map { (m : Map) → HasMap self.old m → MatchResult result (λ _. HasMap self.new (changed m (id_number id, Some bytes.now))) (λ _. HasMap self.new m) }
         ensures rises { self.old.store.frontier ≤ self.new.store.frontier }
         // A crash at any moment of it leaves the map after some of the commands, none of those left out that were persistent before.

@@ -15,7 +15,7 @@ ghost use Rattle.cs_drive.specs.Sweeps.{MayRefuseSweep};
 ghost use Rattle.cs_store.specs.Errors.{IsDeleteRefusal, sweep_refusal};
 ghost use Rattle.cs_store.specs.Events.{IsHalted};
 ghost use Rattle.cs_store.specs.Maps.{Accepts, HasMap};
-ghost use Rattle.cs_store.specs.Reclaims.{GoesBy, ReadsOn, Reclaims, chosen_extent, reclaimed_extent};
+ghost use Rattle.cs_store.specs.Reclaims.{DeclinesChosen, GoesBy, ReadsOn, Reclaims, chosen_extent, reclaimed_extent};
 ghost use Rattle.cs_store.specs.Sweeps.{DeclinesSweep, SweepsReady};
 ghost use Rattle.cs_survey.specs.Chunks.{AreLiveChunks, Chunk};
 ghost use Rattle.cs_survey.specs.Uses.{heads_of};
@@ -64,8 +64,13 @@ impl<D: PageDisk> Store<D> {
         ensures none { result ≡ Ok None → ReadsOn D.PageDisk self.old self.new }
         ensures done { IfOk result (λ found. (swept : Reclaimed) → found ≡ Some swept → (read : View D) × ReadsOn D.PageDisk self.old read × SweepsReady D.PageDisk swept.extent read self.new swept.moved swept.root) }
         ensures refused { IfErr result (λ error. IsHalted self.old (sweep_refusal error) self.new ⊎ ((read : View D) × (extent : ℕ) × ReadsOn D.PageDisk self.old read × ((sweep_refusal error ≡ OutOfMemory) × (self.new ≡ read) ⊎ DeclinesSweep D.PageDisk extent read self.new (sweep_refusal error)))) }
+        // One that is declined was chosen so too.
+        ensures declined { D.honest self.old.disk → (view : ℕ → List ℕ) (chunks : List Chunk) → AreNewest self.old.store.graph (seen (D.state self.old.disk)) view → AreLiveChunks (index_of self.old.store.index) chunks
+            → IfErr result (λ error. IsHalted self.old (sweep_refusal error) self.new ⊎ DeclinesChosen D.PageDisk (heads_of (shape self.old.store.extents) view chunks) (names (index_of self.old.store.index)) self.old (sweep_refusal error) self.new) }
         // A halted store refuses it, and nothing is asked of the core: no event more is kept.
         ensures halted { self.old.store.halted ≡ true → (result ≡ Err SweepError.Halted) × (self.new ≡ self.old) }
+        // No command is accepted.
+        ensures accepts { Accepts D.PageDisk [] self.old self.new }
         ensures map { (m : Map) → HasMap self.old m → HasMap self.new m }
         ensures rises { self.old.store.frontier ≤ self.new.store.frontier }
         // A crash at any moment of it leaves the map after some of the commands, none of those left out that were persistent before.
@@ -99,6 +104,8 @@ fn reclaim_ready<D: PageDisk>(
     ensures none { result ≡ Ok None → ReadsOn D.PageDisk core.old core.new }
     ensures done { IfOk result (λ found. (swept : Reclaimed) → found ≡ Some swept → (read : View D) × ReadsOn D.PageDisk core.old read × SweepsReady D.PageDisk swept.extent read core.new swept.moved swept.root) }
     ensures refused { IfErr result (λ refusal. (read : View D) × (extent : ℕ) × ReadsOn D.PageDisk core.old read × ((refusal ≡ OutOfMemory) × (core.new ≡ read) ⊎ DeclinesSweep D.PageDisk extent read core.new refusal)) }
+    ensures declined { D.honest core.old.disk → (view : ℕ → List ℕ) (chunks : List Chunk) → AreNewest core.old.store.graph (seen (D.state core.old.disk)) view → AreLiveChunks (index_of core.old.store.index) chunks
+        → IfErr result (λ refusal. DeclinesChosen D.PageDisk (heads_of (shape core.old.store.extents) view chunks) (names (index_of core.old.store.index)) core.old refusal core.new) }
     ensures refusals { IfErr result (λ refusal. IsDeleteRefusal refusal ⊎ MayRefuseSweep refusal) }
     ensures accepts { Accepts D.PageDisk [] core.old core.new }
     ensures ran { Ran D.PageDisk core.old core.new }

@@ -6,7 +6,8 @@ ghost use Rattle.cs_core.specs.Meanings.{commands_said};
 ghost use Rattle.cs_disk.specs.Disk.{LeavesOnly, page, seen};
 ghost use Rattle.cs_extent.specs.State.{shape};
 ghost use Rattle.cs_refine.specs.Crashes.{IsPrefix};
-ghost use Rattle.cs_scrub.specs.Scrubs.{AreCaused, IsScrubbed};
+ghost use Rattle.cs_scrub.specs.Scrubs.{AreCaused, IsScrubbed, device_faults};
+ghost use Rattle.cs_survey.specs.Failures.{RisesBy};
 
 use crate::stores::Store;
 use cs_disk::PageDisk;
@@ -24,6 +25,8 @@ impl<D: PageDisk> Store<D> {
             → IfOk result (IsScrubbed (shape self.old.store.extents) view self.old.store.index) }
         ensures runs { IfOk result (λ found. found.runs ≡ length self.old.store.index.runs) }
         ensures caused { IfOk result (λ found. AreCaused (D.failure_count self.old.disk) (D.failure_count self.new.disk) found.damages.items) }
+        // It rose by as many as are named 1 at least: no frame is named so for the read of another.
+        ensures counted { IfOk result (λ found. RisesBy (device_faults found.damages.items) (D.failure_count self.old.disk) (D.failure_count self.new.disk)) }
         ensures same { self.new ≡ record self.old { disk = self.new.disk } }
         ensures disk { OnlyReads D.PageDisk self.old.disk self.new.disk }
         // A crash meanwhile leaves what one before it might have left.

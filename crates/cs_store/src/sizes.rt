@@ -1,16 +1,18 @@
 //! How many bytes a shard has.
-ghost use Rattle.std.specs.Prelude.{◌≡◌, ◌↔◌, IfErr, None, []};
+ghost use Rattle.std.specs.Prelude.{◌≡◌, ◌↔◌, IfErr, List, None, [], map, ℕ};
 ghost use Rattle.cs_chunk.specs.Lengths.{IsHeaderRefusal};
+ghost use Rattle.cs_chunk.specs.Newest.{AreNewest};
 ghost use Rattle.cs_chunk.specs.Reads.{OnlyReads};
-ghost use Rattle.cs_disk.specs.Disk.{LeavesOnly, Rises, page};
+ghost use Rattle.cs_disk.specs.Disk.{LeavesOnly, Rises, page, seen};
 ghost use Rattle.cs_extent.specs.State.{shape};
+ghost use Rattle.cs_frame.specs.Formats.{as_locator};
 ghost use Rattle.cs_index.specs.State.{id_number, index_of};
 ghost use Rattle.cs_model.specs.Element.{Map};
 ghost use Rattle.cs_model.specs.Index.{live_at};
 ghost use Rattle.cs_refine.specs.Crashes.{IsPrefix};
 ghost use Rattle.cs_core.specs.Meanings.{commands_said};
 ghost use Rattle.cs_store.specs.Maps.{HasMap};
-ghost use Rattle.cs_store.specs.Sizes.{IsSized, size_refusal};
+ghost use Rattle.cs_store.specs.Sizes.{IsSaidByHeaders, IsSized, size_refusal};
 
 use crate::stores::Store;
 use cs_deps::Refusal;
@@ -85,6 +87,9 @@ impl<D: PageDisk> Store<D> {
     /// chunk is damaged, by the first test that fails.
     pub fn size_of(&mut self, id: ShardId) -> Result<Option<usize>, SizeError>
         ensures answer { (m : Map) → HasMap self.old m → D.honest self.old.disk → IsSized (m (id_number id)) result }
+        // Also of a damaged shard what is told is what the headers say.
+        ensures headers { D.honest self.old.disk → (view : ℕ → List ℕ) → AreNewest self.old.store.graph (seen (D.state self.old.disk)) view
+            → IsSaidByHeaders (shape self.old.store.extents) view (map as_locator (live_at (index_of self.old.store.index) (id_number id))) result }
         // Whatever the disk does, None is answered where the index has no places of the shard's chunks, and nowhere else.
         ensures absent { (result ≡ Ok None) ↔ (live_at (index_of self.old.store.index) (id_number id) ≡ []) }
         ensures same { self.new ≡ record self.old { disk = self.new.disk } }

@@ -52,6 +52,8 @@ impl<D: PageDisk> Store<D> {
         ensures refused { IfErr result (λ error. IsHalted self.old (sweep_refusal error) self.new ⊎ DeclinesSweep D.PageDisk extent self.old self.new (sweep_refusal error)) }
         // A halted store refuses it, and nothing is asked of the core: no event more is kept.
         ensures halted { self.old.store.halted ≡ true → (result ≡ Err SweepError.Halted) × (self.new ≡ self.old) }
+        // No command is accepted.
+        ensures accepts { Accepts D.PageDisk [] self.old self.new }
         ensures map { (m : Map) → HasMap self.old m → HasMap self.new m }
         ensures rises { self.old.store.frontier ≤ self.new.store.frontier }
         // A crash at any moment of it leaves the map after some of the commands, none of those left out that were persistent before.
@@ -86,6 +88,8 @@ impl<D: PageDisk> Store<D> {
         // A halted store refuses it, and nothing is asked of the core: no event more is kept.
         ensures halted { self.old.store.halted ≡ true → (result ≡ Err SweepError.Halted) × (self.new ≡ self.old) }
         ensures refusals { IfErr result (λ error. (error ≡ SweepError.NotSweepable) ⊎ (error ≡ SweepError.Halted) ⊎ (error ≡ SweepError.OutOfMemory)) }
+        // No command is accepted.
+        ensures accepts { Accepts D.PageDisk [] self.old self.new }
         ensures map { (m : Map) → HasMap self.old m → HasMap self.new m }
         ensures rises { self.old.store.frontier ≤ self.new.store.frontier }
         // A crash at any moment of it leaves the map after some of the commands, none of those left out that were persistent before.

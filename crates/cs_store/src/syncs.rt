@@ -1,5 +1,5 @@
 //! Syncs.
-ghost use Rattle.std.specs.Prelude.{◌≡◌, ◌≤◌, ◌↔◌, ◌⊎◌, Err, IfErr, IfOk, true};
+ghost use Rattle.std.specs.Prelude.{◌≡◌, ◌≤◌, ◌↔◌, ◌⊎◌, [], Err, IfErr, IfOk, true};
 ghost use Rattle.cs_disk.specs.Disk.{Leaves, LeavesOnly, page};
 ghost use Rattle.cs_extent.specs.State.{shape};
 ghost use Rattle.cs_model.specs.Element.{Map};
@@ -8,7 +8,7 @@ ghost use Rattle.cs_core.specs.Meanings.{commands_said};
 ghost use Rattle.cs_drive.specs.Syncs.{StopsSync, Syncs};
 ghost use Rattle.cs_store.specs.Errors.{sync_refusal};
 ghost use Rattle.cs_store.specs.Events.{IsHalted};
-ghost use Rattle.cs_store.specs.Maps.{HasMap};
+ghost use Rattle.cs_store.specs.Maps.{Accepts, HasMap};
 
 use crate::errors::SyncError;
 use crate::stores::Store;
@@ -29,6 +29,8 @@ impl<D: PageDisk> Store<D> {
         // A halted store refuses it, and nothing is asked of the core: no event more is kept.
         ensures halted { self.old.store.halted ≡ true → (result ≡ Err SyncError.Halted) × (self.new ≡ self.old) }
         ensures same { D.honest self.old.disk → self.new.store.accepted ≡ self.old.store.accepted }
+        // No command is accepted.
+        ensures accepts { Accepts D.PageDisk [] self.old self.new }
         ensures map { (m : Map) → HasMap self.old m → HasMap self.new m }
         ensures rises { self.old.store.frontier ≤ self.new.store.frontier }
         // A crash at any moment of it leaves the map after some of the commands, none of those left out that were persistent before.

@@ -15,6 +15,9 @@ use Rattle.cs_store.proofs.reclaims.reclaim_ready.Goals as goal
 pub returns-in_default-clause-refused : goal.returns-in_default-clause-refused
 returns-in_default-clause-refused g c = (c.worth_sweeping.new.core, 0, c.in_default.ensures.reads, inl (refl, refl))
 
+pub returns-in_default-clause-declined : goal.returns-in_default-clause-declined
+returns-in_default-clause-declined g c = λ honest view chunks are live. (c.worth_sweeping.new.core, c.in_default.ensures.reads, inl (refl, refl))
+
 pub returns-in_default-clause-ran : goal.returns-in_default-clause-ran
 returns-in_default-clause-ran g c =
     read_ran g.D.PageDisk c.args.core.now c.worth_sweeping.new.core c.worth_sweeping.ensures.reads c.progress.ensures.left (λ honest image since. g.met.D.PageDisk.only_now c.args.core.now.disk image honest since)
@@ -62,3 +65,10 @@ returns-in_default-found-clause-chosen g c = λ honest view chunks are live.
       subst (λ (o : Option Found). GoesBy g.D.PageDisk (heads_of (shape first.store.extents) view chunks) (names (index_of first.store.index)) first c.worth_sweeping.new.core (chosen_extent o)) c.in_default-found.is
           (c.in-Ok.ensures.chosen honest view chunks are live),
     )
+
+pub returns-in-Err-clause-declined : goal.returns-in-Err-clause-declined
+returns-in-Err-clause-declined g c = λ honest view chunks are live.
+    let first = c.args.core.now in
+    let goes = subst (λ (o : Option Found). GoesBy g.D.PageDisk (heads_of (shape first.store.extents) view chunks) (names (index_of first.store.index)) first c.worth_sweeping.new.core (chosen_extent o)) c.in-Some.is
+    (c.in-Ok.ensures.chosen honest view chunks are live) in
+    (c.worth_sweeping.new.core, c.worth_sweeping.ensures.reads, inr (c.in-Some.field-0.extent, c.in-Some.field-0.dead, goes, c.in-Err.ensures.declined))

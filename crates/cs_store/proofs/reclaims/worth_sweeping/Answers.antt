@@ -19,8 +19,7 @@ pub returns-in_default-clause-chosen : goal.returns-in_default-clause-chosen
 returns-in_default-clause-chosen g c = λ honest view chunks are live. record {
   uses = c.in_ok-uses.uses.items;
   extents = c.in_ok-uses.ensures.extents;
-  bounded = c.in_ok-uses.ensures.bounded honest view chunks are live;
-  counted = λ still. c.in_ok-uses.ensures.counted honest still view chunks are live;
+  read = c.in_ok-uses.ensures.read honest view chunks are live;
   chooses = none_chosen c.in_ok-uses.uses.items (run_pages (names (index_of c.args.core.now.store.index))) (subst HasNoGarbage c.deref.ensures.value c.in_default.ensures);
 }
 
@@ -28,8 +27,7 @@ pub returns-then-dead-index_pages-clause-chosen : goal.returns-then-dead-index_p
 returns-then-dead-index_pages-clause-chosen g c = λ honest view chunks are live. record {
   uses = c.in_ok-uses.uses.items;
   extents = c.in_ok-uses.ensures.extents;
-  bounded = c.in_ok-uses.ensures.bounded honest view chunks are live;
-  counted = λ still. c.in_ok-uses.ensures.counted honest still view chunks are live;
+  read = c.in_ok-uses.ensures.read honest view chunks are live;
   chooses = chooses_it c.extents.result.now c.args.core.now.store.extents c.in_ok-uses.uses.items c.deref.result.now c.in-Some.extent c.dead-dead.result c.named_count.result c.named_limit-limit.result c.frame_pages-index_pages.result c.index-2.result.now
       c.geometry.ensures.whole c.extents.ensures c.in_ok-uses.ensures.extents c.deref.ensures.value c.in-Some.ensures c.index-2.ensures c.dead-dead.ensures
       (c.named_limit-limit.ensures ∙ ap (λ (p : ℕ). (4096 * p - 45) / 81) c.geometry.ensures.pages)
@@ -42,8 +40,7 @@ pub returns-clause-chosen : goal.returns-clause-chosen
 returns-clause-chosen g c = λ honest view chunks are live. record {
   uses = c.in_ok-uses.uses.items;
   extents = c.in_ok-uses.ensures.extents;
-  bounded = c.in_ok-uses.ensures.bounded honest view chunks are live;
-  counted = λ still. c.in_ok-uses.ensures.counted honest still view chunks are live;
+  read = c.in_ok-uses.ensures.read honest view chunks are live;
   chooses = chooses_none c.extents.result.now c.args.core.now.store.extents c.in_ok-uses.uses.items c.deref.result.now c.in-Some.extent c.dead-dead.result c.named_count.result c.named_limit-limit.result c.frame_pages-index_pages.result c.index-2.result.now
       c.geometry.ensures.whole c.extents.ensures c.in_ok-uses.ensures.extents c.deref.ensures.value c.in-Some.ensures c.index-2.ensures c.dead-dead.ensures
       (c.named_limit-limit.ensures ∙ ap (λ (p : ℕ). (4096 * p - 45) / 81) c.geometry.ensures.pages)

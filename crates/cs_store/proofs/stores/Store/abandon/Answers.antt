@@ -14,7 +14,7 @@ use Rattle.cs_store.specs.declared.errors.SweepError.TheVariants as sweep
 use Rattle.cs_store.specs.Errors.{sweep_refusal}
 use Rattle.cs_store.specs.Events.{IsHalted}
 use Rattle.cs_store.proofs.Abandoning.{abandon_is, abandon_told, abandoned, unmarked}
-use Rattle.cs_store.proofs.Accepting.{abandon_quiet}
+use Rattle.cs_store.proofs.Accepting.{abandon_quiet, accepts_none}
 use Rattle.cs_store.proofs.Maps.{map_kept}
 use Rattle.cs_store.proofs.Running.{Left, on_err, on_ok, ran_leaves, ran_rises, refused_err, refused_ok}
 use Rattle.cs_store.proofs.stores.Store.abandon.Goals as goal
@@ -93,3 +93,11 @@ returns-then-is_halted-clause-crash g c = rw (← c.self.view_is) (λ honest.
 pub returns-then-is_halted-clause-left : goal.returns-then-is_halted-clause-left
 returns-then-is_halted-clause-left g c =
     subst (λ (v : View g.row.D.Denot). g.D.PageDisk.honest v.disk → Leaves (g.D.PageDisk.state v.disk) (Left v v)) c.self.view_is c.progress.ensures.left
+
+pub returns-then-is_halted-clause-accepts : goal.returns-then-is_halted-clause-accepts
+returns-then-is_halted-clause-accepts g c = rw (← c.self.view_is) (accepts_none g.D.PageDisk c.self.inside.core)
+
+pub returns-clause-accepts : goal.returns-clause-accepts
+returns-clause-accepts g c = rw (← c.self.view_is) (
+    let e = c.ask-asked.ensures in
+    abandon_quiet g.D.PageDisk c.args.extent c.self.inside.core c.ask-asked.new.core c.ask-asked.result e.done e.refused)

@@ -6,7 +6,8 @@ use Rattle.cs_extent.specs.State.{IsWhole}
 use Rattle.cs_core.specs.declared.events.Event.TheVariants.{Delete}
 use Rattle.cs_core.specs.declared.events.Reply.TheVariants.{Absent, Accepted}
 use Rattle.cs_store.specs.Errors.{delete_refusal}
-use Rattle.cs_store.proofs.Commanding.{absent_maps, absent_number, delete_declines, delete_maps, delete_number, does_as}
+use Rattle.cs_store.proofs.Accepting.{accepts_none}
+use Rattle.cs_store.proofs.Commanding.{absent_adds, absent_maps, absent_number, delete_adds, delete_declines, delete_maps, delete_number, does_as}
 use Rattle.cs_store.proofs.Deleting.{absent_there, deleted_there}
 use Rattle.cs_store.proofs.Running.{Left, ran_leaves, ran_rises}
 use Rattle.cs_store.proofs.Refusing.{delete_is}
@@ -105,3 +106,15 @@ returns-then-is_halted-clause-crash g c = rw (← c.self.view_is) (λ honest.
 pub returns-then-is_halted-clause-left : goal.returns-then-is_halted-clause-left
 returns-then-is_halted-clause-left g c =
     subst (λ (v : View g.row.D.Denot). g.D.PageDisk.honest v.disk → Leaves (g.D.PageDisk.state v.disk) (Left v v)) c.self.view_is c.progress.ensures.left
+
+pub returns-then-is_halted-clause-accepts : goal.returns-then-is_halted-clause-accepts
+returns-then-is_halted-clause-accepts g c = rw (← c.self.view_is) (accepts_none g.D.PageDisk c.self.inside.core)
+
+pub returns-in-Ok-Accepted-clause-accepts : goal.returns-in-Ok-Accepted-clause-accepts
+returns-in-Ok-Accepted-clause-accepts g c = rw (← c.self.view_is) (delete_adds g.D.PageDisk c.self.inside.core c.ask_ready.new.core c.args.id c.in-Ok-Accepted.field-0 c.in-Ok-Accepted.number c.in-Ok-Accepted.field-0-is c.in-Ok-Accepted.ensures.accepts)
+
+pub returns-in-Ok-Absent-clause-accepts : goal.returns-in-Ok-Absent-clause-accepts
+returns-in-Ok-Absent-clause-accepts g c = rw (← c.self.view_is) (absent_adds g.D.PageDisk c.self.inside.core c.ask_ready.new.core c.args.id c.in-Ok-Absent.field-0 c.in-Ok-Absent.field-0-is c.in-Ok-Absent.ensures.accepts)
+
+pub returns-clause-accepts : goal.returns-clause-accepts
+returns-clause-accepts g c = rw (← c.self.view_is) c.in-Err.ensures.accepts

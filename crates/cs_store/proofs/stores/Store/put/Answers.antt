@@ -3,7 +3,8 @@ use Rattle.cs_disk.specs.Disk.{Leaves}
 use Rattle.cs_core.specs.Views.{View}
 use Rattle.cs_drive.proofs.Runs.{ran_none}
 use Rattle.cs_store.specs.Errors.{put_refusal}
-use Rattle.cs_store.proofs.Commanding.{put_declines, put_does, put_maps, put_number}
+use Rattle.cs_store.proofs.Accepting.{accepts_none}
+use Rattle.cs_store.proofs.Commanding.{put_adds, put_declines, put_does, put_maps, put_number}
 use Rattle.cs_store.proofs.Running.{Left, ran_leaves, ran_rises}
 use Rattle.cs_store.proofs.Refusing.{put_is}
 use Rattle.cs_store.proofs.stores.Store.put.Goals as goal
@@ -80,3 +81,15 @@ returns-then-is_halted-clause-left g c =
 
 pub returns-in_default-clause-refused : goal.returns-in_default-clause-refused
 returns-in_default-clause-refused g c = rw (← c.self.view_is) (inr (inl (refl, refl)))
+
+pub returns-then-is_halted-clause-accepts : goal.returns-then-is_halted-clause-accepts
+returns-then-is_halted-clause-accepts g c = rw (← c.self.view_is) (accepts_none g.D.PageDisk c.self.inside.core)
+
+pub returns-in_default-clause-accepts : goal.returns-in_default-clause-accepts
+returns-in_default-clause-accepts g c = rw (← c.self.view_is) (accepts_none g.D.PageDisk c.self.inside.core)
+
+pub returns-in-Ok-Accepted-clause-accepts : goal.returns-in-Ok-Accepted-clause-accepts
+returns-in-Ok-Accepted-clause-accepts g c = rw (← c.self.view_is) (put_adds g.D.PageDisk c.self.inside.core c.ask_ready.new.core c.args.id c.in-Ok.copy c.args.bytes.now c.in-Ok.ensures c.in-Ok-Accepted.field-0 c.in-Ok-Accepted.number c.in-Ok-Accepted.field-0-is c.in-Ok-Accepted.ensures.accepts)
+
+pub returns-clause-accepts : goal.returns-clause-accepts
+returns-clause-accepts g c = rw (← c.self.view_is) c.in-Err.ensures.accepts

@@ -12,8 +12,9 @@ use Rattle.cs_store.specs.declared.errors.SweepError.{SweepError}
 use Rattle.cs_store.specs.declared.reclaims.Reclaimed.{Reclaimed}
 use Rattle.cs_store.specs.Errors.{sweep_refusal}
 use Rattle.cs_store.specs.Events.{IsHalted}
-use Rattle.cs_store.specs.Reclaims.{GoesBy, ReadsOn, Reclaims, reclaimed_extent}
+use Rattle.cs_store.specs.Reclaims.{DeclinesChosen, GoesBy, ReadsOn, Reclaims, reclaimed_extent}
 use Rattle.cs_store.specs.Sweeps.{DeclinesSweep, SweepsReady}
+use Rattle.cs_store.proofs.Accepting.{accepts_none}
 use Rattle.cs_store.proofs.Maps.{map_kept}
 use Rattle.cs_store.proofs.Running.{Left, if_err, if_ok, ran_leaves, ran_rises, refused_err, refused_ok}
 use Rattle.cs_store.proofs.Refusing.{sweep_is}
@@ -51,6 +52,17 @@ returns-clause-refused g c = rw (← c.self.view_is) (
       | in-Err w ↦ refused_err c.match-reclaimed.result w.of.result refused w.result-is (inr (subst declines (sym w.of.ensures) w.in-Err.ensures.refused))
     ])
 
+pub returns-clause-declined : goal.returns-clause-declined
+returns-clause-declined g c = rw (← c.self.view_is) (λ honest view chunks are live.
+    let old = c.self.inside.core in
+    let new = c.reclaim_ready-reclaimed.new.core in
+    let declines = λ (r : Refusal). DeclinesChosen g.D.PageDisk (heads_of (shape old.store.extents) view chunks) (names (index_of old.store.index)) old r new in
+    let declined = λ (error : SweepError). IsHalted old (sweep_refusal error) new ⊎ declines (sweep_refusal error) in
+    elim c.match-reclaimed.branch [
+      | in-Ok w ↦ refused_ok c.match-reclaimed.result w.in-Ok.found declined w.result-is
+      | in-Err w ↦ refused_err c.match-reclaimed.result w.of.result declined w.result-is (inr (subst declines (sym w.of.ensures) (w.in-Err.ensures.declined honest view chunks are live)))
+    ])
+
 pub returns-clause-map : goal.returns-clause-map
 returns-clause-map g c = rw (← c.self.view_is) (map_kept g.D.PageDisk c.self.inside.core c.reclaim_ready-reclaimed.new.core c.reclaim_ready-reclaimed.ensures.accepts)
 
@@ -85,3 +97,12 @@ returns-then-is_halted-clause-crash g c = rw (← c.self.view_is) (λ honest.
 pub returns-then-is_halted-clause-left : goal.returns-then-is_halted-clause-left
 returns-then-is_halted-clause-left g c =
     subst (λ (v : View g.row.D.Denot). g.D.PageDisk.honest v.disk → Leaves (g.D.PageDisk.state v.disk) (Left v v)) c.self.view_is c.progress.ensures.left
+
+pub returns-then-is_halted-clause-accepts : goal.returns-then-is_halted-clause-accepts
+returns-then-is_halted-clause-accepts g c = rw (← c.self.view_is) (accepts_none g.D.PageDisk c.self.inside.core)
+
+pub returns-clause-accepts : goal.returns-clause-accepts
+returns-clause-accepts g c = rw (← c.self.view_is) c.reclaim_ready-reclaimed.ensures.accepts
+
+pub returns-then-is_halted-clause-declined : goal.returns-then-is_halted-clause-declined
+returns-then-is_halted-clause-declined g c = rw (← c.self.view_is) (λ honest view chunks are live. inl (sym c.is_halted.ensures ∙ c.if-is_halted.true, refl, refl))

@@ -7,6 +7,7 @@ use Rattle.cs_drive.specs.Syncs.{StopsSync}
 use Rattle.cs_store.specs.declared.errors.SyncError.{SyncError}
 use Rattle.cs_store.specs.Errors.{sync_refusal}
 use Rattle.cs_store.specs.Events.{IsHalted}
+use Rattle.cs_store.proofs.Accepting.{accepts_none}
 use Rattle.cs_store.proofs.Asking.{sync_accepts}
 use Rattle.cs_store.proofs.Maps.{map_kept}
 use Rattle.cs_store.proofs.Running.{Left, counted_none, if_err, if_ok, ran_leaves, ran_rises, refused_err, refused_ok, rests}
@@ -74,3 +75,11 @@ returns-then-is_halted-clause-crash g c = rw (← c.self.view_is) (λ honest.
 pub returns-then-is_halted-clause-left : goal.returns-then-is_halted-clause-left
 returns-then-is_halted-clause-left g c =
     subst (λ (v : View g.row.D.Denot). g.D.PageDisk.honest v.disk → Leaves (g.D.PageDisk.state v.disk) (Left v v)) c.self.view_is c.progress.ensures.left
+
+pub returns-then-is_halted-clause-accepts : goal.returns-then-is_halted-clause-accepts
+returns-then-is_halted-clause-accepts g c = rw (← c.self.view_is) (accepts_none g.D.PageDisk c.self.inside.core)
+
+pub returns-clause-accepts : goal.returns-clause-accepts
+returns-clause-accepts g c = rw (← c.self.view_is) (
+    let e = c.sync-synced.ensures in
+    sync_accepts g.D.PageDisk c.self.inside.core c.sync-synced.new.core c.sync-synced.result e.done e.stopped)
