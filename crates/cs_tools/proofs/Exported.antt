@@ -49,35 +49,36 @@ told_same : (m n : Map) → ((id : ℕ) → m id ≡ n id) → (shard : Shard) �
 told_same m n same (id, Ok bytes) told = sym (same (id_number id)) ∙ told
 told_same m n same (id, Err r) told = subst (λ (content : Option Content). IsReading content (Err r)) (same (id_number id)) told
 
-read_same : (m n : Map) → ((id : ℕ) → m id ≡ n id) → (ids : List ShardId) (whole : Bool) (shards : List Shard) → AreReadOf m ids whole shards → AreReadOf n ids whole shards
-read_same m n same ids whole shards are = record {
+read_same : (m n : Map) (x y : ℕ) → ((id : ℕ) → m id ≡ n id) → (ids : List ShardId) (whole : Bool) (shards : List Shard) → AreReadOf m x y ids whole shards → AreReadOf n x y ids whole shards
+read_same m n x y same ids whole shards are = record {
   ids_are = are.ids_are;
   each = all_mapped (IsToldBy m) (IsToldBy n) (told_same m n same) shards are.each;
+  caused = are.caused;
   whole_is = are.whole_is;
 }
 
 -- the script was written out
-exported : {D : Type 0} (state : D → DiskState) (v : View D) (m : Map) (s : State) → IsWhole v.store.extents → HasMap v m → IsIn state v s
+exported : {D : Type 0} (state : D → DiskState) (v : View D) (m : Map) (x y : ℕ) (s : State) → IsWhole v.store.extents → HasMap v m → IsIn state v s
     → (ids : List ShardId) → AreAll (λ id. live_at (index_of v.store.index) id ≢ []) (map id_number ids) → (whole : Bool) (a b : Option (List ℕ))
-    → ((shards : List Shard) × AreReadOf (map_now s) ids whole shards × ((text : List ℕ) × IsScript shards text × Appends a b text)) → IsExported m a b whole
-exported state v m s extents has is ids all whole a b h =
+    → ((shards : List Shard) × AreReadOf (map_now s) x y ids whole shards × ((text : List ℕ) × IsScript shards text × Appends a b text)) → IsExported m x y a b whole
+exported state v m x y s extents has is ids all whole a b h =
     let same : (id : ℕ) → map_now s id ≡ m id = map_is state v m s extents has is in
     record {
       ids = ids;
       all = all_there state v s is m same (map id_number ids) all;
       shards = h.0;
-      are = read_same (map_now s) m same ids whole h.0 h.1;
+      are = read_same (map_now s) m x y same ids whole h.0 h.1;
       text = h.2.0;
       script = h.2.1;
       written = h.2.2;
     }
 
 -- with the identifiers that an index lists, which is the store's but for its room
-pub exported_listed : {D : Type 0} (state : D → DiskState) (v : View D) (m : Map) (s : State) → IsWhole v.store.extents → HasMap v m → IsIn state v s
+pub exported_listed : {D : Type 0} (state : D → DiskState) (v : View D) (m : Map) (x y : ℕ) (s : State) → IsWhole v.store.extents → HasMap v m → IsIn state v s
     → (index : Index) → v.store.index ≡ record index { room = 0 } → (listed ids : List ShardId) → ids ≡ listed → AreAll (λ id. live_at (index_of index) id ≢ []) (map id_number listed)
     → (whole : Bool) (a b : Option (List ℕ))
     → (AllByRecursion (λ id. live_at (index_of v.store.index) (id_number id) ≢ []) ids
-    → (shards : List Shard) × AreReadOf (map_now s) ids whole shards × ((text : List ℕ) × IsScript shards text × Appends a b text)) → IsExported m a b whole
-exported_listed state v m s extents has is index same listed ids given all whole a b h =
+    → (shards : List Shard) × AreReadOf (map_now s) x y ids whole shards × ((text : List ℕ) × IsScript shards text × Appends a b text)) → IsExported m x y a b whole
+exported_listed state v m x y s extents has is index same listed ids given all whole a b h =
     let there = subst (λ (i : Index). AreAll (λ id. live_at (index_of i) id ≢ []) (map id_number ids)) (sym same) (subst (λ (l : List ShardId). AreAll (λ id. live_at (index_of index) id ≢ []) (map id_number l)) (sym given) all) in
-    exported state v m s extents has is ids there whole a b (h (all_members (λ id. live_at (index_of v.store.index) id ≢ []) ids (λ id member. (there.each id).0 member)))
+    exported state v m x y s extents has is ids there whole a b (h (all_members (λ id. live_at (index_of v.store.index) id ≢ []) ids (λ id member. (there.each id).0 member)))

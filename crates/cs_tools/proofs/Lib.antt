@@ -1,5 +1,6 @@
 pub mod Appended
 pub mod Changing
+pub mod Drawing
 pub mod Exported
 pub mod Exporting
 pub mod Getting
@@ -8,6 +9,7 @@ pub mod Payloads
 pub mod Putting
 pub mod Quiet
 pub mod Reading
+pub mod Resting
 pub mod Scrubbing
 pub mod Still
 pub mod Tidying

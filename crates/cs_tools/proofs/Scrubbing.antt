@@ -2,14 +2,15 @@
 use Rattle.std.proofs.Common.{◌≡◌, ◌⊎◌, ◌≢◌, ℕ, List, [], sym, subst, inl, inr}
 use Rattle.cs_index.specs.State.{State as Index}
 use Rattle.cs_model.specs.Device.{Shape}
-use Rattle.cs_scrub.specs.Scrubs.{IsScrubbed}
+use Rattle.cs_scrub.specs.Scrubs.{AreCaused, IsScrubbed, device_faults}
 use Rattle.cs_scrub.specs.declared.damages.Scrubbed.{Scrubbed}
+use Rattle.cs_survey.specs.Failures.{RisesBy}
 use Rattle.cs_tools.specs.Scrubs.{Scrubs}
 use Rattle.cs_tools.specs.declared.outcomes.Outcome.{Outcome}
 use Rattle.cs_tools.specs.declared.outcomes.Outcome.TheVariants.{Damaged, Done, Failed}
 
-pub scrubbed : (S : Shape) (view : ℕ → List ℕ) (index : Index) (found : Scrubbed) (o : Outcome) → IsScrubbed S view index found
-    → ((o ≡ Done) × (found.damages.items ≡ [])) ⊎ ((o ≡ Damaged) × (found.damages.items ≢ [])) ⊎ (o ≡ Failed) → Scrubs S view index o
-scrubbed S view index found o is (inl h) = subst (Scrubs S view index) (sym h.0) (found, is, h.1)
-scrubbed S view index found o is (inr (inl h)) = subst (Scrubs S view index) (sym h.0) (found, is, h.1)
-scrubbed S view index found o is (inr (inr h)) = subst (Scrubs S view index) (sym h) tt
+pub scrubbed : (S : Shape) (view : ℕ → List ℕ) (index : Index) (before after : ℕ) (found : Scrubbed) (o : Outcome) → IsScrubbed S view index found → AreCaused before after found.damages.items → RisesBy (device_faults found.damages.items) before after
+    → ((o ≡ Done) × (found.damages.items ≡ [])) ⊎ ((o ≡ Damaged) × (found.damages.items ≢ [])) ⊎ (o ≡ Failed) → Scrubs S view index before after o
+scrubbed S view index before after found o is caused counted (inl h) = subst (Scrubs S view index before after) (sym h.0) (found, is, h.1)
+scrubbed S view index before after found o is caused counted (inr (inl h)) = subst (Scrubs S view index before after) (sym h.0) (found, is, caused, counted, h.1)
+scrubbed S view index before after found o is caused counted (inr (inr h)) = subst (Scrubs S view index before after) (sym h) tt

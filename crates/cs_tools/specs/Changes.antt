@@ -1,30 +1,94 @@
 -- What the commands `put` and `del` do.
-use Rattle.std.specs.Prelude.{◌≡◌, ◌⊎◌, ℕ, List, Option, None}
+use Rattle.std.specs.Prelude.{◌≡◌, ◌≢◌, ◌⊎◌, ◌<◌, ℕ, suc, List, None, Some, length}
+use Rattle.cs_core.specs.declared.events.Event.{Event}
+use Rattle.cs_core.specs.declared.events.Event.TheVariants.{Delete, Put}
+use Rattle.cs_core.specs.declared.events.Reply.TheVariants as reply
 use Rattle.cs_core.specs.Views.{View}
+use Rattle.cs_deps.specs.declared.refusals.Refusal.{Refusal}
+use Rattle.cs_deps.specs.declared.refusals.Refusal.TheVariants.{TooLarge}
+use Rattle.cs_disk.specs.declared.disk.PageDisk.{Ghosts as PageDisk}
+use Rattle.cs_drive.specs.Syncs.{StopsSync, Syncs}
+use Rattle.cs_frame.specs.declared.identifiers.ShardId.{ShardId}
+use Rattle.cs_index.specs.State.{id_number}
 use Rattle.cs_model.specs.Element.{Map}
 use Rattle.cs_model.specs.State.{changed}
+use Rattle.cs_store.specs.Events.{Declines, DeclinesCopy, Does, IsHalted}
 use Rattle.cs_store.specs.Maps.{HasMap}
 use Rattle.cs_tools.specs.declared.outcomes.Outcome.{Outcome}
 use Rattle.cs_tools.specs.declared.outcomes.Outcome.TheVariants.{Absent, Damaged, Done, Failed, NoStore, Refused, Unread}
 
-module _ {D : Type 0} where
-  -- What is in memory is made persistent, or that is refused; the map is the same.
-  abbrev pub Commits : Map → (new : View D) → Outcome → Type 0
-  Commits m new Done = HasMap new m × (new.store.frontier ≡ new.store.accepted)
-  Commits m new (Refused r) = HasMap new m
-  Commits m new Absent = ⊥
-  Commits m new Failed = ⊥
-  Commits m new Damaged = ⊥
-  Commits m new (NoStore r) = ⊥
-  Commits m new (Unread r) = ⊥
+-- one command more was accepted, and all of them are persistent
+abbrev pub IsOneMore : {D : Type 0} → (old new : View D) → Type 0
+IsOneMore old new = (new.store.accepted ≡ suc old.store.accepted) × (new.store.frontier ≡ new.store.accepted)
 
-  -- With this map before: the identifier has these bytes, none of them where it was deleted, and that is persistent; or it is refused, when the map
-  -- is as it was, or is changed so in memory alone; or there was nothing to delete; or the reader failed.
-  abbrev pub Changes : (m : Map) → (id : ℕ) → Option (List ℕ) → (old new : View D) → Outcome → Type 0
-  Changes m id bytes old new Done = HasMap new (changed m (id, bytes)) × (new.store.frontier ≡ new.store.accepted)
-  Changes m id bytes old new (Refused r) = HasMap new m ⊎ HasMap new (changed m (id, bytes))
-  Changes m id bytes old new Absent = (bytes ≡ None) × (m id ≡ None) × HasMap new m
-  Changes m id bytes old new Failed = new ≡ old
-  Changes m id bytes old new Damaged = ⊥
-  Changes m id bytes old new (NoStore r) = ⊥
-  Changes m id bytes old new (Unread r) = ⊥
+-- no store takes so many bytes, and nothing has changed
+abbrev pub IsTooLarge : {D : Type 0} → (text : List ℕ) → (old : View D) → Refusal → (new : View D) → Type 0
+IsTooLarge text old r new = (8388280 < length text) × (r ≡ TooLarge) × (new ≡ old)
+
+module _ {D : Type 0} (disks : PageDisk D) where
+  -- what was accepted is made persistent; or that is refused, as the store is halted or its sync stops
+  abbrev pub Commits : (old new : View D) → Outcome → Type 0
+  Commits old new Done = Syncs disks old new
+  Commits old new (Refused r) = IsHalted old r new ⊎ StopsSync disks old r new
+  Commits old new Absent = ⊥
+  Commits old new Failed = ⊥
+  Commits old new Damaged = ⊥
+  Commits old new (NoStore r) = ⊥
+  Commits old new (Unread r) = ⊥
+
+  -- the store accepts this event as a command, and the commit behind it ends so
+  abbrev pub DoesAndCommits : Event → (old new : View D) → Outcome → Type 0
+  DoesAndCommits event old new outcome = (mid : View D) × (n : ℕ) × Does disks old event (reply.Accepted n) mid × Commits mid new outcome
+
+  -- the store refuses a delete itself
+  abbrev pub DeclinesDelete : ShardId → (old : View D) → Refusal → (new : View D) → Type 0
+  DeclinesDelete id old r new = IsHalted old r new ⊎ Declines disks old (Delete id) r new
+
+  -- the store refuses a put itself, or isn't asked for it
+  abbrev pub DeclinesPut : ShardId → (text : List ℕ) → (old : View D) → Refusal → (new : View D) → Type 0
+  DeclinesPut id text old r new = IsTooLarge text old r new ⊎ DeclinesCopy disks old (Put id text) r new
+
+  -- What `del` does, whatever the disk does: a delete, and a commit behind it where it is a command; or the delete is refused.
+  abbrev pub Deletes : ShardId → (old new : View D) → Outcome → Type 0
+  Deletes id old new Done = DoesAndCommits (Delete id) old new Done
+  Deletes id old new Absent = Does disks old (Delete id) reply.Absent new
+  Deletes id old new (Refused r) = DeclinesDelete id old r new ⊎ DoesAndCommits (Delete id) old new (Refused r)
+  Deletes id old new Failed = ⊥
+  Deletes id old new Damaged = ⊥
+  Deletes id old new (NoStore r) = ⊥
+  Deletes id old new (Unread r) = ⊥
+
+  -- What `del` makes of this map: what was under the identifier is gone, and that is persistent; or there was nothing; or it is refused, by the store
+  -- itself, when the map is as it was, or by the commit, when it is changed in memory alone.
+  abbrev pub DeletesFrom : Map → ShardId → (old new : View D) → Outcome → Type 0
+  DeletesFrom m id old new Done = (m (id_number id) ≢ None) × HasMap new (changed m (id_number id, None)) × IsOneMore old new
+  DeletesFrom m id old new Absent = (m (id_number id) ≡ None) × HasMap new m
+  DeletesFrom m id old new (Refused r) = (HasMap new m × DeclinesDelete id old r new)
+      ⊎ (HasMap new (changed m (id_number id, None)) × DoesAndCommits (Delete id) old new (Refused r))
+  DeletesFrom m id old new Failed = ⊥
+  DeletesFrom m id old new Damaged = ⊥
+  DeletesFrom m id old new (NoStore r) = ⊥
+  DeletesFrom m id old new (Unread r) = ⊥
+
+  -- What `put` does with this text, whatever the disk does: a put and a commit behind it; or the put is refused; or the reader failed, and nothing has
+  -- changed.
+  abbrev pub Puts : ShardId → (text : List ℕ) → (old new : View D) → Outcome → Type 0
+  Puts id text old new Done = DoesAndCommits (Put id text) old new Done
+  Puts id text old new (Refused r) = DeclinesPut id text old r new ⊎ DoesAndCommits (Put id text) old new (Refused r)
+  Puts id text old new Failed = new ≡ old
+  Puts id text old new Absent = ⊥
+  Puts id text old new Damaged = ⊥
+  Puts id text old new (NoStore r) = ⊥
+  Puts id text old new (Unread r) = ⊥
+
+  -- What `put` makes of this map: the text is under the identifier, and that is persistent; or it is refused, before the store accepts it, when the map
+  -- is as it was, or by the commit, when it is changed in memory alone; or the reader failed, and nothing has changed.
+  abbrev pub PutsInto : Map → ShardId → (text : List ℕ) → (old new : View D) → Outcome → Type 0
+  PutsInto m id text old new Done = HasMap new (changed m (id_number id, Some text)) × IsOneMore old new
+  PutsInto m id text old new (Refused r) = (HasMap new m × DeclinesPut id text old r new)
+      ⊎ (HasMap new (changed m (id_number id, Some text)) × DoesAndCommits (Put id text) old new (Refused r))
+  PutsInto m id text old new Failed = new ≡ old
+  PutsInto m id text old new Absent = ⊥
+  PutsInto m id text old new Damaged = ⊥
+  PutsInto m id text old new (NoStore r) = ⊥
+  PutsInto m id text old new (Unread r) = ⊥

@@ -4,7 +4,8 @@ use Rattle.std.specs.Io.KnownBytes.{Appends}
 use Rattle.std.specs.List.{AllByRecursion, list_all}
 use Rattle.cs_core.specs.Lookups.{IsReading}
 use Rattle.cs_deps.specs.declared.refusals.Refusal.{Refusal}
-use Rattle.cs_deps.specs.declared.refusals.Refusal.TheVariants.{OutOfMemory}
+use Rattle.cs_deps.specs.declared.refusals.Refusal.TheVariants.{DeviceFault, OutOfMemory}
+use Rattle.cs_disk.specs.Disk.{Rises}
 use Rattle.cs_frame.specs.declared.identifiers.ShardId.{ShardId}
 use Rattle.cs_index.specs.State.{id_number}
 use Rattle.cs_model.specs.Element.{Bytes, Map}
@@ -61,32 +62,39 @@ abbrev pub IsToldBy : Map → Shard → Type 0
 IsToldBy m (id, Ok bytes) = m (id_number id) ≡ Some (Bytes bytes)
 IsToldBy m (id, Err r) = IsReading (m (id_number id)) (Err r)
 
--- it is told of the shard with this identifier, and whether it could be read
-abbrev pub IsReadOf : (m : Map) → ShardId → (whole : Bool) → Shard → Type 0
-IsReadOf m id whole shard = (shard.0 ≡ id) × IsToldBy m shard × (whole ≡ is_whole shard)
+-- 1 is told of a shard only where the disk's count of failures rose from the one to the other, or stood at its end
+abbrev pub IsCausedBy : (failed failed_then : ℕ) → Shard → Type 0
+IsCausedBy failed failed_then (id, Ok bytes) = Unit {0}
+IsCausedBy failed failed_then (id, Err r) = r ≡ DeviceFault → Rises failed failed_then
 
--- it is told of the shards with these identifiers, in order, and whether all could be read
-pub record AreReadOf (m : Map) (ids : List ShardId) (whole : Bool) (shards : List Shard) : Type 0 where
+-- it is told of the shard with this identifier, and whether it could be read, with these counts of the disk's failures before and after
+abbrev pub IsReadOf : (m : Map) → (failed failed_then : ℕ) → ShardId → (whole : Bool) → Shard → Type 0
+IsReadOf m failed failed_then id whole shard = (shard.0 ≡ id) × IsToldBy m shard × IsCausedBy failed failed_then shard × (whole ≡ is_whole shard)
+
+-- it is told of the shards with these identifiers, in order, and whether all could be read, with these counts of the disk's failures before and after
+pub record AreReadOf (m : Map) (failed failed_then : ℕ) (ids : List ShardId) (whole : Bool) (shards : List Shard) : Type 0 where
   pub ids_are : map (λ shard. shard.0) shards ≡ ids
   pub each : AllByRecursion (IsToldBy m) shards
+  pub caused : AllByRecursion (IsCausedBy failed failed_then) shards
   pub whole_is : whole ≡ list_all is_whole shards
 
--- the script of all shards of a map was written out, by rising identifiers, and whether all could be read
-pub record IsExported (m : Map) (before after : Option (List ℕ)) (whole : Bool) : Type 0 where
+-- the script of all shards of a map was written out, by rising identifiers, and whether all could be read, with these counts of the disk's failures
+pub record IsExported (m : Map) (failed failed_then : ℕ) (before after : Option (List ℕ)) (whole : Bool) : Type 0 where
   pub ids : List ShardId
   pub all : AreAll (λ id. m id ≢ None) (map id_number ids)
   pub shards : List Shard
-  pub are : AreReadOf m ids whole shards
+  pub are : AreReadOf m failed failed_then ids whole shards
   pub text : List ℕ
   pub script : IsScript shards text
   pub written : Appends before after text
 
--- With this map: the script of all its shards was written out, and all could be read, or some couldn't; or memory ran out, or the writer failed.
-abbrev pub Exports : Map → (before after : Option (List ℕ)) → Outcome → Type 0
-Exports m before after Done = IsExported m before after true
-Exports m before after Damaged = IsExported m before after false
-Exports m before after (Refused r) = r ≡ OutOfMemory
-Exports m before after Failed = Unit {0}
-Exports m before after Absent = ⊥
-Exports m before after (NoStore r) = ⊥
-Exports m before after (Unread r) = ⊥
+-- With this map, and these counts of the disk's failures before and after: the script of all its shards was written out, and all could be read, or some
+-- couldn't; or memory ran out, or the writer failed.
+abbrev pub Exports : Map → (failed failed_then : ℕ) → (before after : Option (List ℕ)) → Outcome → Type 0
+Exports m failed failed_then before after Done = IsExported m failed failed_then before after true
+Exports m failed failed_then before after Damaged = IsExported m failed failed_then before after false
+Exports m failed failed_then before after (Refused r) = r ≡ OutOfMemory
+Exports m failed failed_then before after Failed = Unit {0}
+Exports m failed failed_then before after Absent = ⊥
+Exports m failed failed_then before after (NoStore r) = ⊥
+Exports m failed failed_then before after (Unread r) = ⊥

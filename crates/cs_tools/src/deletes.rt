@@ -1,9 +1,12 @@
 //! The command `del`.
-ghost use Rattle.std.specs.Prelude.{None};
-ghost use Rattle.cs_index.specs.State.{id_number};
+ghost use Rattle.std.specs.Prelude.{◌↔◌};
+ghost use Rattle.cs_core.specs.Meanings.{commands_said};
+ghost use Rattle.cs_disk.specs.Disk.{Leaves, LeavesOnly, page};
+ghost use Rattle.cs_extent.specs.State.{shape};
 ghost use Rattle.cs_model.specs.Element.{Map};
+ghost use Rattle.cs_refine.specs.Crashes.{IsPrefix};
 ghost use Rattle.cs_store.specs.Maps.{HasMap};
-ghost use Rattle.cs_tools.specs.Changes.{Changes};
+ghost use Rattle.cs_tools.specs.Changes.{Deletes, DeletesFrom};
 
 use crate::commits::commit;
 use crate::outcomes::Outcome;
@@ -11,9 +14,18 @@ use cs_disk::PageDisk;
 use cs_frame::ShardId;
 use cs_store::Store;
 
-/// Deletes what is under an identifier, and makes that persistent.
+/// Deletes what is under an identifier, and makes that persistent. Where there is nothing under it no command is accepted, and nothing is made
+/// persistent.
+///
+/// Refused as `Store::delete` is, 1 DeviceFault, 9 OutOfMemory, 30 Full, 35 WornOut, 40 Halted or 41 HistoryFull, or as `Store::sync` is behind it.
 pub fn delete<D: PageDisk>(store: &mut Store<D>, id: ShardId) -> Outcome
-    ensures { (m : Map) → HasMap store.old m → D.honest store.old.disk → Changes m (id_number id) None store.old store.new result }
+    ensures events { Deletes D.PageDisk id store.old store.new result }
+    ensures map { (m : Map) → HasMap store.old m → D.honest store.old.disk → DeletesFrom D.PageDisk m id store.old store.new result }
+    // A crash at any moment of it leaves the map after some of the commands, none of those left out that were persistent before.
+    ensures crash { D.honest store.old.disk → LeavesOnly D.moment D.left_since store.old.disk store.new.disk (IsPrefix (shape store.old.store.extents) (page store.old.opened) (commands_said store.new.history) store.old.store.frontier store.new.store.accepted) }
+    // A crash after it does so for the commands and the frontier then.
+    ensures left { D.honest store.new.disk → Leaves (D.state store.new.disk) (IsPrefix (shape store.new.store.extents) (page store.new.opened) (commands_said store.new.history) store.new.store.frontier store.new.store.accepted) }
+    ensures honest { D.honest store.old.disk ↔ D.honest store.new.disk }
 {
     match store.delete(id) {
         Ok(Some(_)) => commit(store),

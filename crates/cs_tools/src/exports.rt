@@ -4,6 +4,7 @@ ghost use Rattle.std.specs.Io.KnownBytes.{Appends};
 ghost use Rattle.std.specs.List.{AllByRecursion};
 ghost use Rattle.cs_chunk.specs.Reads.{OnlyReads};
 ghost use Rattle.cs_core.specs.Views.{IsIn};
+ghost use Rattle.cs_deps.specs.declared.refusals.Refusal.{Refusal as Why};
 ghost use Rattle.cs_index.specs.State.{id_number, index_of};
 ghost use Rattle.cs_model.specs.Element.{Map};
 ghost use Rattle.cs_model.specs.Index.{live_at};
@@ -35,8 +36,10 @@ pub fn export<D: PageDisk, P: Progress, W: Write>(
     progress: &P,
     writer: &mut W,
 ) -> Outcome
-    ensures script { (m : Map) → HasMap core.old m → D.honest core.old.disk → Exports m (W.contents writer.old) (W.contents writer.new) result }
+    ensures script { (m : Map) → HasMap core.old m → D.honest core.old.disk → Exports m (D.failure_count core.old.disk) (D.failure_count core.new.disk) (W.contents writer.old) (W.contents writer.new) result }
     ensures ends { (result ≡ Done) ⊎ (result ≡ Damaged) ⊎ (result ≡ Refused Refusal.OutOfMemory) ⊎ (result ≡ Failed) }
+    // Where it is refused nothing was written.
+    ensures untouched { (r : Why) → result ≡ Refused r → writer.new ≡ writer.old }
     ensures same { core.new ≡ record core.old { disk = core.new.disk } }
     ensures disk { OnlyReads D.PageDisk core.old.disk core.new.disk }
 {
@@ -61,7 +64,7 @@ fn print_shards<D: PageDisk, P: Progress, W: Write>(
     writer: &mut W,
 ) -> io::Result<bool>
     ensures script { (s : State) → IsIn D.state core.old s → D.honest core.old.disk → AllByRecursion (λ id. live_at (index_of core.old.store.index) (id_number id) ≢ []) ids.now
-        → IfOk result (λ whole. (shards : List Shard) × AreReadOf (map_now s) ids.now whole shards
+        → IfOk result (λ whole. (shards : List Shard) × AreReadOf (map_now s) (D.failure_count core.old.disk) (D.failure_count core.new.disk) ids.now whole shards
         × ((text : List ℕ) × IsScript shards text × Appends (W.contents writer.old) (W.contents writer.new) text)) }
     ensures same { core.new ≡ record core.old { disk = core.new.disk } }
     ensures disk { OnlyReads D.PageDisk core.old.disk core.new.disk }
@@ -86,7 +89,7 @@ fn print_piece<D: PageDisk, W: Write>(
     writer: &mut W,
 ) -> io::Result<bool>
     ensures lines { (s : State) → IsIn D.state core.old s → D.honest core.old.disk → AllByRecursion (λ id. live_at (index_of core.old.store.index) (id_number id) ≢ []) ids.now
-        → IfOk result (λ whole. (shards : List Shard) × AreReadOf (map_now s) ids.now whole shards
+        → IfOk result (λ whole. (shards : List Shard) × AreReadOf (map_now s) (D.failure_count core.old.disk) (D.failure_count core.new.disk) ids.now whole shards
         × Appends (W.contents writer.old) (W.contents writer.new) (piece_lines shards)) }
     ensures same { core.new ≡ record core.old { disk = core.new.disk } }
     ensures disk { OnlyReads D.PageDisk core.old.disk core.new.disk }
@@ -107,7 +110,7 @@ fn print_shard<D: PageDisk, W: Write>(
     writer: &mut W,
 ) -> io::Result<bool>
     ensures line { (s : State) → IsIn D.state core.old s → D.honest core.old.disk → live_at (index_of core.old.store.index) (id_number id) ≢ []
-        → IfOk result (λ whole. (shard : Shard) × IsReadOf (map_now s) id whole shard
+        → IfOk result (λ whole. (shard : Shard) × IsReadOf (map_now s) (D.failure_count core.old.disk) (D.failure_count core.new.disk) id whole shard
         × Appends (W.contents writer.old) (W.contents writer.new) (shard_line shard)) }
     ensures same { core.new ≡ record core.old { disk = core.new.disk } }
     ensures disk { OnlyReads D.PageDisk core.old.disk core.new.disk }

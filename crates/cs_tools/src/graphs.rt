@@ -1,14 +1,15 @@
 //! The command `graph`.
-ghost use Rattle.std.specs.Prelude.{◌≡◌, ◌⊎◌, ℕ, IfOk, List, OnOk, Some};
+ghost use Rattle.std.specs.Prelude.{◌≡◌, ◌⊎◌, ℕ, IfErr, IfOk, List, OnOk, Some};
 ghost use Rattle.std.specs.Io.KnownBytes.{Appends};
 ghost use Rattle.serde_json.specs.Data.{Data};
 ghost use Rattle.serde_json.specs.Read.{read};
 ghost use Rattle.cs_check.specs.Documents.{IsDocumentOf};
+ghost use Rattle.cs_check.specs.Faults.{Blames};
 ghost use Rattle.cs_check.specs.Names.{AreLetters};
 ghost use Rattle.cs_deps.specs.View.{pending_of, rounds_of};
 ghost use Rattle.cs_deps.specs.declared.refusals.Refusal.{Refusal as Why};
 ghost use Rattle.cs_graph.specs.Picture.{picture};
-ghost use Rattle.cs_tools.specs.Graphs.{IsPictureOf};
+ghost use Rattle.cs_tools.specs.Graphs.{IsDocumentText, IsPictureOf};
 ghost use Rattle.cs_tools.specs.declared.outcomes.Outcome.TheVariants.{Done, Failed, Refused};
 
 use crate::outcomes::Outcome;
@@ -24,7 +25,11 @@ pub fn graph<R: Read + Drop, W: Write>(alloc: Global, reader: R, writer: &mut W)
     // What is written is the picture of the text that was read.
     ensures drawn { (text : List ℕ) → R.remaining reader ≡ Some text → result ≡ Done
         → (drawn : List ℕ) × IsPictureOf text drawn × Appends (W.contents writer.old) (W.contents writer.new) drawn }
-    ensures ends { (result ≡ Done) ⊎ ((r : Why) × (result ≡ Refused r)) ⊎ (result ≡ Failed) }
+    // A text that is refused as no document isn't UTF-8, or isn't one.
+    ensures bad { (text : List ℕ) → R.remaining reader ≡ Some text → result ≡ Refused Refusal.BadDocument → ¬ IsDocumentText text }
+    ensures ends { (result ≡ Done) ⊎ (result ≡ Refused Refusal.OutOfMemory) ⊎ (result ≡ Refused Refusal.BadDocument) ⊎ (result ≡ Failed) }
+    // Where it is refused nothing was written.
+    ensures untouched { (r : Why) → result ≡ Refused r → writer.new ≡ writer.old }
 {
     match read_all(alloc, reader) {
         Ok(text) => draw_text(alloc, &text, writer),
@@ -45,7 +50,9 @@ fn read_all<R: Read + Drop>(alloc: Global, reader: R) -> io::Result<Vec<u8>>
 /// Writes the picture of the document that these bytes are the UTF-8 text of.
 fn draw_text<W: Write>(alloc: Global, text: &[u8], writer: &mut W) -> Outcome
     ensures drawn { result ≡ Done → (drawn : List ℕ) × IsPictureOf text.now drawn × Appends (W.contents writer.old) (W.contents writer.new) drawn }
-    ensures ends { (result ≡ Done) ⊎ ((r : Why) × (result ≡ Refused r)) ⊎ (result ≡ Failed) }
+    ensures bad { result ≡ Refused Refusal.BadDocument → ¬ IsDocumentText text.now }
+    ensures ends { (result ≡ Done) ⊎ (result ≡ Refused Refusal.OutOfMemory) ⊎ (result ≡ Refused Refusal.BadDocument) ⊎ (result ≡ Failed) }
+    ensures untouched { (r : Why) → result ≡ Refused r → writer.new ≡ writer.old }
 {
     match document_of(alloc, text) {
         Ok(document) => draw_document(&document, writer),
@@ -57,6 +64,7 @@ fn draw_text<W: Write>(alloc: Global, text: &[u8], writer: &mut W) -> Outcome
 fn document_of(alloc: Global, text: &[u8]) -> Result<Document, CheckFault>
     ensures letters { IfOk result (λ document. AreLetters document.letters.items) }
     ensures says { IfOk result (λ doc. (d : Data) × (read text.now ≡ Some d) × IsDocumentOf d doc.letters.items (pending_of doc.view) doc.target (rounds_of doc.plan) doc.plan.chain.items) }
+    ensures bad { IfErr result (λ fault. Blames fault (IsDocumentText text.now)) }
 {
     match str::from_utf8(text) {
         Ok(text) => from_document(alloc, text),

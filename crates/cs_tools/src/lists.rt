@@ -1,6 +1,7 @@
 //! The command `list`.
 ghost use Rattle.std.specs.Prelude.{◌≡◌, ◌≢◌, ◌⊎◌, ◌++◌, List, [], OnOk, flat_map, map};
 ghost use Rattle.std.specs.Io.KnownBytes.{Appends};
+ghost use Rattle.cs_deps.specs.declared.refusals.Refusal.{Refusal as Why};
 ghost use Rattle.cs_frame.specs.declared.identifiers.ShardId.{ShardId as Id};
 ghost use Rattle.cs_index.specs.State.{id_number, index_of};
 ghost use Rattle.cs_model.specs.Index.{live_at};
@@ -32,6 +33,8 @@ pub fn list<D: PageDisk, W: Write>(
     ensures lines { result ≡ Done → (ids : List Id) × AreFirst (λ id. live_at (index_of core.now.store.index) id ≢ []) (id_number from) most (map id_number ids)
         × Appends (W.contents writer.old) (W.contents writer.new) (flat_map (id_line style) ids) }
     ensures ends { (result ≡ Done) ⊎ (result ≡ Refused Refusal.OutOfMemory) ⊎ (result ≡ Failed) }
+    // Where it is refused nothing was written.
+    ensures untouched { (r : Why) → result ≡ Refused r → writer.new ≡ writer.old }
 {
     let Ok(ids) = ids_from(alloc, core.index(), from, most) else {
         return Outcome::Refused(Refusal::OutOfMemory);

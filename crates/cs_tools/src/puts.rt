@@ -1,10 +1,13 @@
 //! The command `put`.
-ghost use Rattle.std.specs.Prelude.{◌≡◌, ◌<◌, ℕ, List, IfOk, Some, length, take};
-ghost use Rattle.cs_index.specs.State.{id_number};
+ghost use Rattle.std.specs.Prelude.{◌≡◌, ◌⊎◌, ◌<◌, ◌↔◌, ℕ, List, IfOk, Some, length, take};
+ghost use Rattle.cs_core.specs.Meanings.{commands_said};
+ghost use Rattle.cs_disk.specs.Disk.{Leaves, LeavesOnly, page};
+ghost use Rattle.cs_extent.specs.State.{shape};
 ghost use Rattle.cs_model.specs.Element.{Map};
+ghost use Rattle.cs_refine.specs.Crashes.{IsPrefix};
 ghost use Rattle.cs_store.specs.Maps.{HasMap};
-ghost use Rattle.cs_tools.specs.Changes.{Changes};
-ghost use Rattle.cs_tools.specs.declared.outcomes.Outcome.TheVariants.{Refused};
+ghost use Rattle.cs_tools.specs.Changes.{Puts, PutsInto};
+ghost use Rattle.cs_tools.specs.declared.outcomes.Outcome.TheVariants.{Failed, Refused};
 
 use crate::commits::commit;
 use crate::outcomes::Outcome;
@@ -21,15 +24,31 @@ const MOST: usize = 8_388_280;
 
 /// Keeps all that the reader gives under an identifier, in place of what was there, and makes it persistent. Of more bytes than any store takes
 /// it reads one more, and is refused 31 TooLarge.
+///
+/// Refused as `Store::put` is, 1 DeviceFault, 9 OutOfMemory, 30 Full, 31 TooLarge, 32 IndexFull, 35 WornOut, 40 Halted or 41 HistoryFull, or as
+/// `Store::sync` is behind it.
 pub fn put<D: PageDisk, R: Read + Drop>(
     alloc: Global,
     store: &mut Store<D>,
     id: ShardId,
     reader: R,
 ) -> Outcome
-    ensures { (text : List ℕ) → R.remaining reader ≡ Some text → (m : Map) → HasMap store.old m → D.honest store.old.disk
-        → Changes m (id_number id) (Some text) store.old store.new result }
+    ensures events { (text : List ℕ) → R.remaining reader ≡ Some text → Puts D.PageDisk id text store.old store.new result }
+    ensures map { (text : List ℕ) → R.remaining reader ≡ Some text → (m : Map) → HasMap store.old m → D.honest store.old.disk
+        → PutsInto D.PageDisk m id text store.old store.new result }
+    // Longer texts are always refused so, where the reader gives them, and nothing has changed.
+    ensures large { (text : List ℕ) → R.remaining reader ≡ Some text → 8388280 < length text
+        → ((result ≡ Refused Refusal.TooLarge) ⊎ (result ≡ Failed)) × (store.new ≡ store.old) }
+    // Whatever the reader gives, some bytes are put so, once.
+    ensures once { (bytes : List ℕ) × Puts D.PageDisk id bytes store.old store.new result }
+    // A crash at any moment of it leaves the map after some of the commands, none of those left out that were persistent before.
+    ensures crash { D.honest store.old.disk → LeavesOnly D.moment D.left_since store.old.disk store.new.disk (IsPrefix (shape store.old.store.extents) (page store.old.opened) (commands_said store.new.history) store.old.store.frontier store.new.store.accepted) }
+    // A crash after it does so for the commands and the frontier then.
+    ensures left { D.honest store.new.disk → Leaves (D.state store.new.disk) (IsPrefix (shape store.new.store.extents) (page store.new.opened) (commands_said store.new.history) store.new.store.frontier store.new.store.accepted) }
+    ensures honest { D.honest store.old.disk ↔ D.honest store.new.disk }
 {
+    // Called for its contract alone: what a crash leaves now.
+    store.persistent();
     match read_bytes(alloc, reader) {
         Ok(bytes) => put_bytes(store, id, &bytes),
         Err(_) => Outcome::Failed,
@@ -47,9 +66,15 @@ fn read_bytes<R: Read + Drop>(alloc: Global, reader: R) -> io::Result<Vec<u8>>
 
 /// Keeps these bytes under an identifier, and makes them persistent.
 fn put_bytes<D: PageDisk>(store: &mut Store<D>, id: ShardId, bytes: &[u8]) -> Outcome
-    ensures changes { (m : Map) → HasMap store.old m → D.honest store.old.disk → Changes m (id_number id) (Some bytes.now) store.old store.new result }
+    ensures events { Puts D.PageDisk id bytes.now store.old store.new result }
+    ensures map { (m : Map) → HasMap store.old m → D.honest store.old.disk → PutsInto D.PageDisk m id bytes.now store.old store.new result }
     ensures large { 8388280 < length bytes.now → (result ≡ Refused Refusal.TooLarge) × (store.new ≡ store.old) }
+    ensures crash { D.honest store.old.disk → LeavesOnly D.moment D.left_since store.old.disk store.new.disk (IsPrefix (shape store.old.store.extents) (page store.old.opened) (commands_said store.new.history) store.old.store.frontier store.new.store.accepted) }
+    ensures left { D.honest store.new.disk → Leaves (D.state store.new.disk) (IsPrefix (shape store.new.store.extents) (page store.new.opened) (commands_said store.new.history) store.new.store.frontier store.new.store.accepted) }
+    ensures honest { D.honest store.old.disk ↔ D.honest store.new.disk }
 {
+    // Called for its contract alone: what a crash leaves now.
+    store.persistent();
     if bytes.len() > MOST {
         return Outcome::Refused(Refusal::TooLarge);
     }

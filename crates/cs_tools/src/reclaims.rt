@@ -1,5 +1,5 @@
 //! The command `reclaim`.
-ghost use Rattle.std.specs.Prelude.{◌≡◌, ◌⊎◌, ◌<◌, ◌↔◌, IfSome, Some, length};
+ghost use Rattle.std.specs.Prelude.{◌≡◌, ◌⊎◌, ◌<◌, ◌↔◌, IfOk, IfSome, IsOk, OnOk, Some, length};
 ghost use Rattle.cs_core.specs.Meanings.{commands_said};
 ghost use Rattle.cs_deps.specs.declared.refusals.Refusal.{Refusal as Why};
 ghost use Rattle.cs_disk.specs.Disk.{Leaves, LeavesOnly, page};
@@ -8,7 +8,8 @@ ghost use Rattle.cs_index.specs.State.{id_number};
 ghost use Rattle.cs_model.specs.Element.{Bytes as Held, Map};
 ghost use Rattle.cs_refine.specs.Crashes.{IsPrefix};
 ghost use Rattle.cs_store.specs.Maps.{HasMap};
-ghost use Rattle.cs_tools.specs.Reclaims.{Tidies};
+ghost use Rattle.cs_store.specs.Reclaims.{ReadsOn};
+ghost use Rattle.cs_tools.specs.Reclaims.{IsPersistent, Tidies};
 ghost use Rattle.cs_tools.specs.declared.outcomes.Outcome.TheVariants.{Done, Failed, Refused};
 
 use crate::outcomes::Outcome;
@@ -51,6 +52,8 @@ pub fn reclaim<D: PageDisk, W: Write>(
     writer: &mut W,
 ) -> Outcome
     ensures ends { (result ≡ Done) ⊎ ((r : Why) × (result ≡ Refused r)) ⊎ (result ≡ Failed) }
+    // Where it ends well all is persistent, or nothing was worth it and nothing but reads was done.
+    ensures kept { D.honest core.old.disk → result ≡ Done → IsPersistent core.new ⊎ ReadsOn D.PageDisk core.old core.new }
     ensures map { D.honest core.old.disk → (m : Map) → HasMap core.old m → HasMap core.new m }
     ensures honest { D.honest core.old.disk ↔ D.honest core.new.disk }
     // A crash at any moment of it leaves the map after some of the commands, none of those left out that were persistent before.
@@ -68,7 +71,8 @@ pub fn reclaim<D: PageDisk, W: Write>(
 
 /// How it ended.
 fn outcome_of(ended: Result<(), Stop>) -> Outcome
-    ensures { (result ≡ Done) ⊎ ((r : Why) × (result ≡ Refused r)) ⊎ (result ≡ Failed) }
+    ensures done { result ≡ Done → IsOk ended }
+    ensures ends { (result ≡ Done) ⊎ ((r : Why) × (result ≡ Refused r)) ⊎ (result ≡ Failed) }
 {
     match ended {
         Ok(()) => Outcome::Done,
@@ -84,7 +88,8 @@ fn reclaim_and_print<D: PageDisk, W: Write>(
     style: Style,
     writer: &mut W,
 ) -> Result<(), Stop>
-    ensures { Tidies D.PageDisk core.old core.new }
+    ensures kept { D.honest core.old.disk → OnOk result (IsPersistent core.new ⊎ ReadsOn D.PageDisk core.old core.new) }
+    ensures tidies { Tidies D.PageDisk core.old core.new }
 {
     // Called for its contract alone: what a crash leaves now.
     core.progress();
@@ -118,7 +123,8 @@ fn empty_all<D: PageDisk, W: Write>(
     style: Style,
     writer: &mut W,
 ) -> Result<usize, Stop>
-    ensures { Tidies D.PageDisk core.old core.new }
+    ensures rests { D.honest core.old.disk → IfOk result (λ count. ((count ≡ 0) × (core.new ≡ core.old)) ⊎ ((0 < count) × IsPersistent core.new)) }
+    ensures tidies { Tidies D.PageDisk core.old core.new }
 {
     let mut count: usize = 0;
     for _ in 0..uses.len() {
@@ -142,7 +148,8 @@ fn empty_all<D: PageDisk, W: Write>(
 /// Puts the first shard again as it is, and makes that persistent: that an extent is empty reaches the disk with the next frame alone. Where
 /// there is no shard that can be put again nothing is done.
 fn put_again<D: PageDisk>(alloc: Global, core: &mut Core<D>) -> Result<(), Stop>
-    ensures { Tidies D.PageDisk core.old core.new }
+    ensures rests { D.honest core.old.disk → IsPersistent core.old → OnOk result (IsPersistent core.new) }
+    ensures tidies { Tidies D.PageDisk core.old core.new }
 {
     let Some((id, bytes)) = first_shard(alloc, core) else {
         return Ok(());
@@ -156,6 +163,7 @@ fn put_again<D: PageDisk>(alloc: Global, core: &mut Core<D>) -> Result<(), Stop>
 /// The first shard, None where it can't be had.
 fn first_shard<D: PageDisk>(alloc: Global, core: &mut Core<D>) -> Option<(ShardId, Bytes)>
     ensures shard { D.honest core.old.disk → (m : Map) → HasMap core.new m → IfSome result (λ shard. m (id_number shard.0) ≡ Some (Held shard.1)) }
+    ensures store { core.new.store ≡ core.old.store }
     ensures tidies { Tidies D.PageDisk core.old core.new }
 {
     // Called for their contracts alone: which state of the machine the core is in, and what all extents keep.
@@ -186,10 +194,15 @@ fn with_bytes(alloc: Global, id: ShardId, bytes: Vec<u8>) -> Option<(ShardId, By
 
 /// Makes all persistent.
 fn sync_all<D: PageDisk>(core: &mut Core<D>) -> Result<(), Stop>
-    ensures { Tidies D.PageDisk core.old core.new }
+    ensures rests { D.honest core.old.disk → OnOk result (IsPersistent core.new) }
+    ensures tidies { Tidies D.PageDisk core.old core.new }
 {
     match sync(core) {
-        Ok(_) => Ok(()),
+        Ok(_) => {
+            // Called for its contract alone: which state of the machine the core is in.
+            core.progress();
+            Ok(())
+        }
         Err(refusal) => Err(Stop::Refused(refusal)),
     }
 }
@@ -208,7 +221,8 @@ fn worth_emptying(uses: &[ExtentUse], pages: usize) -> Option<usize>
 
 /// Sweeps an extent, makes that persistent, and gives how many chunks were moved. Lets go of the history before, where it is long.
 fn sweep_and_sync<D: PageDisk>(core: &mut Core<D>, extent: usize) -> Result<usize, Stop>
-    ensures { Tidies D.PageDisk core.old core.new }
+    ensures rests { D.honest core.old.disk → OnOk result (IsPersistent core.new) }
+    ensures tidies { Tidies D.PageDisk core.old core.new }
 {
     make_room(core);
     let swept = match sweep(core, extent) {

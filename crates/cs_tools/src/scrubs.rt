@@ -27,7 +27,7 @@ pub fn scrub<D: PageDisk, P: Progress, W: Write>(
     writer: &mut W,
 ) -> Outcome
     ensures found { D.honest core.old.disk → (view : ℕ → List ℕ) → AreNewest core.old.store.graph (seen (D.state core.old.disk)) view
-        → Scrubs (shape core.old.store.extents) view core.old.store.index result }
+        → Scrubs (shape core.old.store.extents) view core.old.store.index (D.failure_count core.old.disk) (D.failure_count core.new.disk) result }
     ensures same { core.new ≡ record core.old { disk = core.new.disk } }
     ensures disk { OnlyReads D.PageDisk core.old.disk core.new.disk }
 {

@@ -1,5 +1,5 @@
 //! The command `stat`.
-ghost use Rattle.std.specs.Prelude.{◌≡◌, ◌⊎◌};
+ghost use Rattle.std.specs.Prelude.{◌≡◌, ◌⊎◌, ◌↔◌, ◌<◌, IsTrue};
 ghost use Rattle.cs_chunk.specs.Reads.{OnlyReads};
 ghost use Rattle.cs_tools.specs.declared.outcomes.Outcome.TheVariants.{Done, Failed, Refused};
 
@@ -78,12 +78,31 @@ fn print_lines<W: Write>(
         "geometry extents {extents} pages {pages} sections {sections}"
     )?;
     print_extents(writer, &stats.extents)?;
-    writeln!(writer, "empty {}", stats.empty)?;
+    print_empty(writer, stats.empty)?;
     for run in &stats.runs {
         print_run(writer, *run)?;
     }
     print_counts(writer, kept, stats)?;
     writer.flush()
+}
+
+/// The line of how many extents are empty, and a warning where they are few.
+fn print_empty<W: Write>(writer: &mut W, empty: usize) -> io::Result<()> {
+    writeln!(writer, "empty {empty}")?;
+    if is_low(empty) {
+        writeln!(
+            writer,
+            "low on room: reclaim, or export into a larger store"
+        )?;
+    }
+    Ok(())
+}
+
+/// Whether so few extents are empty that a store may run out of room for good: a put leaves two of them empty, and a sweep may take two.
+fn is_low(empty: usize) -> bool
+    ensures { IsTrue result ↔ (empty < 4) }
+{
+    empty < 4
 }
 
 /// The lines of the extents that aren't empty.
@@ -154,7 +173,12 @@ fn print_object<W: Write>(
         "{{\"extents\":{extents},\"pages\":{pages},\"sections\":{sections},\"uses\":["
     )?;
     print_uses(writer, &stats.extents)?;
-    write!(writer, "],\"empty\":{},\"runs\":[", stats.empty)?;
+    let low = is_low(stats.empty);
+    write!(
+        writer,
+        "],\"empty\":{},\"low\":{low},\"runs\":[",
+        stats.empty
+    )?;
     print_runs(writer, &stats.runs)?;
     write!(
         writer,

@@ -7,15 +7,19 @@ use Rattle.cs_tools.proofs.exports.export.Goals as goal
 pub returns-in-Ok-true-clause-script : goal.returns-in-Ok-true-clause-script
 returns-in-Ok-true-clause-script g c m has honest =
     let contents = g.W.Write.contents in
+    let failures = g.D.PageDisk.failure_count in
     let s = c.progress.ensures.legal honest in
-    subst (IsExported m (contents c.args.writer.now) (contents c.print_shards.new.writer)) c.in-Ok-true.field-0-test
-    (exported_listed g.D.PageDisk.state c.args.core.now m s.0 (subst IsWhole c.extents.ensures c.extent_count.ensures.whole) has s.1 c.index.result.now c.index.ensures.index c.in-Ok.ids.items c.deref.result.now c.deref.ensures.value c.in-Ok.ensures
+    subst (IsExported m (failures c.args.core.now.disk) (failures c.print_shards.new.core.disk) (contents c.args.writer.now) (contents c.print_shards.new.writer)) c.in-Ok-true.field-0-test
+    (exported_listed g.D.PageDisk.state c.args.core.now m (failures c.args.core.now.disk) (failures c.print_shards.new.core.disk) s.0 (subst IsWhole c.extents.ensures c.extent_count.ensures.whole) has s.1
+    c.index.result.now c.index.ensures.index c.in-Ok.ids.items c.deref.result.now c.deref.ensures.value c.in-Ok.ensures
     c.in-Ok-true.field-0 (contents c.args.writer.now) (contents c.print_shards.new.writer) (c.in-Ok-true.ensures.script s.0 s.1 honest))
 
 pub returns-in-Ok-false-clause-script : goal.returns-in-Ok-false-clause-script
 returns-in-Ok-false-clause-script g c m has honest =
     let contents = g.W.Write.contents in
+    let failures = g.D.PageDisk.failure_count in
     let s = c.progress.ensures.legal honest in
-    subst (IsExported m (contents c.args.writer.now) (contents c.print_shards.new.writer)) c.in-Ok-false.field-0-test
-    (exported_listed g.D.PageDisk.state c.args.core.now m s.0 (subst IsWhole c.extents.ensures c.extent_count.ensures.whole) has s.1 c.index.result.now c.index.ensures.index c.in-Ok.ids.items c.deref.result.now c.deref.ensures.value c.in-Ok.ensures
+    subst (IsExported m (failures c.args.core.now.disk) (failures c.print_shards.new.core.disk) (contents c.args.writer.now) (contents c.print_shards.new.writer)) c.in-Ok-false.field-0-test
+    (exported_listed g.D.PageDisk.state c.args.core.now m (failures c.args.core.now.disk) (failures c.print_shards.new.core.disk) s.0 (subst IsWhole c.extents.ensures c.extent_count.ensures.whole) has s.1
+    c.index.result.now c.index.ensures.index c.in-Ok.ids.items c.deref.result.now c.deref.ensures.value c.in-Ok.ensures
     c.in-Ok-false.field-0 (contents c.args.writer.now) (contents c.print_shards.new.writer) (c.in-Ok-false.ensures.script s.0 s.1 honest))

@@ -8,14 +8,15 @@ pub loop-id-preserved : goal.loop-id-preserved
 loop-id-preserved g c =
     let disks = g.D.PageDisk in
     let contents = g.W.Write.contents in
+    let failures = disks.failure_count in
     let was = c.loop-id.invariant in
     let first = c.args.core.now in
     let now = c.loop-id.core in
     record {
       same = same_on first now c.print_shard.new.core was.same c.in_ok-read.ensures.same;
       disk = reads_on disks first.disk now.disk c.print_shard.new.core.disk was.disk c.in_ok-read.ensures.disk;
-      lines = λ s is honest live. shard_printed (map_now s) c.args.ids.now c.loop-id.id-index _ c.loop-id.whole c.in_ok-read.read
-          (contents c.args.writer.now) (contents c.loop-id.writer) (contents c.print_shard.new.writer) c.loop-id-test.true (was.lines s is honest live)
+      lines = λ s is honest live. shard_printed (map_now s) (failures first.disk) (failures now.disk) (failures c.print_shard.new.core.disk) c.args.ids.now c.loop-id.id-index _ c.loop-id.whole c.in_ok-read.read
+          (contents c.args.writer.now) (contents c.loop-id.writer) (contents c.print_shard.new.writer) was.disk.failures c.in_ok-read.ensures.disk.failures c.loop-id-test.true (was.lines s is honest live)
           (c.in_ok-read.ensures.line s (stays_in disks first now was.same was.disk honest s is) (was.disk.honesty.0 honest)
           (all_at _ c.args.ids.now c.loop-id.id-index _ c.loop-id-test.true (same_live disks first now was.same was.disk c.args.ids.now live)));
     }

@@ -11,19 +11,21 @@ use Rattle.cs_tools.proofs.exports.print_shards.Goals as goal
 pub loop-piece-init : goal.loop-piece-init
 loop-piece-init g c =
     let contents = g.W.Write.contents c.args.writer.now in
+    let failed = g.D.PageDisk.failure_count c.args.core.now.disk in
     let same = c.into_iter-piece-iterator.ensures.into_iter_gives in
     let rest = ap (λ (items : Chunks ShardId). items.rest.now) same ∙ c.chunks-piece-items.ensures.rest in
     record {
       size = ap (λ (items : Chunks ShardId). items.size) same ∙ c.chunks-piece-items.ensures.size;
       same = refl;
       disk = reads_none g.D.PageDisk c.args.core.now.disk;
-      lines = λ s is honest live. subst (λ (ids : List ShardId). IsPrintedUpTo (map_now s) c.args.ids.now ids true contents contents) (sym rest) (nothing_printed (map_now s) c.args.ids.now contents);
+      lines = λ s is honest live. subst (λ (ids : List ShardId). IsPrintedUpTo (map_now s) failed failed c.args.ids.now ids true contents contents) (sym rest) (nothing_printed (map_now s) failed c.args.ids.now contents);
     }
 
 pub loop-piece-preserved : goal.loop-piece-preserved
 loop-piece-preserved g c =
     let disks = g.D.PageDisk in
     let contents = g.W.Write.contents in
+    let failures = disks.failure_count in
     let was = c.loop-piece.invariant in
     let first = c.args.core.now in
     let now = c.loop-piece.core in
@@ -38,14 +40,14 @@ loop-piece-preserved g c =
       disk = reads_on disks first.disk now.disk c.print_piece.new.core.disk was.disk c.in_ok-read.ensures.disk;
       lines = λ s is honest live.
           let so_far = was.lines s is honest live in
-          piece_printed (map_now s) c.loop-piece.piece-iterator.size ids rest piece left c.loop-piece.whole c.in_ok-read.read (contents c.args.writer.now) (contents c.loop-piece.writer) (contents c.print_piece.new.writer)
-          was.size so_far step.1.0 step.1.1 step.1.2
+          piece_printed (map_now s) (failures first.disk) (failures now.disk) (failures c.print_piece.new.core.disk) c.loop-piece.piece-iterator.size ids rest piece left c.loop-piece.whole c.in_ok-read.read (contents c.args.writer.now) (contents c.loop-piece.writer) (contents c.print_piece.new.writer)
+          was.disk.failures c.in_ok-read.ensures.disk.failures was.size so_far step.1.0 step.1.1 step.1.2
           (c.in_ok-read.ensures.lines s (stays_in disks first now was.same was.disk honest s is) (was.disk.honesty.0 honest)
-          (same_live disks first now was.same was.disk piece (piece_of _ (map_now s) ids rest piece left c.loop-piece.whole (contents c.args.writer.now) (contents c.loop-piece.writer) so_far step.1.0 live)));
+          (same_live disks first now was.same was.disk piece (piece_of _ (map_now s) (failures first.disk) (failures now.disk) ids rest piece left c.loop-piece.whole (contents c.args.writer.now) (contents c.loop-piece.writer) so_far step.1.0 live)));
     }
 
 pub returns-clause-script : goal.returns-clause-script
 returns-clause-script g c s is honest live =
     let contents = g.W.Write.contents in
-    all_printed (map_now s) c.args.ids.now c.loop-piece.piece-iterator.rest.now c.loop-piece.whole (contents c.args.writer.now) (contents c.loop-piece.writer) (contents c.flush.new.self)
+    all_printed (map_now s) (g.D.PageDisk.failure_count c.args.core.now.disk) (g.D.PageDisk.failure_count c.loop-piece.core.disk) c.args.ids.now c.loop-piece.piece-iterator.rest.now c.loop-piece.whole (contents c.args.writer.now) (contents c.loop-piece.writer) (contents c.flush.new.self)
     (c.loop-piece.invariant.lines s is honest live) c.in-None.ensures.steps.1.0 c.in_ok-flush.ensures.bytes

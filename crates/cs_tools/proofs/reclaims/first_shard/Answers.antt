@@ -4,6 +4,7 @@ use Rattle.cs_core.specs.Lookups.{IsReading}
 use Rattle.cs_extent.specs.State.{IsWhole}
 use Rattle.cs_index.specs.State.{id_number}
 use Rattle.cs_model.specs.State.{map_now}
+use Rattle.cs_tools.proofs.Resting.{store_read}
 use Rattle.cs_tools.proofs.Tidying.{shard_read, tidies_read}
 use Rattle.cs_tools.proofs.reclaims.first_shard.Goals as goal
 
@@ -20,3 +21,9 @@ returns-in-Ok-Some-clause-tidies g c = tidies_read g.D.PageDisk c.args.core.now 
 
 pub returns-in_default-clause-tidies : goal.returns-in_default-clause-tidies
 returns-in_default-clause-tidies g c = tidies_read g.D.PageDisk c.args.core.now c.read.new.self c.read.ensures.same c.read.ensures.disk c.read.ensures.crash
+
+pub returns-in-Ok-Some-clause-store : goal.returns-in-Ok-Some-clause-store
+returns-in-Ok-Some-clause-store g c = store_read c.args.core.now c.read.new.self c.read.ensures.same
+
+pub returns-in_default-clause-store : goal.returns-in_default-clause-store
+returns-in_default-clause-store g c = store_read c.args.core.now c.read.new.self c.read.ensures.same
