@@ -9,6 +9,7 @@ pub mod Opening
 pub mod Pairs
 pub mod Places
 pub mod Played
+pub mod Reopened
 pub mod Resets
 pub mod Retiring
 pub mod RootsStand

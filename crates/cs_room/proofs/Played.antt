@@ -6,10 +6,10 @@ use Rattle.cs_room.specs.Events.{Does, MoveOne, Put, Retire, Stage, abandoned, d
 use Rattle.cs_room.specs.Example.{Plays, example_abandoned, example_events, example_shape, new_room}
 use Rattle.cs_room.specs.Rooms.{Chunk, OfRuns, Room, Sweep, chunk_extents, run_extents, without}
 
-nothing : {A : Type 0} (x : A) → None ≡ Some x → ⊥
+pub nothing : {A : Type 0} (x : A) → None ≡ Some x → ⊥
 nothing x is = cc
 
-abbrev put_on_0 : Room → ℕ → Room
+abbrev pub put_on_0 : Room → ℕ → Room
 put_on_0 s id = with_chunk example_shape (dropped s id) id 1 0
 
 abbrev two_put : Room
@@ -28,7 +28,7 @@ swept_0 s = record s {
   last = unless (λ d. d == 0) s.last;
 }
 
-abbrev run_on_1 : Room → Room
+abbrev pub run_on_1 : Room → Room
 run_on_1 s = staged (given s 1 1 OfRuns) (1 ∷ drop 0 s.runs)
 
 abbrev one_moved : Room → Room
@@ -41,7 +41,7 @@ two_moved s = with_copy example_shape s (sweep_of_0 (Some 2) (2 ∷ [])) (stored
 abbrev last_moved : Room
 last_moved = two_moved (one_moved (swept_0 (run_on_1 two_put)))
 
-put_1 : Does example_shape 1 new_room (Put 1 (1 ∷ [])) (put_on_0 new_room 1)
+pub put_1 : Does example_shape 1 new_room (Put 1 (1 ∷ [])) (put_on_0 new_room 1)
 put_1 = ((0, inr (inr ((λ e is. absurd (nothing e is)), (omega arith, refl, omega arith))), refl), omega arith)
 
 put_2 : Does example_shape 1 (put_on_0 new_room 1) (Put 2 (1 ∷ [])) two_put

@@ -2,8 +2,9 @@
 use Rattle.std.specs.Prelude.{◌≡◌, ◌∷◌, ℕ, true, List, None, []}
 use Rattle.cs_model.specs.Device.{Shape}
 use Rattle.cs_model.specs.Geometry.{shape_of}
-use Rattle.cs_room.specs.Events.{Abandon, BeginSweep, Delete, Does, Event, MoveOne, Put, Retire, Stage}
-use Rattle.cs_room.specs.Rooms.{Empty, Room}
+use Rattle.cs_model.specs.Lists.{with}
+use Rattle.cs_room.specs.Events.{Abandon, BeginSweep, Delete, Does, End, Event, MoveOne, Open, Put, Retire, Stage}
+use Rattle.cs_room.specs.Rooms.{Empty, Room, Root}
 
 -- a store in which nothing lies, and whose root names nothing
 abbrev pub new_room : Room
@@ -35,3 +36,22 @@ example_events = Put 1 (1 ∷ []) ∷ Put 2 (1 ∷ []) ∷ Stage 0 1 1 ∷ Begin
 -- the same with a deletion between, and the sweep is given up
 abbrev pub example_abandoned : List Event
 example_abandoned = Put 1 (1 ∷ []) ∷ Put 2 (1 ∷ []) ∷ BeginSweep 0 ∷ MoveOne ∷ Delete 1 ∷ Stage 0 1 1 ∷ Abandon ∷ []
+
+-- so many pages of extent 0 are given, which has chunks, and so many of extent 1, which has runs
+abbrev pub example_pointers : (chunks runs : ℕ) → ℕ → ℕ
+example_pointers chunks runs = with (with (λ e. 0) 0 chunks) 1 runs
+
+-- the root of the first Stage below: it names the shard that was put ahead of it
+abbrev pub example_root : Root
+example_root = record {
+  chunks = record { id = 1; extent = 0; pages = 1; copy = None } ∷ [];
+  runs = 1 ∷ [];
+  pointers = example_pointers 1 1;
+}
+
+-- a shard is put and staged, and a round ends that makes its root persistent; a second one is put and staged, and a round ends
+-- whose superblock is persistent, while the second root waits. Then there is a crash, and an opening at the first root: of the
+-- second shard nothing is left but the pages that were given
+abbrev pub example_opened : List Event
+example_opened =
+    Put 1 (1 ∷ []) ∷ Stage 0 1 1 ∷ End 0 ∷ Put 2 (1 ∷ []) ∷ Stage 0 1 1 ∷ End 1 ∷ Open example_root (example_pointers 2 2) ∷ []

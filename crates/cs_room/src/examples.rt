@@ -1,19 +1,22 @@
 //! The premises of the laws can be met, and the events can happen.
 ghost use Rattle.cs_model.specs.Device.{Shape};
-ghost use Rattle.cs_room.specs.Example.{Plays, example_abandoned, example_events, example_shape, new_room};
+ghost use Rattle.cs_room.specs.Example.{Plays, example_abandoned, example_events, example_opened, example_root, example_shape, new_room};
 ghost use Rattle.cs_room.specs.Invariant.{Keeps};
 ghost use Rattle.cs_room.specs.Rooms.{Room, chunk_extents, run_extents};
-ghost use Rattle.std.specs.Prelude.{◌+◌, ◌≡◌, ◌≤◌, ℕ};
+ghost use Rattle.std.specs.Prelude.{◌+◌, ◌≡◌, ◌≤◌, ◌∷◌, ℕ, []};
 
 /// A new store of two extents more than may hold runs keeps the invariant.
 pub fn a_new_store_keeps()
     ensures { (S : Shape) (J : ℕ) → J + 2 ≤ S.extents → Keeps S J new_room }
 {}
 
-/// The events of the examples can happen one after another, and leave one extent of chunks and one of runs.
+/// The events of the examples can happen one after another, and leave one extent of chunks and one of runs. Behind an opening there
+/// lives what its root names, and the store has no other root.
 pub fn the_events_can_happen()
     ensures retired { (t : Room) × Plays example_shape 1 new_room example_events t × (chunk_extents t 6 ≡ 1)
         × (run_extents t 6 ≡ 1) }
     ensures abandoned { (t : Room) × Plays example_shape 1 new_room example_abandoned t × (chunk_extents t 6 ≡ 1)
         × (run_extents t 6 ≡ 1) }
+    ensures opened { (t : Room) × Plays example_shape 1 new_room example_opened t × (chunk_extents t 6 ≡ 1)
+        × (run_extents t 6 ≡ 1) × (t.chunks ≡ example_root.chunks) × (t.roots ≡ example_root ∷ []) }
 {}
