@@ -1,5 +1,7 @@
 pub mod Events
 pub mod Example
 pub mod Invariant
+pub mod OfMachine
 pub mod Rooms
 pub mod Sweeps
+pub mod SweepsOfMachine
