@@ -1,6 +1,6 @@
 -- The device's pages are apart.
-use Rattle.std.proofs.Common.{◌≡◌, ◌≢◌, inl, inr, ℕ, suc, ◌+◌, ◌-◌, ◌*◌, ◌/◌, ◌%◌, ◌<◌, ◌≤◌, true, false, ◌==◌, nat_le, nat_lt, le_refl, eq-eqb, ne_eqb, mul-le-mul_right, refl, sym, ap, ◌∙◌, arith}
-use Rattle.std.proofs.lemmas.Bool.{cases_Bool, cases_eq, cases_lt}
+use Rattle.std.proofs.Common.{◌≡◌, ◌≢◌, inl, inr, ℕ, suc, ◌+◌, ◌-◌, ◌*◌, ◌/◌, ◌%◌, ◌<◌, ◌≤◌, true, false, ◌==◌, nat_lt, le_refl, eq-eqb, ne_eqb, mul-le-mul_right, refl, sym, ap, ◌∙◌, arith}
+use Rattle.std.proofs.lemmas.Bool.{cases_eq, cases_lt}
 use Rattle.std.proofs.lemmas.Bool.Decides.{nat_tests}
 use Rattle.std.proofs.lemmas.Nat.{div-mul-add, mod-mul-add, div_below}
 use Rattle.cs_model.specs.Device.{FramePage, IsShape, RootPage, SectionPage, Shape}
@@ -70,10 +70,7 @@ module _ (E P N Q f : ℕ) (g : IsGeometry E P N Q) where
     ];
     root_only = only_root;
     some_chunk = omega arith;
-    enough_runs = elim (cases_Bool (nat_le f 2)) [
-      | inl few ↦ rw few (le_refl _)
-      | inr many ↦ rw many (omega arith)
-    ];
+    enough_runs = le_refl 4;
     some_byte = (let p : 0 < P = g.some_page in omega arith);
     section_only = only_section;
     frame_kind = λ e i inside. at_frames (2 + (e * P + i)) (omega arith) (inside_below e i inside.0 inside.1);

@@ -1,17 +1,29 @@
 -- Where everything lies on the device, for a superblock of any number of sections.
-use Rattle.std.specs.Prelude.{◌+◌, ◌*◌, ◌-◌, ◌/◌, ◌%◌, ◌<◌, ◌≤◌, ◌==◌, ℕ, nat_le, nat_lt, if◌then◌else◌}
+use Rattle.std.specs.Prelude.{◌+◌, ◌*◌, ◌-◌, ◌/◌, ◌%◌, ◌<◌, ◌≤◌, ◌==◌, ℕ, Bool, true, nat_lt, if◌then◌else◌}
 use Rattle.cs_model.specs.Device.{FramePage, RootPage, SectionPage, Shape}
 
+-- the page writes come first in this format: a superblock's version needs them, and not the root
+abbrev pub pages_first_in : (format : ℕ) → Bool
+pages_first_in format = true
+
+-- in this format hidden entries name what is there
+abbrev pub hidden_stand_in : (format : ℕ) → Bool
+hidden_stand_in format = true
+
+-- how many runs a root of this format has at most
+abbrev pub most_runs_in : (format : ℕ) → ℕ
+most_runs_in format = 4
+
 -- section 0 is on page 0, the root on page 1, the extents begin at page 2, and behind them are the other sections.
--- Up to format 2 page writes come first, hidden entries name what is there, and a root has few runs
+-- The rules that differ from format to format are those of its number
 abbrev pub shape_of : (extents pages sections per_section format : ℕ) → Shape
 shape_of extents pages sections per_section format = record {
   extents = extents;
   pages = pages;
   sections = sections;
   format = format;
-  pages_first = nat_le format 2;
-  hidden_stand = nat_le format 2;
+  pages_first = pages_first_in format;
+  hidden_stand = hidden_stand_in format;
   kind = λ p. if p == 0 then SectionPage 0 else if p == 1 then RootPage
       else if nat_lt p (2 + extents * pages) then FramePage else SectionPage (p - (1 + extents * pages));
   root_page = 1;
@@ -23,7 +35,7 @@ shape_of extents pages sections per_section format = record {
   chunk_bytes = 4096 * pages - 41;
   most_chunks = 8;
   most_names = (4096 * pages - 45) / 81;
-  most_runs = if nat_le format 2 then 4 else 24;
+  most_runs = most_runs_in format;
   greatest_number = 9223372036854775807;
   greatest_generation = 4294967295;
 }
