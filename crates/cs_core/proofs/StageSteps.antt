@@ -9,6 +9,7 @@ use Rattle.cs_extent.specs.State.{IsWhole, State as ExtentsState, extents_of, sh
 use Rattle.cs_frame.specs.Formats.{formats_of}
 use Rattle.cs_index.specs.Staged.{IsFull, IsMergeStaged, IsStageWorn, IsTableStaged, IsWhy, WritesRun}
 use Rattle.cs_index.specs.State.{State as IndexState, index_of}
+use Rattle.cs_model.proofs.Rules.{before_rule}
 use Rattle.cs_model.specs.Device.{Shape}
 use Rattle.cs_model.specs.Element.{Entry, Root, Run, roots_of}
 use Rattle.cs_model.specs.Events.{Does, IsFrontier, retired, rooted}
@@ -18,13 +19,14 @@ use Rattle.cs_model.specs.Grounds.{NoRoomForRun, Refuses, WouldPass}
 use Rattle.cs_model.specs.Index.{NothingLive}
 use Rattle.cs_model.specs.Lists.{with}
 use Rattle.cs_model.specs.Machine.{World, root_now}
+use Rattle.cs_model.specs.Merges.{MergesNewest, stage_takes}
 use Rattle.cs_model.specs.Refusal.{Full, Halted, NotSweepable, Refusal, StillLive, WornOut}
 use Rattle.cs_model.specs.Lists.{◌∈◌}
 use Rattle.cs_model.specs.State.{Event, Reply, Refused, Retire, Retired, Stage, Staged, State, Unchanged, index_now, map_now}
 use Rattle.cs_model.specs.Step.{Step}
 use Rattle.cs_refine.proofs.Calls.{merge_staged, retire, table_staged}
 use Rattle.cs_refine.proofs.Indexes.{looked_up, none_too, nothing_live}
-use Rattle.cs_refine.proofs.RefusedStages.{retire_full, retire_worn, stage_full, stage_worn}
+use Rattle.cs_refine.proofs.RefusedStages.{no_room_to_stage, retire_full, retire_worn, stage_worn}
 use Rattle.cs_refine.specs.Parts.{ArePartsOf}
 use Rattle.cs_reclaim.specs.Retired.{IsRetireFull, IsRetireWorn, IsRetired}
 use Rattle.cs_core.specs.declared.roots.Root.{Root as Noted}
@@ -32,7 +34,7 @@ use Rattle.cs_core.specs.States.{AreRootsOf, IsStateOf}
 use Rattle.cs_core.specs.Steps.{Declines, Steps}
 use Rattle.cs_core.specs.Stored.{Stored, but_for_room}
 use Rattle.cs_core.proofs.Going.{Beside, frontier_stays, goes_on, going, no_more, pass, roots_more, same_state}
-use Rattle.cs_core.proofs.RootsStay.{SameRoots, append_stays, merge_stays}
+use Rattle.cs_core.proofs.RootsStay.{SameRoots, append_stays, merge_stays, same_here}
 
 -- what a state has after a root was staged
 record IsRooted (s t : State) (v : ℕ) : Type 0 where
@@ -73,15 +75,20 @@ module _ (S : Shape) (F : Formats) (s : State) where
         persistent = one.persistent;
       })
 
-  stage_rooted : (t : State) (v : ℕ) → Does S F s Stage (Staged v) t → IsRooted s t v
-  stage_rooted t v (some, number, inl (few, entries, l, mid, run, (w, append, mid_is), tis)) =
-      rooted_at mid t w (record { place = l; entries = entries } ∷ s.runs) v mid_is (append_stays S s.world w ForRun (F.frame RunFrame (F.run entries)) l append) number tis
-  stage_rooted t v (some, number, inr (many, mid, runs, (w, merges, mid_is), tis)) =
-      rooted_at mid t w runs v mid_is (merge_stays S F s.world w (index_now s) ForRun runs merges) number tis
+  merged_rooted : (t : State) (v : ℕ) → v ≡ suc s.world.root → (mid : State) (runs : List Run) → MergesNewest S F s ForRun (stage_takes S s) mid runs
+      → t ≡ rooted S F mid runs mid.world.extents.pointer → IsRooted s t v
+  merged_rooted t v number mid runs (inl (entries, l, some, run, (w, append, mid_is), is)) tis =
+      rooted_at mid t w runs v mid_is (append_stays S s.world w ForRun (F.frame RunFrame (F.run entries)) l append) number tis
+  merged_rooted t v number mid runs (inr (run, mid_is, is)) tis = rooted_at mid t s.world runs v mid_is (same_here s.world s.world refl) number tis
 
-  retire_rooted : (t : State) (e v : ℕ) → Does S F s (Retire e) (Retired v) t → IsRooted s t v
-  retire_rooted t e v (swept, nothing, number, mid, runs, (w, merges, mid_is), tis) =
-      retired_at mid t w runs e v mid_is (merge_stays S F s.world w (index_now s) ForMove runs merges) number tis
+  -- where chunks and runs may lie on one extent
+  module _ (before : S.apart ≡ false) where
+    stage_rooted : (t : State) (v : ℕ) → Does S F s Stage (Staged v) t → IsRooted s t v
+    stage_rooted t v does = let d = before_rule _ _ S.apart before does in merged_rooted t v d.1 d.2 d.3 d.4 d.5
+
+    retire_rooted : (t : State) (e v : ℕ) → Does S F s (Retire e) (Retired v) t → IsRooted s t v
+    retire_rooted t e v does = let d = before_rule _ _ S.apart before does in
+        retired_at d.3 t d.5.0 d.4 e v d.5.2 (merge_stays S F s.world d.5.0 (index_now s) ForMove d.4 d.5.1) d.2 d.6
 
 module _ (v : Stored) (s : State) (whole : IsWhole v.extents) (is : IsStateOf v s) (runs : v.halted ≡ false) where
   runs_on : s.halted ≡ true → ⊥
@@ -106,18 +113,18 @@ module _ (v : Stored) (s : State) (whole : IsWhole v.extents) (is : IsStateOf v 
   WornStage = (v.index.table ≢ []) × IsStageWorn (WritesRun v.index) v.extents ForRun v.graph.staging
 
   stages : (NoStage → ⊥) → (WornStage → ⊥) → (f : Refusal) → Refuses (shape v.extents) (formats_of (shape v.extents)) s Stage f → ⊥
-  stages room young = pass Halted runs_on (pass Full (λ full. room ((stage_full v.extents v.graph v.index s whole is.parts).0 full))
+  stages room young = pass Halted runs_on (pass Full (λ full. room ((no_room_to_stage v.extents v.graph v.index s whole is.parts).0 full))
       (pass WornOut (λ would. young ((stage_worn v.extents v.graph v.index s whole is.parts is.sound is.bounded room).0 would)) no_more))
 
   pub stage_nothing : v.index.table ≡ [] → Step (shape v.extents) (formats_of (shape v.extents)) s Stage Unchanged s
   stage_nothing none = (stages (λ full. full.1.0 none) (λ worn. worn.0 none), (no_table none, refl))
 
   pub stage_no_room : NoStage → Step (shape v.extents) (formats_of (shape v.extents)) s Stage (Refused Full) s
-  stage_no_room full = (inl (inr (runs_on, inl ((stage_full v.extents v.graph v.index s whole is.parts).1 full, refl))), refl)
+  stage_no_room full = (inl (inr (runs_on, inl ((no_room_to_stage v.extents v.graph v.index s whole is.parts).1 full, refl))), refl)
 
   pub stage_worn_out : (NoStage → ⊥) → WornStage → Step (shape v.extents) (formats_of (shape v.extents)) s Stage (Refused WornOut) s
   stage_worn_out room worn =
-      (inl (inr (runs_on, inr ((λ full. room ((stage_full v.extents v.graph v.index s whole is.parts).0 full)), inl ((stage_worn v.extents v.graph v.index s whole is.parts is.sound is.bounded room).1 worn, refl)))), refl)
+      (inl (inr (runs_on, inr ((λ full. room ((no_room_to_stage v.extents v.graph v.index s whole is.parts).0 full)), inl ((stage_worn v.extents v.graph v.index s whole is.parts is.sound is.bounded room).1 worn, refl)))), refl)
 
   -- a root was staged, and noted
   noted : (t : State) (n : ℕ) (w : Stored) → (event : Event) (reply : Reply) → IsRooted s t n → Step (shape v.extents) (formats_of (shape v.extents)) s event reply t → shape w.extents ≡ shape v.extents → ArePartsOf w.extents w.graph w.index t
@@ -151,7 +158,7 @@ module _ (v : Stored) (s : State) (whole : IsWhole v.extents) (is : IsStateOf v 
             t,
             step,
             noted t n (record v { graph = h; extents = y; index = j; roots = v.roots ++ record { version = n; commands = v.accepted } ∷ [] }) Stage (Staged n)
-                (stage_rooted (shape v.extents) (formats_of (shape v.extents)) s t n does) step same parts refl refl refl refl refl refl refl,
+                (stage_rooted (shape v.extents) (formats_of (shape v.extents)) s refl t n does) step same parts refl refl refl refl refl refl refl,
           )
 
   -- ---- Retire
@@ -197,7 +204,7 @@ module _ (v : Stored) (s : State) (whole : IsWhole v.extents) (is : IsStateOf v 
             law.0,
             step,
             noted law.0 n (record v { graph = h; extents = y; index = j; roots = v.roots ++ record { version = n; commands = v.accepted } ∷ [] }) (Retire e) (Retired n)
-                (retire_rooted (shape v.extents) (formats_of (shape v.extents)) s law.0 e n law.1) step same law.2 refl refl refl refl refl refl refl,
+                (retire_rooted (shape v.extents) (formats_of (shape v.extents)) s refl law.0 e n law.1) step same law.2 refl refl refl refl refl refl refl,
           )
 
 -- ---- the answers of the calls

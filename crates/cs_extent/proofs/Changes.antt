@@ -41,6 +41,10 @@ reset_extents s e root g lt lr is = λ i. record {
   reset = λ d. written_at s.resets e root 0 lr d i;
   open_extent = s.open_extent;
   swept = λ d. get_or s.swept d false;
+  of_runs = λ d. false;
+  found = λ d. 0;
+  fresh = None;
+  last = None;
 }
   where
     pointers : (d : ℕ) → (get_or (set s.written e (0, g)) d (0, 0)).0 ≡ with (λ k. (get_or s.written k (0, 0)).0) e 0 d
@@ -58,6 +62,10 @@ taken_extents s e k x o lt p g is = λ i. record {
   reset = λ d. get_or s.resets d 0;
   open_extent = is i;
   swept = λ d. get_or s.swept d false;
+  of_runs = λ d. false;
+  found = λ d. 0;
+  fresh = None;
+  last = None;
 }
   where
     pointers : (d : ℕ) → (get_or (set s.written e x) d (0, 0)).0 ≡ with (λ k. (get_or s.written k (0, 0)).0) e ((get_or s.written e (0, 0)).0 + k) d

@@ -1,5 +1,5 @@
 -- What the extents of a store are, in the words of the store's machine.
-use Rattle.std.specs.Prelude.{◌≡◌, ℕ, ◌+◌, ◌<◌, ◌≤◌, ◌^◌, Bool, false, List, Option, Some, length, take, drop, slice_index, slice_index_or}
+use Rattle.std.specs.Prelude.{◌≡◌, ℕ, ◌+◌, ◌<◌, ◌≤◌, ◌^◌, Bool, false, List, Option, None, Some, length, take, drop, slice_index, slice_index_or}
 use Rattle.cs_model.specs.Device.{Shape}
 use Rattle.cs_model.specs.Geometry.{shape_of}
 use Rattle.cs_model.specs.Extents.{Extents}
@@ -22,7 +22,7 @@ pub record State : Type 0 where
   -- the extent that frames are appended to, if there is one
   pub open_extent : Option ℕ
 
--- the extents as functions of their numbers
+-- the extents as functions of their numbers: chunks and runs may lie on one extent, so it isn't noted which hold runs
 abbrev pub extents_of : State → Extents
 extents_of s = record {
   pointer = λ e. (slice_index_or s.written e (0, 0)).0;
@@ -30,6 +30,10 @@ extents_of s = record {
   reset = λ e. slice_index s.resets e;
   open_extent = s.open_extent;
   swept = λ e. slice_index_or s.swept e false;
+  of_runs = λ e. false;
+  found = λ e. 0;
+  fresh = None;
+  last = None;
 }
 
 -- the device, whose superblocks are written in sections

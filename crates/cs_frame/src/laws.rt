@@ -3,8 +3,12 @@
 
 ghost use Rattle.std.specs.Prelude.{◌≡◌, ◌↔◌, ◌+◌, ◌/◌, ◌^◌, ◌<◌, ◌≤◌, ◌++◌, ℕ, List, Some, None, length, take};
 ghost use Rattle.byteorder.specs.Endian.{big_bytes, big_number};
+ghost use Rattle.cs_model.specs.Element.{Entry as NamedEntry};
+ghost use Rattle.cs_model.specs.Formats.{ChunkFrame, RunFrame};
 ghost use Rattle.cs_model.specs.Frames.{IsFormat};
 ghost use Rattle.cs_model.specs.Geometry.{IsGeometry as IsModelGeometry, shape_of};
+ghost use Rattle.cs_model.specs.Index.{IsRunList};
+ghost use Rattle.cs_model.specs.Safe.{FitsExtent};
 ghost use Rattle.cs_frame.specs.declared.faults.FormatFault.{FormatFault as Fault};
 ghost use Rattle.cs_frame.specs.declared.locators.Locator.{Locator as Place};
 ghost use Rattle.cs_frame.specs.Bytes.{EachHas, IsBytes, IsPage};
@@ -108,6 +112,25 @@ pub fn these_formats_are_formats()
     ensures identifier { (id : ℕ) → id < 2 ^ 128 → id_bytes id ≡ big_bytes 16 id }
     ensures identifier_number { (bytes : List ℕ) → IsBytes bytes → length bytes ≡ 16
         → id_bytes (big_number 16 bytes) ≡ bytes }
+{}
+
+/// The page of a section tells the pointers of its extents, in whatever format and version.
+pub fn sections_tell_pointers()
+    ensures { (extents pages sections format : ℕ) → IsGeometry extents pages sections
+        → let S = shape_of extents pages sections (section_size extents sections) format in
+        (f k j v w : ℕ) (p g q h : ℕ → ℕ) → ((e : ℕ) → FitsExtent S (p e) (g e)) → ((e : ℕ) → FitsExtent S (q e) (h e))
+        → (formats_of S).superblock f j v p g ≡ (formats_of S).superblock k j w q h → (e : ℕ) → e < S.extents
+        → S.section e ≡ j → p e ≡ q e }
+{}
+
+/// Each run that the model may stage, and each chunk, fits on an extent.
+pub fn frames_fit_on_an_extent()
+    ensures runs { (extents pages sections format : ℕ) (entries : List NamedEntry) → IsGeometry extents pages sections
+        → let S = shape_of extents pages sections (section_size extents sections) format in
+        IsRunList S entries → length ((formats_of S).frame RunFrame ((formats_of S).run entries)) ≤ S.pages }
+    ensures chunks { (extents pages sections format : ℕ) (chunk : List ℕ) → IsGeometry extents pages sections
+        → let S = shape_of extents pages sections (section_size extents sections) format in
+        length chunk ≤ S.chunk_bytes → length ((formats_of S).frame ChunkFrame chunk) ≤ S.pages }
 {}
 
 /// Each extent belongs to one section, and all sections together have all extents.

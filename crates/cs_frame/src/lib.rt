@@ -28,8 +28,9 @@ pub use geometries::{
 pub use identifiers::ShardId;
 pub use laws::{
     first_format_has_one_spelling, frame_has_one_spelling, frame_is_read_by_its_header,
-    page_zero_has_one_spelling, root_has_one_spelling, run_has_one_spelling,
-    sections_have_all_extents, superblock_has_one_spelling, these_formats_are_formats,
+    frames_fit_on_an_extent, page_zero_has_one_spelling, root_has_one_spelling,
+    run_has_one_spelling, sections_have_all_extents, sections_tell_pointers,
+    superblock_has_one_spelling, these_formats_are_formats,
 };
 pub use locators::Locator;
 pub use page_zero::decode_superblock;

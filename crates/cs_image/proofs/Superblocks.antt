@@ -314,6 +314,10 @@ pub extents_are : (pages sections : ℕ) (written : List (ℕ × ℕ)) → exten
   reset = λ e. 0;
   open_extent = None;
   swept = λ e. false;
+  of_runs = λ e. false;
+  found = λ e. 0;
+  fresh = None;
+  last = None;
 }
 extents_are pages sections written = λ i. record {
   pointer = (extents_of (extents_at pages sections written)).pointer;
@@ -321,4 +325,8 @@ extents_are pages sections written = λ i. record {
   reset = λ e. all_default (length written) e 0 i;
   open_extent = None;
   swept = λ e. all_default (length written) e false i;
+  of_runs = λ e. false;
+  found = λ e. 0;
+  fresh = None;
+  last = None;
 }

@@ -12,7 +12,9 @@ use Rattle.cs_frame.specs.Formats.{as_locator, formats_of, place_of}
 use Rattle.cs_frame.specs.Roots.{spelled_root}
 use Rattle.cs_index.specs.Staged.{IsMergeAppended, IsMergeStaged, IsRootStaged, IsRunAppended, IsTableStaged, run_frame}
 use Rattle.cs_index.specs.State.{IsSet, State as IndexState, index_of}
+use Rattle.cs_model.proofs.Before.{stages_as_before}
 use Rattle.cs_model.specs.Append.{Append, MergesTo, chunk_frames}
+use Rattle.cs_model.specs.Before.{StagesAsBefore}
 use Rattle.cs_model.specs.Device.{Shape}
 use Rattle.cs_model.specs.Disk.{page_write}
 use Rattle.cs_model.specs.Element.{A_root, Entry, Locator as Place, Map, Run}
@@ -93,6 +95,10 @@ module _ (x : ExtentsState) (g : GraphState) (i : IndexState) (s : State) (whole
   some_there : (y : ExtentsState) → shape y ≡ shape x → 0 < (shape y).sections
   some_there y same = subst (λ (S : Shape). 0 < S.sections) (sym same) (some_sections x whole)
 
+  -- the two branches of a Stage are the machine's
+  does_as_before : (v : ℕ) (t : State) → StagesAsBefore (shape x) (formats_of (shape x)) s v t → Does (shape x) (formats_of (shape x)) s Stage (Staged v) t
+  does_as_before v t so = (stages_as_before (shape x) (formats_of (shape x)) s t v refl refl).1 so
+
   pub table_staged : (y : ExtentsState) (h : GraphState) (j : IndexState) (v : ℕ) → i.table ≢ [] → length i.runs < 4
       → IsTableStaged i x g v commands j y h
       → (t : State) × Does (shape x) (formats_of (shape x)) s Stage (Staged v) t × ArePartsOf y h j t
@@ -105,7 +111,7 @@ module _ (x : ExtentsState) (g : GraphState) (i : IndexState) (s : State) (whole
       let some_here : 0 < (shape y).sections = some_there y done.staged.1.same_shape in
       let world = root_staged y done.staged.0 h appended.0 v commands runs some_here appended.2 root (map_now s) appended.0.extents.pointer in (
         rooted (shape x) (formats_of (shape x)) mid runs appended.0.extents.pointer,
-        (
+        does_as_before v (rooted (shape x) (formats_of (shape x)) mid runs appended.0.extents.pointer) (
           some_table i s.table s.runs are.index some,
           root_version y done.staged.0 h appended.0 v commands runs some_here appended.2 root
               ∙ ap suc (append_numbers (shape x) (store_shape x whole) s.world appended.0 ForRun ((formats_of (shape x)).frame RunFrame ((formats_of (shape x)).run done.entries)) done.place appended.1).2,
@@ -158,7 +164,7 @@ module _ (x : ExtentsState) (g : GraphState) (i : IndexState) (s : State) (whole
       let some_here : 0 < (shape y).sections = some_there y merged.4 in
       let mid : State = record s { world = merged.0 } in (
         rooted (shape x) (formats_of (shape x)) mid j.runs merged.0.extents.pointer,
-        (
+        does_as_before v (rooted (shape x) (formats_of (shape x)) mid j.runs merged.0.extents.pointer) (
           some_table i s.table s.runs are.index some,
           root_version y done.between h merged.0 v commands j.runs some_here merged.2 done.root ∙ ap suc merged.3,
           inr (subst (λ (n : ℕ). 4 ≤ n) (as_many_runs i s.table s.runs are.index) many, mid, j.runs, (merged.0, merged.1, refl), refl),

@@ -9,6 +9,7 @@ use Rattle.cs_extent.specs.Worn.{IsFrameWorn, in_section}
 use Rattle.cs_frame.specs.Formats.{formats_of}
 use Rattle.cs_index.specs.Staged.{IsFull, IsRootWorn, IsStageWorn, WritesMerged, WritesRun, run_frame}
 use Rattle.cs_index.specs.State.{State as IndexState, index_of}
+use Rattle.cs_model.proofs.Before.{full_as_before, stages_as_before}
 use Rattle.cs_model.proofs.Limits.{not_past}
 use Rattle.cs_model.proofs.Needs.{append_there}
 use Rattle.cs_model.proofs.Outcomes.{frame_generations, merged_generations, merged_or_full, none_live, not_both}
@@ -16,11 +17,12 @@ use Rattle.cs_model.proofs.Parts.{with_other, with_same}
 use Rattle.cs_model.proofs.Places.{placed_one, placed_or_full}
 use Rattle.cs_model.proofs.Sorted.{one_sorted, sorted, sorted_live}
 use Rattle.cs_model.specs.Append.{Append, MergesTo}
+use Rattle.cs_model.specs.Before.{StagesAsBefore}
 use Rattle.cs_model.specs.Element.{Entry, Locator as Place, Run}
 use Rattle.cs_model.specs.Events.{Does, Merged, retired, rooted}
 use Rattle.cs_model.specs.Extents.{Extents, ForMove, ForRun, NoPlace, Placed, Purpose as Reason}
 use Rattle.cs_model.specs.Formats.{RunFrame}
-use Rattle.cs_model.specs.Grounds.{NoRoomForRun, NoRoomForTable, PastLimit, WouldPass}
+use Rattle.cs_model.specs.Grounds.{NoRoomForRun, NoRoomForTable, NoRoomToStage, PastLimit, WouldPass}
 use Rattle.cs_model.specs.Index.{IsMergedRun, IsTableRun, NothingLive, if_live, live, lookup}
 use Rattle.cs_model.specs.Machine.{World}
 use Rattle.cs_model.specs.Sound.{Bounded, Sound}
@@ -77,7 +79,7 @@ module _ (x : ExtentsState) (g : GraphState) (i : IndexState) (s : State) (whole
   run_full_to reason none = let all = sorted_live (index_of i) in go all.0 (all.1, all.2)
     where
       go : (ws : List Entry) → IsMergedRun (index_of i) ws → IsFull (WritesMerged i) x reason
-      go [] run = absurd (none s [] (s.world, inr ((λ id. ap live (sym (asked id)) ∙ none_live (shape x) (formats_of (shape x)) (store_shape x whole) (store_format x whole) (lookup id (index_of i)) (run.1 id)), refl, refl), refl))
+      go [] run = absurd (none s [] (s.world, inr ((λ id. ap live (sym (asked id)) ∙ none_live (lookup id (index_of i)) (run.1 id)), refl, refl), refl))
       go (w ∷ ws) run =
           let some : w ∷ ws ≢ [] = (λ is. let e : w ∷ ws ≡ [] = is in cc) in (
             w ∷ ws,
@@ -125,6 +127,13 @@ module _ (x : ExtentsState) (g : GraphState) (i : IndexState) (s : State) (whole
 
   pub stage_full : IsStageFull ↔ IsFull (WritesRun i) x ForRun
   stage_full = (stage_full_to, stage_full_from)
+
+  -- the machine's ground is that, in one statement
+  pub no_room_to_stage : ((s.table ≢ []) × NoRoomToStage (shape x) (formats_of (shape x)) s) ↔ IsFull (WritesRun i) x ForRun
+  no_room_to_stage = (
+    (λ none. stage_full_to (none.0, (full_as_before (shape x) (formats_of (shape x)) s refl refl none.0).0 none.1)),
+    (λ full. let is = stage_full_from full in (is.0, (full_as_before (shape x) (formats_of (shape x)) s refl refl is.0).1 is.1)),
+  )
 
   -- ---- numbers
 
@@ -235,18 +244,15 @@ module _ (x : ExtentsState) (g : GraphState) (i : IndexState) (s : State) (whole
     few_alone : (Any : Type 0) → length s.runs < 4 → 4 ≤ length i.runs → Any
     few_alone Any few many = let same : length i.runs ≡ length s.runs = (as_many_runs i s.table s.runs are.index) in absurd (omega arith)
 
-    stage_past : (reply : Reply) (t : State) → Does (shape x) (formats_of (shape x)) s Stage reply t → PastLimit (shape x) (formats_of (shape x)) t
-        → (i.table ≢ []) × IsStageWorn (WritesRun i) x ForRun g.staging
-    stage_past Unchanged t (none, same) over =
-        absurd (not_past (shape x) (formats_of (shape x)) s sound bounded (subst (λ (u : State). PastLimit (shape x) (formats_of (shape x)) u) same over))
-    stage_past (Staged v) t (some, version, inl (few, entries, l, mid, run, (w, a, same), is)) over = (
+    staged_past : (v : ℕ) (t : State) → StagesAsBefore (shape x) (formats_of (shape x)) s v t → PastLimit (shape x) (formats_of (shape x)) t → (i.table ≢ []) × IsStageWorn (WritesRun i) x ForRun g.staging
+    staged_past v t (some, version, inl (few, entries, l, mid, run, (w, a, same), is)) over = (
       some_table_here i s.table s.runs are.index some,
       run_past (WritesRun i) ForRun entries l w (record { place = l; entries = entries } ∷ s.runs) w.extents.pointer a
           (some_table_here i s.table s.runs are.index some, inl (subst (λ (n : ℕ). n < 4) (sym (as_many_runs i s.table s.runs are.index)) few, table_run s.table i.table (λ id. sym (are.index.lookups id)) entries run))
           (subst (λ (u : State). PastLimit (shape x) (formats_of (shape x)) u)
           (is ∙ ap (λ (m : State). rooted (shape x) (formats_of (shape x)) m (record { place = l; entries = entries } ∷ s.runs) m.world.extents.pointer) same) over),
     )
-    stage_past (Staged v) t (some, version, inr (many, mid, runs, (w, merges, same), is)) over = (
+    staged_past v t (some, version, inr (many, mid, runs, (w, merges, same), is)) over = (
       some_table_here i s.table s.runs are.index some,
       of_merge (merge_past ForRun w runs w.extents.pointer merges (subst (λ (u : State). PastLimit (shape x) (formats_of (shape x)) u)
           (is ∙ ap (λ (m : State). rooted (shape x) (formats_of (shape x)) m runs m.world.extents.pointer) same) over)),
@@ -256,7 +262,16 @@ module _ (x : ExtentsState) (g : GraphState) (i : IndexState) (s : State) (whole
         of_merge (inl root) = inl root
         of_merge (inr (entries, writes, worn)) =
             inr (entries, (some_table_here i s.table s.runs are.index some, inr (subst (λ (n : ℕ). 4 ≤ n) (sym (as_many_runs i s.table s.runs are.index)) many, writes)), worn)
+
+    stage_past : (reply : Reply) (t : State) → Does (shape x) (formats_of (shape x)) s Stage reply t → PastLimit (shape x) (formats_of (shape x)) t
+        → (i.table ≢ []) × IsStageWorn (WritesRun i) x ForRun g.staging
+    stage_past Unchanged t (none, same) over =
+        absurd (not_past (shape x) (formats_of (shape x)) s sound bounded (subst (λ (u : State). PastLimit (shape x) (formats_of (shape x)) u) same over))
+    stage_past (Staged v) t d over = staged_past v t ((stages_as_before (shape x) (formats_of (shape x)) s t v refl refl).0 d) over
     stage_past reply t d over = absurd d
+
+    does_as_before : (t : State) → StagesAsBefore (shape x) (formats_of (shape x)) s (suc s.world.root) t → Does (shape x) (formats_of (shape x)) s Stage (Staged (suc s.world.root)) t
+    does_as_before t so = (stages_as_before (shape x) (formats_of (shape x)) s t (suc s.world.root) refl refl).1 so
 
     stage_past_back : ¬ IsFull (WritesRun i) x ForRun → i.table ≢ [] → IsStageWorn (WritesRun i) x ForRun g.staging → WouldPass (shape x) (formats_of (shape x)) s Stage
     stage_past_back room some worn = elim (cases_lt (length s.runs) 4) [ inl few ↦ of_table few | inr many ↦ of_merge many ]
@@ -272,7 +287,8 @@ module _ (x : ExtentsState) (g : GraphState) (i : IndexState) (s : State) (whole
             let runs : List Run = record { place = a.0; entries = all.0 } ∷ s.runs in (
               Staged (suc s.world.root),
               after_root a.1 runs a.1.extents.pointer,
-              (some_table i s.table s.runs are.index some, refl, inl (few, all.0, a.0, record s { world = a.1 }, table_run i.table s.table are.index.lookups all.0 run, (a.1, a.2, refl), refl)),
+              does_as_before (after_root a.1 runs a.1.extents.pointer)
+                  (some_table i s.table s.runs are.index some, refl, inl (few, all.0, a.0, record s { world = a.1 }, table_run i.table s.table are.index.lookups all.0 run, (a.1, a.2, refl), refl)),
               run_past_back ForRun all.0 a.0 a.1 runs a.1.extents.pointer a.2 (of_run all.0 run worn),
             ))
             (λ (none : NoPlace (shape x) (extents_of x) ForRun (length (run_frame x all.0))). absurd (room (all.0, (some, inl (few', run)), none)))
@@ -289,7 +305,8 @@ module _ (x : ExtentsState) (g : GraphState) (i : IndexState) (s : State) (whole
             (λ (found : (t : State) × (runs : List Run) × Merged (shape x) (formats_of (shape x)) s ForRun t runs). (
               Staged (suc s.world.root),
               after_root found.2.0 found.1 found.2.0.extents.pointer,
-              (some_table i s.table s.runs are.index some, refl, inr (many, record s { world = found.2.0 }, found.1, (found.2.0, found.2.1, refl), refl)),
+              does_as_before (after_root found.2.0 found.1 found.2.0.extents.pointer)
+                  (some_table i s.table s.runs are.index some, refl, inr (many, record s { world = found.2.0 }, found.1, (found.2.0, found.2.1, refl), refl)),
               merge_past_back ForRun found.2.0 found.1 found.2.0.extents.pointer found.2.1 (of_run worn),
             ))
             (λ (none : NoRoomForRun (shape x) (formats_of (shape x)) s ForRun). absurd (room (stage_full_to (some_table i s.table s.runs are.index some, inr (many, none)))))

@@ -17,7 +17,7 @@ ghost use Rattle.cs_model.specs.Device.{Shape};
 ghost use Rattle.cs_model.specs.Events.{Chunked, ReadsNow};
 ghost use Rattle.cs_model.specs.Extents.{Fits, ForMove, ForPut, ForRun, NoPlace};
 ghost use Rattle.cs_model.specs.Formats.{ChunkFrame, Formats};
-ghost use Rattle.cs_model.specs.Grounds.{NoRoomForRun, NoRoomForTable, NoRoomToMove, NoRoomToPut, Refuses, WouldPass};
+ghost use Rattle.cs_model.specs.Grounds.{NoRoomForRun, NoRoomForTable, NoRoomToMove, NoRoomToPut, NoRoomToStage, Refuses, WouldPass};
 ghost use Rattle.cs_model.specs.Index.{FirstLive, NothingLive};
 ghost use Rattle.cs_model.specs.Numbers.{number_of as number_in_machine};
 ghost use Rattle.cs_model.specs.Refusal.{NotSweepable, Refusal as Ground};
@@ -64,6 +64,9 @@ pub fn stage_refusals_agree()
         → ((s.table ≢ []) × (((length s.runs < 4) × NoRoomForTable (shape x) (formats_of (shape x)) s)
         ⊎ ((4 ≤ length s.runs) × NoRoomForRun (shape x) (formats_of (shape x)) s ForRun)))
         ↔ IsFull (WritesRun i) x ForRun }
+    // That is the machine's ground: where the table isn't empty, what a Stage merges doesn't fit as a run.
+    ensures no_room { (x : ExtentsState) (g : GraphState) (i : IndexState) (s : State) → IsWhole x → ArePartsOf x g i s
+        → ((s.table ≢ []) × NoRoomToStage (shape x) (formats_of (shape x)) s) ↔ IsFull (WritesRun i) x ForRun }
     // Where there is room, a number would pass its greatest exactly where the table isn't empty and one that is staged would.
     ensures worn { (x : ExtentsState) (g : GraphState) (i : IndexState) (s : State)
         → IsWhole x → ArePartsOf x g i s → Sound (shape x) (formats_of (shape x)) s → Bounded (shape x) (formats_of (shape x)) s
