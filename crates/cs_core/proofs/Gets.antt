@@ -25,9 +25,10 @@ use Rattle.cs_refine.proofs.ShardsRead.{get_damaged, get_found}
 use Rattle.cs_refine.specs.Devices.{IsDiskOf, pages_now}
 use Rattle.cs_core.specs.Reads.{DeclinesOn, GetAnswers}
 use Rattle.cs_core.specs.States.{IsStateOf}
-use Rattle.cs_core.specs.Stored.{Stored, page_total}
+use Rattle.cs_core.specs.Stored.{Stored}
 use Rattle.cs_core.proofs.Damage.{IsDamage, read_refusal}
 use Rattle.cs_core.proofs.Going.{no_more, pass_found}
+use Rattle.cs_image.specs.Reads.{page_total}
 
 -- what each page of a store reads as
 pub newest_there : (v : Stored) → IsWhole v.extents → IsWholeGraph v.graph → (disk : DiskState) → page_total (shape v.extents) ≤ length disk.durable

@@ -29,11 +29,12 @@ use Rattle.cs_reclaim.specs.Retired.{IsRetired}
 use Rattle.cs_model.specs.Extents.{ForMove}
 use Rattle.cs_reclaim.specs.Sweeps.{IsSwept}
 use Rattle.cs_reclaim.proofs.Sweeping.{append_swept}
-use Rattle.cs_core.specs.Stored.{AreInside, AreSwept, AreWithin, IsKept, KeepsDevice, Stored, members_of, page_total}
+use Rattle.cs_core.specs.Stored.{AreInside, AreSwept, AreWithin, IsKept, KeepsDevice, Stored, members_of}
 use Rattle.cs_core.specs.declared.roots.Root.{Root}
 use Rattle.cs_core.specs.Frontiers.{AreNoted}
 use Rattle.cs_core.proofs.Moves.{AddsRoot, extent_there, frame_fits, last_root, moves_extents, moves_merged, moves_then}
 use Rattle.cs_core.proofs.Noted.{noted_accepted, noted_pushed}
+use Rattle.cs_image.specs.Reads.{page_total}
 
 -- PLACES
 -- the places of some chunks are there

@@ -108,12 +108,12 @@ pub fn load_store(
     root: &Root,
     runs: Vec<StoredRun>,
 ) -> Result<OpenedStore, Refusal>
-    requires extents { extents ≡ extents_at extents.pages extents.sections extents.written }
+    requires extents { extents ≡ extents_at extents.format extents.pages extents.sections extents.written }
     requires graph { (versions : List ℕ) × (length versions ≡ extents.sections) × (graph ≡ graph_at versions root.now.version) }
     requires commands { root.now.commands < 2 ^ 63 }
     requires few { length runs.items ≤ 4 }
     requires runs { AllByRecursion (λ run. IsRun (record { entries = run.entries })) runs.items }
-    ensures made { IfOk result (λ found. (versions : List ℕ) → length versions ≡ extents.sections → graph ≡ graph_at versions root.now.version → found.store ≡ opened_stored versions extents.pages extents.written root.now.version root.now.commands runs.items) }
+    ensures made { IfOk result (λ found. (versions : List ℕ) → length versions ≡ extents.sections → graph ≡ graph_at versions root.now.version → found.store ≡ opened_stored extents.format versions extents.pages extents.written root.now.version root.now.commands runs.items) }
     ensures commands { IfOk result (λ found. found.commands ≡ root.now.commands) }
     ensures live { IfOk result (λ found. HasCount (λ id. live_at (entries_of (newest_first runs.items)) id ≢ []) found.live) }
     ensures located { OnOk result (AreLocated extents runs.items) }

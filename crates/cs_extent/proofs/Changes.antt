@@ -79,10 +79,10 @@ taken_extents s e k x o lt p g is = λ i. record {
     generations d = ap (λ (y : ℕ × ℕ). y.1) (written_at s.written e x (0, 0) lt d) ∙ chosen (λ (y : ℕ × ℕ). y.1) (d == e) x (get_or s.written d (0, 0)) ∙ kept d (d == e) refl
 
 -- the extents that a superblock's sections record
-pub whole_new : (pages sections : ℕ) (written : List (ℕ × ℕ)) → IsGeometry (length written) pages sections → AllByRecursion (λ x. x.0 ≤ pages) written
+pub whole_new : (format pages sections : ℕ) (written : List (ℕ × ℕ)) → IsGeometry format (length written) pages sections → AllByRecursion (λ x. x.0 ≤ pages) written
     → (resets : List ℕ) (swept : List Bool) → resets ≡ replicate (length written) 0 → swept ≡ replicate (length written) false
-    → IsWhole (record { pages = pages; sections = sections; written = written; resets = resets; swept = swept; open_extent = None })
-whole_new pages sections written is all resets swept zeros falses = record {
+    → IsWhole (record { format = format; pages = pages; sections = sections; written = written; resets = resets; swept = swept; open_extent = None })
+whole_new format pages sections written is all resets swept zeros falses = record {
   geometry = is;
   all_resets = ap length zeros ∙ length-replicate (length written) 0;
   all_swept = ap length falses ∙ length-replicate (length written) false;

@@ -9,6 +9,8 @@ use Rattle.cs_extent.specs.Frames.{greatest}
 
 -- the extents of a store, as lists with a place for each
 pub record State : Type 0 where
+  -- which format the store has
+  pub format : ℕ
   -- how many pages each extent has
   pub pages : ℕ
   -- how many sections the superblock has
@@ -38,7 +40,7 @@ extents_of s = record {
 
 -- the device, whose superblocks are written in sections
 abbrev pub shape : State → Shape
-shape s = shape_of (length s.written) s.pages s.sections (section_size (length s.written) s.sections) 2
+shape s = shape_of (length s.written) s.pages s.sections (section_size (length s.written) s.sections) s.format
 
 -- the greatest version of the root that goes with a last reset of one of section j's extents
 abbrev pub need_of : State → ℕ → ℕ
@@ -53,11 +55,11 @@ section_rows s j =
 -- the page spells a version of section j as the extents are
 abbrev pub SpellsExtents : State → (j version : ℕ) → List ℕ → Type 0
 SpellsExtents s j version page =
-    SpellsSuperblock page version (length s.written) s.pages s.sections j (section_rows s j)
+    SpellsSuperblock page s.format version (length s.written) s.pages s.sections j (section_rows s j)
 
 -- what all extents of a store keep
 pub record IsWhole (s : State) : Type 0 where
-  pub geometry : IsGeometry (length s.written) s.pages s.sections
+  pub geometry : IsGeometry s.format (length s.written) s.pages s.sections
   pub all_resets : length s.resets ≡ length s.written
   pub all_swept : length s.swept ≡ length s.written
   pub pointers : (e : ℕ) → (extents_of s).pointer e ≤ s.pages

@@ -8,7 +8,7 @@ ghost use Rattle.cs_extent.specs.Appended.{IsAppended};
 ghost use Rattle.cs_extent.specs.Frames.{AreResetsStaged, AreWritten, IsFrameStaged, IsOfFrame, IsVersionUpTo, IsWorn, AddsOnlyOf, family_of, greatest, next_place, next_section};
 ghost use Rattle.cs_extent.specs.Places.{room_at};
 ghost use Rattle.cs_extent.specs.Purposes.{reason_of};
-ghost use Rattle.cs_extent.specs.Sections.{AreSections, pages_of, rows_of};
+ghost use Rattle.cs_extent.specs.Sections.{AreSections, format_of, pages_of, rows_of};
 ghost use Rattle.cs_extent.specs.State.{IsWhole, SpellsExtents, extents_of, need_of, shape};
 ghost use Rattle.cs_extent.specs.Worn.{AreCounted, AreWorn, IsEmptyFrom, IsFrameWorn};
 
@@ -41,9 +41,9 @@ impl Model for Extents {
 
     ghost Value = { State };
 
-    ghost view = { λ x. record { pages = x.geometry.pages; sections = x.geometry.sections; written = x.written.items; resets = x.resets.items; swept = x.swept.items; open_extent = x.open_extent } };
+    ghost view = { λ x. record { format = x.geometry.format; pages = x.geometry.pages; sections = x.geometry.sections; written = x.written.items; resets = x.resets.items; swept = x.swept.items; open_extent = x.open_extent } };
 
-    ghost invariant = { λ x. IsSound x.geometry (record { pages = x.geometry.pages; sections = x.geometry.sections; written = x.written.items; resets = x.resets.items; swept = x.swept.items; open_extent = x.open_extent }) };
+    ghost invariant = { λ x. IsSound x.geometry (record { format = x.geometry.format; pages = x.geometry.pages; sections = x.geometry.sections; written = x.written.items; resets = x.resets.items; swept = x.swept.items; open_extent = x.open_extent }) };
 }
 
 /// The greatest generation of an extent.
@@ -54,7 +54,7 @@ impl Extents {
     /// memory for each extent.
     pub fn of(alloc: Global, sections: &[Superblock]) -> Result<Self, AllocError>
         requires { AreSections sections.now }
-        ensures { IfOk result (λ x. x ≡ record { pages = pages_of sections.now; sections = length sections.now; written = rows_of sections.now; resets = replicate (length (rows_of sections.now)) 0; swept = replicate (length (rows_of sections.now)) false; open_extent = None }) }
+        ensures { IfOk result (λ x. x ≡ record { format = format_of sections.now; pages = pages_of sections.now; sections = length sections.now; written = rows_of sections.now; resets = replicate (length (rows_of sections.now)) 0; swept = replicate (length (rows_of sections.now)) false; open_extent = None }) }
     {
         let geometry = geometry_of(sections);
         let written = joined(alloc, sections)?;
@@ -71,6 +71,7 @@ impl Extents {
 
     /// The dimensions of the store.
     pub fn geometry(&self) -> Geometry
+        ensures format { result.format ≡ (shape self.now).format }
         ensures extents { result.extents ≡ (shape self.now).extents }
         ensures pages { result.pages ≡ (shape self.now).pages }
         ensures sections { result.sections ≡ (shape self.now).sections }
@@ -554,6 +555,7 @@ fn is_worn(graph: &Graph, section: u8, pages: usize) -> bool
 /// The dimensions that sections speak of.
 fn geometry_of(sections: &[Superblock]) -> Geometry
     requires { AreSections sections.now }
+    ensures format { result.format ≡ format_of sections.now }
     ensures extents { result.extents ≡ length (rows_of sections.now) }
     ensures pages { result.pages ≡ pages_of sections.now }
     ensures sections { result.sections ≡ length sections.now }

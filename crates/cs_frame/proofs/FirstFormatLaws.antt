@@ -17,13 +17,13 @@ use Rattle.cs_frame.proofs.PageLaws.{page_is_padded}
 
 -- the numbers of extents and pages pass
 abbrev counts : List ℕ → Bool
-counts page = in_bounds greatest_superblock_extents (number 12 14 page) (number 14 16 page)
+counts page = in_bounds 2 greatest_superblock_extents (number 12 14 page) (number 14 16 page)
 
 -- a page without a fault spells what is read from it
 pub spells : (page : List ℕ) (version pages : ℕ) (extents : List (ℕ × ℕ)) → IsPage page → first_format_fault page ≡ None → version ≡ number 4 12 page → pages ≡ number 14 16 page → extents ≡ first_format_extents page → SpellsFirstFormat page version pages extents
 spells page version pages extents p h v c r =
     let it = sound page 49 (counts page) (first_format_end page) (first_format_extents page) p.size h in
-    let bounds = within greatest_superblock_extents (number 12 14 page) (number 14 16 page) it.counted in
+    let bounds = within 2 greatest_superblock_extents (number 12 14 page) (number 14 16 page) it.counted in
     let size = p.size in
     let bound : first_format_end page + 32 ≤ 4096 = omega (arith, bounds.most_extents) in
     let there = are_read page (number 14 16 page) 16 (first_format_end page) (number 12 14 page) p refl (omega arith) it.pointers in
@@ -79,7 +79,7 @@ module _ (version pages : ℕ) (extents : List (ℕ × ℕ)) (fits : FitsFirstFo
       let page : List ℕ = spelled_first_format version pages extents in
       let e = count_is_read in
       let n = pages_are_read in
-      let counted : counts page ≡ true = in_bounds-within greatest_superblock_extents (number 12 14 page) (number 14 16 page) (record {
+      let counted : counts page ≡ true = in_bounds-within 2 greatest_superblock_extents (number 12 14 page) (number 14 16 page) (record {
         fewest_extents = omega (arith, e, fits.fewest_extents);
         most_extents = omega (arith, e, fits.most_extents);
         fewest_pages = omega (arith, n, fits.fewest_pages);
@@ -137,12 +137,13 @@ zero_is_one page h = go (slice_index page 3 == 49) h
     go true h = inl h
     go false h = inr h
 
--- a superblock of the first format is one section, of all extents
-pub first_format_fits : (version pages : ℕ) (extents : List (ℕ × ℕ)) → FitsFirstFormat version pages extents → FitsSuperblock version (length extents) pages 1 0 extents
+-- a superblock of the first format is one section, of all extents, of a store of format 2
+pub first_format_fits : (version pages : ℕ) (extents : List (ℕ × ℕ)) → FitsFirstFormat version pages extents → FitsSuperblock 2 version (length extents) pages 1 0 extents
 first_format_fits version pages extents fits = record {
   first_version = fits.first_version;
   last_version = fits.last_version;
   geometry = record {
+    known = refl;
     fewest_extents = fits.fewest_extents;
     most_extents = omega (arith, fits.most_extents);
     fewest_pages = fits.fewest_pages;
@@ -161,12 +162,13 @@ first_format_fits version pages extents fits = record {
     whole n = omega arith
 
 -- a section that page 0 spells can be spelled
-pub page_zero_fits : (page : List ℕ) (version extents pages sections section : ℕ) (written : List (ℕ × ℕ))
-    → SpellsPageZero page version extents pages sections section written → FitsSuperblock version extents pages sections section written
-page_zero_fits page version extents pages sections section written = ⊎_elim
-    (λ (s : SpellsSuperblock page version extents pages sections section written). s.fits)
-    (λ (s : IsOfFirstFormat page version extents pages sections section written).
-    subst (λ (n : ℕ). FitsSuperblock version n pages sections section written) (sym s.all_extents)
-    (subst (λ (n : ℕ). FitsSuperblock version (length written) pages n section written) (sym s.one_section)
-    (subst (λ (n : ℕ). FitsSuperblock version (length written) pages 1 n written) (sym s.first_section)
-    (first_format_fits version pages written s.spells.fits))))
+pub page_zero_fits : (page : List ℕ) (format version extents pages sections section : ℕ) (written : List (ℕ × ℕ))
+    → SpellsPageZero page format version extents pages sections section written → FitsSuperblock format version extents pages sections section written
+page_zero_fits page format version extents pages sections section written = ⊎_elim
+    (λ (s : SpellsSuperblock page format version extents pages sections section written). s.fits)
+    (λ (s : IsOfFirstFormat page format version extents pages sections section written).
+    subst (λ (n : ℕ). FitsSuperblock n version extents pages sections section written) (sym s.written_in)
+    (subst (λ (n : ℕ). FitsSuperblock 2 version n pages sections section written) (sym s.all_extents)
+    (subst (λ (n : ℕ). FitsSuperblock 2 version (length written) pages n section written) (sym s.one_section)
+    (subst (λ (n : ℕ). FitsSuperblock 2 version (length written) pages 1 n written) (sym s.first_section)
+    (first_format_fits version pages written s.spells.fits)))))

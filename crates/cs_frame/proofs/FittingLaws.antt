@@ -51,7 +51,7 @@ run_takes : (xs : List NamedEntry) → ((x : NamedEntry) → x ∈ xs → length
 run_takes xs few = length-append (big_bytes 4 (length (map as_entry xs))) (flat_map spelled_entry (map as_entry xs))
     ∙ ap (λ (n : ℕ). 4 + n) (entries_take xs few)
 
-module _ (extents pages sections format : ℕ) (is : IsGeometry extents pages sections) where
+module _ (extents pages sections format : ℕ) (is : IsGeometry format extents pages sections) where
   abbrev S : Shape
   S = shape_of extents pages sections (section_size extents sections) format
 

@@ -108,7 +108,7 @@ all_fit (l ∷ ls) h =
     let both = and_parts (fits_locator l) (list_all fits_locator ls) h in
     (fits_of l both.0, all_fit ls both.1)
 
-root_of : (v n : ℕ) (ls : List Place) → fits_root v n ls ≡ true → FitsRoot v n (map as_locator ls)
+root_of : (v n : ℕ) (ls : List Place) → fits_root 2 v n ls ≡ true → FitsRoot 2 v n (map as_locator ls)
 root_of v n ls h =
     let a = and_parts _ (list_all fits_locator ls) h in
     let b = and_parts _ (nat_le (length ls) 4) a.0 in
@@ -116,6 +116,7 @@ root_of v n ls h =
     let d = and_parts (nat_le 1 v) (nat_lt v (2 ^ 63)) c.0 in
     let few : length ls ≤ 4 = leb-true _ _ b.1 in
     record {
+      known = refl;
       first_version = leb-true _ _ d.0;
       last_version = ltb-true _ _ d.1;
       last_command = ltb-true _ _ c.1;
@@ -123,12 +124,12 @@ root_of v n ls h =
       each = all_fit ls a.1;
     }
 
-one_page_one_list : (v w n k : ℕ) (xs ys : List Place) → fits_root v n xs ≡ true → fits_root w k ys ≡ true
-    → spelled_root v n (map as_locator xs) ≡ spelled_root w k (map as_locator ys) → (n ≡ k) × (xs ≡ ys)
+one_page_one_list : (v w n k : ℕ) (xs ys : List Place) → fits_root 2 v n xs ≡ true → fits_root 2 w k ys ≡ true
+    → spelled_root 2 v n (map as_locator xs) ≡ spelled_root 2 w k (map as_locator ys) → (n ≡ k) × (xs ≡ ys)
 one_page_one_list v w n k xs ys fx fy is =
-    let x = one_root (spelled_root w k (map as_locator ys)) v n (map as_locator xs) (record { fits = root_of v n xs fx; spelled = sym is }) in
-    let y = one_root (spelled_root w k (map as_locator ys)) w k (map as_locator ys) (record { fits = root_of w k ys fy; spelled = refl }) in
-    (sym x.1 ∙ y.1, one_list xs ys (sym x.2 ∙ y.2))
+    let x = one_root (spelled_root 2 w k (map as_locator ys)) 2 v n (map as_locator xs) (record { fits = root_of v n xs fx; spelled = sym is }) in
+    let y = one_root (spelled_root 2 w k (map as_locator ys)) 2 w k (map as_locator ys) (record { fits = root_of w k ys fy; spelled = refl }) in
+    (sym x.2 ∙ y.2, one_list xs ys (sym x.3 ∙ y.3))
 
 -- a page lists the runs in the other order
 all_fit_reversed : (ls : List Place) → list_all fits_locator ls ≡ true → list_all fits_locator (reverse ls) ≡ true
@@ -139,14 +140,14 @@ all_fit_reversed (l ∷ ls) h =
     (list_all-append fits_locator (reverse ls) (l ∷ [])
     ∙ and_from (list_all fits_locator (reverse ls)) (fits_locator l && true) (all_fit_reversed ls both.1) (and_from (fits_locator l) true both.0 refl))
 
-fits_reversed : (v n : ℕ) (ls : List Place) → fits_root v n ls ≡ true → fits_root v n (reverse ls) ≡ true
+fits_reversed : (v n : ℕ) (ls : List Place) → fits_root 2 v n ls ≡ true → fits_root 2 v n (reverse ls) ≡ true
 fits_reversed v n ls h =
     let a = and_parts _ (list_all fits_locator ls) h in
     let b = and_parts _ (nat_le (length ls) 4) a.0 in
     and_from _ _ (and_from _ _ b.0 (subst (λ (k : ℕ). nat_le k 4 ≡ true) (sym (length-reverse ls)) b.1)) (all_fit_reversed ls a.1)
 
-one_page_one_root : (v w n k : ℕ) (xs ys : List Place) → fits_root v n xs ≡ true → fits_root w k ys ≡ true
-    → spelled_root v n (map as_locator (reverse xs)) ≡ spelled_root w k (map as_locator (reverse ys)) → (n ≡ k) × (xs ≡ ys)
+one_page_one_root : (v w n k : ℕ) (xs ys : List Place) → fits_root 2 v n xs ≡ true → fits_root 2 w k ys ≡ true
+    → spelled_root 2 v n (map as_locator (reverse xs)) ≡ spelled_root 2 w k (map as_locator (reverse ys)) → (n ≡ k) × (xs ≡ ys)
 one_page_one_root v w n k xs ys fx fy is =
     let both = one_page_one_list v w n k (reverse xs) (reverse ys) (fits_reversed v n xs fx) (fits_reversed w k ys fy) is in
     (both.0, sym (reverse-reverse xs) ∙ ap (λ (ls : List Place). reverse ls) both.1 ∙ reverse-reverse ys)
@@ -340,7 +341,8 @@ some_entry (x ∷ xs) h = omega arith
 
 -- ---- all of it
 
-module _ (extents pages sections format : ℕ) (is : IsGeometry extents pages sections) where
+-- a shape may have any number of a format, as what is spelled is the same in each
+module _ (extents pages sections format : ℕ) (is : IsGeometry 2 extents pages sections) where
   abbrev S : Shape
   S = shape_of extents pages sections (section_size extents sections) format
 
@@ -354,7 +356,7 @@ module _ (extents pages sections format : ℕ) (is : IsGeometry extents pages se
   fits l r = in_range extents pages 4294967295 l is.most_extents is.most_pages (omega arith) r.0.0 r.0.1 r.1
 
   root_fits : (v n : ℕ) (ls : List Place) → 1 ≤ v → v ≤ 9223372036854775807 → n ≤ 9223372036854775807
-      → length ls ≤ 4 → ((l : Place) → l ∈ ls → InRange S l) → fits_root v n ls ≡ true
+      → length ls ≤ 4 → ((l : Place) → l ∈ ls → InRange S l) → fits_root format v n ls ≡ true
   root_fits v n ls some high last count each = and_from _ _
       (and_from _ _
       (and_from _ _ (and_from _ _ (le-leb _ _ some) (lt-ltb _ _ (omega (arith, high)))) (lt-ltb _ _ (omega (arith, last))))
@@ -383,10 +385,10 @@ module _ (extents pages sections format : ℕ) (is : IsGeometry extents pages se
       frame_fault-spelled kind (pages_from S F img e i (pages - i)) payload
       (stands_there S F img e i (pages - i) kind payload (omega (arith, few)) (omega (arith, inside)) stand)
 
-  pub is_format : IsFormat S F
-  is_format = record {
+  pub any_is_format : IsFormat S F
+  any_is_format = record {
     section = λ f j v p g q h same.
-        ap (λ (es : List (ℕ × ℕ)). if (f == 1) && (sections == 1) then spelled_first_format v pages es else spelled_superblock v extents pages sections j es) (one_section S.section p g q h j 0 extents same);
+        ap (λ (es : List (ℕ × ℕ)). if (f == 1) && (sections == 1) then spelled_first_format v pages es else spelled_superblock format v extents pages sections j es) (one_section S.section p g q h j 0 extents same);
     some_page = λ kind payload. omega (arith, length-spelled_frame (kind_number kind) payload);
     one_root = one_page_one_root;
     one_run = λ xs ys fx fy same. one_entries xs ys (entries_fit xs fx) (entries_fit ys fy) (ap (drop 4) same);
@@ -396,3 +398,9 @@ module _ (extents pages sections format : ℕ) (is : IsGeometry extents pages se
     no_fault = λ img e i kind payload inside stand.
         ap (option_map refusal_of) (no_fault img e i (kind_number kind) payload inside stand);
   }
+
+-- so has a store's own shape
+pub is_format : (format extents pages sections : ℕ) → IsGeometry format extents pages sections
+    → let S = shape_of extents pages sections (section_size extents sections) format in IsFormat S (formats_of S)
+is_format format extents pages sections is =
+    any_is_format extents pages sections format (subst (λ (f : ℕ). IsGeometry f extents pages sections) is.known is)

@@ -94,16 +94,16 @@ module _ (S : Shape) (small : S.pages < 2 ^ 16) (few : S.greatest_generation < 2
     one_list is = sym (extents_from-spelled S.pages small es (all_fit p g fits 0 S.extents)) ∙ ap extents_from is
         ∙ extents_from-spelled S.pages small ds (all_fit q h also 0 S.extents)
 
-    second : (v w : ℕ) → spelled_superblock v S.extents S.pages S.sections j es
-        ≡ spelled_superblock w S.extents S.pages S.sections j ds → es ≡ ds
+    second : (v w : ℕ) → spelled_superblock S.format v S.extents S.pages S.sections j es
+        ≡ spelled_superblock S.format w S.extents S.pages S.sections j ds → es ≡ ds
     second v w is =
-        let texts = one_text (superblock_fields v S.extents S.pages S.sections j es)
-        (superblock_fields w S.extents S.pages S.sections j ds)
-        (length-superblock_fields v S.extents S.pages S.sections j es ∙ ap (λ (n : ℕ). 18 + 6 * n) lengths
-        ∙ sym (length-superblock_fields w S.extents S.pages S.sections j ds)) is in
+        let texts = one_text (superblock_fields S.format v S.extents S.pages S.sections j es)
+        (superblock_fields S.format w S.extents S.pages S.sections j ds)
+        (length-superblock_fields S.format v S.extents S.pages S.sections j es ∙ ap (λ (n : ℕ). 18 + 6 * n) lengths
+        ∙ sym (length-superblock_fields S.format w S.extents S.pages S.sections j ds)) is in
         one_list (sym (behind v es) ∙ ap (drop 18) texts ∙ behind w ds)
       where
-        behind : (u : ℕ) (xs : List (ℕ × ℕ)) → drop 18 (superblock_fields u S.extents S.pages S.sections j xs) ≡ spelled_extents xs
+        behind : (u : ℕ) (xs : List (ℕ × ℕ)) → drop 18 (superblock_fields S.format u S.extents S.pages S.sections j xs) ≡ spelled_extents xs
         behind u xs = drop_at (codes "CSS2" ++ big_bytes 8 u ++ big_bytes 2 S.extents ++ big_bytes 2 S.pages ++ S.sections ∷ [] ++ j ∷ [])
             (spelled_extents xs) 18 refl
 
@@ -120,7 +120,7 @@ module _ (S : Shape) (small : S.pages < 2 ^ 16) (few : S.greatest_generation < 2
 
     -- the two formats have no page in common
     mixed : (v w : ℕ) (xs ys : List (ℕ × ℕ)) → spelled_first_format v S.pages xs
-        ≡ spelled_superblock w S.extents S.pages S.sections j ys → ⊥
+        ≡ spelled_superblock S.format w S.extents S.pages S.sections j ys → ⊥
     mixed v w xs ys is = let digit : 49 ≡ 50 = ap (λ (bytes : List ℕ). slice_index bytes 3) is in
         true≢false (ap (λ (n : ℕ). n == 49) digit)
 
@@ -129,8 +129,8 @@ module _ (S : Shape) (small : S.pages < 2 ^ 16) (few : S.greatest_generation < 2
     tells f k v w is e lt at = told S.section j p g q h 0 S.extents
         (go ((f == 1) && (S.sections == 1)) ((k == 1) && (S.sections == 1)) is) e (omega arith) (omega arith) at
       where
-        go : (a b : Bool) → (if a then spelled_first_format v S.pages es else spelled_superblock v S.extents S.pages S.sections j es)
-            ≡ (if b then spelled_first_format w S.pages ds else spelled_superblock w S.extents S.pages S.sections j ds)
+        go : (a b : Bool) → (if a then spelled_first_format v S.pages es else spelled_superblock S.format v S.extents S.pages S.sections j es)
+            ≡ (if b then spelled_first_format w S.pages ds else spelled_superblock S.format w S.extents S.pages S.sections j ds)
             → es ≡ ds
         go true true same = first v w same
         go true false same = absurd (mixed v w es ds same)

@@ -12,42 +12,44 @@ use Rattle.cs_frame.specs.Locators.{FitsLocator, locators_in, spelled_locators}
 use Rattle.cs_frame.specs.Pages.{digest_test, magic_test, padded, padding_test, sealed, version_test}
 
 -- the greatest number of runs of a root
-abbrev pub greatest_runs : ℕ
-greatest_runs = 4
+abbrev pub greatest_runs : (format : ℕ) → ℕ
+greatest_runs format = 4
 
 -- |  0 | 4     | CSR1                                         |
 -- |  4 | 8     | version                                      |
 -- | 12 | 8     | number of commands                           |
 -- | 20 | 1     | k, the number of runs                        |
 -- | 21 | 8 * k | locators of the runs, oldest first           |
-abbrev pub root_fields : (version commands : ℕ) → List Locator → List ℕ
-root_fields version commands runs =
+abbrev pub root_fields : (format version commands : ℕ) → List Locator → List ℕ
+root_fields format version commands runs =
     codes "CSR1" ++ big_bytes 8 version ++ big_bytes 8 commands ++ length runs ∷ [] ++ spelled_locators runs
 
 -- | 21 + 8 * k | 32 | digest of all bytes before |
 -- | 53 + 8 * k |    | zeros to the end           |
-abbrev pub spelled_root : (version commands : ℕ) → List Locator → List ℕ
-spelled_root version commands runs = padded (sealed (root_fields version commands runs))
+abbrev pub spelled_root : (format version commands : ℕ) → List Locator → List ℕ
+spelled_root format version commands runs = padded (sealed (root_fields format version commands runs))
 
 -- what has a spelling
-pub record FitsRoot (version commands : ℕ) (runs : List Locator) : Type 0 where
+pub record FitsRoot (format version commands : ℕ) (runs : List Locator) : Type 0 where
+  pub known : format ≡ 2
   pub first_version : 1 ≤ version
   pub last_version : version < 2 ^ 63
   pub last_command : commands < 2 ^ 63
-  pub count : length runs ≤ greatest_runs
+  pub count : length runs ≤ greatest_runs format
   pub each : AllByRecursion FitsLocator runs
 
 -- the bytes are the spelling of these
-pub record SpellsRoot (bytes : List ℕ) (version commands : ℕ) (runs : List Locator) : Type 0 where
-  pub fits : FitsRoot version commands runs
-  pub spelled : bytes ≡ spelled_root version commands runs
+pub record SpellsRoot (bytes : List ℕ) (format version commands : ℕ) (runs : List Locator) : Type 0 where
+  pub fits : FitsRoot format version commands runs
+  pub spelled : bytes ≡ spelled_root format version commands runs
 
 -- a root that can be spelled: what its type doesn't say of its numbers
 pub record IsRoot (root : Root) : Type 0 where
+  pub known : root.format ≡ 2
   pub first_version : 1 ≤ root.version
   pub last_version : root.version < 2 ^ 63
   pub last_command : root.commands < 2 ^ 63
-  pub count : length root.runs.items ≤ greatest_runs
+  pub count : length root.runs.items ≤ greatest_runs root.format
 
 -- where the digest begins
 abbrev pub root_end : List ℕ → ℕ
@@ -59,7 +61,7 @@ runs_in bytes = locators_in (field 21 (root_end bytes) bytes)
 
 -- not too many runs
 abbrev pub root_length_test : List ℕ → Option FormatFault
-root_length_test bytes = unless (nat_le (slice_index bytes 20) greatest_runs) BadLength
+root_length_test bytes = unless (nat_le (slice_index bytes 20) (greatest_runs 2)) BadLength
 
 -- version and number of commands are in range
 abbrev pub root_range_test : List ℕ → Option FormatFault

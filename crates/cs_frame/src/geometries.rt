@@ -1,10 +1,13 @@
 //! How many extents a store has, of how many pages, which of them each section of its superblock has, and where all of it lies.
 
 ghost use Rattle.std.specs.Prelude.{◌≡◌, ◌↔◌, ◌+◌, ◌-◌, ◌*◌, ◌/◌, ◌^◌, ◌<◌, ◌≤◌, ◌==◌, if◌then◌else◌, IfOk, IfErr, IsOk, IsTrue};
-ghost use Rattle.cs_frame.specs.Geometries.{Dimensions, IsGeometry, in_bounds, is_divided, section_length, section_size, section_start, sections_needed};
+ghost use Rattle.cs_frame.specs.Geometries.{Dimensions, IsGeometry, device_pages, in_bounds, is_divided, named_limit, section_length, section_size, section_start, sections_needed};
 
 use crate::faults::FormatFault;
 use std::marker::Model;
+
+/// The format in which stores are made.
+pub const FORMAT: u8 = 2;
 
 /// The least number of extents of a store.
 pub const LEAST_EXTENTS: u16 = 4;
@@ -29,7 +32,7 @@ pub const GREATEST_PAGES: u16 = 256;
 
 /// So many extents of so many pages are in bounds, where `greatest` is the greatest number of extents.
 pub(crate) fn are_in_bounds(greatest: u16, extents: u64, pages: u64) -> bool
-    ensures { result ≡ in_bounds greatest extents pages }
+    ensures { result ≡ in_bounds 2 greatest extents pages }
 {
     u64::from(LEAST_EXTENTS) <= extents
         && extents <= u64::from(greatest)
@@ -48,7 +51,7 @@ fn extents_each(extents: u16, sections: u8) -> usize
 
 /// So many sections can have so many extents.
 pub(crate) fn can_be_divided(extents: u16, sections: u8) -> bool
-    ensures { result ≡ is_divided extents sections }
+    ensures { result ≡ is_divided 2 extents sections }
 {
     if sections < 1 || sections > GREATEST_SECTIONS {
         return false;
@@ -77,7 +80,7 @@ fn sections_needed(extents: u64) -> u64
 
 /// There is a store of so many extents, pages and sections.
 fn is_geometry(extents: u64, pages: u64, sections: u64) -> bool
-    ensures { IsTrue result ↔ IsGeometry extents pages sections }
+    ensures { IsTrue result ↔ IsGeometry 2 extents pages sections }
 {
     if !are_in_bounds(GREATEST_EXTENTS, extents, pages) {
         return false;
@@ -92,6 +95,7 @@ fn is_geometry(extents: u64, pages: u64, sections: u64) -> bool
 /// extents follow, one extent after another, and behind them the superblock's other sections.
 #[derive(Clone, Copy, Debug, PartialEq, Eq)]
 pub struct Geometry {
+    format: u8,
     extents: u16,
     pages: u16,
     sections: u8,
@@ -100,17 +104,18 @@ pub struct Geometry {
 impl Model for Geometry {
     ghost Value = { Dimensions };
 
-    ghost view = { λ g. record { extents = g.extents; pages = g.pages; sections = g.sections } };
+    ghost view = { λ g. record { format = g.format; extents = g.extents; pages = g.pages; sections = g.sections } };
 
-    ghost invariant = { λ g. IsGeometry g.extents g.pages g.sections };
+    ghost invariant = { λ g. IsGeometry g.format g.extents g.pages g.sections };
 
-    ghost inverse = { λ d. record { extents = d.extents; pages = d.pages; sections = d.sections } };
+    ghost inverse = { λ d. record { format = d.format; extents = d.extents; pages = d.pages; sections = d.sections } };
 }
 
 impl Geometry {
     /// A store of `extents` extents, 4 to 2,048, of `pages` pages, 2 to 256, whose superblock has as few sections as it may.
     pub fn new(extents: u64, pages: u64) -> Result<Geometry, FormatFault>
-        ensures valid { IsOk result ↔ IsGeometry extents pages (sections_needed extents) }
+        ensures valid { IsOk result ↔ IsGeometry 2 extents pages (sections_needed extents) }
+        ensures format { IfOk result (λ geometry. geometry.format ≡ 2) }
         ensures extents { IfOk result (λ geometry. geometry.extents ≡ extents) }
         ensures pages { IfOk result (λ geometry. geometry.pages ≡ pages) }
         ensures sections { IfOk result (λ geometry. geometry.sections ≡ sections_needed extents) }
@@ -122,7 +127,8 @@ impl Geometry {
     /// A store of `extents` extents, 4 to 2,048, of `pages` pages, 2 to 256, whose superblock has `sections` sections, 1 to 8: all
     /// but the last have as many extents, at most 512, and the last has what is left, which is at least one.
     pub fn with_sections(extents: u64, pages: u64, sections: u64) -> Result<Geometry, FormatFault>
-        ensures valid { IsOk result ↔ IsGeometry extents pages sections }
+        ensures valid { IsOk result ↔ IsGeometry 2 extents pages sections }
+        ensures format { IfOk result (λ geometry. geometry.format ≡ 2) }
         ensures extents { IfOk result (λ geometry. geometry.extents ≡ extents) }
         ensures pages { IfOk result (λ geometry. geometry.pages ≡ pages) }
         ensures sections { IfOk result (λ geometry. geometry.sections ≡ sections) }
@@ -130,6 +136,7 @@ impl Geometry {
     {
         if is_geometry(extents, pages, sections) {
             Ok(Geometry {
+                format: FORMAT,
                 extents: extents as u16,
                 pages: pages as u16,
                 sections: sections as u8,
@@ -139,10 +146,18 @@ impl Geometry {
         }
     }
 
+    /// The format of the store.
+    pub fn format(self) -> u8
+        ensures format { result ≡ self.format }
+        ensures geometry { IsGeometry self.format self.extents self.pages self.sections }
+    {
+        self.format
+    }
+
     /// The number of extents.
     pub fn extents(self) -> u16
         ensures extents { result ≡ self.extents }
-        ensures geometry { IsGeometry self.extents self.pages self.sections }
+        ensures geometry { IsGeometry self.format self.extents self.pages self.sections }
     {
         self.extents
     }
@@ -150,7 +165,7 @@ impl Geometry {
     /// The pages of an extent.
     pub fn pages(self) -> u16
         ensures pages { result ≡ self.pages }
-        ensures geometry { IsGeometry self.extents self.pages self.sections }
+        ensures geometry { IsGeometry self.format self.extents self.pages self.sections }
     {
         self.pages
     }
@@ -158,14 +173,14 @@ impl Geometry {
     /// The sections of the superblock.
     pub fn sections(self) -> u8
         ensures sections { result ≡ self.sections }
-        ensures geometry { IsGeometry self.extents self.pages self.sections }
+        ensures geometry { IsGeometry self.format self.extents self.pages self.sections }
     {
         self.sections
     }
 
     /// The pages of the device.
     pub fn device_pages(self) -> u64
-        ensures { result ≡ 1 + self.extents * self.pages + self.sections }
+        ensures { result ≡ device_pages self.format self.extents self.pages self.sections }
     {
         1 + u64::from(self.extents) * u64::from(self.pages) + u64::from(self.sections)
     }
@@ -223,7 +238,7 @@ impl Geometry {
     /// How many identifiers the index can name: the entries of a run that takes one whole extent. A frame's header has 41 bytes, a
     /// run's count 4, and an entry 81.
     pub fn named_limit(self) -> usize
-        ensures { result ≡ (4096 * self.pages - 45) / 81 }
+        ensures { result ≡ named_limit self.pages }
     {
         (4096 * usize::from(self.pages) - 45) / 81
     }

@@ -24,15 +24,15 @@ ghost use Rattle.cs_frame.specs.Superblocks.{SpellsSuperblock, superblock_fault}
 pub fn superblock_has_one_spelling()
     ensures exact { (page : List ℕ) → IsPage page
         → (superblock_fault page ≡ None)
-        ↔ ((version : ℕ) × (extents : ℕ) × (pages : ℕ) × (sections : ℕ) × (section : ℕ) × (written : List (ℕ × ℕ))
-        × SpellsSuperblock page version extents pages sections section written) }
-    ensures one_page { (page other : List ℕ) (version extents pages sections section : ℕ) (written : List (ℕ × ℕ))
-        → SpellsSuperblock page version extents pages sections section written
-        → SpellsSuperblock other version extents pages sections section written → page ≡ other }
+        ↔ ((format : ℕ) × (version : ℕ) × (extents : ℕ) × (pages : ℕ) × (sections : ℕ) × (section : ℕ) × (written : List (ℕ × ℕ))
+        × SpellsSuperblock page format version extents pages sections section written) }
+    ensures one_page { (page other : List ℕ) (format version extents pages sections section : ℕ) (written : List (ℕ × ℕ))
+        → SpellsSuperblock page format version extents pages sections section written
+        → SpellsSuperblock other format version extents pages sections section written → page ≡ other }
     ensures one_section { (page : List ℕ)
-        (version w extents e pages p sections s section j : ℕ) (written es : List (ℕ × ℕ))
-        → SpellsSuperblock page version extents pages sections section written → SpellsSuperblock page w e p s j es
-        → (version ≡ w) × (extents ≡ e) × (pages ≡ p) × (sections ≡ s) × (section ≡ j) × (written ≡ es) }
+        (format f version w extents e pages p sections s section j : ℕ) (written es : List (ℕ × ℕ))
+        → SpellsSuperblock page format version extents pages sections section written → SpellsSuperblock page f w e p s j es
+        → (format ≡ f) × (version ≡ w) × (extents ≡ e) × (pages ≡ p) × (sections ≡ s) × (section ≡ j) × (written ≡ es) }
 {}
 
 /// What is read in the first format, which is no longer written: a page exactly where no test of that format fails, as one superblock
@@ -50,22 +50,22 @@ pub fn first_format_has_one_spelling()
 pub fn page_zero_has_one_spelling()
     ensures exact { (page : List ℕ) → IsPage page
         → (page_zero_fault page ≡ None)
-        ↔ ((version : ℕ) × (extents : ℕ) × (pages : ℕ) × (sections : ℕ) × (section : ℕ) × (written : List (ℕ × ℕ))
-        × SpellsPageZero page version extents pages sections section written) }
-    ensures one_format { (page : List ℕ) (version w extents e pages p sections s section j : ℕ) (written es : List (ℕ × ℕ))
-        → SpellsSuperblock page version extents pages sections section written → IsOfFirstFormat page w e p s j es → ⊥ }
+        ↔ ((format : ℕ) × (version : ℕ) × (extents : ℕ) × (pages : ℕ) × (sections : ℕ) × (section : ℕ) × (written : List (ℕ × ℕ))
+        × SpellsPageZero page format version extents pages sections section written) }
+    ensures one_format { (page : List ℕ) (format f version w extents e pages p sections s section j : ℕ) (written es : List (ℕ × ℕ))
+        → SpellsSuperblock page format version extents pages sections section written → IsOfFirstFormat page f w e p s j es → ⊥ }
 {}
 
 /// A page is a root's spelling exactly where no test fails, and of one root alone.
 pub fn root_has_one_spelling()
     ensures exact { (page : List ℕ) → IsPage page
         → (root_fault page ≡ None)
-        ↔ ((version : ℕ) × (commands : ℕ) × (runs : List Place) × SpellsRoot page version commands runs) }
-    ensures one_page { (page other : List ℕ) (version commands : ℕ) (runs : List Place)
-        → SpellsRoot page version commands runs → SpellsRoot other version commands runs → page ≡ other }
-    ensures one_root { (page : List ℕ) (version w commands n : ℕ) (runs ls : List Place)
-        → SpellsRoot page version commands runs → SpellsRoot page w n ls
-        → (version ≡ w) × (commands ≡ n) × (runs ≡ ls) }
+        ↔ ((format : ℕ) × (version : ℕ) × (commands : ℕ) × (runs : List Place) × SpellsRoot page format version commands runs) }
+    ensures one_page { (page other : List ℕ) (format version commands : ℕ) (runs : List Place)
+        → SpellsRoot page format version commands runs → SpellsRoot other format version commands runs → page ≡ other }
+    ensures one_root { (page : List ℕ) (format f version w commands n : ℕ) (runs ls : List Place)
+        → SpellsRoot page format version commands runs → SpellsRoot page f w n ls
+        → (format ≡ f) × (version ≡ w) × (commands ≡ n) × (runs ≡ ls) }
 {}
 
 /// A payload is a run's spelling exactly where no test fails, and of one run alone.
@@ -105,7 +105,7 @@ pub fn frame_is_read_by_its_header()
 
 /// These formats keep what the machine's model asks of the spelling of its pages.
 pub fn these_formats_are_formats()
-    ensures formats { (extents pages sections format : ℕ) → IsGeometry extents pages sections
+    ensures formats { (extents pages sections format : ℕ) → IsGeometry 2 extents pages sections
         → let S = shape_of extents pages sections (section_size extents sections) format in IsFormat S (formats_of S) }
     // The model doesn't bound the number of an identifier. One that 16 bytes can spell has these bytes, and any
     // 16 bytes are those of their number.
@@ -116,7 +116,7 @@ pub fn these_formats_are_formats()
 
 /// The page of a section tells the pointers of its extents, in whatever format and version.
 pub fn sections_tell_pointers()
-    ensures { (extents pages sections format : ℕ) → IsGeometry extents pages sections
+    ensures { (extents pages sections format : ℕ) → IsGeometry format extents pages sections
         → let S = shape_of extents pages sections (section_size extents sections) format in
         (f k j v w : ℕ) (p g q h : ℕ → ℕ) → ((e : ℕ) → FitsExtent S (p e) (g e)) → ((e : ℕ) → FitsExtent S (q e) (h e))
         → (formats_of S).superblock f j v p g ≡ (formats_of S).superblock k j w q h → (e : ℕ) → e < S.extents
@@ -125,25 +125,25 @@ pub fn sections_tell_pointers()
 
 /// Each run that the model may stage, and each chunk, fits on an extent.
 pub fn frames_fit_on_an_extent()
-    ensures runs { (extents pages sections format : ℕ) (entries : List NamedEntry) → IsGeometry extents pages sections
+    ensures runs { (extents pages sections format : ℕ) (entries : List NamedEntry) → IsGeometry format extents pages sections
         → let S = shape_of extents pages sections (section_size extents sections) format in
         IsRunList S entries → length ((formats_of S).frame RunFrame ((formats_of S).run entries)) ≤ S.pages }
-    ensures chunks { (extents pages sections format : ℕ) (chunk : List ℕ) → IsGeometry extents pages sections
+    ensures chunks { (extents pages sections format : ℕ) (chunk : List ℕ) → IsGeometry format extents pages sections
         → let S = shape_of extents pages sections (section_size extents sections) format in
         length chunk ≤ S.chunk_bytes → length ((formats_of S).frame ChunkFrame chunk) ≤ S.pages }
 {}
 
 /// Each extent belongs to one section, and all sections together have all extents.
 pub fn sections_have_all_extents()
-    ensures holds { (extents pages sections e j : ℕ) → IsGeometry extents pages sections → e < extents
+    ensures holds { (format extents pages sections e j : ℕ) → IsGeometry format extents pages sections → e < extents
         → (e / section_size extents sections ≡ j)
         ↔ ((section_start extents sections j ≤ e)
         × (e < section_start extents sections j + section_length extents sections j)) }
-    ensures inside { (extents pages sections e : ℕ) → IsGeometry extents pages sections → e < extents
+    ensures inside { (format extents pages sections e : ℕ) → IsGeometry format extents pages sections → e < extents
         → e / section_size extents sections < sections }
-    ensures lengths { (extents pages sections : ℕ) → IsGeometry extents pages sections
+    ensures lengths { (format extents pages sections : ℕ) → IsGeometry format extents pages sections
         → lengths_below extents sections sections ≡ extents }
     // The same in the words of the machine's model.
-    ensures model { (extents pages sections : ℕ) → IsGeometry extents pages sections
+    ensures model { (format extents pages sections : ℕ) → IsGeometry format extents pages sections
         → IsModelGeometry extents pages sections (section_size extents sections) }
 {}

@@ -22,7 +22,7 @@ pub use frames::{
     FrameHeader, FrameKind, decode_frame, decode_frame_header, encode_frame, frame_pages,
 };
 pub use geometries::{
-    GREATEST_EXTENTS, GREATEST_PAGES, GREATEST_SECTION_EXTENTS, GREATEST_SECTIONS,
+    FORMAT, GREATEST_EXTENTS, GREATEST_PAGES, GREATEST_SECTION_EXTENTS, GREATEST_SECTIONS,
     GREATEST_SUPERBLOCK_EXTENTS, Geometry, LEAST_EXTENTS, LEAST_PAGES,
 };
 pub use identifiers::ShardId;
@@ -35,5 +35,5 @@ pub use laws::{
 pub use locators::Locator;
 pub use page_zero::decode_superblock;
 pub use roots::{GREATEST_RUNS, Root, decode_root, encode_root};
-pub use runs::{GREATEST_CHUNKS, Run, decode_run, encode_run};
+pub use runs::{GREATEST_CHUNKS, Run, decode_run, encode_run, run_bytes};
 pub use superblocks::{Superblock, decode_section, encode_section, encode_superblock};

@@ -8,7 +8,7 @@ ghost use Rattle.cs_frame.specs.FirstFormat.{IsOfFirstFormat, SpellsFirstFormat,
 ghost use Rattle.cs_frame.specs.Superblocks.{SpellsSuperblock};
 
 use crate::faults::FormatFault;
-use crate::geometries::{GREATEST_SUPERBLOCK_EXTENTS, are_in_bounds};
+use crate::geometries::{FORMAT, GREATEST_SUPERBLOCK_EXTENTS, are_in_bounds};
 use crate::pages::{check_digest, check_magic, check_padding, check_version};
 use crate::pointers::{check_pointers_in, check_range, extents_of};
 use crate::superblocks::{Superblock, decode_section};
@@ -68,6 +68,7 @@ fn check_first_format(page: &[u8; 4096]) -> Result<(), FormatFault>
 /// The superblock that a page without a fault spells, as the one section that it is.
 fn first_format_from(alloc: Global, page: &[u8; 4096]) -> Result<Superblock, AllocError>
     requires { first_format_end page.now ≤ 3088 }
+    ensures format { IfOk result (λ it. it.format ≡ 2) }
     ensures version { IfOk result (λ it. it.version ≡ number 4 12 page.now) }
     ensures extent_count { IfOk result (λ it. it.extent_count ≡ number 12 14 page.now) }
     ensures pages { IfOk result (λ it. it.pages ≡ number 14 16 page.now) }
@@ -77,6 +78,7 @@ fn first_format_from(alloc: Global, page: &[u8; 4096]) -> Result<Superblock, All
 {
     let extents = extents_of(alloc, &page[16..end_of(page)])?;
     Ok(Superblock {
+        format: FORMAT,
         version: BigEndian::read_u64(&page[4..12]),
         extent_count: BigEndian::read_u16(&page[12..14]),
         pages: BigEndian::read_u16(&page[14..16]),
@@ -89,10 +91,10 @@ fn first_format_from(alloc: Global, page: &[u8; 4096]) -> Result<Superblock, All
 /// The superblock that a page of the first format spells. The first test that fails is answered.
 fn decode_first_format(alloc: Global, page: &[u8; 4096]) -> Result<Superblock, FormatFault>
     ensures spelled { IfOk result (λ it.
-        IsOfFirstFormat page.now it.version it.extent_count it.pages it.sections it.section it.extents.items) }
+        IsOfFirstFormat page.now it.format it.version it.extent_count it.pages it.sections it.section it.extents.items) }
     ensures read { (version pages : ℕ) (extents : List (ℕ × ℕ)) → SpellsFirstFormat page.now version pages extents
-        → OkUnlessMemory result (λ it. (it.version ≡ version) × (it.extent_count ≡ length extents) × (it.pages ≡ pages)
-        × (it.sections ≡ 1) × (it.section ≡ 0) × (it.extents.items ≡ extents)) }
+        → OkUnlessMemory result (λ it. (it.format ≡ 2) × (it.version ≡ version) × (it.extent_count ≡ length extents)
+        × (it.pages ≡ pages) × (it.sections ≡ 1) × (it.section ≡ 0) × (it.extents.items ≡ extents)) }
     ensures fault { HasFault result (first_format_fault page.now) }
     ensures memory { result ≡ Err FormatFault.OutOfMemory → first_format_fault page.now ≡ None }
 {
@@ -107,16 +109,16 @@ fn decode_first_format(alloc: Global, page: &[u8; 4096]) -> Result<Superblock, F
 pub fn decode_superblock(alloc: Global, page: &[u8; 4096]) -> Result<Superblock, FormatFault>
     // What is read is spelled by the page, in one of the two formats.
     ensures spelled { IfOk result (λ it.
-        SpellsPageZero page.now it.version it.extent_count it.pages it.sections it.section it.extents.items) }
+        SpellsPageZero page.now it.format it.version it.extent_count it.pages it.sections it.section it.extents.items) }
     // What the page spells is read, unless memory runs out.
-    ensures read { (version extents pages sections section : ℕ) (written : List (ℕ × ℕ))
-        → SpellsSuperblock page.now version extents pages sections section written
-        → OkUnlessMemory result (λ it. (it.version ≡ version) × (it.extent_count ≡ extents) × (it.pages ≡ pages)
-        × (it.sections ≡ sections) × (it.section ≡ section) × (it.extents.items ≡ written)) }
+    ensures read { (format version extents pages sections section : ℕ) (written : List (ℕ × ℕ))
+        → SpellsSuperblock page.now format version extents pages sections section written
+        → OkUnlessMemory result (λ it. (it.format ≡ format) × (it.version ≡ version) × (it.extent_count ≡ extents)
+        × (it.pages ≡ pages) × (it.sections ≡ sections) × (it.section ≡ section) × (it.extents.items ≡ written)) }
     // So is what it spells in the first format.
     ensures read_first { (version pages : ℕ) (extents : List (ℕ × ℕ)) → SpellsFirstFormat page.now version pages extents
-        → OkUnlessMemory result (λ it. (it.version ≡ version) × (it.extent_count ≡ length extents) × (it.pages ≡ pages)
-        × (it.sections ≡ 1) × (it.section ≡ 0) × (it.extents.items ≡ extents)) }
+        → OkUnlessMemory result (λ it. (it.format ≡ 2) × (it.version ≡ version) × (it.extent_count ≡ length extents)
+        × (it.pages ≡ pages) × (it.sections ≡ 1) × (it.section ≡ 0) × (it.extents.items ≡ extents)) }
     // Each other fault is that of the first test that fails.
     ensures fault { HasFault result (page_zero_fault page.now) }
     ensures memory { result ≡ Err FormatFault.OutOfMemory → page_zero_fault page.now ≡ None }

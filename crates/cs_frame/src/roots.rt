@@ -7,6 +7,7 @@ ghost use Rattle.cs_frame.specs.Roots.{IsRoot, SpellsRoot, greatest_runs, root_f
 ghost use Rattle.cs_frame.specs.Bytes.{IsPage, number};
 
 use crate::faults::FormatFault;
+use crate::geometries::FORMAT;
 use crate::locators::{Locator, append_locators, locators_from};
 use crate::pages::{PageBuffer, check_digest, check_magic, check_padding, check_version};
 use byteorder::{BigEndian, ByteOrder};
@@ -18,6 +19,8 @@ pub const GREATEST_RUNS: usize = 4;
 /// What page 1 spells: the index as of one version.
 #[derive(Debug, Drop)]
 pub struct Root {
+    /// The format of the store, 2.
+    pub format: u8,
     /// From 1 to 2^63 - 1.
     pub version: u64,
     /// How many puts and deletes are included, up to 2^63 - 1.
@@ -29,7 +32,7 @@ pub struct Root {
 /// The page that spells a root.
 pub fn encode_root(root: &Root) -> [u8; 4096]
     requires { IsRoot root.now }
-    ensures { SpellsRoot result root.now.version root.now.commands root.now.runs.items }
+    ensures { SpellsRoot result root.now.format root.now.version root.now.commands root.now.runs.items }
 {
     let mut page = PageBuffer::new();
     page.append(b"CSR1");
@@ -73,7 +76,8 @@ fn check_root(page: &[u8; 4096]) -> Result<(), FormatFault>
 
 /// The root that a page without a fault spells.
 fn root_from(alloc: Global, page: &[u8; 4096]) -> Result<Root, AllocError>
-    requires { slice_index page.now 20 ≤ greatest_runs }
+    requires { slice_index page.now 20 ≤ greatest_runs 2 }
+    ensures format { IfOk result (λ root. root.format ≡ 2) }
     ensures version { IfOk result (λ root. root.version ≡ number 4 12 page.now) }
     ensures commands { IfOk result (λ root. root.commands ≡ number 12 20 page.now) }
     ensures runs { IfOk result (λ root. root.runs.items ≡ runs_in page.now) }
@@ -81,6 +85,7 @@ fn root_from(alloc: Global, page: &[u8; 4096]) -> Result<Root, AllocError>
     let end = 21 + 8 * usize::from(page[20]);
     let runs = locators_from(alloc, &page[21..end])?;
     Ok(Root {
+        format: FORMAT,
         version: BigEndian::read_u64(&page[4..12]),
         commands: BigEndian::read_u64(&page[12..20]),
         runs,
@@ -91,11 +96,11 @@ fn root_from(alloc: Global, page: &[u8; 4096]) -> Result<Root, AllocError>
 /// for the ranges of version and number, and 23 BadPadding; 9 OutOfMemory only for a page that spells a root.
 pub fn decode_root(alloc: Global, page: &[u8; 4096]) -> Result<Root, FormatFault>
     // What is read is spelled by the page.
-    ensures spelled { IfOk result (λ root. SpellsRoot page.now root.version root.commands root.runs.items) }
+    ensures spelled { IfOk result (λ root. SpellsRoot page.now root.format root.version root.commands root.runs.items) }
     // What the page spells is read, unless memory runs out.
-    ensures read { (version commands : ℕ) (runs : List Place) → SpellsRoot page.now version commands runs
+    ensures read { (format version commands : ℕ) (runs : List Place) → SpellsRoot page.now format version commands runs
         → OkUnlessMemory result (λ root.
-        (root.version ≡ version) × (root.commands ≡ commands) × (root.runs.items ≡ runs)) }
+        (root.format ≡ format) × (root.version ≡ version) × (root.commands ≡ commands) × (root.runs.items ≡ runs)) }
     // Each other fault is that of the first test that fails.
     ensures fault { HasFault result (root_fault page.now) }
     ensures memory { result ≡ Err FormatFault.OutOfMemory → root_fault page.now ≡ None }

@@ -11,7 +11,7 @@ ghost use Rattle.cs_frame.specs.Pointers.{FitsGeneration};
 
 use crate::faults::FormatFault;
 use crate::geometries::{
-    GREATEST_EXTENTS, Geometry, are_in_bounds, can_be_divided, extents_in_section,
+    FORMAT, GREATEST_EXTENTS, Geometry, are_in_bounds, can_be_divided, extents_in_section,
 };
 use crate::pages::{PageBuffer, check_digest, check_digit, check_magic, check_padding};
 use crate::pointers::{append_extents, check_pointers_in, check_range, extents_of};
@@ -21,6 +21,8 @@ use std::alloc::{AllocError, Global};
 /// One section of a superblock as of one version.
 #[derive(Debug, Drop)]
 pub struct Superblock {
+    /// The format of the store, 2.
+    pub format: u8,
     /// From 1 to 2^63 - 1.
     pub version: u64,
     /// The extents of the store, all sections together, from 4 to 2,048.
@@ -47,7 +49,7 @@ fn unsealed(
     extents: &[(u16, u32)],
 ) -> PageBuffer
     requires { 6 * length extents.now ≤ 4046 }
-    ensures text { text_of result ≡ superblock_fields version extent_count pages sections section extents.now }
+    ensures text { text_of result ≡ superblock_fields 2 version extent_count pages sections section extents.now }
     ensures generations { AllByRecursion FitsGeneration extents.now }
 {
     let mut page = PageBuffer::new();
@@ -70,8 +72,8 @@ fn spelled_page(
     section: u8,
     extents: &[(u16, u32)],
 ) -> [u8; 4096]
-    requires { IsSection version extent_count pages sections section extents.now }
-    ensures { SpellsSuperblock result version extent_count pages sections section extents.now }
+    requires { IsSection 2 version extent_count pages sections section extents.now }
+    ensures { SpellsSuperblock result 2 version extent_count pages sections section extents.now }
 {
     let mut page = unsealed(version, extent_count, pages, sections, section, extents);
     page.seal();
@@ -82,7 +84,7 @@ fn spelled_page(
 pub fn encode_superblock(superblock: &Superblock) -> [u8; 4096]
     requires { IsSuperblock superblock.now }
     ensures { let it = superblock.now in
-        SpellsSuperblock result it.version it.extent_count it.pages it.sections it.section it.extents.items }
+        SpellsSuperblock result it.format it.version it.extent_count it.pages it.sections it.section it.extents.items }
 {
     spelled_page(
         superblock.version,
@@ -105,7 +107,7 @@ pub fn encode_section(
     requires section { section < geometry.sections }
     requires count { length extents.now ≡ section_length geometry.extents geometry.sections section }
     requires pointers { AllByRecursion (λ extent. extent.0 ≤ geometry.pages) extents.now }
-    ensures { SpellsSuperblock result version geometry.extents geometry.pages geometry.sections section extents.now }
+    ensures { SpellsSuperblock result geometry.format version geometry.extents geometry.pages geometry.sections section extents.now }
 {
     spelled_page(
         version,
@@ -174,6 +176,7 @@ fn check_page(page: &[u8; 4096]) -> Result<(), FormatFault>
 fn section_from(alloc: Global, page: &[u8; 4096]) -> Result<Superblock, AllocError>
     requires sections { 1 ≤ slice_index page.now 16 }
     requires end { superblock_end page.now + 32 ≤ 4096 }
+    ensures format { IfOk result (λ it. it.format ≡ 2) }
     ensures version { IfOk result (λ it. it.version ≡ number 4 12 page.now) }
     ensures extent_count { IfOk result (λ it. it.extent_count ≡ number 12 14 page.now) }
     ensures pages { IfOk result (λ it. it.pages ≡ number 14 16 page.now) }
@@ -183,6 +186,7 @@ fn section_from(alloc: Global, page: &[u8; 4096]) -> Result<Superblock, AllocErr
 {
     let extents = extents_of(alloc, &page[18..end_of(page)])?;
     Ok(Superblock {
+        format: FORMAT,
         version: BigEndian::read_u64(&page[4..12]),
         extent_count: BigEndian::read_u16(&page[12..14]),
         pages: BigEndian::read_u16(&page[14..16]),
@@ -198,12 +202,12 @@ fn section_from(alloc: Global, page: &[u8; 4096]) -> Result<Superblock, AllocErr
 pub fn decode_section(alloc: Global, page: &[u8; 4096]) -> Result<Superblock, FormatFault>
     // What is read is spelled by the page.
     ensures spelled { IfOk result (λ it.
-        SpellsSuperblock page.now it.version it.extent_count it.pages it.sections it.section it.extents.items) }
+        SpellsSuperblock page.now it.format it.version it.extent_count it.pages it.sections it.section it.extents.items) }
     // What the page spells is read, unless memory runs out.
-    ensures read { (version extents pages sections section : ℕ) (written : List (ℕ × ℕ))
-        → SpellsSuperblock page.now version extents pages sections section written
-        → OkUnlessMemory result (λ it. (it.version ≡ version) × (it.extent_count ≡ extents) × (it.pages ≡ pages)
-        × (it.sections ≡ sections) × (it.section ≡ section) × (it.extents.items ≡ written)) }
+    ensures read { (format version extents pages sections section : ℕ) (written : List (ℕ × ℕ))
+        → SpellsSuperblock page.now format version extents pages sections section written
+        → OkUnlessMemory result (λ it. (it.format ≡ format) × (it.version ≡ version) × (it.extent_count ≡ extents)
+        × (it.pages ≡ pages) × (it.sections ≡ sections) × (it.section ≡ section) × (it.extents.items ≡ written)) }
     // Each other fault is that of the first test that fails.
     ensures fault { HasFault result (superblock_fault page.now) }
     ensures memory { result ≡ Err FormatFault.OutOfMemory → superblock_fault page.now ≡ None }

@@ -80,7 +80,7 @@ module _ (s : State) (x : ExtentsState) (g : GraphState) (reason : Reason) (v co
     limit = refl;
   })
 
-  pub merge_empty : E ≡ [] → IsRootOver g h v commands [] → t ≡ record { table = []; runs = []; limit = s.limit; room = 0 } → IsMergeStaged s x g reason v commands t x h
+  pub merge_empty : E ≡ [] → IsRootOver x.format g h v commands [] → t ≡ record { table = []; runs = []; limit = s.limit; room = 0 } → IsMergeStaged s x g reason v commands t x h
   merge_empty none root is = subst (λ (u : State). IsMergeStaged s x g reason v commands u x h) (sym is) (record {
     between = g;
     appended = inr ((λ id. sym (merged_live (index_of s) E run id) ∙ ap (λ es. live_at es id) none), refl, refl, refl);

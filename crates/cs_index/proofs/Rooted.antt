@@ -71,17 +71,17 @@ newer_place older place =
 -- a frame was appended and a root staged over the places of runs: a run was staged over them
 pub run_staged : (x : ExtentsState) (g k : GraphState) (reason : Reason) (entries : List Entry) (older : List StoredRun) (place : Locator) (v commands : ℕ) (y : ExtentsState) (h : GraphState)
     (frame : List (List ℕ)) (oldest : List Locator) → k ≡ record g { room = k.room } → frame ≡ run_frame x entries → oldest ≡ map (λ run. run.place) older
-    → (between : GraphState) × IsAppended x k reason frame place y between × IsRootOver between h v commands (oldest ++ place ∷ [])
+    → (between : GraphState) × IsAppended x k reason frame place y between × IsRootOver x.format between h v commands (oldest ++ place ∷ [])
     → IsRunStaged x g reason entries (newest_first older) (place_of place) v commands y h
 run_staged x g k reason entries older place v commands y h frame oldest same is are done = (
   done.0,
   subst (λ (f : List (List ℕ)). IsAppended x g reason f place y done.0) is (whatever_room x g k reason frame place y done.0 same done.1),
-  subst (λ (ls : List Locator). IsRootOver done.0 h v commands ls) (ap (λ (ls : List Locator). ls ++ place ∷ []) are ∙ sym (newer_place older (place_of place))) done.2,
+  subst (λ (ls : List Locator). IsRootOver x.format done.0 h v commands ls) (ap (λ (ls : List Locator). ls ++ place ∷ []) are ∙ sym (newer_place older (place_of place))) done.2,
 )
 
 -- a root over a graph that differs in room alone
-root_room : (g h : GraphState) (room v commands : ℕ) (ls : List Locator) → IsRootOver (record g { room = room }) h v commands ls → IsRootOver g h v commands ls
-root_room g h room v commands ls root = record {
+root_room : (format : ℕ) (g h : GraphState) (room v commands : ℕ) (ls : List Locator) → IsRootOver format (record g { room = room }) h v commands ls → IsRootOver format g h v commands ls
+root_room format g h room v commands ls root = record {
   needs = root.needs;
   names = root.names;
   version = root.version;
@@ -90,5 +90,5 @@ root_room g h room v commands ls root = record {
   round = root.round;
 }
 
-pub root_over : (g k h : GraphState) (v commands : ℕ) (ls : List Locator) → k ≡ record g { room = k.room } → IsRootOver k h v commands ls → IsRootOver g h v commands ls
-root_over g k h v commands ls same root = root_room g h k.room v commands ls (subst (λ (s : GraphState). IsRootOver s h v commands ls) same root)
+pub root_over : (format : ℕ) (g k h : GraphState) (v commands : ℕ) (ls : List Locator) → k ≡ record g { room = k.room } → IsRootOver format k h v commands ls → IsRootOver format g h v commands ls
+root_over format g k h v commands ls same root = root_room format g h k.room v commands ls (subst (λ (s : GraphState). IsRootOver format s h v commands ls) same root)

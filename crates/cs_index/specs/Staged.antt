@@ -28,24 +28,24 @@ run_frame x entries = (formats_of (shape x)).frame RunFrame ((formats_of (shape 
 abbrev pub IsRunAppended : ExtentsState → GraphState → Reason → List Entry → Place → ExtentsState → GraphState → Type 0
 IsRunAppended x g reason entries place y h = IsAppended x g reason (run_frame x entries) (as_locator place) y h
 
--- The next version of the root was staged to page 1: its page spells so many commands and the runs at these places,
--- oldest first. It needs all versions of each section so far, and nothing else of its own.
-pub record IsRootOver (g h : GraphState) (v commands : ℕ) (oldest_first : List Locator) : Type 0 where
+-- The next version of the root was staged to page 1: its page spells, in this format, so many commands and the runs at
+-- these places, oldest first. It needs all versions of each section so far, and nothing else of its own.
+pub record IsRootOver (format : ℕ) (g h : GraphState) (v commands : ℕ) (oldest_first : List Locator) : Type 0 where
   pub needs : Named
   pub names : (x : Element) → Names needs x ↔ IsSectionVersionUpTo g.staging.latest x
   pub version : IsVersionStaged g.staging root_family v needs h.staging
-  pub page : (page : List ℕ) × (write_of h (Version root_family v) ≡ Some (1, page)) × SpellsRoot page v commands oldest_first
+  pub page : (page : List ℕ) × (write_of h (Version root_family v) ≡ Some (1, page)) × SpellsRoot page format v commands oldest_first
   pub others : AddsOnly g h (Version root_family v)
   pub round : h.round ≡ g.round
 
 -- the root over these runs was staged
-abbrev pub IsRootStaged : GraphState → GraphState → (v commands : ℕ) → List Run → Type 0
-IsRootStaged g h v commands runs = IsRootOver g h v commands (map as_locator (reverse (places runs)))
+abbrev pub IsRootStaged : (format : ℕ) → GraphState → GraphState → (v commands : ℕ) → List Run → Type 0
+IsRootStaged format g h v commands runs = IsRootOver format g h v commands (map as_locator (reverse (places runs)))
 
 -- the frame of a run was appended, and the root over it and over the older runs was staged
 abbrev pub IsRunStaged : ExtentsState → GraphState → Reason → List Entry → (older : List Run) → Place → (v commands : ℕ) → ExtentsState → GraphState → Type 0
 IsRunStaged x g reason entries older place v commands y h = (between : GraphState)
-    × IsRunAppended x g reason entries place y between × IsRootStaged between h v commands (record { place = place; entries = entries } ∷ older)
+    × IsRunAppended x g reason entries place y between × IsRootStaged x.format between h v commands (record { place = place; entries = entries } ∷ older)
 
 -- The table became a run over those before, and the root over all of them was staged.
 pub record IsTableStaged (s : State) (x : ExtentsState) (g : GraphState) (v commands : ℕ) (t : State) (y : ExtentsState) (h : GraphState) : Type 0 where
@@ -68,7 +68,7 @@ IsMergeAppended index x g reason runs y h =
 pub record IsMergeStaged (s : State) (x : ExtentsState) (g : GraphState) (reason : Reason) (v commands : ℕ) (t : State) (y : ExtentsState) (h : GraphState) : Type 0 where
   pub between : GraphState
   pub appended : IsMergeAppended (index_of s) x g reason t.runs y between
-  pub root : IsRootStaged between h v commands t.runs
+  pub root : IsRootStaged x.format between h v commands t.runs
   pub table : t.table ≡ []
   pub limit : t.limit ≡ s.limit
 

@@ -423,10 +423,10 @@ impl Index {
         ensures unstaged { OnErr result (graph.new ≡ record graph.old { room = graph.new.room }) }
     {
         let alloc = *self.table.entries.allocator();
-        let _extents = extents.extent_count();
+        let format = extents.geometry().format();
         let run = merged(alloc, self)?;
         if run.entries.is_empty() {
-            match stage_empty(alloc, graph, commands) {
+            match stage_empty(alloc, graph, format, commands) {
                 Ok(version) => {
                     self.become_runs(alloc, Vec::new(alloc), 0);
                     Ok(version)

@@ -19,7 +19,8 @@ fn number_given(options: &ArgMatches, name: &str) -> Option<u64>
 /// The geometry that the options ask for: 6 extents of 2 pages where they aren't given, and as few sections as the extents need. Refused
 /// 7 BadGeometry alone, where there is none.
 pub fn geometry_of(options: &ArgMatches) -> Result<Geometry, Refusal>
-    ensures valid { IsOk result ↔ IsGeometry (extents_asked options.now) (pages_asked options.now) (sections_asked options.now) }
+    ensures valid { IsOk result ↔ IsGeometry 2 (extents_asked options.now) (pages_asked options.now) (sections_asked options.now) }
+    ensures format { IfOk result (λ geometry. geometry.format ≡ 2) }
     ensures extents { IfOk result (λ geometry. geometry.extents ≡ extents_asked options.now) }
     ensures pages { IfOk result (λ geometry. geometry.pages ≡ pages_asked options.now) }
     ensures sections { IfOk result (λ geometry. geometry.sections ≡ sections_asked options.now) }

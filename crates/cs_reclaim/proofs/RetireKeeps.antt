@@ -35,7 +35,7 @@ use Rattle.cs_reclaim.specs.Retired.{IsRetired}
 
 -- ---- a root that is staged changes no page of an extent
 
-module _ (b h : Graph) (v commands : ℕ) (runs : List Locator) (over : IsRootOver b h v commands runs) (has : HasWrites h) where
+module _ (format : ℕ) (b h : Graph) (v commands : ℕ) (runs : List Locator) (over : IsRootOver format b h v commands runs) (has : HasWrites h) where
   abbrev waited : List (Element × Named)
   waited = b.staging.pending.waiting
 
@@ -104,10 +104,10 @@ module _ (s t : IndexState) (x y : ExtentsState) (g h : Graph) (e v commands : �
   over = map as_locator (reverse (places t.runs))
 
   has : HasWrites between
-  has = has_before between h v commands over retired.1.root (has_writes h kept)
+  has = has_before x.format between h v commands over retired.1.root (has_writes h kept)
 
   are : AreNewest between image now
-  are = under_root between h v commands over retired.1.root (has_writes h kept) image now after
+  are = under_root x.format between h v commands over retired.1.root (has_writes h kept) image now after
 
   abbrev Was : Locator → List ℕ → Type 0
   Was l c = IsFrameAt (shape x) view ChunkFrame l c × IsBelow (extents_of x) l (chunk_frame x c)

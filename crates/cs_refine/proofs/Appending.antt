@@ -41,7 +41,7 @@ some_more n some not = elim (cases_eq n 1) [
   | inr other ↦ omega arith
 ]
 
-module _ (x : State) (g : GraphState) (w : World) (geometry : IsGeometry (length x.written) x.pages x.sections) (is : IsWorldOf x g w) where
+module _ (x : State) (g : GraphState) (w : World) (geometry : IsGeometry x.format (length x.written) x.pages x.sections) (is : IsWorldOf x g w) where
   store : IsShape (shape x)
   store = shape_of_store x geometry
 

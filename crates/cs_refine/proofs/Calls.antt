@@ -74,7 +74,7 @@ run_append x y g h w reason entries place whole is a =
     after_append x g w whole.geometry is reason (run_frame x entries) (as_locator place) y h a
 
 -- the root over these runs is the machine's next, whatever it remembers
-module _ (x : ExtentsState) (g h : GraphState) (w : World) (v commands : ℕ) (runs : List Run) (some : 0 < (shape x).sections) (is : IsWorldOf x g w) (root : IsRootStaged g h v commands runs) where
+module _ (x : ExtentsState) (g h : GraphState) (w : World) (v commands : ℕ) (runs : List Run) (some : 0 < (shape x).sections) (is : IsWorldOf x g w) (root : IsRootStaged x.format g h v commands runs) where
   pub root_version : v ≡ suc w.root
   root_version = next_version (shape x) some (need_of x) w g.staging is.staging refl v root.needs h.staging root.version root.names
 
@@ -82,8 +82,13 @@ module _ (x : ExtentsState) (g h : GraphState) (w : World) (v commands : ℕ) (r
   root_staged m pointers =
       let oldest : List Locator = map as_locator (reverse (places runs)) in
       let kept : write_of h (Version root_family v) ≡ Some (page_write (shape x) (formats_of (shape x)) (A_root (root_now (shape x) w commands runs m pointers))) =
-      root.page.1 ∙ ap (λ (b : List ℕ). Some (1, b)) (root.page.2.spelled ∙ ap (λ (k : ℕ). spelled_root k commands oldest) root_version) in
+      root.page.1 ∙ ap (λ (b : List ℕ). Some (1, b)) (root.page.2.spelled ∙ ap (λ (k : ℕ). spelled_root x.format k commands oldest) root_version) in
       after_root x g h w some is v root.needs root.version root.names commands runs m pointers kept root.others
+
+-- extents of the same shape have the same format
+of_same_shape : (x y : ExtentsState) (g h : GraphState) (v commands : ℕ) (runs : List Run) → shape y ≡ shape x
+    → IsRootStaged x.format g h v commands runs → IsRootStaged y.format g h v commands runs
+of_same_shape x y g h v commands runs same = subst (λ (S : Shape). IsRootStaged S.format g h v commands runs) (sym same)
 
 -- ---- stages
 
@@ -106,8 +111,8 @@ module _ (x : ExtentsState) (g : GraphState) (i : IndexState) (s : State) (whole
       let appended = run_append x y g done.staged.0 s.world ForRun done.entries done.place whole are.world done.staged.1 in
       let runs : List Run = record { place = done.place; entries = done.entries } ∷ s.runs in
       let mid : State = record s { world = appended.0 } in
-      let root : IsRootStaged done.staged.0 h v commands runs =
-      subst (λ (rs : List Run). IsRootStaged done.staged.0 h v commands (record { place = done.place; entries = done.entries } ∷ rs)) are.index.same_runs done.staged.2 in
+      let root : IsRootStaged y.format done.staged.0 h v commands runs = of_same_shape x y done.staged.0 h v commands runs done.staged.1.same_shape
+      (subst (λ (rs : List Run). IsRootStaged x.format done.staged.0 h v commands (record { place = done.place; entries = done.entries } ∷ rs)) are.index.same_runs done.staged.2) in
       let some_here : 0 < (shape y).sections = some_there y done.staged.1.same_shape in
       let world = root_staged y done.staged.0 h appended.0 v commands runs some_here appended.2 root (map_now s) appended.0.extents.pointer in (
         rooted (shape x) (formats_of (shape x)) mid runs appended.0.extents.pointer,
@@ -161,16 +166,17 @@ module _ (x : ExtentsState) (g : GraphState) (i : IndexState) (s : State) (whole
       → (t : State) × Does (shape x) (formats_of (shape x)) s Stage (Staged v) t × ArePartsOf y h j t
   merge_staged y h j v some many done =
       let merged = merges ForRun j.runs y done.between done.appended in
+      let root : IsRootStaged y.format done.between h v commands j.runs = of_same_shape x y done.between h v commands j.runs merged.4 done.root in
       let some_here : 0 < (shape y).sections = some_there y merged.4 in
       let mid : State = record s { world = merged.0 } in (
         rooted (shape x) (formats_of (shape x)) mid j.runs merged.0.extents.pointer,
         does_as_before v (rooted (shape x) (formats_of (shape x)) mid j.runs merged.0.extents.pointer) (
           some_table i s.table s.runs are.index some,
-          root_version y done.between h merged.0 v commands j.runs some_here merged.2 done.root ∙ ap suc merged.3,
+          root_version y done.between h merged.0 v commands j.runs some_here merged.2 root ∙ ap suc merged.3,
           inr (subst (λ (n : ℕ). 4 ≤ n) (as_many_runs i s.table s.runs are.index) many, mid, j.runs, (merged.0, merged.1, refl), refl),
         ),
         record {
-          world = root_staged y done.between h merged.0 v commands j.runs some_here merged.2 done.root (map_now s) merged.0.extents.pointer;
+          world = root_staged y done.between h merged.0 v commands j.runs some_here merged.2 root (map_now s) merged.0.extents.pointer;
           index = no_table j done.table;
         },
       )
@@ -207,11 +213,12 @@ module _ (x : ExtentsState) (g : GraphState) (i : IndexState) (s : State) (whole
       → (t : State) × Does (shape x) (formats_of (shape x)) s (Retire e) (Retired v) t × ArePartsOf y h j t
   retire y h j e v swept inside same nothing (mid, done, extents) =
       let merged = merges ForMove j.runs mid done.between done.appended in
+      let root : IsRootStaged mid.format done.between h v commands j.runs = of_same_shape x mid done.between h v commands j.runs merged.4 done.root in
       let before : State = record s { world = merged.0 } in
       let pointers : ℕ → ℕ = with merged.0.extents.pointer e 0 in
       let some_here : 0 < (shape mid).sections = some_there mid merged.4 in
-      let version : v ≡ suc merged.0.root = root_version mid done.between h merged.0 v commands j.runs some_here merged.2 done.root in
-      let staged = root_staged mid done.between h merged.0 v commands j.runs some_here merged.2 done.root (map_now s) pointers in
+      let version : v ≡ suc merged.0.root = root_version mid done.between h merged.0 v commands j.runs some_here merged.2 root in
+      let staged = root_staged mid done.between h merged.0 v commands j.runs some_here merged.2 root (map_now s) pointers in
       let rooted_world : World = happens (shape x) merged.0 (StageRoot commands j.runs (map_now s) pointers) in
       let emptied_now : Extents = marked (emptied merged.0.extents e (suc merged.0.root)) e false in
       let is : extents_of y ≡ emptied_now = extents ∙ ap (λ (z : Extents). marked (emptied z e v) e false) (sym merged.2.extents)

@@ -1,7 +1,7 @@
 //! Stores in files.
-ghost use Rattle.std.specs.Prelude.{◌+◌, ◌*◌, ◌↔◌, ◌≡◌, ◌≢◌, ◌⊎◌, Err, IfErr, IfOk, []};
+ghost use Rattle.std.specs.Prelude.{◌↔◌, ◌≡◌, ◌≢◌, ◌⊎◌, Err, IfErr, IfOk, []};
 ghost use Rattle.cs_disk.specs.Files.{file_pages};
-ghost use Rattle.cs_frame.specs.Geometries.{IsGeometry, sections_needed};
+ghost use Rattle.cs_frame.specs.Geometries.{IsGeometry, device_pages, sections_needed};
 ghost use Rattle.cs_core.specs.Openings.{IsOpened};
 ghost use Rattle.cs_core.specs.Started.{new_stored};
 
@@ -29,11 +29,11 @@ impl Store<FileDisk> {
         options: Options,
     ) -> Result<Self, OpenError>
         ensures new { IfOk result (λ made. (made.history ≡ []) × (made.base ≡ 0) × (made.limit ≡ options.limits.history)) }
-        ensures store { IfOk result (λ made. made.store ≡ new_stored options.extents options.pages (sections_needed options.extents)) }
+        ensures store { IfOk result (λ made. made.store ≡ new_stored 2 options.extents options.pages (sections_needed options.extents)) }
         ensures found { IfOk result (λ made. made.found ≡ (0, 0)) }
-        ensures pages { IfOk result (λ made. file_pages made.disk ≡ 1 + options.extents * options.pages + sections_needed options.extents) }
+        ensures pages { IfOk result (λ made. file_pages made.disk ≡ device_pages 2 options.extents options.pages (sections_needed options.extents)) }
         // It is refused 7 just where there is no store of so many extents and pages.
-        ensures geometry { (result ≡ Err OpenError.BadGeometry) ↔ ¬ IsGeometry options.extents options.pages (sections_needed options.extents) }
+        ensures geometry { (result ≡ Err OpenError.BadGeometry) ↔ ¬ IsGeometry 2 options.extents options.pages (sections_needed options.extents) }
         ensures refusals { IfErr result (λ error. (error ≡ OpenError.BadGeometry) ⊎ (error ≡ OpenError.DeviceFault) ⊎ (error ≡ OpenError.OutOfMemory)) }
     {
         let Ok(geometry) = Geometry::new(options.extents, options.pages) else {

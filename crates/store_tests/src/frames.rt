@@ -80,12 +80,14 @@ pub fn page_of(rt: &impl Abort, start: &[u8]) -> [u8; 4096] {
 #[test]
 fn roots(rt: HostRuntime) {
     let first = Root {
+        format: 2,
         version: 1,
         commands: 0,
         runs: Vec::new(rt.alloc()),
     };
     assert!(rt; is_page(&encode_root(&first), &FORMAT_ROOT));
     let later = Root {
+        format: 2,
         version: 2,
         commands: 1,
         runs: vec![in rt.alloc(); SECOND].expect(&rt, "memory"),
@@ -98,7 +100,7 @@ fn roots(rt: HostRuntime) {
 
 /// How a root of one run prints.
 const OF_ONE: &str =
-    "Root { version: 2, commands: 1, runs: [Locator { extent: 0, page: 1, generation: 0 }] }";
+    "Root { format: 2, version: 2, commands: 1, runs: [Locator { extent: 0, page: 1, generation: 0 }] }";
 
 /// The pages of a frame.
 fn encoded(rt: &(impl Abort + AllocGlobal), kind: FrameKind, payload: &[u8]) -> Vec<[u8; 4096]> {

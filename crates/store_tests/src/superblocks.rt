@@ -94,6 +94,7 @@ fn reads_section(rt: &(impl Abort + AllocGlobal), page: &[u8; 4096], wanted: &st
 fn a_superblock_of_one_section(rt: HostRuntime) {
     let extents = vec![in rt.alloc(); (2, 0), (2, 0), (0, 0), (0, 0), (0, 0), (0, 0)];
     let superblock = Superblock {
+        format: 2,
         version: 5,
         extent_count: 6,
         pages: 2,
@@ -109,7 +110,7 @@ fn a_superblock_of_one_section(rt: HostRuntime) {
 
 /// How that section prints.
 const ONE: &str =
-    "Superblock { version: 5, extent_count: 6, pages: 2, sections: 1, section: 0, extents: [(2, 0), (2, 0), (0, 0), (0, 0), (0, 0), (0, 0)] }";
+    "Superblock { format: 2, version: 5, extent_count: 6, pages: 2, sections: 1, section: 0, extents: [(2, 0), (2, 0), (0, 0), (0, 0), (0, 0), (0, 0)] }";
 
 #[test]
 fn a_section_of_three(rt: HostRuntime) {
@@ -122,7 +123,7 @@ fn a_section_of_three(rt: HostRuntime) {
 
 /// How that section prints.
 const SECOND: &str =
-    "Superblock { version: 3, extent_count: 6, pages: 2, sections: 3, section: 1, extents: [(1, 0), (0, 1)] }";
+    "Superblock { format: 2, version: 3, extent_count: 6, pages: 2, sections: 3, section: 1, extents: [(1, 0), (0, 1)] }";
 
 /// What page 0 spells in the first format is one section. No other page is read so.
 #[test]
@@ -135,7 +136,7 @@ fn a_superblock_of_the_first_format(rt: HostRuntime) {
 
 /// How it prints.
 const FIRST: &str =
-    "Superblock { version: 3, extent_count: 6, pages: 2, sections: 1, section: 0, extents: [(2, 0), (0, 0), (0, 0), (0, 0), (0, 0), (0, 0)] }";
+    "Superblock { format: 2, version: 3, extent_count: 6, pages: 2, sections: 1, section: 0, extents: [(2, 0), (0, 0), (0, 0), (0, 0), (0, 0), (0, 0)] }";
 
 #[test]
 fn damaged_first_formats(rt: HostRuntime) {

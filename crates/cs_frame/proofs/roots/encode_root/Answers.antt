@@ -17,8 +17,8 @@ seal-requires c =
     let version = wrote magic c.append-2.ensures c.to_be_bytes.ensures in
     let commands = wrote version c.append-3.ensures c.to_be_bytes-2.ensures in
     let count = wrote commands c.append-4.ensures (ap (λ (n : ℕ). n ∷ []) (c.len.ensures ∙ root.runs.ok.0)) in
-    let text : text_of c.append_locators.new.page ≡ root_fields root.version root.commands root.runs.items = wrote count c.append_locators.ensures.text (ap spelled_locators c.deref.ensures.value) in
-    omega (arith, ap length text, length-root_fields root.version root.commands root.runs.items, c.requires.count)
+    let text : text_of c.append_locators.new.page ≡ root_fields root.format root.version root.commands root.runs.items = wrote count c.append_locators.ensures.text (ap spelled_locators c.deref.ensures.value) in
+    omega (arith, ap length text, length-root_fields root.format root.version root.commands root.runs.items, c.requires.count)
 
 pub returns : goal.returns
 returns c =
@@ -27,9 +27,10 @@ returns c =
     let version = wrote magic c.append-2.ensures c.to_be_bytes.ensures in
     let commands = wrote version c.append-3.ensures c.to_be_bytes-2.ensures in
     let count = wrote commands c.append-4.ensures (ap (λ (n : ℕ). n ∷ []) (c.len.ensures ∙ root.runs.ok.0)) in
-    let text : text_of c.append_locators.new.page ≡ root_fields root.version root.commands root.runs.items = wrote count c.append_locators.ensures.text (ap spelled_locators c.deref.ensures.value) in
+    let text : text_of c.append_locators.new.page ≡ root_fields root.format root.version root.commands root.runs.items = wrote count c.append_locators.ensures.text (ap spelled_locators c.deref.ensures.value) in
     record {
       fits = record {
+        known = c.requires.known;
         first_version = c.requires.first_version;
         last_version = c.requires.last_version;
         last_command = c.requires.last_command;

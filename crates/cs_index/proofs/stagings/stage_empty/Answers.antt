@@ -6,5 +6,5 @@ use Rattle.cs_index.proofs.stagings.stage_empty.Goals as goal
 
 pub returns-clause-staged : goal.returns-clause-staged
 returns-clause-staged c =
-    root_over c.args.graph.now c.reserve.new.self c.stage_root.new.graph c.stage_root.result c.args.commands _ c.in_ok-reserve.ensures.rest
-    (subst (λ (ls : List Locator). IsRootOver c.reserve.new.self c.stage_root.new.graph c.stage_root.result c.args.commands ls) c.new.ensures.items c.stage_root.ensures.staged)
+    root_over c.args.format c.args.graph.now c.reserve.new.self c.stage_root.new.graph c.stage_root.result c.args.commands _ c.in_ok-reserve.ensures.rest
+    (subst (λ (ls : List Locator). IsRootOver c.args.format c.reserve.new.self c.stage_root.new.graph c.stage_root.result c.args.commands ls) c.new.ensures.items c.stage_root.ensures.staged)

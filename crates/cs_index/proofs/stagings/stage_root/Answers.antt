@@ -28,7 +28,7 @@ returns-clause-staged c =
       needs = c.on_sections-needs.result;
       names = c.on_sections-needs.ensures.names;
       version = e.staged;
-      page = (c.encode_root-page.result, e.write, subst (λ (n : ℕ). SpellsRoot c.encode_root-page.result n c.args.commands c.args.places.items) number c.encode_root-page.ensures);
+      page = (c.encode_root-page.result, e.write, subst (λ (n : ℕ). SpellsRoot c.encode_root-page.result c.args.format n c.args.commands c.args.places.items) number c.encode_root-page.ensures);
       others = e.others;
       round = e.round;
     }

@@ -1,9 +1,9 @@
-use Rattle.std.proofs.Common.{◌≡◌, ◌≢◌, ◌∙◌, [], ap, arith, map, sym, List}
+use Rattle.std.proofs.Common.{◌≡◌, ◌≢◌, ◌∙◌, [], ap, arith, map, subst, sym, List, ℕ}
 use Rattle.std.proofs.lemmas.Bool.{eqb-true, eqb-false}
 use Rattle.std.proofs.lemmas.Result.{IfOk-weaker}
 use Rattle.cs_extent.specs.Purposes.{reason_of}
 use Rattle.cs_model.specs.Element.{Entry}
-use Rattle.cs_index.specs.Staged.{WritesMerged}
+use Rattle.cs_index.specs.Staged.{IsRootOver, WritesMerged}
 use Rattle.cs_index.specs.State.{named_entry, newest_first}
 use Rattle.cs_index.proofs.Exact.{exact_one, merge_empty, merge_one, merged_none, merged_writes, no_runs, none_of, not_full, some_of, why_none, worn_root}
 use Rattle.cs_index.proofs.indexes.Index.stage_merged.Goals as goal
@@ -15,7 +15,8 @@ none_live c = none_of named_entry c.in_ok-run.run'.entries.items (omega (arith, 
 pub returns-in-Ok-clause-staged : goal.returns-in-Ok-clause-staged
 returns-in-Ok-clause-staged c =
     merge_empty c.args.self.now c.args.extents.now c.args.graph.now (reason_of c.args.purpose) c.in-Ok.version c.args.commands c.become_runs.new.self c.args.extents.now c.stage_empty.new.graph (map named_entry c.in_ok-run.run'.entries.items)
-    c.in_ok-run.ensures.merged (none_live (goal.at.returns-in-Ok-clause-staged c).Then-is_empty) c.in-Ok.ensures.staged
+    c.in_ok-run.ensures.merged (none_live (goal.at.returns-in-Ok-clause-staged c).Then-is_empty)
+    (subst (λ (n : ℕ). IsRootOver n c.args.graph.now c.stage_empty.new.graph c.in-Ok.version c.args.commands []) (c.format-format.ensures.format ∙ c.geometry.ensures.format) c.in-Ok.ensures.staged)
     (no_runs c.args.self.now c.become_runs.new.self (newest_first c.new.result.items) (ap newest_first c.new.ensures.items) c.become_runs.ensures)
 
 pub returns-in-Ok-clause-why : goal.returns-in-Ok-clause-why
