@@ -7,6 +7,7 @@ use Rattle.cs_chunk.specs.Reads.{IsOfFault, fault_at}
 use Rattle.cs_deps.specs.declared.refusals.Refusal.{Refusal}
 use Rattle.cs_extent.specs.State.{IsWhole, State as ExtentsState, section_rows, shape}
 use Rattle.cs_frame.proofs.FirstFormatLaws.{spelled_has_none as first_has_none, zero_of_first, zero_of_section}
+use Rattle.cs_frame.proofs.GeometryLaws.{bounds}
 use Rattle.cs_frame.proofs.RootLaws as roots
 use Rattle.cs_frame.proofs.RunLaws.{run_fault-spelled}
 use Rattle.cs_frame.proofs.SuperblockLaws as superblocks
@@ -45,9 +46,9 @@ read_there x whole view place r has (inr (inr spoiled)) =
     let same : has.1.payload ≡ spoiled.1.0 = one_frame x whole view Run place (place_inside x place whole has.1.located).1 has.1.payload spoiled.1.0 has.1.frame spoiled.1.1 in
     no_fault (run_fault spoiled.1.0) r (ap run_fault (sym same) ∙ run_fault-spelled has.1.payload has.0 has.1.spelled) spoiled.1.2
 
--- a section that page 0 spells is none in the other format
+-- a section that page 0 spells has no fault there
 no_zero_fault : (page : List ℕ) (format version extents pages sections section : ℕ) (rows : List (ℕ × ℕ)) → SpellsPageZero page format version extents pages sections section rows → page_zero_fault page ≡ None
-no_zero_fault page format version extents pages sections section rows (inl is) = zero_of_section page (superblocks.spelled_has_none page format version extents pages sections section rows is)
+no_zero_fault page format version extents pages sections section rows (inl is) = zero_of_section format page is.fits.geometry.known (superblocks.spelled_has_none page format version extents pages sections section rows is)
 no_zero_fault page format version extents pages sections section rows (inr is) = zero_of_first page (first_has_none page version pages rows is.spells)
 
 module _ (count : ℕ) (view : ℕ → List ℕ) (format extents pages sections : ℕ) (is : IsGeometry format extents pages sections) (sized : count ≡ device_pages format extents pages sections) (are : ArePages count view) (n : ℕ) (m : Map)
@@ -70,7 +71,7 @@ module _ (count : ℕ) (view : ℕ → List ℕ) (format extents pages sections 
       (same.0, same.1, same.2, same.3)
 
   not_small : (x : Refusal) → IsTooSmall count x → ⊥
-  not_small x w = let many : extents * 2 ≤ extents * pages = mul-le-mul_left extents is.fewest_pages in let few : count < 10 = w.small in let four : 4 ≤ extents = is.fewest_extents in let some : 1 ≤ sections = is.fewest_sections in
+  not_small x w = let many : extents * 2 ≤ extents * pages = mul-le-mul_left extents is.fewest_pages in let few : count < 10 = w.small in let four : 4 ≤ extents = (bounds format extents pages sections is).fewest_extents in let some : 1 ≤ sections = is.fewest_sections in
       omega (arith, many, few, four, some, sized)
 
   zero_there : SpellsAt 0 (view (S.section_page 0)) format (r.versions 0) extents pages sections (part format extents pages sections is view n m r 0)
@@ -110,15 +111,18 @@ module _ (count : ℕ) (view : ℕ → List ℕ) (format extents pages sections 
       let spelled : SpellsSuperblock (view (1 + w.extents * w.pages + y.section)) format there.0 extents pages sections y.section there.1 =
       subst (λ (p : ℕ). SpellsSuperblock (view p) format there.0 extents pages sections y.section there.1) (sym number) there.2 in
       ⊎_elim
-      (λ (f : IsOfFault (superblock_fault (view (1 + w.extents * w.pages + y.section))) x).
-      no_fault (superblock_fault (view (1 + w.extents * w.pages + y.section))) x (superblocks.spelled_has_none (view (1 + w.extents * w.pages + y.section)) format there.0 extents pages sections y.section there.1 spelled) f)
+      (λ (f : IsOfFault (superblock_fault w.format (view (1 + w.extents * w.pages + y.section))) x).
+      no_fault (superblock_fault w.format (view (1 + w.extents * w.pages + y.section))) x (subst (λ (i : ℕ). superblock_fault i (view (1 + w.extents * w.pages + y.section)) ≡ None) (sym same.0) (superblocks.spelled_has_none (view (1 + w.extents * w.pages + y.section)) format there.0 extents pages sections y.section there.1 spelled)) f)
       (λ (o : IsOtherSpelled w.format w.extents w.pages w.sections y.section (view (1 + w.extents * w.pages + y.section)) x).
-      let one = section_one (view (1 + w.extents * w.pages + y.section)) o.their_format o.version o.their_extents o.their_pages o.their_sections o.their_section o.rows format there.0 extents pages sections y.section there.1 o.spelled spelled in
-      o.other (one.0 ∙ sym same.0, one.1 ∙ sym same.1, one.2 ∙ sym same.2, one.3 ∙ sym same.3, one.4))
+      let one = section_one (view (1 + w.extents * w.pages + y.section)) w.format o.version o.their_extents o.their_pages o.their_sections o.their_section o.rows format there.0 extents pages sections y.section there.1 o.spelled spelled in
+      o.other (one.1 ∙ sym same.1, one.2 ∙ sym same.2, one.3 ∙ sym same.3, one.4))
       y.why
 
   root_there : (x : Refusal) → IsRootDamaged count view x → ⊥
-  root_there x w = let spelled = root_spelled format extents pages sections is view n m r in no_fault (root_fault (view 1)) x (roots.spelled_has_none (view 1) _ _ _ _ spelled) w.fault
+  root_there x w =
+      let spelled = root_spelled format extents pages sections is view n m r in
+      let same = same_numbers w.format w.versions w.pages w.written w.extents.sections in
+      no_fault (root_fault w.format (view 1)) x (subst (λ (i : ℕ). root_fault i (view 1) ≡ None) (sym same.0) (roots.spelled_has_none (view 1) _ _ _ _ spelled)) w.fault
 
   pages_there : (f k p : ℕ) (written : List (ℕ × ℕ)) → count ≡ device_pages f (length written) p k → ArePages (device_pages f (length written) p k) view
   pages_there f k p written size = subst (λ (i : ℕ). ArePages i view) size are

@@ -27,12 +27,6 @@ use Rattle.cs_core.specs.Openings.{AreExtentsRead, IsOtherFirst, IsStoreMade, Is
 pub extents_again : (x : ExtentsState) (format pages sections : ℕ) (written : List (ℕ × ℕ)) → x ≡ extents_at format pages sections written → x ≡ extents_at x.format x.pages x.sections x.written
 extents_again x format pages sections written is = is ∙ ap (λ (y : ExtentsState). extents_at y.format y.pages y.sections y.written) (sym is)
 
--- a root is of the format of the superblock
-pub root_of_store : (bytes : List ℕ) (f version commands : ℕ) (runs : List Locator) (format extents pages sections : ℕ) → IsGeometry format extents pages sections
-    → SpellsRoot bytes f version commands runs → SpellsRoot bytes format version commands runs
-root_of_store bytes f version commands runs format extents pages sections is spelled =
-    subst (λ (n : ℕ). SpellsRoot bytes n version commands runs) (spelled.fits.known ∙ sym is.known) spelled
-
 -- as many as there are versions
 pub extents_by : (x : ExtentsState) (format pages sections : ℕ) (written : List (ℕ × ℕ)) (versions : List ℕ) → x ≡ extents_at format pages sections written → length versions ≡ sections
     → x ≡ extents_at format pages (length versions) written
@@ -95,7 +89,7 @@ module _ (count : ℕ) (view : ℕ → List ℕ) (format : ℕ) (versions : List
   abbrev there : AreExtentsRead count view format versions pages written
   there = record { sections = sections; sized = sized }
 
-  pub root_damaged : IsNoAnswer r ⊎ IsOfFault (root_fault (view 1)) r → IsNoAnswer r ⊎ IsWhyNotOpened count view r
+  pub root_damaged : IsNoAnswer r ⊎ IsOfFault (root_fault format (view 1)) r → IsNoAnswer r ⊎ IsWhyNotOpened count view r
   root_damaged why = ⊎_elim (λ n. inl n) (λ f. inr (inr (inr (inr (inr (inr (inl (record { format = format; versions = versions; pages = pages; written = written; extents = there; fault = f })))))))) why
 
   pub run_damaged : (root commands : ℕ) (places : List Locator) (x : ExtentsState) → x ≡ extents_at format pages (length versions) written → SpellsRoot (view 1) format root commands places

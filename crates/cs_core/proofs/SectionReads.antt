@@ -71,23 +71,22 @@ pub damaged_first : (bytes : List ℕ) (r : Refusal) → IsNoAnswer r ⊎ IsOfFa
 damaged_first bytes r why = ⊎_elim (λ n. inl n) (λ f. inr (inl f)) why
 
 -- a further page has another
-pub other_further : (format extents pages sections section : ℕ) (bytes : List ℕ) (it : Superblock) → (HasNumbers format extents pages sections section it → ⊥)
+pub other_further : (format extents pages sections section : ℕ) (bytes : List ℕ) (it : Superblock) → it.format ≡ format → (HasNumbers format extents pages sections section it → ⊥)
     → SpellsSuperblock bytes it.format it.version it.extent_count it.pages it.sections it.section it.extents.items
     → IsNoAnswer NotAStore ⊎ IsWhyNoSection format extents pages sections section bytes NotAStore
-other_further format extents pages sections section bytes it other spelled = inr (inr (record {
+other_further format extents pages sections section bytes it same_format other spelled = inr (inr (record {
   version = it.version;
-  their_format = it.format;
   their_extents = it.extent_count;
   their_pages = it.pages;
   their_sections = it.sections;
   their_section = it.section;
   rows = it.extents.items;
-  spelled = spelled;
-  other = λ same. other (record { of_format = same.0; of_extents = same.1; of_pages = same.2; of_sections = same.3; place = same.4 });
+  spelled = subst (λ (n : ℕ). SpellsSuperblock bytes n it.version it.extent_count it.pages it.sections it.section it.extents.items) same_format spelled;
+  other = λ same. other (record { of_format = same_format; of_extents = same.0; of_pages = same.1; of_sections = same.2; place = same.3 });
   refusal = refl;
 }))
 
-pub damaged_further : (format extents pages sections section : ℕ) (bytes : List ℕ) (r : Refusal) → IsNoAnswer r ⊎ IsOfFault (superblock_fault bytes) r
+pub damaged_further : (format extents pages sections section : ℕ) (bytes : List ℕ) (r : Refusal) → IsNoAnswer r ⊎ IsOfFault (superblock_fault format bytes) r
     → IsNoAnswer r ⊎ IsWhyNoSection format extents pages sections section bytes r
 damaged_further format extents pages sections section bytes r why = ⊎_elim (λ n. inl n) (λ f. inr (inl f)) why
 

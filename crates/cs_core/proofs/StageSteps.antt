@@ -1,13 +1,13 @@
 -- Stagings of runs and roots are steps of the machine.
-use Rattle.std.proofs.Common.{◌≡◌, ◌≢◌, ◌⊎◌, inl, inr, ⊎_elim, ℕ, suc, ◌+◌, ◌<◌, ◌≤◌, true, false, List, [], ◌∷◌, ◌++◌, Some, None, Ok, Err, length, refl, sym, ap, ◌∙◌, subst, arith}
+use Rattle.std.proofs.Common.{◌≡◌, ◌≢◌, ◌⊎◌, inl, inr, ℕ, suc, ◌+◌, ◌<◌, true, false, List, [], ◌∷◌, ◌++◌, Some, None, Ok, Err, length, refl, sym, ap, ◌∙◌, subst, arith}
 use Rattle.std.specs.Prelude.{◌↔◌, IfOk, Option, Result}
-use Rattle.std.proofs.lemmas.Bool.{cases_lt}
 use Rattle.cs_deps.specs.declared.refusals.Refusal.{Refusal as Code}
 use Rattle.cs_deps.specs.declared.refusals.Refusal.TheVariants as code
 use Rattle.cs_deps.specs.State.{State as GraphState}
 use Rattle.cs_extent.specs.State.{IsWhole, State as ExtentsState, extents_of, shape}
 use Rattle.cs_frame.specs.Formats.{formats_of}
-use Rattle.cs_index.specs.Staged.{IsFull, IsMergeStaged, IsStageWorn, IsTableStaged, IsWhy, WritesRun}
+use Rattle.cs_index.specs.Merges.{stage_takes as stage_takes_of}
+use Rattle.cs_index.specs.Staged.{IsFull, IsNewestStaged, IsStageWorn, IsWhy, WritesRun}
 use Rattle.cs_index.specs.State.{State as IndexState, index_of}
 use Rattle.cs_model.proofs.Rules.{before_rule}
 use Rattle.cs_model.specs.Device.{Shape}
@@ -24,7 +24,7 @@ use Rattle.cs_model.specs.Refusal.{Full, Halted, NotSweepable, Refusal, StillLiv
 use Rattle.cs_model.specs.Lists.{◌∈◌}
 use Rattle.cs_model.specs.State.{Event, Reply, Refused, Retire, Retired, Stage, Staged, State, Unchanged, index_now, map_now}
 use Rattle.cs_model.specs.Step.{Step}
-use Rattle.cs_refine.proofs.Calls.{merge_staged, retire, table_staged}
+use Rattle.cs_refine.proofs.Calls.{newest_staged, retire}
 use Rattle.cs_refine.proofs.Indexes.{looked_up, none_too, nothing_live}
 use Rattle.cs_refine.proofs.RefusedStages.{no_room_to_stage, retire_full, retire_worn, stage_worn}
 use Rattle.cs_refine.specs.Parts.{ArePartsOf}
@@ -107,10 +107,10 @@ module _ (v : Stored) (s : State) (whole : IsWhole v.extents) (is : IsStateOf v 
   some_table some none = some (none_too s.table v.index.table (λ id. sym (is.parts.index.lookups id)) none)
 
   abbrev NoStage : Type 0
-  NoStage = IsFull (WritesRun v.index) v.extents ForRun
+  NoStage = IsFull (WritesRun (shape v.extents) v.index) v.extents ForRun
 
   abbrev WornStage : Type 0
-  WornStage = (v.index.table ≢ []) × IsStageWorn (WritesRun v.index) v.extents ForRun v.graph.staging
+  WornStage = (v.index.table ≢ []) × IsStageWorn (WritesRun (shape v.extents) v.index) v.extents ForRun v.graph.staging
 
   stages : (NoStage → ⊥) → (WornStage → ⊥) → (f : Refusal) → Refuses (shape v.extents) (formats_of (shape v.extents)) s Stage f → ⊥
   stages room young = pass Halted runs_on (pass Full (λ full. room ((no_room_to_stage v.extents v.graph v.index s whole is.parts).0 full))
@@ -137,18 +137,13 @@ module _ (v : Stored) (s : State) (whole : IsWhole v.extents) (is : IsStateOf v 
       (roots_more v.roots s t so.root (record { version = n; commands = v.accepted }) is.roots so.roots so.version (ap (λ (k : ℕ). s.count + k) (sym is.accepted) ∙ sym so.counts) so.persistent so.beside.count))
 
   pub stage_done : (n : ℕ) (y : ExtentsState) (h : GraphState) (j : IndexState) → (NoStage → ⊥) → (WornStage → ⊥) → v.index.table ≢ []
-      → (length v.index.runs < 4 → IsTableStaged v.index v.extents v.graph n (v.base + v.accepted) j y h)
-      → (4 ≤ length v.index.runs → IsMergeStaged v.index v.extents v.graph ForRun n (v.base + v.accepted) j y h) → shape y ≡ shape v.extents
+      → IsNewestStaged (stage_takes_of (shape v.extents) v.index) v.index v.extents v.graph n (v.base + v.accepted) j y h → shape y ≡ shape v.extents
       → (t : State) × Step (shape v.extents) (formats_of (shape v.extents)) s Stage (Staged n) t
       × IsStateOf (record v { graph = h; extents = y; index = j; roots = v.roots ++ record { version = n; commands = v.accepted } ∷ [] }) t
-  stage_done n y h j room young some table merged same = ⊎_elim
-      (λ (few : length v.index.runs < 4).
-      let law = table_staged v.extents v.graph v.index s whole is.parts y h j n some few (subst (λ (k : ℕ). IsTableStaged v.index v.extents v.graph n k j y h) said (table few)) in
-      at law.0 law.1 law.2)
-      (λ (many : 4 ≤ length v.index.runs).
-      let law = merge_staged v.extents v.graph v.index s whole is.parts y h j n some many (subst (λ (k : ℕ). IsMergeStaged v.index v.extents v.graph ForRun n k j y h) said (merged many)) in
-      at law.0 law.1 law.2)
-      (cases_lt (length v.index.runs) 4)
+  stage_done n y h j room young some staged same =
+      let law = newest_staged v.extents v.graph v.index s whole is.parts y h j n some
+      (subst (λ (k : ℕ). IsNewestStaged (stage_takes_of (shape v.extents) v.index) v.index v.extents v.graph n k j y h) said staged) in
+      at law.0 law.1 law.2
     where
       at : (t : State) → Does (shape v.extents) (formats_of (shape v.extents)) s Stage (Staged n) t → ArePartsOf y h j t
           → (z : State) × Step (shape v.extents) (formats_of (shape v.extents)) s Stage (Staged n) z
@@ -210,7 +205,7 @@ module _ (v : Stored) (s : State) (whole : IsWhole v.extents) (is : IsStateOf v 
 -- ---- the answers of the calls
 
 pub stage_declines : (v w : Stored) (whole : IsWhole v.extents) (runs : v.halted ≡ false) → but_for_room w ≡ but_for_room v → (r : Code)
-    → IsWhy r (IsFull (WritesRun v.index) v.extents ForRun) ((v.index.table ≢ []) × IsStageWorn (WritesRun v.index) v.extents ForRun v.graph.staging) → Declines v Stage r w
+    → IsWhy r (IsFull (WritesRun (shape v.extents) v.index) v.extents ForRun) ((v.index.table ≢ []) × IsStageWorn (WritesRun (shape v.extents) v.index) v.extents ForRun v.graph.staging) → Declines v Stage r w
 stage_declines v w whole runs same code.Full full = inr (Full, refl, λ s is. (s, stage_no_room v s whole is runs full, same_state v w s is same))
 stage_declines v w whole runs same code.WornOut worn = inr (WornOut, refl, λ s is. (s, stage_worn_out v s whole is runs worn.0 worn.1, same_state v w s is same))
 stage_declines v w whole runs same code.OutOfMemory why = inl refl
@@ -230,13 +225,12 @@ retire_lives v w whole runs same e marks live = inr (StillLive, refl, λ s is. (
 pub stage_none : (v w : Stored) (whole : IsWhole v.extents) (runs : v.halted ≡ false) → but_for_room w ≡ but_for_room v → v.index.table ≡ [] → Steps v Stage Unchanged w
 stage_none v w whole runs same none s is = (s, stage_nothing v s whole is runs none, same_state v w s is same)
 
-pub stage_steps : (v : Stored) (whole : IsWhole v.extents) (runs : v.halted ≡ false) (n : ℕ) (y : ExtentsState) (h : GraphState) (j : IndexState) (roots : List Noted) → (IsFull (WritesRun v.index) v.extents ForRun → ⊥)
-    → ((v.index.table ≢ []) × IsStageWorn (WritesRun v.index) v.extents ForRun v.graph.staging → ⊥) → v.index.table ≢ []
-    → (length v.index.runs < 4 → IsTableStaged v.index v.extents v.graph n (v.base + v.accepted) j y h)
-    → (4 ≤ length v.index.runs → IsMergeStaged v.index v.extents v.graph ForRun n (v.base + v.accepted) j y h) → shape y ≡ shape v.extents
+pub stage_steps : (v : Stored) (whole : IsWhole v.extents) (runs : v.halted ≡ false) (n : ℕ) (y : ExtentsState) (h : GraphState) (j : IndexState) (roots : List Noted) → (IsFull (WritesRun (shape v.extents) v.index) v.extents ForRun → ⊥)
+    → ((v.index.table ≢ []) × IsStageWorn (WritesRun (shape v.extents) v.index) v.extents ForRun v.graph.staging → ⊥) → v.index.table ≢ []
+    → IsNewestStaged (stage_takes_of (shape v.extents) v.index) v.index v.extents v.graph n (v.base + v.accepted) j y h → shape y ≡ shape v.extents
     → roots ≡ v.roots ++ record { version = n; commands = v.accepted } ∷ [] → Steps v Stage (Staged n) (record v { graph = h; extents = y; index = j; roots = roots })
-stage_steps v whole runs n y h j roots room young some table merged same noted s is =
-    let d = stage_done v s whole is runs n y h j room young some table merged same in
+stage_steps v whole runs n y h j roots room young some staged same noted s is =
+    let d = stage_done v s whole is runs n y h j room young some staged same in
     (d.0, d.1, subst (λ (rs : List Noted). IsStateOf (record v { graph = h; extents = y; index = j; roots = rs }) d.0) (sym noted) d.2)
 
 pub retire_steps : (v : Stored) (whole : IsWhole v.extents) (runs : v.halted ≡ false) (e : ℕ) → (extents_of v.extents).swept e ≡ true → NothingLive (index_of v.index) e → (n : ℕ) (y : ExtentsState) (h : GraphState) (j : IndexState) (roots : List Noted)

@@ -127,23 +127,22 @@ pub record HasNumbers (format extents pages sections section : ℕ) (it : Superb
   pub of_sections : it.sections ≡ sections
   pub place : it.section ≡ section
 
--- The bytes spell another section than this one of these numbers.
+-- The bytes spell, in this format, another section than this one of these numbers.
 pub record IsOtherSpelled (format extents pages sections section : ℕ) (bytes : List ℕ) (r : Refusal) : Type 0 where
   pub version : ℕ
-  pub their_format : ℕ
   pub their_extents : ℕ
   pub their_pages : ℕ
   pub their_sections : ℕ
   pub their_section : ℕ
   pub rows : List (ℕ × ℕ)
-  pub spelled : SpellsSuperblock bytes their_format version their_extents their_pages their_sections their_section rows
-  pub other : (their_format ≡ format) × (their_extents ≡ extents) × (their_pages ≡ pages) × (their_sections ≡ sections) × (their_section ≡ section) → ⊥
+  pub spelled : SpellsSuperblock bytes format version their_extents their_pages their_sections their_section rows
+  pub other : (their_extents ≡ extents) × (their_pages ≡ pages) × (their_sections ≡ sections) × (their_section ≡ section) → ⊥
   pub refusal : r ≡ NotAStore
 
 -- a further section isn't read of the bytes of its page: they have this fault, or spell another one
 abbrev pub IsWhyNoSection : (format extents pages sections section : ℕ) → (bytes : List ℕ) → Refusal → Type 0
 IsWhyNoSection format extents pages sections section bytes r =
-    IsOfFault (superblock_fault bytes) r ⊎ IsOtherSpelled format extents pages sections section bytes r
+    IsOfFault (superblock_fault format bytes) r ⊎ IsOtherSpelled format extents pages sections section bytes r
 
 -- A further section isn't read, after all before it were.
 pub record IsWhyNoSections (view : ℕ → List ℕ) (format extents pages sections : ℕ) (r : Refusal) : Type 0 where
@@ -162,14 +161,14 @@ pub record IsSectionDamaged (count : ℕ) (view : ℕ → List ℕ) (r : Refusal
   pub first : IsFirstRead count view format extents pages sections
   pub why : IsWhyNoSections view format extents pages sections r
 
--- Page 1 has this fault.
+-- Page 1 has this fault as a root of the store's format.
 pub record IsRootDamaged (count : ℕ) (view : ℕ → List ℕ) (r : Refusal) : Type 0 where
   pub format : ℕ
   pub versions : List ℕ
   pub pages : ℕ
   pub written : List (ℕ × ℕ)
   pub extents : AreExtentsRead count view format versions pages written
-  pub fault : IsOfFault (root_fault (view 1)) r
+  pub fault : IsOfFault (root_fault format (view 1)) r
 
 -- no run is read at a place: it isn't located, or the frame there has this fault, or its payload has it
 abbrev pub IsWhyNotRead : ExtentsState → (view : ℕ → List ℕ) → Locator → Refusal → Type 0

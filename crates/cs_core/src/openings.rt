@@ -5,7 +5,7 @@ ghost use Rattle.cs_disk.specs.Disk.{LeavesOnly, MayLeave, flushed, page, seen};
 ghost use Rattle.cs_extent.specs.Sections.{AreSections, format_of, pages_of, rows_of};
 ghost use Rattle.cs_frame.specs.FirstFormat.{SpellsPageZero};
 ghost use Rattle.cs_frame.specs.Roots.{SpellsRoot, root_fault};
-ghost use Rattle.cs_frame.specs.Geometries.{device_pages};
+ghost use Rattle.cs_frame.specs.Geometries.{IsKnown, device_pages};
 ghost use Rattle.cs_image.specs.Reads.{AreSectionsRead};
 ghost use Rattle.cs_core.specs.Openings.{IsOpeningRefusal, IsStoreMade, IsWhyNotOpened};
 
@@ -17,46 +17,58 @@ use cs_chunk::{refusal_of_disk, refusal_of_fault};
 use cs_deps::Refusal;
 use cs_disk::PageDisk;
 use cs_extent::Extents;
-use cs_frame::{Root, Superblock, decode_root};
+use cs_frame::{Root, Superblock, decode_root, device_pages};
 use std::alloc::Global;
 
-/// The root that a page spells.
-fn decoded_root(alloc: Global, page: &[u8; 4096]) -> Result<Root, Refusal>
-    ensures spelled { IfOk result (λ it. SpellsRoot page.now it.format it.version it.commands it.runs.items) }
-    ensures fault { IfErr result (λ r. (r ≡ Refusal.OutOfMemory) ⊎ IsOfFault (root_fault page.now) r) }
+/// The root that a page spells in this format.
+fn decoded_root(alloc: Global, page: &[u8; 4096], format: u8) -> Result<Root, Refusal>
+    requires { IsKnown format }
+    ensures spelled { IfOk result (λ it. SpellsRoot page.now format it.version it.commands it.runs.items) }
+    ensures fault { IfErr result (λ r. (r ≡ Refusal.OutOfMemory) ⊎ IsOfFault (root_fault format page.now) r) }
     ensures number { IfErr result IsOpeningRefusal }
 {
-    match decode_root(alloc, page) {
+    match decode_root(alloc, page, format) {
         Ok(root) => Ok(root),
         Err(fault) => Err(refusal_of_fault(fault)),
     }
 }
 
-/// Reads page 1.
-fn read_root<D: PageDisk>(alloc: Global, disk: &mut D) -> Result<Root, Refusal>
-    requires { 1 < D.page_count disk.old }
-    ensures read { D.honest disk.old → IfOk result (λ it. SpellsRoot (page (seen (D.state disk.old)) 1) it.format it.version it.commands it.runs.items) }
-    ensures some { IfOk result (λ it. (bytes : List ℕ) × SpellsRoot bytes it.format it.version it.commands it.runs.items) }
-    ensures fault { D.honest disk.old → IfErr result (λ r. IsNoAnswer r ⊎ IsOfFault (root_fault (page (seen (D.state disk.old)) 1)) r) }
+/// Reads page 1 in this format.
+fn read_root<D: PageDisk>(alloc: Global, disk: &mut D, format: u8) -> Result<Root, Refusal>
+    requires known { IsKnown format }
+    requires enough { 1 < D.page_count disk.old }
+    ensures read { D.honest disk.old → IfOk result (λ it. SpellsRoot (page (seen (D.state disk.old)) 1) format it.version it.commands it.runs.items) }
+    ensures some { IfOk result (λ it. (bytes : List ℕ) × SpellsRoot bytes format it.version it.commands it.runs.items) }
+    ensures fault { D.honest disk.old → IfErr result (λ r. IsNoAnswer r ⊎ IsOfFault (root_fault format (page (seen (D.state disk.old)) 1)) r) }
     ensures number { IfErr result IsOpeningRefusal }
     ensures disk { OnlyReads D.PageDisk disk.old disk.new }
     ensures cause { IsCaused (D.failure_count disk.old) (D.failure_count disk.new) result }
 {
     let mut buffer = [0; 4096];
     match disk.read(1, &mut buffer) {
-        Ok(()) => decoded_root(alloc, &buffer),
+        Ok(()) => decoded_root(alloc, &buffer, format),
         Err(fault) => Err(refusal_of_disk(fault)),
     }
 }
 
 /// How many pages a device has whose superblock has this section.
-fn device_pages(superblock: &Superblock) -> u64
+fn pages_of_device(superblock: &Superblock) -> u64
     ensures { result ≡ device_pages superblock.now.format superblock.now.extent_count superblock.now.pages superblock.now.sections }
 {
-    let extents = superblock.extent_count;
-    let pages = superblock.pages;
-    let sections = superblock.sections;
-    1 + u64::from(extents) * u64::from(pages) + u64::from(sections)
+    device_pages(
+        superblock.format,
+        superblock.extent_count,
+        superblock.pages,
+        superblock.sections,
+    )
+}
+
+/// The format that sections of a superblock say.
+fn format_of(sections: &[Superblock]) -> u8
+    requires { 0 < length sections.now }
+    ensures { result ≡ format_of sections.now }
+{
+    sections[0].format
 }
 
 /// Reads what the root locates, and makes a store of it.
@@ -67,10 +79,10 @@ fn read_index<D: PageDisk>(
     root: &Root,
 ) -> Result<OpenedStore, Refusal>
     requires are { AreSections sections.now }
-    requires some_root { (bytes : List ℕ) × SpellsRoot bytes root.now.format root.now.version root.now.commands root.now.runs.items }
+    requires some_root { (bytes : List ℕ) × SpellsRoot bytes (format_of sections.now) root.now.version root.now.commands root.now.runs.items }
     requires sized { D.page_count disk.old ≡ device_pages (format_of sections.now) (length (rows_of sections.now)) (pages_of sections.now) (length sections.now) }
     requires sections { D.honest disk.old → AreSectionsRead (page (seen (D.state disk.old))) (format_of sections.now) (map (λ it. it.version) sections.now) (pages_of sections.now) (rows_of sections.now) }
-    requires root { D.honest disk.old → SpellsRoot (page (seen (D.state disk.old)) 1) root.now.format root.now.version root.now.commands root.now.runs.items }
+    requires root { D.honest disk.old → SpellsRoot (page (seen (D.state disk.old)) 1) (format_of sections.now) root.now.version root.now.commands root.now.runs.items }
     ensures made { IfOk result (λ found. IsStoreMade (D.honest disk.old) (page (seen (D.state disk.old))) (format_of sections.now) (map (λ it. it.version) sections.now) (pages_of sections.now) (rows_of sections.now) found.commands found.live found.store) }
     ensures why { D.honest disk.old → IfErr result (λ r. IsNoAnswer r ⊎ IsWhyNotOpened (D.page_count disk.old) (page (seen (D.state disk.old))) r) }
     ensures number { IfErr result IsOpeningRefusal }
@@ -107,7 +119,7 @@ fn read_rest<D: PageDisk>(
     ensures disk { OnlyReads D.PageDisk disk.old disk.new }
     ensures cause { IsCaused (D.failure_count disk.old) (D.failure_count disk.new) result }
 {
-    match read_root(alloc, disk) {
+    match read_root(alloc, disk, format_of(sections)) {
         Ok(root) => read_index(alloc, disk, sections, &root),
         Err(refusal) => Err(refusal),
     }
@@ -151,7 +163,7 @@ fn read_store<D: PageDisk>(alloc: Global, disk: &mut D) -> Result<OpenedStore, R
         Ok(superblock) => superblock,
         Err(refusal) => return Err(refusal),
     };
-    if disk.pages() != device_pages(&superblock) {
+    if disk.pages() != pages_of_device(&superblock) {
         return Err(Refusal::NotAStore);
     }
     read_behind(alloc, disk, superblock)

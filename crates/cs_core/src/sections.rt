@@ -4,7 +4,7 @@ ghost use Rattle.cs_chunk.specs.Reads.{IsCaused, IsNoAnswer, IsOfFault, OnlyRead
 ghost use Rattle.cs_disk.specs.Disk.{page, seen};
 ghost use Rattle.cs_extent.specs.Sections.{AreSections, format_of, pages_of, rows_of};
 ghost use Rattle.cs_frame.specs.FirstFormat.{SpellsPageZero, page_zero_fault};
-ghost use Rattle.cs_frame.specs.Geometries.{device_pages};
+ghost use Rattle.cs_frame.specs.Geometries.{IsKnown, device_pages};
 ghost use Rattle.cs_frame.specs.Superblocks.{SpellsSuperblock, superblock_fault};
 ghost use Rattle.cs_image.specs.Reads.{AreSectionsRead};
 ghost use Rattle.cs_core.specs.Openings.{HasNumbers, IsOpeningRefusal, IsOtherFirst, IsWhyNoSection, IsWhyNoSections};
@@ -72,35 +72,40 @@ pub fn read_first<D: PageDisk>(alloc: Global, disk: &mut D) -> Result<Superblock
     Ok(superblock)
 }
 
-/// The further section of a superblock that a page spells.
-fn decoded_section(alloc: Global, page: &[u8; 4096]) -> Result<Superblock, Refusal>
+/// The further section of a superblock that a page spells in this format.
+fn decoded_section(alloc: Global, page: &[u8; 4096], format: u8) -> Result<Superblock, Refusal>
+    requires { IsKnown format }
+    ensures format { IfOk result (λ it. it.format ≡ format) }
     ensures spelled { IfOk result (λ it. SpellsSuperblock page.now it.format it.version it.extent_count it.pages it.sections it.section it.extents.items) }
-    ensures fault { IfErr result (λ r. (r ≡ Refusal.OutOfMemory) ⊎ IsOfFault (superblock_fault page.now) r) }
+    ensures fault { IfErr result (λ r. (r ≡ Refusal.OutOfMemory) ⊎ IsOfFault (superblock_fault format page.now) r) }
     ensures number { IfErr result IsOpeningRefusal }
 {
-    match decode_section(alloc, page) {
+    match decode_section(alloc, page, format) {
         Ok(superblock) => Ok(superblock),
         Err(fault) => Err(refusal_of_fault(fault)),
     }
 }
 
-/// Reads a page behind the extents.
+/// Reads a page behind the extents in this format.
 fn read_further<D: PageDisk>(
     alloc: Global,
     disk: &mut D,
     number: u64,
+    format: u8,
 ) -> Result<Superblock, Refusal>
-    requires { number < D.page_count disk.old }
+    requires known { IsKnown format }
+    requires inside { number < D.page_count disk.old }
+    ensures format { IfOk result (λ it. it.format ≡ format) }
     ensures read { D.honest disk.old → IfOk result (λ it. SpellsSuperblock (page (seen (D.state disk.old)) number) it.format it.version it.extent_count it.pages it.sections it.section it.extents.items) }
     ensures some { IfOk result (λ it. (bytes : List ℕ) × SpellsSuperblock bytes it.format it.version it.extent_count it.pages it.sections it.section it.extents.items) }
-    ensures fault { D.honest disk.old → IfErr result (λ r. IsNoAnswer r ⊎ IsOfFault (superblock_fault (page (seen (D.state disk.old)) number)) r) }
+    ensures fault { D.honest disk.old → IfErr result (λ r. IsNoAnswer r ⊎ IsOfFault (superblock_fault format (page (seen (D.state disk.old)) number)) r) }
     ensures number { IfErr result IsOpeningRefusal }
     ensures disk { OnlyReads D.PageDisk disk.old disk.new }
     ensures cause { IsCaused (D.failure_count disk.old) (D.failure_count disk.new) result }
 {
     let mut buffer = [0; 4096];
     match disk.read(number, &mut buffer) {
-        Ok(()) => decoded_section(alloc, &buffer),
+        Ok(()) => decoded_section(alloc, &buffer, format),
         Err(fault) => Err(refusal_of_disk(fault)),
     }
 }
@@ -130,8 +135,8 @@ fn further_page(extents: u16, pages: u16, section: u8) -> u64
     1 + u64::from(extents) * u64::from(pages) + u64::from(section)
 }
 
-/// Reads a further section of a superblock of this format and of so many extents, pages and sections. Refused 43 NotAStore where its page has another
-/// section, or one of another superblock.
+/// Reads a further section of a superblock of this format and of so many extents, pages and sections. Refused 43 NotAStore where its page has
+/// another section in this format, or one of another superblock.
 fn read_section<D: PageDisk>(
     alloc: Global,
     disk: &mut D,
@@ -141,6 +146,7 @@ fn read_section<D: PageDisk>(
     sections: u8,
     section: u8,
 ) -> Result<Superblock, Refusal>
+    requires known { IsKnown format }
     requires inside { section < sections }
     requires sized { D.page_count disk.old ≡ device_pages format extents pages sections }
     ensures numbers { IfOk result (HasNumbers format extents pages sections section) }
@@ -152,7 +158,7 @@ fn read_section<D: PageDisk>(
     ensures cause { IsCaused (D.failure_count disk.old) (D.failure_count disk.new) result }
 {
     let number = further_page(extents, pages, section);
-    let superblock = match read_further(alloc, disk, number) {
+    let superblock = match read_further(alloc, disk, number, format) {
         Ok(superblock) => superblock,
         Err(refusal) => return Err(refusal),
     };

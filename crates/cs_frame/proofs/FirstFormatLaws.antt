@@ -1,17 +1,22 @@
 -- A page without a fault as a superblock of the first format is spelled so, and what is spelled so has no fault and is read as it was.
-use Rattle.std.proofs.Common.{◌≡◌, ◌≢◌, ◌⊎◌, ℕ, ◌+◌, ◌*◌, ◌≤◌, ◌==◌, true, false, Bool, List, ◌++◌, length, take, slice_index, codes, None, refl, sym, ap, subst, inl, inr, ⊎_elim, ◌∙◌, arith, length-append, eq-eqb, ne_eqb, if◌then◌else◌}
+use Rattle.std.proofs.Common.{◌≡◌, ◌≢◌, ◌⊎◌, ℕ, ◌+◌, ◌*◌, ◌≤◌, ◌==◌, true, false, Bool, List, ◌++◌, length, take, slice_index, codes, None, Some, refl, sym, ap, subst, inl, inr, ⊎_elim, ◌∙◌, arith, length-append, eq-eqb, ne_eqb, if◌then◌else◌}
 use Rattle.byteorder.specs.Endian.{big_bytes}
+use Rattle.cs_frame.specs.declared.faults.FormatFault.TheVariants.{BadVersion}
 use Rattle.cs_frame.specs.Bytes.{IsPage, number}
-use Rattle.cs_frame.specs.Geometries.{greatest_superblock_extents, in_bounds, section_length}
+use Rattle.cs_frame.specs.Geometries.{IsKnown, greatest_superblock_extents, in_bounds, section_length}
 use Rattle.cs_frame.specs.Pages.{padded, sealed}
-use Rattle.cs_frame.specs.FirstFormat.{FitsFirstFormat, SpellsFirstFormat, first_format_end, first_format_extents, first_format_fault, first_format_fields, page_zero_fault, IsOfFirstFormat, SpellsPageZero, spelled_first_format}
-use Rattle.cs_frame.specs.Superblocks.{FitsSuperblock, SpellsSuperblock, superblock_fault}
-use Rattle.cs_frame.proofs.SuperblockLaws.{fourth_is as fourth_is_2}
+use Rattle.cs_frame.specs.FirstFormat.{FitsFirstFormat, SpellsFirstFormat, first_format_end, first_format_extents, first_format_fault, first_format_fields, page_zero_fault, IsOfFirstFormat, SpellsPageZero, spelled_first_format, zero_format}
+use Rattle.cs_frame.specs.Superblocks.{FitsSuperblock, SpellsSuperblock, superblock_end, superblock_extents, superblock_fault}
+use Rattle.cs_frame.proofs.SuperblockLaws.{counts as section_counts, fourth_is as section_fourth, same_magic, spelled_has_none as section_has_none}
 use Rattle.cs_frame.specs.Pointers.{extents_from, spelled_extents}
-use Rattle.cs_frame.proofs.ExtentPageLaws.{are_read, count_again, extents_from-spelled, fourth_byte, head_is_spelled, length-spelled_extents, pages_again, sound, sound_passes, spelled_is_sound, tail_again, version_again}
+use Rattle.cs_frame.proofs.ExtentPageLaws.{are_read, count_again, extents_from-spelled, first_bytes, fourth_byte, head_is_spelled, length-spelled_extents, other_digit, pages_again, sound, sound_passes, spelled_is_sound, tail_again, version_again}
 use Rattle.cs_frame.proofs.Fields.{field_at, take_more}
-use Rattle.cs_frame.proofs.GeometryLaws.{in_bounds-within, within}
+use Rattle.cs_frame.proofs.GeometryLaws.{for_known, in_bounds-within, within}
 use Rattle.cs_frame.proofs.PageLaws.{page_is_padded}
+
+-- no known format is the first
+pub not_first : (format : ℕ) → IsKnown format → format ≡ 1 → ⊥
+not_first = for_known (λ f. f ≡ 1 → ⊥) (λ is. omega (arith, is)) (λ is. omega (arith, is))
 
 -- ---- a page without a fault
 
@@ -106,34 +111,68 @@ count_of page version pages extents s = ap (number 12 14) s.spelled ∙ count_is
 pub fourth_is : (page : List ℕ) → first_format_fault page ≡ None → slice_index page 3 ≡ 49
 fourth_is page h = fourth_byte page 49 (counts page) (first_format_end page) (first_format_extents page) h
 
+-- it is refused as a section of any format by its fourth byte
+pub first_as_section : (format : ℕ) (page : List ℕ) → IsKnown format → first_format_fault page ≡ None → superblock_fault format page ≡ Some BadVersion
+first_as_section format page known h =
+    other_digit page (48 + format) (section_counts format page) (superblock_end page) (superblock_extents page)
+    (first_bytes page 49 (counts page) (first_format_end page) (first_format_extents page) h)
+    (λ same. not_first format known (omega (arith, same, fourth_is page h)))
+
+-- and a section is refused in the first format
+pub section_as_first : (format : ℕ) (page : List ℕ) → IsKnown format → superblock_fault format page ≡ None → first_format_fault page ≡ Some BadVersion
+section_as_first format page known h =
+    other_digit page 49 (counts page) (first_format_end page) (first_format_extents page) (same_magic format page h)
+    (λ same. not_first format known (omega (arith, same, section_fourth format page h)))
+
 -- ---- page 0
 
--- so the two formats have no page in common
-pub apart : (page : List ℕ) → first_format_fault page ≡ None → superblock_fault page ≡ None → ⊥
-apart page a b = omega (arith, fourth_is page a, fourth_is_2 page b)
+-- so the first format has no page in common with another
+pub apart : (format : ℕ) (page : List ℕ) → IsKnown format → first_format_fault page ≡ None → superblock_fault format page ≡ None → ⊥
+apart format page known a b = not_first format known (omega (arith, fourth_is page a, section_fourth format page b))
 
 -- the fourth byte says which tests are made
 pub zero_first : (page : List ℕ) → slice_index page 3 ≡ 49 → first_format_fault page ≡ page_zero_fault page
 zero_first page is =
     let test : (slice_index page 3 == 49) ≡ true = eq-eqb (slice_index page 3) 49 is in
-    ap (λ (b : Bool). if b then first_format_fault page else superblock_fault page) (sym test)
+    ap (λ (b : Bool). if b then first_format_fault page else superblock_fault (zero_format page) page) (sym test)
 
-pub zero_second : (page : List ℕ) → slice_index page 3 ≢ 49 → superblock_fault page ≡ page_zero_fault page
+pub zero_second : (page : List ℕ) → slice_index page 3 ≢ 49 → superblock_fault (zero_format page) page ≡ page_zero_fault page
 zero_second page other =
     let test : (slice_index page 3 == 49) ≡ false = ne_eqb (slice_index page 3) 49 other in
-    ap (λ (b : Bool). if b then first_format_fault page else superblock_fault page) (sym test)
+    ap (λ (b : Bool). if b then first_format_fault page else superblock_fault (zero_format page) page) (sym test)
 
 pub zero_of_first : (page : List ℕ) → first_format_fault page ≡ None → page_zero_fault page ≡ None
 zero_of_first page h = sym (zero_first page (fourth_is page h)) ∙ h
 
-pub zero_of_section : (page : List ℕ) → superblock_fault page ≡ None → page_zero_fault page ≡ None
-zero_of_section page h = sym (zero_second page (λ same. omega (arith, fourth_is_2 page h, same))) ∙ h
+-- the tests that are made are those of the section's format
+pub zero_format-known : (page : List ℕ) → IsKnown (zero_format page)
+zero_format-known page = go (slice_index page 3 == 51)
+  where
+    go : (b : Bool) → IsKnown (if b then 3 else 2)
+    go true = inr refl
+    go false = inl refl
 
--- what page 0 spells, where it has no fault, it spells in one of the two formats
-pub zero_is_one : (page : List ℕ) → page_zero_fault page ≡ None → (first_format_fault page ≡ None) ⊎ (superblock_fault page ≡ None)
+pub zero_format-is : (format : ℕ) (page : List ℕ) → IsKnown format → slice_index page 3 ≡ 48 + format → zero_format page ≡ format
+zero_format-is format page known fourth = for_known (λ f. slice_index page 3 ≡ 48 + f → zero_format page ≡ f)
+    (λ two. ap (λ (b : Bool). if b then 3 else 2) (ne_eqb (slice_index page 3) 51 (λ three. omega (arith, two, three))))
+    (λ three. ap (λ (b : Bool). if b then 3 else 2) (eq-eqb (slice_index page 3) 51 three)) format known fourth
+
+pub zero_spells : (page : List ℕ) (format version extents pages sections section : ℕ) (written : List (ℕ × ℕ)) → SpellsSuperblock page format version extents pages sections section written → zero_format page ≡ format
+zero_spells page format version extents pages sections section written s =
+    zero_format-is format page s.fits.geometry.known (section_fourth format page (section_has_none page format version extents pages sections section written s))
+
+pub zero_of_section : (format : ℕ) (page : List ℕ) → IsKnown format → superblock_fault format page ≡ None → page_zero_fault page ≡ None
+zero_of_section format page known h =
+    let fourth = section_fourth format page h in
+    sym (zero_second page (λ same. not_first format known (omega (arith, fourth, same))))
+    ∙ ap (λ (f : ℕ). superblock_fault f page) (zero_format-is format page known fourth) ∙ h
+
+-- what page 0 spells, where it has no fault, it spells in the first format or in the one of its fourth byte
+pub zero_is_one : (page : List ℕ) → page_zero_fault page ≡ None → (first_format_fault page ≡ None) ⊎ (superblock_fault (zero_format page) page ≡ None)
 zero_is_one page h = go (slice_index page 3 == 49) h
   where
-    go : (b : Bool) → (if b then first_format_fault page else superblock_fault page) ≡ None → (first_format_fault page ≡ None) ⊎ (superblock_fault page ≡ None)
+    go : (b : Bool) → (if b then first_format_fault page else superblock_fault (zero_format page) page) ≡ None
+        → (first_format_fault page ≡ None) ⊎ (superblock_fault (zero_format page) page ≡ None)
     go true h = inl h
     go false h = inr h
 
@@ -143,7 +182,7 @@ first_format_fits version pages extents fits = record {
   first_version = fits.first_version;
   last_version = fits.last_version;
   geometry = record {
-    known = refl;
+    known = inl refl;
     fewest_extents = fits.fewest_extents;
     most_extents = omega (arith, fits.most_extents);
     fewest_pages = fits.fewest_pages;

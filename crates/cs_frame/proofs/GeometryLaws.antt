@@ -1,11 +1,17 @@
 -- What the tests of a store's dimensions and of its sections say.
-use Rattle.std.proofs.Common.{◌≡◌, ℕ, zero, suc, ◌+◌, ◌-◌, ◌*◌, ◌/◌, ◌%◌, ◌<◌, ◌≤◌, min, true, arith, ◌&&◌, nat_le, nat_lt, refl, sym, ap, ◌∙◌}
+use Rattle.std.proofs.Common.{◌≡◌, ⊎_elim, ℕ, zero, suc, ◌+◌, ◌-◌, ◌*◌, ◌/◌, ◌%◌, ◌<◌, ◌≤◌, min, true, arith, ◌&&◌, nat_le, nat_lt, sym, ap, subst, ◌∙◌}
 use Rattle.std.specs.Prelude.{◌↔◌}
 use Rattle.std.proofs.Math.Nat.{mod-lt, mul_comm}
 use Rattle.std.proofs.lemmas.Nat.{div-add-mod', div-mul-add, div_below}
-use Rattle.cs_model.specs.Geometry.{IsGeometry as IsModelGeometry}
+use Rattle.cs_model.proofs.LocalRecovery.{lies_below}
+use Rattle.cs_model.specs.Geometry.{IsGeometry as IsModelGeometry, shape_of}
+use Rattle.cs_model.specs.Local.{LiesBelow}
 use Rattle.std.proofs.lemmas.Bool.{and_parts, and_from, leb-true, ltb-true, le-leb, lt-ltb}
-use Rattle.cs_frame.specs.Geometries.{IsGeometry, greatest_extents, greatest_pages, greatest_section_extents, greatest_sections, in_bounds, is_divided, least_extents, least_pages, lengths_below, section_length, section_size, section_start}
+use Rattle.cs_frame.specs.Geometries.{IsGeometry, IsKnown, device_pages, greatest_extents, greatest_pages, greatest_section_extents, greatest_sections, in_bounds, is_divided, least_extents, least_pages, lengths_below, section_length, section_size, section_start}
+
+-- what holds for one known format and for the other holds for each
+pub for_known : (P : ℕ → Type 0) → P 2 → P 3 → (format : ℕ) → IsKnown format → P format
+for_known P two three format = ⊎_elim (λ is. subst P (sym is) two) (λ is. subst P (sym is) three)
 
 -- the dimensions are in bounds
 pub record IsWithin (format greatest extents pages : ℕ) : Type 0 where
@@ -30,17 +36,46 @@ pub in_bounds-within : (format greatest extents pages : ℕ) → IsWithin format
 in_bounds-within format greatest extents pages w =
     and_from _ _ (and_from _ _ (and_from _ _ (le-leb (least_extents format) extents w.fewest_extents) (le-leb extents greatest w.most_extents)) (le-leb least_pages pages w.fewest_pages)) (le-leb pages (greatest_pages format) w.most_pages)
 
--- the tests of a geometry of format 2 pass for it alone
-pub geometry_tested : (extents pages sections : ℕ) → in_bounds 2 (greatest_extents 2) extents pages ≡ true → is_divided 2 extents sections ≡ true → IsGeometry 2 extents pages sections
-geometry_tested extents pages sections bounds h =
-    let w = within 2 (greatest_extents 2) extents pages bounds in
+-- what the bounds of a store say in any format
+pub record Bounds (extents pages sections : ℕ) : Type 0 where
+  pub fewest_extents : 4 ≤ extents
+  pub most_extents : extents ≤ 7680
+  pub fewest_pages : 2 ≤ pages
+  pub most_pages : pages ≤ 65535
+  pub most_sections : sections ≤ 15
+
+pub bounds : (format extents pages sections : ℕ) → IsGeometry format extents pages sections → Bounds extents pages sections
+bounds format extents pages sections g = record {
+  fewest_extents = omega (arith, g.fewest_extents, least format g.known);
+  most_extents = omega (arith, g.most_extents, most format g.known);
+  fewest_pages = g.fewest_pages;
+  most_pages = omega (arith, g.most_pages, longest format g.known);
+  most_sections = omega (arith, g.most_sections, divided format g.known);
+}
+  where
+    least : (format : ℕ) → IsKnown format → 4 ≤ least_extents format
+    least = for_known (λ f. 4 ≤ least_extents f) (omega arith) (omega arith)
+
+    most : (format : ℕ) → IsKnown format → greatest_extents format ≤ 7680
+    most = for_known (λ f. greatest_extents f ≤ 7680) (omega arith) (omega arith)
+
+    longest : (format : ℕ) → IsKnown format → greatest_pages format ≤ 65535
+    longest = for_known (λ f. greatest_pages f ≤ 65535) (omega arith) (omega arith)
+
+    divided : (format : ℕ) → IsKnown format → greatest_sections format ≤ 15
+    divided = for_known (λ f. greatest_sections f ≤ 15) (omega arith) (omega arith)
+
+-- the tests of a geometry pass for it alone
+pub geometry_tested : (format extents pages sections : ℕ) → IsKnown format → in_bounds format (greatest_extents format) extents pages ≡ true → is_divided format extents sections ≡ true → IsGeometry format extents pages sections
+geometry_tested format extents pages sections known bounds h =
+    let w = within format (greatest_extents format) extents pages bounds in
     let size : ℕ = section_size extents sections in
     let last : ℕ = section_start extents sections (sections - 1) in
-    let three = and_parts (nat_le 1 sections && nat_le sections (greatest_sections 2) && nat_le size greatest_section_extents) (nat_lt last extents) h in
-    let two = and_parts (nat_le 1 sections && nat_le sections (greatest_sections 2)) (nat_le size greatest_section_extents) three.0 in
-    let one = and_parts (nat_le 1 sections) (nat_le sections (greatest_sections 2)) two.0 in
+    let three = and_parts (nat_le 1 sections && nat_le sections (greatest_sections format) && nat_le size greatest_section_extents) (nat_lt last extents) h in
+    let two = and_parts (nat_le 1 sections && nat_le sections (greatest_sections format)) (nat_le size greatest_section_extents) three.0 in
+    let one = and_parts (nat_le 1 sections) (nat_le sections (greatest_sections format)) two.0 in
     record {
-      known = refl;
+      known = known;
       fewest_extents = w.fewest_extents;
       most_extents = w.most_extents;
       fewest_pages = w.fewest_pages;
@@ -83,7 +118,7 @@ module _ (format extents pages sections : ℕ) (g : IsGeometry format extents pa
   all_covered = omega (arith, parts, rest, mul_comm sections size, g.fewest_sections)
 
   pub some_in_each : 0 < section_size extents sections
-  some_in_each = some size all_covered g.fewest_extents
+  some_in_each = some size all_covered (bounds format extents pages sections g).fewest_extents
     where
       some : (n : ℕ) → extents ≤ sections * n → 4 ≤ extents → 0 < n
       some zero le least = absurd (omega (arith, le, least))
@@ -127,3 +162,14 @@ module _ (format extents pages sections : ℕ) (g : IsGeometry format extents pa
     some_extent = some_in_each;
     all = all_covered;
   }
+
+-- all that a store looks at lies on its device
+pub lies_in_device : (format extents pages sections : ℕ) → IsGeometry format extents pages sections
+    → LiesBelow (shape_of extents pages sections (section_size extents sections) format) (device_pages format extents pages sections)
+lies_in_device format extents pages sections g =
+    let below = lies_below extents pages sections (section_size extents sections) format (model_geometry format extents pages sections g) in
+    record {
+      root = omega (arith, below.root);
+      sections = λ j lt. omega (arith, below.sections j lt);
+      frames = λ e i inside. omega (arith, below.frames e i inside);
+    }

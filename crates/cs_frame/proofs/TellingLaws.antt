@@ -10,11 +10,12 @@ use Rattle.cs_model.specs.Safe.{FitsExtent as IsInBounds}
 use Rattle.cs_frame.specs.Bytes.{zeros}
 use Rattle.cs_frame.specs.FirstFormat.{first_format_fields, spelled_first_format}
 use Rattle.cs_frame.specs.Formats.{extents_of, formats_of}
+use Rattle.cs_frame.specs.Geometries.{IsKnown}
 use Rattle.cs_frame.specs.Pages.{padded, sealed}
 use Rattle.cs_frame.specs.Pointers.{FitsExtent, extents_from, spelled_extents}
 use Rattle.cs_frame.specs.Superblocks.{spelled_superblock, superblock_fields}
 use Rattle.cs_frame.proofs.ExtentPageLaws.{extents_from-spelled}
-use Rattle.cs_frame.proofs.FirstFormatLaws.{length-first_format_fields}
+use Rattle.cs_frame.proofs.FirstFormatLaws.{length-first_format_fields, not_first}
 use Rattle.cs_frame.proofs.SuperblockLaws.{length-superblock_fields}
 
 -- two texts of one length that are sealed and padded to one page are one
@@ -62,7 +63,7 @@ module _ (speaks : ℕ → ℕ) (j : ℕ) where
         | inr other ↦ rest (omega arith) more
       ]
 
-module _ (S : Shape) (small : S.pages < 2 ^ 16) (few : S.greatest_generation < 2 ^ 32) (j : ℕ) where
+module _ (S : Shape) (known : IsKnown S.format) (small : S.pages < 2 ^ 16) (few : S.greatest_generation < 2 ^ 32) (j : ℕ) where
   all_fit : (p g : ℕ → ℕ) → ((e : ℕ) → IsInBounds S (p e) (g e)) → (first count : ℕ)
       → AllByRecursion (FitsExtent S.pages) (extents_of S.section p g j first count)
   all_fit p g fits first zero = tt
@@ -104,7 +105,7 @@ module _ (S : Shape) (small : S.pages < 2 ^ 16) (few : S.greatest_generation < 2
         one_list (sym (behind v es) ∙ ap (drop 18) texts ∙ behind w ds)
       where
         behind : (u : ℕ) (xs : List (ℕ × ℕ)) → drop 18 (superblock_fields S.format u S.extents S.pages S.sections j xs) ≡ spelled_extents xs
-        behind u xs = drop_at (codes "CSS2" ++ big_bytes 8 u ++ big_bytes 2 S.extents ++ big_bytes 2 S.pages ++ S.sections ∷ [] ++ j ∷ [])
+        behind u xs = drop_at (codes "CSS" ++ (48 + S.format) ∷ [] ++ big_bytes 8 u ++ big_bytes 2 S.extents ++ big_bytes 2 S.pages ++ S.sections ∷ [] ++ j ∷ [])
             (spelled_extents xs) 18 refl
 
     first : (v w : ℕ) → spelled_first_format v S.pages es ≡ spelled_first_format w S.pages ds → es ≡ ds
@@ -121,13 +122,13 @@ module _ (S : Shape) (small : S.pages < 2 ^ 16) (few : S.greatest_generation < 2
     -- the two formats have no page in common
     mixed : (v w : ℕ) (xs ys : List (ℕ × ℕ)) → spelled_first_format v S.pages xs
         ≡ spelled_superblock S.format w S.extents S.pages S.sections j ys → ⊥
-    mixed v w xs ys is = let digit : 49 ≡ 50 = ap (λ (bytes : List ℕ). slice_index bytes 3) is in
-        true≢false (ap (λ (n : ℕ). n == 49) digit)
+    mixed v w xs ys is = let digit : 49 ≡ 48 + S.format = ap (λ (bytes : List ℕ). slice_index bytes 3) is in
+        not_first S.format known (omega (arith, digit))
 
     pub tells : (f k v w : ℕ) → (formats_of S).superblock f j v p g ≡ (formats_of S).superblock k j w q h
         → (e : ℕ) → e < S.extents → S.section e ≡ j → p e ≡ q e
     tells f k v w is e lt at = told S.section j p g q h 0 S.extents
-        (go ((f == 1) && (S.sections == 1)) ((k == 1) && (S.sections == 1)) is) e (omega arith) (omega arith) at
+        (go ((f == 1) && (S.format == 2) && (S.sections == 1)) ((k == 1) && (S.format == 2) && (S.sections == 1)) is) e (omega arith) (omega arith) at
       where
         go : (a b : Bool) → (if a then spelled_first_format v S.pages es else spelled_superblock S.format v S.extents S.pages S.sections j es)
             ≡ (if b then spelled_first_format w S.pages ds else spelled_superblock S.format w S.extents S.pages S.sections j ds)

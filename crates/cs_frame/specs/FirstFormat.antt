@@ -1,4 +1,4 @@
--- The first format of a superblock, one page for all extents, which is read and no longer written, and what page 0 spells in either format.
+-- The first format of a superblock, one page for all extents, which is read and no longer written, and what page 0 spells in any format.
 use Rattle.std.specs.Prelude.{◌≡◌, ◌⊎◌, ℕ, ◌+◌, ◌*◌, ◌^◌, ◌<◌, ◌≤◌, ◌==◌, List, [], ◌∷◌, ◌++◌, length, Option, codes, slice_index, if◌then◌else◌}
 use Rattle.std.specs.List.{AllByRecursion}
 use Rattle.byteorder.specs.Endian.{big_bytes}
@@ -81,11 +81,15 @@ pub record IsOfFirstFormat (bytes : List ℕ) (format version extents pages sect
   pub one_section : sections ≡ 1
   pub first_section : section ≡ 0
 
--- the bytes are the spelling of this section in one of the two formats
+-- the bytes are the spelling of this section, in the store's format or in the first
 abbrev pub SpellsPageZero : (bytes : List ℕ) (format version extents pages sections section : ℕ) (written : List (ℕ × ℕ)) → Type 0
 SpellsPageZero bytes format version extents pages sections section written =
     SpellsSuperblock bytes format version extents pages sections section written ⊎ IsOfFirstFormat bytes format version extents pages sections section written
 
+-- the format whose tests of a section are made on page 0: 3 where the fourth byte is the digit 3
+abbrev pub zero_format : List ℕ → ℕ
+zero_format bytes = if slice_index bytes 3 == 51 then 3 else 2
+
 -- What is wrong with page 0: the tests of the first format where the fourth byte is the digit 1, else those of a section.
 abbrev pub page_zero_fault : List ℕ → Option FormatFault
-page_zero_fault bytes = if slice_index bytes 3 == 49 then first_format_fault bytes else superblock_fault bytes
+page_zero_fault bytes = if slice_index bytes 3 == 49 then first_format_fault bytes else superblock_fault (zero_format bytes) bytes

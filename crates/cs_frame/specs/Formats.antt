@@ -80,12 +80,12 @@ abbrev pub fits_run : List NamedEntry → Bool
 fits_run entries =
     nat_le 1 (length entries) && nat_lt (length entries) (2 ^ 32) && list_all fits_entry entries && rises entries
 
--- the formats of a store of this shape: a superblock of one section is one page for all extents in format 1, and any other is in sections as the
--- store's format has them; a root lists its runs oldest first, which the machine has newest first
+-- the formats of a store of this shape: in a store of format 2 a superblock of one section may be one page for all extents, in format 1, and any
+-- other is in sections as the store's format has them; a root lists its runs oldest first, which the machine has newest first
 abbrev pub formats_of : Shape → Formats
 formats_of S = record {
   superblock = λ format section version pointers generations.
-      if (format == 1) && (S.sections == 1)
+      if (format == 1) && (S.format == 2) && (S.sections == 1)
       then spelled_first_format version S.pages (extents_of S.section pointers generations section 0 S.extents)
       else spelled_superblock S.format version S.extents S.pages S.sections section
       (extents_of S.section pointers generations section 0 S.extents);

@@ -1,13 +1,17 @@
 -- The dimensions of a store, the bounds of them, and which extents a section of its superblock has. A bound is that of a format.
-use Rattle.std.specs.Prelude.{◌≡◌, ℕ, zero, suc, ◌+◌, ◌-◌, ◌*◌, ◌/◌, ◌<◌, ◌≤◌, ◌&&◌, min, Bool, nat_le, nat_lt}
+use Rattle.std.specs.Prelude.{◌≡◌, ◌⊎◌, ℕ, zero, suc, ◌+◌, ◌-◌, ◌*◌, ◌/◌, ◌<◌, ◌≤◌, ◌&&◌, ◌==◌, min, Bool, if◌then◌else◌, nat_le, nat_lt}
+
+-- the formats in which a store is written
+abbrev pub IsKnown : (format : ℕ) → Type 0
+IsKnown format = (format ≡ 2) ⊎ (format ≡ 3)
 
 -- the least number of extents of a store
 abbrev pub least_extents : (format : ℕ) → ℕ
-least_extents format = 4
+least_extents format = if format == 3 then 5 else 4
 
 -- the greatest number of extents of a store
 abbrev pub greatest_extents : (format : ℕ) → ℕ
-greatest_extents format = 2048
+greatest_extents format = if format == 3 then 7680 else 2048
 
 -- the greatest number of extents of a section
 abbrev pub greatest_section_extents : ℕ
@@ -19,7 +23,7 @@ greatest_superblock_extents = 512
 
 -- the greatest number of sections of a superblock
 abbrev pub greatest_sections : (format : ℕ) → ℕ
-greatest_sections format = 8
+greatest_sections format = if format == 3 then 15 else 8
 
 -- the least number of pages of an extent
 abbrev pub least_pages : ℕ
@@ -27,7 +31,7 @@ least_pages = 2
 
 -- the greatest number of pages of an extent
 abbrev pub greatest_pages : (format : ℕ) → ℕ
-greatest_pages format = 256
+greatest_pages format = if format == 3 then 65535 else 256
 
 -- which format the store has, how many extents there are, how many pages each has, and how many sections the superblock has
 pub record Dimensions : Type 0 where
@@ -55,7 +59,7 @@ lengths_below extents sections (suc section) = lengths_below extents sections se
 
 -- There is a store of these dimensions: none of its superblock's sections is empty, and none has more extents than a page has room for.
 pub record IsGeometry (format extents pages sections : ℕ) : Type 0 where
-  pub known : format ≡ 2
+  pub known : IsKnown format
   pub fewest_extents : least_extents format ≤ extents
   pub most_extents : extents ≤ greatest_extents format
   pub fewest_pages : least_pages ≤ pages
@@ -69,9 +73,13 @@ pub record IsGeometry (format extents pages sections : ℕ) : Type 0 where
 abbrev pub sections_needed : (extents : ℕ) → ℕ
 sections_needed extents = (extents + (greatest_section_extents - 1)) / greatest_section_extents
 
--- the pages of the device: the first section and the root, those of the extents, and the other sections
+-- the pages that are kept for a second copy of the root and of each section: in format 3 the last of the device
+abbrev pub kept_pages : (format sections : ℕ) → ℕ
+kept_pages format sections = if format == 3 then 1 + sections else 0
+
+-- the pages of the device: the first section and the root, those of the extents, the other sections, and those that are kept
 abbrev pub device_pages : (format extents pages sections : ℕ) → ℕ
-device_pages format extents pages sections = 1 + extents * pages + sections
+device_pages format extents pages sections = 1 + extents * pages + sections + kept_pages format sections
 
 -- the bytes of a run of so many entries: a count of 4 bytes, and 81 for each entry
 abbrev pub run_bytes : (entries : ℕ) → ℕ

@@ -1,7 +1,7 @@
 //! The laws of the formats: a page without a fault is one value's spelling and no other's, and what is
 //! spelled has no fault.
 
-ghost use Rattle.std.specs.Prelude.{◌≡◌, ◌↔◌, ◌+◌, ◌/◌, ◌^◌, ◌<◌, ◌≤◌, ◌++◌, ℕ, List, Some, None, length, take};
+ghost use Rattle.std.specs.Prelude.{◌≡◌, ◌≢◌, ◌↔◌, ◌+◌, ◌/◌, ◌^◌, ◌<◌, ◌≤◌, ◌++◌, ℕ, List, Some, None, length, take};
 ghost use Rattle.byteorder.specs.Endian.{big_bytes, big_number};
 ghost use Rattle.cs_model.specs.Element.{Entry as NamedEntry};
 ghost use Rattle.cs_model.specs.Formats.{ChunkFrame, RunFrame};
@@ -15,16 +15,16 @@ ghost use Rattle.cs_frame.specs.Bytes.{EachHas, IsBytes, IsPage};
 ghost use Rattle.cs_frame.specs.Formats.{formats_of, id_bytes};
 ghost use Rattle.cs_frame.specs.Frames.{SpellsFrame, bytes_in, first_page, frame_count, frame_fault, header_fault, payload_in, spelled_frame};
 ghost use Rattle.cs_frame.specs.FirstFormat.{IsOfFirstFormat, SpellsFirstFormat, SpellsPageZero, first_format_fault, page_zero_fault};
-ghost use Rattle.cs_frame.specs.Geometries.{IsGeometry, lengths_below, section_length, section_size, section_start};
+ghost use Rattle.cs_frame.specs.Geometries.{IsGeometry, IsKnown, lengths_below, section_length, section_size, section_start};
 ghost use Rattle.cs_frame.specs.Roots.{SpellsRoot, root_fault};
 ghost use Rattle.cs_frame.specs.Runs.{Entry, SpellsRun, run_fault};
 ghost use Rattle.cs_frame.specs.Superblocks.{SpellsSuperblock, superblock_fault};
 
-/// A page is a superblock section's spelling exactly where no test fails, and of one section alone.
+/// In each format a page is a superblock section's spelling exactly where no test fails, and of one section alone.
 pub fn superblock_has_one_spelling()
-    ensures exact { (page : List ℕ) → IsPage page
-        → (superblock_fault page ≡ None)
-        ↔ ((format : ℕ) × (version : ℕ) × (extents : ℕ) × (pages : ℕ) × (sections : ℕ) × (section : ℕ) × (written : List (ℕ × ℕ))
+    ensures exact { (format : ℕ) (page : List ℕ) → IsKnown format → IsPage page
+        → (superblock_fault format page ≡ None)
+        ↔ ((version : ℕ) × (extents : ℕ) × (pages : ℕ) × (sections : ℕ) × (section : ℕ) × (written : List (ℕ × ℕ))
         × SpellsSuperblock page format version extents pages sections section written) }
     ensures one_page { (page other : List ℕ) (format version extents pages sections section : ℕ) (written : List (ℕ × ℕ))
         → SpellsSuperblock page format version extents pages sections section written
@@ -46,7 +46,7 @@ pub fn first_format_has_one_spelling()
         → (version ≡ w) × (pages ≡ p) × (extents ≡ es) }
 {}
 
-/// Page 0 spells a section in one of the two formats exactly where no test fails, and it spells no section in both.
+/// Page 0 spells a section in the store's format or in the first exactly where no test fails, and it spells no section in both.
 pub fn page_zero_has_one_spelling()
     ensures exact { (page : List ℕ) → IsPage page
         → (page_zero_fault page ≡ None)
@@ -56,16 +56,32 @@ pub fn page_zero_has_one_spelling()
         → SpellsSuperblock page format version extents pages sections section written → IsOfFirstFormat page f w e p s j es → ⊥ }
 {}
 
-/// A page is a root's spelling exactly where no test fails, and of one root alone.
+/// In each format a page is a root's spelling exactly where no test fails, and of one root alone.
 pub fn root_has_one_spelling()
-    ensures exact { (page : List ℕ) → IsPage page
-        → (root_fault page ≡ None)
-        ↔ ((format : ℕ) × (version : ℕ) × (commands : ℕ) × (runs : List Place) × SpellsRoot page format version commands runs) }
+    ensures exact { (format : ℕ) (page : List ℕ) → IsKnown format → IsPage page
+        → (root_fault format page ≡ None)
+        ↔ ((version : ℕ) × (commands : ℕ) × (runs : List Place) × SpellsRoot page format version commands runs) }
     ensures one_page { (page other : List ℕ) (format version commands : ℕ) (runs : List Place)
         → SpellsRoot page format version commands runs → SpellsRoot other format version commands runs → page ≡ other }
     ensures one_root { (page : List ℕ) (format f version w commands n : ℕ) (runs ls : List Place)
         → SpellsRoot page format version commands runs → SpellsRoot page f w n ls
         → (format ≡ f) × (version ≡ w) × (commands ≡ n) × (runs ≡ ls) }
+{}
+
+/// A page that is spelled in one format is refused by its fourth byte as a page of any other.
+pub fn formats_are_apart()
+    ensures section { (page : List ℕ) (format f version extents pages sections section : ℕ) (written : List (ℕ × ℕ))
+        → SpellsSuperblock page format version extents pages sections section written → f ≢ format
+        → superblock_fault f page ≡ Some Fault.BadVersion }
+    ensures section_as_first { (page : List ℕ) (format version extents pages sections section : ℕ) (written : List (ℕ × ℕ))
+        → SpellsSuperblock page format version extents pages sections section written
+        → first_format_fault page ≡ Some Fault.BadVersion }
+    ensures first_as_section { (page : List ℕ) (format version pages : ℕ) (extents : List (ℕ × ℕ))
+        → SpellsFirstFormat page version pages extents → IsKnown format
+        → superblock_fault format page ≡ Some Fault.BadVersion }
+    ensures root { (page : List ℕ) (format f version commands : ℕ) (runs : List Place)
+        → SpellsRoot page format version commands runs → IsKnown f → f ≢ format
+        → root_fault f page ≡ Some Fault.BadVersion }
 {}
 
 /// A payload is a run's spelling exactly where no test fails, and of one run alone.
@@ -105,7 +121,7 @@ pub fn frame_is_read_by_its_header()
 
 /// These formats keep what the machine's model asks of the spelling of its pages.
 pub fn these_formats_are_formats()
-    ensures formats { (extents pages sections format : ℕ) → IsGeometry 2 extents pages sections
+    ensures formats { (f extents pages sections format : ℕ) → IsGeometry f extents pages sections
         → let S = shape_of extents pages sections (section_size extents sections) format in IsFormat S (formats_of S) }
     // The model doesn't bound the number of an identifier. One that 16 bytes can spell has these bytes, and any
     // 16 bytes are those of their number.

@@ -4,7 +4,7 @@
 ghost use Rattle.std.specs.Prelude.{◌≡◌, ◌+◌, ◌*◌, ◌≤◌, ℕ, List, None, Ok, Err, IfOk, length, slice_index};
 ghost use Rattle.cs_frame.specs.Bytes.{IsPage, number};
 ghost use Rattle.cs_frame.specs.Faults.{HasFault, OkUnlessMemory, fault_in};
-ghost use Rattle.cs_frame.specs.FirstFormat.{IsOfFirstFormat, SpellsFirstFormat, SpellsPageZero, first_format_bounds_test, first_format_end, first_format_extents, first_format_fault, first_format_pointer_test, page_zero_fault};
+ghost use Rattle.cs_frame.specs.FirstFormat.{IsOfFirstFormat, SpellsFirstFormat, SpellsPageZero, first_format_bounds_test, first_format_end, first_format_extents, first_format_fault, first_format_pointer_test, page_zero_fault, zero_format};
 ghost use Rattle.cs_frame.specs.Superblocks.{SpellsSuperblock};
 
 use crate::faults::FormatFault;
@@ -30,6 +30,7 @@ fn check_bounds(page: &[u8; 4096]) -> Result<(), FormatFault>
     let extents = BigEndian::read_u16(&page[12..14]);
     let pages = BigEndian::read_u16(&page[14..16]);
     if are_in_bounds(
+        FORMAT,
         GREATEST_SUPERBLOCK_EXTENTS,
         u64::from(extents),
         u64::from(pages),
@@ -102,12 +103,19 @@ fn decode_first_format(alloc: Global, page: &[u8; 4096]) -> Result<Superblock, F
     Ok(first_format_from(alloc, page)?)
 }
 
-/// What page 0 spells: a section of the superblock, or all of a superblock of the first format, which is one section. The first test
-/// that fails is answered: 20 BadMagic, 24 BadVersion where the fourth byte is neither digit, and then the tests of the format that
+/// The format whose tests of a section are made on page 0, by the digit that is its fourth byte.
+fn section_format(page: &[u8; 4096]) -> u8
+    ensures { result ≡ zero_format page.now }
+{
+    if page[3] == b'3' { 3 } else { 2 }
+}
+
+/// What page 0 spells: a section of the superblock in the format of the store, or all of a superblock of the first format, which is one
+/// section. The first test that fails is answered: 20 BadMagic, 24 BadVersion where the fourth byte is no format's digit, and then the tests of the format that
 /// the fourth byte names: 22 BadLength for the numbers of extents, pages and sections, 21 BadDigest, 24 for the version's range, 22 for
 /// a pointer, and 23 BadPadding; 9 OutOfMemory only for a page that has a spelling.
 pub fn decode_superblock(alloc: Global, page: &[u8; 4096]) -> Result<Superblock, FormatFault>
-    // What is read is spelled by the page, in one of the two formats.
+    // What is read is spelled by the page, in the store's format or in the first.
     ensures spelled { IfOk result (λ it.
         SpellsPageZero page.now it.format it.version it.extent_count it.pages it.sections it.section it.extents.items) }
     // What the page spells is read, unless memory runs out.
@@ -126,6 +134,6 @@ pub fn decode_superblock(alloc: Global, page: &[u8; 4096]) -> Result<Superblock,
     if page[3] == b'1' {
         decode_first_format(alloc, page)
     } else {
-        decode_section(alloc, page)
+        decode_section(alloc, page, section_format(page))
     }
 }

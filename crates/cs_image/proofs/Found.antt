@@ -6,9 +6,10 @@ use Rattle.std.proofs.lemmas.Bool.{lt-ltb}
 use Rattle.std.proofs.lemmas.List.{length-map}
 use Rattle.cs_extent.specs.State.{State as ExtentsState, extents_of, section_rows, shape}
 use Rattle.cs_frame.specs.declared.locators.Locator.{Locator}
+use Rattle.cs_frame.proofs.FormatLaws.{root_fits_from}
 use Rattle.cs_frame.specs.Formats.{formats_of, place_of}
 use Rattle.cs_frame.specs.Geometries.{device_pages}
-use Rattle.cs_frame.specs.Roots.{spelled_root}
+use Rattle.cs_frame.specs.Roots.{FitsRoot, greatest_runs, spelled_root}
 use Rattle.cs_index.proofs.Newest.{all_newest, all_oldest}
 use Rattle.cs_index.proofs.Whole.{length-newest}
 use Rattle.cs_index.specs.declared.runs.StoredRun.{StoredRun}
@@ -16,7 +17,7 @@ use Rattle.cs_index.specs.State.{IsShort, IsStored, named_entry, newest_first, r
 use Rattle.cs_model.proofs.Carries.{and_true}
 use Rattle.cs_model.specs.Element.{Bytes, Content, Damaged, Entry, Locator as Place, Map, Opening, Run}
 use Rattle.cs_model.specs.Formats.{ChunkFrame, RunFrame, Stand, opening_in, pages_from, places}
-use Rattle.cs_model.specs.Index.{AllPass, Gives, Holds, InBounds, InRange, Passes, Reads, ReadsAs, Value, after, entries_of, live, lookup}
+use Rattle.cs_model.specs.Index.{AllPass, Gives, Holds, InBounds, Passes, Reads, ReadsAs, Value, after, entries_of, live, lookup}
 use Rattle.cs_model.specs.Lists.{◌∈◌}
 use Rattle.cs_model.specs.Recovery.{Recovers}
 use Rattle.cs_model.specs.Refusal.{Refusal}
@@ -25,7 +26,7 @@ use Rattle.cs_image.specs.Reads.{AreLocated, ArePages, IsLocated, IsRunRead, IsS
 use Rattle.cs_image.proofs.Chunks.{chunk_or_fault}
 use Rattle.cs_image.proofs.Listed.{found_in, in_all, in_entries, oldest_places}
 use Rattle.cs_image.proofs.Runs.{Stored, stands_read, stored_read}
-use Rattle.cs_image.proofs.Superblocks.{extents_are, extents_fit, most_runs_of, read_below, read_fits, read_format, read_listed, section_formats, zero_formats}
+use Rattle.cs_image.proofs.Superblocks.{extents_are, extents_fit, read_below, read_fits, read_listed, section_formats, zero_formats}
 
 module _ (view : ℕ → List ℕ) (format : ℕ) (versions : List ℕ) (pages : ℕ) (written : List (ℕ × ℕ)) (root commands : ℕ) (runs : List StoredRun)
     (read : IsStoreRead view format versions pages written root commands runs) where
@@ -53,9 +54,6 @@ module _ (view : ℕ → List ℕ) (format : ℕ) (versions : List ℕ) (pages :
     below = is.page;
     inside = (is.extent, (let low : p l.extent ≤ pages = (fit l.extent).0 in let lt : l.page < p l.extent = is.page in omega arith));
   }
-
-  in_range : (l : Place) → Located l → InRange (shape x) l
-  in_range l is = (is.inside, subst (λ (n : ℕ). n ≤ 4294967295) is.generation (fit l.extent).1)
 
   not_empty : (l : Place) → Located l → opening.frozen l.extent l.generation ≡ true
   not_empty l is = and_true (g l.extent == l.generation) (nat_lt 0 (p l.extent)) (eq-eqb _ _ is.generation)
@@ -120,19 +118,10 @@ module _ (view : ℕ → List ℕ) (format : ℕ) (versions : List ℕ) (pages :
   few_chunks : (id : ℕ) → length (live (lookup id (entries_of (newest_first runs)))) ≤ 8
   few_chunks = found_in EntryIn (λ (o : Option (List Place)). length (live o) ≤ 8) (omega arith) (λ e is. is.0) (entries_of (newest_first runs)) all_entries
 
-  places_in : (rs : List Run) → AllByRecursion RunIn rs → (l : Place) → l ∈ places rs → InRange (shape x) l
-  places_in [] all l none = absurd none
-  places_in (run ∷ rs) all l (inl is) = subst (InRange (shape x)) (sym is) (in_range run.place all.0.reads.passes)
-  places_in (run ∷ rs) all l (inr has) = places_in rs all.1 l has
-
-  length-places : (rs : List Run) → length (places rs) ≡ length rs
-  length-places [] = refl
-  length-places (run ∷ rs) = ap suc (length-places rs)
-
   -- ---- what is found
 
-  few_runs : length (newest_first runs) ≤ 4
-  few_runs = let few : length (map (λ run. run.place) runs) ≤ 4 = read.root_page.fits.count in
+  few_runs : length (newest_first runs) ≤ greatest_runs format
+  few_runs = let few : length (map (λ run. run.place) runs) ≤ greatest_runs format = read.root_page.fits.count in
       omega (arith, few, length-newest runs, length-map runs (λ run. run.place))
 
   bounds : InBounds (shape x) root commands (length (newest_first runs)) (entries_of (newest_first runs))
@@ -140,7 +129,7 @@ module _ (view : ℕ → List ℕ) (format : ℕ) (versions : List ℕ) (pages :
     some_version = read.root_page.fits.first_version;
     version_fits = (let lt = read.root_page.fits.last_version in omega (arith, lt));
     commands_fit = (let lt = read.root_page.fits.last_command in omega (arith, lt));
-    few_runs = subst (λ (most : ℕ). length (newest_first runs) ≤ most) (sym (most_runs_of format (length written) pages (length versions) read.sections.geometry)) few_runs;
+    few_runs = few_runs;
     named = read.named;
     chunks_fit = few_chunks;
   }
@@ -170,9 +159,8 @@ module _ (view : ℕ → List ℕ) (format : ℕ) (versions : List ℕ) (pages :
       version = root;
       runs = newest_first runs;
       root = read.root_page.spelled ∙ ap (spelled_root format root commands) (sym (oldest_places runs));
-      root_fits = (read_format view format versions pages written read.sections).root_fits root commands (places (newest_first runs))
-          bounds.some_version bounds.version_fits bounds.commands_fit
-          (omega (arith, few_runs, length-places (newest_first runs))) (places_in (newest_first runs) runs_in);
+      root_fits = root_fits_from format root commands (places (newest_first runs))
+          (subst (λ (ls : List Locator). FitsRoot format root commands ls) (sym (oldest_places runs)) read.root_page.fits);
       runs_fit = λ run has. (in_all RunIn (newest_first runs) runs_in run has).fits;
       bounds = bounds;
       gives = gives;

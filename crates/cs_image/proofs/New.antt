@@ -4,6 +4,7 @@ use Rattle.std.specs.Prelude.{replicate, slice_index}
 use Rattle.std.proofs.lemmas.List.{drop-replicate, get_or-replicate, length-replicate, take-replicate}
 use Rattle.cs_extent.proofs.Sections.{part_inside}
 use Rattle.cs_extent.specs.State.{IsWhole, State as ExtentsState, section_rows, shape}
+use Rattle.cs_frame.proofs.FormatLaws.{root_fits_from}
 use Rattle.cs_frame.specs.Formats.{extents_of as listed_extents, formats_of}
 use Rattle.cs_frame.specs.Geometries.{IsGeometry, section_length, section_start}
 use Rattle.cs_frame.specs.Roots.{SpellsRoot}
@@ -48,7 +49,7 @@ module _ (view : ℕ → List ℕ) (format extents pages sections : ℕ) (is : I
     superblock = λ j lt. (sections_are j lt).spelled ∙ ap (spelled_superblock format 1 (length written) pages sections j) (sym (listed_is j))
         ∙ sym (own_format (shape fresh) (λ e. 0) (λ e. 0) j 1 (not_first format (length written) pages sections new_geometry));
     root = root.spelled;
-    root_fits = refl;
+    root_fits = root_fits_from format 1 0 [] root.fits;
     some_number = omega arith;
   }
 

@@ -11,6 +11,7 @@ use Rattle.cs_extent.specs.State.{State as ExtentsState, section_rows, shape}
 use Rattle.cs_frame.proofs.Fields.{IsBytes-field}
 use Rattle.cs_frame.proofs.FrameLaws.{payload_is_read, stands}
 use Rattle.cs_frame.proofs.Pieces.{AllByRecursion-map, length-first_chunks}
+use Rattle.cs_frame.proofs.GeometryLaws.{bounds}
 use Rattle.cs_frame.proofs.RootLaws as roots
 use Rattle.cs_frame.specs.declared.identifiers.ShardId.{ShardId}
 use Rattle.cs_frame.specs.declared.locators.Locator.{Locator}
@@ -40,7 +41,7 @@ use Rattle.cs_image.specs.Reads.{AreLocated, ArePages, AreSectionsRead, HasRunAt
 use Rattle.cs_image.proofs.Entries.{named_fit, tests_of}
 use Rattle.cs_image.proofs.Listed.{bytes_back, bytes_joined, to_all}
 use Rattle.cs_image.proofs.Runs.{StandsAt, all_stand, same_listed, same_runs}
-use Rattle.cs_image.proofs.Superblocks.{at_one, from_formats, most_runs_of, read_below, read_format, rows_agree, section_listed, section_one, zero_one}
+use Rattle.cs_image.proofs.Superblocks.{at_one, from_formats, read_below, read_format, rows_agree, section_listed, section_one, zero_one}
 
 -- ---- pointer and generation of each extent
 
@@ -93,8 +94,8 @@ module _ (format extents pages sections : ℕ) (is : IsGeometry format extents p
 
   pub fits_located : (l : Place) → Passes S (formats_of S) view r.pointers r.generations l → FitsLocator (as_locator l)
   fits_located l passes = record {
-    extent = (let few : extents ≤ 2048 = is.most_extents in let lt : l.extent < extents = passes.inside.0 in omega (arith, lt));
-    page = (let few : pages ≤ 256 = is.most_pages in let lt : l.page < pages = passes.inside.1 in omega (arith, lt));
+    extent = (let few : extents ≤ 7680 = (bounds format extents pages sections is).most_extents in let lt : l.extent < extents = passes.inside.0 in omega (arith, lt));
+    page = (let few : pages ≤ 65535 = (bounds format extents pages sections is).most_pages in let lt : l.page < pages = passes.inside.1 in omega (arith, lt));
     generation = (let low : r.generations l.extent ≤ 4294967295 = (r.extents_fit l.extent).1 in let same : r.generations l.extent ≡ l.generation = passes.generation in omega (arith, low, same));
   }
 
@@ -154,7 +155,7 @@ module _ (format extents pages sections : ℕ) (is : IsGeometry format extents p
       first_version = r.bounds.some_version;
       last_version = (let high = r.bounds.version_fits in omega (arith, high));
       last_command = (let high = r.bounds.commands_fit in omega (arith, high));
-      count = (let few = r.bounds.few_runs in omega (arith, few, most_runs_of format extents pages sections is, length-map (reverse (places r.runs)) as_locator, length-reverse (places r.runs), length-places r.runs));
+      count = (let few = r.bounds.few_runs in omega (arith, few, length-map (reverse (places r.runs)) as_locator, length-reverse (places r.runs), length-places r.runs));
       each = AllByRecursion-map FitsLocator as_locator (reverse (places r.runs)) (all_reverse (λ (l : Place). FitsLocator (as_locator l)) (places r.runs)
           (all_places (λ (l : Place). FitsLocator (as_locator l)) r.runs (λ run has. fits_located run.place (r.gives.runs_read run has).passes)));
     };
@@ -203,8 +204,8 @@ module _ (view : ℕ → List ℕ) (format : ℕ) (versions : List ℕ) (pages :
       → Stand (shape x) (formats_of (shape x)) view e i (spelled_frame 1 payload) → IsBytes payload
   payload_bytes e i payload there fits stand =
       let size : length (spelled_frame 1 payload) ≡ page_count (length payload) = length-first_chunks 4096 (page_count (length payload)) (frame_bytes 1 payload) in
-      let most : pages ≤ 256 = sizes.most_pages in
-      let few : (41 + length payload + 4095) / 4096 ≤ 256 = omega (arith, size, fits, most) in
+      let most : pages ≤ 65535 = (bounds format (length written) pages (length versions) sizes).most_pages in
+      let few : (41 + length payload + 4095) / 4096 ≤ 65535 = omega (arith, size, fits, most) in
       let all : AllByRecursion IsPage (spelled_frame 1 payload ++ []) = all_append IsPage (spelled_frame 1 payload) [] (pages_stand e i (spelled_frame 1 payload) there fits stand) tt in
       let whole : IsBytes (bytes_in (spelled_frame 1 payload ++ [])) = bytes_joined (take (frame_count (spelled_frame 1 payload ++ [])) (spelled_frame 1 payload ++ []))
       (all_take IsPage (frame_count (spelled_frame 1 payload ++ [])) (spelled_frame 1 payload ++ []) all) in
@@ -233,12 +234,12 @@ module _ (view : ℕ → List ℕ) (format : ℕ) (versions : List ℕ) (pages :
 
   module _ (root commands : ℕ) (listed : List Locator) (root_page : SpellsRoot (view 1) format root commands listed) where
     pub same_commands : commands ≡ n
-    same_commands = sym (roots.one_root (view 1) format root commands listed root_page).2
-        ∙ (roots.one_root (view 1) format r.version n (map as_locator (reverse (places r.runs))) (root_spelled format (length written) pages (length versions) sizes view n m r)).2
+    same_commands = sym (roots.one_root (view 1) format root commands listed root_page).of_commands
+        ∙ (roots.one_root (view 1) format r.version n (map as_locator (reverse (places r.runs))) (root_spelled format (length written) pages (length versions) sizes view n m r)).of_commands
 
     pub same_places : map as_locator (reverse (places r.runs)) ≡ listed
-    same_places = sym (roots.one_root (view 1) format r.version n (map as_locator (reverse (places r.runs))) (root_spelled format (length written) pages (length versions) sizes view n m r)).3
-        ∙ (roots.one_root (view 1) format root commands listed root_page).3
+    same_places = sym (roots.one_root (view 1) format r.version n (map as_locator (reverse (places r.runs))) (root_spelled format (length written) pages (length versions) sizes view n m r)).of_runs
+        ∙ (roots.one_root (view 1) format root commands listed root_page).of_runs
 
     pub all_readable : AllByRecursion (λ place. IsReadable x view place) listed
     all_readable = subst (AllByRecursion (λ place. IsReadable x view place)) same_places

@@ -2,20 +2,18 @@
 use Rattle.std.proofs.Common.{◌≡◌, inl, inr, ⊎_elim, ℕ, zero, suc, ◌+◌, ◌-◌, ◌/◌, ◌<◌, ◌≤◌, ◌^◌, Bool, true, false, List, [], ◌∷◌, length, take, drop, Some, None, nat_lt, ◌==◌, ◌&&◌, if◌then◌else◌, eq-eqb, ne_eqb, refl, sym, ap, ◌∙◌, subst, arith}
 use Rattle.std.specs.Prelude.{◌↔◌, slice_index, slice_index_or}
 use Rattle.std.specs.List.{AllByRecursion}
-use Rattle.std.proofs.lemmas.Bool.{and_parts, and_right, cases_lt, eqb-true, lt-ltb}
+use Rattle.std.proofs.lemmas.Bool.{and_from, and_parts, and_right, cases_lt, eqb-true, lt-ltb}
 use Rattle.std.proofs.lemmas.List.{get_or-drop, get_or-take, get_or_past, length-replicate}
 use Rattle.cs_extent.specs.State.{IsWhole, State as ExtentsState, extents_of, section_rows, shape}
 use Rattle.cs_frame.proofs.FirstFormatLaws.{apart, one_of_first_format, page_zero_fits, spelled_has_none as first_has_none}
 use Rattle.cs_frame.proofs.FormatLaws.{is_format}
-use Rattle.cs_frame.proofs.GeometryLaws.{model_geometry, section_holds, section_inside, section_length-le}
+use Rattle.cs_frame.proofs.GeometryLaws.{for_known, lies_in_device, model_geometry, section_holds, section_inside, section_length-le}
 use Rattle.cs_frame.proofs.SuperblockLaws.{one_section as section_of_page, spelled_has_none}
 use Rattle.cs_frame.specs.FirstFormat.{IsOfFirstFormat, SpellsPageZero, spelled_first_format}
 use Rattle.cs_frame.specs.Formats.{extents_of as listed_extents, formats_of}
 use Rattle.cs_frame.specs.Geometries.{IsGeometry, device_pages, section_length, section_size, section_start}
 use Rattle.cs_frame.specs.Pointers.{FitsExtent as FitsPair}
-use Rattle.cs_frame.specs.Roots.{greatest_runs}
 use Rattle.cs_frame.specs.Superblocks.{FitsSuperblock, SpellsSuperblock, spelled_superblock}
-use Rattle.cs_model.proofs.LocalRecovery.{lies_below}
 use Rattle.cs_model.proofs.Shapes.{is_shape}
 use Rattle.cs_model.specs.Device.{IsShape, Shape}
 use Rattle.cs_model.specs.Frames.{IsFormat}
@@ -152,16 +150,16 @@ pub section_one : (page : List ℕ) (format version extents pages sections secti
 section_one page format version extents pages sections section rows f w e p s j others a b =
     let x = section_of_page page format version extents pages sections section rows a in
     let y = section_of_page page f w e p s j others b in
-    (sym x.of_format ∙ y.of_format, sym x.of_extents ∙ y.of_extents, sym x.of_pages ∙ y.of_pages, sym x.of_sections ∙ y.of_sections, sym x.of_section ∙ y.of_section, sym x.of_written ∙ y.of_written)
+    (omega (arith, x.of_format, y.of_format), sym x.of_extents ∙ y.of_extents, sym x.of_pages ∙ y.of_pages, sym x.of_sections ∙ y.of_sections, sym x.of_section ∙ y.of_section, sym x.of_written ∙ y.of_written)
 
 pub zero_one : (page : List ℕ) (format version extents pages sections section : ℕ) (rows : List (ℕ × ℕ)) (f w e p s j : ℕ) (others : List (ℕ × ℕ))
     → SpellsPageZero page format version extents pages sections section rows → SpellsPageZero page f w e p s j others
     → (format ≡ f) × (extents ≡ e) × (pages ≡ p) × (sections ≡ s) × (section ≡ j) × (rows ≡ others)
 zero_one page format version extents pages sections section rows f w e p s j others (inl a) (inl b) = section_one page format version extents pages sections section rows f w e p s j others a b
 zero_one page format version extents pages sections section rows f w e p s j others (inl a) (inr b) =
-    absurd (apart page (first_has_none page w p others b.spells) (spelled_has_none page format version extents pages sections section rows a))
+    absurd (apart format page a.fits.geometry.known (first_has_none page w p others b.spells) (spelled_has_none page format version extents pages sections section rows a))
 zero_one page format version extents pages sections section rows f w e p s j others (inr a) (inl b) =
-    absurd (apart page (first_has_none page version pages rows a.spells) (spelled_has_none page f w e p s j others b))
+    absurd (apart f page b.fits.geometry.known (first_has_none page version pages rows a.spells) (spelled_has_none page f w e p s j others b))
 zero_one page format version extents pages sections section rows f w e p s j others (inr a) (inr b) =
     let x = one_of_first_format page version pages rows a.spells in
     let y = one_of_first_format page w p others b.spells in
@@ -187,13 +185,7 @@ of_first (suc j) page format version extents pages sections rows first is = absu
 
 -- no store is of the first format
 pub not_first : (format extents pages sections : ℕ) → IsGeometry format extents pages sections → (format == 1) ≡ false
-not_first format extents pages sections is = ap (λ (f : ℕ). f == 1) is.known
-
--- the machine's model allows a root as many runs as its format does
-pub most_runs_of : (format extents pages sections : ℕ) → IsGeometry format extents pages sections
-    → (shape_of extents pages sections (section_size extents sections) format).most_runs ≡ greatest_runs format
-most_runs_of format extents pages sections is =
-    ap (λ (f : ℕ). (shape_of extents pages sections (section_size extents sections) f).most_runs) is.known
+not_first format extents pages sections is = for_known (λ f. (f == 1) ≡ false) refl refl format is.known
 
 all_of_them : (n : ℕ) → n ≡ section_length n 1 0
 all_of_them n = omega arith
@@ -211,11 +203,12 @@ module _ (S : Shape) (pointers generations : ℕ → ℕ) where
 
   -- in a format that isn't the first they spell a section of several
   pub own_format : (j version : ℕ) → (S.format == 1) ≡ false → (formats_of S).superblock S.format j version pointers generations ≡ in_sections j version
-  own_format j version other = ap (λ (b : Bool). if b && (S.sections == 1) then of_first_format j version else in_sections j version) other
+  own_format j version other = ap (λ (b : Bool). if b && (S.format == 2) && (S.sections == 1) then of_first_format j version else in_sections j version) other
 
-  first_spelled : (j version : ℕ) (page : List ℕ) → j ≡ 0 → S.sections ≡ 1 → FitsSuperblock S.format version S.extents S.pages S.sections j (listed j) → page ≡ of_first_format j version
+  first_spelled : (j version : ℕ) (page : List ℕ) → j ≡ 0 → S.format ≡ 2 → S.sections ≡ 1 → FitsSuperblock S.format version S.extents S.pages S.sections j (listed j) → page ≡ of_first_format j version
       → IsOfFirstFormat page S.format version S.extents S.pages S.sections j (listed j)
-  first_spelled j version page first one fits is =
+  first_spelled j version page first second one fits is =
+      let g : IsGeometry 2 S.extents S.pages S.sections = subst (λ (f : ℕ). IsGeometry f S.extents S.pages S.sections) second fits.geometry in
       let count : length (listed j) ≡ S.extents = fits.count ∙ ap (λ (n : ℕ). section_length S.extents n j) one ∙ ap (section_length S.extents 1) first ∙ sym (all_of_them S.extents) in
       let most : section_length S.extents S.sections j ≤ section_size S.extents S.sections = section_length-le S.extents S.sections j in
       record {
@@ -223,15 +216,15 @@ module _ (S : Shape) (pointers generations : ℕ → ℕ) where
           fits = record {
             first_version = fits.first_version;
             last_version = fits.last_version;
-            fewest_extents = omega (arith, count, fits.geometry.fewest_extents);
-            most_extents = omega (arith, fits.count, most, fits.geometry.section_fits);
-            fewest_pages = fits.geometry.fewest_pages;
-            most_pages = fits.geometry.most_pages;
+            fewest_extents = omega (arith, count, g.fewest_extents);
+            most_extents = omega (arith, fits.count, most, g.section_fits);
+            fewest_pages = g.fewest_pages;
+            most_pages = g.most_pages;
             each = fits.each;
           };
           spelled = is;
         };
-        written_in = fits.geometry.known;
+        written_in = second;
         all_extents = sym count;
         one_section = one;
         first_section = first;
@@ -240,15 +233,17 @@ module _ (S : Shape) (pointers generations : ℕ → ℕ) where
   -- what they spell of a section, where it can be spelled, its page spells
   pub from_formats : (format j version : ℕ) (page : List ℕ) → page ≡ (formats_of S).superblock format j version pointers generations
       → FitsSuperblock S.format version S.extents S.pages S.sections j (listed j) → SpellsAt j page S.format version S.extents S.pages S.sections (listed j)
-  from_formats format j version page is fits = go ((format == 1) && (S.sections == 1)) refl is
+  from_formats format j version page is fits = go ((format == 1) && (S.format == 2) && (S.sections == 1)) refl is
     where
-      go : (b : Bool) → ((format == 1) && (S.sections == 1)) ≡ b → page ≡ (if b then of_first_format j version else in_sections j version)
+      go : (b : Bool) → ((format == 1) && (S.format == 2) && (S.sections == 1)) ≡ b → page ≡ (if b then of_first_format j version else in_sections j version)
           → SpellsAt j page S.format version S.extents S.pages S.sections (listed j)
       go true test is =
-          let one : S.sections ≡ 1 = eqb-true S.sections 1 (and_parts (format == 1) (S.sections == 1) test).1 in
+          let both = and_parts ((format == 1) && (S.format == 2)) (S.sections == 1) test in
+          let one : S.sections ≡ 1 = eqb-true S.sections 1 both.1 in
+          let second : S.format ≡ 2 = eqb-true S.format 2 (and_parts (format == 1) (S.format == 2) both.0).1 in
           let inside : j < S.sections = fits.one_of_them in
           let first : j ≡ 0 = omega (arith, one, inside) in
-          of_first j page S.format version S.extents S.pages S.sections (listed j) first (first_spelled j version page first one fits is)
+          of_first j page S.format version S.extents S.pages S.sections (listed j) first (first_spelled j version page first second one fits is)
       go false test is = of_section j page S.format version S.extents S.pages S.sections (listed j) (record { fits = fits; spelled = is })
 
   -- what page 0 spells, one of them spells
@@ -256,7 +251,7 @@ module _ (S : Shape) (pointers generations : ℕ → ℕ) where
       → (format : ℕ) × (page ≡ (formats_of S).superblock format 0 version pointers generations)
   zero_formats version page rows same (inl is) = (2, is.spelled ∙ ap (spelled_superblock S.format version S.extents S.pages S.sections 0) (sym same))
   zero_formats version page rows same (inr is) =
-      let test : (S.sections == 1) ≡ true = eq-eqb S.sections 1 is.one_section in
+      let test : ((S.format == 2) && (S.sections == 1)) ≡ true = and_from (S.format == 2) (S.sections == 1) (eq-eqb S.format 2 is.written_in) (eq-eqb S.sections 1 is.one_section) in
       (1, is.spells.spelled ∙ ap (spelled_first_format version S.pages) (sym same) ∙ ap (λ (b : Bool). if b then of_first_format 0 version else in_sections 0 version) (sym test))
 
   -- and what the page of a further section spells, each of them
@@ -264,7 +259,7 @@ module _ (S : Shape) (pointers generations : ℕ → ℕ) where
       → SpellsSuperblock page S.format version S.extents S.pages S.sections (suc j) rows → page ≡ (formats_of S).superblock format (suc j) version pointers generations
   section_formats format j version page rows same inside is =
       let several : (S.sections == 1) ≡ false = ne_eqb S.sections 1 (λ one. omega (arith, one, inside)) in
-      let test : ((format == 1) && (S.sections == 1)) ≡ false = and_right (format == 1) (S.sections == 1) several in
+      let test : ((format == 1) && (S.format == 2) && (S.sections == 1)) ≡ false = and_right ((format == 1) && (S.format == 2)) (S.sections == 1) several in
       is.spelled ∙ ap (spelled_superblock S.format version S.extents S.pages S.sections (suc j)) (sym same)
       ∙ ap (λ (b : Bool). if b then of_first_format (suc j) version else in_sections (suc j) version) (sym test)
 
@@ -287,7 +282,7 @@ module _ (view : ℕ → List ℕ) (format : ℕ) (versions : List ℕ) (pages :
   read_format = is_format format (length written) pages (length versions) is.geometry
 
   pub read_below : LiesBelow (shape x) (device_pages format (length written) pages (length versions))
-  read_below = lies_below (length written) pages (length versions) (section_size (length written) (length versions)) format (model_geometry format (length written) pages (length versions) is.geometry)
+  read_below = lies_in_device format (length written) pages (length versions) is.geometry
 
   -- what each section has can be spelled
   pub read_fits : (j : ℕ) → j < length versions → FitsSuperblock format (slice_index versions j) (length written) pages (length versions) j (section_rows x j)
@@ -316,11 +311,12 @@ module _ (view : ℕ → List ℕ) (format : ℕ) (versions : List ℕ) (pages :
     geometry = is.geometry;
     all_resets = length-replicate (length written) 0;
     all_swept = length-replicate (length written) false;
+    all_kinds = length-replicate (length written) false;
+    all_found = length-replicate (length written) 0;
     pointers = λ e. (extents_fit e).0;
     roots = λ e. subst (λ (k : ℕ). k < 2 ^ 63) (sym (all_default (length written) e 0)) (omega arith);
     open_inside = λ e none. absurd (let wrong : None ≡ Some e = none in cc);
     open_begun = λ e none. absurd (let wrong : None ≡ Some e = none in cc);
-    open_unfilled = λ e none. absurd (let wrong : None ≡ Some e = none in cc);
   }
 
 -- nothing is open, reset or being swept
@@ -341,8 +337,8 @@ extents_are format pages sections written = λ i. record {
   reset = λ e. all_default (length written) e 0 i;
   open_extent = None;
   swept = λ e. all_default (length written) e false i;
-  of_runs = λ e. false;
-  found = λ e. 0;
+  of_runs = λ e. all_default (length written) e false i;
+  found = λ e. all_default (length written) e 0 i;
   fresh = None;
   last = None;
 }

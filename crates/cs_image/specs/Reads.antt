@@ -2,7 +2,7 @@
 use Rattle.std.specs.Prelude.{◌≡◌, ◌<◌, ◌≤◌, ℕ, zero, suc, false, List, None, length, map, replicate, slice_index, take}
 use Rattle.std.specs.List.{AllByRecursion}
 use Rattle.cs_chunk.specs.Chunks.{IsFrameAt}
-use Rattle.cs_extent.specs.State.{State as ExtentsState, extents_of, section_rows, shape}
+use Rattle.cs_extent.specs.State.{State as ExtentsState, extents_of, found_at, section_rows, shape}
 use Rattle.cs_frame.specs.declared.locators.Locator.{Locator}
 use Rattle.cs_frame.specs.Bytes.{IsPage}
 use Rattle.cs_frame.specs.FirstFormat.{SpellsPageZero}
@@ -14,9 +14,11 @@ use Rattle.cs_index.specs.declared.runs.StoredRun.{StoredRun}
 use Rattle.cs_index.specs.State.{newest_first}
 use Rattle.cs_model.specs.Device.{Shape}
 use Rattle.cs_model.specs.Formats.{RunFrame}
+use Rattle.cs_model.specs.Geometry.{apart_in}
 use Rattle.cs_model.specs.Index.{entries_of, names}
 
--- the extents that so many sections of this format record, one behind the other: none is open, none was reset, none is being swept
+-- the extents that so many sections of this format record, one behind the other: none is open, none was reset, none is being swept,
+-- and it isn't noted yet which hold runs
 abbrev pub extents_at : (format pages sections : ℕ) → (written : List (ℕ × ℕ)) → ExtentsState
 extents_at format pages sections written = record {
   format = format;
@@ -26,6 +28,10 @@ extents_at format pages sections written = record {
   resets = replicate (length written) 0;
   swept = replicate (length written) false;
   open_extent = None;
+  of_runs = replicate (length written) false;
+  found = found_at (apart_in format) written;
+  fresh = None;
+  last = None;
 }
 
 -- the bytes of section j's page spell it so, of a store of this format: those of page 0, which has section 0, maybe in the first format

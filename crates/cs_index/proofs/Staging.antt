@@ -34,7 +34,7 @@ some_of [] some = absurd (some refl)
 some_of (x ∷ xs) some = omega arith
 
 pub is_run : (run : SpelledRun) (pages : ℕ) → AllByRecursion (λ entry. IsId entry.0) run.entries.items → Ascending (map named_entry run.entries.items) → AllByRecursion IsShort (map named_entry run.entries.items)
-    → map named_entry run.entries.items ≢ [] → pages ≤ 256 → length run.entries.items ≤ named_limit pages → IsRun run
+    → map named_entry run.entries.items ≢ [] → pages ≤ 65535 → length run.entries.items ≤ named_limit pages → IsRun run
 is_run run pages ids order short some most few = record {
   some = some_of run.entries.items some;
   most = omega (arith, most, few);
@@ -58,7 +58,7 @@ table_few xs runs limit room whole =
 
 -- ---- a run more
 
-newest_push : (runs : List StoredRun) (r : StoredRun) → newest_first (runs ++ r ∷ []) ≡ run_of r ∷ newest_first runs
+pub newest_push : (runs : List StoredRun) (r : StoredRun) → newest_first (runs ++ r ∷ []) ≡ run_of r ∷ newest_first runs
 newest_push [] r = refl
 newest_push (x ∷ xs) r = ap (λ rs. rs ++ run_of x ∷ []) (newest_push xs r)
 

@@ -3,12 +3,12 @@ use Rattle.std.proofs.Common.{◌≡◌, ℕ, ◌+◌, ◌≤◌, Bool, true, na
 use Rattle.cs_disk.proofs.Images.{length-applied}
 use Rattle.cs_disk.specs.Disk.{Image, MayLeave, State as DiskState, kept, page}
 use Rattle.cs_extent.specs.State.{IsWhole, State as ExtentsState, shape}
-use Rattle.cs_frame.proofs.GeometryLaws.{model_geometry}
+use Rattle.cs_frame.proofs.GeometryLaws.{lies_in_device}
 use Rattle.cs_frame.specs.Formats.{formats_of}
 use Rattle.cs_frame.specs.Geometries.{section_size}
 use Rattle.cs_image.specs.Reads.{page_total}
 use Rattle.cs_model.proofs.Crash.{leaves_prefix}
-use Rattle.cs_model.proofs.LocalRecovery.{lies_below, recovers_alike, recovers_alike_but}
+use Rattle.cs_model.proofs.LocalRecovery.{recovers_alike, recovers_alike_but}
 use Rattle.cs_model.proofs.Unique.{one_recovery}
 use Rattle.cs_model.specs.Device.{Page, Shape}
 use Rattle.cs_model.specs.Element.{Map}
@@ -28,8 +28,7 @@ same_size disk left may = ap length may.2 ∙ length-applied disk.durable (kept 
 
 -- the pages of a store are the first of its device
 pub store_below : (x : ExtentsState) → IsWhole x → LiesBelow (shape x) (page_total (shape x))
-store_below x whole = lies_below (length x.written) x.pages x.sections (section_size (length x.written) x.sections) x.format
-    (model_geometry x.format (length x.written) x.pages x.sections whole.geometry)
+store_below x whole = lies_in_device x.format (length x.written) x.pages x.sections whole.geometry
 
 module _ (x : ExtentsState) (s : State) (disk : DiskState) (left : Image) (whole : IsWhole x)
     (sound : Sound (shape x) (formats_of (shape x)) s) (is : IsDiskOf (shape x) (formats_of (shape x)) s disk)

@@ -1,5 +1,5 @@
 -- What the disk of a state reads as, and what a crash may leave of it.
-use Rattle.std.proofs.Common.{◌≡◌, ◌≢◌, inl, inr, ℕ, ◌+◌, ◌<◌, Bool, true, false, ◌==◌, List, [], ◌∷◌, ◌++◌, length, Some, None, if◌then◌else◌, eq-eqb, ne_eqb, refl, sym, ap, ap₂, ◌∙◌, subst, arith}
+use Rattle.std.proofs.Common.{◌≡◌, ◌≢◌, inl, inr, ℕ, ◌<◌, Bool, true, false, ◌==◌, List, [], ◌∷◌, ◌++◌, length, Some, None, if◌then◌else◌, eq-eqb, ne_eqb, refl, sym, ap, ap₂, ◌∙◌, subst, arith}
 use Rattle.std.proofs.lemmas.Bool.{cases_Bool, cases_eq}
 use Rattle.cs_disk.proofs.Images.{length-applied, page-applied}
 use Rattle.cs_disk.specs.Disk.{Image, MayLeave, State as DiskState, applied as applied_to, flushed, kept, latest, page, seen, written as written_to}

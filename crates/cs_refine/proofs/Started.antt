@@ -5,7 +5,7 @@ use Rattle.cs_disk.proofs.Images.{length-applied, page-applied}
 use Rattle.cs_disk.proofs.Whole.{BytePages, Pages, left_whole, seen_whole}
 use Rattle.cs_disk.specs.Disk.{Image, IsWhole as IsWholeDisk, MayLeave, State as DiskState, Write as PageWrite, flushed, latest, page, seen}
 use Rattle.cs_extent.specs.State.{IsWhole, State as ExtentsState, shape}
-use Rattle.cs_frame.proofs.GeometryLaws.{model_geometry}
+use Rattle.cs_frame.proofs.GeometryLaws.{lies_in_device, model_geometry}
 use Rattle.cs_frame.specs.Formats.{formats_of}
 use Rattle.cs_frame.specs.Geometries.{IsGeometry, device_pages, section_length, section_size}
 use Rattle.cs_frame.specs.Roots.{SpellsRoot}
@@ -17,7 +17,6 @@ use Rattle.cs_image.specs.Openings.{AreNewSections, IsFoundAs, by_family, graph_
 use Rattle.cs_image.specs.Reads.{ArePages, IsStoreRead, extents_at}
 use Rattle.cs_index.specs.declared.runs.StoredRun.{StoredRun}
 use Rattle.cs_index.specs.State.{newest_first}
-use Rattle.cs_model.proofs.LocalRecovery.{lies_below}
 use Rattle.cs_model.proofs.Opens.{opens_bounded, opens_sound}
 use Rattle.cs_model.specs.Cut.{page_in}
 use Rattle.cs_model.specs.Device.{FramePage, IsShape, Page, PageKind, RootPage, SectionPage}
@@ -131,7 +130,7 @@ module _ (old : DiskState) (writes : List PageWrite) (format extents pages secti
       ∙ ap (latest writes p) (sym (page-applied old.durable old.volatile p (le_trans lt enough)))
 
   below : LiesBelow (shape_of extents pages sections (section_size extents sections) format) (device_pages format extents pages sections)
-  below = lies_below extents pages sections (section_size extents sections) format (model_geometry format extents pages sections geometry)
+  below = lies_in_device format extents pages sections geometry
 
   pub written_started : AreNewSections view format extents pages sections → SpellsRoot (view 1) format 1 0 []
       → (let x = extents_at format pages sections (replicate extents (0, 0)) in

@@ -56,8 +56,19 @@ pub const FIRST_FORMAT_FAULTS: [(usize, u8); 6] = [
     (4096, 23),
 ];
 
-/// Why one of the one section isn't.
-pub const ONE_SECTION_FAULTS: [(usize, u8); 8] = [
+/// Why one of the one section on page 0 isn't: by the fourth byte, which is turned to the digit 3, as a section of format 3.
+pub const ONE_SECTION_FAULTS: [(usize, u8); 7] = [
+    (3, 20),
+    (14, 21),
+    (15, 22),
+    (16, 21),
+    (18, 22),
+    (86, 21),
+    (4096, 23),
+];
+
+/// Why one of the one section on another page isn't.
+const SECTION_FAULTS: [(usize, u8); 8] = [
     (3, 20),
     (4, 24),
     (14, 21),
@@ -86,7 +97,7 @@ fn reads(rt: &(impl Abort + AllocGlobal), page: &[u8; 4096], wanted: &str) {
 
 /// Asserts how the section that a page spells prints.
 fn reads_section(rt: &(impl Abort + AllocGlobal), page: &[u8; 4096], wanted: &str) {
-    let read = decode_section(rt.alloc(), page).expect(rt, "a section");
+    let read = decode_section(rt.alloc(), page, 2).expect(rt, "a section");
     prints(rt, &read, wanted);
 }
 
@@ -151,7 +162,7 @@ fn damaged_superblocks(rt: HostRuntime) {
 /// A page that isn't page 0 is read in one format alone.
 #[test]
 fn damaged_sections(rt: HostRuntime) {
-    damaged(&rt, Format::Section, &ONE_SECTION, &ONE_SECTION_FAULTS);
+    damaged(&rt, Format::Section, &ONE_SECTION, &SECTION_FAULTS);
     damaged(
         &rt,
         Format::Section,

@@ -17,7 +17,7 @@ pub returns-then-not-has_numbers-clause-why : goal.returns-then-not-has_numbers-
 returns-then-not-has_numbers-clause-why g c = λ h.
     let image = seen (g.D.PageDisk.state c.args.disk.now) in
     subst (λ (n : ℕ). IsNoAnswer NotAStore ⊎ IsWhyNoSection c.args.format c.args.extents c.args.pages c.args.sections c.args.section (page image n) NotAStore) c.further_page-number.ensures
-    (other_further c.args.format c.args.extents c.args.pages c.args.sections c.args.section (page image c.further_page-number.result) c.in-Ok.superblock c.if-not-has_numbers.ensures (c.in-Ok.ensures.read h))
+    (other_further c.args.format c.args.extents c.args.pages c.args.sections c.args.section (page image c.further_page-number.result) c.in-Ok.superblock c.in-Ok.ensures.format c.if-not-has_numbers.ensures (c.in-Ok.ensures.read h))
 
 pub returns-clause-read : goal.returns-clause-read
 returns-clause-read g c = λ h.

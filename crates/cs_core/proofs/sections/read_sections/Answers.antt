@@ -13,6 +13,11 @@ alone-requires g c =
     let it = c.args.first in
     (page_zero_fits c.requires.some.0 it.format it.version it.extent_count it.pages it.sections it.section it.extents.items c.requires.some.1).geometry.fewest_sections
 
+pub read_section-requires-clause-known : goal.read_section-requires-clause-known
+read_section-requires-clause-known g c =
+    let it = c.args.first in
+    (page_zero_fits c.requires.some.0 it.format it.version it.extent_count it.pages it.sections it.section it.extents.items c.requires.some.1).geometry.known
+
 pub read_section-requires-clause-sized : goal.read_section-requires-clause-sized
 read_section-requires-clause-sized g c = c.loop-k.invariant.disk.pages ∙ c.requires.sized
 

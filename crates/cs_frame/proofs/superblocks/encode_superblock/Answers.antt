@@ -1,13 +1,13 @@
 use Rattle.std.proofs.Common.{◌≤◌, ◌∙◌, List, ℕ, ap, length, refl, subst, sym}
 use Rattle.std.specs.List.{AllByRecursion}
 use Rattle.cs_frame.specs.Superblocks.{SpellsSuperblock}
-use Rattle.cs_frame.proofs.SuperblockLaws.{section_of_2}
+use Rattle.cs_frame.proofs.SuperblockLaws.{same_section}
 use Rattle.cs_frame.proofs.superblocks.encode_superblock.Goals as goal
 
 pub spelled_page-requires : goal.spelled_page-requires
 spelled_page-requires c =
     let it = c.args.superblock.now in
-    section_of_2 it.format it.version it.extent_count it.pages it.sections it.section _ _ _ c.deref.result.now refl refl refl (record {
+    same_section it.format it.version it.extent_count it.pages it.sections it.section _ _ _ _ c.deref.result.now refl refl refl refl (record {
       first_version = c.requires.first_version;
       last_version = c.requires.last_version;
       geometry = c.requires.geometry;
@@ -19,5 +19,4 @@ spelled_page-requires c =
 pub returns : goal.returns
 returns c =
     let it = c.args.superblock.now in
-    subst (λ (n : ℕ). SpellsSuperblock c.spelled_page.result n it.version it.extent_count it.pages it.sections it.section it.extents.items) (sym c.requires.geometry.known)
-    (subst (λ (es : List (ℕ × ℕ)). SpellsSuperblock c.spelled_page.result 2 it.version it.extent_count it.pages it.sections it.section es) c.deref.ensures.value c.spelled_page.ensures)
+    subst (λ (es : List (ℕ × ℕ)). SpellsSuperblock c.spelled_page.result it.format it.version it.extent_count it.pages it.sections it.section es) c.deref.ensures.value c.spelled_page.ensures
