@@ -5,6 +5,8 @@ import struct
 PAGE = 4096
 NAMES = {6: "OddLength", 20: "BadMagic", 21: "BadDigest", 22: "BadLength", 23: "BadPadding", 24: "BadVersion", 25: "OutOfOrder", 43: "NotAStore"}
 GREATEST = 2**63
+# Of each format the least and the greatest number of extents, the greatest of their pages, of sections and of runs.
+BOUNDS = {2: (4, 2048, 256, 8, 4), 3: (5, 7680, 65535, 15, 24)}
 
 
 class Unread(Exception):
@@ -23,21 +25,24 @@ def has_digest(text):
     return hashlib.sha256(text[:-32]).digest() == text[-32:]
 
 
-def geometry_of(extents, pages, sections):
-    """How many extents a section has, None where there is no such geometry."""
-    if not 4 <= extents <= 2048 or not 2 <= pages <= 256 or not 1 <= sections <= 8:
+def geometry_of(form, extents, pages, sections):
+    """How many extents a section has, None where there is no such geometry of this format."""
+    least, most, longest, parts, _ = BOUNDS[form]
+    if not least <= extents <= most or not 2 <= pages <= longest or not 1 <= sections <= parts:
         return None
     most = -(-extents // sections)
     return most if most <= 512 and (sections - 1) * most < extents else None
 
 
-def section(page):
-    """Extents, pages, sections, which section it is, and the pointer and the generation of each of its extents."""
+def section(page, form=None):
+    """The store's format, extents, pages, sections, which section it is, and the pointer and the generation of each of its extents. Page 0 tells
+    the format by its fourth byte; another page has to be of it."""
     must(page[:3] == b"CSS", 20)
-    must(page[3:4] in (b"1", b"2"), 24)
+    must(page[3:4] in (b"1", b"2", b"3") if form is None else page[3] == 48 + form, 24)
+    form = 3 if page[3:4] == b"3" else 2
     version, extents, pages = struct.unpack(">QHH", page[4:16])
-    sections, number, at = (page[16], page[17], 18) if page[3:4] == b"2" else (1, 0, 16)
-    most = geometry_of(extents, pages, sections)
+    sections, number, at = (1, 0, 16) if page[3:4] == b"1" else (page[16], page[17], 18)
+    most = geometry_of(form, extents, pages, sections)
     must(most is not None and number < sections, 22)
     count = min(most, extents - number * most)
     end = at + 6 * count + 32
@@ -46,15 +51,15 @@ def section(page):
     records = [struct.unpack(">HI", page[at + 6 * k:at + 6 * k + 6]) for k in range(count)]
     must(all(pointer <= pages for pointer, _ in records), 22)
     must(not any(page[end:]), 23)
-    return extents, pages, sections, number, records
+    return form, extents, pages, sections, number, records
 
 
-def root(page):
+def root(page, form):
     """How many commands, and where the runs lie, oldest first."""
     must(page[:3] == b"CSR", 20)
-    must(page[3:4] == b"1", 24)
+    must(page[3:4] == (b"3" if form == 3 else b"1"), 24)
     version, commands, count = struct.unpack(">QQB", page[4:21])
-    must(count <= 4, 22)
+    must(count <= BOUNDS[form][4], 22)
     end = 21 + 8 * count + 32
     must(has_digest(page[:end]), 21)
     must(1 <= version < GREATEST and commands < GREATEST, 24)
@@ -97,14 +102,15 @@ class Store:
         must(len(image) % PAGE == 0, 6)
         must(len(image) >= 10 * PAGE, 43)
         self.image = image
-        self.extents, self.pages, self.sections, first, records = section(self.page(0))
-        must(first == 0 and len(image) == PAGE * (1 + self.extents * self.pages + self.sections), 43)
+        self.form, self.extents, self.pages, self.sections, first, records = section(self.page(0))
+        kept = 1 + self.sections if self.form == 3 else 0
+        must(first == 0 and len(image) == PAGE * (1 + self.extents * self.pages + self.sections + kept), 43)
         self.records = list(records)
         for number in range(1, self.sections):
-            *shape, found, records = section(self.page(1 + self.extents * self.pages + number))
-            must(shape == [self.extents, self.pages, self.sections] and found == number, 43)
+            *shape, found, records = section(self.page(1 + self.extents * self.pages + number), self.form)
+            must(shape == [self.form, self.extents, self.pages, self.sections] and found == number, 43)
             self.records += records
-        self.commands, self.runs = root(self.page(1))
+        self.commands, self.runs = root(self.page(1), self.form)
         self.entries = {}
         for place in self.runs:
             must(self.is_there(place), 43)

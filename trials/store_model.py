@@ -7,7 +7,7 @@ import json
 PAGE = 4096
 ENTRY = 81
 # The families by number: section 0 of the superblock, the root, and the sections behind the first one.
-LETTERS = "srabcdefg"
+LETTERS = "srabcdefghijklmn"
 
 
 class Refused(Exception):

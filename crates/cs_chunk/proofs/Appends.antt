@@ -10,15 +10,16 @@ use Rattle.cs_deps.specs.Named.{Named}
 use Rattle.cs_deps.specs.Pending.{Waits, WaitsAt}
 use Rattle.cs_deps.specs.Staging.{Staging}
 use Rattle.cs_deps.specs.State.{IsNewestOn, IsWhole, NoneOn, State as Graph, Write, write_of}
-use Rattle.cs_extent.specs.Appended.{IsAppended}
+use Rattle.cs_extent.specs.Appended.{IsAppendedBy}
 use Rattle.cs_extent.specs.Frames.{IsNextPlain, family_of}
 use Rattle.cs_extent.specs.State.{State, extents_of, shape}
-use Rattle.cs_extent.proofs.Fitting.{placed_inside, pointer_grows, with_same}
+use Rattle.cs_extent.proofs.Fitting.{pointer_grows, with_same}
 use Rattle.cs_extent.proofs.Given.{in_either}
 use Rattle.cs_extent.proofs.Staged.{get_front}
 use Rattle.cs_frame.specs.declared.locators.Locator.{Locator}
 use Rattle.cs_model.specs.Extents.{Extents, Purpose as Reason}
 use Rattle.cs_model.specs.Lists.{with}
+use Rattle.cs_model.proofs.Places.{goes_inside}
 
 get_back : {X : Type 0} (xs ys : List X) (i : ℕ) (x : X) → slice_get ys i ≡ Some x → slice_get (xs ++ ys) (length xs + i) ≡ Some x
 get_back [] ys i x h = let same : i ≡ 0 + i = omega arith in subst (λ k. slice_get ys k ≡ Some x) same h
@@ -42,7 +43,7 @@ has_writes h whole = record {
   writes = λ n waits. whole.writes (Plain n) waits;
 }
 
-module _ (x : State) (g : Graph) (r : Reason) (frame : List (List ℕ)) (l : Locator) (y : State) (h : Graph) (a : IsAppended x g r frame l y h) (has : HasWrites h) where
+module _ {apart_by : Bool} (x : State) (g : Graph) (r : Reason) (frame : List (List ℕ)) (l : Locator) (y : State) (h : Graph) (a : IsAppendedBy apart_by x g r frame l y h) (has : HasWrites h) where
   abbrev waited : List (Element × Named)
   waited = g.staging.pending.waiting
 
@@ -150,7 +151,7 @@ module _ (x : State) (g : Graph) (r : Reason) (frame : List (List ℕ)) (l : Loc
       }
 
   inside : (l.extent < (shape x).extents) × ((extents_of x).pointer l.extent + length frame ≤ (shape x).pages)
-  inside = placed_inside (shape x) (extents_of x) r (length frame) l.extent a.placed
+  inside = goes_inside (shape x) apart_by (extents_of x) r (length frame) l.extent a.placed
 
   begins_at : l.page ≡ (extents_of x).pointer l.extent
   begins_at = ap (λ (k : Locator). k.page) a.place

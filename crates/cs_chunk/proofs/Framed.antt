@@ -145,7 +145,7 @@ module _ (x : State) (whole : IsWhole x) (view : ℕ → List ℕ) (kind : Frame
   -- a frame that is there has no fault
   pub no_fault_there : (payload : List ℕ) → IsFrameAt (shape x) view (kind_of kind) l payload → fault_at (shape x) view kind l ≡ None
   no_fault_there payload at =
-      let law = is_format (length x.written) x.pages x.sections 2 whole.geometry in
+      let law = is_format x.format (length x.written) x.pages x.sections whole.geometry in
       ap (λ k. frame_fault k all) (sym (same_kind kind)) ∙ is_none (frame_fault (kind_number (kind_of kind)) all) (law.no_fault view l.extent l.page (kind_of kind) payload at.0 at.1)
     where
       is_none : (o : Option FormatFault) → option_map refusal_of o ≡ None → o ≡ None
@@ -154,7 +154,7 @@ module _ (x : State) (whole : IsWhole x) (view : ℕ → List ℕ) (kind : Frame
 
   pub one_frame : (a b : List ℕ) → IsFrameAt (shape x) view (kind_of kind) l a → IsFrameAt (shape x) view (kind_of kind) l b → a ≡ b
   one_frame a b at bt =
-      let law = is_format (length x.written) x.pages x.sections 2 whole.geometry in
+      let law = is_format x.format (length x.written) x.pages x.sections whole.geometry in
       law.one_payload view l.extent l.page (kind_of kind) a b (omega (arith, at.0)) (omega (arith, bt.0)) at.1 bt.1
 
   -- what is there is read

@@ -29,6 +29,7 @@ use Rattle.cs_frame.specs.Formats.{formats_of, kind_number}
 use Rattle.cs_frame.specs.Frames.{first_page, frame_bytes, header_fault, kind_byte, kind_test, page_count, payload_length, room_test, spelled_frame}
 use Rattle.cs_frame.specs.Pages.{version_test}
 use Rattle.cs_frame.proofs.Fields.{number_at}
+use Rattle.cs_frame.proofs.GeometryLaws.{bounds}
 use Rattle.cs_model.specs.Index.{joined}
 
 -- ---- the refusals of a header
@@ -102,7 +103,7 @@ module _ (x : State) (whole : IsWhole x) (view : ℕ → List ℕ) where
       pub length_there : length_at (shape x) view l ≡ length payload
       length_there =
           let first : l.page ≡ l.page + 0 = omega arith in
-          let small : length payload < 2 ^ 32 = omega (arith, at.0, size, whole.geometry.most_pages) in
+          let small : length payload < 2 ^ 32 = omega (arith, at.0, size, (bounds _ _ _ _ whole.geometry).most_pages) in
           ap (λ q. payload_length (view ((shape x).address l.extent q))) first
           ∙ ap payload_length (of_stand (shape x) (formats_of (shape x)) view l.extent l.page pages at.1 0 (omega (arith, size)))
           ∙ length_spelled (kind_number (kind_of kind)) payload small

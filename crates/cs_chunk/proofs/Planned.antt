@@ -1,5 +1,5 @@
 -- What a cut that fits says of the chunks of a put.
-use Rattle.std.proofs.Common.{◌≡◌, ◌∙◌, ℕ, ◌*◌, ◌<◌, ◌⊎◌, List, length, refl, sym, ap, subst, ⊎_elim, arith}
+use Rattle.std.proofs.Common.{◌≡◌, ◌∙◌, ℕ, ◌*◌, ◌<◌, ◌⊎◌, Bool, List, length, refl, sym, ap, subst, ⊎_elim, arith}
 use Rattle.std.specs.Prelude.{◌↔◌, Result, Err}
 use Rattle.cs_chunk.specs.declared.cuts.Cut.{Cut}
 use Rattle.cs_chunk.specs.Cuts.{IsCut, pages_of, pieces}
@@ -8,14 +8,14 @@ use Rattle.cs_deps.specs.declared.refusals.Refusal.{Refusal}
 use Rattle.cs_deps.specs.declared.refusals.Refusal.TheVariants.{Full, TooLarge, WornOut}
 use Rattle.cs_deps.specs.Staging.{Staging}
 use Rattle.cs_extent.specs.State.{IsWhole, State, extents_of, shape}
-use Rattle.cs_extent.specs.Worn.{AreWorn}
+use Rattle.cs_extent.specs.Worn.{AreWornBy}
 use Rattle.cs_frame.specs.Formats.{formats_of}
 use Rattle.cs_model.specs.Append.{chunk_frames, page_counts}
 use Rattle.cs_model.specs.Device.{Shape}
 use Rattle.cs_model.specs.Events.{Chunked}
-use Rattle.cs_model.specs.Extents.{Fits, ForPut}
+use Rattle.cs_model.specs.Extents.{FitsBy, ForPut}
 
-module _ (x : State) (s : Staging) (bytes : List ℕ) (whole : IsWhole x) where
+module _ (apart : Bool) (x : State) (s : Staging) (bytes : List ℕ) (whole : IsWhole x) where
   abbrev S : Shape
   S = shape x
 
@@ -27,10 +27,10 @@ module _ (x : State) (s : Staging) (bytes : List ℕ) (whole : IsWhole x) where
   IsTooLarge = (shape x).most_chunks * (shape x).chunk_bytes < length bytes
 
   abbrev pub IsFull : Type 0
-  IsFull = (IsTooLarge → ⊥) × ((cs : List (List ℕ)) → Chunked (shape x).chunk_bytes bytes cs → Fits (shape x) (extents_of x) ForPut (counts cs) → ⊥)
+  IsFull = (IsTooLarge → ⊥) × ((cs : List (List ℕ)) → Chunked (shape x).chunk_bytes bytes cs → FitsBy (shape x) apart (extents_of x) ForPut (counts cs) → ⊥)
 
   abbrev pub IsPutOut : Type 0
-  IsPutOut = (IsTooLarge → ⊥) × ((cs : List (List ℕ)) × Chunked (shape x).chunk_bytes bytes cs × Fits (shape x) (extents_of x) ForPut (counts cs) × AreWorn x s ForPut (counts cs))
+  IsPutOut = (IsTooLarge → ⊥) × ((cs : List (List ℕ)) × Chunked (shape x).chunk_bytes bytes cs × FitsBy (shape x) apart (extents_of x) ForPut (counts cs) × AreWornBy apart x s ForPut (counts cs))
 
   module _ (cut : Cut) (is : IsCut (shape x) (length bytes) cut) where
     some_byte : 0 < cut.size
@@ -49,17 +49,17 @@ module _ (x : State) (s : Staging) (bytes : List ℕ) (whole : IsWhole x) where
     only cs h = ap (λ (ds : List (List ℕ)). counts ds) (one_cut cs h) ∙ pages
 
     -- they fit, so it is not refused as full
-    pub not_full : {T : Type 0} (r : Result T Refusal) → (r ≡ Err Full → ⊥) → Fits (shape x) (extents_of x) ForPut (pages_of cut) → (r ≡ Err Full) ↔ IsFull
-    not_full r never fits = ((λ e. absurd (never e)), (λ h. absurd (h.1 (pieces cut.size cut.count bytes) chunked (subst (λ ks. Fits (shape x) (extents_of x) ForPut ks) (sym pages) fits))))
+    pub not_full : {T : Type 0} (r : Result T Refusal) → (r ≡ Err Full → ⊥) → FitsBy (shape x) apart (extents_of x) ForPut (pages_of cut) → (r ≡ Err Full) ↔ IsFull
+    not_full r never fits = ((λ e. absurd (never e)), (λ h. absurd (h.1 (pieces cut.size cut.count bytes) chunked (subst (λ ks. FitsBy (shape x) apart (extents_of x) ForPut ks) (sym pages) fits))))
 
     -- no number is worn out, so it is not refused so
-    pub not_worn_out : {T : Type 0} (r : Result T Refusal) → (r ≡ Err WornOut → ⊥) → (AreWorn x s ForPut (pages_of cut) → ⊥) → (r ≡ Err WornOut) ↔ IsPutOut
-    not_worn_out r never fine = ((λ e. absurd (never e)), (λ h. absurd (fine (subst (λ ks. AreWorn x s ForPut ks) (only h.1.0 h.1.1) h.1.3))))
+    pub not_worn_out : {T : Type 0} (r : Result T Refusal) → (r ≡ Err WornOut → ⊥) → (AreWornBy apart x s ForPut (pages_of cut) → ⊥) → (r ≡ Err WornOut) ↔ IsPutOut
+    not_worn_out r never fine = ((λ e. absurd (never e)), (λ h. absurd (fine (subst (λ ks. AreWornBy apart x s ForPut ks) (only h.1.0 h.1.1) h.1.3))))
 
   -- what is refused
   module _ (fitting : Result Cut Refusal) (r : Refusal) (is : fitting ≡ Err r) (large : (fitting ≡ Err TooLarge) ↔ IsTooLarge)
-      (full : fitting ≡ Err Full → (cut : Cut) × IsCut (shape x) (length bytes) cut × (Fits (shape x) (extents_of x) ForPut (pages_of cut) → ⊥))
-      (worn : fitting ≡ Err WornOut → (cut : Cut) × IsCut (shape x) (length bytes) cut × Fits (shape x) (extents_of x) ForPut (pages_of cut) × AreWorn x s ForPut (pages_of cut))
+      (full : fitting ≡ Err Full → (cut : Cut) × IsCut (shape x) (length bytes) cut × (FitsBy (shape x) apart (extents_of x) ForPut (pages_of cut) → ⊥))
+      (worn : fitting ≡ Err WornOut → (cut : Cut) × IsCut (shape x) (length bytes) cut × FitsBy (shape x) apart (extents_of x) ForPut (pages_of cut) × AreWornBy apart x s ForPut (pages_of cut))
       (refusals : (r ≡ TooLarge) ⊎ (r ≡ Full) ⊎ (r ≡ WornOut)) where
     is_err : (q : Refusal) → r ≡ q → fitting ≡ Err q
     is_err q e = is ∙ ap (λ (u : Refusal). Err u) e
@@ -68,14 +68,14 @@ module _ (x : State) (s : Staging) (bytes : List ℕ) (whole : IsWhole x) where
     full_out e =
         let f = full (is_err Full e) in (
           (λ t. let l : fitting ≡ Err TooLarge = large.1 t in absurd (cc (l, is_err Full e))),
-          (λ cs h fits. f.2 (subst (λ ks. Fits (shape x) (extents_of x) ForPut ks) (only f.0 f.1 cs h) fits)),
+          (λ cs h fits. f.2 (subst (λ ks. FitsBy (shape x) apart (extents_of x) ForPut ks) (only f.0 f.1 cs h) fits)),
         )
 
     worn_out : r ≡ WornOut → IsPutOut
     worn_out e =
         let f = worn (is_err WornOut e) in (
           (λ t. let l : fitting ≡ Err TooLarge = large.1 t in absurd (cc (l, is_err WornOut e))),
-          (pieces f.0.size f.0.count bytes, chunked f.0 f.1, subst (λ ks. Fits (shape x) (extents_of x) ForPut ks) (sym (pages f.0 f.1)) f.2, subst (λ ks. AreWorn x s ForPut ks) (sym (pages f.0 f.1)) f.3),
+          (pieces f.0.size f.0.count bytes, chunked f.0 f.1, subst (λ ks. FitsBy (shape x) apart (extents_of x) ForPut ks) (sym (pages f.0 f.1)) f.2, subst (λ ks. AreWornBy apart x s ForPut ks) (sym (pages f.0 f.1)) f.3),
         )
 
     out_full : IsFull → r ≡ Full

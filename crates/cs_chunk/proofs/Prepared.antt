@@ -1,5 +1,5 @@
 -- A put that is planned and prepared.
-use Rattle.std.proofs.Common.{◌≡◌, ◌∙◌, ℕ, zero, suc, ◌+◌, ◌-◌, ◌≤◌, List, [], ◌∷◌, ◌++◌, length, drop, replicate, refl, sym, ap, subst, arith}
+use Rattle.std.proofs.Common.{◌≡◌, ◌∙◌, ℕ, zero, suc, ◌+◌, ◌-◌, ◌≤◌, Bool, List, [], ◌∷◌, ◌++◌, length, drop, replicate, refl, sym, ap, subst, arith}
 use Rattle.std.specs.Prelude.{map, sum}
 use Rattle.std.specs.List.{AllByRecursion}
 use Rattle.std.proofs.lemmas.List.{length-map}
@@ -13,10 +13,10 @@ use Rattle.cs_chunk.proofs.Planned.{chunked, one_cut, only, pages}
 use Rattle.cs_chunk.proofs.Putting.{appended_whatever, put_reads}
 use Rattle.cs_deps.specs.State.{State as Graph}
 use Rattle.cs_disk.specs.Disk.{Image}
-use Rattle.cs_extent.specs.Appended.{AreAppended}
+use Rattle.cs_extent.specs.Appended.{AreAppendedBy}
 use Rattle.cs_extent.specs.Frames.{AreResetsStaged}
 use Rattle.cs_extent.specs.State.{IsWhole, State, extents_of, shape}
-use Rattle.cs_extent.specs.Worn.{AreWorn}
+use Rattle.cs_extent.specs.Worn.{AreWornBy}
 use Rattle.cs_extent.proofs.Sections.{section_there}
 use Rattle.cs_frame.specs.declared.locators.Locator.{Locator}
 use Rattle.cs_frame.specs.Formats.{formats_of}
@@ -24,7 +24,7 @@ use Rattle.cs_frame.specs.Frames.{spelled_frame}
 use Rattle.cs_model.specs.Append.{chunk_frames, page_counts}
 use Rattle.cs_model.specs.Device.{Shape}
 use Rattle.cs_model.specs.Events.{Chunked}
-use Rattle.cs_model.specs.Extents.{Fits, ForPut, Purpose as Reason}
+use Rattle.cs_model.specs.Extents.{FitsBy, ForPut, Purpose as Reason}
 
 pub length-pieces : (size count : ℕ) (bytes : List ℕ) → length (pieces size count bytes) ≡ count
 length-pieces size zero bytes = refl
@@ -35,11 +35,11 @@ length-frames S [] = refl
 length-frames S (c ∷ cs) = ap suc (length-frames S cs)
 
 -- each frame has a place
-count_places : (x : State) (g : Graph) (r : Reason) (fs : List (List (List ℕ))) (ls : List Locator) (y : State) (h : Graph) → AreAppended x g r fs ls y h → length ls ≡ length fs
-count_places x g r [] [] y h a = refl
-count_places x g r (f ∷ fs) (l ∷ ls) y h a = ap suc (count_places a.0 a.1 r fs ls y h a.3)
-count_places x g r [] (l ∷ ls) y h a = absurd a
-count_places x g r (f ∷ fs) [] y h a = absurd a
+count_places : (apart : Bool) (x : State) (g : Graph) (r : Reason) (fs : List (List (List ℕ))) (ls : List Locator) (y : State) (h : Graph) → AreAppendedBy apart x g r fs ls y h → length ls ≡ length fs
+count_places apart x g r [] [] y h a = refl
+count_places apart x g r (f ∷ fs) (l ∷ ls) y h a = ap suc (count_places apart a.0 a.1 r fs ls y h a.3)
+count_places apart x g r [] (l ∷ ls) y h a = absurd a
+count_places apart x g r (f ∷ fs) [] y h a = absurd a
 
 each_page : (m p last most : ℕ) → 1 ≤ last → last ≤ p → p ≡ most → AllByRecursion (λ k. (1 ≤ k) × (k ≤ most)) (replicate m p ++ last ∷ [])
 each_page zero p last most some le same = ((some, omega (arith, le, same)), tt)
@@ -49,7 +49,7 @@ each_page (suc m) p last most some le same = ((omega (arith, some, le), omega (a
 pub frames_made : {V X : Type 0} (items : V → X) (f : List ℕ → X) (vs : List V) (size count : ℕ) (bytes : List ℕ) → map items vs ≡ map f (pieces size count bytes) → length vs ≡ count
 frames_made items f vs size count bytes same = sym (length-map vs items) ∙ ap length same ∙ length-map (pieces size count bytes) f ∙ length-pieces size count bytes
 
-module _ (x : State) (g k : Graph) (bytes : List ℕ) (whole : IsWhole x) (cut : Cut) (is : IsCut (shape x) (length bytes) cut) (same : k ≡ record g { room = k.room }) (fs : List (List (List ℕ))) (made : fs ≡ map (spelled_frame 0) (pieces cut.size cut.count bytes)) where
+module _ (apart : Bool) (x : State) (g k : Graph) (bytes : List ℕ) (whole : IsWhole x) (cut : Cut) (is : IsCut (shape x) (length bytes) cut) (same : k ≡ record g { room = k.room }) (fs : List (List (List ℕ))) (made : fs ≡ map (spelled_frame 0) (pieces cut.size cut.count bytes)) where
   abbrev cs : List (List ℕ)
   cs = pieces cut.size cut.count bytes
 
@@ -57,27 +57,27 @@ module _ (x : State) (g k : Graph) (bytes : List ℕ) (whole : IsWhole x) (cut :
   frames = made ∙ sym (frames_are (shape x) (pieces cut.size cut.count bytes))
 
   pages_are : page_counts fs ≡ pages_of cut
-  pages_are = ap page_counts frames ∙ pages x g.staging bytes whole cut is
+  pages_are = ap page_counts frames ∙ pages apart x g.staging bytes whole cut is
 
-  pub may_put : length g.staging.latest ≡ 1 + (shape x).sections → AreResetsStaged (extents_of x) g.staging → Fits (shape x) (extents_of x) ForPut (pages_of cut) → (AreWorn x g.staging ForPut (pages_of cut) → ⊥) → cut.count + sum (pages_of cut) ≤ k.room → MayPut x k fs
-  may_put families resets fits numbers room = subst (λ (h : Graph). MayPut x h fs) (sym same) (record {
+  pub may_put : length g.staging.latest ≡ 1 + (shape x).sections → AreResetsStaged (extents_of x) g.staging → FitsBy (shape x) apart (extents_of x) ForPut (pages_of cut) → (AreWornBy apart x g.staging ForPut (pages_of cut) → ⊥) → cut.count + sum (pages_of cut) ≤ k.room → MayPut apart x k fs
+  may_put families resets fits numbers room = subst (λ (h : Graph). MayPut apart x h fs) (sym same) (record {
     families = families;
     sections = section_there x whole;
     resets = resets;
     pointers = whole.pointers;
     pages = subst (λ ks. AllByRecursion (λ n. (1 ≤ n) × (n ≤ x.pages)) ks) (sym pages_are) (each_page (cut.count - 1) cut.pages cut.last x.pages cut.least cut.most is.pages);
-    fits = subst (λ ks. Fits (shape x) (extents_of x) ForPut ks) (sym pages_are) fits;
-    numbers = λ worn. numbers (subst (λ ks. AreWorn x g.staging ForPut ks) pages_are worn);
+    fits = subst (λ ks. FitsBy (shape x) apart (extents_of x) ForPut ks) (sym pages_are) fits;
+    numbers = λ worn. numbers (subst (λ ks. AreWornBy apart x g.staging ForPut ks) pages_are worn);
     room = omega (arith, room, ap length frames, length-frames (shape x) (pieces cut.size cut.count bytes), length-pieces cut.size cut.count bytes, ap sum pages_are);
   })
 
-  module _ (ls : List Locator) (y : State) (h : Graph) (done : IsPutSoFar x k fs [] ls y h) where
-    pub put_chunked : (ds : List (List ℕ)) × Chunked (shape x).chunk_bytes bytes ds × AreAppended x g ForPut (chunk_frames (shape x) (formats_of (shape x)) ds) ls y h
+  module _ (ls : List Locator) (y : State) (h : Graph) (done : IsPutSoFar apart x k fs [] ls y h) where
+    pub put_chunked : (ds : List (List ℕ)) × Chunked (shape x).chunk_bytes bytes ds × AreAppendedBy apart x g ForPut (chunk_frames (shape x) (formats_of (shape x)) ds) ls y h
         × ((image : Image) (view : ℕ → List ℕ) → AreNewest h image view → AreChunksAt (shape x) view ls ds)
     put_chunked = (
       pieces cut.size cut.count bytes,
-      chunked x g.staging bytes whole cut is,
-      appended_whatever x g k ForPut _ ls y h same (subst (λ us. AreAppended x k ForPut us ls y h) frames done.appended),
+      chunked apart x g.staging bytes whole cut is,
+      appended_whatever apart x g k ForPut _ ls y h same (subst (λ us. AreAppendedBy apart x k ForPut us ls y h) frames done.appended),
       λ image view are. put_reads (shape x) (extents_of y) h image view ls (pieces cut.size cut.count bytes)
           (λ e. omega (arith, done.may.pointers e, ap (λ (S : Shape). S.pages) done.same_shape))
           are (subst (λ us. AreNewestFrames (shape x) (extents_of y) h ls us) frames done.newest),
@@ -85,13 +85,13 @@ module _ (x : State) (g k : Graph) (bytes : List ℕ) (whole : IsWhole x) (cut :
 
     pub put_few : (1 ≤ length ls) × (length ls ≤ 8)
     put_few =
-        let count : length ls ≡ cut.count = count_places x k ForPut fs ls y h done.appended ∙ ap length frames ∙ length-frames (shape x) (pieces cut.size cut.count bytes) ∙ length-pieces cut.size cut.count bytes in
+        let count : length ls ≡ cut.count = count_places apart x k ForPut fs ls y h done.appended ∙ ap length frames ∙ length-frames (shape x) (pieces cut.size cut.count bytes) ∙ length-pieces cut.size cut.count bytes in
         let most : cut.count ≤ 8 = is.most in
         (omega (arith, count, is.some), omega (arith, count, most))
 
     pub put_room : g.room ≤ k.room → (ds : List (List ℕ)) → Chunked (shape x).chunk_bytes bytes ds → g.room ≤ h.room + (length ds + sum (page_counts (chunk_frames (shape x) (formats_of (shape x)) ds)))
     put_room kept ds is_chunked =
-        omega (arith, kept, done.room, ap length frames, length-frames (shape x) (pieces cut.size cut.count bytes), ap sum pages_are, ap sum (only x g.staging bytes whole cut is ds is_chunked), count_of ds is_chunked)
+        omega (arith, kept, done.room, ap length frames, length-frames (shape x) (pieces cut.size cut.count bytes), ap sum pages_are, ap sum (only apart x g.staging bytes whole cut is ds is_chunked), count_of ds is_chunked)
       where
         count_of : (ds : List (List ℕ)) → Chunked (shape x).chunk_bytes bytes ds → length ds ≡ length (pieces cut.size cut.count bytes)
-        count_of ds is_chunked = ap length (one_cut x g.staging bytes whole cut is ds is_chunked)
+        count_of ds is_chunked = ap length (one_cut apart x g.staging bytes whole cut is ds is_chunked)

@@ -1,25 +1,25 @@
 -- What a put does, one frame after another.
-use Rattle.std.specs.Prelude.{◌≡◌, ◌+◌, ◌<◌, ◌≤◌, ℕ, List, [], ◌∷◌, length, slice_index_or, sum}
+use Rattle.std.specs.Prelude.{◌≡◌, ◌+◌, ◌<◌, ◌≤◌, ℕ, Bool, List, [], ◌∷◌, length, slice_index_or, sum}
 use Rattle.std.specs.List.{AllByRecursion}
 use Rattle.cs_deps.specs.State.{IsNewestOn, State as Graph}
-use Rattle.cs_extent.specs.Appended.{AreAppended}
+use Rattle.cs_extent.specs.Appended.{AreAppendedBy}
 use Rattle.cs_extent.specs.Frames.{AreResetsStaged}
 use Rattle.cs_extent.specs.State.{State, extents_of, shape}
-use Rattle.cs_extent.specs.Worn.{AreWorn}
+use Rattle.cs_extent.specs.Worn.{AreWornBy}
 use Rattle.cs_frame.specs.declared.locators.Locator.{Locator}
 use Rattle.cs_model.specs.Append.{page_counts}
 use Rattle.cs_model.specs.Device.{Shape}
-use Rattle.cs_model.specs.Extents.{Extents, Fits, ForPut}
+use Rattle.cs_model.specs.Extents.{Extents, FitsBy, ForPut}
 
--- these frames may be appended, one after another, and nothing refuses one of them
-pub record MayPut (x : State) (g : Graph) (frames : List (List (List ℕ))) : Type 0 where
+-- these frames may be appended, one after another, where chunks and runs lie apart or not, and nothing refuses one of them
+pub record MayPut (apart : Bool) (x : State) (g : Graph) (frames : List (List (List ℕ))) : Type 0 where
   pub families : length g.staging.latest ≡ 1 + (shape x).sections
   pub sections : (e : ℕ) → e < (shape x).extents → (shape x).section e < (shape x).sections
   pub resets : AreResetsStaged (extents_of x) g.staging
   pub pointers : (e : ℕ) → (extents_of x).pointer e ≤ x.pages
   pub pages : AllByRecursion (λ k. (1 ≤ k) × (k ≤ x.pages)) (page_counts frames)
-  pub fits : Fits (shape x) (extents_of x) ForPut (page_counts frames)
-  pub numbers : AreWorn x g.staging ForPut (page_counts frames) → ⊥
+  pub fits : FitsBy (shape x) apart (extents_of x) ForPut (page_counts frames)
+  pub numbers : AreWornBy apart x g.staging ForPut (page_counts frames) → ⊥
   pub room : length frames + sum (page_counts frames) ≤ g.room
 
 -- the frame at l lies below the pointer of its extent, and the newest waiting writes are its pages
@@ -36,10 +36,10 @@ AreNewestFrames S x g [] (frame ∷ frames) = ⊥
 AreNewestFrames S x g (l ∷ ls) [] = ⊥
 
 -- of the frames of a put, those that are done were appended at these places, and those that are left may be
-pub record IsPutSoFar (x : State) (g : Graph) (done left : List (List (List ℕ))) (places : List Locator) (y : State) (h : Graph) : Type 0 where
-  pub appended : AreAppended x g ForPut done places y h
+pub record IsPutSoFar (apart : Bool) (x : State) (g : Graph) (done left : List (List (List ℕ))) (places : List Locator) (y : State) (h : Graph) : Type 0 where
+  pub appended : AreAppendedBy apart x g ForPut done places y h
   pub newest : AreNewestFrames (shape x) (extents_of y) h places done
-  pub may : MayPut y h left
+  pub may : MayPut apart y h left
   pub same_shape : shape y ≡ shape x
   pub families : length h.staging.latest ≡ length g.staging.latest
   pub room : g.room ≤ h.room + (length done + sum (page_counts done))

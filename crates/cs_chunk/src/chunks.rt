@@ -1,10 +1,10 @@
 //! How the bytes of a put are cut in chunks.
-ghost use Rattle.std.specs.Prelude.{◌≡◌, ◌↔◌, ◌*◌, ◌+◌, ◌-◌, ◌^◌, ◌<◌, ◌≤◌, IfOk, IsTrue, MatchOption, length, map, sum};
+ghost use Rattle.std.specs.Prelude.{◌≡◌, ◌↔◌, ◌*◌, ◌+◌, ◌-◌, ◌^◌, ◌<◌, ◌≤◌, All, IfOk, IsTrue, MatchOption, length, map, sum};
 ghost use Rattle.cs_chunk.specs.Cuts.{IsCut, pages_of, pieces};
 ghost use Rattle.cs_extent.specs.State.{IsWhole, extents_of, shape};
-ghost use Rattle.cs_extent.specs.Worn.{AreWorn};
+ghost use Rattle.cs_extent.specs.Worn.{AreWornBy};
 ghost use Rattle.cs_frame.specs.Frames.{spelled_frame};
-ghost use Rattle.cs_model.specs.Extents.{Fits, ForPut};
+ghost use Rattle.cs_model.specs.Extents.{FitsBy, ForPut};
 
 use crate::cuts::Cut;
 use cs_deps::Graph;
@@ -52,32 +52,58 @@ impl Cut {
     /// The pages of all frames.
     pub fn all_pages(self) -> usize
         ensures sum { result ≡ sum (pages_of self) }
-        ensures small { result ≤ 2048 }
+        ensures small { result ≤ 524280 }
     {
         (self.count - 1) * self.pages + self.last
     }
 
-    /// Whether the frames of these chunks find their places.
-    pub fn fits(self, extents: &Extents) -> bool
+    /// Whether the frames of these chunks find their places, where chunks and runs lie apart or not.
+    pub fn fits(self, extents: &Extents, apart: bool) -> bool
         requires { self.pages ≡ (shape extents.now).pages }
-        ensures { IsTrue result ↔ Fits (shape extents.now) (extents_of extents.now) ForPut (pages_of self) }
+        ensures { IsTrue result ↔ FitsBy (shape extents.now) apart (extents_of extents.now) ForPut (pages_of self) }
     {
         let mut frames = [self.pages; MOST_CHUNKS];
         frames[self.count - 1] = self.last;
-        extents.fits(&frames[..self.count], Purpose::Put)
+        fit(extents, &frames[..self.count], apart)
     }
 
     /// Whether a number would pass the greatest.
-    pub fn is_worn(self, extents: &Extents, graph: &Graph) -> bool
+    pub fn is_worn(self, extents: &Extents, graph: &Graph, apart: bool) -> bool
         requires pages { self.pages ≡ (shape extents.now).pages }
-        requires fits { Fits (shape extents.now) (extents_of extents.now) ForPut (pages_of self) }
+        requires fits { FitsBy (shape extents.now) apart (extents_of extents.now) ForPut (pages_of self) }
         requires families { length graph.now.staging.latest ≡ 1 + (shape extents.now).sections }
-        ensures { IsTrue result ↔ AreWorn extents.now graph.now.staging ForPut (pages_of self) }
+        ensures { IsTrue result ↔ AreWornBy apart extents.now graph.now.staging ForPut (pages_of self) }
     {
         let mut frames = [self.pages; MOST_CHUNKS];
         frames[self.count - 1] = self.last;
-        extents.are_worn(graph, &frames[..self.count], Purpose::Put)
+        are_worn(extents, graph, &frames[..self.count], apart)
     }
+}
+
+/// Whether frames of these numbers of pages find their places for a put.
+fn fit(extents: &Extents, frame_pages: &[usize], apart: bool) -> bool
+    requires pages { All (λ pages. (1 ≤ pages) × (pages ≤ (shape extents.now).pages)) frame_pages.now }
+    requires few { length frame_pages.now ≤ 8 }
+    ensures { IsTrue result ↔ FitsBy (shape extents.now) apart (extents_of extents.now) ForPut frame_pages.now }
+{
+    if apart {
+        return extents.fits_apart(frame_pages);
+    }
+    extents.fits(frame_pages, Purpose::Put)
+}
+
+/// Whether they would take a number past the greatest, where they find their places.
+fn are_worn(extents: &Extents, graph: &Graph, frame_pages: &[usize], apart: bool) -> bool
+    requires pages { All (λ pages. (1 ≤ pages) × (pages ≤ (shape extents.now).pages)) frame_pages.now }
+    requires few { length frame_pages.now ≤ 8 }
+    requires fits { FitsBy (shape extents.now) apart (extents_of extents.now) ForPut frame_pages.now }
+    requires families { length graph.now.staging.latest ≡ 1 + (shape extents.now).sections }
+    ensures { IsTrue result ↔ AreWornBy apart extents.now graph.now.staging ForPut frame_pages.now }
+{
+    if apart {
+        return extents.are_worn_apart(graph, frame_pages);
+    }
+    extents.are_worn(graph, frame_pages, Purpose::Put)
 }
 
 /// The frames of chunks, cut off the bytes one after another.

@@ -16,5 +16,5 @@ pub struct Cut {
     ghost some: { 1 ≤ count },
     ghost least: { 1 ≤ last },
     ghost most: { last ≤ pages },
-    ghost small: { pages ≤ 256 },
+    ghost small: { pages ≤ 65535 },
 }

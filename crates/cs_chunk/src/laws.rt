@@ -1,10 +1,10 @@
 //! Laws of what is read.
-ghost use Rattle.std.specs.Prelude.{◌≡◌, ◌≢◌, ℕ, List};
+ghost use Rattle.std.specs.Prelude.{◌≡◌, ◌≢◌, ℕ, true, List};
 ghost use Rattle.cs_chunk.specs.Newest.{AreNewest};
 ghost use Rattle.cs_chunk.specs.Stays.{IsBelow};
 ghost use Rattle.cs_deps.specs.State.{IsWhole as IsWholeGraph, State as GraphState};
 ghost use Rattle.cs_disk.specs.Disk.{Image};
-ghost use Rattle.cs_extent.specs.Appended.{IsAppended};
+ghost use Rattle.cs_extent.specs.Appended.{IsAppended, IsAppendedBy};
 ghost use Rattle.cs_extent.specs.State.{IsWhole, State, extents_of, shape};
 ghost use Rattle.cs_frame.specs.declared.locators.Locator.{Locator as Place};
 ghost use Rattle.cs_frame.specs.Formats.{formats_of};
@@ -22,6 +22,11 @@ pub fn pages_have_one_newest()
 pub fn what_was_put_stays()
     ensures append { (x y : State) (g h : GraphState) (reason : Purpose) (frame old : List (List ℕ)) (l k : Place) (image : Image) (view now : ℕ → List ℕ)
         → IsWhole x → IsAppended x g reason frame l y h → IsWholeGraph h → AreNewest g image view → AreNewest h image now
+        → IsBelow (extents_of x) k old → Stand (shape x) (formats_of (shape x)) view k.extent k.page old
+        → Stand (shape x) (formats_of (shape x)) now k.extent k.page old × IsBelow (extents_of y) k old }
+    // So it is where chunks and runs lie apart.
+    ensures apart { (x y : State) (g h : GraphState) (reason : Purpose) (frame old : List (List ℕ)) (l k : Place) (image : Image) (view now : ℕ → List ℕ)
+        → IsWhole x → IsAppendedBy true x g reason frame l y h → IsWholeGraph h → AreNewest g image view → AreNewest h image now
         → IsBelow (extents_of x) k old → Stand (shape x) (formats_of (shape x)) view k.extent k.page old
         → Stand (shape x) (formats_of (shape x)) now k.extent k.page old × IsBelow (extents_of y) k old }
     ensures reset { (x : Given) (e root : ℕ) (k : Place) (old : List (List ℕ)) → k.extent ≢ e → IsBelow x k old → IsBelow (emptied x e root) k old }

@@ -7,35 +7,35 @@ ghost use Rattle.cs_chunk.specs.Puts.{IsPutSoFar, MayPut};
 ghost use Rattle.cs_chunk.specs.declared.cuts.Cut.{Cut as Pieces};
 ghost use Rattle.cs_deps.specs.State.{IsWhole as IsWholeGraph};
 ghost use Rattle.cs_disk.specs.Disk.{Image};
-ghost use Rattle.cs_extent.specs.Appended.{AreAppended, IsAppended};
+ghost use Rattle.cs_extent.specs.Appended.{AreAppended, AreAppendedBy, IsAppendedBy};
 ghost use Rattle.cs_extent.specs.Frames.{AreResetsStaged, IsWorn};
 ghost use Rattle.cs_extent.specs.State.{IsWhole, extents_of, shape};
-ghost use Rattle.cs_extent.specs.Worn.{AreWorn};
+ghost use Rattle.cs_extent.specs.Worn.{AreWorn, AreWornBy, IsFrameWornBy};
 ghost use Rattle.cs_frame.specs.Formats.{formats_of};
 ghost use Rattle.cs_frame.specs.Frames.{spelled_frame};
 ghost use Rattle.cs_model.specs.Append.{chunk_frames, page_counts};
 ghost use Rattle.cs_model.specs.Events.{Chunked};
-ghost use Rattle.cs_model.specs.Extents.{Fits, ForPut, Placed};
+ghost use Rattle.cs_model.specs.Extents.{Fits, FitsBy, ForPut, Goes};
 
 use crate::chunks::encode_chunks;
 use crate::cuts::Cut;
-use cs_deps::{Graph, Refusal};
+use cs_deps::{Dependency, Graph, Refusal};
 use cs_extent::{Extents, Purpose};
 use cs_frame::Locator;
 use std::alloc::{AllocError, Global};
 
-/// How the bytes of a put are cut. Refused 31 `TooLarge`, then 30 `Full`, then 35 `WornOut`; where it isn't, only memory can still
-/// refuse the put.
-fn fitting_cut(extents: &Extents, graph: &Graph, size: usize) -> Result<Cut, Refusal>
+/// How the bytes of a put are cut, where chunks and runs lie apart or not. Refused 31 `TooLarge`, then 30 `Full`, then 35 `WornOut`;
+/// where it isn't, only memory can still refuse the put.
+fn fitting_cut(extents: &Extents, graph: &Graph, size: usize, apart: bool) -> Result<Cut, Refusal>
     requires { length graph.now.staging.latest ≡ 1 + (shape extents.now).sections }
     ensures whole { IsWhole extents.now }
     ensures cut { IfOk result (IsCut (shape extents.now) size) }
-    ensures fits { IfOk result (λ cut. Fits (shape extents.now) (extents_of extents.now) ForPut (pages_of cut)) }
-    ensures numbers { IfOk result (λ cut. ¬ AreWorn extents.now graph.now.staging ForPut (pages_of cut)) }
+    ensures fits { IfOk result (λ cut. FitsBy (shape extents.now) apart (extents_of extents.now) ForPut (pages_of cut)) }
+    ensures numbers { IfOk result (λ cut. ¬ AreWornBy apart extents.now graph.now.staging ForPut (pages_of cut)) }
     ensures too_large { (result ≡ Err Refusal.TooLarge) ↔ ((shape extents.now).most_chunks * (shape extents.now).chunk_bytes < size) }
-    ensures full { result ≡ Err Refusal.Full → (cut : Pieces) × IsCut (shape extents.now) size cut × ¬ Fits (shape extents.now) (extents_of extents.now) ForPut (pages_of cut) }
+    ensures full { result ≡ Err Refusal.Full → (cut : Pieces) × IsCut (shape extents.now) size cut × ¬ FitsBy (shape extents.now) apart (extents_of extents.now) ForPut (pages_of cut) }
     ensures worn { result ≡ Err Refusal.WornOut → (cut : Pieces) × IsCut (shape extents.now) size cut
-        × Fits (shape extents.now) (extents_of extents.now) ForPut (pages_of cut) × AreWorn extents.now graph.now.staging ForPut (pages_of cut) }
+        × FitsBy (shape extents.now) apart (extents_of extents.now) ForPut (pages_of cut) × AreWornBy apart extents.now graph.now.staging ForPut (pages_of cut) }
     ensures refusals { IfErr result (λ r. (r ≡ Refusal.TooLarge) ⊎ (r ≡ Refusal.Full) ⊎ (r ≡ Refusal.WornOut)) }
 {
     // Called for its contract alone: what all extents keep.
@@ -43,30 +43,60 @@ fn fitting_cut(extents: &Extents, graph: &Graph, size: usize) -> Result<Cut, Ref
     let Some(cut) = Cut::of(extents, size) else {
         return Err(Refusal::TooLarge);
     };
-    if !cut.fits(extents) {
+    if !cut.fits(extents, apart) {
         return Err(Refusal::Full);
     }
-    if cut.is_worn(extents, graph) {
+    if cut.is_worn(extents, graph, apart) {
         return Err(Refusal::WornOut);
     }
     Ok(cut)
 }
 
-/// Appends a frame, where nothing refuses it.
-fn append_one(extents: &mut Extents, graph: &mut Graph, frame: &[[u8; 4096]]) -> Locator
+/// Appends a frame for a put, where chunks and runs lie apart or not.
+fn append_by(
+    extents: &mut Extents,
+    graph: &mut Graph,
+    frame: &[[u8; 4096]],
+    apart: bool,
+) -> Result<(Locator, Dependency), Refusal>
     requires families { length graph.old.staging.latest ≡ 1 + (shape extents.old).sections }
     requires resets { AreResetsStaged (extents_of extents.old) graph.old.staging }
     requires pages { (1 ≤ length frame.now) × (length frame.now ≤ (shape extents.old).pages) }
-    requires place { (e : ℕ) × Placed (shape extents.old) (extents_of extents.old) ForPut (length frame.now) e }
-    requires numbers { (e : ℕ) → Placed (shape extents.old) (extents_of extents.old) ForPut (length frame.now) e → ¬ IsWorn graph.old.staging ((shape extents.old).section e) (length frame.now) }
+    ensures appended { IfOk result (λ r. IsAppendedBy apart extents.old graph.old ForPut frame.now r.0 extents.new graph.new) }
+    ensures resets { AreResetsStaged (extents_of extents.new) graph.new.staging }
+    ensures families { length graph.new.staging.latest ≡ length graph.old.staging.latest }
+    ensures full { (result ≡ Err Refusal.Full) ↔ ((e : ℕ) → ¬ Goes (shape extents.old) apart (extents_of extents.old) ForPut (length frame.now) e) }
+    ensures worn { (result ≡ Err Refusal.WornOut) ↔ IsFrameWornBy apart extents.old ForPut graph.old.staging (length frame.now) }
+    ensures refusals { IfErr result (λ r. (r ≡ Refusal.Full) ⊎ (r ≡ Refusal.WornOut) ⊎ (r ≡ Refusal.OutOfMemory)) }
+    ensures memory { length frame.now + 1 ≤ graph.old.room → ¬ (result ≡ Err Refusal.OutOfMemory) }
+    ensures room { graph.old.room ≤ graph.new.room + (length frame.now + 1) }
+{
+    if apart {
+        return extents.append_apart(graph, frame, Purpose::Put);
+    }
+    extents.append(graph, frame, Purpose::Put)
+}
+
+/// Appends a frame, where nothing refuses it.
+fn append_one(
+    extents: &mut Extents,
+    graph: &mut Graph,
+    frame: &[[u8; 4096]],
+    apart: bool,
+) -> Locator
+    requires families { length graph.old.staging.latest ≡ 1 + (shape extents.old).sections }
+    requires resets { AreResetsStaged (extents_of extents.old) graph.old.staging }
+    requires pages { (1 ≤ length frame.now) × (length frame.now ≤ (shape extents.old).pages) }
+    requires place { (e : ℕ) × Goes (shape extents.old) apart (extents_of extents.old) ForPut (length frame.now) e }
+    requires numbers { (e : ℕ) → Goes (shape extents.old) apart (extents_of extents.old) ForPut (length frame.now) e → ¬ IsWorn graph.old.staging ((shape extents.old).section e) (length frame.now) }
     requires room { length frame.now + 1 ≤ graph.old.room }
-    ensures appended { IsAppended extents.old graph.old ForPut frame.now result extents.new graph.new }
+    ensures appended { IsAppendedBy apart extents.old graph.old ForPut frame.now result extents.new graph.new }
     ensures whole { IsWholeGraph graph.new }
     ensures resets { AreResetsStaged (extents_of extents.new) graph.new.staging }
     ensures families { length graph.new.staging.latest ≡ length graph.old.staging.latest }
     ensures room { graph.old.room ≤ graph.new.room + (length frame.now + 1) }
 {
-    match extents.append(graph, frame, Purpose::Put) {
+    match append_by(extents, graph, frame, apart) {
         Ok((place, _)) => {
             // Called for its contract alone: what every graph keeps.
             graph.families();
@@ -82,14 +112,15 @@ fn append_all(
     graph: &mut Graph,
     frames: &[Vec<[u8; 4096]>],
     places: &mut Vec<Locator>,
+    apart: bool,
 )
-    requires may { MayPut extents.old graph.old (map (λ f. f.items) frames.now) }
+    requires may { MayPut apart extents.old graph.old (map (λ f. f.items) frames.now) }
     requires none { places.old.items ≡ [] }
     requires room { vec_len places.old + length frames.now ≤ vec_capacity places.old }
-    ensures { IsPutSoFar extents.old graph.old (map (λ f. f.items) frames.now) [] places.new.items extents.new graph.new }
+    ensures { IsPutSoFar apart extents.old graph.old (map (λ f. f.items) frames.now) [] places.new.items extents.new graph.new }
 {
     for k in 0..frames.len() {
-        let place = append_one(extents, graph, &frames[k]);
+        let place = append_one(extents, graph, &frames[k], apart);
         places.push_reserved(place);
     }
 }
@@ -116,12 +147,7 @@ fn prepare(
     Ok((frames, places))
 }
 
-/// Cuts bytes in chunks, one at least, all but the last as long as may be, and appends a frame of each for a put.
-/// Answers where the frames begin, in order.
-///
-/// A chunk has 4,096 bytes for each page of an extent, less 41, and there are at most eight: 31 `TooLarge` for more
-/// bytes. 30 `Full` where the frames find no places, 35 `WornOut` where a number would pass 2^63 - 1. Memory is
-/// asked for last, for the pages of all frames: 9 `OutOfMemory`. After a refusal nothing is staged.
+/// As `put_chunks_by`, where chunks and runs may lie on one extent.
 pub fn put_chunks(
     alloc: Global,
     extents: &mut Extents,
@@ -159,21 +185,67 @@ pub fn put_chunks(
     ensures room { (cs : List (List ℕ)) → Chunked (shape extents.old).chunk_bytes bytes.now cs
         → graph.old.room ≤ graph.new.room + (length cs + sum (page_counts (chunk_frames (shape extents.old) (formats_of (shape extents.old)) cs))) }
 {
-    let cut = match fitting_cut(extents, graph, bytes.len()) {
+    put_chunks_by(alloc, extents, graph, bytes, false)
+}
+
+/// Cuts bytes in chunks, one at least, all but the last as long as may be, and appends a frame of each for a put.
+/// Answers where the frames begin, in order. Chunks and runs lie apart or not.
+///
+/// A chunk has 4,096 bytes for each page of an extent, less 41, and there are at most eight: 31 `TooLarge` for more
+/// bytes. 30 `Full` where the frames find no places, 35 `WornOut` where a number would pass 2^63 - 1. Memory is
+/// asked for last, for the pages of all frames: 9 `OutOfMemory`. After a refusal nothing is staged.
+pub fn put_chunks_by(
+    alloc: Global,
+    extents: &mut Extents,
+    graph: &mut Graph,
+    bytes: &[u8],
+    apart: bool,
+) -> Result<Vec<Locator>, Refusal>
+    requires families { length graph.old.staging.latest ≡ 1 + (shape extents.old).sections }
+    requires resets { AreResetsStaged (extents_of extents.old) graph.old.staging }
+
+    // The frames of the chunks are appended, and read back.
+    ensures chunks { IfOk result (λ ls. (cs : List (List ℕ)) × Chunked (shape extents.old).chunk_bytes bytes.now cs
+        × AreAppendedBy apart extents.old graph.old ForPut (chunk_frames (shape extents.old) (formats_of (shape extents.old)) cs) ls.items extents.new graph.new
+        × ((image : Image) (view : ℕ → List ℕ) → AreNewest graph.new image view → AreChunksAt (shape extents.old) view ls.items cs)) }
+    ensures few { IfOk result (λ ls. (1 ≤ length ls.items) × (length ls.items ≤ 8)) }
+    ensures shape { shape extents.new ≡ shape extents.old }
+
+    ensures too_large { (result ≡ Err Refusal.TooLarge) ↔ ((shape extents.old).most_chunks * (shape extents.old).chunk_bytes < length bytes.now) }
+    ensures full { (result ≡ Err Refusal.Full) ↔ (¬ ((shape extents.old).most_chunks * (shape extents.old).chunk_bytes < length bytes.now)
+        × ((cs : List (List ℕ)) → Chunked (shape extents.old).chunk_bytes bytes.now cs
+        → ¬ FitsBy (shape extents.old) apart (extents_of extents.old) ForPut (page_counts (chunk_frames (shape extents.old) (formats_of (shape extents.old)) cs)))) }
+    ensures worn { (result ≡ Err Refusal.WornOut) ↔ (¬ ((shape extents.old).most_chunks * (shape extents.old).chunk_bytes < length bytes.now)
+        × ((cs : List (List ℕ)) × Chunked (shape extents.old).chunk_bytes bytes.now cs
+        × FitsBy (shape extents.old) apart (extents_of extents.old) ForPut (page_counts (chunk_frames (shape extents.old) (formats_of (shape extents.old)) cs))
+        × AreWornBy apart extents.old graph.old.staging ForPut (page_counts (chunk_frames (shape extents.old) (formats_of (shape extents.old)) cs)))) }
+    ensures refusals { IfErr result (λ r. (r ≡ Refusal.TooLarge) ⊎ (r ≡ Refusal.Full) ⊎ (r ≡ Refusal.WornOut) ⊎ (r ≡ Refusal.OutOfMemory)) }
+    ensures refused { OnErr result (extents.new ≡ extents.old) }
+    ensures unstaged { OnErr result (graph.new ≡ record graph.old { room = graph.new.room }) }
+
+    // Whatever the answer, the next append may be made.
+    ensures resets { AreResetsStaged (extents_of extents.new) graph.new.staging }
+    ensures families { length graph.new.staging.latest ≡ length graph.old.staging.latest }
+
+    // What is used up of the room: one staging a page, and one a frame.
+    ensures kept { OnErr result (graph.old.room ≤ graph.new.room) }
+    ensures room { (cs : List (List ℕ)) → Chunked (shape extents.old).chunk_bytes bytes.now cs
+        → graph.old.room ≤ graph.new.room + (length cs + sum (page_counts (chunk_frames (shape extents.old) (formats_of (shape extents.old)) cs))) }
+{
+    let cut = match fitting_cut(extents, graph, bytes.len(), apart) {
         Ok(cut) => cut,
         Err(refusal) => return Err(refusal),
     };
     match prepare(alloc, extents, graph, bytes, cut) {
         Ok((frames, mut places)) => {
-            append_all(extents, graph, &frames, &mut places);
+            append_all(extents, graph, &frames, &mut places, apart);
             Ok(places)
         }
         Err(_) => Err(Refusal::OutOfMemory),
     }
 }
 
-/// Whether the frames of the chunks of these bytes, which are not too many, find places for a put: false where `put_chunks`
-/// would answer 30 `Full`. Takes no memory.
+/// As `put_fits_by`, where chunks and runs may lie on one extent.
 pub fn put_fits(extents: &Extents, bytes: &[u8]) -> bool
     requires { ¬ ((shape extents.now).most_chunks * (shape extents.now).chunk_bytes < length bytes.now) }
     ensures { MatchBool result
@@ -182,10 +254,23 @@ pub fn put_fits(extents: &Extents, bytes: &[u8]) -> bool
         ((cs : List (List ℕ)) → Chunked (shape extents.now).chunk_bytes bytes.now cs
         → ¬ Fits (shape extents.now) (extents_of extents.now) ForPut (page_counts (chunk_frames (shape extents.now) (formats_of (shape extents.now)) cs))) }
 {
+    put_fits_by(extents, bytes, false)
+}
+
+/// Whether the frames of the chunks of these bytes, which are not too many, find places for a put: false where `put_chunks_by`
+/// would answer 30 `Full`. Chunks and runs lie apart or not. Takes no memory.
+pub fn put_fits_by(extents: &Extents, bytes: &[u8], apart: bool) -> bool
+    requires { ¬ ((shape extents.now).most_chunks * (shape extents.now).chunk_bytes < length bytes.now) }
+    ensures { MatchBool result
+        ((cs : List (List ℕ)) × Chunked (shape extents.now).chunk_bytes bytes.now cs
+        × FitsBy (shape extents.now) apart (extents_of extents.now) ForPut (page_counts (chunk_frames (shape extents.now) (formats_of (shape extents.now)) cs)))
+        ((cs : List (List ℕ)) → Chunked (shape extents.now).chunk_bytes bytes.now cs
+        → ¬ FitsBy (shape extents.now) apart (extents_of extents.now) ForPut (page_counts (chunk_frames (shape extents.now) (formats_of (shape extents.now)) cs))) }
+{
     // Called for its contract alone: what all extents keep.
     extents.extent_count();
     let Some(cut) = Cut::of(extents, bytes.len()) else {
         unreachable!()
     };
-    cut.fits(extents)
+    cut.fits(extents, apart)
 }

@@ -15,11 +15,12 @@ use Rattle.cs_core.specs.Answered.{IsLimited}
 use Rattle.cs_core.specs.Meanings.{Says, event_of}
 use Rattle.cs_core.specs.Served.{IsServed}
 use Rattle.cs_core.specs.States.{IsStateOf}
-use Rattle.cs_core.specs.Stored.{Stored, page_total, but_for_room}
+use Rattle.cs_core.specs.Stored.{Stored, but_for_room}
 use Rattle.cs_core.specs.Views.{IsCore, IsFound, IsIn, IsReached, IsStep, View}
 use Rattle.cs_core.proofs.Applies.{goes}
 use Rattle.cs_core.proofs.Crashes.{crash_within, left_of, still_before}
 use Rattle.cs_core.proofs.Leaving.{LeftBy, left_now}
+use Rattle.cs_image.specs.Reads.{page_total}
 
 -- what is kept of an event: its copy, and the reply that was told
 pub kept_is : (now reserved history : List (Event × Reply)) (event copy : Event) (told noted : Reply) → now ≡ reserved ++ (copy, noted) ∷ [] → reserved ≡ history → copy ≡ event → told ≡ noted → now ≡ history ++ (event, told) ∷ []

@@ -25,8 +25,9 @@ use Rattle.cs_core.specs.declared.events.Reply.{Reply}
 use Rattle.cs_core.specs.declared.events.Reply.TheVariants.{Begun, Issued, Refused}
 use Rattle.cs_core.specs.Meanings.{Says, command_said, commands_said, event_of}
 use Rattle.cs_core.specs.States.{IsStateOf}
-use Rattle.cs_core.specs.Stored.{Stored, page_total}
+use Rattle.cs_core.specs.Stored.{Stored}
 use Rattle.cs_core.specs.Views.{AreSaid, IsReached}
+use Rattle.cs_image.specs.Reads.{page_total}
 
 module _ (S : Shape) (F : Formats) where
   -- a reply says whether a put or a delete was accepted

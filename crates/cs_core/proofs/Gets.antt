@@ -25,9 +25,10 @@ use Rattle.cs_refine.proofs.ShardsRead.{get_damaged, get_found}
 use Rattle.cs_refine.specs.Devices.{IsDiskOf, pages_now}
 use Rattle.cs_core.specs.Reads.{DeclinesOn, GetAnswers}
 use Rattle.cs_core.specs.States.{IsStateOf}
-use Rattle.cs_core.specs.Stored.{Stored, page_total}
+use Rattle.cs_core.specs.Stored.{Stored}
 use Rattle.cs_core.proofs.Damage.{IsDamage, read_refusal}
 use Rattle.cs_core.proofs.Going.{no_more, pass_found}
+use Rattle.cs_image.specs.Reads.{page_total}
 
 -- what each page of a store reads as
 pub newest_there : (v : Stored) → IsWhole v.extents → IsWholeGraph v.graph → (disk : DiskState) → page_total (shape v.extents) ≤ length disk.durable
@@ -36,7 +37,7 @@ pub newest_there : (v : Stored) → IsWhole v.extents → IsWholeGraph v.graph �
 newest_there v whole graph disk size s is on = pages_read v.extents v.graph s (seen disk) whole graph is.parts.world is.sound
     (reads (shape v.extents) (formats_of (shape v.extents)) s disk on)
     (let same : length (seen disk) ≡ length disk.durable = length-applied disk.durable disk.volatile in
-    let large : 1 + (shape v.extents).extents * (shape v.extents).pages + (shape v.extents).sections ≤ length disk.durable = size in omega (arith, same, large))
+    subst (λ (n : ℕ). page_total (shape v.extents) ≤ n) (sym same) size)
 
 -- locators as places, and back
 pub there_and_back : (ls : List Locator) → map as_locator (map place_of ls) ≡ ls

@@ -5,7 +5,7 @@ use Rattle.std.proofs.lemmas.Bool.{cases_eq}
 use Rattle.std.proofs.lemmas.List.{append-nil}
 use Rattle.cs_disk.proofs.Images.{All_cons, applied_push, length-applied, page_other, page_same}
 use Rattle.cs_disk.specs.Disk.{Image, State as DiskState, Write, flushed, page, seen, written}
-use Rattle.cs_frame.specs.Geometries.{section_length}
+use Rattle.cs_frame.specs.Geometries.{device_pages, section_length}
 use Rattle.cs_frame.specs.Roots.{SpellsRoot}
 use Rattle.cs_frame.specs.Superblocks.{SpellsSuperblock}
 use Rattle.cs_core.specs.Started.{AreNewWritten, IsHead, IsHeadWritten, IsNewOn}
@@ -27,8 +27,8 @@ first_page extents pages j is = let test : (j == 0) ≡ true = eq-eqb j 0 is in 
 later_page : (extents pages j : ℕ) → (j ≡ 0 → ⊥) → head_page extents pages j ≡ 1 + extents * pages + j
 later_page extents pages j some = let test : (j == 0) ≡ false = ne_eqb j 0 some in ap (λ (b : Bool). if b then 0 else 1 + extents * pages + j) test
 
-pub head_below : (extents pages sections j : ℕ) → j < sections → head_page extents pages j < 1 + extents * pages + sections
-head_below extents pages sections j lt = ⊎_elim
+pub head_below : (format extents pages sections j : ℕ) → j < sections → head_page extents pages j < device_pages format extents pages sections
+head_below format extents pages sections j lt = ⊎_elim
     (λ (is : j ≡ 0). let at = first_page extents pages j is in omega (arith, at, lt))
     (λ (some : j ≡ 0 → ⊥). let at = later_page extents pages j some in omega (arith, at, lt))
     (cases_eq j 0)
@@ -96,48 +96,48 @@ wrote_here d p bytes inside = ap (λ (i : Image). page i p) (applied_push d.dura
 wrote_there : (d : DiskState) (p q : ℕ) (bytes : List ℕ) → q ≢ p → page (seen (written d p bytes)) q ≡ page (seen d) q
 wrote_there d p q bytes other = ap (λ (i : Image). page i q) (applied_push d.durable d.volatile (p, bytes)) ∙ page_other (seen d) p q bytes other
 
-module _ (extents pages sections : ℕ) (old : DiskState) (sized : length old.durable ≡ 1 + extents * pages + sections) where
-  pub none_written : AreNewWritten extents pages sections 0 old old
+module _ (format extents pages sections : ℕ) (old : DiskState) (sized : length old.durable ≡ device_pages format extents pages sections) where
+  pub none_written : AreNewWritten format extents pages sections 0 old old
   none_written = record { head = head_none extents pages old; each = λ j lt. absurd (omega (arith, lt)) }
 
   -- one section more
-  pub more_written : (count : ℕ) (mid new : DiskState) (bytes : List ℕ) → AreNewWritten extents pages sections count old mid → count < sections
-      → SpellsSuperblock bytes 1 extents pages sections count (replicate (section_length extents sections count) (0, 0)) → new ≡ written mid (head_page extents pages count) bytes
-      → AreNewWritten extents pages sections (count + 1) old new
+  pub more_written : (count : ℕ) (mid new : DiskState) (bytes : List ℕ) → AreNewWritten format extents pages sections count old mid → count < sections
+      → SpellsSuperblock bytes format 1 extents pages sections count (replicate (section_length extents sections count) (0, 0)) → new ≡ written mid (head_page extents pages count) bytes
+      → AreNewWritten format extents pages sections (count + 1) old new
   more_written count mid new bytes so_far lt spelled is =
-      let long : length mid.durable ≡ 1 + extents * pages + sections = ap length so_far.head.durable ∙ sized in
-      let below : head_page extents pages count < 1 + extents * pages + sections = head_below extents pages sections count lt in
+      let long : length mid.durable ≡ device_pages format extents pages sections = ap length so_far.head.durable ∙ sized in
+      let below : head_page extents pages count < device_pages format extents pages sections = head_below format extents pages sections count lt in
       let inside : head_page extents pages count < length mid.durable = omega (arith, below, long) in
-      subst (λ (d : DiskState). AreNewWritten extents pages sections (count + 1) old d) (sym is) (record {
+      subst (λ (d : DiskState). AreNewWritten format extents pages sections (count + 1) old d) (sym is) (record {
         head = head_more extents pages old mid (head_page extents pages count) bytes (head_is extents pages count) so_far.head;
         each = λ j few. ⊎_elim
             (λ (here : j ≡ count). subst
-            (λ (k : ℕ). SpellsSuperblock (page (seen (written mid (head_page extents pages count) bytes)) (head_page extents pages k)) 1 extents pages sections k (replicate (section_length extents sections k) (0, 0))) (sym here)
-            (subst (λ (b : List ℕ). SpellsSuperblock b 1 extents pages sections count (replicate (section_length extents sections count) (0, 0))) (sym (wrote_here mid (head_page extents pages count) bytes inside)) spelled))
+            (λ (k : ℕ). SpellsSuperblock (page (seen (written mid (head_page extents pages count) bytes)) (head_page extents pages k)) format 1 extents pages sections k (replicate (section_length extents sections k) (0, 0))) (sym here)
+            (subst (λ (b : List ℕ). SpellsSuperblock b format 1 extents pages sections count (replicate (section_length extents sections count) (0, 0))) (sym (wrote_here mid (head_page extents pages count) bytes inside)) spelled))
             (λ (other : j ≡ count → ⊥).
-            subst (λ (b : List ℕ). SpellsSuperblock b 1 extents pages sections j (replicate (section_length extents sections j) (0, 0)))
+            subst (λ (b : List ℕ). SpellsSuperblock b format 1 extents pages sections j (replicate (section_length extents sections j) (0, 0)))
             (sym (wrote_there mid (head_page extents pages count) (head_page extents pages j) bytes (head_apart extents pages j count other)))
             (so_far.each j (omega (arith, few, other))))
             (cases_eq j count);
       })
 
   -- and then the root, and all is durable
-  pub new_on : (mid new : DiskState) (bytes : List ℕ) → AreNewWritten extents pages sections sections old mid → SpellsRoot bytes 1 0 [] → 0 < sections → new ≡ flushed (written mid 1 bytes)
-      → IsNewOn extents pages sections old new
+  pub new_on : (mid new : DiskState) (bytes : List ℕ) → AreNewWritten format extents pages sections sections old mid → SpellsRoot bytes format 1 0 [] → 0 < sections → new ≡ flushed (written mid 1 bytes)
+      → IsNewOn format extents pages sections old new
   new_on mid new bytes so_far spelled some is =
-      let long : length mid.durable ≡ 1 + extents * pages + sections = ap length so_far.head.durable ∙ sized in
-      subst (λ (d : DiskState). IsNewOn extents pages sections old d) (sym is) (record {
+      let long : length mid.durable ≡ device_pages format extents pages sections = ap length so_far.head.durable ∙ sized in
+      subst (λ (d : DiskState). IsNewOn format extents pages sections old d) (sym is) (record {
         formatted = (written mid 1 bytes, head_more extents pages old mid 1 bytes (inl (omega arith)) so_far.head, refl);
-        superblock = λ j lt. subst (λ (b : List ℕ). SpellsSuperblock b 1 extents pages sections j (replicate (section_length extents sections j) (0, 0)))
+        superblock = λ j lt. subst (λ (b : List ℕ). SpellsSuperblock b format 1 extents pages sections j (replicate (section_length extents sections j) (0, 0)))
             (sym (wrote_there mid 1 (head_page extents pages j) bytes (head_not_root extents pages j))) (so_far.each j lt);
-        root = subst (λ (b : List ℕ). SpellsRoot b 1 0 []) (sym (wrote_here mid 1 bytes (omega (arith, long, some)))) spelled;
+        root = subst (λ (b : List ℕ). SpellsRoot b format 1 0 []) (sym (wrote_here mid 1 bytes (omega (arith, long, some)))) spelled;
       })
 
 -- whatever the last writes answered
-pub heads_written : {T E : Type 0} (extents pages sections : ℕ) (old : DiskState) → length old.durable ≡ 1 + extents * pages + sections → (r : Result T E) (mid new : DiskState) (bytes : List ℕ)
-    → AreNewWritten extents pages sections sections old mid → SpellsRoot bytes 1 0 [] → 0 < sections → OnOk r (new ≡ flushed (written mid 1 bytes)) → OnOk r (IsNewOn extents pages sections old new)
-heads_written extents pages sections old sized (Ok t) mid new bytes so_far spelled some is = new_on extents pages sections old sized mid new bytes so_far spelled some is
-heads_written extents pages sections old sized (Err e) mid new bytes so_far spelled some is = tt
+pub heads_written : {T E : Type 0} (format extents pages sections : ℕ) (old : DiskState) → length old.durable ≡ device_pages format extents pages sections → (r : Result T E) (mid new : DiskState) (bytes : List ℕ)
+    → AreNewWritten format extents pages sections sections old mid → SpellsRoot bytes format 1 0 [] → 0 < sections → OnOk r (new ≡ flushed (written mid 1 bytes)) → OnOk r (IsNewOn format extents pages sections old new)
+heads_written format extents pages sections old sized (Ok t) mid new bytes so_far spelled some is = new_on format extents pages sections old sized mid new bytes so_far spelled some is
+heads_written format extents pages sections old sized (Err e) mid new bytes so_far spelled some is = tt
 
 pub heads_failed : {T E : Type 0} (extents pages : ℕ) (old : DiskState) (r : Result T E) (mid new : DiskState) (bytes : List ℕ) → IsHeadWritten extents pages old mid
     → OnErr r ((new ≡ mid) ⊎ (new ≡ written mid 1 bytes)) → OnErr r (IsHeadWritten extents pages old new)

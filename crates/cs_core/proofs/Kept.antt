@@ -10,12 +10,12 @@ use Rattle.cs_chunk.proofs.Chunkings.{length-spelled}
 use Rattle.cs_frame.specs.declared.locators.Locator.{Locator}
 use Rattle.cs_frame.specs.Formats.{formats_of, place_of}
 use Rattle.cs_frame.specs.Frames.{spelled_frame}
-use Rattle.cs_index.specs.Staged.{IsMergeStaged, IsRunAppended, IsTableStaged, run_frame}
+use Rattle.cs_index.specs.Merges.{deletions_go, stage_takes}
+use Rattle.cs_index.specs.Staged.{IsMergeStaged, IsPartAppended, IsRunAppended, run_frame}
 use Rattle.cs_model.specs.Index.{IsMergedRun}
-use Rattle.cs_model.specs.Element.{Entry}
+use Rattle.cs_model.specs.Element.{Entry, Run}
 use Rattle.cs_frame.specs.Formats.{as_locator}
 use Rattle.cs_deps.specs.declared.refusals.Refusal.{Refusal}
-use Rattle.std.proofs.lemmas.Bool.{cases_lt}
 use Rattle.cs_index.specs.State.{IsSet, State as IndexState, index_of}
 use Rattle.cs_model.specs.Append.{chunk_frames}
 use Rattle.cs_model.specs.Device.{Inside, Shape}
@@ -29,11 +29,12 @@ use Rattle.cs_reclaim.specs.Retired.{IsRetired}
 use Rattle.cs_model.specs.Extents.{ForMove}
 use Rattle.cs_reclaim.specs.Sweeps.{IsSwept}
 use Rattle.cs_reclaim.proofs.Sweeping.{append_swept}
-use Rattle.cs_core.specs.Stored.{AreInside, AreSwept, AreWithin, IsKept, KeepsDevice, Stored, members_of, page_total}
+use Rattle.cs_core.specs.Stored.{AreInside, AreSwept, AreWithin, IsKept, KeepsDevice, Stored, members_of}
 use Rattle.cs_core.specs.declared.roots.Root.{Root}
 use Rattle.cs_core.specs.Frontiers.{AreNoted}
-use Rattle.cs_core.proofs.Moves.{AddsRoot, extent_there, frame_fits, last_root, moves_extents, moves_merged, moves_then}
+use Rattle.cs_core.proofs.Moves.{AddsRoot, IsStagedBy, extent_there, frame_fits, last_root, moves_extents, moves_merged, moves_then}
 use Rattle.cs_core.proofs.Noted.{noted_accepted, noted_pushed}
+use Rattle.cs_image.specs.Reads.{page_total}
 
 -- PLACES
 -- the places of some chunks are there
@@ -91,8 +92,9 @@ swept_all x y g h r (f ∷ fs) (l ∷ ls) a swept = swept_all a.0 y a.1 h r fs l
 swept_all x y g h r [] (l ∷ ls) a swept = absurd a
 swept_all x y g h r (f ∷ fs) [] a swept = absurd a
 
-swept_table : (i : IndexState) (x : ExtentsState) (g : GraphState) (v commands : ℕ) (j : IndexState) (y : ExtentsState) (h : GraphState) → IsTableStaged i x g v commands j y h → AreSwept x → AreSwept y
-swept_table i x g v commands j y h staged = swept_appended x y g staged.staged.0 ForRun (run_frame x staged.entries) (as_locator staged.place) staged.staged.1
+swept_part : (go : Bool) (k : ℕ) (i : IndexState) (x : ExtentsState) (g : GraphState) (r : Reason) (runs : List Run) (y : ExtentsState) (h : GraphState) → IsPartAppended go i k x g r runs y h → AreSwept x → AreSwept y
+swept_part go k i x g r runs y h (inl m) swept = swept_appended x y g h r (run_frame x m.0) (as_locator m.1) m.4 swept
+swept_part go k i x g r runs y h (inr m) swept = subst AreSwept (sym m.1) swept
 
 pub swept_merged : (i : IndexState) (x : ExtentsState) (g : GraphState) (r : Reason) (v commands : ℕ) (j : IndexState) (y : ExtentsState) (h : GraphState) → IsMergeStaged i x g r v commands j y h → AreSwept x → AreSwept y
 swept_merged i x g r v commands j y h staged swept = ⊎_elim
@@ -104,15 +106,13 @@ swept_merged i x g r v commands j y h staged swept = ⊎_elim
 -- the index is staged, or not
 pub swept_staged : (result : Result (Option ℕ) Refusal) (commands : ℕ) (i : IndexState) (x : ExtentsState) (g : GraphState) (j : IndexState) (y : ExtentsState) (h : GraphState)
     → (result ≡ Ok None → (j ≡ i) × (y ≡ x) × (h ≡ g))
-    → ((v : ℕ) → result ≡ Ok (Some v) → length i.runs < 4 → IsTableStaged i x g v commands j y h)
-    → ((v : ℕ) → result ≡ Ok (Some v) → 4 ≤ length i.runs → IsMergeStaged i x g ForRun v commands j y h)
+    → IsStagedBy result commands i x g j y h
     → OnErr result (y ≡ x) → AreSwept x → AreSwept y
-swept_staged (Ok None) commands i x g j y h none table merged unwritten swept = subst AreSwept (sym (none refl).1) swept
-swept_staged (Ok (Some v)) commands i x g j y h none table merged unwritten swept = ⊎_elim
-    (λ (few : length i.runs < 4). swept_table i x g v commands j y h (table v refl few) swept)
-    (λ (many : 4 ≤ length i.runs). swept_merged i x g ForRun v commands j y h (merged v refl many) swept)
-    (cases_lt (length i.runs) 4)
-swept_staged (Err r) commands i x g j y h none table merged unwritten swept = subst AreSwept (sym unwritten) swept
+swept_staged (Ok None) commands i x g j y h none staged unwritten swept = subst AreSwept (sym (none refl).1) swept
+swept_staged (Ok (Some v)) commands i x g j y h none staged unwritten swept =
+    let k : ℕ = stage_takes (shape x) i in
+    let s = staged v refl in swept_part (deletions_go (shape x) i k) k i x g ForRun j.runs y s.between s.appended swept
+swept_staged (Err r) commands i x g j y h none staged unwritten swept = subst AreSwept (sym unwritten) swept
 
 pub moves_retired : (i : IndexState) (x : ExtentsState) (g : GraphState) (e v commands : ℕ) (j : IndexState) (y : ExtentsState) (h : GraphState) → 1 ≤ x.sections → IsRetired i x g e v commands j y h → shape y ≡ shape x → KeepsDevice x g y h
 moves_retired i x g e v commands j y h some r same =

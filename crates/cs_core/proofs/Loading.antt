@@ -1,5 +1,5 @@
 -- What is read as a store is opened, and the store that is made of it.
-use Rattle.std.proofs.Common.{◌≡◌, ◌≢◌, ◌⊎◌, inl, inr, ⊎_elim, ◌∙◌, ℕ, suc, ◌+◌, ◌-◌, ◌*◌, ◌/◌, ◌<◌, ◌≤◌, ◌^◌, Bool, true, false, List, [], ◌∷◌, Some, None, Result, Ok, Err, IfOk, IfErr, Vec, length, map, take, replicate, refl, sym, ap, subst, arith}
+use Rattle.std.proofs.Common.{◌≡◌, ◌≢◌, ◌⊎◌, inl, inr, ⊎_elim, ◌∙◌, ℕ, suc, ◌+◌, ◌<◌, ◌≤◌, ◌^◌, Bool, true, false, List, [], ◌∷◌, Some, None, Result, Ok, Err, IfOk, IfErr, Vec, length, map, take, replicate, refl, sym, ap, subst, arith}
 use Rattle.std.specs.Prelude.{MatchBool, Option, slice_get, slice_index}
 use Rattle.std.specs.List.{AllByRecursion}
 use Rattle.std.specs.declared.alloc.Global.{Global}
@@ -19,6 +19,7 @@ use Rattle.cs_frame.specs.declared.frames.FrameKind.TheVariants.{Run}
 use Rattle.cs_frame.specs.declared.identifiers.ShardId.{ShardId}
 use Rattle.cs_frame.specs.declared.locators.Locator.{Locator}
 use Rattle.cs_frame.specs.Formats.{place_of}
+use Rattle.cs_frame.specs.Geometries.{named_limit}
 use Rattle.cs_frame.specs.Runs.{FitsEntry, IsRun, SpellsRun, entries_of as spelled_entries, entry_of, run_fault}
 use Rattle.cs_image.proofs.Families.{length-by_family, root_in}
 use Rattle.cs_image.proofs.Listed.{all_default, found_in, in_entries}
@@ -139,26 +140,26 @@ no_runs x view places runs k place r older many at why =
 -- ---- the store
 
 -- a store that is made of its parts
-pub opened_is : (versions : List ℕ) (pages sections : ℕ) (written : List (ℕ × ℕ)) (root commands limit : ℕ) (runs : List StoredRun) (g : GraphState) (x : ExtentsState) (i : IndexState) (roots : List Noted)
-    → g ≡ graph_at versions root → length versions ≡ sections → x ≡ extents_at pages sections written → limit ≡ (4096 * pages - 45) / 81 → i ≡ index_at (newest_first runs) limit → roots ≡ record { version = root; commands = 0 } ∷ []
-    → record { graph = g; extents = x; index = i; roots = roots; out = g.round; issued = 0; base = commands; accepted = 0; frontier = 0; halted = false } ≡ opened_stored versions pages written root commands runs
-opened_is versions pages sections written root commands limit runs g x i roots graph many extents most index noted =
+pub opened_is : (format : ℕ) (versions : List ℕ) (pages sections : ℕ) (written : List (ℕ × ℕ)) (root commands limit : ℕ) (runs : List StoredRun) (g : GraphState) (x : ExtentsState) (i : IndexState) (roots : List Noted)
+    → g ≡ graph_at versions root → length versions ≡ sections → x ≡ extents_at format pages sections written → limit ≡ named_limit pages → i ≡ index_at (newest_first runs) limit → roots ≡ record { version = root; commands = 0 } ∷ []
+    → record { graph = g; extents = x; index = i; roots = roots; out = g.round; issued = 0; base = commands; accepted = 0; frontier = 0; halted = false } ≡ opened_stored format versions pages written root commands runs
+opened_is format versions pages sections written root commands limit runs g x i roots graph many extents most index noted =
     ap (λ (k : GraphState). record { graph = k; extents = x; index = i; roots = roots; out = k.round; issued = 0; base = commands; accepted = 0; frontier = 0; halted = false }) graph
     ∙ ap (λ (k : ExtentsState). record { graph = graph_at versions root; extents = k; index = i; roots = roots; out = None; issued = 0; base = commands; accepted = 0; frontier = 0; halted = false })
-    (extents ∙ ap (λ (n : ℕ). extents_at pages n written) (sym many))
-    ∙ ap (λ (k : IndexState). record { graph = graph_at versions root; extents = extents_at pages (length versions) written; index = k; roots = roots; out = None; issued = 0; base = commands; accepted = 0; frontier = 0; halted = false }) (index ∙ ap (λ (n : ℕ). index_at (newest_first runs) n) most)
-    ∙ ap (λ (rs : List Noted). record { graph = graph_at versions root; extents = extents_at pages (length versions) written; index = index_at (newest_first runs) ((4096 * pages - 45) / 81); roots = rs; out = None; issued = 0; base = commands; accepted = 0; frontier = 0; halted = false }) noted
+    (extents ∙ ap (λ (n : ℕ). extents_at format pages n written) (sym many))
+    ∙ ap (λ (k : IndexState). record { graph = graph_at versions root; extents = extents_at format pages (length versions) written; index = k; roots = roots; out = None; issued = 0; base = commands; accepted = 0; frontier = 0; halted = false }) (index ∙ ap (λ (n : ℕ). index_at (newest_first runs) n) most)
+    ∙ ap (λ (rs : List Noted). record { graph = graph_at versions root; extents = extents_at format pages (length versions) written; index = index_at (newest_first runs) (named_limit pages); roots = rs; out = None; issued = 0; base = commands; accepted = 0; frontier = 0; halted = false }) noted
 
 -- how many are live in its index
 pub live_in : (i : IndexState) (runs : List StoredRun) (limit count : ℕ) → i ≡ index_at (newest_first runs) limit → HasCount (λ id. live_at (index_of i) id ≢ []) count → HasCount (λ id. live_at (entries_of (newest_first runs)) id ≢ []) count
 live_in i runs limit count is has = subst (λ (k : IndexState). HasCount (λ id. live_at (index_of k) id ≢ []) count) is has
 
-module _ (versions : List ℕ) (pages : ℕ) (written : List (ℕ × ℕ)) (whole : IsWhole (extents_at pages (length versions) written)) where
+module _ (format : ℕ) (versions : List ℕ) (pages : ℕ) (written : List (ℕ × ℕ)) (whole : IsWhole (extents_at format pages (length versions) written)) where
   abbrev x : ExtentsState
-  x = extents_at pages (length versions) written
+  x = extents_at format pages (length versions) written
 
   abbrev IsInside : Place → Type 0
-  IsInside l = Inside (shape (extents_at pages (length versions) written)) l.extent l.page
+  IsInside l = Inside (shape (extents_at format pages (length versions) written)) l.extent l.page
 
   places_in : (ls : List Locator) → AllByRecursion (IsLocated x) ls → (l : Place) → l ∈ map place_of ls → IsInside l
   places_in [] all l none = absurd none
@@ -181,7 +182,7 @@ module _ (versions : List ℕ) (pages : ℕ) (written : List (ℕ × ℕ)) (whol
       (entries_of (newest_first runs)) (in_entries EntryIn (newest_first runs) (all_newest (λ (run : IndexRun). AllByRecursion EntryIn run.entries) runs (runs_in runs all))) id
 
   -- a store that was opened keeps what every store keeps
-  pub kept_opened : (root commands : ℕ) (runs : List StoredRun) → commands < 2 ^ 63 → AreLocated x runs → IsKept (opened_stored versions pages written root commands runs)
+  pub kept_opened : (root commands : ℕ) (runs : List StoredRun) → commands < 2 ^ 63 → AreLocated x runs → IsKept (opened_stored format versions pages written root commands runs)
   kept_opened root commands runs few located = record {
     families = omega (arith, length-by_family versions root);
     resets = λ e. let none : slice_index (replicate (length written) 0) e ≡ 0 = all_default (length written) e 0 in omega (arith, none);

@@ -41,12 +41,13 @@ use Rattle.cs_reclaim.specs.Moves.{AnswersMove, AnswersPlace, IsMoved, chunk_fra
 use Rattle.cs_frame.specs.declared.identifiers.ShardId.{ShardId}
 use Rattle.cs_core.specs.Reads.{DeclinesOn, MoveAnswers, StepsOn}
 use Rattle.cs_core.specs.States.{IsStateOf}
-use Rattle.cs_core.specs.Stored.{Stored, page_total, but_for_room}
+use Rattle.cs_core.specs.Stored.{Stored, but_for_room}
 use Rattle.cs_core.proofs.Damage.{IsDamage, read_refusal}
 use Rattle.cs_core.proofs.Gets.{newest_there}
 use Rattle.cs_core.proofs.Going.{Beside, beside_is, frontier_same, goes_on, going, no_more, pass, pass_found, roomed, roots_same, same_state}
 use Rattle.cs_core.proofs.RootsStay.{SameRoots, append_stays}
 use Rattle.cs_core.proofs.SweepSteps.{is_marked, move_unmarked}
+use Rattle.cs_image.specs.Reads.{page_total}
 
 -- an extent that isn't being swept
 pub move_unswept : (v : Stored) (whole : IsWhole v.extents) (runs : v.halted ≡ false) (disk : DiskState) (e : ℕ) → (extents_of v.extents).swept e ≡ false → MoveAnswers v disk e (Err code.NotSweepable) v

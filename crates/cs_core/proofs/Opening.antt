@@ -1,5 +1,5 @@
 -- How an opening goes on, from one part that is read to the next.
-use Rattle.std.proofs.Common.{◌≡◌, ◌≢◌, ◌⊎◌, inl, inr, ⊎_elim, ◌∙◌, ℕ, ◌+◌, ◌*◌, ◌<◌, ◌≤◌, List, Result, Ok, Err, IfOk, IfErr, OnErr, OnOk, [], length, map, refl, sym, ap, subst}
+use Rattle.std.proofs.Common.{◌≡◌, ◌≢◌, ◌⊎◌, inl, inr, ⊎_elim, ◌∙◌, ℕ, ◌<◌, ◌≤◌, List, Result, Ok, Err, IfOk, IfErr, OnErr, OnOk, [], length, map, refl, sym, ap, subst}
 use Rattle.std.specs.List.{AllByRecursion}
 use Rattle.cs_chunk.specs.Reads.{IsNoAnswer, IsOfFault}
 use Rattle.cs_deps.specs.declared.refusals.Refusal.{Refusal}
@@ -10,6 +10,7 @@ use Rattle.cs_disk.specs.Disk.{Elapses, Image, LeavesOnly, MayLeave, State as Di
 use Rattle.cs_extent.specs.State.{State as ExtentsState, shape}
 use Rattle.cs_frame.specs.declared.locators.Locator.{Locator}
 use Rattle.cs_frame.specs.FirstFormat.{SpellsPageZero, page_zero_fault}
+use Rattle.cs_frame.specs.Geometries.{IsGeometry, device_pages}
 use Rattle.cs_frame.specs.Roots.{SpellsRoot, root_fault}
 use Rattle.cs_image.specs.Counts.{HasCount}
 use Rattle.cs_image.specs.Openings.{graph_at}
@@ -23,32 +24,32 @@ use Rattle.cs_core.specs.Openings.{AreExtentsRead, IsOtherFirst, IsStoreMade, Is
 -- ---- the store that is made
 
 -- extents are read of so many sections
-pub extents_again : (x : ExtentsState) (pages sections : ℕ) (written : List (ℕ × ℕ)) → x ≡ extents_at pages sections written → x ≡ extents_at x.pages x.sections x.written
-extents_again x pages sections written is = is ∙ ap (λ (y : ExtentsState). extents_at y.pages y.sections y.written) (sym is)
+pub extents_again : (x : ExtentsState) (format pages sections : ℕ) (written : List (ℕ × ℕ)) → x ≡ extents_at format pages sections written → x ≡ extents_at x.format x.pages x.sections x.written
+extents_again x format pages sections written is = is ∙ ap (λ (y : ExtentsState). extents_at y.format y.pages y.sections y.written) (sym is)
 
 -- as many as there are versions
-pub extents_by : (x : ExtentsState) (pages sections : ℕ) (written : List (ℕ × ℕ)) (versions : List ℕ) → x ≡ extents_at pages sections written → length versions ≡ sections
-    → x ≡ extents_at pages (length versions) written
-extents_by x pages sections written versions is many = is ∙ ap (λ (n : ℕ). extents_at pages n written) (sym many)
+pub extents_by : (x : ExtentsState) (format pages sections : ℕ) (written : List (ℕ × ℕ)) (versions : List ℕ) → x ≡ extents_at format pages sections written → length versions ≡ sections
+    → x ≡ extents_at format pages (length versions) written
+extents_by x format pages sections written versions is many = is ∙ ap (λ (n : ℕ). extents_at format pages n written) (sym many)
 
-module _ (honest : Type 0) (view : ℕ → List ℕ) (versions : List ℕ) (pages : ℕ) (written : List (ℕ × ℕ)) (root commands : ℕ) (places : List Locator) (runs : List StoredRun)
-    (x : ExtentsState) (is : x ≡ extents_at pages (length versions) written) (graph : GraphState) (fresh : graph ≡ graph_at versions root)
-    (sections_there : honest → AreSectionsRead view versions pages written) (root_there : honest → SpellsRoot (view 1) root commands places)
+module _ (honest : Type 0) (view : ℕ → List ℕ) (format : ℕ) (versions : List ℕ) (pages : ℕ) (written : List (ℕ × ℕ)) (root commands : ℕ) (places : List Locator) (runs : List StoredRun)
+    (x : ExtentsState) (is : x ≡ extents_at format pages (length versions) written) (graph : GraphState) (fresh : graph ≡ graph_at versions root)
+    (sections_there : honest → AreSectionsRead view format versions pages written) (root_there : honest → SpellsRoot (view 1) format root commands places)
     (read : honest → (map (λ run. run.place) runs ≡ places) × AllByRecursion (IsRunRead x view) runs) where
   pub store_made : (result : Result OpenedStore Refusal)
-      → IfOk result (λ found. (vs : List ℕ) → length vs ≡ x.sections → graph ≡ graph_at vs root → found.store ≡ opened_stored vs x.pages x.written root commands runs)
+      → IfOk result (λ found. (vs : List ℕ) → length vs ≡ x.sections → graph ≡ graph_at vs root → found.store ≡ opened_stored x.format vs x.pages x.written root commands runs)
       → IfOk result (λ found. found.commands ≡ commands)
       → IfOk result (λ found. HasCount (λ id. live_at (entries_of (newest_first runs)) id ≢ []) found.live)
       → OnOk result (AreLocated x runs) → OnOk result (names (entries_of (newest_first runs)) ≤ (shape x).most_names)
-      → IfOk result (λ found. IsStoreMade honest view versions pages written found.commands found.live found.store)
-  store_made (Ok found) made same counted located named = subst (λ (n : ℕ). IsStoreMade honest view versions pages written n found.live found.store) (sym same) (record {
+      → IfOk result (λ found. IsStoreMade honest view format versions pages written found.commands found.live found.store)
+  store_made (Ok found) made same counted located named = subst (λ (n : ℕ). IsStoreMade honest view format versions pages written n found.live found.store) (sym same) (record {
     root = root;
     runs = runs;
-    made = made versions (ap (λ (y : ExtentsState). y.sections) (sym is)) fresh ∙ ap (λ (y : ExtentsState). opened_stored versions y.pages y.written root commands runs) is;
+    made = made versions (ap (λ (y : ExtentsState). y.sections) (sym is)) fresh ∙ ap (λ (y : ExtentsState). opened_stored y.format versions y.pages y.written root commands runs) is;
     counted = counted;
     read = λ h. record {
       sections = sections_there h;
-      root_page = subst (λ (ps : List Locator). SpellsRoot (view 1) root commands ps) (sym (read h).0) (root_there h);
+      root_page = subst (λ (ps : List Locator). SpellsRoot (view 1) format root commands ps) (sym (read h).0) (root_there h);
       runs_read = subst (λ (y : ExtentsState). AllByRecursion (IsRunRead y view) runs) is (read h).1;
       located = subst (λ (y : ExtentsState). AreLocated y runs) is located;
       named = subst (λ (y : ExtentsState). names (entries_of (newest_first runs)) ≤ (shape y).most_names) is named;
@@ -57,8 +58,8 @@ module _ (honest : Type 0) (view : ℕ → List ℕ) (versions : List ℕ) (page
   store_made (Err r) made same counted located named = tt
 
   -- why none is made
-  module _ (count : ℕ) (sized : count ≡ 1 + length written * pages + length versions) (h : honest) where
-    extents_there : AreExtentsRead count view versions pages written
+  module _ (count : ℕ) (sized : count ≡ device_pages format (length written) pages (length versions)) (h : honest) where
+    extents_there : AreExtentsRead count view format versions pages written
     extents_there = record { sections = sections_there h; sized = sized }
 
     pub index_damaged : (result : Result OpenedStore Refusal)
@@ -69,11 +70,12 @@ module _ (honest : Type 0) (view : ℕ → List ℕ) (versions : List ℕ) (page
         (λ (m : r ≡ OutOfMemory). inl (inr m))
         (λ (w : (r ≡ NotAStore) × ((¬ AreLocated x runs) ⊎ ((shape x).most_names < names (entries_of (newest_first runs))))).
         inr (inr (inr (inr (inr (inr (inr (inr (record {
+          format = format;
           versions = versions;
           pages = pages;
           written = written;
           runs = runs;
-          root = record { extents = extents_there; version = root; commands = commands; root = subst (λ (ps : List Locator). SpellsRoot (view 1) root commands ps) (sym (read h).0) (root_there h) };
+          root = record { extents = extents_there; version = root; commands = commands; root = subst (λ (ps : List Locator). SpellsRoot (view 1) format root commands ps) (sym (read h).0) (root_there h) };
           runs_read = subst (λ (y : ExtentsState). AllByRecursion (IsRunRead y view) runs) is (read h).1;
           why = subst (λ (y : ExtentsState). (¬ AreLocated y runs) ⊎ ((shape y).most_names < names (entries_of (newest_first runs)))) is w.1;
           refusal = w.0;
@@ -82,20 +84,21 @@ module _ (honest : Type 0) (view : ℕ → List ℕ) (versions : List ℕ) (page
 
 -- ---- why no store is read
 
-module _ (count : ℕ) (view : ℕ → List ℕ) (versions : List ℕ) (pages : ℕ) (written : List (ℕ × ℕ)) (sections : AreSectionsRead view versions pages written)
-    (sized : count ≡ 1 + length written * pages + length versions) (r : Refusal) where
-  abbrev there : AreExtentsRead count view versions pages written
+module _ (count : ℕ) (view : ℕ → List ℕ) (format : ℕ) (versions : List ℕ) (pages : ℕ) (written : List (ℕ × ℕ)) (sections : AreSectionsRead view format versions pages written)
+    (sized : count ≡ device_pages format (length written) pages (length versions)) (r : Refusal) where
+  abbrev there : AreExtentsRead count view format versions pages written
   there = record { sections = sections; sized = sized }
 
-  pub root_damaged : IsNoAnswer r ⊎ IsOfFault (root_fault (view 1)) r → IsNoAnswer r ⊎ IsWhyNotOpened count view r
-  root_damaged why = ⊎_elim (λ n. inl n) (λ f. inr (inr (inr (inr (inr (inr (inl (record { versions = versions; pages = pages; written = written; extents = there; fault = f })))))))) why
+  pub root_damaged : IsNoAnswer r ⊎ IsOfFault (root_fault format (view 1)) r → IsNoAnswer r ⊎ IsWhyNotOpened count view r
+  root_damaged why = ⊎_elim (λ n. inl n) (λ f. inr (inr (inr (inr (inr (inr (inl (record { format = format; versions = versions; pages = pages; written = written; extents = there; fault = f })))))))) why
 
-  pub run_damaged : (root commands : ℕ) (places : List Locator) (x : ExtentsState) → x ≡ extents_at pages (length versions) written → SpellsRoot (view 1) root commands places
+  pub run_damaged : (root commands : ℕ) (places : List Locator) (x : ExtentsState) → x ≡ extents_at format pages (length versions) written → SpellsRoot (view 1) format root commands places
       → IsNoAnswer r ⊎ IsWhyNoRuns x view places r → IsNoAnswer r ⊎ IsWhyNotOpened count view r
   run_damaged root commands places x is root_there why = ⊎_elim (λ n. inl n)
       (λ (w : IsWhyNoRuns x view places r).
-      let v : IsWhyNoRuns (extents_at pages (length versions) written) view places r = subst (λ (y : ExtentsState). IsWhyNoRuns y view places r) is w in
+      let v : IsWhyNoRuns (extents_at format pages (length versions) written) view places r = subst (λ (y : ExtentsState). IsWhyNoRuns y view places r) is w in
       inr (inr (inr (inr (inr (inr (inr (inl (record {
+        format = format;
         versions = versions;
         pages = pages;
         written = written;
@@ -116,31 +119,33 @@ first_damaged count view r enough (inr (inl fault)) = inr (inr (inl (record { en
 first_damaged count view r enough (inr (inr other)) = inr (inr (inr (inl (record { enough = enough; spelled = other }))))
 
 -- another device
-pub other_device : (count : ℕ) (view : ℕ → List ℕ) (version extents pages sections section : ℕ) (rows : List (ℕ × ℕ)) → 10 ≤ count → section ≡ 0
-    → SpellsPageZero (view 0) version extents pages sections section rows → (count ≡ 1 + extents * pages + sections → ⊥)
+pub other_device : (count : ℕ) (view : ℕ → List ℕ) (format version extents pages sections section : ℕ) (rows : List (ℕ × ℕ)) → 10 ≤ count → section ≡ 0
+    → SpellsPageZero (view 0) format version extents pages sections section rows → (count ≡ device_pages format extents pages sections → ⊥)
     → IsNoAnswer NotAStore ⊎ IsWhyNotOpened count view NotAStore
-other_device count view version extents pages sections section rows enough first spelled other = inr (inr (inr (inr (inl (record {
+other_device count view format version extents pages sections section rows enough first spelled other = inr (inr (inr (inr (inl (record {
   enough = enough;
+  format = format;
   version = version;
   extents = extents;
   pages = pages;
   sections = sections;
   rows = rows;
-  superblock = subst (λ (n : ℕ). SpellsPageZero (view 0) version extents pages sections n rows) first spelled;
+  superblock = subst (λ (n : ℕ). SpellsPageZero (view 0) format version extents pages sections n rows) first spelled;
   other = other;
   refusal = refl;
 })))))
 
 -- a further section isn't read
-pub section_damaged : (count : ℕ) (view : ℕ → List ℕ) (version extents pages sections section : ℕ) (rows : List (ℕ × ℕ)) (r : Refusal) → section ≡ 0
-    → SpellsPageZero (view 0) version extents pages sections section rows → count ≡ 1 + extents * pages + sections
-    → IsNoAnswer r ⊎ IsWhyNoSections view extents pages sections r → IsNoAnswer r ⊎ IsWhyNotOpened count view r
-section_damaged count view version extents pages sections section rows r first spelled sized why = ⊎_elim (λ n. inl n)
-    (λ (w : IsWhyNoSections view extents pages sections r). inr (inr (inr (inr (inr (inl (record {
+pub section_damaged : (count : ℕ) (view : ℕ → List ℕ) (format version extents pages sections section : ℕ) (rows : List (ℕ × ℕ)) (r : Refusal) → section ≡ 0
+    → SpellsPageZero (view 0) format version extents pages sections section rows → count ≡ device_pages format extents pages sections
+    → IsNoAnswer r ⊎ IsWhyNoSections view format extents pages sections r → IsNoAnswer r ⊎ IsWhyNotOpened count view r
+section_damaged count view format version extents pages sections section rows r first spelled sized why = ⊎_elim (λ n. inl n)
+    (λ (w : IsWhyNoSections view format extents pages sections r). inr (inr (inr (inr (inr (inl (record {
+      format = format;
       extents = extents;
       pages = pages;
       sections = sections;
-      first = record { version = version; rows = rows; superblock = subst (λ (n : ℕ). SpellsPageZero (view 0) version extents pages sections n rows) first spelled; sized = sized };
+      first = record { version = version; rows = rows; superblock = subst (λ (n : ℕ). SpellsPageZero (view 0) format version extents pages sections n rows) first spelled; sized = sized };
       why = w;
     })))))))
     why
@@ -148,29 +153,29 @@ section_damaged count view version extents pages sections section rows r first s
 -- ---- what was read later was there before
 
 module _ (old mid : DiskState) (before now : Type 0) (later : before → now) (same : before → seen mid ≡ seen old) where
-  pub made_before : (versions : List ℕ) (pages : ℕ) (written : List (ℕ × ℕ)) (result : Result OpenedStore Refusal)
-      → IfOk result (λ found. IsStoreMade now (page (seen mid)) versions pages written found.commands found.live found.store)
-      → IfOk result (λ found. IsStoreMade before (page (seen old)) versions pages written found.commands found.live found.store)
-  made_before versions pages written (Ok found) made = record {
+  pub made_before : (format : ℕ) (versions : List ℕ) (pages : ℕ) (written : List (ℕ × ℕ)) (result : Result OpenedStore Refusal)
+      → IfOk result (λ found. IsStoreMade now (page (seen mid)) format versions pages written found.commands found.live found.store)
+      → IfOk result (λ found. IsStoreMade before (page (seen old)) format versions pages written found.commands found.live found.store)
+  made_before format versions pages written (Ok found) made = record {
     root = made.root;
     runs = made.runs;
     made = made.made;
     counted = made.counted;
-    read = λ h. subst (λ (i : Image). IsStoreRead (page i) versions pages written made.root found.commands made.runs) (same h) (made.read (later h));
+    read = λ h. subst (λ (i : Image). IsStoreRead (page i) format versions pages written made.root found.commands made.runs) (same h) (made.read (later h));
   }
-  made_before versions pages written (Err r) made = tt
+  made_before format versions pages written (Err r) made = tt
 
   pub some_made : (count after : ℕ) (result : Result OpenedStore Refusal) → after ≡ count
-      → IfOk result (λ found. (versions : List ℕ) × (pages : ℕ) × (written : List (ℕ × ℕ)) × (after ≡ 1 + length written * pages + length versions) × IsStoreMade now (page (seen mid)) versions pages written found.commands found.live found.store)
-      → IfOk result (λ found. (versions : List ℕ) × (pages : ℕ) × (written : List (ℕ × ℕ)) × (count ≡ 1 + length written * pages + length versions) × IsStoreMade before (page (seen old)) versions pages written found.commands found.live found.store)
-  some_made count after (Ok found) size made = (made.0, made.1, made.2, sym size ∙ made.3, made_before made.0 made.1 made.2 (Ok found) made.4)
+      → IfOk result (λ found. (format : ℕ) × (versions : List ℕ) × (pages : ℕ) × (written : List (ℕ × ℕ)) × (after ≡ device_pages format (length written) pages (length versions)) × IsStoreMade now (page (seen mid)) format versions pages written found.commands found.live found.store)
+      → IfOk result (λ found. (format : ℕ) × (versions : List ℕ) × (pages : ℕ) × (written : List (ℕ × ℕ)) × (count ≡ device_pages format (length written) pages (length versions)) × IsStoreMade before (page (seen old)) format versions pages written found.commands found.live found.store)
+  some_made count after (Ok found) size made = (made.0, made.1, made.2, made.3, sym size ∙ made.4, made_before made.0 made.1 made.2 made.3 (Ok found) made.5)
   some_made count after (Err r) size made = tt
 
-  pub sized_made : (count : ℕ) (versions : List ℕ) (pages : ℕ) (written : List (ℕ × ℕ)) (result : Result OpenedStore Refusal) → count ≡ 1 + length written * pages + length versions
-      → IfOk result (λ found. IsStoreMade now (page (seen mid)) versions pages written found.commands found.live found.store)
-      → IfOk result (λ found. (versions : List ℕ) × (pages : ℕ) × (written : List (ℕ × ℕ)) × (count ≡ 1 + length written * pages + length versions) × IsStoreMade before (page (seen old)) versions pages written found.commands found.live found.store)
-  sized_made count versions pages written (Ok found) sized made = (versions, pages, written, sized, made_before versions pages written (Ok found) made)
-  sized_made count versions pages written (Err r) sized made = tt
+  pub sized_made : (count format : ℕ) (versions : List ℕ) (pages : ℕ) (written : List (ℕ × ℕ)) (result : Result OpenedStore Refusal) → count ≡ device_pages format (length written) pages (length versions)
+      → IfOk result (λ found. IsStoreMade now (page (seen mid)) format versions pages written found.commands found.live found.store)
+      → IfOk result (λ found. (format : ℕ) × (versions : List ℕ) × (pages : ℕ) × (written : List (ℕ × ℕ)) × (count ≡ device_pages format (length written) pages (length versions)) × IsStoreMade before (page (seen old)) format versions pages written found.commands found.live found.store)
+  sized_made count format versions pages written (Ok found) sized made = (format, versions, pages, written, sized, made_before format versions pages written (Ok found) made)
+  sized_made count format versions pages written (Err r) sized made = tt
 
 -- ---- a crash
 

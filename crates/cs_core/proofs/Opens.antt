@@ -1,5 +1,5 @@
 -- A core over what was opened.
-use Rattle.std.proofs.Common.{◌≡◌, ◌≢◌, ◌⊎◌, inl, inr, ◌∙◌, ℕ, ◌+◌, ◌*◌, List, [], None, length, le_of_eq, refl, sym, ap, subst, arith}
+use Rattle.std.proofs.Common.{◌≡◌, ◌≢◌, ◌⊎◌, inl, inr, ◌∙◌, ℕ, List, [], None, length, le_of_eq, refl, sym, ap, subst, arith}
 use Rattle.cs_disk.specs.declared.disk.PageDisk.{Ghosts as PageDisk}
 use Rattle.cs_refine.proofs.Started.{read_started, seen_pages}
 use Rattle.cs_refine.specs.Devices.{IsDiskOf}
@@ -8,13 +8,13 @@ use Rattle.cs_deps.specs.declared.refusals.Refusal.{Refusal}
 use Rattle.cs_disk.specs.Disk.{Image, IsWhole as IsWholeDisk, State as DiskState, flushed, page, seen}
 use Rattle.cs_extent.specs.State.{State as ExtentsState, shape}
 use Rattle.cs_frame.specs.Formats.{formats_of}
-use Rattle.cs_frame.specs.Geometries.{IsGeometry, section_size}
+use Rattle.cs_frame.specs.Geometries.{IsGeometry, device_pages, section_size}
 use Rattle.cs_image.proofs.Families.{root_in}
 use Rattle.cs_image.proofs.Found.{read_recovers}
 use Rattle.cs_image.proofs.OneByOne.{live_count}
 use Rattle.cs_image.proofs.Superblocks.{read_format}
 use Rattle.cs_image.specs.Counts.{AreThose, HasCount}
-use Rattle.cs_image.specs.Reads.{ArePages, IsStoreRead, extents_at}
+use Rattle.cs_image.specs.Reads.{ArePages, IsStoreRead, extents_at, page_total}
 use Rattle.cs_index.specs.declared.runs.StoredRun.{StoredRun}
 use Rattle.cs_index.specs.State.{newest_first}
 use Rattle.cs_model.proofs.Unique.{one_recovery}
@@ -28,21 +28,21 @@ use Rattle.cs_core.specs.declared.events.Event.{Event}
 use Rattle.cs_core.specs.declared.events.Reply.{Reply}
 use Rattle.cs_core.specs.Openings.{IsOpened, IsStoreMade, IsWhyNotOpened, opened_stored}
 use Rattle.cs_core.specs.States.{IsStateOf}
-use Rattle.cs_core.specs.Stored.{Stored, page_total, but_for_room}
+use Rattle.cs_core.specs.Stored.{Stored, but_for_room}
 use Rattle.cs_core.specs.Views.{IsCore, IsFound, IsReached}
 use Rattle.cs_core.proofs.Exactly.{none_fails, recovers_here, same_numbers}
 use Rattle.cs_core.proofs.RootsRead.{noted, read_alone}
 
-module _ (image : Image) (versions : List ℕ) (pages : ℕ) (written : List (ℕ × ℕ)) (root commands : ℕ) (runs : List StoredRun)
-    (are : ArePages (1 + length written * pages + length versions) (page image)) (read : IsStoreRead (page image) versions pages written root commands runs) where
+module _ (image : Image) (format : ℕ) (versions : List ℕ) (pages : ℕ) (written : List (ℕ × ℕ)) (root commands : ℕ) (runs : List StoredRun)
+    (are : ArePages (device_pages format (length written) pages (length versions)) (page image)) (read : IsStoreRead (page image) format versions pages written root commands runs) where
   abbrev x : ExtentsState
-  x = extents_at pages (length versions) written
+  x = extents_at format pages (length versions) written
 
   -- what was read is a state of the machine
-  pub begins : (s : State) × IsStateOf (opened_stored versions pages written root commands runs) s
+  pub begins : (s : State) × IsStateOf (opened_stored format versions pages written root commands runs) s
       × IsDiskOf (shape x) (formats_of (shape x)) s (record { durable = image; volatile = [] }) × IsReached (shape x) (formats_of (shape x)) image [] s
   begins =
-      let start = read_started image versions pages written root commands ((opened_stored versions pages written root commands runs).index.limit) runs are read in
+      let start = read_started image format versions pages written root commands ((opened_stored format versions pages written root commands runs).index.limit) runs are read in
       let s : State = opened_state (shape x) (formats_of (shape x)) (page image) commands start.0 start.1 in (
         s,
         record {
@@ -68,7 +68,7 @@ module _ (image : Image) (versions : List ℕ) (pages : ℕ) (written : List (�
   module _ (live : ℕ) (counted : HasCount (λ id. live_at (entries_of (newest_first runs)) id ≢ []) live) where
     pub found_there : IsFound (shape x) image (commands, live)
     found_there =
-        let f = read_recovers (page image) versions pages written root commands runs read are in (
+        let f = read_recovers (page image) format versions pages written root commands runs read are in (
           f.0,
           f.1,
           (live_count (shape x) (formats_of (shape x)) (page image) commands f.0 f.1 live).0
@@ -78,7 +78,7 @@ module _ (image : Image) (versions : List ℕ) (pages : ℕ) (written : List (�
     -- and it is what the image recovers
     pub one_map : (n : ℕ) (m : Map) → Recovers (shape x) (formats_of (shape x)) (page image) n m → (commands ≡ n) × HasCount (λ id. m id ≢ None) live
     one_map n m r =
-        let one = one_recovery (shape x) (formats_of (shape x)) (read_format (page image) versions pages written read.sections) (page image) commands n found_there.0 m found_there.1 r in
+        let one = one_recovery (shape x) (formats_of (shape x)) (read_format (page image) format versions pages written read.sections) (page image) commands n found_there.0 m found_there.1 r in
         let ids : List ℕ = found_there.2.0 in
         let those : AreThose (λ id. found_there.0 id ≢ None) ids = found_there.2.1 in (
           one.0,
@@ -94,32 +94,32 @@ module _ (image : Image) (versions : List ℕ) (pages : ℕ) (written : List (�
 
 -- ---- the core
 
-module _ {D : Type 0} (disks : PageDisk D) (disk : D) (old : DiskState) (before : Type 0) (versions : List ℕ) (pages : ℕ) (written : List (ℕ × ℕ)) (commands live : ℕ) (store : Stored)
-    (sized : disks.page_count disk ≡ 1 + length written * pages + length versions) (made : IsStoreMade before (page (seen old)) versions pages written commands live store)
+module _ {D : Type 0} (disks : PageDisk D) (disk : D) (old : DiskState) (before : Type 0) (format : ℕ) (versions : List ℕ) (pages : ℕ) (written : List (ℕ × ℕ)) (commands live : ℕ) (store : Stored)
+    (sized : disks.page_count disk ≡ device_pages format (length written) pages (length versions)) (made : IsStoreMade before (page (seen old)) format versions pages written commands live store)
     (was : disks.honest disk → before) (now : disks.honest disk → disks.state disk ≡ flushed old) (whole : disks.honest disk → IsWholeDisk (disks.state disk)) (long : disks.honest disk → length (disks.state disk).durable ≡ disks.page_count disk) where
-  are_pages : disks.honest disk → ArePages (1 + length written * pages + length versions) (page (seen old))
-  are_pages h = subst (λ (d : DiskState). ArePages (1 + length written * pages + length versions) (page (seen d))) (now h)
-      (seen_pages (disks.state disk) (1 + length written * pages + length versions) (whole h) (le_of_eq (sym (long h ∙ sized))))
+  are_pages : disks.honest disk → ArePages (device_pages format (length written) pages (length versions)) (page (seen old))
+  are_pages h = subst (λ (d : DiskState). ArePages (device_pages format (length written) pages (length versions)) (page (seen d))) (now h)
+      (seen_pages (disks.state disk) (device_pages format (length written) pages (length versions)) (whole h) (le_of_eq (sym (long h ∙ sized))))
 
-  total : page_total (shape store.extents) ≡ 1 + length written * pages + length versions
+  total : page_total (shape store.extents) ≡ device_pages format (length written) pages (length versions)
   total = ap (λ (u : Stored). page_total (shape u.extents)) made.made
 
-  base : IsCore disks (record { disk = disk; opened = (disks.state disk).durable; found = (commands, live); store = opened_stored versions pages written made.root commands made.runs; history = []; base = 0; limit = 0 })
+  base : IsCore disks (record { disk = disk; opened = (disks.state disk).durable; found = (commands, live); store = opened_stored format versions pages written made.root commands made.runs; history = []; base = 0; limit = 0 })
   base = record {
     device = sized;
     replaced = omega arith;
     sized = λ h. long h ∙ sized;
     legal = λ h.
-        let b = begins (seen old) versions pages written made.root commands made.runs (are_pages h) (made.read (was h)) in (
+        let b = begins (seen old) format versions pages written made.root commands made.runs (are_pages h) (made.read (was h)) in (
           b.0,
           record {
             store = b.1;
-            disk = subst (λ (d : DiskState). IsDiskOf (shape (extents_at pages (length versions) written)) (formats_of (shape (extents_at pages (length versions) written))) b.0 d) (sym (now h)) b.2;
-            reached = subst (λ (d : DiskState). IsReached (shape (extents_at pages (length versions) written)) (formats_of (shape (extents_at pages (length versions) written))) d.durable [] b.0) (sym (now h)) b.3;
+            disk = subst (λ (d : DiskState). IsDiskOf (shape (extents_at format pages (length versions) written)) (formats_of (shape (extents_at format pages (length versions) written))) b.0 d) (sym (now h)) b.2;
+            reached = subst (λ (d : DiskState). IsReached (shape (extents_at format pages (length versions) written)) (formats_of (shape (extents_at format pages (length versions) written))) d.durable [] b.0) (sym (now h)) b.3;
           },
         );
-    begun = λ h. subst (λ (d : DiskState). IsFound (shape (extents_at pages (length versions) written)) d.durable (commands, live)) (sym (now h))
-        (found_there (seen old) versions pages written made.root commands made.runs (are_pages h) (made.read (was h)) live made.counted);
+    begun = λ h. subst (λ (d : DiskState). IsFound (shape (extents_at format pages (length versions) written)) d.durable (commands, live)) (sym (now h))
+        (found_there (seen old) format versions pages written made.root commands made.runs (are_pages h) (made.read (was h)) live made.counted);
   }
 
   pub opened_core : (opened : Image) (history : List (Event × Reply)) (first limit : ℕ) → opened ≡ (disks.state disk).durable → history ≡ [] → first ≡ 0
@@ -139,38 +139,40 @@ module _ {D : Type 0} (disks : PageDisk D) (disk : D) (old : DiskState) (before 
 
 -- ---- what its caller is told
 
-pub is_opened : (before : Type 0) (old : DiskState) (image : Image) (versions : List ℕ) (pages : ℕ) (written : List (ℕ × ℕ)) (commands live : ℕ) (store : Stored) → IsStoreMade before (page (seen old)) versions pages written commands live store
+pub is_opened : (before : Type 0) (old : DiskState) (image : Image) (format : ℕ) (versions : List ℕ) (pages : ℕ) (written : List (ℕ × ℕ)) (commands live : ℕ) (store : Stored) → IsStoreMade before (page (seen old)) format versions pages written commands live store
     → (before → image ≡ seen old) → IsOpened before image (commands, live) (but_for_room store)
-is_opened before old image versions pages written commands live store made same = record {
+is_opened before old image format versions pages written commands live store made same = record {
+  format = format;
   versions = versions;
   pages = pages;
   written = written;
   root = made.root;
   runs = made.runs;
   made = ap but_for_room made.made;
-  read = λ h. subst (λ (i : Image). IsStoreRead (page i) versions pages written made.root commands made.runs) (sym (same h)) (made.read h);
+  read = λ h. subst (λ (i : Image). IsStoreRead (page i) format versions pages written made.root commands made.runs) (sym (same h)) (made.read h);
 }
 
-module _ (before : Type 0) (old : DiskState) (count : ℕ) (h : before) (whole : IsWholeDisk old) (long : length old.durable ≡ count) (extents pages sections : ℕ) (is : IsGeometry extents pages sections) (sized : count ≡ 1 + extents * pages + sections) (n : ℕ) (m : Map)
-    (r : Recovers (shape_of extents pages sections (section_size extents sections) 2) (formats_of (shape_of extents pages sections (section_size extents sections) 2)) (page (seen old)) n m) where
+module _ (before : Type 0) (old : DiskState) (count : ℕ) (h : before) (whole : IsWholeDisk old) (long : length old.durable ≡ count) (format extents pages sections : ℕ) (is : IsGeometry format extents pages sections) (sized : count ≡ device_pages format extents pages sections) (n : ℕ) (m : Map)
+    (r : Recovers (shape_of extents pages sections (section_size extents sections) format) (formats_of (shape_of extents pages sections (section_size extents sections) format)) (page (seen old)) n m) where
   are : ArePages count (page (seen old))
   are = seen_pages old count whole (le_of_eq (sym long))
 
-  pub opened_as : (versions : List ℕ) (p : ℕ) (written : List (ℕ × ℕ)) (commands live : ℕ) (store : Stored) → count ≡ 1 + length written * p + length versions → IsStoreMade before (page (seen old)) versions p written commands live store
-      → (shape store.extents ≡ shape_of extents pages sections (section_size extents sections) 2) × (commands ≡ n) × HasCount (λ id. m id ≢ None) live
-  opened_as versions p written commands live store size made =
+  pub opened_as : (f : ℕ) (versions : List ℕ) (p : ℕ) (written : List (ℕ × ℕ)) (commands live : ℕ) (store : Stored) → count ≡ device_pages f (length written) p (length versions) → IsStoreMade before (page (seen old)) f versions p written commands live store
+      → (shape store.extents ≡ shape_of extents pages sections (section_size extents sections) format) × (commands ≡ n) × HasCount (λ id. m id ≢ None) live
+  opened_as f versions p written commands live store size made =
       let read = made.read h in
-      let same = same_numbers count (page (seen old)) extents pages sections is sized are n m r versions p written read.sections in
-      let one = one_map (seen old) versions p written made.root commands made.runs (subst (λ (k : ℕ). ArePages k (page (seen old))) size are) read live made.counted n m
-      (recovers_here count (page (seen old)) extents pages sections is sized are n m r (length versions) p written same.0 same.1 same.2) in (
+      let same = same_numbers count (page (seen old)) format extents pages sections is sized are n m r f versions p written read.sections in
+      let one = one_map (seen old) f versions p written made.root commands made.runs (subst (λ (k : ℕ). ArePages k (page (seen old))) size are) read live made.counted n m
+      (recovers_here count (page (seen old)) format extents pages sections is sized are n m r f (length versions) p written same.0 same.1 same.2 same.3) in (
         ap (λ (u : Stored). shape u.extents) made.made
-            ∙ ap (λ (k : ℕ). shape_of k p (length versions) (section_size k (length versions)) 2) same.0
-            ∙ ap (λ (q : ℕ). shape_of extents q (length versions) (section_size extents (length versions)) 2) same.1
-            ∙ ap (λ (k : ℕ). shape_of extents pages k (section_size extents k) 2) same.2,
+            ∙ ap (λ (k : ℕ). shape_of (length written) p (length versions) (section_size (length written) (length versions)) k) same.0
+            ∙ ap (λ (k : ℕ). shape_of k p (length versions) (section_size k (length versions)) format) same.1
+            ∙ ap (λ (q : ℕ). shape_of extents q (length versions) (section_size extents (length versions)) format) same.2
+            ∙ ap (λ (k : ℕ). shape_of extents pages k (section_size extents k) format) same.3,
         one.0,
         one.1,
       )
 
   pub no_other : (x : Refusal) → IsNoAnswer x ⊎ IsWhyNotOpened count (page (seen old)) x → IsNoAnswer x
   no_other x (inl none) = none
-  no_other x (inr why) = absurd (none_fails count (page (seen old)) extents pages sections is sized are n m r x why)
+  no_other x (inr why) = absurd (none_fails count (page (seen old)) format extents pages sections is sized are n m r x why)

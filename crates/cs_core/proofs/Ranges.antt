@@ -10,9 +10,9 @@ use Rattle.cs_frame.specs.declared.faults.FormatFault.{FormatFault}
 use Rattle.cs_frame.specs.declared.faults.FormatFault.TheVariants.{BadDigest, BadGeometry, BadLength, BadMagic, BadPadding, BadVersion, OutOfMemory, OutOfOrder}
 use Rattle.cs_frame.specs.Bytes.{all_zero, field, number}
 use Rattle.cs_frame.specs.Faults.{fault_number, first_fault, unless}
-use Rattle.cs_frame.specs.FirstFormat.{first_format_end, first_format_fault, first_format_tests, page_zero_fault}
+use Rattle.cs_frame.specs.FirstFormat.{first_format_end, first_format_fault, first_format_tests, page_zero_fault, zero_format}
 use Rattle.cs_frame.specs.Pages.{digest_test}
-use Rattle.cs_frame.specs.Roots.{root_end, root_fault, root_tests}
+use Rattle.cs_frame.specs.Roots.{greatest_runs, root_digit, root_end, root_fault, root_tests}
 use Rattle.cs_frame.specs.Runs.{entries_tests, entry_end, id_in, is_before, order_test, pieces_in, run_fault, run_tests}
 use Rattle.cs_frame.specs.Superblocks.{superblock_end, superblock_fault, superblock_tests}
 use Rattle.cs_core.specs.Openings.{IsOpeningRefusal}
@@ -44,8 +44,8 @@ all_find (x ∷ xs) ys a b = (a.0, all_find xs ys a.1 b)
 digest : (end : ℕ) (bytes : List ℕ) → FindsInRange (digest_test end bytes)
 digest end bytes = finds _ BadDigest (omega arith, omega arith)
 
-superblock_finds : (bytes : List ℕ) → FindsInRange (superblock_fault bytes)
-superblock_finds bytes = first_finds (superblock_tests bytes) (
+superblock_finds : (format : ℕ) (bytes : List ℕ) → FindsInRange (superblock_fault format bytes)
+superblock_finds format bytes = first_finds (superblock_tests format bytes) (
   finds _ BadMagic (omega arith, omega arith),
   (
     finds _ BadVersion (omega arith, omega arith),
@@ -92,21 +92,21 @@ first_format_finds bytes = first_finds (first_format_tests bytes) (
   ),
 )
 
--- on page 0 the tests are those of one of the two formats
+-- on page 0 the tests are those of one format
 page_zero_finds : (bytes : List ℕ) → FindsInRange (page_zero_fault bytes)
 page_zero_finds bytes = go (slice_index bytes 3 == 49)
   where
-    go : (b : Bool) → FindsInRange (if b then first_format_fault bytes else superblock_fault bytes)
+    go : (b : Bool) → FindsInRange (if b then first_format_fault bytes else superblock_fault (zero_format bytes) bytes)
     go true = first_format_finds bytes
-    go false = superblock_finds bytes
+    go false = superblock_finds (zero_format bytes) bytes
 
-root_finds : (bytes : List ℕ) → FindsInRange (root_fault bytes)
-root_finds bytes = first_finds (root_tests bytes) (
+root_finds : (format : ℕ) (bytes : List ℕ) → FindsInRange (root_fault format bytes)
+root_finds format bytes = first_finds (root_tests format bytes) (
   finds (bytes_eq (field 0 3 bytes) (codes "CSR")) BadMagic (omega arith, omega arith),
   (
-    finds (slice_index bytes 3 == 49) BadVersion (omega arith, omega arith),
+    finds (slice_index bytes 3 == root_digit format) BadVersion (omega arith, omega arith),
     (
-      finds (nat_le (slice_index bytes 20) 4) BadLength (omega arith, omega arith),
+      finds (nat_le (slice_index bytes 20) (greatest_runs format)) BadLength (omega arith, omega arith),
       (
         digest (root_end bytes) bytes,
         (
@@ -162,14 +162,14 @@ of_fault found range r (inr fault) =
     let number : number_of (refusal_for fault.0) ≡ fault_number fault.0 = same_number fault.0 in
     inr (inl (subst (λ (k : Refusal). (20 ≤ number_of k) × (number_of k ≤ 25)) (sym fault.2) (omega (arith, number, there.0), omega (arith, number, there.1))))
 
-pub superblock_refused : (bytes : List ℕ) (r : Refusal) → (r ≡ NoMemory) ⊎ IsOfFault (superblock_fault bytes) r → IsOpeningRefusal r
-superblock_refused bytes r why = of_fault (superblock_fault bytes) (superblock_finds bytes) r why
+pub superblock_refused : (format : ℕ) (bytes : List ℕ) (r : Refusal) → (r ≡ NoMemory) ⊎ IsOfFault (superblock_fault format bytes) r → IsOpeningRefusal r
+superblock_refused format bytes r why = of_fault (superblock_fault format bytes) (superblock_finds format bytes) r why
 
 pub page_zero_refused : (bytes : List ℕ) (r : Refusal) → (r ≡ NoMemory) ⊎ IsOfFault (page_zero_fault bytes) r → IsOpeningRefusal r
 page_zero_refused bytes r why = of_fault (page_zero_fault bytes) (page_zero_finds bytes) r why
 
-pub root_refused : (bytes : List ℕ) (r : Refusal) → (r ≡ NoMemory) ⊎ IsOfFault (root_fault bytes) r → IsOpeningRefusal r
-root_refused bytes r why = of_fault (root_fault bytes) (root_finds bytes) r why
+pub root_refused : (format : ℕ) (bytes : List ℕ) (r : Refusal) → (r ≡ NoMemory) ⊎ IsOfFault (root_fault format bytes) r → IsOpeningRefusal r
+root_refused format bytes r why = of_fault (root_fault format bytes) (root_finds format bytes) r why
 
 pub run_refused : (payload : List ℕ) (r : Refusal) → (r ≡ NoMemory) ⊎ IsOfFault (run_fault payload) r → IsOpeningRefusal r
 run_refused payload r why = of_fault (run_fault payload) (run_finds payload) r why

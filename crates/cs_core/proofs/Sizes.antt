@@ -25,8 +25,9 @@ use Rattle.cs_refine.specs.Devices.{pages_now, read_by}
 use Rattle.cs_refine.specs.Parts.{IsIndexOf}
 use Rattle.cs_core.specs.Lookups.{IsSaid, IsSize, TellsSize}
 use Rattle.cs_core.specs.States.{IsStateOf}
-use Rattle.cs_core.specs.Stored.{Stored, page_total}
+use Rattle.cs_core.specs.Stored.{Stored}
 use Rattle.cs_core.proofs.Gets.{found_live, newest_there, there_and_back}
+use Rattle.cs_image.specs.Reads.{page_total}
 
 -- ---- the chunks of a shard that the map has
 

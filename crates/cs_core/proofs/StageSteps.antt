@@ -1,14 +1,15 @@
 -- Stagings of runs and roots are steps of the machine.
-use Rattle.std.proofs.Common.{◌≡◌, ◌≢◌, ◌⊎◌, inl, inr, ⊎_elim, ℕ, suc, ◌+◌, ◌<◌, ◌≤◌, true, false, List, [], ◌∷◌, ◌++◌, Some, None, Ok, Err, length, refl, sym, ap, ◌∙◌, subst, arith}
+use Rattle.std.proofs.Common.{◌≡◌, ◌≢◌, ◌⊎◌, inl, inr, ℕ, suc, ◌+◌, ◌<◌, true, false, List, [], ◌∷◌, ◌++◌, Some, None, Ok, Err, length, refl, sym, ap, ◌∙◌, subst, arith}
 use Rattle.std.specs.Prelude.{◌↔◌, IfOk, Option, Result}
-use Rattle.std.proofs.lemmas.Bool.{cases_lt}
 use Rattle.cs_deps.specs.declared.refusals.Refusal.{Refusal as Code}
 use Rattle.cs_deps.specs.declared.refusals.Refusal.TheVariants as code
 use Rattle.cs_deps.specs.State.{State as GraphState}
 use Rattle.cs_extent.specs.State.{IsWhole, State as ExtentsState, extents_of, shape}
 use Rattle.cs_frame.specs.Formats.{formats_of}
-use Rattle.cs_index.specs.Staged.{IsFull, IsMergeStaged, IsStageWorn, IsTableStaged, IsWhy, WritesRun}
+use Rattle.cs_index.specs.Merges.{stage_takes as stage_takes_of}
+use Rattle.cs_index.specs.Staged.{IsFull, IsNewestStaged, IsStageWorn, IsWhy, WritesRun}
 use Rattle.cs_index.specs.State.{State as IndexState, index_of}
+use Rattle.cs_model.proofs.Rules.{before_rule}
 use Rattle.cs_model.specs.Device.{Shape}
 use Rattle.cs_model.specs.Element.{Entry, Root, Run, roots_of}
 use Rattle.cs_model.specs.Events.{Does, IsFrontier, retired, rooted}
@@ -18,13 +19,14 @@ use Rattle.cs_model.specs.Grounds.{NoRoomForRun, Refuses, WouldPass}
 use Rattle.cs_model.specs.Index.{NothingLive}
 use Rattle.cs_model.specs.Lists.{with}
 use Rattle.cs_model.specs.Machine.{World, root_now}
+use Rattle.cs_model.specs.Merges.{MergesNewest, stage_takes}
 use Rattle.cs_model.specs.Refusal.{Full, Halted, NotSweepable, Refusal, StillLive, WornOut}
 use Rattle.cs_model.specs.Lists.{◌∈◌}
 use Rattle.cs_model.specs.State.{Event, Reply, Refused, Retire, Retired, Stage, Staged, State, Unchanged, index_now, map_now}
 use Rattle.cs_model.specs.Step.{Step}
-use Rattle.cs_refine.proofs.Calls.{merge_staged, retire, table_staged}
+use Rattle.cs_refine.proofs.Calls.{newest_staged, retire}
 use Rattle.cs_refine.proofs.Indexes.{looked_up, none_too, nothing_live}
-use Rattle.cs_refine.proofs.RefusedStages.{retire_full, retire_worn, stage_full, stage_worn}
+use Rattle.cs_refine.proofs.RefusedStages.{no_room_to_stage, retire_full, retire_worn, stage_worn}
 use Rattle.cs_refine.specs.Parts.{ArePartsOf}
 use Rattle.cs_reclaim.specs.Retired.{IsRetireFull, IsRetireWorn, IsRetired}
 use Rattle.cs_core.specs.declared.roots.Root.{Root as Noted}
@@ -32,7 +34,7 @@ use Rattle.cs_core.specs.States.{AreRootsOf, IsStateOf}
 use Rattle.cs_core.specs.Steps.{Declines, Steps}
 use Rattle.cs_core.specs.Stored.{Stored, but_for_room}
 use Rattle.cs_core.proofs.Going.{Beside, frontier_stays, goes_on, going, no_more, pass, roots_more, same_state}
-use Rattle.cs_core.proofs.RootsStay.{SameRoots, append_stays, merge_stays}
+use Rattle.cs_core.proofs.RootsStay.{SameRoots, append_stays, merge_stays, same_here}
 
 -- what a state has after a root was staged
 record IsRooted (s t : State) (v : ℕ) : Type 0 where
@@ -73,15 +75,20 @@ module _ (S : Shape) (F : Formats) (s : State) where
         persistent = one.persistent;
       })
 
-  stage_rooted : (t : State) (v : ℕ) → Does S F s Stage (Staged v) t → IsRooted s t v
-  stage_rooted t v (some, number, inl (few, entries, l, mid, run, (w, append, mid_is), tis)) =
-      rooted_at mid t w (record { place = l; entries = entries } ∷ s.runs) v mid_is (append_stays S s.world w ForRun (F.frame RunFrame (F.run entries)) l append) number tis
-  stage_rooted t v (some, number, inr (many, mid, runs, (w, merges, mid_is), tis)) =
-      rooted_at mid t w runs v mid_is (merge_stays S F s.world w (index_now s) ForRun runs merges) number tis
+  merged_rooted : (t : State) (v : ℕ) → v ≡ suc s.world.root → (mid : State) (runs : List Run) → MergesNewest S F s ForRun (stage_takes S s) mid runs
+      → t ≡ rooted S F mid runs mid.world.extents.pointer → IsRooted s t v
+  merged_rooted t v number mid runs (inl (entries, l, some, run, (w, append, mid_is), is)) tis =
+      rooted_at mid t w runs v mid_is (append_stays S s.world w ForRun (F.frame RunFrame (F.run entries)) l append) number tis
+  merged_rooted t v number mid runs (inr (run, mid_is, is)) tis = rooted_at mid t s.world runs v mid_is (same_here s.world s.world refl) number tis
 
-  retire_rooted : (t : State) (e v : ℕ) → Does S F s (Retire e) (Retired v) t → IsRooted s t v
-  retire_rooted t e v (swept, nothing, number, mid, runs, (w, merges, mid_is), tis) =
-      retired_at mid t w runs e v mid_is (merge_stays S F s.world w (index_now s) ForMove runs merges) number tis
+  -- where chunks and runs may lie on one extent
+  module _ (before : S.apart ≡ false) where
+    stage_rooted : (t : State) (v : ℕ) → Does S F s Stage (Staged v) t → IsRooted s t v
+    stage_rooted t v does = let d = before_rule _ _ S.apart before does in merged_rooted t v d.1 d.2 d.3 d.4 d.5
+
+    retire_rooted : (t : State) (e v : ℕ) → Does S F s (Retire e) (Retired v) t → IsRooted s t v
+    retire_rooted t e v does = let d = before_rule _ _ S.apart before does in
+        retired_at d.3 t d.5.0 d.4 e v d.5.2 (merge_stays S F s.world d.5.0 (index_now s) ForMove d.4 d.5.1) d.2 d.6
 
 module _ (v : Stored) (s : State) (whole : IsWhole v.extents) (is : IsStateOf v s) (runs : v.halted ≡ false) where
   runs_on : s.halted ≡ true → ⊥
@@ -100,24 +107,24 @@ module _ (v : Stored) (s : State) (whole : IsWhole v.extents) (is : IsStateOf v 
   some_table some none = some (none_too s.table v.index.table (λ id. sym (is.parts.index.lookups id)) none)
 
   abbrev NoStage : Type 0
-  NoStage = IsFull (WritesRun v.index) v.extents ForRun
+  NoStage = IsFull (WritesRun (shape v.extents) v.index) v.extents ForRun
 
   abbrev WornStage : Type 0
-  WornStage = (v.index.table ≢ []) × IsStageWorn (WritesRun v.index) v.extents ForRun v.graph.staging
+  WornStage = (v.index.table ≢ []) × IsStageWorn (WritesRun (shape v.extents) v.index) v.extents ForRun v.graph.staging
 
   stages : (NoStage → ⊥) → (WornStage → ⊥) → (f : Refusal) → Refuses (shape v.extents) (formats_of (shape v.extents)) s Stage f → ⊥
-  stages room young = pass Halted runs_on (pass Full (λ full. room ((stage_full v.extents v.graph v.index s whole is.parts).0 full))
+  stages room young = pass Halted runs_on (pass Full (λ full. room ((no_room_to_stage v.extents v.graph v.index s whole is.parts).0 full))
       (pass WornOut (λ would. young ((stage_worn v.extents v.graph v.index s whole is.parts is.sound is.bounded room).0 would)) no_more))
 
   pub stage_nothing : v.index.table ≡ [] → Step (shape v.extents) (formats_of (shape v.extents)) s Stage Unchanged s
   stage_nothing none = (stages (λ full. full.1.0 none) (λ worn. worn.0 none), (no_table none, refl))
 
   pub stage_no_room : NoStage → Step (shape v.extents) (formats_of (shape v.extents)) s Stage (Refused Full) s
-  stage_no_room full = (inl (inr (runs_on, inl ((stage_full v.extents v.graph v.index s whole is.parts).1 full, refl))), refl)
+  stage_no_room full = (inl (inr (runs_on, inl ((no_room_to_stage v.extents v.graph v.index s whole is.parts).1 full, refl))), refl)
 
   pub stage_worn_out : (NoStage → ⊥) → WornStage → Step (shape v.extents) (formats_of (shape v.extents)) s Stage (Refused WornOut) s
   stage_worn_out room worn =
-      (inl (inr (runs_on, inr ((λ full. room ((stage_full v.extents v.graph v.index s whole is.parts).0 full)), inl ((stage_worn v.extents v.graph v.index s whole is.parts is.sound is.bounded room).1 worn, refl)))), refl)
+      (inl (inr (runs_on, inr ((λ full. room ((no_room_to_stage v.extents v.graph v.index s whole is.parts).0 full)), inl ((stage_worn v.extents v.graph v.index s whole is.parts is.sound is.bounded room).1 worn, refl)))), refl)
 
   -- a root was staged, and noted
   noted : (t : State) (n : ℕ) (w : Stored) → (event : Event) (reply : Reply) → IsRooted s t n → Step (shape v.extents) (formats_of (shape v.extents)) s event reply t → shape w.extents ≡ shape v.extents → ArePartsOf w.extents w.graph w.index t
@@ -130,18 +137,13 @@ module _ (v : Stored) (s : State) (whole : IsWhole v.extents) (is : IsStateOf v 
       (roots_more v.roots s t so.root (record { version = n; commands = v.accepted }) is.roots so.roots so.version (ap (λ (k : ℕ). s.count + k) (sym is.accepted) ∙ sym so.counts) so.persistent so.beside.count))
 
   pub stage_done : (n : ℕ) (y : ExtentsState) (h : GraphState) (j : IndexState) → (NoStage → ⊥) → (WornStage → ⊥) → v.index.table ≢ []
-      → (length v.index.runs < 4 → IsTableStaged v.index v.extents v.graph n (v.base + v.accepted) j y h)
-      → (4 ≤ length v.index.runs → IsMergeStaged v.index v.extents v.graph ForRun n (v.base + v.accepted) j y h) → shape y ≡ shape v.extents
+      → IsNewestStaged (stage_takes_of (shape v.extents) v.index) v.index v.extents v.graph n (v.base + v.accepted) j y h → shape y ≡ shape v.extents
       → (t : State) × Step (shape v.extents) (formats_of (shape v.extents)) s Stage (Staged n) t
       × IsStateOf (record v { graph = h; extents = y; index = j; roots = v.roots ++ record { version = n; commands = v.accepted } ∷ [] }) t
-  stage_done n y h j room young some table merged same = ⊎_elim
-      (λ (few : length v.index.runs < 4).
-      let law = table_staged v.extents v.graph v.index s whole is.parts y h j n some few (subst (λ (k : ℕ). IsTableStaged v.index v.extents v.graph n k j y h) said (table few)) in
-      at law.0 law.1 law.2)
-      (λ (many : 4 ≤ length v.index.runs).
-      let law = merge_staged v.extents v.graph v.index s whole is.parts y h j n some many (subst (λ (k : ℕ). IsMergeStaged v.index v.extents v.graph ForRun n k j y h) said (merged many)) in
-      at law.0 law.1 law.2)
-      (cases_lt (length v.index.runs) 4)
+  stage_done n y h j room young some staged same =
+      let law = newest_staged v.extents v.graph v.index s whole is.parts y h j n some
+      (subst (λ (k : ℕ). IsNewestStaged (stage_takes_of (shape v.extents) v.index) v.index v.extents v.graph n k j y h) said staged) in
+      at law.0 law.1 law.2
     where
       at : (t : State) → Does (shape v.extents) (formats_of (shape v.extents)) s Stage (Staged n) t → ArePartsOf y h j t
           → (z : State) × Step (shape v.extents) (formats_of (shape v.extents)) s Stage (Staged n) z
@@ -151,7 +153,7 @@ module _ (v : Stored) (s : State) (whole : IsWhole v.extents) (is : IsStateOf v 
             t,
             step,
             noted t n (record v { graph = h; extents = y; index = j; roots = v.roots ++ record { version = n; commands = v.accepted } ∷ [] }) Stage (Staged n)
-                (stage_rooted (shape v.extents) (formats_of (shape v.extents)) s t n does) step same parts refl refl refl refl refl refl refl,
+                (stage_rooted (shape v.extents) (formats_of (shape v.extents)) s refl t n does) step same parts refl refl refl refl refl refl refl,
           )
 
   -- ---- Retire
@@ -197,13 +199,13 @@ module _ (v : Stored) (s : State) (whole : IsWhole v.extents) (is : IsStateOf v 
             law.0,
             step,
             noted law.0 n (record v { graph = h; extents = y; index = j; roots = v.roots ++ record { version = n; commands = v.accepted } ∷ [] }) (Retire e) (Retired n)
-                (retire_rooted (shape v.extents) (formats_of (shape v.extents)) s law.0 e n law.1) step same law.2 refl refl refl refl refl refl refl,
+                (retire_rooted (shape v.extents) (formats_of (shape v.extents)) s refl law.0 e n law.1) step same law.2 refl refl refl refl refl refl refl,
           )
 
 -- ---- the answers of the calls
 
 pub stage_declines : (v w : Stored) (whole : IsWhole v.extents) (runs : v.halted ≡ false) → but_for_room w ≡ but_for_room v → (r : Code)
-    → IsWhy r (IsFull (WritesRun v.index) v.extents ForRun) ((v.index.table ≢ []) × IsStageWorn (WritesRun v.index) v.extents ForRun v.graph.staging) → Declines v Stage r w
+    → IsWhy r (IsFull (WritesRun (shape v.extents) v.index) v.extents ForRun) ((v.index.table ≢ []) × IsStageWorn (WritesRun (shape v.extents) v.index) v.extents ForRun v.graph.staging) → Declines v Stage r w
 stage_declines v w whole runs same code.Full full = inr (Full, refl, λ s is. (s, stage_no_room v s whole is runs full, same_state v w s is same))
 stage_declines v w whole runs same code.WornOut worn = inr (WornOut, refl, λ s is. (s, stage_worn_out v s whole is runs worn.0 worn.1, same_state v w s is same))
 stage_declines v w whole runs same code.OutOfMemory why = inl refl
@@ -223,13 +225,12 @@ retire_lives v w whole runs same e marks live = inr (StillLive, refl, λ s is. (
 pub stage_none : (v w : Stored) (whole : IsWhole v.extents) (runs : v.halted ≡ false) → but_for_room w ≡ but_for_room v → v.index.table ≡ [] → Steps v Stage Unchanged w
 stage_none v w whole runs same none s is = (s, stage_nothing v s whole is runs none, same_state v w s is same)
 
-pub stage_steps : (v : Stored) (whole : IsWhole v.extents) (runs : v.halted ≡ false) (n : ℕ) (y : ExtentsState) (h : GraphState) (j : IndexState) (roots : List Noted) → (IsFull (WritesRun v.index) v.extents ForRun → ⊥)
-    → ((v.index.table ≢ []) × IsStageWorn (WritesRun v.index) v.extents ForRun v.graph.staging → ⊥) → v.index.table ≢ []
-    → (length v.index.runs < 4 → IsTableStaged v.index v.extents v.graph n (v.base + v.accepted) j y h)
-    → (4 ≤ length v.index.runs → IsMergeStaged v.index v.extents v.graph ForRun n (v.base + v.accepted) j y h) → shape y ≡ shape v.extents
+pub stage_steps : (v : Stored) (whole : IsWhole v.extents) (runs : v.halted ≡ false) (n : ℕ) (y : ExtentsState) (h : GraphState) (j : IndexState) (roots : List Noted) → (IsFull (WritesRun (shape v.extents) v.index) v.extents ForRun → ⊥)
+    → ((v.index.table ≢ []) × IsStageWorn (WritesRun (shape v.extents) v.index) v.extents ForRun v.graph.staging → ⊥) → v.index.table ≢ []
+    → IsNewestStaged (stage_takes_of (shape v.extents) v.index) v.index v.extents v.graph n (v.base + v.accepted) j y h → shape y ≡ shape v.extents
     → roots ≡ v.roots ++ record { version = n; commands = v.accepted } ∷ [] → Steps v Stage (Staged n) (record v { graph = h; extents = y; index = j; roots = roots })
-stage_steps v whole runs n y h j roots room young some table merged same noted s is =
-    let d = stage_done v s whole is runs n y h j room young some table merged same in
+stage_steps v whole runs n y h j roots room young some staged same noted s is =
+    let d = stage_done v s whole is runs n y h j room young some staged same in
     (d.0, d.1, subst (λ (rs : List Noted). IsStateOf (record v { graph = h; extents = y; index = j; roots = rs }) d.0) (sym noted) d.2)
 
 pub retire_steps : (v : Stored) (whole : IsWhole v.extents) (runs : v.halted ≡ false) (e : ℕ) → (extents_of v.extents).swept e ≡ true → NothingLive (index_of v.index) e → (n : ℕ) (y : ExtentsState) (h : GraphState) (j : IndexState) (roots : List Noted)

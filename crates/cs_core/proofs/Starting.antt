@@ -1,5 +1,5 @@
 -- What a new store keeps.
-use Rattle.std.proofs.Common.{◌≡◌, ◌≢◌, ◌∙◌, inl, ⊎_elim, rules, ℕ, zero, suc, ◌+◌, ◌-◌, ◌*◌, ◌/◌, ◌<◌, ◌≤◌, true, false, List, [], ◌∷◌, ◌++◌, Some, None, length, length-append, map, replicate, refl, sym, ap, ap₂, subst, arith}
+use Rattle.std.proofs.Common.{◌≡◌, ◌≢◌, ◌∙◌, inl, ⊎_elim, rules, ℕ, zero, suc, ◌+◌, ◌<◌, ◌≤◌, true, false, List, [], ◌∷◌, ◌++◌, Some, None, length, length-append, map, replicate, refl, sym, ap, ap₂, subst, arith}
 use Rattle.std.proofs.lemmas.List.{length-replicate, replicate-append-replicate}
 use Rattle.std.proofs.lemmas.Option.{same_Some}
 use Rattle.std.specs.List.{AllByRecursion}
@@ -8,17 +8,17 @@ use Rattle.cs_deps.specs.State.{State as GraphState}
 use Rattle.cs_disk.specs.declared.disk.PageDisk.{Ghosts as PageDisk}
 use Rattle.cs_disk.specs.Disk.{Image, State as DiskState, page, written}
 use Rattle.cs_extent.proofs.Sections.{rows_are_all}
-use Rattle.cs_extent.specs.Sections.{AreSections, IsSectionAt, count_of, pages_of, rows_of}
+use Rattle.cs_extent.specs.Sections.{AreSections, IsSectionAt, count_of, format_of, pages_of, rows_of}
 use Rattle.cs_extent.specs.Frames.{root_family}
 use Rattle.cs_extent.specs.State.{State as ExtentsState, shape}
 use Rattle.cs_frame.specs.declared.superblocks.Superblock.{Superblock}
 use Rattle.cs_frame.specs.Formats.{formats_of}
-use Rattle.cs_frame.specs.Geometries.{IsGeometry, section_length}
+use Rattle.cs_frame.specs.Geometries.{IsGeometry, device_pages, named_limit, section_length}
 use Rattle.cs_frame.specs.Superblocks.{SpellsSuperblock}
 use Rattle.cs_image.proofs.Families.{length-by_family, root_in}
 use Rattle.cs_image.specs.Counts.{HasCount}
 use Rattle.cs_image.specs.Openings.{by_family, graph_at}
-use Rattle.cs_image.specs.Reads.{extents_at}
+use Rattle.cs_image.specs.Reads.{extents_at, page_total}
 use Rattle.cs_index.proofs.Sorted.{some_at}
 use Rattle.cs_index.specs.declared.runs.StoredRun.{StoredRun}
 use Rattle.cs_index.specs.State.{State as IndexState, newest_first}
@@ -33,7 +33,7 @@ use Rattle.cs_core.specs.declared.events.Reply.{Reply}
 use Rattle.cs_core.specs.declared.roots.Root.{Root as Noted}
 use Rattle.cs_core.specs.Started.{AreFirstNew, AreNew, IsNewOn, IsNewSection, new_stored}
 use Rattle.cs_core.specs.States.{IsStateOf}
-use Rattle.cs_core.specs.Stored.{IsKept, Stored, page_total, but_for_room}
+use Rattle.cs_core.specs.Stored.{IsKept, Stored, but_for_room}
 use Rattle.cs_core.specs.Views.{IsCore, IsReached}
 use Rattle.cs_core.proofs.Heads.{head_page}
 use Rattle.cs_core.proofs.Noted.{noted_alone}
@@ -46,8 +46,8 @@ all_default zero e d = refl
 all_default (suc n) zero d = refl
 all_default (suc n) (suc e) d = all_default n e d
 
-pub kept_new : (extents pages sections : ℕ) → 1 ≤ sections → IsKept (new_stored extents pages sections)
-kept_new extents pages sections some = record {
+pub kept_new : (format extents pages sections : ℕ) → 1 ≤ sections → IsKept (new_stored format extents pages sections)
+kept_new format extents pages sections some = record {
   families = omega (arith, length-by_family (replicate sections 1) 1, length-replicate {A = ℕ} sections 1);
   resets = λ e. let none : slice_index (replicate (length (replicate {A = ℕ × ℕ} extents (0, 0))) 0) e ≡ 0 = all_default (length (replicate {A = ℕ × ℕ} extents (0, 0))) e 0 in omega (arith, none);
   writes = λ x w kept. let clash : None ≡ Some w = kept in absurd (cc clash);
@@ -61,20 +61,20 @@ kept_new extents pages sections some = record {
 }
 
 -- a new store is of a state of the machine, and recovers no command and no shard
-module _ (extents pages sections : ℕ) (is : IsGeometry extents pages sections) (old now : DiskState) (on : IsNewOn extents pages sections old now) where
+module _ (format extents pages sections : ℕ) (is : IsGeometry format extents pages sections) (old now : DiskState) (on : IsNewOn format extents pages sections old now) where
   abbrev x : ExtentsState
-  x = extents_at pages sections (replicate extents (0, 0))
+  x = extents_at format pages sections (replicate extents (0, 0))
 
   pub new_recovers : Recovers (shape x) (formats_of (shape x)) (page now.durable) 0 (λ id. None)
-  new_recovers = (new_started now.durable extents pages sections ((4096 * pages - 45) / 81) is on.superblock on.root).0
+  new_recovers = (new_started now.durable format extents pages sections (named_limit pages) is on.superblock on.root).0
 
   -- nothing is volatile
   quiet : now ≡ record { durable = now.durable; volatile = [] }
   quiet = on.formatted.2 ∙ ap (λ (d : DiskState). record { durable = d.durable; volatile = [] }) (sym on.formatted.2)
 
-  pub starts : (s : State) × IsStateOf (new_stored extents pages sections) s × IsDiskOf (shape x) (formats_of (shape x)) s now × IsReached (shape x) (formats_of (shape x)) now.durable [] s
+  pub starts : (s : State) × IsStateOf (new_stored format extents pages sections) s × IsDiskOf (shape x) (formats_of (shape x)) s now × IsReached (shape x) (formats_of (shape x)) now.durable [] s
   starts =
-      let start = new_started now.durable extents pages sections ((4096 * pages - 45) / 81) is on.superblock on.root in
+      let start = new_started now.durable format extents pages sections (named_limit pages) is on.superblock on.root in
       let s : State = opened_state (shape x) (formats_of (shape x)) (page now.durable) 0 (λ id. None) start.0 in (
         s,
         record {
@@ -100,28 +100,32 @@ module _ (extents pages sections : ℕ) (is : IsGeometry extents pages sections)
 
 -- ---- what it is made of
 
-module _ (extents pages sections : ℕ) (items : List Superblock) (new_ones : AreNew extents pages sections items) where
+module _ (format extents pages sections : ℕ) (items : List Superblock) (new_ones : AreNew format extents pages sections items) where
   -- its sections are one superblock
   first : (it : Superblock) × (slice_get items 0 ≡ Some it)
   first = some_at items 0 (omega (arith, new_ones.new_ones.counted, new_ones.geometry.fewest_sections))
 
-  counts : (xs : List Superblock) (it : Superblock) → slice_get xs 0 ≡ Some it → (count_of xs ≡ it.extent_count) × (pages_of xs ≡ it.pages)
+  counts : (xs : List Superblock) (it : Superblock) → slice_get xs 0 ≡ Some it → (format_of xs ≡ it.format) × (count_of xs ≡ it.extent_count) × (pages_of xs ≡ it.pages)
   counts [] it at = absurd (cc at)
-  counts (y ∷ xs) it at = let same : y ≡ it = same_Some y it at in (ap (λ (u : Superblock). u.extent_count) same, ap (λ (u : Superblock). u.pages) same)
+  counts (y ∷ xs) it at = let same : y ≡ it = same_Some y it at in (ap (λ (u : Superblock). u.format) same, ap (λ (u : Superblock). u.extent_count) same, ap (λ (u : Superblock). u.pages) same)
+
+  format_is : format_of items ≡ format
+  format_is = (counts items first.0 first.1).0 ∙ (new_ones.new_ones.each 0 first.0 first.1).section_at.of_format
 
   count_is : count_of items ≡ extents
-  count_is = (counts items first.0 first.1).0 ∙ (new_ones.new_ones.each 0 first.0 first.1).section_at.of_extents
+  count_is = (counts items first.0 first.1).1 ∙ (new_ones.new_ones.each 0 first.0 first.1).section_at.of_extents
 
   pages_are : pages_of items ≡ pages
-  pages_are = (counts items first.0 first.1).1 ∙ (new_ones.new_ones.each 0 first.0 first.1).section_at.of_pages
+  pages_are = (counts items first.0 first.1).2 ∙ (new_ones.new_ones.each 0 first.0 first.1).section_at.of_pages
 
   pub new_sections : AreSections items
   new_sections = record {
     some = omega (arith, new_ones.new_ones.counted, new_ones.geometry.fewest_sections);
     each = λ k it at.
-        subst (λ (n : ℕ). IsSectionAt n (pages_of items) (length items) k it) (sym count_is)
-        (subst (λ (n : ℕ). IsSectionAt extents n (length items) k it) (sym pages_are)
-        (subst (λ (n : ℕ). IsSectionAt extents pages n k it) (sym new_ones.new_ones.counted) (new_ones.new_ones.each k it at).section_at));
+        subst (λ (n : ℕ). IsSectionAt n (count_of items) (pages_of items) (length items) k it) (sym format_is)
+        (subst (λ (n : ℕ). IsSectionAt format n (pages_of items) (length items) k it) (sym count_is)
+        (subst (λ (n : ℕ). IsSectionAt format extents n (length items) k it) (sym pages_are)
+        (subst (λ (n : ℕ). IsSectionAt format extents pages n k it) (sym new_ones.new_ones.counted) (new_ones.new_ones.each k it at).section_at)));
   }
 
   -- all their rows are empty extents
@@ -149,30 +153,33 @@ module _ (extents pages sections : ℕ) (items : List Superblock) (new_ones : Ar
   versions_are : map (λ (it : Superblock). it.version) items ≡ replicate sections 1
   versions_are = versions_first items (λ k it at. (new_ones.new_ones.each k it at).first) ∙ ap (λ (n : ℕ). replicate n 1) new_ones.new_ones.counted
 
-  pub new_graph_is : (g : GraphState) → g ≡ graph_at (map (λ (it : Superblock). it.version) items) 1 → g ≡ (new_stored extents pages sections).graph
+  pub new_graph_is : (g : GraphState) → g ≡ graph_at (map (λ (it : Superblock). it.version) items) 1 → g ≡ (new_stored format extents pages sections).graph
   new_graph_is g is = is ∙ ap (λ (vs : List ℕ). graph_at vs 1) versions_are
 
-  pub new_extents_are : (x : ExtentsState) → x ≡ extents_at (pages_of items) (length items) (rows_of items) → x ≡ (new_stored extents pages sections).extents
+  pub new_extents_are : (x : ExtentsState) → x ≡ extents_at (format_of items) (pages_of items) (length items) (rows_of items) → x ≡ (new_stored format extents pages sections).extents
   new_extents_are x is = is
-      ∙ ap (λ (n : ℕ). extents_at n (length items) (rows_of items)) pages_are
-      ∙ ap (λ (n : ℕ). extents_at pages n (rows_of items)) new_ones.new_ones.counted
-      ∙ ap (λ (rows : List (ℕ × ℕ)). extents_at pages sections rows) rows_are
+      ∙ ap (λ (n : ℕ). extents_at n (pages_of items) (length items) (rows_of items)) format_is
+      ∙ ap (λ (n : ℕ). extents_at format n (length items) (rows_of items)) pages_are
+      ∙ ap (λ (n : ℕ). extents_at format pages n (rows_of items)) new_ones.new_ones.counted
+      ∙ ap (λ (rows : List (ℕ × ℕ)). extents_at format pages sections rows) rows_are
 
 -- a section of it, from its numbers
-pub new_section_is : (extents pages sections section : ℕ) → IsGeometry extents pages sections → section < sections → (it : Superblock) → it.version ≡ 1 → it.extent_count ≡ extents → it.pages ≡ pages
-    → it.sections ≡ sections → it.section ≡ section → it.extents.items ≡ replicate (section_length extents sections section) (0, 0) → IsNewSection extents pages sections section it
-new_section_is extents pages sections section g lt it version counted same divided place rows = record {
+pub new_section_is : (format extents pages sections section : ℕ) → IsGeometry format extents pages sections → section < sections → (it : Superblock) → it.format ≡ format → it.version ≡ 1 → it.extent_count ≡ extents → it.pages ≡ pages
+    → it.sections ≡ sections → it.section ≡ section → it.extents.items ≡ replicate (section_length extents sections section) (0, 0) → IsNewSection format extents pages sections section it
+new_section_is format extents pages sections section g lt it written version counted same divided place rows = record {
   section_at = record {
     is = record {
       first_version = omega (arith, version);
       last_version = omega (arith, version);
-      geometry = subst (λ (n : ℕ). IsGeometry n it.pages it.sections) (sym counted)
-          (subst (λ (n : ℕ). IsGeometry extents n it.sections) (sym same) (subst (λ (n : ℕ). IsGeometry extents pages n) (sym divided) g));
+      geometry = subst (λ (n : ℕ). IsGeometry n it.extent_count it.pages it.sections) (sym written)
+          (subst (λ (n : ℕ). IsGeometry format n it.pages it.sections) (sym counted)
+          (subst (λ (n : ℕ). IsGeometry format extents n it.sections) (sym same) (subst (λ (n : ℕ). IsGeometry format extents pages n) (sym divided) g)));
       one_of_them = omega (arith, place, divided, lt);
       count = ap length rows ∙ length-replicate {A = ℕ × ℕ} (section_length extents sections section) (0, 0)
           ∙ ap (section_length extents sections) (sym place) ∙ ap (λ (n : ℕ). section_length extents n it.section) (sym divided) ∙ ap (λ (n : ℕ). section_length n it.sections it.section) (sym counted);
       pointers = subst (AllByRecursion (λ (extent : ℕ × ℕ). extent.0 ≤ it.pages)) (sym rows) (empty_points (section_length extents sections section));
     };
+    of_format = written;
     of_extents = counted;
     of_pages = same;
     of_sections = divided;
@@ -187,56 +194,57 @@ new_section_is extents pages sections section g lt it version counted same divid
     empty_points (suc n) = (omega arith, empty_points n)
 
 -- none of them yet
-pub none_new : (extents pages sections : ℕ) → AreFirstNew extents pages sections 0 []
-none_new extents pages sections = record { counted = refl; each = λ k it at. absurd (let clash : None ≡ Some it = at in cc clash) }
+pub none_new : (format extents pages sections : ℕ) → AreFirstNew format extents pages sections 0 []
+none_new format extents pages sections = record { counted = refl; each = λ k it at. absurd (let clash : None ≡ Some it = at in cc clash) }
 
 -- its page spells it so
-pub spelled_new : (extents pages sections section : ℕ) (it : Superblock) → IsNewSection extents pages sections section it → (bytes : List ℕ)
-    → SpellsSuperblock bytes it.version it.extent_count it.pages it.sections it.section it.extents.items
-    → SpellsSuperblock bytes 1 extents pages sections section (replicate (section_length extents sections section) (0, 0))
-spelled_new extents pages sections section it new_one bytes spelled =
+pub spelled_new : (format extents pages sections section : ℕ) (it : Superblock) → IsNewSection format extents pages sections section it → (bytes : List ℕ)
+    → SpellsSuperblock bytes it.format it.version it.extent_count it.pages it.sections it.section it.extents.items
+    → SpellsSuperblock bytes format 1 extents pages sections section (replicate (section_length extents sections section) (0, 0))
+spelled_new format extents pages sections section it new_one bytes spelled =
     let at = new_one.section_at in
     let rows : List (ℕ × ℕ) = replicate (section_length extents sections section) (0, 0) in
-    subst (λ (n : ℕ). SpellsSuperblock bytes n extents pages sections section rows) new_one.first
-    (subst (λ (n : ℕ). SpellsSuperblock bytes it.version n pages sections section rows) at.of_extents
-    (subst (λ (n : ℕ). SpellsSuperblock bytes it.version it.extent_count n sections section rows) at.of_pages
-    (subst (λ (n : ℕ). SpellsSuperblock bytes it.version it.extent_count it.pages n section rows) at.of_sections
-    (subst (λ (n : ℕ). SpellsSuperblock bytes it.version it.extent_count it.pages it.sections n rows) at.place
-    (subst (λ (rs : List (ℕ × ℕ)). SpellsSuperblock bytes it.version it.extent_count it.pages it.sections it.section rs) new_one.rows spelled)))))
+    subst (λ (n : ℕ). SpellsSuperblock bytes format n extents pages sections section rows) new_one.first
+    (subst (λ (n : ℕ). SpellsSuperblock bytes n it.version extents pages sections section rows) at.of_format
+    (subst (λ (n : ℕ). SpellsSuperblock bytes it.format it.version n pages sections section rows) at.of_extents
+    (subst (λ (n : ℕ). SpellsSuperblock bytes it.format it.version it.extent_count n sections section rows) at.of_pages
+    (subst (λ (n : ℕ). SpellsSuperblock bytes it.format it.version it.extent_count it.pages n section rows) at.of_sections
+    (subst (λ (n : ℕ). SpellsSuperblock bytes it.format it.version it.extent_count it.pages it.sections n rows) at.place
+    (subst (λ (rs : List (ℕ × ℕ)). SpellsSuperblock bytes it.format it.version it.extent_count it.pages it.sections it.section rs) new_one.rows spelled))))))
 
 -- what was written of a section, by its number
-pub moved_section : (extents pages sections section k : ℕ) → section ≡ k → (old new : DiskState)
-    → (bytes : List ℕ) × SpellsSuperblock bytes 1 extents pages sections section (replicate (section_length extents sections section) (0, 0)) × (new ≡ written old (head_page extents pages section) bytes)
-    → (bytes : List ℕ) × SpellsSuperblock bytes 1 extents pages sections k (replicate (section_length extents sections k) (0, 0)) × (new ≡ written old (head_page extents pages k) bytes)
-moved_section extents pages sections section k same old new wrote = subst
-    (λ (n : ℕ). (bytes : List ℕ) × SpellsSuperblock bytes 1 extents pages sections n (replicate (section_length extents sections n) (0, 0)) × (new ≡ written old (head_page extents pages n) bytes)) same wrote
+pub moved_section : (format extents pages sections section k : ℕ) → section ≡ k → (old new : DiskState)
+    → (bytes : List ℕ) × SpellsSuperblock bytes format 1 extents pages sections section (replicate (section_length extents sections section) (0, 0)) × (new ≡ written old (head_page extents pages section) bytes)
+    → (bytes : List ℕ) × SpellsSuperblock bytes format 1 extents pages sections k (replicate (section_length extents sections k) (0, 0)) × (new ≡ written old (head_page extents pages k) bytes)
+moved_section format extents pages sections section k same old new wrote = subst
+    (λ (n : ℕ). (bytes : List ℕ) × SpellsSuperblock bytes format 1 extents pages sections n (replicate (section_length extents sections n) (0, 0)) × (new ≡ written old (head_page extents pages n) bytes)) same wrote
 
 -- one more of them
-pub more_new : (extents pages sections count : ℕ) (items : List Superblock) (it : Superblock) → AreFirstNew extents pages sections count items → IsNewSection extents pages sections count it
-    → AreFirstNew extents pages sections (count + 1) (items ++ it ∷ [])
-more_new extents pages sections count items it so_far new_one = record {
+pub more_new : (format extents pages sections count : ℕ) (items : List Superblock) (it : Superblock) → AreFirstNew format extents pages sections count items → IsNewSection format extents pages sections count it
+    → AreFirstNew format extents pages sections (count + 1) (items ++ it ∷ [])
+more_new format extents pages sections count items it so_far new_one = record {
   counted = length-append items (it ∷ []) ∙ ap (λ (n : ℕ). n + 1) so_far.counted;
   each = λ k other at. ⊎_elim
       (λ (l : slice_get items k ≡ Some other). so_far.each k other l)
-      (λ (here : (k ≡ length items) × (it ≡ other)). subst (λ (y : Superblock). IsNewSection extents pages sections k y) here.1
-      (subst (λ (n : ℕ). IsNewSection extents pages sections n it) (sym (here.0 ∙ so_far.counted)) new_one))
+      (λ (here : (k ≡ length items) × (it ≡ other)). subst (λ (y : Superblock). IsNewSection format extents pages sections k y) here.1
+      (subst (λ (n : ℕ). IsNewSection format extents pages sections n it) (sym (here.0 ∙ so_far.counted)) new_one))
       (in_push items it k other at);
 }
 
-pub new_index_is : (extents pages sections limit : ℕ) (runs : List StoredRun) (i : IndexState) → limit ≡ (4096 * pages - 45) / 81 → runs ≡ [] → i ≡ record { table = []; runs = newest_first runs; limit = limit; room = 0 } → i ≡ (new_stored extents pages sections).index
-new_index_is extents pages sections limit runs i same none is = is
+pub new_index_is : (format extents pages sections limit : ℕ) (runs : List StoredRun) (i : IndexState) → limit ≡ named_limit pages → runs ≡ [] → i ≡ record { table = []; runs = newest_first runs; limit = limit; room = 0 } → i ≡ (new_stored format extents pages sections).index
+new_index_is format extents pages sections limit runs i same none is = is
     ∙ ap (λ (k : ℕ). record { table = []; runs = newest_first runs; limit = k; room = 0 }) same
-    ∙ ap (λ (rs : List StoredRun). record { table = []; runs = newest_first rs; limit = (4096 * pages - 45) / 81; room = 0 }) none
+    ∙ ap (λ (rs : List StoredRun). record { table = []; runs = newest_first rs; limit = named_limit pages; room = 0 }) none
 
 -- a new store, from its parts
-pub new_is : (extents pages sections : ℕ) (g : GraphState) (x : ExtentsState) (i : IndexState) (roots : List Noted) → g ≡ (new_stored extents pages sections).graph → x ≡ (new_stored extents pages sections).extents
-    → i ≡ (new_stored extents pages sections).index → roots ≡ record { version = 1; commands = 0 } ∷ []
-    → record { graph = g; extents = x; index = i; roots = roots; out = g.round; issued = 0; base = 0; accepted = 0; frontier = 0; halted = false } ≡ new_stored extents pages sections
-new_is extents pages sections g x i roots graph extents_are index noted =
+pub new_is : (format extents pages sections : ℕ) (g : GraphState) (x : ExtentsState) (i : IndexState) (roots : List Noted) → g ≡ (new_stored format extents pages sections).graph → x ≡ (new_stored format extents pages sections).extents
+    → i ≡ (new_stored format extents pages sections).index → roots ≡ record { version = 1; commands = 0 } ∷ []
+    → record { graph = g; extents = x; index = i; roots = roots; out = g.round; issued = 0; base = 0; accepted = 0; frontier = 0; halted = false } ≡ new_stored format extents pages sections
+new_is format extents pages sections g x i roots graph extents_are index noted =
     ap (λ (k : GraphState). record { graph = k; extents = x; index = i; roots = roots; out = k.round; issued = 0; base = 0; accepted = 0; frontier = 0; halted = false }) graph
-    ∙ ap (λ (k : ExtentsState). record { graph = (new_stored extents pages sections).graph; extents = k; index = i; roots = roots; out = None; issued = 0; base = 0; accepted = 0; frontier = 0; halted = false }) extents_are
-    ∙ ap (λ (k : IndexState). record { graph = (new_stored extents pages sections).graph; extents = (new_stored extents pages sections).extents; index = k; roots = roots; out = None; issued = 0; base = 0; accepted = 0; frontier = 0; halted = false }) index
-    ∙ ap (λ (rs : List Noted). record { graph = (new_stored extents pages sections).graph; extents = (new_stored extents pages sections).extents; index = (new_stored extents pages sections).index; roots = rs; out = None; issued = 0; base = 0; accepted = 0; frontier = 0; halted = false }) noted
+    ∙ ap (λ (k : ExtentsState). record { graph = (new_stored format extents pages sections).graph; extents = k; index = i; roots = roots; out = None; issued = 0; base = 0; accepted = 0; frontier = 0; halted = false }) extents_are
+    ∙ ap (λ (k : IndexState). record { graph = (new_stored format extents pages sections).graph; extents = (new_stored format extents pages sections).extents; index = k; roots = roots; out = None; issued = 0; base = 0; accepted = 0; frontier = 0; halted = false }) index
+    ∙ ap (λ (rs : List Noted). record { graph = (new_stored format extents pages sections).graph; extents = (new_stored format extents pages sections).extents; index = (new_stored format extents pages sections).index; roots = rs; out = None; issued = 0; base = 0; accepted = 0; frontier = 0; halted = false }) noted
 
 -- a pair of the same numbers
 pub pair_is : (p : ℕ × ℕ) → (p.0 ≡ 0) × (p.1 ≡ 0) → p ≡ (0, 0)
@@ -250,33 +258,33 @@ none_there m none = ([], record { rising = search rules; exact = λ id. (λ has.
     not_in id (k, lt, at) = let l : k < 0 = lt in omega arith
 
 -- a core over a disk on which a new store was written
-pub new_core : {D : Type 0} (disks : PageDisk D) (disk : D) (opened : Image) (v : Stored) (history : List (Event × Reply)) (base limit extents pages sections : ℕ)
-    → IsGeometry extents pages sections → v ≡ new_stored extents pages sections → history ≡ [] → base ≡ 0 → disks.page_count disk ≡ 1 + extents * pages + sections → opened ≡ (disks.state disk).durable
-    → (disks.honest disk → length (disks.state disk).durable ≡ disks.page_count disk) → (old : DiskState) → (disks.honest disk → IsNewOn extents pages sections old (disks.state disk))
+pub new_core : {D : Type 0} (disks : PageDisk D) (disk : D) (opened : Image) (v : Stored) (history : List (Event × Reply)) (base limit format extents pages sections : ℕ)
+    → IsGeometry format extents pages sections → v ≡ new_stored format extents pages sections → history ≡ [] → base ≡ 0 → disks.page_count disk ≡ device_pages format extents pages sections → opened ≡ (disks.state disk).durable
+    → (disks.honest disk → length (disks.state disk).durable ≡ disks.page_count disk) → (old : DiskState) → (disks.honest disk → IsNewOn format extents pages sections old (disks.state disk))
     → IsCore disks (record { disk = disk; opened = opened; found = (0, 0); store = but_for_room v; history = history; base = base; limit = limit })
-new_core disks disk opened v history base limit extents pages sections is made none first size as_is sized old wrote =
-    let total : page_total (shape v.extents) ≡ 1 + extents * pages + sections
-    = ap (λ (u : Stored). page_total (shape u.extents)) made ∙ ap (λ (n : ℕ). 1 + n * pages + sections) (length-replicate extents (0, 0)) in
+new_core disks disk opened v history base limit format extents pages sections is made none first size as_is sized old wrote =
+    let total : page_total (shape v.extents) ≡ device_pages format extents pages sections
+    = ap (λ (u : Stored). page_total (shape u.extents)) made ∙ ap (λ (n : ℕ). device_pages format n pages sections) (length-replicate extents (0, 0)) in
     record {
       device = size ∙ sym total;
       replaced = omega (arith, first);
       sized = λ h. ap length as_is ∙ sized h ∙ size ∙ sym total;
       legal = λ h.
-          let s = starts extents pages sections is old (disks.state disk) (wrote h) in (
+          let s = starts format extents pages sections is old (disks.state disk) (wrote h) in (
             s.0,
             record {
               store = subst (λ (u : Stored). IsStateOf (but_for_room u) s.0) (sym made) s.1;
               disk = subst (λ (u : Stored). IsDiskOf (shape u.extents) (formats_of (shape u.extents)) s.0 (disks.state disk)) (sym made) s.2;
               reached = subst (λ (u : Stored). IsReached (shape u.extents) (formats_of (shape u.extents)) opened history s.0) (sym made)
-                  (subst (λ (i : Image). IsReached (shape (new_stored extents pages sections).extents) (formats_of (shape (new_stored extents pages sections).extents)) i history s.0) (sym as_is)
-                  (subst (λ (hs : List (Event × Reply)). IsReached (shape (new_stored extents pages sections).extents) (formats_of (shape (new_stored extents pages sections).extents)) (disks.state disk).durable hs s.0) (sym none) s.3));
+                  (subst (λ (i : Image). IsReached (shape (new_stored format extents pages sections).extents) (formats_of (shape (new_stored format extents pages sections).extents)) i history s.0) (sym as_is)
+                  (subst (λ (hs : List (Event × Reply)). IsReached (shape (new_stored format extents pages sections).extents) (formats_of (shape (new_stored format extents pages sections).extents)) (disks.state disk).durable hs s.0) (sym none) s.3));
             },
           );
       begun = λ h. (
         λ id. None,
         subst (λ (u : Stored). Recovers (shape u.extents) (formats_of (shape u.extents)) (page opened) 0 (λ id. None)) (sym made)
-            (subst (λ (i : Image). Recovers (shape (new_stored extents pages sections).extents) (formats_of (shape (new_stored extents pages sections).extents)) (page i) 0 (λ id. None)) (sym as_is)
-            (new_recovers extents pages sections is old (disks.state disk) (wrote h))),
+            (subst (λ (i : Image). Recovers (shape (new_stored format extents pages sections).extents) (formats_of (shape (new_stored format extents pages sections).extents)) (page i) 0 (λ id. None)) (sym as_is)
+            (new_recovers format extents pages sections is old (disks.state disk) (wrote h))),
         none_there (λ id. None) (λ id. refl),
       );
     }

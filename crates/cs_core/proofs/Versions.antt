@@ -6,6 +6,7 @@ use Rattle.std.proofs.lemmas.List.{length-map}
 use Rattle.std.proofs.lemmas.List.Elements.{All-from_recursion}
 use Rattle.cs_extent.proofs.Sections.{geometry_is}
 use Rattle.cs_extent.specs.Sections.{AreSections}
+use Rattle.cs_frame.proofs.GeometryLaws.{bounds}
 use Rattle.cs_frame.specs.declared.superblocks.Superblock.{Superblock}
 use Rattle.cs_image.proofs.Families.{length-by_family}
 use Rattle.cs_image.specs.Openings.{by_family}
@@ -29,7 +30,7 @@ small_family (version ∷ versions) root all few = (all.0, (few, all.1))
 module _ (sections : List Superblock) (are : AreSections sections) (root : ℕ) (items : List ℕ) (is : items ≡ by_family (map (λ (it : Superblock). it.version) sections) root) where
   pub families_fit : (1 ≤ length items) × (length items ≤ 16)
   families_fit =
-      let many : length sections ≤ 8 = (geometry_is sections are).most_sections in
+      let many : length sections ≤ 15 = (bounds _ _ _ _ (geometry_is sections are)).most_sections in
       let long : length items ≡ suc (length sections) = ap length is ∙ length-by_family (map (λ (it : Superblock). it.version) sections) root
       ∙ ap suc (length-map sections (λ (it : Superblock). it.version)) in
       (omega (arith, long), omega (arith, long, many))
@@ -38,5 +39,5 @@ module _ (sections : List Superblock) (are : AreSections sections) (root : ℕ) 
   numbers_fit few = subst (All IsSmall) (sym is) (All-from_recursion IsSmall (by_family (map (λ (it : Superblock). it.version) sections) root)
       (small_family (map (λ (it : Superblock). it.version) sections) root (small_versions sections (λ k it at. (are.each k it at).is.last_version)) few))
 
-pub few_sections : (sections : List Superblock) → AreSections sections → length sections ≤ 8
-few_sections sections are = (geometry_is sections are).most_sections
+pub few_sections : (sections : List Superblock) → AreSections sections → length sections ≤ 15
+few_sections sections are = (bounds _ _ _ _ (geometry_is sections are)).most_sections

@@ -1,5 +1,5 @@
 -- A store as it is opened, and why none is.
-use Rattle.std.specs.Prelude.{◌≡◌, ◌≢◌, ◌⊎◌, ◌+◌, ◌-◌, ◌*◌, ◌/◌, ◌<◌, ◌≤◌, ℕ, false, List, ◌∷◌, [], None, Some, length, map, slice_get}
+use Rattle.std.specs.Prelude.{◌≡◌, ◌≢◌, ◌⊎◌, ◌+◌, ◌*◌, ◌<◌, ◌≤◌, ℕ, false, List, ◌∷◌, [], None, Some, length, map, slice_get}
 use Rattle.std.specs.List.{AllByRecursion}
 use Rattle.cs_chunk.specs.Chunks.{IsFrameAt}
 use Rattle.cs_chunk.specs.Reads.{IsNoAnswer, IsOfFault, fault_at}
@@ -12,6 +12,7 @@ use Rattle.cs_frame.specs.declared.frames.FrameKind.TheVariants.{Run}
 use Rattle.cs_frame.specs.declared.locators.Locator.{Locator}
 use Rattle.cs_frame.specs.declared.superblocks.Superblock.{Superblock}
 use Rattle.cs_frame.specs.FirstFormat.{SpellsPageZero, page_zero_fault}
+use Rattle.cs_frame.specs.Geometries.{device_pages, named_limit}
 use Rattle.cs_frame.specs.Roots.{SpellsRoot, root_fault}
 use Rattle.cs_frame.specs.Runs.{run_fault}
 use Rattle.cs_frame.specs.Superblocks.{SpellsSuperblock, superblock_fault}
@@ -24,12 +25,12 @@ use Rattle.cs_model.specs.Formats.{RunFrame}
 use Rattle.cs_model.specs.Index.{entries_of, live_at, names}
 use Rattle.cs_core.specs.Stored.{Stored}
 
--- the store of sections of a superblock, of a root and of its runs, oldest first, on which nothing was staged yet
-abbrev pub opened_stored : (versions : List ℕ) → (pages : ℕ) → (written : List (ℕ × ℕ)) → (root commands : ℕ) → List StoredRun → Stored
-opened_stored versions pages written root commands runs = record {
+-- the store of this format and of sections of a superblock, of a root and of its runs, oldest first, on which nothing was staged yet
+abbrev pub opened_stored : (format : ℕ) → (versions : List ℕ) → (pages : ℕ) → (written : List (ℕ × ℕ)) → (root commands : ℕ) → List StoredRun → Stored
+opened_stored format versions pages written root commands runs = record {
   graph = graph_at versions root;
-  extents = extents_at pages (length versions) written;
-  index = index_at (newest_first runs) ((4096 * pages - 45) / 81);
+  extents = extents_at format pages (length versions) written;
+  index = index_at (newest_first runs) (named_limit pages);
   roots = record { version = root; commands = 0 } ∷ [];
   out = None;
   issued = 0;
@@ -41,38 +42,39 @@ opened_stored versions pages written root commands runs = record {
 
 -- A store is made of what was read, which an honest disk has: `found` tells the number of the root's commands.
 pub record IsOpened (honest : Type 0) (image : Image) (found : ℕ × ℕ) (store : Stored) : Type 0 where
+  pub format : ℕ
   pub versions : List ℕ
   pub pages : ℕ
   pub written : List (ℕ × ℕ)
   pub root : ℕ
   pub runs : List StoredRun
-  pub made : store ≡ opened_stored versions pages written root found.0 runs
-  pub read : honest → IsStoreRead (page image) versions pages written root found.0 runs
+  pub made : store ≡ opened_stored format versions pages written root found.0 runs
+  pub read : honest → IsStoreRead (page image) format versions pages written root found.0 runs
 
--- Page 0 spells section 0 of a superblock of so many extents, pages and sections, with which the device has its pages.
-pub record IsFirstRead (count : ℕ) (view : ℕ → List ℕ) (extents pages sections : ℕ) : Type 0 where
+-- Page 0 spells section 0 of a superblock of this format and of so many extents, pages and sections, with which the device has its pages.
+pub record IsFirstRead (count : ℕ) (view : ℕ → List ℕ) (format extents pages sections : ℕ) : Type 0 where
   pub version : ℕ
   pub rows : List (ℕ × ℕ)
-  pub superblock : SpellsPageZero (view 0) version extents pages sections 0 rows
-  pub sized : count ≡ 1 + extents * pages + sections
+  pub superblock : SpellsPageZero (view 0) format version extents pages sections 0 rows
+  pub sized : count ≡ device_pages format extents pages sections
 
 -- The page of a further section spells it.
-pub record IsSectionThere (view : ℕ → List ℕ) (extents pages sections section : ℕ) : Type 0 where
+pub record IsSectionThere (view : ℕ → List ℕ) (format extents pages sections section : ℕ) : Type 0 where
   pub version : ℕ
   pub rows : List (ℕ × ℕ)
-  pub superblock : SpellsSuperblock (view (1 + extents * pages + section)) version extents pages sections section rows
+  pub superblock : SpellsSuperblock (view (1 + extents * pages + section)) format version extents pages sections section rows
 
 -- The pages of all sections spell these extents, and with these the device has its pages.
-pub record AreExtentsRead (count : ℕ) (view : ℕ → List ℕ) (versions : List ℕ) (pages : ℕ) (written : List (ℕ × ℕ)) : Type 0 where
-  pub sections : AreSectionsRead view versions pages written
-  pub sized : count ≡ 1 + length written * pages + length versions
+pub record AreExtentsRead (count : ℕ) (view : ℕ → List ℕ) (format : ℕ) (versions : List ℕ) (pages : ℕ) (written : List (ℕ × ℕ)) : Type 0 where
+  pub sections : AreSectionsRead view format versions pages written
+  pub sized : count ≡ device_pages format (length written) pages (length versions)
 
 -- And page 1 spells a root over runs at these places.
-pub record IsRootRead (count : ℕ) (view : ℕ → List ℕ) (versions : List ℕ) (pages : ℕ) (written : List (ℕ × ℕ)) (places : List Locator) : Type 0 where
-  pub extents : AreExtentsRead count view versions pages written
+pub record IsRootRead (count : ℕ) (view : ℕ → List ℕ) (format : ℕ) (versions : List ℕ) (pages : ℕ) (written : List (ℕ × ℕ)) (places : List Locator) : Type 0 where
+  pub extents : AreExtentsRead count view format versions pages written
   pub version : ℕ
   pub commands : ℕ
-  pub root : SpellsRoot (view 1) version commands places
+  pub root : SpellsRoot (view 1) format version commands places
 
 -- ---- the tests of an opening in their order, each of which says what the ones before it found
 
@@ -89,12 +91,13 @@ pub record IsSuperblockDamaged (count : ℕ) (view : ℕ → List ℕ) (r : Refu
 -- The bytes spell a section of a superblock that isn't the first.
 pub record IsOtherFirst (bytes : List ℕ) (r : Refusal) : Type 0 where
   pub version : ℕ
+  pub format : ℕ
   pub extents : ℕ
   pub pages : ℕ
   pub sections : ℕ
   pub section : ℕ
   pub rows : List (ℕ × ℕ)
-  pub superblock : SpellsPageZero bytes version extents pages sections section rows
+  pub superblock : SpellsPageZero bytes format version extents pages sections section rows
   pub other : section ≢ 0
   pub refusal : r ≡ NotAStore
 
@@ -107,61 +110,65 @@ pub record IsOtherSection (count : ℕ) (view : ℕ → List ℕ) (r : Refusal) 
 pub record IsOtherDevice (count : ℕ) (view : ℕ → List ℕ) (r : Refusal) : Type 0 where
   pub enough : 10 ≤ count
   pub version : ℕ
+  pub format : ℕ
   pub extents : ℕ
   pub pages : ℕ
   pub sections : ℕ
   pub rows : List (ℕ × ℕ)
-  pub superblock : SpellsPageZero (view 0) version extents pages sections 0 rows
-  pub other : count ≢ 1 + extents * pages + sections
+  pub superblock : SpellsPageZero (view 0) format version extents pages sections 0 rows
+  pub other : count ≢ device_pages format extents pages sections
   pub refusal : r ≡ NotAStore
 
--- This is section `section` of a superblock of so many extents, pages and sections, by its numbers.
-pub record HasNumbers (extents pages sections section : ℕ) (it : Superblock) : Type 0 where
+-- This is section `section` of a superblock of this format and of so many extents, pages and sections, by its numbers.
+pub record HasNumbers (format extents pages sections section : ℕ) (it : Superblock) : Type 0 where
+  pub of_format : it.format ≡ format
   pub of_extents : it.extent_count ≡ extents
   pub of_pages : it.pages ≡ pages
   pub of_sections : it.sections ≡ sections
   pub place : it.section ≡ section
 
--- The bytes spell another section than this one of these numbers.
-pub record IsOtherSpelled (extents pages sections section : ℕ) (bytes : List ℕ) (r : Refusal) : Type 0 where
+-- The bytes spell, in this format, another section than this one of these numbers.
+pub record IsOtherSpelled (format extents pages sections section : ℕ) (bytes : List ℕ) (r : Refusal) : Type 0 where
   pub version : ℕ
   pub their_extents : ℕ
   pub their_pages : ℕ
   pub their_sections : ℕ
   pub their_section : ℕ
   pub rows : List (ℕ × ℕ)
-  pub spelled : SpellsSuperblock bytes version their_extents their_pages their_sections their_section rows
+  pub spelled : SpellsSuperblock bytes format version their_extents their_pages their_sections their_section rows
   pub other : (their_extents ≡ extents) × (their_pages ≡ pages) × (their_sections ≡ sections) × (their_section ≡ section) → ⊥
   pub refusal : r ≡ NotAStore
 
 -- a further section isn't read of the bytes of its page: they have this fault, or spell another one
-abbrev pub IsWhyNoSection : (extents pages sections section : ℕ) → (bytes : List ℕ) → Refusal → Type 0
-IsWhyNoSection extents pages sections section bytes r =
-    IsOfFault (superblock_fault bytes) r ⊎ IsOtherSpelled extents pages sections section bytes r
+abbrev pub IsWhyNoSection : (format extents pages sections section : ℕ) → (bytes : List ℕ) → Refusal → Type 0
+IsWhyNoSection format extents pages sections section bytes r =
+    IsOfFault (superblock_fault format bytes) r ⊎ IsOtherSpelled format extents pages sections section bytes r
 
 -- A further section isn't read, after all before it were.
-pub record IsWhyNoSections (view : ℕ → List ℕ) (extents pages sections : ℕ) (r : Refusal) : Type 0 where
+pub record IsWhyNoSections (view : ℕ → List ℕ) (format extents pages sections : ℕ) (r : Refusal) : Type 0 where
   pub section : ℕ
   pub further : 0 < section
   pub one_of_them : section < sections
-  pub before : (j : ℕ) → 0 < j → j < section → IsSectionThere view extents pages sections j
-  pub why : IsWhyNoSection extents pages sections section (view (1 + extents * pages + section)) r
+  pub before : (j : ℕ) → 0 < j → j < section → IsSectionThere view format extents pages sections j
+  pub why : IsWhyNoSection format extents pages sections section (view (1 + extents * pages + section)) r
 
 -- A further section of the superblock isn't read.
 pub record IsSectionDamaged (count : ℕ) (view : ℕ → List ℕ) (r : Refusal) : Type 0 where
+  pub format : ℕ
   pub extents : ℕ
   pub pages : ℕ
   pub sections : ℕ
-  pub first : IsFirstRead count view extents pages sections
-  pub why : IsWhyNoSections view extents pages sections r
+  pub first : IsFirstRead count view format extents pages sections
+  pub why : IsWhyNoSections view format extents pages sections r
 
--- Page 1 has this fault.
+-- Page 1 has this fault as a root of the store's format.
 pub record IsRootDamaged (count : ℕ) (view : ℕ → List ℕ) (r : Refusal) : Type 0 where
+  pub format : ℕ
   pub versions : List ℕ
   pub pages : ℕ
   pub written : List (ℕ × ℕ)
-  pub extents : AreExtentsRead count view versions pages written
-  pub fault : IsOfFault (root_fault (view 1)) r
+  pub extents : AreExtentsRead count view format versions pages written
+  pub fault : IsOfFault (root_fault format (view 1)) r
 
 -- no run is read at a place: it isn't located, or the frame there has this fault, or its payload has it
 abbrev pub IsWhyNotRead : ExtentsState → (view : ℕ → List ℕ) → Locator → Refusal → Type 0
@@ -171,27 +178,29 @@ IsWhyNotRead x view place r = ((¬ IsLocated x place) × (r ≡ NotAStore))
 
 -- A run of the root isn't read, after all older ones were.
 pub record IsRunDamaged (count : ℕ) (view : ℕ → List ℕ) (r : Refusal) : Type 0 where
+  pub format : ℕ
   pub versions : List ℕ
   pub pages : ℕ
   pub written : List (ℕ × ℕ)
   pub places : List Locator
-  pub root : IsRootRead count view versions pages written places
+  pub root : IsRootRead count view format versions pages written places
   pub runs : List StoredRun
-  pub older : AreRunsRead (extents_at pages (length versions) written) view places runs
+  pub older : AreRunsRead (extents_at format pages (length versions) written) view places runs
   pub place : Locator
   pub next : slice_get places (length runs) ≡ Some place
-  pub why : IsWhyNotRead (extents_at pages (length versions) written) view place r
+  pub why : IsWhyNotRead (extents_at format pages (length versions) written) view place r
 
 -- All runs are read, and a locator of an entry isn't located, or they name more identifiers than one run may.
 pub record IsIndexDamaged (count : ℕ) (view : ℕ → List ℕ) (r : Refusal) : Type 0 where
+  pub format : ℕ
   pub versions : List ℕ
   pub pages : ℕ
   pub written : List (ℕ × ℕ)
   pub runs : List StoredRun
-  pub root : IsRootRead count view versions pages written (map (λ run. run.place) runs)
-  pub runs_read : AllByRecursion (IsRunRead (extents_at pages (length versions) written) view) runs
-  pub why : (¬ AreLocated (extents_at pages (length versions) written) runs)
-      ⊎ ((shape (extents_at pages (length versions) written)).most_names < names (entries_of (newest_first runs)))
+  pub root : IsRootRead count view format versions pages written (map (λ run. run.place) runs)
+  pub runs_read : AllByRecursion (IsRunRead (extents_at format pages (length versions) written) view) runs
+  pub why : (¬ AreLocated (extents_at format pages (length versions) written) runs)
+      ⊎ ((shape (extents_at format pages (length versions) written)).most_names < names (entries_of (newest_first runs)))
   pub refusal : r ≡ NotAStore
 
 -- why a device of so many pages, which read as these, isn't opened: the first of these tests that fails
@@ -215,9 +224,9 @@ pub record IsWhyNoRuns (x : ExtentsState) (view : ℕ → List ℕ) (places : Li
 
 -- A store is made of sections of a superblock and of what was read after them, which an honest disk has. It has so many commands,
 -- and so many live shards.
-pub record IsStoreMade (honest : Type 0) (view : ℕ → List ℕ) (versions : List ℕ) (pages : ℕ) (written : List (ℕ × ℕ)) (commands live : ℕ) (store : Stored) : Type 0 where
+pub record IsStoreMade (honest : Type 0) (view : ℕ → List ℕ) (format : ℕ) (versions : List ℕ) (pages : ℕ) (written : List (ℕ × ℕ)) (commands live : ℕ) (store : Stored) : Type 0 where
   pub root : ℕ
   pub runs : List StoredRun
-  pub made : store ≡ opened_stored versions pages written root commands runs
+  pub made : store ≡ opened_stored format versions pages written root commands runs
   pub counted : HasCount (λ id. live_at (entries_of (newest_first runs)) id ≢ []) live
-  pub read : honest → IsStoreRead view versions pages written root commands runs
+  pub read : honest → IsStoreRead view format versions pages written root commands runs

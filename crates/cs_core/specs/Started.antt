@@ -1,9 +1,9 @@
 -- A store as it is made.
-use Rattle.std.specs.Prelude.{All, ◌≡◌, ◌⊎◌, ◌+◌, ◌-◌, ◌*◌, ◌/◌, ◌<◌, ◌≤◌, ◌++◌, ℕ, false, List, [], ◌∷◌, None, Some, length, replicate, slice_get}
+use Rattle.std.specs.Prelude.{All, ◌≡◌, ◌⊎◌, ◌+◌, ◌*◌, ◌<◌, ◌≤◌, ◌++◌, ℕ, false, List, [], ◌∷◌, None, Some, length, replicate, slice_get}
 use Rattle.cs_disk.specs.Disk.{State as DiskState, Write, flushed, page, seen}
 use Rattle.cs_extent.specs.Sections.{IsSectionAt}
 use Rattle.cs_frame.specs.declared.superblocks.Superblock.{Superblock}
-use Rattle.cs_frame.specs.Geometries.{IsGeometry, section_length, section_size}
+use Rattle.cs_frame.specs.Geometries.{IsGeometry, named_limit, section_length, section_size}
 use Rattle.cs_frame.specs.Roots.{SpellsRoot}
 use Rattle.cs_frame.specs.Superblocks.{SpellsSuperblock}
 use Rattle.cs_image.specs.Openings.{AreNewSections, graph_at}
@@ -11,12 +11,12 @@ use Rattle.cs_image.specs.Reads.{extents_at}
 use Rattle.cs_model.specs.Geometry.{shape_of}
 use Rattle.cs_core.specs.Stored.{Stored}
 
--- a store of so many extents of so many pages, and of so many sections of the superblock, on which nothing was staged yet
-abbrev pub new_stored : (extents pages sections : ℕ) → Stored
-new_stored extents pages sections = record {
+-- a store of this format, of so many extents of so many pages, and of so many sections of the superblock, on which nothing was staged yet
+abbrev pub new_stored : (format extents pages sections : ℕ) → Stored
+new_stored format extents pages sections = record {
   graph = graph_at (replicate sections 1) 1;
-  extents = extents_at pages sections (replicate extents (0, 0));
-  index = record { table = []; runs = []; limit = (4096 * pages - 45) / 81; room = 0 };
+  extents = extents_at format pages sections (replicate extents (0, 0));
+  index = record { table = []; runs = []; limit = named_limit pages; room = 0 };
   roots = record { version = 1; commands = 0 } ∷ [];
   out = None;
   issued = 0;
@@ -27,20 +27,20 @@ new_stored extents pages sections = record {
 }
 
 -- This is a section of a new store's superblock.
-pub record IsNewSection (extents pages sections section : ℕ) (it : Superblock) : Type 0 where
-  pub section_at : IsSectionAt extents pages sections section it
+pub record IsNewSection (format extents pages sections section : ℕ) (it : Superblock) : Type 0 where
+  pub section_at : IsSectionAt format extents pages sections section it
   pub first : it.version ≡ 1
   pub rows : it.extents.items ≡ replicate (section_length extents sections section) (0, 0)
 
 -- These are its first sections, so many.
-pub record AreFirstNew (extents pages sections count : ℕ) (items : List Superblock) : Type 0 where
+pub record AreFirstNew (format extents pages sections count : ℕ) (items : List Superblock) : Type 0 where
   pub counted : length items ≡ count
-  pub each : (k : ℕ) (it : Superblock) → slice_get items k ≡ Some it → IsNewSection extents pages sections k it
+  pub each : (k : ℕ) (it : Superblock) → slice_get items k ≡ Some it → IsNewSection format extents pages sections k it
 
 -- These are all of its sections, in order.
-pub record AreNew (extents pages sections : ℕ) (items : List Superblock) : Type 0 where
-  pub geometry : IsGeometry extents pages sections
-  pub new_ones : AreFirstNew extents pages sections sections items
+pub record AreNew (format extents pages sections : ℕ) (items : List Superblock) : Type 0 where
+  pub geometry : IsGeometry format extents pages sections
+  pub new_ones : AreFirstNew format extents pages sections sections items
 
 -- a page that isn't one of an extent: it lies before all of them or behind all
 abbrev pub IsHead : (extents pages : ℕ) → (number : ℕ) → Type 0
@@ -58,14 +58,14 @@ abbrev pub IsFormatted : (extents pages : ℕ) → (old new : DiskState) → Typ
 IsFormatted extents pages old new = (between : DiskState) × IsHeadWritten extents pages old between × (new ≡ flushed between)
 
 -- The pages of the first so many sections of a new store were written.
-pub record AreNewWritten (extents pages sections count : ℕ) (old new : DiskState) : Type 0 where
+pub record AreNewWritten (format extents pages sections count : ℕ) (old new : DiskState) : Type 0 where
   pub head : IsHeadWritten extents pages old new
   pub each : (j : ℕ) → j < count
-      → SpellsSuperblock (page (seen new) ((shape_of extents pages sections (section_size extents sections) 2).section_page j)) 1 extents pages sections j
+      → SpellsSuperblock (page (seen new) ((shape_of extents pages sections (section_size extents sections) format).section_page j)) format 1 extents pages sections j
       (replicate (section_length extents sections j) (0, 0))
 
 -- A new store was written and made durable: the sections of its superblock, and its root.
-pub record IsNewOn (extents pages sections : ℕ) (old new : DiskState) : Type 0 where
+pub record IsNewOn (format extents pages sections : ℕ) (old new : DiskState) : Type 0 where
   pub formatted : IsFormatted extents pages old new
-  pub superblock : AreNewSections (page new.durable) extents pages sections
-  pub root : SpellsRoot (page new.durable 1) 1 0 []
+  pub superblock : AreNewSections (page new.durable) format extents pages sections
+  pub root : SpellsRoot (page new.durable 1) format 1 0 []

@@ -1,5 +1,5 @@
 -- What a store has in memory, and what it keeps whatever its disk does.
-use Rattle.std.specs.Prelude.{◌≡◌, ◌+◌, ◌*◌, ◌^◌, ◌<◌, ◌≤◌, ◌++◌, ℕ, Bool, true, List, Option, Some, length, slice_index}
+use Rattle.std.specs.Prelude.{◌≡◌, ◌+◌, ◌^◌, ◌<◌, ◌≤◌, ◌++◌, ℕ, Bool, true, List, Option, Some, length, slice_index}
 use Rattle.cs_deps.specs.declared.elements.Element.{Element as Name}
 use Rattle.cs_deps.specs.Named.{Named}
 use Rattle.cs_deps.specs.Pending.{Pending}
@@ -21,6 +21,7 @@ use Rattle.cs_reclaim.specs.Sweeps.{IsSwept}
 use Rattle.cs_refine.specs.Rounds.{members_of as members}
 use Rattle.cs_core.specs.declared.roots.Root.{Root}
 use Rattle.cs_core.specs.Frontiers.{AreNoted}
+use Rattle.cs_image.specs.Reads.{page_total}
 
 -- What a core has in memory besides its disk and its history.
 pub record Stored : Type 0 where
@@ -38,10 +39,6 @@ pub record Stored : Type 0 where
   pub frontier : ℕ
   -- a write or a flush failed
   pub halted : Bool
-
--- how many pages the device has: the root's, those of the extents, and one for each section of the superblock
-abbrev pub page_total : Shape → ℕ
-page_total S = 1 + S.extents * S.pages + S.sections
 
 -- each page write that the graph keeps goes to one of so many pages
 abbrev pub AreWithin : ℕ → GraphState → Type 0

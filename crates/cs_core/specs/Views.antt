@@ -6,6 +6,7 @@ use Rattle.cs_disk.specs.Disk.{Image, Rises, State as DiskState, page}
 use Rattle.cs_extent.specs.State.{shape}
 use Rattle.cs_frame.specs.Formats.{formats_of}
 use Rattle.cs_image.specs.Counts.{HasCount}
+use Rattle.cs_image.specs.Reads.{page_total}
 use Rattle.cs_model.specs.Device.{Shape}
 use Rattle.cs_model.specs.Element.{Map}
 use Rattle.cs_model.specs.Formats.{Formats}
@@ -20,7 +21,7 @@ use Rattle.cs_core.specs.declared.events.Reply.TheVariants.{Refused}
 use Rattle.cs_core.specs.Answered.{IsLimited}
 use Rattle.cs_core.specs.Meanings.{Says, event_of}
 use Rattle.cs_core.specs.States.{IsStateOf}
-use Rattle.cs_core.specs.Stored.{Stored, page_total}
+use Rattle.cs_core.specs.Stored.{Stored}
 
 -- A core over a disk of this type: its disk, the image that it was opened on, how many commands the root counted there and
 -- how many shards there were, its store, all events since then with their replies, how many of them, from the first on, checkpoints

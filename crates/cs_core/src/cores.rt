@@ -6,7 +6,7 @@
 //! n isn't below the frontier, which no acknowledged number exceeds, nor above the number of commands accepted. The clauses `crash` and
 //! `left` of `Core::apply` say that the image is such a one; `a_crash_of_a_run_leaves_a_prefix` says it of many calls in a row;
 //! `recovers` of `Core::open` says that such an image is opened so.
-ghost use Rattle.std.specs.Prelude.{IfErr, IfOk, IsOk, IsSome, IsTrue, MatchOption, MatchResult, None, OnErr, OnOk, Some, [], false, length, take, true, ℕ, ◌*◌, ◌+◌, ◌<◌, ◌^◌, ◌↔◌, ◌≡◌, ◌≢◌, ◌≤◌, ◌⊎◌};
+ghost use Rattle.std.specs.Prelude.{IfErr, IfOk, IsOk, IsSome, IsTrue, MatchOption, MatchResult, None, OnErr, OnOk, Some, [], false, length, take, true, ℕ, ◌<◌, ◌^◌, ◌↔◌, ◌≡◌, ◌≢◌, ◌≤◌, ◌⊎◌};
 ghost use Rattle.cs_refine.specs.Crashes.{IsPrefix};
 ghost use Rattle.cs_chunk.specs.Reads.{IsNoAnswer};
 ghost use Rattle.cs_deps.specs.Named.{IsWithin};
@@ -16,7 +16,7 @@ ghost use Rattle.cs_deps.specs.View.{pending_of, rounds_of};
 ghost use Rattle.cs_disk.specs.Disk.{Leaves, LeavesOnly, MayLeave, Rises, flushed, page, seen};
 ghost use Rattle.cs_extent.specs.State.{extents_of, shape};
 ghost use Rattle.cs_frame.specs.Formats.{formats_of};
-ghost use Rattle.cs_frame.specs.Geometries.{IsGeometry, section_size};
+ghost use Rattle.cs_frame.specs.Geometries.{IsGeometry, device_pages, section_size};
 ghost use Rattle.cs_image.specs.Counts.{HasCount};
 ghost use Rattle.cs_model.specs.Element.{Map};
 ghost use Rattle.cs_model.specs.Geometry.{shape_of};
@@ -96,18 +96,18 @@ impl<D: PageDisk> Core<D> {
         limits: Limits,
     ) -> Result<Self, (Refusal, D)>
         ensures new { IfOk result (λ core. (core.history ≡ []) × (core.base ≡ 0) × (core.limit ≡ limits.history)) }
-        ensures store { IfOk result (λ core. core.store ≡ new_stored geometry.extents geometry.pages geometry.sections) }
+        ensures store { IfOk result (λ core. core.store ≡ new_stored geometry.format geometry.extents geometry.pages geometry.sections) }
         // What it starts on recovers no command and no shard.
         ensures found { IfOk result (λ core. core.found ≡ (0, 0)) }
         ensures start { IfOk result (λ core. D.honest disk → Recovers (shape core.store.extents) (formats_of (shape core.store.extents)) (page core.opened) 0 (λ id. None)) }
         // The sections of the superblock and the root are written, and no page of an extent; where it is refused 43 the disk isn't asked
         // for anything.
-        ensures written { D.honest disk → MatchResult result (λ core. IsNewOn geometry.extents geometry.pages geometry.sections (D.state disk) (D.state core.disk)) (λ refused. IsHeadWritten geometry.extents geometry.pages (D.state disk) (D.state refused.1)) }
-        ensures same { D.page_count disk ≢ 1 + geometry.extents * geometry.pages + geometry.sections → result ≡ Err (Refusal.NotAStore, disk) }
+        ensures written { D.honest disk → MatchResult result (λ core. IsNewOn geometry.format geometry.extents geometry.pages geometry.sections (D.state disk) (D.state core.disk)) (λ refused. IsHeadWritten geometry.extents geometry.pages (D.state disk) (D.state refused.1)) }
+        ensures same { D.page_count disk ≢ device_pages geometry.format geometry.extents geometry.pages geometry.sections → result ≡ Err (Refusal.NotAStore, disk) }
         ensures pages { IfOk result (λ core. D.page_count core.disk ≡ D.page_count disk) }
         ensures honest { MatchResult result (λ core. D.honest disk ↔ D.honest core.disk) (λ refused. D.honest disk ↔ D.honest refused.1) }
-        ensures not_a_store { IfErr result (λ refused. (refused.0 ≡ Refusal.NotAStore) ↔ (D.page_count disk ≢ 1 + geometry.extents * geometry.pages + geometry.sections)) }
-        ensures sized { OnOk result (D.page_count disk ≡ 1 + geometry.extents * geometry.pages + geometry.sections) }
+        ensures not_a_store { IfErr result (λ refused. (refused.0 ≡ Refusal.NotAStore) ↔ (D.page_count disk ≢ device_pages geometry.format geometry.extents geometry.pages geometry.sections)) }
+        ensures sized { OnOk result (D.page_count disk ≡ device_pages geometry.format geometry.extents geometry.pages geometry.sections) }
         ensures refusals { IfErr result (λ refused. (refused.0 ≡ Refusal.NotAStore) ⊎ (refused.0 ≡ Refusal.DeviceFault) ⊎ (refused.0 ≡ Refusal.OutOfMemory)) }
         ensures cause { IfErr result (λ refused. refused.0 ≡ Refusal.DeviceFault → Rises (D.failure_count disk) (D.failure_count refused.1)) }
     {
@@ -145,8 +145,8 @@ impl<D: PageDisk> Core<D> {
         ensures image { IfOk result (λ core. D.honest disk → (core.opened ≡ seen (D.state disk)) × (D.state core.disk ≡ flushed (D.state disk))) }
         ensures store { IfOk result (λ core. IsOpened (D.honest disk) core.opened core.found core.store) }
         // Where the disk reads as a store of some geometry, that store is opened.
-        ensures recovers { D.honest disk → (extents pages sections : ℕ) → IsGeometry extents pages sections → D.page_count disk ≡ 1 + extents * pages + sections → (n : ℕ) (m : Map)
-            → (let S = shape_of extents pages sections (section_size extents sections) 2 in Recovers S (formats_of S) (page (seen (D.state disk))) n m
+        ensures recovers { D.honest disk → (format extents pages sections : ℕ) → IsGeometry format extents pages sections → D.page_count disk ≡ device_pages format extents pages sections → (n : ℕ) (m : Map)
+            → (let S = shape_of extents pages sections (section_size extents sections) format in Recovers S (formats_of S) (page (seen (D.state disk))) n m
             → MatchResult result (λ core. (shape core.store.extents ≡ S) × (core.found.0 ≡ n) × HasCount (λ id. m id ≢ None) core.found.1) (λ refused. IsNoAnswer refused.0)) }
         ensures refusals { IfErr result (λ refused. D.honest disk → IsNoAnswer refused.0 ⊎ IsWhyNotOpened (D.page_count disk) (page (seen (D.state disk))) refused.0) }
         // Whatever the disk answers: 1, 9, 20 to 25, or 43.

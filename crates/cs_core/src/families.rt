@@ -9,7 +9,7 @@ use std::alloc::{AllocError, Global};
 
 /// The versions of sections, with room for one more.
 fn versions_of(alloc: Global, sections: &[Superblock]) -> Result<Vec<u64>, AllocError>
-    requires { length sections.now ≤ 8 }
+    requires { length sections.now ≤ 15 }
     ensures versions { IfOk result (λ versions. versions.items ≡ map (λ it. it.version) sections.now) }
     ensures count { IfOk result (λ versions. vec_len versions ≡ length sections.now) }
     ensures room { IfOk result (λ versions. vec_len versions < vec_capacity versions) }
@@ -24,7 +24,7 @@ fn versions_of(alloc: Global, sections: &[Superblock]) -> Result<Vec<u64>, Alloc
 /// The versions of sections and of a root, as the graph numbers their families: the root's stands behind section 0's.
 fn by_family(alloc: Global, sections: &[Superblock], root: u64) -> Result<Vec<u64>, AllocError>
     requires some { 0 < length sections.now }
-    requires few { length sections.now ≤ 8 }
+    requires few { length sections.now ≤ 15 }
     ensures { IfOk result (λ versions. versions.items ≡ by_family (map (λ it. it.version) sections.now) root) }
 {
     let mut versions = versions_of(alloc, sections)?;

@@ -1,7 +1,7 @@
 //! New stores.
 ghost use Rattle.std.specs.Prelude.{◌≡◌, ◌↔◌, ◌⊎◌, ◌+◌, ◌*◌, ◌<◌, ◌≤◌, ◌∷◌, ◌==◌, if◌then◌else◌, ℕ, List, [], IfErr, IfOk, OnErr, OnOk, replicate};
 ghost use Rattle.cs_disk.specs.Disk.{HasCause, Rises, flushed, written};
-ghost use Rattle.cs_frame.specs.Geometries.{IsGeometry, section_length};
+ghost use Rattle.cs_frame.specs.Geometries.{IsGeometry, device_pages, section_length};
 ghost use Rattle.cs_frame.specs.Superblocks.{SpellsSuperblock};
 ghost use Rattle.cs_core.specs.Started.{AreNew, AreNewWritten, IsHeadWritten, IsNewOn, IsNewSection, new_stored};
 
@@ -18,6 +18,7 @@ use std::alloc::{AllocError, Global};
 /// A section of a new store's superblock.
 fn new_section(alloc: Global, geometry: Geometry, section: u8) -> Result<Superblock, AllocError>
     ensures version { IfOk result (λ it. it.version ≡ 1) }
+    ensures format { IfOk result (λ it. it.format ≡ geometry.format) }
     ensures extents { IfOk result (λ it. it.extent_count ≡ geometry.extents) }
     ensures pages { IfOk result (λ it. it.pages ≡ geometry.pages) }
     ensures sections { IfOk result (λ it. it.sections ≡ geometry.sections) }
@@ -25,6 +26,7 @@ fn new_section(alloc: Global, geometry: Geometry, section: u8) -> Result<Superbl
     ensures rows { IfOk result (λ it. it.extents.items ≡ replicate {A = ℕ × ℕ} (section_length geometry.extents geometry.sections section) (0, 0)) }
 {
     Ok(Superblock {
+        format: geometry.format(),
         version: 1,
         extent_count: geometry.extents(),
         pages: geometry.pages(),
@@ -36,7 +38,7 @@ fn new_section(alloc: Global, geometry: Geometry, section: u8) -> Result<Superbl
 
 /// All sections of a new store's superblock, in order.
 fn new_sections(alloc: Global, geometry: Geometry) -> Result<Vec<Superblock>, AllocError>
-    ensures { IfOk result (λ sections. AreNew geometry.extents geometry.pages geometry.sections sections.items) }
+    ensures { IfOk result (λ sections. AreNew geometry.format geometry.extents geometry.pages geometry.sections sections.items) }
 {
     let count = geometry.sections();
     let mut sections = Vec::with_capacity(alloc, usize::from(count))?;
@@ -51,7 +53,7 @@ fn new_sections(alloc: Global, geometry: Geometry) -> Result<Vec<Superblock>, Al
 
 /// An index that names nothing.
 fn new_index(alloc: Global, geometry: Geometry) -> Result<Index, AllocError>
-    ensures { IfOk result (λ index. index ≡ (new_stored geometry.extents geometry.pages geometry.sections).index) }
+    ensures { IfOk result (λ index. index ≡ (new_stored geometry.format geometry.extents geometry.pages geometry.sections).index) }
 {
     // Never refused: without runs no identifier is named.
     match Index::load(alloc, geometry.named_limit(), Vec::new(alloc)) {
@@ -66,8 +68,8 @@ fn new_store(
     geometry: Geometry,
     sections: &[Superblock],
 ) -> Result<Store, AllocError>
-    requires { AreNew geometry.extents geometry.pages geometry.sections sections.now }
-    ensures { IfOk result (λ store. store ≡ new_stored geometry.extents geometry.pages geometry.sections) }
+    requires { AreNew geometry.format geometry.extents geometry.pages geometry.sections sections.now }
+    ensures { IfOk result (λ store. store ≡ new_stored geometry.format geometry.extents geometry.pages geometry.sections) }
 {
     let roots = first_root(alloc, 1)?;
     let index = new_index(alloc, geometry)?;
@@ -93,10 +95,10 @@ fn write_section<D: PageDisk>(
     geometry: Geometry,
     superblock: &Superblock,
 ) -> Result<(), DiskFault>
-    requires sized { D.page_count disk.old ≡ 1 + geometry.extents * geometry.pages + geometry.sections }
-    requires section { IsNewSection geometry.extents geometry.pages geometry.sections superblock.now.section superblock.now }
+    requires sized { D.page_count disk.old ≡ device_pages geometry.format geometry.extents geometry.pages geometry.sections }
+    requires section { IsNewSection geometry.format geometry.extents geometry.pages geometry.sections superblock.now.section superblock.now }
     ensures written { D.honest disk.old → OnOk result ((bytes : List ℕ)
-        × SpellsSuperblock bytes 1 geometry.extents geometry.pages geometry.sections superblock.now.section (replicate (section_length geometry.extents geometry.sections superblock.now.section) (0, 0))
+        × SpellsSuperblock bytes geometry.format 1 geometry.extents geometry.pages geometry.sections superblock.now.section (replicate (section_length geometry.extents geometry.sections superblock.now.section) (0, 0))
         × (D.state disk.new ≡ written (D.state disk.old) (if superblock.now.section == 0 then 0 else 1 + geometry.extents * geometry.pages + superblock.now.section) bytes)) }
     ensures failed { D.honest disk.old → OnErr result ((D.state disk.new ≡ D.state disk.old) ⊎ ((bytes : List ℕ)
         × (D.state disk.new ≡ written (D.state disk.old) (if superblock.now.section == 0 then 0 else 1 + geometry.extents * geometry.pages + superblock.now.section) bytes))) }
@@ -114,9 +116,9 @@ fn write_sections<D: PageDisk>(
     geometry: Geometry,
     sections: &[Superblock],
 ) -> Result<(), DiskFault>
-    requires sized { D.page_count disk.old ≡ 1 + geometry.extents * geometry.pages + geometry.sections }
-    requires new { AreNew geometry.extents geometry.pages geometry.sections sections.now }
-    ensures written { D.honest disk.old → OnOk result (AreNewWritten geometry.extents geometry.pages geometry.sections geometry.sections (D.state disk.old) (D.state disk.new)) }
+    requires sized { D.page_count disk.old ≡ device_pages geometry.format geometry.extents geometry.pages geometry.sections }
+    requires new { AreNew geometry.format geometry.extents geometry.pages geometry.sections sections.now }
+    ensures written { D.honest disk.old → OnOk result (AreNewWritten geometry.format geometry.extents geometry.pages geometry.sections geometry.sections (D.state disk.old) (D.state disk.new)) }
     ensures failed { D.honest disk.old → OnErr result (IsHeadWritten geometry.extents geometry.pages (D.state disk.old) (D.state disk.new)) }
     ensures honest { D.honest disk.old ↔ D.honest disk.new }
     ensures pages { D.page_count disk.new ≡ D.page_count disk.old }
@@ -152,15 +154,16 @@ fn write_heads<D: PageDisk>(
     geometry: Geometry,
     sections: &[Superblock],
 ) -> Result<(), DiskFault>
-    requires sized { D.page_count disk.old ≡ 1 + geometry.extents * geometry.pages + geometry.sections }
-    requires new { AreNew geometry.extents geometry.pages geometry.sections sections.now }
-    ensures written { D.honest disk.old → OnOk result (IsNewOn geometry.extents geometry.pages geometry.sections (D.state disk.old) (D.state disk.new)) }
+    requires sized { D.page_count disk.old ≡ device_pages geometry.format geometry.extents geometry.pages geometry.sections }
+    requires new { AreNew geometry.format geometry.extents geometry.pages geometry.sections sections.now }
+    ensures written { D.honest disk.old → OnOk result (IsNewOn geometry.format geometry.extents geometry.pages geometry.sections (D.state disk.old) (D.state disk.new)) }
     ensures failed { D.honest disk.old → OnErr result (IsHeadWritten geometry.extents geometry.pages (D.state disk.old) (D.state disk.new)) }
     ensures honest { D.honest disk.old ↔ D.honest disk.new }
     ensures pages { D.page_count disk.new ≡ D.page_count disk.old }
     ensures cause { HasCause (D.failure_count disk.old) (D.failure_count disk.new) result }
 {
     let root = Root {
+        format: geometry.format(),
         version: 1,
         commands: 0,
         runs: Vec::new(alloc),
@@ -177,10 +180,10 @@ pub fn start_store<D: PageDisk>(
     disk: &mut D,
     geometry: Geometry,
 ) -> Result<Store, Refusal>
-    requires { D.page_count disk.old ≡ 1 + geometry.extents * geometry.pages + geometry.sections }
-    ensures geometry { OnOk result (IsGeometry geometry.extents geometry.pages geometry.sections) }
-    ensures made { IfOk result (λ store. store ≡ new_stored geometry.extents geometry.pages geometry.sections) }
-    ensures written { D.honest disk.old → OnOk result (IsNewOn geometry.extents geometry.pages geometry.sections (D.state disk.old) (D.state disk.new)) }
+    requires { D.page_count disk.old ≡ device_pages geometry.format geometry.extents geometry.pages geometry.sections }
+    ensures geometry { OnOk result (IsGeometry geometry.format geometry.extents geometry.pages geometry.sections) }
+    ensures made { IfOk result (λ store. store ≡ new_stored geometry.format geometry.extents geometry.pages geometry.sections) }
+    ensures written { D.honest disk.old → OnOk result (IsNewOn geometry.format geometry.extents geometry.pages geometry.sections (D.state disk.old) (D.state disk.new)) }
     ensures failed { D.honest disk.old → OnErr result (IsHeadWritten geometry.extents geometry.pages (D.state disk.old) (D.state disk.new)) }
     ensures honest { D.honest disk.old ↔ D.honest disk.new }
     ensures pages { D.page_count disk.new ≡ D.page_count disk.old }

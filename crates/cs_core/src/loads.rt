@@ -53,7 +53,7 @@ fn live_count(index: &Index) -> usize
 
 /// The index of runs whose places are located. Refused 43 NotAStore where they aren't, or name too many identifiers.
 fn load_index(alloc: Global, extents: &Extents, runs: Vec<StoredRun>) -> Result<Index, Refusal>
-    requires few { length runs.items ≤ 4 }
+    requires few { length runs.items ≤ 24 }
     requires runs { AllByRecursion (λ run. IsRun (record { entries = run.entries })) runs.items }
     ensures loaded { IfOk result (λ index. index ≡ index_at (newest_first runs.items) (shape extents.now).most_names) }
     ensures located { OnOk result (AreLocated extents.now runs.items) }
@@ -78,7 +78,7 @@ fn load_parts(
     root: &Root,
     runs: Vec<StoredRun>,
 ) -> Result<(Index, VecDeque<Noted>), Refusal>
-    requires few { length runs.items ≤ 4 }
+    requires few { length runs.items ≤ 24 }
     requires runs { AllByRecursion (λ run. IsRun (record { entries = run.entries })) runs.items }
     ensures loaded { IfOk result (λ made. made.0 ≡ index_at (newest_first runs.items) (shape extents.now).most_names) }
     ensures noted { IfOk result (λ made. made.1.items ≡ record { version = root.now.version; commands = 0 } ∷ []) }
@@ -108,12 +108,12 @@ pub fn load_store(
     root: &Root,
     runs: Vec<StoredRun>,
 ) -> Result<OpenedStore, Refusal>
-    requires extents { extents ≡ extents_at extents.pages extents.sections extents.written }
+    requires extents { extents ≡ extents_at extents.format extents.pages extents.sections extents.written }
     requires graph { (versions : List ℕ) × (length versions ≡ extents.sections) × (graph ≡ graph_at versions root.now.version) }
     requires commands { root.now.commands < 2 ^ 63 }
-    requires few { length runs.items ≤ 4 }
+    requires few { length runs.items ≤ 24 }
     requires runs { AllByRecursion (λ run. IsRun (record { entries = run.entries })) runs.items }
-    ensures made { IfOk result (λ found. (versions : List ℕ) → length versions ≡ extents.sections → graph ≡ graph_at versions root.now.version → found.store ≡ opened_stored versions extents.pages extents.written root.now.version root.now.commands runs.items) }
+    ensures made { IfOk result (λ found. (versions : List ℕ) → length versions ≡ extents.sections → graph ≡ graph_at versions root.now.version → found.store ≡ opened_stored extents.format versions extents.pages extents.written root.now.version root.now.commands runs.items) }
     ensures commands { IfOk result (λ found. found.commands ≡ root.now.commands) }
     ensures live { IfOk result (λ found. HasCount (λ id. live_at (entries_of (newest_first runs.items)) id ≢ []) found.live) }
     ensures located { OnOk result (AreLocated extents runs.items) }

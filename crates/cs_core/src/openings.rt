@@ -2,9 +2,10 @@
 ghost use Rattle.std.specs.Prelude.{◌≡◌, ◌+◌, ◌*◌, ◌<◌, ◌≤◌, ◌⊎◌, ◌↔◌, ℕ, List, IfErr, IfOk, MatchResult, length, map};
 ghost use Rattle.cs_chunk.specs.Reads.{IsCaused, IsNoAnswer, IsOfFault, OnlyReads};
 ghost use Rattle.cs_disk.specs.Disk.{LeavesOnly, MayLeave, flushed, page, seen};
-ghost use Rattle.cs_extent.specs.Sections.{AreSections, pages_of, rows_of};
+ghost use Rattle.cs_extent.specs.Sections.{AreSections, format_of, pages_of, rows_of};
 ghost use Rattle.cs_frame.specs.FirstFormat.{SpellsPageZero};
 ghost use Rattle.cs_frame.specs.Roots.{SpellsRoot, root_fault};
+ghost use Rattle.cs_frame.specs.Geometries.{IsKnown, device_pages};
 ghost use Rattle.cs_image.specs.Reads.{AreSectionsRead};
 ghost use Rattle.cs_core.specs.Openings.{IsOpeningRefusal, IsStoreMade, IsWhyNotOpened};
 
@@ -16,46 +17,58 @@ use cs_chunk::{refusal_of_disk, refusal_of_fault};
 use cs_deps::Refusal;
 use cs_disk::PageDisk;
 use cs_extent::Extents;
-use cs_frame::{Root, Superblock, decode_root};
+use cs_frame::{Root, Superblock, decode_root, device_pages};
 use std::alloc::Global;
 
-/// The root that a page spells.
-fn decoded_root(alloc: Global, page: &[u8; 4096]) -> Result<Root, Refusal>
-    ensures spelled { IfOk result (λ it. SpellsRoot page.now it.version it.commands it.runs.items) }
-    ensures fault { IfErr result (λ r. (r ≡ Refusal.OutOfMemory) ⊎ IsOfFault (root_fault page.now) r) }
+/// The root that a page spells in this format.
+fn decoded_root(alloc: Global, page: &[u8; 4096], format: u8) -> Result<Root, Refusal>
+    requires { IsKnown format }
+    ensures spelled { IfOk result (λ it. SpellsRoot page.now format it.version it.commands it.runs.items) }
+    ensures fault { IfErr result (λ r. (r ≡ Refusal.OutOfMemory) ⊎ IsOfFault (root_fault format page.now) r) }
     ensures number { IfErr result IsOpeningRefusal }
 {
-    match decode_root(alloc, page) {
+    match decode_root(alloc, page, format) {
         Ok(root) => Ok(root),
         Err(fault) => Err(refusal_of_fault(fault)),
     }
 }
 
-/// Reads page 1.
-fn read_root<D: PageDisk>(alloc: Global, disk: &mut D) -> Result<Root, Refusal>
-    requires { 1 < D.page_count disk.old }
-    ensures read { D.honest disk.old → IfOk result (λ it. SpellsRoot (page (seen (D.state disk.old)) 1) it.version it.commands it.runs.items) }
-    ensures some { IfOk result (λ it. (bytes : List ℕ) × SpellsRoot bytes it.version it.commands it.runs.items) }
-    ensures fault { D.honest disk.old → IfErr result (λ r. IsNoAnswer r ⊎ IsOfFault (root_fault (page (seen (D.state disk.old)) 1)) r) }
+/// Reads page 1 in this format.
+fn read_root<D: PageDisk>(alloc: Global, disk: &mut D, format: u8) -> Result<Root, Refusal>
+    requires known { IsKnown format }
+    requires enough { 1 < D.page_count disk.old }
+    ensures read { D.honest disk.old → IfOk result (λ it. SpellsRoot (page (seen (D.state disk.old)) 1) format it.version it.commands it.runs.items) }
+    ensures some { IfOk result (λ it. (bytes : List ℕ) × SpellsRoot bytes format it.version it.commands it.runs.items) }
+    ensures fault { D.honest disk.old → IfErr result (λ r. IsNoAnswer r ⊎ IsOfFault (root_fault format (page (seen (D.state disk.old)) 1)) r) }
     ensures number { IfErr result IsOpeningRefusal }
     ensures disk { OnlyReads D.PageDisk disk.old disk.new }
     ensures cause { IsCaused (D.failure_count disk.old) (D.failure_count disk.new) result }
 {
     let mut buffer = [0; 4096];
     match disk.read(1, &mut buffer) {
-        Ok(()) => decoded_root(alloc, &buffer),
+        Ok(()) => decoded_root(alloc, &buffer, format),
         Err(fault) => Err(refusal_of_disk(fault)),
     }
 }
 
 /// How many pages a device has whose superblock has this section.
-fn device_pages(superblock: &Superblock) -> u64
-    ensures { result ≡ 1 + superblock.now.extent_count * superblock.now.pages + superblock.now.sections }
+fn pages_of_device(superblock: &Superblock) -> u64
+    ensures { result ≡ device_pages superblock.now.format superblock.now.extent_count superblock.now.pages superblock.now.sections }
 {
-    let extents = superblock.extent_count;
-    let pages = superblock.pages;
-    let sections = superblock.sections;
-    1 + u64::from(extents) * u64::from(pages) + u64::from(sections)
+    device_pages(
+        superblock.format,
+        superblock.extent_count,
+        superblock.pages,
+        superblock.sections,
+    )
+}
+
+/// The format that sections of a superblock say.
+fn format_of(sections: &[Superblock]) -> u8
+    requires { 0 < length sections.now }
+    ensures { result ≡ format_of sections.now }
+{
+    sections[0].format
 }
 
 /// Reads what the root locates, and makes a store of it.
@@ -66,11 +79,11 @@ fn read_index<D: PageDisk>(
     root: &Root,
 ) -> Result<OpenedStore, Refusal>
     requires are { AreSections sections.now }
-    requires some_root { (bytes : List ℕ) × SpellsRoot bytes root.now.version root.now.commands root.now.runs.items }
-    requires sized { D.page_count disk.old ≡ 1 + length (rows_of sections.now) * pages_of sections.now + length sections.now }
-    requires sections { D.honest disk.old → AreSectionsRead (page (seen (D.state disk.old))) (map (λ it. it.version) sections.now) (pages_of sections.now) (rows_of sections.now) }
-    requires root { D.honest disk.old → SpellsRoot (page (seen (D.state disk.old)) 1) root.now.version root.now.commands root.now.runs.items }
-    ensures made { IfOk result (λ found. IsStoreMade (D.honest disk.old) (page (seen (D.state disk.old))) (map (λ it. it.version) sections.now) (pages_of sections.now) (rows_of sections.now) found.commands found.live found.store) }
+    requires some_root { (bytes : List ℕ) × SpellsRoot bytes (format_of sections.now) root.now.version root.now.commands root.now.runs.items }
+    requires sized { D.page_count disk.old ≡ device_pages (format_of sections.now) (length (rows_of sections.now)) (pages_of sections.now) (length sections.now) }
+    requires sections { D.honest disk.old → AreSectionsRead (page (seen (D.state disk.old))) (format_of sections.now) (map (λ it. it.version) sections.now) (pages_of sections.now) (rows_of sections.now) }
+    requires root { D.honest disk.old → SpellsRoot (page (seen (D.state disk.old)) 1) (format_of sections.now) root.now.version root.now.commands root.now.runs.items }
+    ensures made { IfOk result (λ found. IsStoreMade (D.honest disk.old) (page (seen (D.state disk.old))) (format_of sections.now) (map (λ it. it.version) sections.now) (pages_of sections.now) (rows_of sections.now) found.commands found.live found.store) }
     ensures why { D.honest disk.old → IfErr result (λ r. IsNoAnswer r ⊎ IsWhyNotOpened (D.page_count disk.old) (page (seen (D.state disk.old))) r) }
     ensures number { IfErr result IsOpeningRefusal }
     ensures disk { OnlyReads D.PageDisk disk.old disk.new }
@@ -98,15 +111,15 @@ fn read_rest<D: PageDisk>(
 ) -> Result<OpenedStore, Refusal>
     requires are { AreSections sections.now }
     requires enough { 1 < D.page_count disk.old }
-    requires sized { D.page_count disk.old ≡ 1 + length (rows_of sections.now) * pages_of sections.now + length sections.now }
-    requires sections { D.honest disk.old → AreSectionsRead (page (seen (D.state disk.old))) (map (λ it. it.version) sections.now) (pages_of sections.now) (rows_of sections.now) }
-    ensures made { IfOk result (λ found. IsStoreMade (D.honest disk.old) (page (seen (D.state disk.old))) (map (λ it. it.version) sections.now) (pages_of sections.now) (rows_of sections.now) found.commands found.live found.store) }
+    requires sized { D.page_count disk.old ≡ device_pages (format_of sections.now) (length (rows_of sections.now)) (pages_of sections.now) (length sections.now) }
+    requires sections { D.honest disk.old → AreSectionsRead (page (seen (D.state disk.old))) (format_of sections.now) (map (λ it. it.version) sections.now) (pages_of sections.now) (rows_of sections.now) }
+    ensures made { IfOk result (λ found. IsStoreMade (D.honest disk.old) (page (seen (D.state disk.old))) (format_of sections.now) (map (λ it. it.version) sections.now) (pages_of sections.now) (rows_of sections.now) found.commands found.live found.store) }
     ensures why { D.honest disk.old → IfErr result (λ r. IsNoAnswer r ⊎ IsWhyNotOpened (D.page_count disk.old) (page (seen (D.state disk.old))) r) }
     ensures number { IfErr result IsOpeningRefusal }
     ensures disk { OnlyReads D.PageDisk disk.old disk.new }
     ensures cause { IsCaused (D.failure_count disk.old) (D.failure_count disk.new) result }
 {
-    match read_root(alloc, disk) {
+    match read_root(alloc, disk, format_of(sections)) {
         Ok(root) => read_index(alloc, disk, sections, &root),
         Err(refusal) => Err(refusal),
     }
@@ -120,11 +133,11 @@ fn read_behind<D: PageDisk>(
 ) -> Result<OpenedStore, Refusal>
     requires enough { 10 ≤ D.page_count disk.old }
     requires place { first.section ≡ 0 }
-    requires some { (bytes : List ℕ) × SpellsPageZero bytes first.version first.extent_count first.pages first.sections first.section first.extents.items }
-    requires sized { D.page_count disk.old ≡ 1 + first.extent_count * first.pages + first.sections }
-    requires read { D.honest disk.old → SpellsPageZero (page (seen (D.state disk.old)) 0) first.version first.extent_count first.pages first.sections first.section first.extents.items }
-    ensures made { IfOk result (λ found. (versions : List ℕ) × (pages : ℕ) × (written : List (ℕ × ℕ)) × (D.page_count disk.old ≡ 1 + length written * pages + length versions)
-        × IsStoreMade (D.honest disk.old) (page (seen (D.state disk.old))) versions pages written found.commands found.live found.store) }
+    requires some { (bytes : List ℕ) × SpellsPageZero bytes first.format first.version first.extent_count first.pages first.sections first.section first.extents.items }
+    requires sized { D.page_count disk.old ≡ device_pages first.format first.extent_count first.pages first.sections }
+    requires read { D.honest disk.old → SpellsPageZero (page (seen (D.state disk.old)) 0) first.format first.version first.extent_count first.pages first.sections first.section first.extents.items }
+    ensures made { IfOk result (λ found. (format : ℕ) × (versions : List ℕ) × (pages : ℕ) × (written : List (ℕ × ℕ)) × (D.page_count disk.old ≡ device_pages format (length written) pages (length versions))
+        × IsStoreMade (D.honest disk.old) (page (seen (D.state disk.old))) format versions pages written found.commands found.live found.store) }
     ensures why { D.honest disk.old → IfErr result (λ r. IsNoAnswer r ⊎ IsWhyNotOpened (D.page_count disk.old) (page (seen (D.state disk.old))) r) }
     ensures number { IfErr result IsOpeningRefusal }
     ensures disk { OnlyReads D.PageDisk disk.old disk.new }
@@ -139,8 +152,8 @@ fn read_behind<D: PageDisk>(
 /// Reads the whole store.
 fn read_store<D: PageDisk>(alloc: Global, disk: &mut D) -> Result<OpenedStore, Refusal>
     requires { 10 ≤ D.page_count disk.old }
-    ensures made { IfOk result (λ found. (versions : List ℕ) × (pages : ℕ) × (written : List (ℕ × ℕ)) × (D.page_count disk.old ≡ 1 + length written * pages + length versions)
-        × IsStoreMade (D.honest disk.old) (page (seen (D.state disk.old))) versions pages written found.commands found.live found.store) }
+    ensures made { IfOk result (λ found. (format : ℕ) × (versions : List ℕ) × (pages : ℕ) × (written : List (ℕ × ℕ)) × (D.page_count disk.old ≡ device_pages format (length written) pages (length versions))
+        × IsStoreMade (D.honest disk.old) (page (seen (D.state disk.old))) format versions pages written found.commands found.live found.store) }
     ensures why { D.honest disk.old → IfErr result (λ r. IsNoAnswer r ⊎ IsWhyNotOpened (D.page_count disk.old) (page (seen (D.state disk.old))) r) }
     ensures number { IfErr result IsOpeningRefusal }
     ensures disk { OnlyReads D.PageDisk disk.old disk.new }
@@ -150,7 +163,7 @@ fn read_store<D: PageDisk>(alloc: Global, disk: &mut D) -> Result<OpenedStore, R
         Ok(superblock) => superblock,
         Err(refusal) => return Err(refusal),
     };
-    if disk.pages() != device_pages(&superblock) {
+    if disk.pages() != pages_of_device(&superblock) {
         return Err(Refusal::NotAStore);
     }
     read_behind(alloc, disk, superblock)
@@ -159,8 +172,8 @@ fn read_store<D: PageDisk>(alloc: Global, disk: &mut D) -> Result<OpenedStore, R
 /// Flushes, and reads the store.
 pub fn open_store<D: PageDisk>(alloc: Global, disk: &mut D) -> Result<OpenedStore, Refusal>
     requires { 10 ≤ D.page_count disk.old }
-    ensures made { IfOk result (λ found. (versions : List ℕ) × (pages : ℕ) × (written : List (ℕ × ℕ)) × (D.page_count disk.old ≡ 1 + length written * pages + length versions)
-        × IsStoreMade (D.honest disk.old) (page (seen (D.state disk.old))) versions pages written found.commands found.live found.store) }
+    ensures made { IfOk result (λ found. (format : ℕ) × (versions : List ℕ) × (pages : ℕ) × (written : List (ℕ × ℕ)) × (D.page_count disk.old ≡ device_pages format (length written) pages (length versions))
+        × IsStoreMade (D.honest disk.old) (page (seen (D.state disk.old))) format versions pages written found.commands found.live found.store) }
     ensures why { D.honest disk.old → IfErr result (λ r. IsNoAnswer r ⊎ IsWhyNotOpened (D.page_count disk.old) (page (seen (D.state disk.old))) r) }
     ensures number { IfErr result IsOpeningRefusal }
     ensures state { D.honest disk.old → MatchResult result (λ _. D.state disk.new ≡ flushed (D.state disk.old)) (λ _. (D.state disk.new ≡ D.state disk.old) ⊎ (D.state disk.new ≡ flushed (D.state disk.old))) }

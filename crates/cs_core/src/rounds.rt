@@ -4,8 +4,9 @@ ghost use Rattle.cs_extent.specs.State.{shape};
 ghost use Rattle.cs_core.specs.Disks.{WritesAsTold};
 ghost use Rattle.cs_core.specs.Replies.{MayRefuse};
 ghost use Rattle.cs_core.specs.Rounds.{BeginAnswers, EndAnswers, IssueAnswers};
-ghost use Rattle.cs_core.specs.Stored.{members_of, page_total, but_for_room};
+ghost use Rattle.cs_core.specs.Stored.{members_of, but_for_room};
 ghost use Rattle.cs_core.specs.Writebacks.{IsMemberIssued, IsRoundBegun, IsRoundEnded, StaysRefused};
+ghost use Rattle.cs_image.specs.Reads.{page_total};
 
 use crate::events::{Event, Reply};
 use crate::frontiers::let_go;

@@ -4,8 +4,9 @@ ghost use Rattle.cs_disk.specs.Disk.{State as DiskState};
 ghost use Rattle.cs_extent.specs.State.{shape};
 ghost use Rattle.cs_core.specs.Answered.{IsAlone, IsAnswered, IsForDevice};
 ghost use Rattle.cs_core.specs.Served.{IsServed};
-ghost use Rattle.cs_core.specs.Stored.{page_total, but_for_room};
+ghost use Rattle.cs_core.specs.Stored.{but_for_room};
 ghost use Rattle.cs_core.specs.Views.{Serves};
+ghost use Rattle.cs_image.specs.Reads.{page_total};
 
 use crate::contents::Elements;
 use crate::events::{Event, OutOfMemory, Reply};

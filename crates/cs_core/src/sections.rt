@@ -2,8 +2,9 @@
 ghost use Rattle.std.specs.Prelude.{◌≡◌, ◌≢◌, ◌+◌, ◌*◌, ◌<◌, ◌≤◌, ◌⊎◌, ◌∷◌, ℕ, List, [], IfErr, IfOk, MatchBool, length, map, vec_capacity};
 ghost use Rattle.cs_chunk.specs.Reads.{IsCaused, IsNoAnswer, IsOfFault, OnlyReads};
 ghost use Rattle.cs_disk.specs.Disk.{page, seen};
-ghost use Rattle.cs_extent.specs.Sections.{AreSections, pages_of, rows_of};
+ghost use Rattle.cs_extent.specs.Sections.{AreSections, format_of, pages_of, rows_of};
 ghost use Rattle.cs_frame.specs.FirstFormat.{SpellsPageZero, page_zero_fault};
+ghost use Rattle.cs_frame.specs.Geometries.{IsKnown, device_pages};
 ghost use Rattle.cs_frame.specs.Superblocks.{SpellsSuperblock, superblock_fault};
 ghost use Rattle.cs_image.specs.Reads.{AreSectionsRead};
 ghost use Rattle.cs_core.specs.Openings.{HasNumbers, IsOpeningRefusal, IsOtherFirst, IsWhyNoSection, IsWhyNoSections};
@@ -16,7 +17,7 @@ use std::alloc::{AllocError, Global};
 
 /// What page 0 spells of a superblock.
 fn decoded_superblock(alloc: Global, page: &[u8; 4096]) -> Result<Superblock, Refusal>
-    ensures spelled { IfOk result (λ it. SpellsPageZero page.now it.version it.extent_count it.pages it.sections it.section it.extents.items) }
+    ensures spelled { IfOk result (λ it. SpellsPageZero page.now it.format it.version it.extent_count it.pages it.sections it.section it.extents.items) }
     ensures fault { IfErr result (λ r. (r ≡ Refusal.OutOfMemory) ⊎ IsOfFault (page_zero_fault page.now) r) }
     ensures number { IfErr result IsOpeningRefusal }
 {
@@ -29,8 +30,8 @@ fn decoded_superblock(alloc: Global, page: &[u8; 4096]) -> Result<Superblock, Re
 /// Reads page 0.
 fn read_superblock<D: PageDisk>(alloc: Global, disk: &mut D) -> Result<Superblock, Refusal>
     requires { 0 < D.page_count disk.old }
-    ensures read { D.honest disk.old → IfOk result (λ it. SpellsPageZero (page (seen (D.state disk.old)) 0) it.version it.extent_count it.pages it.sections it.section it.extents.items) }
-    ensures some { IfOk result (λ it. (bytes : List ℕ) × SpellsPageZero bytes it.version it.extent_count it.pages it.sections it.section it.extents.items) }
+    ensures read { D.honest disk.old → IfOk result (λ it. SpellsPageZero (page (seen (D.state disk.old)) 0) it.format it.version it.extent_count it.pages it.sections it.section it.extents.items) }
+    ensures some { IfOk result (λ it. (bytes : List ℕ) × SpellsPageZero bytes it.format it.version it.extent_count it.pages it.sections it.section it.extents.items) }
     ensures fault { D.honest disk.old → IfErr result (λ r. IsNoAnswer r ⊎ IsOfFault (page_zero_fault (page (seen (D.state disk.old)) 0)) r) }
     ensures number { IfErr result IsOpeningRefusal }
     ensures disk { OnlyReads D.PageDisk disk.old disk.new }
@@ -54,8 +55,8 @@ fn is_first(superblock: &Superblock) -> bool
 pub fn read_first<D: PageDisk>(alloc: Global, disk: &mut D) -> Result<Superblock, Refusal>
     requires { 0 < D.page_count disk.old }
     ensures first { IfOk result (λ it. it.section ≡ 0) }
-    ensures read { D.honest disk.old → IfOk result (λ it. SpellsPageZero (page (seen (D.state disk.old)) 0) it.version it.extent_count it.pages it.sections it.section it.extents.items) }
-    ensures some { IfOk result (λ it. (bytes : List ℕ) × SpellsPageZero bytes it.version it.extent_count it.pages it.sections it.section it.extents.items) }
+    ensures read { D.honest disk.old → IfOk result (λ it. SpellsPageZero (page (seen (D.state disk.old)) 0) it.format it.version it.extent_count it.pages it.sections it.section it.extents.items) }
+    ensures some { IfOk result (λ it. (bytes : List ℕ) × SpellsPageZero bytes it.format it.version it.extent_count it.pages it.sections it.section it.extents.items) }
     ensures why { D.honest disk.old → IfErr result (λ r. IsNoAnswer r ⊎ IsOfFault (page_zero_fault (page (seen (D.state disk.old)) 0)) r ⊎ IsOtherFirst (page (seen (D.state disk.old)) 0) r) }
     ensures number { IfErr result IsOpeningRefusal }
     ensures disk { OnlyReads D.PageDisk disk.old disk.new }
@@ -71,44 +72,57 @@ pub fn read_first<D: PageDisk>(alloc: Global, disk: &mut D) -> Result<Superblock
     Ok(superblock)
 }
 
-/// The further section of a superblock that a page spells.
-fn decoded_section(alloc: Global, page: &[u8; 4096]) -> Result<Superblock, Refusal>
-    ensures spelled { IfOk result (λ it. SpellsSuperblock page.now it.version it.extent_count it.pages it.sections it.section it.extents.items) }
-    ensures fault { IfErr result (λ r. (r ≡ Refusal.OutOfMemory) ⊎ IsOfFault (superblock_fault page.now) r) }
+/// The further section of a superblock that a page spells in this format.
+fn decoded_section(alloc: Global, page: &[u8; 4096], format: u8) -> Result<Superblock, Refusal>
+    requires { IsKnown format }
+    ensures format { IfOk result (λ it. it.format ≡ format) }
+    ensures spelled { IfOk result (λ it. SpellsSuperblock page.now it.format it.version it.extent_count it.pages it.sections it.section it.extents.items) }
+    ensures fault { IfErr result (λ r. (r ≡ Refusal.OutOfMemory) ⊎ IsOfFault (superblock_fault format page.now) r) }
     ensures number { IfErr result IsOpeningRefusal }
 {
-    match decode_section(alloc, page) {
+    match decode_section(alloc, page, format) {
         Ok(superblock) => Ok(superblock),
         Err(fault) => Err(refusal_of_fault(fault)),
     }
 }
 
-/// Reads a page behind the extents.
+/// Reads a page behind the extents in this format.
 fn read_further<D: PageDisk>(
     alloc: Global,
     disk: &mut D,
     number: u64,
+    format: u8,
 ) -> Result<Superblock, Refusal>
-    requires { number < D.page_count disk.old }
-    ensures read { D.honest disk.old → IfOk result (λ it. SpellsSuperblock (page (seen (D.state disk.old)) number) it.version it.extent_count it.pages it.sections it.section it.extents.items) }
-    ensures some { IfOk result (λ it. (bytes : List ℕ) × SpellsSuperblock bytes it.version it.extent_count it.pages it.sections it.section it.extents.items) }
-    ensures fault { D.honest disk.old → IfErr result (λ r. IsNoAnswer r ⊎ IsOfFault (superblock_fault (page (seen (D.state disk.old)) number)) r) }
+    requires known { IsKnown format }
+    requires inside { number < D.page_count disk.old }
+    ensures format { IfOk result (λ it. it.format ≡ format) }
+    ensures read { D.honest disk.old → IfOk result (λ it. SpellsSuperblock (page (seen (D.state disk.old)) number) it.format it.version it.extent_count it.pages it.sections it.section it.extents.items) }
+    ensures some { IfOk result (λ it. (bytes : List ℕ) × SpellsSuperblock bytes it.format it.version it.extent_count it.pages it.sections it.section it.extents.items) }
+    ensures fault { D.honest disk.old → IfErr result (λ r. IsNoAnswer r ⊎ IsOfFault (superblock_fault format (page (seen (D.state disk.old)) number)) r) }
     ensures number { IfErr result IsOpeningRefusal }
     ensures disk { OnlyReads D.PageDisk disk.old disk.new }
     ensures cause { IsCaused (D.failure_count disk.old) (D.failure_count disk.new) result }
 {
     let mut buffer = [0; 4096];
     match disk.read(number, &mut buffer) {
-        Ok(()) => decoded_section(alloc, &buffer),
+        Ok(()) => decoded_section(alloc, &buffer, format),
         Err(fault) => Err(refusal_of_disk(fault)),
     }
 }
 
-/// Whether a section is this one, of a superblock of so many extents, pages and sections.
-fn has_numbers(superblock: &Superblock, extents: u16, pages: u16, sections: u8, section: u8) -> bool
-    ensures { MatchBool result (HasNumbers extents pages sections section superblock.now) (¬ HasNumbers extents pages sections section superblock.now) }
+/// Whether a section is this one, of a superblock of this format and of so many extents, pages and sections.
+fn has_numbers(
+    superblock: &Superblock,
+    format: u8,
+    extents: u16,
+    pages: u16,
+    sections: u8,
+    section: u8,
+) -> bool
+    ensures { MatchBool result (HasNumbers format extents pages sections section superblock.now) (¬ HasNumbers format extents pages sections section superblock.now) }
 {
-    superblock.extent_count == extents
+    superblock.format == format
+        && superblock.extent_count == extents
         && superblock.pages == pages
         && superblock.sections == sections
         && superblock.section == section
@@ -121,32 +135,34 @@ fn further_page(extents: u16, pages: u16, section: u8) -> u64
     1 + u64::from(extents) * u64::from(pages) + u64::from(section)
 }
 
-/// Reads a further section of a superblock of so many extents, pages and sections. Refused 43 NotAStore where its page has another
-/// section, or one of another superblock.
+/// Reads a further section of a superblock of this format and of so many extents, pages and sections. Refused 43 NotAStore where its page has
+/// another section in this format, or one of another superblock.
 fn read_section<D: PageDisk>(
     alloc: Global,
     disk: &mut D,
+    format: u8,
     extents: u16,
     pages: u16,
     sections: u8,
     section: u8,
 ) -> Result<Superblock, Refusal>
+    requires known { IsKnown format }
     requires inside { section < sections }
-    requires sized { D.page_count disk.old ≡ 1 + extents * pages + sections }
-    ensures numbers { IfOk result (HasNumbers extents pages sections section) }
-    ensures some { IfOk result (λ it. (bytes : List ℕ) × SpellsSuperblock bytes it.version it.extent_count it.pages it.sections it.section it.extents.items) }
-    ensures read { D.honest disk.old → IfOk result (λ it. SpellsSuperblock (page (seen (D.state disk.old)) (1 + extents * pages + section)) it.version it.extent_count it.pages it.sections it.section it.extents.items) }
-    ensures why { D.honest disk.old → IfErr result (λ r. IsNoAnswer r ⊎ IsWhyNoSection extents pages sections section (page (seen (D.state disk.old)) (1 + extents * pages + section)) r) }
+    requires sized { D.page_count disk.old ≡ device_pages format extents pages sections }
+    ensures numbers { IfOk result (HasNumbers format extents pages sections section) }
+    ensures some { IfOk result (λ it. (bytes : List ℕ) × SpellsSuperblock bytes it.format it.version it.extent_count it.pages it.sections it.section it.extents.items) }
+    ensures read { D.honest disk.old → IfOk result (λ it. SpellsSuperblock (page (seen (D.state disk.old)) (1 + extents * pages + section)) it.format it.version it.extent_count it.pages it.sections it.section it.extents.items) }
+    ensures why { D.honest disk.old → IfErr result (λ r. IsNoAnswer r ⊎ IsWhyNoSection format extents pages sections section (page (seen (D.state disk.old)) (1 + extents * pages + section)) r) }
     ensures number { IfErr result IsOpeningRefusal }
     ensures disk { OnlyReads D.PageDisk disk.old disk.new }
     ensures cause { IsCaused (D.failure_count disk.old) (D.failure_count disk.new) result }
 {
     let number = further_page(extents, pages, section);
-    let superblock = match read_further(alloc, disk, number) {
+    let superblock = match read_further(alloc, disk, number, format) {
         Ok(superblock) => superblock,
         Err(refusal) => return Err(refusal),
     };
-    if !has_numbers(&superblock, extents, pages, sections, section) {
+    if !has_numbers(&superblock, format, extents, pages, sections, section) {
         return Err(Refusal::NotAStore);
     }
     Ok(superblock)
@@ -170,23 +186,24 @@ pub fn read_sections<D: PageDisk>(
     first: Superblock,
 ) -> Result<Vec<Superblock>, Refusal>
     requires place { first.section ≡ 0 }
-    requires some { (bytes : List ℕ) × SpellsPageZero bytes first.version first.extent_count first.pages first.sections first.section first.extents.items }
-    requires sized { D.page_count disk.old ≡ 1 + first.extent_count * first.pages + first.sections }
-    requires read { D.honest disk.old → SpellsPageZero (page (seen (D.state disk.old)) 0) first.version first.extent_count first.pages first.sections first.section first.extents.items }
+    requires some { (bytes : List ℕ) × SpellsPageZero bytes first.format first.version first.extent_count first.pages first.sections first.section first.extents.items }
+    requires sized { D.page_count disk.old ≡ device_pages first.format first.extent_count first.pages first.sections }
+    requires read { D.honest disk.old → SpellsPageZero (page (seen (D.state disk.old)) 0) first.format first.version first.extent_count first.pages first.sections first.section first.extents.items }
     ensures are { IfOk result (λ sections. AreSections sections.items) }
-    ensures sized { IfOk result (λ sections. D.page_count disk.old ≡ 1 + length (rows_of sections.items) * pages_of sections.items + length sections.items) }
-    ensures read { D.honest disk.old → IfOk result (λ sections. AreSectionsRead (page (seen (D.state disk.old))) (map (λ it. it.version) sections.items) (pages_of sections.items) (rows_of sections.items)) }
-    ensures why { D.honest disk.old → IfErr result (λ r. IsNoAnswer r ⊎ IsWhyNoSections (page (seen (D.state disk.old))) first.extent_count first.pages first.sections r) }
+    ensures sized { IfOk result (λ sections. D.page_count disk.old ≡ device_pages (format_of sections.items) (length (rows_of sections.items)) (pages_of sections.items) (length sections.items)) }
+    ensures read { D.honest disk.old → IfOk result (λ sections. AreSectionsRead (page (seen (D.state disk.old))) (format_of sections.items) (map (λ it. it.version) sections.items) (pages_of sections.items) (rows_of sections.items)) }
+    ensures why { D.honest disk.old → IfErr result (λ r. IsNoAnswer r ⊎ IsWhyNoSections (page (seen (D.state disk.old))) first.format first.extent_count first.pages first.sections r) }
     ensures number { IfErr result IsOpeningRefusal }
     ensures disk { OnlyReads D.PageDisk disk.old disk.new }
     ensures cause { IsCaused (D.failure_count disk.old) (D.failure_count disk.new) result }
 {
+    let format = first.format;
     let extents = first.extent_count;
     let pages = first.pages;
     let count = first.sections;
     let mut sections = alone(alloc, first, count)?;
     for k in 1..count {
-        match read_section(alloc, disk, extents, pages, count, k) {
+        match read_section(alloc, disk, format, extents, pages, count, k) {
             Ok(superblock) => sections.push_reserved(superblock),
             Err(refusal) => return Err(refusal),
         }

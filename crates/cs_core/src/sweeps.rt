@@ -6,8 +6,9 @@ ghost use Rattle.cs_model.specs.State.{Abandon, Abandoned, BeginSweep, Retire, R
 ghost use Rattle.cs_core.specs.Reads.{MoveAnswers};
 ghost use Rattle.cs_core.specs.Replies.{MayRefuse};
 ghost use Rattle.cs_core.specs.Steps.{Answers};
-ghost use Rattle.cs_core.specs.Stored.{page_total, but_for_room};
+ghost use Rattle.cs_core.specs.Stored.{but_for_room};
 ghost use Rattle.cs_core.specs.Writebacks.{KeepsRound, KeepsStaging, Stages};
+ghost use Rattle.cs_image.specs.Reads.{page_total};
 
 use crate::events::Event;
 use crate::roots::Root;

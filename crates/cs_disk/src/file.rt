@@ -60,7 +60,7 @@ impl FileDisk {
     }
 
     // As at `open`, a test shows that it makes the file that is named.
-    /// Makes a file of so many pages of zeros, writes all of it, and syncs it and its folder. One that is there is emptied, but
+    /// Makes a file of so many pages of zeros, writes all of it where that is a gibibyte or less, and syncs it and its folder. One that is there is emptied, but
     /// not while another process has it open as a disk. Refused 1 DeviceFault alone, also where so many pages are more than a
     /// file can have, and where the device hasn't room for them; a file may be there then, of any length.
     pub fn create<R: Files<File = File>>(
@@ -113,15 +113,23 @@ fn existing<R: Files<File = File>>(rt: &R, path: &str) -> io::Result<(File, u64)
     Ok((file, length))
 }
 
-/// A new or emptied file of so many pages of zeros, locked. It is written full, so that no later flush has to find room for it, and
-/// its folder is synced too, so that a crash leaves its name there.
+/// Up to how many pages a new file is written full: a gibibyte.
+const MOST_FILLED: u64 = 262_144;
+
+/// A new or emptied file of so many pages of zeros, locked. Up to a gibibyte it is written full, so that no later flush has to find room for
+/// it; a larger one gets its length alone, and takes room on the device as its pages are written. Its folder is synced too, so that a crash
+/// leaves its name there.
 fn file_of_zeros<R: Files<File = File>>(rt: &R, path: &str, pages: u64) -> io::Result<File> {
     let mut options = File::options();
     options.read(true).write(true).create(true);
     let file = options.open(rt, path)?;
     file.try_lock()?;
     file.set_len(0)?;
-    fill(&file, pages)?;
+    if pages <= MOST_FILLED {
+        fill(&file, pages)?;
+    } else {
+        file.set_len(pages.saturating_mul(4096))?;
+    }
     file.sync_all()?;
     folder_of(rt, path)?.sync_all()?;
     Ok(file)

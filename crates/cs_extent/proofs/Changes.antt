@@ -1,15 +1,15 @@
 -- What changes of lists do to extents as functions.
-use Rattle.std.proofs.Common.{◌≡◌, ◌≢◌, ◌∙◌, ℕ, zero, suc, ◌*◌, ◌<◌, ◌≤◌, Bool, true, false, List, [], ◌∷◌, length, set, get_or, replicate, None, Option, ◌+◌, refl, ap, ⊎_elim, arith, mul-le-mul_left, mul-le-mul_right}
+use Rattle.std.proofs.Common.{◌≡◌, ◌≢◌, ◌∙◌, ℕ, zero, suc, ◌*◌, ◌<◌, ◌≤◌, Bool, true, false, List, [], ◌∷◌, length, set, get_or, replicate, None, Option, ◌+◌, refl, ap, ⊎_elim, arith}
 use Rattle.std.specs.Prelude.{◌==◌, if◌then◌else◌}
 use Rattle.std.specs.List.{AllByRecursion}
 use Rattle.std.proofs.lemmas.Bool.Decides.{nat_tests}
 use Rattle.std.proofs.lemmas.Bool.{cases_lt}
-use Rattle.std.proofs.lemmas.List.{length-replicate, get_or-set_same, get_or-set_other}
+use Rattle.std.proofs.lemmas.List.{length-map, length-replicate, get_or-set_same, get_or-set_other}
 use Rattle.cs_model.specs.Extents.{emptied, open_after, taken}
 use Rattle.cs_model.specs.Lists.{with}
 use Rattle.cs_frame.specs.Geometries.{IsGeometry}
 use Rattle.cs_extent.specs.Frames.{greatest}
-use Rattle.cs_extent.specs.State.{State, IsWhole, extents_of, shape}
+use Rattle.cs_extent.specs.State.{State, IsWhole, extents_of, found_at, shape}
 
 pub pointers_at : (pages : ℕ) (xs : List (ℕ × ℕ)) → AllByRecursion (λ x. x.0 ≤ pages) xs → (e : ℕ) → (get_or xs e (0, 0)).0 ≤ pages
 pointers_at pages [] all e = omega arith
@@ -41,6 +41,10 @@ reset_extents s e root g lt lr is = λ i. record {
   reset = λ d. written_at s.resets e root 0 lr d i;
   open_extent = s.open_extent;
   swept = λ d. get_or s.swept d false;
+  of_runs = λ d. get_or s.of_runs d false;
+  found = λ d. get_or s.found d 0;
+  fresh = s.fresh;
+  last = s.last;
 }
   where
     pointers : (d : ℕ) → (get_or (set s.written e (0, g)) d (0, 0)).0 ≡ with (λ k. (get_or s.written k (0, 0)).0) e 0 d
@@ -58,6 +62,10 @@ taken_extents s e k x o lt p g is = λ i. record {
   reset = λ d. get_or s.resets d 0;
   open_extent = is i;
   swept = λ d. get_or s.swept d false;
+  of_runs = λ d. get_or s.of_runs d false;
+  found = λ d. get_or s.found d 0;
+  fresh = s.fresh;
+  last = s.last;
 }
   where
     pointers : (d : ℕ) → (get_or (set s.written e x) d (0, 0)).0 ≡ with (λ k. (get_or s.written k (0, 0)).0) e ((get_or s.written e (0, 0)).0 + k) d
@@ -71,19 +79,26 @@ taken_extents s e k x o lt p g is = λ i. record {
     generations d = ap (λ (y : ℕ × ℕ). y.1) (written_at s.written e x (0, 0) lt d) ∙ chosen (λ (y : ℕ × ℕ). y.1) (d == e) x (get_or s.written d (0, 0)) ∙ kept d (d == e) refl
 
 -- the extents that a superblock's sections record
-pub whole_new : (pages sections : ℕ) (written : List (ℕ × ℕ)) → IsGeometry (length written) pages sections → AllByRecursion (λ x. x.0 ≤ pages) written
-    → (resets : List ℕ) (swept : List Bool) → resets ≡ replicate (length written) 0 → swept ≡ replicate (length written) false
-    → IsWhole (record { pages = pages; sections = sections; written = written; resets = resets; swept = swept; open_extent = None })
-whole_new pages sections written is all resets swept zeros falses = record {
+pub whole_new : (format pages sections : ℕ) (written : List (ℕ × ℕ)) → IsGeometry format (length written) pages sections → AllByRecursion (λ x. x.0 ≤ pages) written
+    → (resets : List ℕ) (swept of_runs : List Bool) (found : List ℕ) → resets ≡ replicate (length written) 0
+    → swept ≡ replicate (length written) false → of_runs ≡ replicate (length written) false → length found ≡ length written
+    → IsWhole (record { format = format; pages = pages; sections = sections; written = written; resets = resets; swept = swept; open_extent = None; of_runs = of_runs; found = found; fresh = None; last = None })
+whole_new format pages sections written is all resets swept of_runs found zeros falses kinds founds = record {
   geometry = is;
   all_resets = ap length zeros ∙ length-replicate (length written) 0;
   all_swept = ap length falses ∙ length-replicate (length written) false;
+  all_kinds = ap length kinds ∙ length-replicate (length written) false;
+  all_found = founds;
   pointers = pointers_at pages written all;
   roots = λ e. let zero_at : get_or resets e 0 ≡ 0 = ap (λ xs. get_or xs e 0) zeros ∙ zeros_at (length written) e in omega (arith, zero_at);
   open_inside = λ e is. absurd (cc is);
   open_begun = λ e is. absurd (cc is);
-  open_unfilled = λ e is. absurd (cc is);
 }
+
+-- as many are found as there are extents
+pub found_length : (apart : Bool) (written : List (ℕ × ℕ)) → length (found_at apart written) ≡ length written
+found_length false written = length-replicate (length written) 0
+found_length true written = length-map written (λ (row : ℕ × ℕ). row.0)
 
 pub all_pointers : (pages : ℕ) (xs : List (ℕ × ℕ)) → ((e : ℕ) → (get_or xs e (0, 0)).0 ≤ pages) → AllByRecursion (λ x. x.0 ≤ pages) xs
 all_pointers pages [] each = tt
@@ -104,10 +119,3 @@ greatest_is f (suc n) e lt = ⊎_elim
     (λ (l : e < n). omega (arith, greatest_is f n e l))
     (λ (l : n ≤ e). let same : e ≡ n = omega (arith, l, lt) in let here : f e ≡ f n = ap f same in omega (arith, here))
     (cases_lt e n)
-
--- a page of the device has a small number
-pub small_product : (e pages : ℕ) → e < 2048 → pages ≤ 256 → e * pages ≤ 524288
-small_product e pages lt le =
-    let first : e * pages ≤ 2048 * pages = mul-le-mul_right pages (omega (arith, lt)) in
-    let second : 2048 * pages ≤ 2048 * 256 = mul-le-mul_left 2048 le in
-    omega (arith, first, second)

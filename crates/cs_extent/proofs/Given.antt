@@ -4,9 +4,9 @@ use Rattle.std.specs.Prelude.{◌==◌, if◌then◌else◌}
 use Rattle.std.proofs.lemmas.Bool.Decides.{nat_tests}
 use Rattle.std.proofs.lemmas.Option.{same_Some}
 use Rattle.cs_model.specs.Device.{Shape}
-use Rattle.cs_model.specs.Extents.{Extents, emptied, marked, taken}
+use Rattle.cs_model.specs.Extents.{Extents, emptied, forgotten, marked, taken, taken_by}
 use Rattle.cs_model.specs.Lists.{with}
-use Rattle.cs_extent.specs.Changes.{Append, Change, Given, LeadsTo, Mark, Reset, given_from}
+use Rattle.cs_extent.specs.Changes.{Append, AppendApart, Change, Given, LeadsTo, Mark, Note, Reset, ResetApart, given_from}
 use Rattle.cs_extent.specs.Frames.{greatest}
 use Rattle.cs_extent.proofs.Changes.{greatest_is}
 use Rattle.cs_extent.proofs.Fitting.{with_same}
@@ -78,6 +78,17 @@ all_later S x y (Append reason k e ∷ changes) given leads i page at = ⊎_elim
     (in_either (given_from e (x.pointer e) (x.generation e) k) leads.0 i page (subst (λ (l : List Given). slice_get l i ≡ Some page) leads.2 at))
 all_later S x y (Reset e root ∷ changes) given leads i page at = later_emptied x e root page (all_later S (emptied x e root) y changes given leads i page at)
 all_later S x y (Mark e b ∷ changes) given leads i page at = all_later S (marked x e b) y changes given leads i page at
+all_later S x y (AppendApart reason k e ∷ changes) given leads i page at = ⊎_elim
+    (λ (l : (i < length (given_from e (x.pointer e) (x.generation e) k)) × (slice_get (given_from e (x.pointer e) (x.generation e) k) i ≡ Some page)).
+    let is = given_at e (x.pointer e) (x.generation e) k i page l.1 in
+    subst (IsLater x) (sym is) (inr (refl, omega arith)))
+    (λ (r : (j : ℕ) × (i ≡ length (given_from e (x.pointer e) (x.generation e) k) + j) × (slice_get leads.0 j ≡ Some page)).
+    later_taken S x e k page (all_later S (taken_by S true reason x e k) y changes leads.0 leads.3 r.0 page r.2))
+    (in_either (given_from e (x.pointer e) (x.generation e) k) leads.0 i page (subst (λ (l : List Given). slice_get l i ≡ Some page) leads.2 at))
+all_later S x y (ResetApart e root ∷ changes) given leads i page at =
+    later_emptied x e root page (all_later S (forgotten true (emptied x e root) e) y changes given leads i page at)
+all_later S x y (Note o fresh last of_runs ∷ changes) given leads i page at =
+    all_later S (record x { open_extent = o; fresh = fresh; last = last; of_runs = of_runs }) y changes given leads i page at
 
 -- a page of a frame comes before all that is given after it
 not_again : (S : Shape) (x : Extents) (e k i : ℕ) (page : Given) → i < k → page ≡ record { extent = e; page = x.pointer e + i; generation = x.generation e } → IsLater (taken S x e k) page → ⊥
@@ -124,6 +135,18 @@ given_once S x y (Append reason k e ∷ changes) given i j page leads a b =
     (in_either front leads.0 j page (subst (λ (l : List Given). slice_get l j ≡ Some page) leads.2 b))
 given_once S x y (Reset e root ∷ changes) given i j page leads a b = given_once S (emptied x e root) y changes given i j page leads a b
 given_once S x y (Mark e m ∷ changes) given i j page leads a b = given_once S (marked x e m) y changes given i j page leads a b
+given_once S x y (AppendApart reason k e ∷ changes) given i j page leads a b =
+    let front : List Given = given_from e (x.pointer e) (x.generation e) k in
+    stands_once S x e k leads.0 page
+    (λ n at. all_later S (taken_by S true reason x e k) y changes leads.0 leads.3 n page at)
+    (λ u v. given_once S (taken_by S true reason x e k) y changes leads.0 u v page leads.3)
+    i j
+    (in_either front leads.0 i page (subst (λ (l : List Given). slice_get l i ≡ Some page) leads.2 a))
+    (in_either front leads.0 j page (subst (λ (l : List Given). slice_get l j ≡ Some page) leads.2 b))
+given_once S x y (ResetApart e root ∷ changes) given i j page leads a b =
+    given_once S (forgotten true (emptied x e root) e) y changes given i j page leads a b
+given_once S x y (Note o fresh last of_runs ∷ changes) given i j page leads a b =
+    given_once S (record x { open_extent = o; fresh = fresh; last = last; of_runs = of_runs }) y changes given i j page leads a b
 
 -- what is needed rises
 

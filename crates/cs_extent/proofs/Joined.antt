@@ -58,10 +58,10 @@ module _ (old new : Staging) (need : ℕ) (staged : IsSectionStaged old new 0 1 
       more_needs old.staged new.staged need need (omega (arith, staged_is)) (omega arith) x ((exact x).0 (subst (λ (f : Named). Names f x) (sym same) names)))
       (in_push old.pending.waiting (next_section old 0, staged.version.1) k (Version (family_of 0) v, d) (subst (λ (l : List (Element × Named)). slice_get l k ≡ Some (Version (family_of 0) v, d)) waiting_is at))
 
-pub frame_within : (old new : Staging) (count root need : ℕ) → IsFrameStaged old new 1 0 count root need → AreOneSectionsNeedsWithin old need → AreOneSectionsNeedsWithin new need
+pub frame_within : (old new : Staging) (count root need : ℕ) → IsFrameStaged old new true 1 0 count root need → AreOneSectionsNeedsWithin old need → AreOneSectionsNeedsWithin new need
 frame_within old new count root need staged within = version_within staged.between new need staged.section (pages_within old staged.between count root need staged.pages within)
 
-pub frame_exact : (old new : Staging) (count root need : ℕ) → IsFrameStaged old new 1 0 count root need → AreOneSectionsNeedsWithin old need → IsFrameBehind old new count root need
+pub frame_exact : (old new : Staging) (count root need : ℕ) → IsFrameStaged old new true 1 0 count root need → AreOneSectionsNeedsWithin old need → IsFrameBehind old new count root need
 frame_exact old new count root need staged within =
     let middle : Staging = staged.between in
     let last : Element × Named = (next_section middle 0, staged.section.version.1) in
@@ -81,7 +81,7 @@ frame_exact old new count root need staged within =
       );
       persistent = ap (λ (s : Staging). s.pending.persistent) staged.section.version.5 ∙ staged.pages.persistent;
       staged = staged_is middle new need staged.section so_far ∙ number;
-      latest = frame_latest old new 1 0 count root need staged;
+      latest = frame_latest old new true 1 0 count root need staged;
     }
 
 -- other changes

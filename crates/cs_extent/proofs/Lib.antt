@@ -2,8 +2,11 @@ pub mod Appending
 pub mod Changes
 pub mod Empties
 pub mod Fitting
-pub mod Staged
 pub mod Given
 pub mod Joined
+pub mod Noting
+pub mod Placing
 pub mod Sections
+pub mod Staged
+pub mod Thought
 pub mod Worn

@@ -7,48 +7,48 @@ use Rattle.cs_frame.specs.declared.superblocks.Superblock.{Superblock}
 use Rattle.cs_frame.specs.Geometries.{IsGeometry, lengths_below, section_length, section_size, section_start}
 use Rattle.cs_frame.proofs.GeometryLaws.{lengths_sum, section_inside}
 use Rattle.cs_extent.specs.Frames.{greatest}
-use Rattle.cs_extent.specs.Sections.{AreSections, IsSectionAt, count_of, pages_of, rows_of}
+use Rattle.cs_extent.specs.Sections.{AreSections, IsSectionAt, count_of, format_of, pages_of, rows_of}
 use Rattle.cs_extent.specs.State.{IsWhole, State, section_rows, shape}
 
 -- ---- what is read
 
-pub geometry_is : (sections : List Superblock) → AreSections sections → IsGeometry (count_of sections) (pages_of sections) (length sections)
+pub geometry_is : (sections : List Superblock) → AreSections sections → IsGeometry (format_of sections) (count_of sections) (pages_of sections) (length sections)
 geometry_is [] are = absurd (omega (arith, are.some))
 geometry_is (it ∷ sections) are =
     let first = are.each 0 it refl in
-    subst (λ (n : ℕ). IsGeometry it.extent_count it.pages n) first.of_sections first.is.geometry
+    subst (λ (n : ℕ). IsGeometry it.format it.extent_count it.pages n) first.of_sections first.is.geometry
 
 -- sections from section k on record as many extents as they have
-rows_from : (extents pages count k : ℕ) (sections : List Superblock)
-    → ((i : ℕ) (it : Superblock) → slice_get sections i ≡ Some it → IsSectionAt extents pages count (k + i) it)
+rows_from : (format extents pages count k : ℕ) (sections : List Superblock)
+    → ((i : ℕ) (it : Superblock) → slice_get sections i ≡ Some it → IsSectionAt format extents pages count (k + i) it)
     → lengths_below extents count k + length (rows_of sections) ≡ lengths_below extents count (k + length sections)
-rows_from extents pages count k [] each =
+rows_from format extents pages count k [] each =
     let same : k ≡ k + 0 = omega arith in
     let none : lengths_below extents count k + 0 ≡ lengths_below extents count k = omega arith in
     none ∙ ap (lengths_below extents count) same
-rows_from extents pages count k (it ∷ sections) each =
-    let here : IsSectionAt extents pages count (k + 0) it = each 0 it refl in
+rows_from format extents pages count k (it ∷ sections) each =
+    let here : IsSectionAt format extents pages count (k + 0) it = each 0 it refl in
     let place : it.section ≡ k = omega (arith, here.place) in
     let long : length it.extents.items ≡ section_length extents count k =
     here.is.count ∙ ap (λ (n : ℕ). section_length n it.sections it.section) here.of_extents ∙ ap (λ (n : ℕ). section_length extents n it.section) here.of_sections ∙ ap (section_length extents count) place in
-    let next = rows_from extents pages count (suc k) sections (λ i at is.
-    let same : k + suc i ≡ suc k + i = omega arith in subst (λ (n : ℕ). IsSectionAt extents pages count n at) same (each (suc i) at is)) in
+    let next = rows_from format extents pages count (suc k) sections (λ i at is.
+    let same : k + suc i ≡ suc k + i = omega arith in subst (λ (n : ℕ). IsSectionAt format extents pages count n at) same (each (suc i) at is)) in
     let end : suc k + length sections ≡ k + suc (length sections) = omega arith in
     omega (arith, length-append it.extents.items (rows_of sections), long, next, ap (lengths_below extents count) end)
 
 -- counted from the first on
 at_zero : (sections : List Superblock) → AreSections sections → (i : ℕ) (it : Superblock) → slice_get sections i ≡ Some it
-    → IsSectionAt (count_of sections) (pages_of sections) (length sections) (0 + i) it
+    → IsSectionAt (format_of sections) (count_of sections) (pages_of sections) (length sections) (0 + i) it
 at_zero sections are i it is =
     let same : i ≡ 0 + i = omega arith in
-    subst (λ (n : ℕ). IsSectionAt (count_of sections) (pages_of sections) (length sections) n it) same (are.each i it is)
+    subst (λ (n : ℕ). IsSectionAt (format_of sections) (count_of sections) (pages_of sections) (length sections) n it) same (are.each i it is)
 
 pub rows_are_all : (sections : List Superblock) → AreSections sections → length (rows_of sections) ≡ count_of sections
 rows_are_all sections are =
     let extents : ℕ = count_of sections in
-    let all : lengths_below extents (length sections) 0 + length (rows_of sections) ≡ lengths_below extents (length sections) (0 + length sections) = rows_from extents (pages_of sections) (length sections) 0 sections (at_zero sections are) in
+    let all : lengths_below extents (length sections) 0 + length (rows_of sections) ≡ lengths_below extents (length sections) (0 + length sections) = rows_from (format_of sections) extents (pages_of sections) (length sections) 0 sections (at_zero sections are) in
     let end : 0 + length sections ≡ length sections = omega arith in
-    let sum : lengths_below extents (length sections) (length sections) ≡ extents = lengths_sum extents (pages_of sections) (length sections) (geometry_is sections are) in
+    let sum : lengths_below extents (length sections) (length sections) ≡ extents = lengths_sum (format_of sections) extents (pages_of sections) (length sections) (geometry_is sections are) in
     let whole : 0 + length (rows_of sections) ≡ extents = all ∙ ap (lengths_below extents (length sections)) end ∙ sum in
     omega (arith, whole)
 
@@ -56,22 +56,22 @@ all_append : (P : ℕ × ℕ → Type 0) (xs ys : List (ℕ × ℕ)) → AllByRe
 all_append P [] ys a b = b
 all_append P (x ∷ xs) ys a b = (a.0, all_append P xs ys a.1 b)
 
-rows_point : (extents pages count k : ℕ) (sections : List Superblock)
-    → ((i : ℕ) (it : Superblock) → slice_get sections i ≡ Some it → IsSectionAt extents pages count (k + i) it)
+rows_point : (format extents pages count k : ℕ) (sections : List Superblock)
+    → ((i : ℕ) (it : Superblock) → slice_get sections i ≡ Some it → IsSectionAt format extents pages count (k + i) it)
     → AllByRecursion (λ (x : ℕ × ℕ). x.0 ≤ pages) (rows_of sections)
-rows_point extents pages count k [] each = tt
-rows_point extents pages count k (it ∷ sections) each =
+rows_point format extents pages count k [] each = tt
+rows_point format extents pages count k (it ∷ sections) each =
     let here = each 0 it refl in
     all_append (λ (x : ℕ × ℕ). x.0 ≤ pages) it.extents.items (rows_of sections)
     (subst (λ (n : ℕ). AllByRecursion (λ (x : ℕ × ℕ). x.0 ≤ n) it.extents.items) here.of_pages here.is.pointers)
-    (rows_point extents pages count (suc k) sections (λ i at is.
-    let same : k + suc i ≡ suc k + i = omega arith in subst (λ (n : ℕ). IsSectionAt extents pages count n at) same (each (suc i) at is)))
+    (rows_point format extents pages count (suc k) sections (λ i at is.
+    let same : k + suc i ≡ suc k + i = omega arith in subst (λ (n : ℕ). IsSectionAt format extents pages count n at) same (each (suc i) at is)))
 
 pub rows_are_within : (sections : List Superblock) → AreSections sections → AllByRecursion (λ (x : ℕ × ℕ). x.0 ≤ pages_of sections) (rows_of sections)
-rows_are_within sections are = rows_point (count_of sections) (pages_of sections) (length sections) 0 sections (at_zero sections are)
+rows_are_within sections are = rows_point (format_of sections) (count_of sections) (pages_of sections) (length sections) 0 sections (at_zero sections are)
 
-pub rows_geometry : (sections : List Superblock) → AreSections sections → IsGeometry (length (rows_of sections)) (pages_of sections) (length sections)
-rows_geometry sections are = subst (λ (n : ℕ). IsGeometry n (pages_of sections) (length sections)) (sym (rows_are_all sections are)) (geometry_is sections are)
+pub rows_geometry : (sections : List Superblock) → AreSections sections → IsGeometry (format_of sections) (length (rows_of sections)) (pages_of sections) (length sections)
+rows_geometry sections are = subst (λ (n : ℕ). IsGeometry (format_of sections) n (pages_of sections) (length sections)) (sym (rows_are_all sections are)) (geometry_is sections are)
 
 -- ---- a section's part
 
@@ -82,7 +82,7 @@ section_is s e lt =
     ap (λ b. if b then e / section_size (length s.written) s.sections else 0) (sym test)
 
 pub section_there : (s : State) → IsWhole s → (e : ℕ) → e < length s.written → (shape s).section e < s.sections
-section_there s whole e lt = subst (λ (n : ℕ). n < s.sections) (section_is s e lt) (section_inside (length s.written) s.pages s.sections whole.geometry e lt)
+section_there s whole e lt = subst (λ (n : ℕ). n < s.sections) (section_is s e lt) (section_inside s.format (length s.written) s.pages s.sections whole.geometry e lt)
 
 -- it lies among them
 pub part_inside : (extents sections j : ℕ) → section_length extents sections j ≤ extents - section_start extents sections j
@@ -91,9 +91,9 @@ part_inside extents sections j = below (section_size extents sections) (extents 
     below : (a b : ℕ) → min a b ≤ b
     below a b = omega arith
 
-pub end_inside : (extents pages sections j : ℕ) → IsGeometry extents pages sections → j < sections
+pub end_inside : (format extents pages sections j : ℕ) → IsGeometry format extents pages sections → j < sections
     → section_start extents sections j + section_length extents sections j ≤ extents
-end_inside extents pages sections j g lt =
+end_inside format extents pages sections j g lt =
     let low : j * section_size extents sections ≤ (sections - 1) * section_size extents sections = mul-le-mul_right (section_size extents sections) (omega (arith, lt)) in
     omega (arith, low, g.none_empty, part_inside extents sections j)
 

@@ -1,5 +1,5 @@
 -- What is staged with a frame, one element after another.
-use Rattle.std.proofs.Common.{◌≡◌, ◌≢◌, ◌∙◌, ℕ, zero, suc, ◌+◌, ◌^◌, ◌<◌, ◌≤◌, ◌⊎◌, List, [], ◌∷◌, ◌++◌, length, get_or, Some, slice_get, refl, sym, ap, subst, inl, inr, ⊎_elim, arith, append_assoc, length-append, length-set, set}
+use Rattle.std.proofs.Common.{◌≡◌, ◌≢◌, ◌∙◌, ℕ, zero, suc, ◌+◌, ◌^◌, ◌<◌, ◌≤◌, ◌⊎◌, Bool, List, [], ◌∷◌, ◌++◌, length, get_or, Some, slice_get, refl, sym, ap, subst, inl, inr, ⊎_elim, arith, append_assoc, length-append, length-set, set}
 use Rattle.std.specs.Prelude.{◌↔◌, slice_index_or}
 use Rattle.std.proofs.lemmas.List.{get_or-set_other}
 use Rattle.cs_model.specs.Extents.{Extents}
@@ -10,8 +10,8 @@ use Rattle.cs_deps.specs.declared.elements.Element.TheVariants.{Plain, Version}
 use Rattle.cs_deps.specs.Named.{Named, Names, NamesFamily, IsWithin}
 use Rattle.cs_deps.specs.Staging.{Staging, IsVersionStaged, staged_after}
 use Rattle.cs_deps.specs.State.{State, Write, write_of, AddsOnly}
-use Rattle.cs_extent.specs.Frames.{AreResetsStaged, ArePagesStaged, AreWritten, IsFrameStaged, IsNextPlain, IsSectionNeed, IsSectionStaged, IsSectionVersionUpTo, IsVersionUpTo, IsWorn, AddsOnlyOf, family_of, root_family}
-use Rattle.cs_extent.specs.State.{State as Store, need_of}
+use Rattle.cs_extent.specs.Frames.{AreResetsStaged, ArePagesStaged, AreWritten, IsFrameStaged, IsNextPlain, IsRootNeed, IsSectionNeed, IsSectionStaged, IsSectionVersionUpTo, IsVersionUpTo, IsWorn, AddsOnlyOf, family_of, root_family}
+use Rattle.cs_extent.specs.State.{State as Store, need_of, shape}
 
 -- what dependencies name
 
@@ -36,6 +36,18 @@ section_within d first last version latest some names le (Plain n) h = let r = (
 section_within d first last version latest some names le (Version f v) h =
     let r = (names (Version f v)).0 h in
     subst (λ g. v ≤ get_or latest g 0) (sym r.0) (omega (arith, r.2, le))
+
+pub names_root : (a b d : Named) (pages : ℕ) (latest : List ℕ) → ((n : ℕ) → Names a (Plain n) ↔ ((1 ≤ n) × (n ≤ pages))) → ((f v : ℕ) → Names a (Version f v) → ⊥)
+    → ((x : Element) → Names b x ↔ IsSectionVersionUpTo latest x) → ((x : Element) → Names d x ↔ (Names a x ⊎ Names b x))
+    → (x : Element) → Names d x ↔ IsRootNeed pages latest x
+names_root a b d pages latest plain none versions both (Plain n) = (
+  (λ h. ⊎_elim (λ (l : Names a (Plain n)). (plain n).0 l) (λ (r : Names b (Plain n)). absurd ((versions (Plain n)).0 r)) ((both (Plain n)).0 h)),
+  (λ h. (both (Plain n)).1 (inl ((plain n).1 h))),
+)
+names_root a b d pages latest plain none versions both (Version f v) = (
+  (λ h. ⊎_elim (λ (l : Names a (Version f v)). absurd (none f v l)) (λ (r : Names b (Version f v)). (versions (Version f v)).0 r) ((both (Version f v)).0 h)),
+  (λ h. (both (Version f v)).1 (inr ((versions (Version f v)).1 h))),
+)
 
 -- a section's family isn't the root's
 pub not_root : (j : ℕ) → family_of j ≢ root_family
@@ -202,17 +214,17 @@ written_pages s before count p q frame same was i w lt h = was i w lt h ∙ ap (
 
 -- the versions that are staged then
 
-pub frame_latest : (old new : Staging) (sections j count root need : ℕ) → IsFrameStaged old new sections j count root need → new.latest ≡ set old.latest (family_of j) (get_or old.latest (family_of j) 0 + 1)
-frame_latest old new sections j count root need staged =
+pub frame_latest : (old new : Staging) (first : Bool) (sections j count root need : ℕ) → IsFrameStaged old new first sections j count root need → new.latest ≡ set old.latest (family_of j) (get_or old.latest (family_of j) 0 + 1)
+frame_latest old new first sections j count root need staged =
     ap (λ (s : Staging). s.latest) staged.section.version.5 ∙ ap (λ l. set l (family_of j) (get_or l (family_of j) 0 + 1)) staged.pages.latest
 
-pub frame_families : (old new : Staging) (sections j count root need : ℕ) → IsFrameStaged old new sections j count root need → length new.latest ≡ length old.latest
-frame_families old new sections j count root need staged = ap length (frame_latest old new sections j count root need staged) ∙ length-set old.latest (family_of j) (get_or old.latest (family_of j) 0 + 1)
+pub frame_families : (old new : Staging) (first : Bool) (sections j count root need : ℕ) → IsFrameStaged old new first sections j count root need → length new.latest ≡ length old.latest
+frame_families old new first sections j count root need staged = ap length (frame_latest old new first sections j count root need staged) ∙ length-set old.latest (family_of j) (get_or old.latest (family_of j) 0 + 1)
 
-pub frame_root : (old new : Staging) (sections j count root need : ℕ) → IsFrameStaged old new sections j count root need → get_or new.latest root_family 0 ≡ get_or old.latest root_family 0
-frame_root old new sections j count root need staged =
+pub frame_root : (old new : Staging) (first : Bool) (sections j count root need : ℕ) → IsFrameStaged old new first sections j count root need → get_or new.latest root_family 0 ≡ get_or old.latest root_family 0
+frame_root old new first sections j count root need staged =
     let other : root_family ≢ family_of j = λ is. not_root j (sym is) in
-    ap (λ l. get_or l root_family 0) (frame_latest old new sections j count root need staged) ∙ get_or-set_other old.latest (family_of j) root_family (get_or old.latest (family_of j) 0 + 1) 0 other
+    ap (λ l. get_or l root_family 0) (frame_latest old new first sections j count root need staged) ∙ get_or-set_other old.latest (family_of j) root_family (get_or old.latest (family_of j) 0 + 1) 0 other
 
 pub resets_still : (x y : Extents) (old new : Staging) → ((e : ℕ) → y.reset e ≡ x.reset e) → get_or new.latest root_family 0 ≡ get_or old.latest root_family 0 → AreResetsStaged x old → AreResetsStaged y new
 resets_still x y old new same root was e = omega (arith, same e, root, was e)
@@ -227,10 +239,12 @@ fresh s j count not = (below (s.staged + count) (λ h. not (inl h)), below (get_
 
 -- a frame that was staged, in the extents' words
 
-pub framed : (old new : Staging) (s : Store) (sections j k count root reset need : ℕ) → IsFrameStaged old new sections j count root need
-    → sections ≡ s.sections → j ≡ k → root ≡ reset → need ≡ need_of s j → IsFrameStaged old new s.sections k count reset (need_of s k)
-framed old new s sections j k count root reset need staged a b c d =
-    subst (λ (i : ℕ). IsFrameStaged old new s.sections i count reset (need_of s i)) b
-    (subst (λ (n : ℕ). IsFrameStaged old new s.sections j count n (need_of s j)) c
-    (subst (λ (n : ℕ). IsFrameStaged old new n j count root (need_of s j)) a
-    (subst (λ (n : ℕ). IsFrameStaged old new sections j count root n) d staged)))
+pub framed : (old new : Staging) (s : Store) (first : Bool) (sections j k count root reset need : ℕ) → IsFrameStaged old new first sections j count root need
+    → first ≡ (shape s).pages_first → sections ≡ s.sections → j ≡ k → root ≡ reset → need ≡ need_of s j
+    → IsFrameStaged old new (shape s).pages_first s.sections k count reset (need_of s k)
+framed old new s first sections j k count root reset need staged rule a b c d =
+    subst (λ (i : ℕ). IsFrameStaged old new (shape s).pages_first s.sections i count reset (need_of s i)) b
+    (subst (λ (n : ℕ). IsFrameStaged old new (shape s).pages_first s.sections j count n (need_of s j)) c
+    (subst (λ (n : ℕ). IsFrameStaged old new (shape s).pages_first n j count root (need_of s j)) a
+    (subst (λ (f : Bool). IsFrameStaged old new f sections j count root (need_of s j)) rule
+    (subst (λ (n : ℕ). IsFrameStaged old new first sections j count root n) d staged))))

@@ -8,16 +8,18 @@ use Rattle.std.proofs.lemmas.Option.{same_Some}
 use Rattle.std.proofs.Math.Seq.{drop-cons}
 use Rattle.cs_deps.specs.Staging.{Staging}
 use Rattle.cs_model.specs.Device.{Shape}
-use Rattle.cs_model.specs.Extents.{Extents, Fits, HasRoom, IsFirstEmpty, Placed, Purpose as Reason, empties, open_after, spare, taken}
+use Rattle.cs_model.specs.Extents.{Extents, Fits, FitsBy, HasRoom, IsFirstEmpty, Placed, Purpose as Reason, empties, open_after, spare, taken, taken_by}
 use Rattle.cs_model.specs.Lists.{with}
+use Rattle.cs_model.proofs.Places.{goes_one}
+use Rattle.cs_frame.proofs.GeometryLaws.{bounds}
 use Rattle.cs_extent.specs.declared.ways.Way.{Way}
 use Rattle.cs_extent.specs.Frames.{family_of}
 use Rattle.cs_extent.specs.Places.{room_at}
 use Rattle.cs_extent.specs.State.{IsWhole, State, extents_of, shape}
-use Rattle.cs_extent.specs.Worn.{AreCounted, ArePlaced, AreWorn, IsEmptyFrom, in_section}
+use Rattle.cs_extent.specs.Worn.{AreCounted, AreCountedBy, ArePlaced, ArePlacedBy, AreWornBy, IsEmptyFrom, in_section}
 use Rattle.cs_extent.proofs.Changes.{zeros_at}
 use Rattle.cs_extent.proofs.Staged.{family_inside}
-use Rattle.cs_extent.proofs.Fitting.{IsBegun, begun_of, placed_inside, placed_once, pointer_grows, room_behind, room_is, taken_begun, with_other, with_same}
+use Rattle.cs_extent.proofs.Fitting.{IsBegun, begun_of, placed_inside, pointer_grows, room_behind, room_is, taken_begun, with_other, with_same}
 
 -- ---- lists of places
 
@@ -39,22 +41,25 @@ in_section_other S j e es other =
     count_cons S j e es ∙ ap (λ b. cond b 1 0 + in_section S j es) no ∙ omega arith
 
 -- frames go to one list of extents, if to any
-pub places_once : (S : Shape) (x : Extents) (r : Reason) (ks ds es : List ℕ) → ArePlaced S x r ks ds → ArePlaced S x r ks es → ds ≡ es
-places_once S x r [] [] [] a b = refl
-places_once S x r (k ∷ ks) (d ∷ ds) (e ∷ es) a b =
-    let same : d ≡ e = placed_once S x r k d e a.0 b.0 in
-    let rest : ds ≡ es = places_once S (taken S x d k) r ks ds es a.1 (subst (λ (n : ℕ). ArePlaced S (taken S x n k) r ks es) (sym same) b.1) in
+pub places_once_by : (S : Shape) (apart : Bool) (x : Extents) (r : Reason) (ks ds es : List ℕ) → ArePlacedBy S apart x r ks ds → ArePlacedBy S apart x r ks es → ds ≡ es
+places_once_by S apart x r [] [] [] a b = refl
+places_once_by S apart x r (k ∷ ks) (d ∷ ds) (e ∷ es) a b =
+    let same : d ≡ e = goes_one S apart x r k d e a.0 b.0 in
+    let rest : ds ≡ es = places_once_by S apart (taken_by S apart r x d k) r ks ds es a.1 (subst (λ (n : ℕ). ArePlacedBy S apart (taken_by S apart r x n k) r ks es) (sym same) b.1) in
     ap (λ (n : ℕ). n ∷ ds) same ∙ ap (λ (ns : List ℕ). e ∷ ns) rest
-places_once S x r [] (d ∷ ds) es a b = absurd a
-places_once S x r [] [] (e ∷ es) a b = absurd b
-places_once S x r (k ∷ ks) [] es a b = absurd a
-places_once S x r (k ∷ ks) (d ∷ ds) [] a b = absurd b
+places_once_by S apart x r [] (d ∷ ds) es a b = absurd a
+places_once_by S apart x r [] [] (e ∷ es) a b = absurd b
+places_once_by S apart x r (k ∷ ks) [] es a b = absurd a
+places_once_by S apart x r (k ∷ ks) (d ∷ ds) [] a b = absurd b
+
+pub places_once : (S : Shape) (x : Extents) (r : Reason) (ks ds es : List ℕ) → ArePlaced S x r ks ds → ArePlaced S x r ks es → ds ≡ es
+places_once S x r ks ds es a b = places_once_by S false x r ks ds es a b
 
 -- frames that fit have places
-pub places_there : (S : Shape) (x : Extents) (r : Reason) (ks : List ℕ) → Fits S x r ks → (places : List ℕ) × ArePlaced S x r ks places
-places_there S x r [] fits = ([], tt)
-places_there S x r (k ∷ ks) fits =
-    let rest = places_there S (taken S x fits.0 k) r ks fits.2 in
+pub places_there : (S : Shape) (apart : Bool) (x : Extents) (r : Reason) (ks : List ℕ) → FitsBy S apart x r ks → (places : List ℕ) × ArePlacedBy S apart x r ks places
+places_there S apart x r [] fits = ([], tt)
+places_there S apart x r (k ∷ ks) fits =
+    let rest = places_there S apart (taken_by S apart r x fits.0 k) r ks fits.2 in
     (fits.0 ∷ rest.0, (fits.1, rest.1))
 
 -- each section has a family of its own
@@ -220,21 +225,21 @@ pub record IsCounted (S : Shape) (x : Extents) (r : Reason) (frames : List ℕ) 
   pub begun : IsBegun S extents
   pub way : IsOnWay S x extents w
   pub left : Fits S extents r (drop n frames)
-  pub size : length counts ≡ 8
+  pub size : length counts ≡ 15
   pub all : (later : List ℕ) → ArePlaced S extents r (drop n frames) later
       → (places : List ℕ) × ArePlaced S x r frames places
-      × ((j a : ℕ) → j < 8 → (2 ^ 63 ≤ a + in_section S j places) ↔ (2 ^ 63 ≤ a + (get_or counts j 0 + in_section S j later)))
+      × ((j a : ℕ) → j < 15 → (2 ^ 63 ≤ a + in_section S j places) ↔ (2 ^ 63 ≤ a + (get_or counts j 0 + in_section S j later)))
 
 pub counted_none : (s : State) → IsWhole s → (r : Reason) (frames : List ℕ) → Fits (shape s) (extents_of s) r frames → (w : Way)
     → w.room ≡ room_at s.pages (extents_of s).pointer s.open_extent → ((d : ℕ) → s.open_extent ≡ Some d → w.extent ≡ d) → w.next ≡ 0
-    → IsCounted (shape s) (extents_of s) r frames 0 w (replicate 8 0)
+    → IsCounted (shape s) (extents_of s) r frames 0 w (replicate 15 0)
 counted_none s whole r frames fits w room last first = record {
   extents = extents_of s;
   begun = begun_of s whole;
   way = on_way (shape s) (extents_of s) w room last first;
   left = fits;
   size = refl;
-  all = λ later placed. (later, placed, (λ j a lt. let none : get_or {A = ℕ} (replicate 8 0) j 0 ≡ 0 = zeros_at 8 j in ((λ h. omega (arith, h, none)), (λ h. omega (arith, h, none)))));
+  all = λ later placed. (later, placed, (λ j a lt. let none : get_or {A = ℕ} (replicate 15 0) j 0 ≡ 0 = zeros_at 15 j in ((λ h. omega (arith, h, none)), (λ h. omega (arith, h, none)))));
 }
 
 -- a number that is raised, unless it is great already
@@ -263,7 +268,7 @@ module _ (S : Shape) (x : Extents) (r : Reason) (frames : List ℕ) (n : ℕ) (w
     way_inside = omega (arith, on_now.0, inside_now)
 
     -- one version more of the section that the frame's extent is of
-    module _ (section : ℕ) (is : section ≡ S.section v.extent) (small : section < 8) (more : List ℕ) (same : more ≡ set counts section (min (get_or counts section 0 + 1) (2 ^ 64 - 1))) where
+    module _ (section : ℕ) (is : section ≡ S.section v.extent) (small : section < 15) (more : List ℕ) (same : more ≡ set counts section (min (get_or counts section 0 + 1) (2 ^ 64 - 1))) where
       of_place : S.section next_fits.0 ≡ section
       of_place = ap S.section (sym on_now.0) ∙ sym is
 
@@ -309,17 +314,17 @@ counted_all S x r frames n w counts was le =
     )
 
 -- with the counts it is found out
-pub worn_by : (x : State) (s : Staging) (r : Reason) (pages counts : List ℕ) (sections : ℕ) (b : Bool) → IsWhole x → (2 ^ 63 ≤ s.staged + sum pages → ⊥) → AreCounted (shape x) (extents_of x) r pages counts
-    → sections ≡ x.sections → (b ≡ true) ↔ ((j : ℕ) × (j < sections) × (2 ^ 63 ≤ get_or s.latest (family_of j) 0 + get_or counts j 0)) → (b ≡ true) ↔ AreWorn x s r pages
-worn_by x s r pages counts sections b whole not counted all is = (
+pub worn_by : (apart : Bool) (x : State) (s : Staging) (r : Reason) (pages counts : List ℕ) (sections : ℕ) (b : Bool) → IsWhole x → (2 ^ 63 ≤ s.staged + sum pages → ⊥) → AreCountedBy (shape x) apart (extents_of x) r pages counts
+    → sections ≡ x.sections → (b ≡ true) ↔ ((j : ℕ) × (j < sections) × (2 ^ 63 ≤ get_or s.latest (family_of j) 0 + get_or counts j 0)) → (b ≡ true) ↔ AreWornBy apart x s r pages
+worn_by apart x s r pages counts sections b whole not counted all is = (
   (λ t.
       let w = is.0 t in
       let inside : w.0 < x.sections = omega (arith, w.1, all) in
       inr (counted.0, counted.1, w.0, inside, (counted.2 w.0 (get_or s.latest (family_of w.0) 0) (few w.0 inside)).1 w.2)),
   (λ h. ⊎_elim
       (λ (n : 2 ^ 63 ≤ s.staged + sum pages). absurd (not n))
-      (λ (w : (places : List ℕ) × ArePlaced (shape x) (extents_of x) r pages places × (j : ℕ) × (j < x.sections) × (2 ^ 63 ≤ get_or s.latest (family_of j) 0 + in_section (shape x) j places)).
-      let same : w.0 ≡ counted.0 = places_once (shape x) (extents_of x) r pages w.0 counted.0 w.1 counted.1 in
+      (λ (w : (places : List ℕ) × ArePlacedBy (shape x) apart (extents_of x) r pages places × (j : ℕ) × (j < x.sections) × (2 ^ 63 ≤ get_or s.latest (family_of j) 0 + in_section (shape x) j places)).
+      let same : w.0 ≡ counted.0 = places_once_by (shape x) apart (extents_of x) r pages w.0 counted.0 w.1 counted.1 in
       is.1 (
         w.2,
         omega (arith, w.3, all),
@@ -329,5 +334,5 @@ worn_by x s r pages counts sections b whole not counted all is = (
       h),
 )
   where
-    few : (j : ℕ) → j < x.sections → j < 8
-    few j lt = omega (arith, lt, whole.geometry.most_sections)
+    few : (j : ℕ) → j < x.sections → j < 15
+    few j lt = omega (arith, lt, (bounds _ _ _ _ whole.geometry).most_sections)

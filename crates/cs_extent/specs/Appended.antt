@@ -1,20 +1,20 @@
 -- What an append does to the extents and to the graph.
-use Rattle.std.specs.Prelude.{◌≡◌, ◌+◌, ℕ, List, [], ◌∷◌, Some, length, slice_index}
+use Rattle.std.specs.Prelude.{◌≡◌, ◌+◌, ℕ, Bool, false, List, [], ◌∷◌, Some, length, slice_index}
 use Rattle.cs_deps.specs.State.{State as GraphState, write_of}
 use Rattle.cs_frame.specs.declared.locators.Locator.{Locator}
-use Rattle.cs_model.specs.Extents.{Placed, Purpose as Reason, taken}
+use Rattle.cs_model.specs.Extents.{Goes, Purpose as Reason, taken_by}
 use Rattle.cs_extent.specs.Frames.{AreWritten, IsFrameStaged, IsOfFrame, AddsOnlyOf, family_of, next_place, next_section}
 use Rattle.cs_extent.specs.State.{SpellsExtents, State, extents_of, need_of, shape}
 
 -- A frame was appended at l: its pages were given and staged behind the pointer of an extent that may take them, and
 -- then a version of that extent's section, which records them. Nothing else was staged, and of all other elements no
--- write is kept that wasn't kept before.
-pub record IsAppended (x : State) (g : GraphState) (reason : Reason) (frame : List (List ℕ)) (l : Locator) (y : State) (h : GraphState) : Type 0 where
-  pub placed : Placed (shape x) (extents_of x) reason (length frame) l.extent
+-- write is kept that wasn't kept before. Chunks and runs lie apart or not.
+pub record IsAppendedBy (apart : Bool) (x : State) (g : GraphState) (reason : Reason) (frame : List (List ℕ)) (l : Locator) (y : State) (h : GraphState) : Type 0 where
+  pub placed : Goes (shape x) apart (extents_of x) reason (length frame) l.extent
   pub place : l ≡ next_place (extents_of x) l.extent
-  pub extents : extents_of y ≡ taken (shape x) (extents_of x) l.extent (length frame)
+  pub extents : extents_of y ≡ taken_by (shape x) apart reason (extents_of x) l.extent (length frame)
   pub same_shape : shape y ≡ shape x
-  pub staged : IsFrameStaged g.staging h.staging (shape x).sections ((shape x).section l.extent) (length frame)
+  pub staged : IsFrameStaged g.staging h.staging (shape x).pages_first (shape x).sections ((shape x).section l.extent) (length frame)
       ((extents_of x).reset l.extent) (need_of x ((shape x).section l.extent))
   pub writes : AreWritten h g.staging.staged (length frame) (λ i. (shape x).address l.extent (l.page + i)) frame
   pub section : (page : List ℕ)
@@ -23,10 +23,17 @@ pub record IsAppended (x : State) (g : GraphState) (reason : Reason) (frame : Li
   pub others : AddsOnlyOf g h (IsOfFrame g.staging ((shape x).section l.extent) (length frame))
   pub round : h.round ≡ g.round
 
+abbrev pub IsAppended : State → GraphState → Reason → List (List ℕ) → Locator → State → GraphState → Type 0
+IsAppended x g reason frame l y h = IsAppendedBy false x g reason frame l y h
+
 -- frames were appended one after another at these places; where there are none the graph may have other room
+abbrev pub AreAppendedBy : (apart : Bool) → State → GraphState → Reason → List (List (List ℕ)) → List Locator → State → GraphState → Type 0
+AreAppendedBy apart x g reason [] [] y h = (y ≡ x) × (h ≡ record g { room = h.room })
+AreAppendedBy apart x g reason (frame ∷ frames) (l ∷ ls) y h =
+    (mid : State) × (between : GraphState) × IsAppendedBy apart x g reason frame l mid between
+    × AreAppendedBy apart mid between reason frames ls y h
+AreAppendedBy apart x g reason [] (l ∷ ls) y h = ⊥
+AreAppendedBy apart x g reason (frame ∷ frames) [] y h = ⊥
+
 abbrev pub AreAppended : State → GraphState → Reason → List (List (List ℕ)) → List Locator → State → GraphState → Type 0
-AreAppended x g reason [] [] y h = (y ≡ x) × (h ≡ record g { room = h.room })
-AreAppended x g reason (frame ∷ frames) (l ∷ ls) y h =
-    (mid : State) × (between : GraphState) × IsAppended x g reason frame l mid between × AreAppended mid between reason frames ls y h
-AreAppended x g reason [] (l ∷ ls) y h = ⊥
-AreAppended x g reason (frame ∷ frames) [] y h = ⊥
+AreAppended x g reason frames ls y h = AreAppendedBy false x g reason frames ls y h

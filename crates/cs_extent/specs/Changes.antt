@@ -1,7 +1,7 @@
 -- What happens to extents, one change after another, and which pages are given.
-use Rattle.std.specs.Prelude.{◌≡◌, ◌++◌, ◌∷◌, ℕ, zero, suc, Bool, List, []}
+use Rattle.std.specs.Prelude.{◌≡◌, ◌++◌, ◌∷◌, ℕ, zero, suc, Bool, true, List, [], Option}
 use Rattle.cs_model.specs.Device.{Shape}
-use Rattle.cs_model.specs.Extents.{Extents, Purpose as Reason, Placed, emptied, marked, taken}
+use Rattle.cs_model.specs.Extents.{Extents, Purpose as Reason, GoesApart, Placed, emptied, forgotten, marked, taken, taken_by}
 
 -- what is done to the extents, one thing at a time
 pub data Change : Type 0 where
@@ -11,6 +11,12 @@ pub data Change : Type 0 where
   Reset : (extent root : ℕ) → Change
   -- an extent is marked as being swept, or no longer
   Mark : (extent : ℕ) (swept : Bool) → Change
+  -- where chunks and runs lie apart: a frame of so many pages goes to an extent
+  AppendApart : (reason : Reason) (pages extent : ℕ) → Change
+  -- so too: an extent is emptied under a version of the root, and nothing is noted of it then
+  ResetApart : (extent root : ℕ) → Change
+  -- something else is noted of the extents
+  Note : (opened fresh last : Option ℕ) (of_runs : ℕ → Bool) → Change
 
 -- a page of an extent, in one of its generations
 pub record Given : Type 0 where
@@ -30,3 +36,9 @@ LeadsTo S x (Append reason k e ∷ changes) given y = (rest : List Given)
     × Placed S x reason k e × (given ≡ given_from e (x.pointer e) (x.generation e) k ++ rest) × LeadsTo S (taken S x e k) changes rest y
 LeadsTo S x (Reset e root ∷ changes) given y = LeadsTo S (emptied x e root) changes given y
 LeadsTo S x (Mark e b ∷ changes) given y = LeadsTo S (marked x e b) changes given y
+LeadsTo S x (AppendApart reason k e ∷ changes) given y = (rest : List Given)
+    × GoesApart S x reason k e × (given ≡ given_from e (x.pointer e) (x.generation e) k ++ rest)
+    × LeadsTo S (taken_by S true reason x e k) changes rest y
+LeadsTo S x (ResetApart e root ∷ changes) given y = LeadsTo S (forgotten true (emptied x e root) e) changes given y
+LeadsTo S x (Note o fresh last of_runs ∷ changes) given y =
+    LeadsTo S (record x { open_extent = o; fresh = fresh; last = last; of_runs = of_runs }) changes given y

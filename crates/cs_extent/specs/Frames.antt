@@ -1,5 +1,5 @@
 -- What is staged with a frame.
-use Rattle.std.specs.Prelude.{◌≡◌, ◌≢◌, ◌↔◌, ◌⊎◌, ◌+◌, ◌^◌, ◌<◌, ◌≤◌, ◌==◌, ◌++◌, if◌then◌else◌, ℕ, zero, suc, max, List, [], length, Some, slice_get, slice_index, slice_index_or, slice_set}
+use Rattle.std.specs.Prelude.{◌≡◌, ◌≢◌, ◌↔◌, ◌⊎◌, ◌+◌, ◌^◌, ◌<◌, ◌≤◌, ◌==◌, ◌++◌, if◌then◌else◌, ℕ, zero, suc, Bool, max, List, [], length, Some, slice_get, slice_index, slice_index_or, slice_set}
 use Rattle.cs_deps.specs.declared.elements.Element.{Element}
 use Rattle.cs_deps.specs.declared.elements.Element.TheVariants.{Plain, Version}
 use Rattle.cs_deps.specs.Named.{Named, Names}
@@ -37,20 +37,32 @@ abbrev pub IsSectionNeed : (first last v : ℕ) → Element → Type 0
 IsSectionNeed first last v (Plain m) = (first ≤ m) × (m ≤ last)
 IsSectionNeed first last v (Version f w) = IsVersionUpTo root_family v (Version f w)
 
--- what a root needs of its own: of each section's family the versions up to the latest
+-- of each section's family the versions up to the latest
 abbrev pub IsSectionVersionUpTo : (latest : List ℕ) → Element → Type 0
 IsSectionVersionUpTo latest (Plain n) = ⊥
 IsSectionVersionUpTo latest (Version f v) = (f ≢ root_family) × (1 ≤ v) × (v ≤ slice_index latest f)
+
+-- plain writes 1 to `pages`, and of each section's family the versions up to the latest
+abbrev pub IsRootNeed : (pages : ℕ) → (latest : List ℕ) → Element → Type 0
+IsRootNeed pages latest (Plain n) = (1 ≤ n) × (n ≤ pages)
+IsRootNeed pages latest (Version f v) = IsSectionVersionUpTo latest (Version f v)
 
 -- the next version of section j
 abbrev pub next_section : Staging → (j : ℕ) → Element
 next_section s j = Version (family_of j) (slice_index s.latest (family_of j) + 1)
 
--- The first plain write that a section's version needs by itself, where so many plain writes were staged before its frame. With one
--- section that is the first of all. With several it is the first of the version's own frame: what the version before needs, the
--- graph joins, and what the other sections' versions need is theirs.
-abbrev pub own_first : (sections staged : ℕ) → ℕ
-own_first sections staged = if sections == 1 then 1 else staged + 1
+-- The first plain write that a section's version needs by itself, where so many plain writes were staged before its frame of `count`
+-- pages. Where page writes come first, with one section that is the first of all. With several it is the first of the version's own frame:
+-- what the version before needs, the graph joins, and what the other sections' versions need is theirs. Where roots need the page writes
+-- it is behind the last, so that the version needs none.
+abbrev pub own_first : (pages_first : Bool) → (sections staged count : ℕ) → ℕ
+own_first pages_first sections staged count =
+    if pages_first then (if sections == 1 then 1 else staged + 1) else staged + count + 1
+
+-- the last plain write that a root needs by itself, where so many were staged before it, from the first on: none where page writes come
+-- first, and else all
+abbrev pub root_pages : (pages_first : Bool) → (staged : ℕ) → ℕ
+root_pages pages_first staged = if pages_first then 0 else staged
 
 -- the number of one of the next plain writes, or of section j's next version, would pass 2^63 - 1
 abbrev pub IsWorn : Staging → (j count : ℕ) → Type 0
@@ -75,15 +87,16 @@ pub record IsSectionStaged (old new : Staging) (j first need : ℕ) : Type 0 whe
   pub names : (x : Element) → Names needs x ↔ IsSectionNeed first old.staged need x
   pub version : IsVersionStaged old (family_of j) (slice_index old.latest (family_of j) + 1) needs new
 
--- a frame was staged, where the superblock has so many sections: its pages, and then a version of section j
-pub record IsFrameStaged (old new : Staging) (sections j count root need : ℕ) : Type 0 where
+-- a frame was staged, where page writes come first or don't and the superblock has so many sections: its pages, and then a version of
+-- section j
+pub record IsFrameStaged (old new : Staging) (pages_first : Bool) (sections j count root need : ℕ) : Type 0 where
   pub between : Staging
   pub pages : ArePagesStaged old between count root
-  pub section : IsSectionStaged between new j (own_first sections old.staged) need
+  pub section : IsSectionStaged between new j (own_first pages_first sections old.staged count) need
 
--- Where the superblock has one section: what waits is what waited, and behind it a frame's elements, whose needs are exact: its pages,
--- each of which needs versions 1 to `root` of the root, and the section's next version, which needs the plain writes so far and
--- versions 1 to `need` of the root.
+-- Where the superblock has one section and page writes come first: what waits is what waited, and behind it a frame's elements, whose
+-- needs are exact: its pages, each of which needs versions 1 to `root` of the root, and the section's next version, which needs the
+-- plain writes so far and versions 1 to `need` of the root.
 pub record IsFrameBehind (old new : Staging) (count root need : ℕ) : Type 0 where
   pub entries : List (Element × Named)
   pub behind : new.pending.waiting ≡ old.pending.waiting ++ entries

@@ -1,8 +1,10 @@
 pub mod Appended
 pub mod Changes
 pub mod Frames
+pub mod Notes
 pub mod Places
 pub mod Purposes
+pub mod Puts
 pub mod Sections
 pub mod State
 pub mod Worn

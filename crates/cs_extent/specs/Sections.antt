@@ -7,6 +7,11 @@ use Rattle.cs_frame.specs.Superblocks.{IsSuperblock}
 abbrev pub rows_of : List Superblock → List (ℕ × ℕ)
 rows_of sections = flat_map (λ it. it.extents.items) sections
 
+-- the format of the store, as the first of them says
+abbrev pub format_of : List Superblock → ℕ
+format_of [] = 0
+format_of (it ∷ sections) = it.format
+
 -- the pages of an extent, as the first of them says
 abbrev pub pages_of : List Superblock → ℕ
 pages_of [] = 0
@@ -17,9 +22,10 @@ abbrev pub count_of : List Superblock → ℕ
 count_of [] = 0
 count_of (it ∷ sections) = it.extent_count
 
--- this is section k of a superblock of so many sections, of a store of so many extents and pages
-pub record IsSectionAt (extents pages sections k : ℕ) (it : Superblock) : Type 0 where
+-- this is section k of a superblock of so many sections, of a store of this format and of so many extents and pages
+pub record IsSectionAt (format extents pages sections k : ℕ) (it : Superblock) : Type 0 where
   pub is : IsSuperblock it
+  pub of_format : it.format ≡ format
   pub of_extents : it.extent_count ≡ extents
   pub of_pages : it.pages ≡ pages
   pub of_sections : it.sections ≡ sections
@@ -29,4 +35,4 @@ pub record IsSectionAt (extents pages sections k : ℕ) (it : Superblock) : Type
 pub record AreSections (sections : List Superblock) : Type 0 where
   pub some : 0 < length sections
   pub each : (k : ℕ) (it : Superblock) → slice_get sections k ≡ Some it
-      → IsSectionAt (count_of sections) (pages_of sections) (length sections) k it
+      → IsSectionAt (format_of sections) (count_of sections) (pages_of sections) (length sections) k it

@@ -1,5 +1,5 @@
 -- What the extents of a store are, in the words of the store's machine.
-use Rattle.std.specs.Prelude.{◌≡◌, ℕ, ◌+◌, ◌<◌, ◌≤◌, ◌^◌, Bool, false, List, Option, Some, length, take, drop, slice_index, slice_index_or}
+use Rattle.std.specs.Prelude.{◌≡◌, ℕ, ◌+◌, ◌<◌, ◌≤◌, ◌^◌, Bool, true, false, List, Option, Some, length, map, replicate, take, drop, slice_index, slice_index_or}
 use Rattle.cs_model.specs.Device.{Shape}
 use Rattle.cs_model.specs.Geometry.{shape_of}
 use Rattle.cs_model.specs.Extents.{Extents}
@@ -9,6 +9,8 @@ use Rattle.cs_extent.specs.Frames.{greatest}
 
 -- the extents of a store, as lists with a place for each
 pub record State : Type 0 where
+  -- which format the store has
+  pub format : ℕ
   -- how many pages each extent has
   pub pages : ℕ
   -- how many sections the superblock has
@@ -21,6 +23,13 @@ pub record State : Type 0 where
   pub swept : List Bool
   -- the extent that frames are appended to, if there is one
   pub open_extent : Option ℕ
+  -- where chunks and runs lie apart, of each extent: whether it holds runs, and how many of its pages were given as the store was
+  -- opened, 0 once it was reset
+  pub of_runs : List Bool
+  pub found : List ℕ
+  -- so too: the extent that the sweep opened, if it has, and the one to which the last copy of any sweep went
+  pub fresh : Option ℕ
+  pub last : Option ℕ
 
 -- the extents as functions of their numbers
 abbrev pub extents_of : State → Extents
@@ -30,11 +39,20 @@ extents_of s = record {
   reset = λ e. slice_index s.resets e;
   open_extent = s.open_extent;
   swept = λ e. slice_index_or s.swept e false;
+  of_runs = λ e. slice_index_or s.of_runs e false;
+  found = λ e. slice_index s.found e;
+  fresh = s.fresh;
+  last = s.last;
 }
+
+-- how many pages of each extent count as found where so many are given at open: all where chunks and runs lie apart, else none
+abbrev pub found_at : (apart : Bool) → (written : List (ℕ × ℕ)) → List ℕ
+found_at false written = replicate (length written) 0
+found_at true written = map (λ row. row.0) written
 
 -- the device, whose superblocks are written in sections
 abbrev pub shape : State → Shape
-shape s = shape_of (length s.written) s.pages s.sections (section_size (length s.written) s.sections) 2
+shape s = shape_of (length s.written) s.pages s.sections (section_size (length s.written) s.sections) s.format
 
 -- the greatest version of the root that goes with a last reset of one of section j's extents
 abbrev pub need_of : State → ℕ → ℕ
@@ -49,19 +67,20 @@ section_rows s j =
 -- the page spells a version of section j as the extents are
 abbrev pub SpellsExtents : State → (j version : ℕ) → List ℕ → Type 0
 SpellsExtents s j version page =
-    SpellsSuperblock page version (length s.written) s.pages s.sections j (section_rows s j)
+    SpellsSuperblock page s.format version (length s.written) s.pages s.sections j (section_rows s j)
 
 -- what all extents of a store keep
 pub record IsWhole (s : State) : Type 0 where
-  pub geometry : IsGeometry (length s.written) s.pages s.sections
+  pub geometry : IsGeometry s.format (length s.written) s.pages s.sections
   pub all_resets : length s.resets ≡ length s.written
   pub all_swept : length s.swept ≡ length s.written
+  pub all_kinds : length s.of_runs ≡ length s.written
+  pub all_found : length s.found ≡ length s.written
   pub pointers : (e : ℕ) → (extents_of s).pointer e ≤ s.pages
   pub roots : (e : ℕ) → (extents_of s).reset e < 2 ^ 63
-  -- an extent that is open is there, not empty and not full
+  -- an extent that is open is there and not empty
   pub open_inside : (e : ℕ) → s.open_extent ≡ Some e → e < length s.written
   pub open_begun : (e : ℕ) → s.open_extent ≡ Some e → 0 < (extents_of s).pointer e
-  pub open_unfilled : (e : ℕ) → s.open_extent ≡ Some e → (extents_of s).pointer e < s.pages
 
 -- the same, and these are the store's dimensions
 pub record IsSound (geometry : Dimensions) (s : State) : Type 0 where

@@ -1,33 +1,44 @@
 -- Where frames go that are to be appended one after another, how many versions of each section they take, and whether a number
 -- would pass its greatest.
-use Rattle.std.specs.Prelude.{◌≡◌, ◌⊎◌, ◌↔◌, ◌+◌, ◌^◌, ◌<◌, ◌≤◌, ◌==◌, ℕ, List, [], ◌∷◌, count_by, slice_index, sum}
+use Rattle.std.specs.Prelude.{◌≡◌, ◌⊎◌, ◌↔◌, ◌+◌, ◌^◌, ◌<◌, ◌≤◌, ◌==◌, ℕ, Bool, false, List, [], ◌∷◌, count_by, slice_index, sum}
 use Rattle.cs_deps.specs.Staging.{Staging}
 use Rattle.cs_model.specs.Device.{Shape}
-use Rattle.cs_model.specs.Extents.{Extents, Placed, Purpose as Reason, taken}
+use Rattle.cs_model.specs.Extents.{Extents, Goes, Purpose as Reason, taken_by}
 use Rattle.cs_extent.specs.Frames.{IsWorn, family_of}
 use Rattle.cs_extent.specs.State.{State, extents_of, shape}
 
 -- a frame of so many pages has a place, and the number of one of its plain writes, or of the version of its extent's section, would
 -- pass 2^63 - 1
+abbrev pub IsFrameWornBy : (apart : Bool) → State → Reason → Staging → (pages : ℕ) → Type 0
+IsFrameWornBy apart x reason s pages =
+    (e : ℕ) × Goes (shape x) apart (extents_of x) reason pages e × IsWorn s ((shape x).section e) pages
+
 abbrev pub IsFrameWorn : State → Reason → Staging → (pages : ℕ) → Type 0
-IsFrameWorn x reason s pages = (e : ℕ) × Placed (shape x) (extents_of x) reason pages e × IsWorn s ((shape x).section e) pages
+IsFrameWorn x reason s pages = IsFrameWornBy false x reason s pages
 
 -- frames of these numbers of pages go to these extents, one after another
+abbrev pub ArePlacedBy : Shape → (apart : Bool) → Extents → Reason → (pages places : List ℕ) → Type 0
+ArePlacedBy S apart x reason [] [] = Unit {0}
+ArePlacedBy S apart x reason (k ∷ ks) (e ∷ es) =
+    Goes S apart x reason k e × ArePlacedBy S apart (taken_by S apart reason x e k) reason ks es
+ArePlacedBy S apart x reason [] (e ∷ es) = ⊥
+ArePlacedBy S apart x reason (k ∷ ks) [] = ⊥
+
 abbrev pub ArePlaced : Shape → Extents → Reason → (pages places : List ℕ) → Type 0
-ArePlaced S x reason [] [] = Unit {0}
-ArePlaced S x reason (k ∷ ks) (e ∷ es) = Placed S x reason k e × ArePlaced S (taken S x e k) reason ks es
-ArePlaced S x reason [] (e ∷ es) = ⊥
-ArePlaced S x reason (k ∷ ks) [] = ⊥
+ArePlaced S x reason pages places = ArePlacedBy S false x reason pages places
 
 -- how many of these places are extents of section j
 abbrev pub in_section : Shape → (j : ℕ) → (places : List ℕ) → ℕ
 in_section S j places = count_by (λ e. S.section e == j) places
 
 -- appending frames of these numbers of pages would take the number of a plain write, or of a version of a section, past 2^63 - 1
-abbrev pub AreWorn : State → Staging → Reason → (pages : List ℕ) → Type 0
-AreWorn x s reason pages = (2 ^ 63 ≤ s.staged + sum pages)
-    ⊎ ((places : List ℕ) × ArePlaced (shape x) (extents_of x) reason pages places
+abbrev pub AreWornBy : (apart : Bool) → State → Staging → Reason → (pages : List ℕ) → Type 0
+AreWornBy apart x s reason pages = (2 ^ 63 ≤ s.staged + sum pages)
+    ⊎ ((places : List ℕ) × ArePlacedBy (shape x) apart (extents_of x) reason pages places
     × (j : ℕ) × (j < x.sections) × (2 ^ 63 ≤ slice_index s.latest (family_of j) + in_section (shape x) j places))
+
+abbrev pub AreWorn : State → Staging → Reason → (pages : List ℕ) → Type 0
+AreWorn x s reason pages = AreWornBy false x s reason pages
 
 -- e is the first empty extent of those from this one on
 pub record IsEmptyFrom (extents : ℕ) (pointer : ℕ → ℕ) (start e : ℕ) : Type 0 where
@@ -38,6 +49,9 @@ pub record IsEmptyFrom (extents : ℕ) (pointer : ℕ → ℕ) (start e : ℕ) :
 
 -- Frames of these numbers of pages take so many versions of each section: any number plus one of these counts is past 2^63 - 1 exactly
 -- where it is with the true count. So a count may stop at a great number.
+abbrev pub AreCountedBy : Shape → (apart : Bool) → Extents → Reason → (pages counts : List ℕ) → Type 0
+AreCountedBy S apart x reason pages counts = (places : List ℕ) × ArePlacedBy S apart x reason pages places
+    × ((j a : ℕ) → j < 15 → (2 ^ 63 ≤ a + in_section S j places) ↔ (2 ^ 63 ≤ a + slice_index counts j))
+
 abbrev pub AreCounted : Shape → Extents → Reason → (pages counts : List ℕ) → Type 0
-AreCounted S x reason pages counts = (places : List ℕ) × ArePlaced S x reason pages places
-    × ((j a : ℕ) → j < 8 → (2 ^ 63 ≤ a + in_section S j places) ↔ (2 ^ 63 ≤ a + slice_index counts j))
+AreCounted S x reason pages counts = AreCountedBy S false x reason pages counts

@@ -3,17 +3,19 @@ ghost use Rattle.std.specs.Prelude.{◌≡◌, ℕ, ◌+◌, ◌-◌, ◌*◌, �
 ghost use Rattle.cs_deps.specs.declared.elements.Element.{Element as Item};
 ghost use Rattle.cs_deps.specs.Named.{Names};
 ghost use Rattle.cs_deps.specs.State.{write_of};
+ghost use Rattle.cs_model.specs.Geometry.{apart_in};
 ghost use Rattle.cs_model.specs.Extents.{Fits, IsFirstEmpty, Placed, empties, emptied, marked, taken};
 ghost use Rattle.cs_extent.specs.Appended.{IsAppended};
 ghost use Rattle.cs_extent.specs.Frames.{AreResetsStaged, AreWritten, IsFrameStaged, IsOfFrame, IsVersionUpTo, IsWorn, AddsOnlyOf, family_of, greatest, next_place, next_section};
 ghost use Rattle.cs_extent.specs.Places.{room_at};
 ghost use Rattle.cs_extent.specs.Purposes.{reason_of};
-ghost use Rattle.cs_extent.specs.Sections.{AreSections, pages_of, rows_of};
-ghost use Rattle.cs_extent.specs.State.{IsWhole, SpellsExtents, extents_of, need_of, shape};
+ghost use Rattle.cs_extent.specs.Sections.{AreSections, format_of, pages_of, rows_of};
+ghost use Rattle.cs_extent.specs.State.{IsWhole, SpellsExtents, extents_of, found_at, need_of, shape};
 ghost use Rattle.cs_extent.specs.Worn.{AreCounted, AreWorn, IsEmptyFrom, IsFrameWorn};
 
 use crate::families::{on_versions, section_family};
 use crate::frames::stage_frame;
+use crate::notes::{found_at, lies_apart};
 use crate::purposes::Purpose;
 use crate::supplies::Supply;
 use crate::ways::{Way, are_versions_worn, are_writes_worn, count};
@@ -28,12 +30,20 @@ use std::marker::Model;
 pub struct Extents {
     geometry: Geometry,
     /// Of each extent how many of its pages are given, and its generation.
-    written: Vec<(u16, u32)>,
+    pub(crate) written: Vec<(u16, u32)>,
     /// Of each extent the version of the root of its last reset since open, 0 for none.
-    resets: Vec<u64>,
+    pub(crate) resets: Vec<u64>,
     /// Which extents are being swept; opening forgets it.
     swept: Vec<bool>,
-    open_extent: Option<usize>,
+    pub(crate) open_extent: Option<usize>,
+    /// Where chunks and runs lie apart, which extents hold runs.
+    pub(crate) kinds: Vec<bool>,
+    /// So too, of each extent how many of its pages were given as the store was opened, 0 once it was reset.
+    pub(crate) found: Vec<u16>,
+    /// So too, the extent that the sweep opened.
+    pub(crate) fresh: Option<usize>,
+    /// So too, the extent to which the last copy of any sweep went.
+    pub(crate) last: Option<usize>,
 }
 
 impl Model for Extents {
@@ -41,42 +51,57 @@ impl Model for Extents {
 
     ghost Value = { State };
 
-    ghost view = { λ x. record { pages = x.geometry.pages; sections = x.geometry.sections; written = x.written.items; resets = x.resets.items; swept = x.swept.items; open_extent = x.open_extent } };
+    ghost view = { λ x. record { format = x.geometry.format; pages = x.geometry.pages; sections = x.geometry.sections; written = x.written.items; resets = x.resets.items; swept = x.swept.items; open_extent = x.open_extent; of_runs = x.kinds.items; found = x.found.items; fresh = x.fresh; last = x.last } };
 
-    ghost invariant = { λ x. IsSound x.geometry (record { pages = x.geometry.pages; sections = x.geometry.sections; written = x.written.items; resets = x.resets.items; swept = x.swept.items; open_extent = x.open_extent }) };
+    ghost invariant = { λ x. IsSound x.geometry (record { format = x.geometry.format; pages = x.geometry.pages; sections = x.geometry.sections; written = x.written.items; resets = x.resets.items; swept = x.swept.items; open_extent = x.open_extent; of_runs = x.kinds.items; found = x.found.items; fresh = x.fresh; last = x.last }) };
 }
 
 /// The greatest generation of an extent.
 pub const LAST_GENERATION: u32 = 0xffff_ffff;
 
 impl Extents {
-    /// The extents that the sections of a superblock record, in order: none is open, none was reset, and none is being swept. Takes
-    /// memory for each extent.
+    /// The extents that the sections of a superblock record, in order: none is open, none was reset, and none is being swept. Where
+    /// chunks and runs lie apart none holds runs, until `set_kind` says so. Takes memory for each extent.
     pub fn of(alloc: Global, sections: &[Superblock]) -> Result<Self, AllocError>
         requires { AreSections sections.now }
-        ensures { IfOk result (λ x. x ≡ record { pages = pages_of sections.now; sections = length sections.now; written = rows_of sections.now; resets = replicate (length (rows_of sections.now)) 0; swept = replicate (length (rows_of sections.now)) false; open_extent = None }) }
+        ensures { IfOk result (λ x. x ≡ record { format = format_of sections.now; pages = pages_of sections.now; sections = length sections.now; written = rows_of sections.now; resets = replicate (length (rows_of sections.now)) 0; swept = replicate (length (rows_of sections.now)) false; open_extent = None; of_runs = replicate (length (rows_of sections.now)) false; found = found_at (apart_in (format_of sections.now)) (rows_of sections.now); fresh = None; last = None }) }
     {
         let geometry = geometry_of(sections);
         let written = joined(alloc, sections)?;
         let resets = vec![in alloc; 0; written.len()]?;
         let swept = vec![in alloc; false; written.len()]?;
+        let kinds = vec![in alloc; false; written.len()]?;
+        let found = found_at(alloc, &written, lies_apart(geometry.format()))?;
         Ok(Extents {
             geometry,
             written,
             resets,
             swept,
             open_extent: None,
+            kinds,
+            found,
+            fresh: None,
+            last: None,
         })
     }
 
     /// The dimensions of the store.
     pub fn geometry(&self) -> Geometry
+        ensures format { result.format ≡ (shape self.now).format }
         ensures extents { result.extents ≡ (shape self.now).extents }
         ensures pages { result.pages ≡ (shape self.now).pages }
         ensures sections { result.sections ≡ (shape self.now).sections }
         ensures whole { IsWhole self.now }
     {
         self.geometry
+    }
+
+    /// Whether a section's version needs the plain writes that it counts. Where not, a root needs all plain writes that were staged
+    /// before it.
+    pub fn pages_first(&self) -> bool
+        ensures { result ≡ (shape self.now).pages_first }
+    {
+        true
     }
 
     /// How many extents there are.
@@ -230,7 +255,7 @@ impl Extents {
     }
 
     /// How many versions of each section frames of these numbers of pages take, which all find a place.
-    fn count_versions(&self, frame_pages: &[usize], purpose: Purpose) -> [u64; 8]
+    fn count_versions(&self, frame_pages: &[usize], purpose: Purpose) -> [u64; 15]
         requires pages { All (λ pages. (1 ≤ pages) × (pages ≤ (shape self.now).pages)) frame_pages.now }
         requires fits { Fits (shape self.now) (extents_of self.now) (reason_of purpose) frame_pages.now }
         ensures { AreCounted (shape self.now) (extents_of self.now) (reason_of purpose) frame_pages.now result }
@@ -240,7 +265,7 @@ impl Extents {
             room: self.room(),
             next: 0,
         };
-        let mut counts = [0; 8];
+        let mut counts = [0; 15];
         for pages in frame_pages {
             way = self.goes_on(way, *pages);
             count(&mut counts, self.section(way.extent));
@@ -296,7 +321,7 @@ impl Extents {
     }
 
     /// Whether no page of an extent is given.
-    fn is_empty(&self, extent: usize) -> bool
+    pub(crate) fn is_empty(&self, extent: usize) -> bool
         requires { extent < (shape self.now).extents }
         ensures { IsTrue result ↔ ((extents_of self.now).pointer extent ≡ 0) }
     {
@@ -350,7 +375,7 @@ impl Extents {
     }
 
     /// The section that an extent belongs to.
-    fn section(&self, extent: usize) -> u8
+    pub(crate) fn section(&self, extent: usize) -> u8
         requires { extent < (shape self.now).extents }
         ensures section { result ≡ (shape self.now).section extent }
         ensures inside { result < (shape self.now).sections }
@@ -394,7 +419,7 @@ impl Extents {
     }
 
     /// Gives the pages of a frame, and stages it there.
-    fn give(
+    pub(crate) fn give(
         &mut self,
         graph: &mut Graph,
         frame: &[[u8; 4096]],
@@ -410,7 +435,7 @@ impl Extents {
         ensures locator { result.0 ≡ next_place (extents_of self.old) extent }
         ensures extents { extents_of self.new ≡ taken (shape self.old) (extents_of self.old) extent (length frame.now) }
         ensures shape { shape self.new ≡ shape self.old }
-        ensures staged { IsFrameStaged graph.old.staging graph.new.staging (shape self.old).sections ((shape self.old).section extent) (length frame.now) ((extents_of self.old).reset extent) (need_of self.old ((shape self.old).section extent)) }
+        ensures staged { IsFrameStaged graph.old.staging graph.new.staging (shape self.old).pages_first (shape self.old).sections ((shape self.old).section extent) (length frame.now) ((extents_of self.old).reset extent) (need_of self.old ((shape self.old).section extent)) }
         ensures pages { AreWritten graph.new graph.old.staging.staged (length frame.now) (λ i. (shape self.old).address extent ((extents_of self.old).pointer extent + i)) frame.now }
         ensures section { (page : List ℕ) × (write_of graph.new (next_section graph.old.staging ((shape self.old).section extent)) ≡ Some ((shape self.old).section_page ((shape self.old).section extent), page)) × SpellsExtents self.new ((shape self.old).section extent) (slice_index graph.old.staging.latest (family_of ((shape self.old).section extent)) + 1) page }
         ensures others { AddsOnlyOf graph.old graph.new (IsOfFrame graph.old.staging ((shape self.old).section extent) (length frame.now)) }
@@ -425,6 +450,7 @@ impl Extents {
         let first = self.first_page(extent);
         let root = self.root_of(extent);
         let geometry = self.geometry();
+        let pages_first = self.pages_first();
         let sections = geometry.sections();
         let section = self.section(extent);
         let page = geometry.section_page(section);
@@ -434,16 +460,26 @@ impl Extents {
         self.take(extent, frame.len());
         let bytes = self.section_bytes(section, version);
         stage_frame(
-            graph, alloc, frame, first, root, sections, section, page, &bytes, need,
+            graph,
+            alloc,
+            frame,
+            first,
+            root,
+            pages_first,
+            sections,
+            section,
+            page,
+            &bytes,
+            need,
         );
         (locator, on_versions(alloc, family, version))
     }
 
     /// Appends a frame for this purpose: stages each of its pages as one plain write, and then the version of its extent's section that
     /// records them. Each page needs the root of its extent's last reset since open, if there is one; the section's version needs, beside
-    /// what the one before it needs, the frame's pages and the greatest such root of the section's extents, and where there is one
-    /// section alone, all plain writes so far. Answers where the frame begins, and a dependency that names this version of the
-    /// section and all before it.
+    /// what the one before it needs, the greatest such root of the section's extents. Where page writes come first it needs the frame's
+    /// pages too, and where there is one section alone, all plain writes so far. Answers where the frame begins, and a dependency that
+    /// names this version of the section and all before it.
     ///
     /// 30 `Full` where no extent takes the frame, then 35 `WornOut` where a number of these would pass 2^63 - 1, then 9
     /// `OutOfMemory`: memory is asked for as room in the graph alone. Costs a pass over the extents, the frame's pages and one
@@ -465,7 +501,7 @@ impl Extents {
         ensures shape { shape self.new ≡ shape self.old }
 
         // Its pages and a version of its extent's section are staged.
-        ensures staged { IfOk result (λ r. IsFrameStaged graph.old.staging graph.new.staging (shape self.old).sections ((shape self.old).section r.0.extent) (length frame.now) ((extents_of self.old).reset r.0.extent) (need_of self.old ((shape self.old).section r.0.extent))) }
+        ensures staged { IfOk result (λ r. IsFrameStaged graph.old.staging graph.new.staging (shape self.old).pages_first (shape self.old).sections ((shape self.old).section r.0.extent) (length frame.now) ((extents_of self.old).reset r.0.extent) (need_of self.old ((shape self.old).section r.0.extent))) }
         ensures writes { IfOk result (λ r. AreWritten graph.new graph.old.staging.staged (length frame.now) (λ i. (shape self.old).address r.0.extent (r.0.page + i)) frame.now) }
         ensures section { IfOk result (λ r. (page : List ℕ) × (write_of graph.new (next_section graph.old.staging ((shape self.old).section r.0.extent)) ≡ Some ((shape self.old).section_page ((shape self.old).section r.0.extent), page)) × SpellsExtents self.new ((shape self.old).section r.0.extent) (slice_index graph.old.staging.latest (family_of ((shape self.old).section r.0.extent)) + 1) page) }
         ensures others { IfOk result (λ r. AddsOnlyOf graph.old graph.new (IsOfFrame graph.old.staging ((shape self.old).section r.0.extent) (length frame.now))) }
@@ -543,7 +579,7 @@ fn open_unless_full(extent: usize, pointer: u16, pages: u16) -> Option<usize>
 }
 
 /// Whether the numbers of so many plain writes, or of a section's version, would pass the greatest.
-fn is_worn(graph: &Graph, section: u8, pages: usize) -> bool
+pub fn is_worn(graph: &Graph, section: u8, pages: usize) -> bool
     requires { family_of section < length graph.now.staging.latest }
     ensures { IsTrue result ↔ IsWorn graph.now.staging section pages }
 {
@@ -554,13 +590,15 @@ fn is_worn(graph: &Graph, section: u8, pages: usize) -> bool
 /// The dimensions that sections speak of.
 fn geometry_of(sections: &[Superblock]) -> Geometry
     requires { AreSections sections.now }
+    ensures format { result.format ≡ format_of sections.now }
     ensures extents { result.extents ≡ length (rows_of sections.now) }
     ensures pages { result.pages ≡ pages_of sections.now }
     ensures sections { result.sections ≡ length sections.now }
 {
     let first = &sections[0];
-    let (extents, pages) = (u64::from(first.extent_count), u64::from(first.pages));
-    match Geometry::with_sections(extents, pages, u64::from(first.sections)) {
+    let (format, extents) = (u64::from(first.format), u64::from(first.extent_count));
+    let (pages, sections) = (u64::from(first.pages), u64::from(first.sections));
+    match Geometry::of_format(format, extents, pages, Some(sections)) {
         Ok(geometry) => geometry,
         Err(_) => unreachable!(),
     }

@@ -2,7 +2,7 @@
 ghost use Rattle.std.specs.Prelude.{◌≡◌, ◌↔◌, ◌⊎◌, ◌≤◌, ◌<◌, ℕ, length, slice_index};
 ghost use Rattle.cs_deps.specs.Named.{Names, IsSmall, ListsNone};
 ghost use Rattle.cs_deps.specs.declared.elements.Element.{Element as Item};
-ghost use Rattle.cs_extent.specs.Frames.{IsSectionNeed, IsSectionVersionUpTo, IsVersionUpTo, family_of, root_family};
+ghost use Rattle.cs_extent.specs.Frames.{IsRootNeed, IsSectionNeed, IsSectionVersionUpTo, IsVersionUpTo, family_of, root_family, root_pages};
 
 use cs_deps::{Dependency, Graph};
 use std::alloc::Global;
@@ -46,22 +46,45 @@ pub fn section_needs(alloc: Global, first: u64, last: u64, root: u64) -> Depende
     }
 }
 
-/// Names the plain writes from `first` to `last`.
+/// Names the plain writes from `first` to `last`. Where there are none it lists no span.
 fn writes_from(alloc: Global, first: u64, last: u64) -> Dependency
     requires { 1 ≤ first }
     ensures plain { (n : ℕ) → Names result (Item.Plain n) ↔ ((first ≤ n) × (n ≤ last)) }
     ensures version { (f v : ℕ) → ¬ Names result (Item.Version f v) }
     ensures small { IsSmall result }
 {
-    if first <= 1 {
+    if last < first {
+        Dependency::none(alloc)
+    } else if first <= 1 {
         Dependency::through(alloc, last)
     } else {
         Dependency::on_writes(alloc, first, last)
     }
 }
 
-/// Names what a root needs of its own: of each section the versions that were staged. Takes no memory.
-pub fn on_sections(alloc: Global, graph: &Graph) -> Dependency
+/// Names what a root needs of its own: of each section the versions that were staged, and where page writes don't come first all plain
+/// writes that were staged. Takes no memory.
+pub fn root_needs(alloc: Global, graph: &Graph, pages_first: bool) -> Dependency
+    requires { length graph.now.staging.latest ≤ 16 }
+    ensures names { (x : Item) → Names result x ↔ IsRootNeed (root_pages pages_first graph.now.staging.staged) graph.now.staging.latest x }
+    ensures small { IsSmall result }
+{
+    let writes = Dependency::through(alloc, last_needed(graph, pages_first));
+    match writes.and(&on_sections(alloc, graph)) {
+        Ok(needs) => needs,
+        Err(_) => unreachable!(),
+    }
+}
+
+/// The last plain write that a root needs of its own, 0 where it needs none.
+fn last_needed(graph: &Graph, pages_first: bool) -> u64
+    ensures { result ≡ root_pages pages_first graph.now.staging.staged }
+{
+    if pages_first { 0 } else { graph.last_plain() }
+}
+
+/// Names of each section the versions that were staged.
+fn on_sections(alloc: Global, graph: &Graph) -> Dependency
     requires { length graph.now.staging.latest ≤ 16 }
     ensures names { (x : Item) → Names result x ↔ IsSectionVersionUpTo graph.now.staging.latest x }
     ensures small { IsSmall result }

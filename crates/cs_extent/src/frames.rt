@@ -72,13 +72,16 @@ fn stage_section(
     }
 }
 
-/// The first plain write that a section's version needs of its own, before the pages of its frame are staged.
-fn first_needed(graph: &Graph, sections: u8) -> u64
-    requires { graph.now.staging.staged < 2 ^ 63 }
-    ensures first { result ≡ own_first sections graph.now.staging.staged }
+/// The first plain write that a section's version needs of its own, before the pages of its frame are staged: behind the last of them
+/// where page writes don't come first.
+fn first_needed(graph: &Graph, pages_first: bool, sections: u8, pages: usize) -> u64
+    requires { graph.now.staging.staged + pages < 2 ^ 63 }
+    ensures first { result ≡ own_first pages_first sections graph.now.staging.staged pages }
     ensures some { 1 ≤ result }
 {
-    if sections == 1 {
+    if !pages_first {
+        graph.last_plain() + pages as u64 + 1
+    } else if sections == 1 {
         1
     } else {
         graph.last_plain() + 1
@@ -86,13 +89,14 @@ fn first_needed(graph: &Graph, sections: u8) -> u64
 }
 
 /// Stages a frame, each page of which needs versions 1 to `root` of the root, and then the version of the section that records it, which
-/// needs those up to `need`. There are so many sections.
+/// needs those up to `need`. There are so many sections, and their versions need the plain writes that they count where those come first.
 pub fn stage_frame(
     graph: &mut Graph,
     alloc: Global,
     frame: &[[u8; 4096]],
     first: u64,
     root: u64,
+    pages_first: bool,
     sections: u8,
     section: u8,
     page: u64,
@@ -106,14 +110,14 @@ pub fn stage_frame(
     requires pages { first + length frame.now < 2 ^ 63 }
     requires root { root ≤ slice_index graph.old.staging.latest root_family }
     requires need { need ≤ slice_index graph.old.staging.latest root_family }
-    ensures staged { IsFrameStaged graph.old.staging graph.new.staging sections section (length frame.now) root need }
+    ensures staged { IsFrameStaged graph.old.staging graph.new.staging pages_first sections section (length frame.now) root need }
     ensures writes { AreWritten graph.new graph.old.staging.staged (length frame.now) (λ i. first + i) frame.now }
     ensures write { write_of graph.new (next_section graph.old.staging section) ≡ Some (page, bytes.now) }
     ensures others { AddsOnlyOf graph.old graph.new (IsOfFrame graph.old.staging section (length frame.now)) }
     ensures round { graph.new.round ≡ graph.old.round }
     ensures left { graph.old.room ≤ graph.new.room + (length frame.now + 1) }
 {
-    let own = first_needed(graph, sections);
+    let own = first_needed(graph, pages_first, sections, frame.len());
     stage_pages(graph, alloc, frame, first, root);
     stage_section(graph, alloc, section, page, bytes, own, need);
 }

@@ -1,10 +1,10 @@
 //! Laws over many changes.
-ghost use Rattle.std.specs.Prelude.{◌≡◌, ◌↔◌, ◌+◌, ◌<◌, ◌≤◌, ℕ, List, Some, slice_get};
+ghost use Rattle.std.specs.Prelude.{◌≡◌, ◌↔◌, ◌+◌, ◌<◌, ◌≤◌, ℕ, true, List, Some, slice_get};
 ghost use Rattle.cs_deps.specs.declared.elements.Element.{Element};
 ghost use Rattle.cs_deps.specs.Named.{Named};
 ghost use Rattle.cs_deps.specs.Staging.{IsVersionStaged, Staging, settled};
 ghost use Rattle.cs_model.specs.Device.{Shape};
-ghost use Rattle.cs_model.specs.Extents.{Extents, Placed, Purpose, emptied};
+ghost use Rattle.cs_model.specs.Extents.{Extents, GoesApart, Placed, Purpose, emptied};
 ghost use Rattle.cs_extent.specs.Changes.{Change, Given, LeadsTo};
 ghost use Rattle.cs_extent.specs.Frames.{AreOneSectionsNeedsWithin, IsFrameBehind, IsFrameStaged, greatest, root_family};
 
@@ -14,9 +14,10 @@ pub fn pages_are_given_once()
         → LeadsTo S x changes given y → slice_get given i ≡ Some page → slice_get given j ≡ Some page → i ≡ j }
 {}
 
-/// A frame goes to one extent, if to any.
+/// A frame goes to one extent, if to any, also where chunks and runs lie apart.
 pub fn one_place()
-    ensures { (S : Shape) (x : Extents) (purpose : Purpose) (k d e : ℕ) → Placed S x purpose k d → Placed S x purpose k e → d ≡ e }
+    ensures mixed { (S : Shape) (x : Extents) (purpose : Purpose) (k d e : ℕ) → Placed S x purpose k d → Placed S x purpose k e → d ≡ e }
+    ensures apart { (S : Shape) (x : Extents) (purpose : Purpose) (k d e : ℕ) → GoesApart S x purpose k d → GoesApart S x purpose k e → d ≡ e }
 {}
 
 /// Where an extent is emptied under a version of the root that is not below those of the resets before of its section's extents, the
@@ -28,11 +29,11 @@ pub fn needs_never_fall()
         → greatest (λ k. (emptied x (start + i) root).reset (start + k)) count ≡ root }
 {}
 
-/// Where the superblock has one section and what its versions need doesn't fall, joining it with what the version before needs adds
-/// nothing: a new version needs the plain writes staged so far and the versions of the root up to its own need, and nothing else.
+/// Where the superblock has one section, page writes come first and what its versions need doesn't fall, joining it with what the
+/// version before needs adds nothing: a new version needs the plain writes staged so far and the versions of the root up to its own need, and nothing else.
 pub fn joining_adds_nothing_to_one_section()
-    ensures exact { (old new : Staging) (count root need : ℕ) → IsFrameStaged old new 1 0 count root need → AreOneSectionsNeedsWithin old need → IsFrameBehind old new count root need }
-    ensures kept { (old new : Staging) (count root need : ℕ) → IsFrameStaged old new 1 0 count root need → AreOneSectionsNeedsWithin old need → AreOneSectionsNeedsWithin new need }
+    ensures exact { (old new : Staging) (count root need : ℕ) → IsFrameStaged old new true 1 0 count root need → AreOneSectionsNeedsWithin old need → IsFrameBehind old new count root need }
+    ensures kept { (old new : Staging) (count root need : ℕ) → IsFrameStaged old new true 1 0 count root need → AreOneSectionsNeedsWithin old need → AreOneSectionsNeedsWithin new need }
     ensures root { (old new : Staging) (v need : ℕ) (needs : Named) → IsVersionStaged old root_family v needs new → AreOneSectionsNeedsWithin old need → AreOneSectionsNeedsWithin new need }
     ensures settled { (s : Staging) (round : List Element) (need : ℕ) → AreOneSectionsNeedsWithin s need → AreOneSectionsNeedsWithin (record s { pending = settled s.pending round }) need }
     ensures more { (s : Staging) (need more : ℕ) → AreOneSectionsNeedsWithin s need → need ≤ more → AreOneSectionsNeedsWithin s more }

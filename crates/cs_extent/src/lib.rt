@@ -4,16 +4,19 @@
 //! records how many pages of the frame's extent are given.
 #![tactic(auto)]
 
+mod apart;
 mod extents;
 mod families;
 mod frames;
 mod laws;
+mod notes;
 mod purposes;
+mod putting;
 mod supplies;
 mod ways;
 
 pub use extents::{Extents, LAST_GENERATION};
-pub use families::{ROOT, on_sections, section_family};
+pub use families::{ROOT, root_needs, section_family};
 pub use laws::{
     joining_adds_nothing_to_one_section, needs_never_fall, one_place, pages_are_given_once,
 };

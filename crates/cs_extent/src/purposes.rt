@@ -12,6 +12,8 @@ pub enum Purpose {
     Run,
     /// A chunk that is moved off an extent, and the merged run that goes with a reset.
     Move,
+    /// One run of all that is live, where chunks and runs lie apart.
+    Merge,
 }
 
 impl Purpose {
@@ -23,6 +25,7 @@ impl Purpose {
             Purpose::Put => 2,
             Purpose::Run => 1,
             Purpose::Move => 0,
+            Purpose::Merge => 0,
         }
     }
 }

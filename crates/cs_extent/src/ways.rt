@@ -34,8 +34,8 @@ pub fn are_writes_worn(graph: &Graph, frame_pages: &[usize]) -> bool
 }
 
 /// Counts one version more of a section.
-pub fn count(counts: &mut [u64; 8], section: u8)
-    requires { section < 8 }
+pub fn count(counts: &mut [u64; 15], section: u8)
+    requires { section < 15 }
     ensures { counts.new ≡ slice_set counts.old section (min (slice_index counts.old section + 1) (2 ^ 64 - 1)) }
 {
     let place = usize::from(section);
@@ -43,9 +43,9 @@ pub fn count(counts: &mut [u64; 8], section: u8)
 }
 
 /// Whether the numbers of so many versions of a section would pass the greatest.
-fn is_section_worn(graph: &Graph, section: u8, counts: [u64; 8]) -> bool
+fn is_section_worn(graph: &Graph, section: u8, counts: [u64; 15]) -> bool
     requires families { family_of section < length graph.now.staging.latest }
-    requires section { section < 8 }
+    requires section { section < 15 }
     ensures { IsTrue result ↔ (2 ^ 63 ≤ slice_index graph.now.staging.latest (family_of section) + slice_index counts section) }
 {
     let last = graph.last_version(section_family(section));
@@ -53,9 +53,9 @@ fn is_section_worn(graph: &Graph, section: u8, counts: [u64; 8]) -> bool
 }
 
 /// Whether the numbers of so many versions of each section would pass the greatest for one of them.
-pub fn are_versions_worn(graph: &Graph, sections: u8, counts: [u64; 8]) -> bool
+pub fn are_versions_worn(graph: &Graph, sections: u8, counts: [u64; 15]) -> bool
     requires families { length graph.now.staging.latest ≡ 1 + sections }
-    requires few { sections ≤ 8 }
+    requires few { sections ≤ 15 }
     ensures { IsTrue result ↔ ((j : ℕ) × (j < sections) × (2 ^ 63 ≤ slice_index graph.now.staging.latest (family_of j) + slice_index counts j)) }
 {
     for j in 0..sections {

@@ -1,6 +1,6 @@
 -- A page that spells pointers and generations of extents, the whole superblock's or a section's: what its tests say, and that they pass
 -- where it was written.
-use Rattle.std.proofs.Common.{◌≡◌, ℕ, ◌+◌, ◌-◌, ◌*◌, ◌/◌, ◌≤◌, ◌<◌, ◌^◌, true, Bool, List, [], ◌∷◌, ◌++◌, length, take, drop, map, slice_index, codes, Option, None, refl, sym, ap, subst, ◌∙◌, arith, append_assoc, ◌&&◌, nat_le, nat_lt, ◌==◌, bytes_eq}
+use Rattle.std.proofs.Common.{◌≡◌, ◌≢◌, ℕ, ◌+◌, ◌-◌, ◌*◌, ◌/◌, ◌≤◌, ◌<◌, ◌^◌, true, Bool, List, [], ◌∷◌, ◌++◌, length, take, drop, map, slice_index, codes, Option, None, Some, ne_eqb, refl, sym, ap, subst, ◌∙◌, arith, append_assoc, ◌&&◌, nat_le, nat_lt, ◌==◌, bytes_eq}
 use Rattle.std.specs.List.{AllByRecursion, list_all}
 use Rattle.std.specs.Simd.{first_chunks}
 use Rattle.std.proofs.lemmas.Bool.{and_parts, and_from, eqb-true, leb-true, ltb-true, eq-eqb, le-leb, lt-ltb}
@@ -16,7 +16,7 @@ use Rattle.cs_frame.specs.Pages.{padded, sealed, digest_test, digit_test, magic_
 use Rattle.cs_frame.specs.Pointers.{FitsExtent, extent_in, extents_from, pointers_test, spelled_extent, spelled_extents, superblock_range_test}
 use Rattle.cs_frame.proofs.Fields.{after_field, field_2, field_4, field_8, number_at, number_below, take_more, length-field, IsBytes-field}
 use Rattle.cs_frame.proofs.Pieces.{AllByRecursion-map, AllByRecursion-and, each_piece, length-first_chunks, length-spelled, read_pieces, spelled_pieces}
-use Rattle.cs_frame.proofs.TestLaws.{Passes, passed, and_passes, no_test, same_bytes, equal_bytes, all_true, true_all}
+use Rattle.cs_frame.proofs.TestLaws.{Passes, fails_second, passed, and_passes, no_test, same_bytes, equal_bytes, all_true, true_all}
 use Rattle.cs_frame.proofs.PageLaws.{digest_of_padded, four_bytes, zeros_of_padded}
 
 -- ---- pointers and generations
@@ -136,6 +136,18 @@ fourth_byte page digit counts end extents h =
     let p = passed (bytes_eq (field 0 3 page) (codes "CSS")) BadMagic (digit_test digit page ∷ unless counts BadLength ∷ digest_test end page ∷ superblock_range_test page ∷ pointers_test (number 14 16 page) extents ∷ padding_test (end + 32) page ∷ []) h in
     let q = passed (slice_index page 3 == digit) BadVersion _ p.1 in
     eqb-true _ _ q.0
+
+-- and the first three bytes are those of each format
+pub first_bytes : (page : List ℕ) (digit : ℕ) (counts : Bool) (end : ℕ) (extents : List (ℕ × ℕ)) → first_fault (tests_of page digit counts end extents) ≡ None → bytes_eq (field 0 3 page) (codes "CSS") ≡ true
+first_bytes page digit counts end extents h =
+    (passed (bytes_eq (field 0 3 page) (codes "CSS")) BadMagic (digit_test digit page ∷ unless counts BadLength ∷ digest_test end page ∷ superblock_range_test page ∷ pointers_test (number 14 16 page) extents ∷ padding_test (end + 32) page ∷ []) h).0
+
+-- where those stand and the fourth byte is another digit the page is refused for that
+pub other_digit : (page : List ℕ) (digit : ℕ) (counts : Bool) (end : ℕ) (extents : List (ℕ × ℕ)) → bytes_eq (field 0 3 page) (codes "CSS") ≡ true → slice_index page 3 ≢ digit
+    → first_fault (tests_of page digit counts end extents) ≡ Some BadVersion
+other_digit page digit counts end extents magic other =
+    fails_second (bytes_eq (field 0 3 page) (codes "CSS")) (slice_index page 3 == digit) BadMagic BadVersion
+    (unless counts BadLength ∷ digest_test end page ∷ superblock_range_test page ∷ pointers_test (number 14 16 page) extents ∷ padding_test (end + 32) page ∷ []) magic (ne_eqb (slice_index page 3) digit other)
 
 -- and where that holds they pass
 pub sound_passes : (page : List ℕ) (digit : ℕ) (counts : Bool) (end : ℕ) (extents : List (ℕ × ℕ)) → IsSound page digit counts end extents → first_fault (tests_of page digit counts end extents) ≡ None

@@ -1,29 +1,34 @@
 -- A page without a fault as a superblock of the first format is spelled so, and what is spelled so has no fault and is read as it was.
-use Rattle.std.proofs.Common.{◌≡◌, ◌≢◌, ◌⊎◌, ℕ, ◌+◌, ◌*◌, ◌≤◌, ◌==◌, true, false, Bool, List, ◌++◌, length, take, slice_index, codes, None, refl, sym, ap, subst, inl, inr, ⊎_elim, ◌∙◌, arith, length-append, eq-eqb, ne_eqb, if◌then◌else◌}
+use Rattle.std.proofs.Common.{◌≡◌, ◌≢◌, ◌⊎◌, ℕ, ◌+◌, ◌*◌, ◌≤◌, ◌==◌, true, false, Bool, List, ◌++◌, length, take, slice_index, codes, None, Some, refl, sym, ap, subst, inl, inr, ⊎_elim, ◌∙◌, arith, length-append, eq-eqb, ne_eqb, if◌then◌else◌}
 use Rattle.byteorder.specs.Endian.{big_bytes}
+use Rattle.cs_frame.specs.declared.faults.FormatFault.TheVariants.{BadVersion}
 use Rattle.cs_frame.specs.Bytes.{IsPage, number}
-use Rattle.cs_frame.specs.Geometries.{greatest_superblock_extents, in_bounds, section_length}
+use Rattle.cs_frame.specs.Geometries.{IsKnown, greatest_superblock_extents, in_bounds, section_length}
 use Rattle.cs_frame.specs.Pages.{padded, sealed}
-use Rattle.cs_frame.specs.FirstFormat.{FitsFirstFormat, SpellsFirstFormat, first_format_end, first_format_extents, first_format_fault, first_format_fields, page_zero_fault, IsOfFirstFormat, SpellsPageZero, spelled_first_format}
-use Rattle.cs_frame.specs.Superblocks.{FitsSuperblock, SpellsSuperblock, superblock_fault}
-use Rattle.cs_frame.proofs.SuperblockLaws.{fourth_is as fourth_is_2}
+use Rattle.cs_frame.specs.FirstFormat.{FitsFirstFormat, SpellsFirstFormat, first_format_end, first_format_extents, first_format_fault, first_format_fields, page_zero_fault, IsOfFirstFormat, SpellsPageZero, spelled_first_format, zero_format}
+use Rattle.cs_frame.specs.Superblocks.{FitsSuperblock, SpellsSuperblock, superblock_end, superblock_extents, superblock_fault}
+use Rattle.cs_frame.proofs.SuperblockLaws.{counts as section_counts, fourth_is as section_fourth, same_magic, spelled_has_none as section_has_none}
 use Rattle.cs_frame.specs.Pointers.{extents_from, spelled_extents}
-use Rattle.cs_frame.proofs.ExtentPageLaws.{are_read, count_again, extents_from-spelled, fourth_byte, head_is_spelled, length-spelled_extents, pages_again, sound, sound_passes, spelled_is_sound, tail_again, version_again}
+use Rattle.cs_frame.proofs.ExtentPageLaws.{are_read, count_again, extents_from-spelled, first_bytes, fourth_byte, head_is_spelled, length-spelled_extents, other_digit, pages_again, sound, sound_passes, spelled_is_sound, tail_again, version_again}
 use Rattle.cs_frame.proofs.Fields.{field_at, take_more}
-use Rattle.cs_frame.proofs.GeometryLaws.{in_bounds-within, within}
+use Rattle.cs_frame.proofs.GeometryLaws.{for_known, in_bounds-within, within}
 use Rattle.cs_frame.proofs.PageLaws.{page_is_padded}
+
+-- no known format is the first
+pub not_first : (format : ℕ) → IsKnown format → format ≡ 1 → ⊥
+not_first = for_known (λ f. f ≡ 1 → ⊥) (λ is. omega (arith, is)) (λ is. omega (arith, is))
 
 -- ---- a page without a fault
 
 -- the numbers of extents and pages pass
 abbrev counts : List ℕ → Bool
-counts page = in_bounds greatest_superblock_extents (number 12 14 page) (number 14 16 page)
+counts page = in_bounds 2 greatest_superblock_extents (number 12 14 page) (number 14 16 page)
 
 -- a page without a fault spells what is read from it
 pub spells : (page : List ℕ) (version pages : ℕ) (extents : List (ℕ × ℕ)) → IsPage page → first_format_fault page ≡ None → version ≡ number 4 12 page → pages ≡ number 14 16 page → extents ≡ first_format_extents page → SpellsFirstFormat page version pages extents
 spells page version pages extents p h v c r =
     let it = sound page 49 (counts page) (first_format_end page) (first_format_extents page) p.size h in
-    let bounds = within greatest_superblock_extents (number 12 14 page) (number 14 16 page) it.counted in
+    let bounds = within 2 greatest_superblock_extents (number 12 14 page) (number 14 16 page) it.counted in
     let size = p.size in
     let bound : first_format_end page + 32 ≤ 4096 = omega (arith, bounds.most_extents) in
     let there = are_read page (number 14 16 page) 16 (first_format_end page) (number 12 14 page) p refl (omega arith) it.pointers in
@@ -79,7 +84,7 @@ module _ (version pages : ℕ) (extents : List (ℕ × ℕ)) (fits : FitsFirstFo
       let page : List ℕ = spelled_first_format version pages extents in
       let e = count_is_read in
       let n = pages_are_read in
-      let counted : counts page ≡ true = in_bounds-within greatest_superblock_extents (number 12 14 page) (number 14 16 page) (record {
+      let counted : counts page ≡ true = in_bounds-within 2 greatest_superblock_extents (number 12 14 page) (number 14 16 page) (record {
         fewest_extents = omega (arith, e, fits.fewest_extents);
         most_extents = omega (arith, e, fits.most_extents);
         fewest_pages = omega (arith, n, fits.fewest_pages);
@@ -106,43 +111,78 @@ count_of page version pages extents s = ap (number 12 14) s.spelled ∙ count_is
 pub fourth_is : (page : List ℕ) → first_format_fault page ≡ None → slice_index page 3 ≡ 49
 fourth_is page h = fourth_byte page 49 (counts page) (first_format_end page) (first_format_extents page) h
 
+-- it is refused as a section of any format by its fourth byte
+pub first_as_section : (format : ℕ) (page : List ℕ) → IsKnown format → first_format_fault page ≡ None → superblock_fault format page ≡ Some BadVersion
+first_as_section format page known h =
+    other_digit page (48 + format) (section_counts format page) (superblock_end page) (superblock_extents page)
+    (first_bytes page 49 (counts page) (first_format_end page) (first_format_extents page) h)
+    (λ same. not_first format known (omega (arith, same, fourth_is page h)))
+
+-- and a section is refused in the first format
+pub section_as_first : (format : ℕ) (page : List ℕ) → IsKnown format → superblock_fault format page ≡ None → first_format_fault page ≡ Some BadVersion
+section_as_first format page known h =
+    other_digit page 49 (counts page) (first_format_end page) (first_format_extents page) (same_magic format page h)
+    (λ same. not_first format known (omega (arith, same, section_fourth format page h)))
+
 -- ---- page 0
 
--- so the two formats have no page in common
-pub apart : (page : List ℕ) → first_format_fault page ≡ None → superblock_fault page ≡ None → ⊥
-apart page a b = omega (arith, fourth_is page a, fourth_is_2 page b)
+-- so the first format has no page in common with another
+pub apart : (format : ℕ) (page : List ℕ) → IsKnown format → first_format_fault page ≡ None → superblock_fault format page ≡ None → ⊥
+apart format page known a b = not_first format known (omega (arith, fourth_is page a, section_fourth format page b))
 
 -- the fourth byte says which tests are made
 pub zero_first : (page : List ℕ) → slice_index page 3 ≡ 49 → first_format_fault page ≡ page_zero_fault page
 zero_first page is =
     let test : (slice_index page 3 == 49) ≡ true = eq-eqb (slice_index page 3) 49 is in
-    ap (λ (b : Bool). if b then first_format_fault page else superblock_fault page) (sym test)
+    ap (λ (b : Bool). if b then first_format_fault page else superblock_fault (zero_format page) page) (sym test)
 
-pub zero_second : (page : List ℕ) → slice_index page 3 ≢ 49 → superblock_fault page ≡ page_zero_fault page
+pub zero_second : (page : List ℕ) → slice_index page 3 ≢ 49 → superblock_fault (zero_format page) page ≡ page_zero_fault page
 zero_second page other =
     let test : (slice_index page 3 == 49) ≡ false = ne_eqb (slice_index page 3) 49 other in
-    ap (λ (b : Bool). if b then first_format_fault page else superblock_fault page) (sym test)
+    ap (λ (b : Bool). if b then first_format_fault page else superblock_fault (zero_format page) page) (sym test)
 
 pub zero_of_first : (page : List ℕ) → first_format_fault page ≡ None → page_zero_fault page ≡ None
 zero_of_first page h = sym (zero_first page (fourth_is page h)) ∙ h
 
-pub zero_of_section : (page : List ℕ) → superblock_fault page ≡ None → page_zero_fault page ≡ None
-zero_of_section page h = sym (zero_second page (λ same. omega (arith, fourth_is_2 page h, same))) ∙ h
+-- the tests that are made are those of the section's format
+pub zero_format-known : (page : List ℕ) → IsKnown (zero_format page)
+zero_format-known page = go (slice_index page 3 == 51)
+  where
+    go : (b : Bool) → IsKnown (if b then 3 else 2)
+    go true = inr refl
+    go false = inl refl
 
--- what page 0 spells, where it has no fault, it spells in one of the two formats
-pub zero_is_one : (page : List ℕ) → page_zero_fault page ≡ None → (first_format_fault page ≡ None) ⊎ (superblock_fault page ≡ None)
+pub zero_format-is : (format : ℕ) (page : List ℕ) → IsKnown format → slice_index page 3 ≡ 48 + format → zero_format page ≡ format
+zero_format-is format page known fourth = for_known (λ f. slice_index page 3 ≡ 48 + f → zero_format page ≡ f)
+    (λ two. ap (λ (b : Bool). if b then 3 else 2) (ne_eqb (slice_index page 3) 51 (λ three. omega (arith, two, three))))
+    (λ three. ap (λ (b : Bool). if b then 3 else 2) (eq-eqb (slice_index page 3) 51 three)) format known fourth
+
+pub zero_spells : (page : List ℕ) (format version extents pages sections section : ℕ) (written : List (ℕ × ℕ)) → SpellsSuperblock page format version extents pages sections section written → zero_format page ≡ format
+zero_spells page format version extents pages sections section written s =
+    zero_format-is format page s.fits.geometry.known (section_fourth format page (section_has_none page format version extents pages sections section written s))
+
+pub zero_of_section : (format : ℕ) (page : List ℕ) → IsKnown format → superblock_fault format page ≡ None → page_zero_fault page ≡ None
+zero_of_section format page known h =
+    let fourth = section_fourth format page h in
+    sym (zero_second page (λ same. not_first format known (omega (arith, fourth, same))))
+    ∙ ap (λ (f : ℕ). superblock_fault f page) (zero_format-is format page known fourth) ∙ h
+
+-- what page 0 spells, where it has no fault, it spells in the first format or in the one of its fourth byte
+pub zero_is_one : (page : List ℕ) → page_zero_fault page ≡ None → (first_format_fault page ≡ None) ⊎ (superblock_fault (zero_format page) page ≡ None)
 zero_is_one page h = go (slice_index page 3 == 49) h
   where
-    go : (b : Bool) → (if b then first_format_fault page else superblock_fault page) ≡ None → (first_format_fault page ≡ None) ⊎ (superblock_fault page ≡ None)
+    go : (b : Bool) → (if b then first_format_fault page else superblock_fault (zero_format page) page) ≡ None
+        → (first_format_fault page ≡ None) ⊎ (superblock_fault (zero_format page) page ≡ None)
     go true h = inl h
     go false h = inr h
 
--- a superblock of the first format is one section, of all extents
-pub first_format_fits : (version pages : ℕ) (extents : List (ℕ × ℕ)) → FitsFirstFormat version pages extents → FitsSuperblock version (length extents) pages 1 0 extents
+-- a superblock of the first format is one section, of all extents, of a store of format 2
+pub first_format_fits : (version pages : ℕ) (extents : List (ℕ × ℕ)) → FitsFirstFormat version pages extents → FitsSuperblock 2 version (length extents) pages 1 0 extents
 first_format_fits version pages extents fits = record {
   first_version = fits.first_version;
   last_version = fits.last_version;
   geometry = record {
+    known = inl refl;
     fewest_extents = fits.fewest_extents;
     most_extents = omega (arith, fits.most_extents);
     fewest_pages = fits.fewest_pages;
@@ -161,12 +201,13 @@ first_format_fits version pages extents fits = record {
     whole n = omega arith
 
 -- a section that page 0 spells can be spelled
-pub page_zero_fits : (page : List ℕ) (version extents pages sections section : ℕ) (written : List (ℕ × ℕ))
-    → SpellsPageZero page version extents pages sections section written → FitsSuperblock version extents pages sections section written
-page_zero_fits page version extents pages sections section written = ⊎_elim
-    (λ (s : SpellsSuperblock page version extents pages sections section written). s.fits)
-    (λ (s : IsOfFirstFormat page version extents pages sections section written).
-    subst (λ (n : ℕ). FitsSuperblock version n pages sections section written) (sym s.all_extents)
-    (subst (λ (n : ℕ). FitsSuperblock version (length written) pages n section written) (sym s.one_section)
-    (subst (λ (n : ℕ). FitsSuperblock version (length written) pages 1 n written) (sym s.first_section)
-    (first_format_fits version pages written s.spells.fits))))
+pub page_zero_fits : (page : List ℕ) (format version extents pages sections section : ℕ) (written : List (ℕ × ℕ))
+    → SpellsPageZero page format version extents pages sections section written → FitsSuperblock format version extents pages sections section written
+page_zero_fits page format version extents pages sections section written = ⊎_elim
+    (λ (s : SpellsSuperblock page format version extents pages sections section written). s.fits)
+    (λ (s : IsOfFirstFormat page format version extents pages sections section written).
+    subst (λ (n : ℕ). FitsSuperblock n version extents pages sections section written) (sym s.written_in)
+    (subst (λ (n : ℕ). FitsSuperblock 2 version n pages sections section written) (sym s.all_extents)
+    (subst (λ (n : ℕ). FitsSuperblock 2 version (length written) pages n section written) (sym s.one_section)
+    (subst (λ (n : ℕ). FitsSuperblock 2 version (length written) pages 1 n written) (sym s.first_section)
+    (first_format_fits version pages written s.spells.fits)))))

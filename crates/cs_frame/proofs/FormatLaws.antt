@@ -25,13 +25,14 @@ use Rattle.cs_frame.specs.Frames.{SpellsFrame, frame_bytes, frame_fault, page_co
 use Rattle.cs_frame.specs.FirstFormat.{spelled_first_format}
 use Rattle.cs_frame.specs.Geometries.{IsGeometry, section_size}
 use Rattle.cs_frame.specs.Locators.{FitsLocator, spelled_locators}
-use Rattle.cs_frame.specs.Roots.{FitsRoot, spelled_root}
+use Rattle.cs_frame.specs.Roots.{FitsRoot, greatest_runs, spelled_root}
 use Rattle.cs_frame.specs.Runs.{Entry, FitsRun, entries_in, spelled_entry, spelled_run}
 use Rattle.cs_frame.specs.Superblocks.{spelled_superblock}
+use Rattle.cs_frame.proofs.GeometryLaws.{Bounds, bounds}
 use Rattle.cs_frame.proofs.FrameLaws.{frame_fault-spelled, payload_is_read}
 use Rattle.cs_frame.proofs.LocatorLaws.{length-spelled_locators}
 use Rattle.cs_frame.proofs.Pieces.{length-first_chunks}
-use Rattle.cs_frame.proofs.RootLaws.{one_root}
+use Rattle.cs_frame.proofs.RootLaws.{HasRoom, fewest_runs, one_reading}
 use Rattle.cs_frame.proofs.RunLaws.{run_is_read}
 
 -- ---- superblocks
@@ -69,12 +70,12 @@ length-spelled_frame : (kind : ℕ) (payload : List ℕ) → length (spelled_fra
 length-spelled_frame kind payload = length-first_chunks 4096 (page_count (length payload)) (frame_bytes kind payload)
 
 -- the pages from a place on are those of the frame that stands there
-stands_there : (S : Shape) (F : Formats) (img : ℕ → Page) (e i n kind : ℕ) (payload : List ℕ) → n ≤ 256
+stands_there : (S : Shape) (F : Formats) (img : ℕ → Page) (e i n kind : ℕ) (payload : List ℕ) → n ≤ 65535
     → length (spelled_frame kind payload) ≤ n → Stand S F img e i (spelled_frame kind payload)
     → SpellsFrame kind (pages_from S F img e i n) payload
 stands_there S F img e i n kind payload few fits stand =
     let count : length (spelled_frame kind payload) ≡ page_count (length payload) = length-spelled_frame kind payload in
-    let pages : (41 + length payload + 4095) / 4096 ≤ 256 = omega (arith, count, fits, few) in
+    let pages : (41 + length payload + 4095) / 4096 ≤ 65535 = omega (arith, count, fits, few) in
     record {
       fits = omega (arith, pages);
       spelled = ap (λ (k : ℕ). take k (pages_from S F img e i n)) (sym count)
@@ -108,13 +109,13 @@ all_fit (l ∷ ls) h =
     let both = and_parts (fits_locator l) (list_all fits_locator ls) h in
     (fits_of l both.0, all_fit ls both.1)
 
-root_of : (v n : ℕ) (ls : List Place) → fits_root v n ls ≡ true → FitsRoot v n (map as_locator ls)
-root_of v n ls h =
+root_of : (format v n : ℕ) (ls : List Place) → fits_root format v n ls ≡ true → HasRoom format v n (map as_locator ls)
+root_of format v n ls h =
     let a = and_parts _ (list_all fits_locator ls) h in
-    let b = and_parts _ (nat_le (length ls) 4) a.0 in
+    let b = and_parts _ (nat_le (length ls) (greatest_runs format)) a.0 in
     let c = and_parts _ (nat_lt n (2 ^ 63)) b.0 in
     let d = and_parts (nat_le 1 v) (nat_lt v (2 ^ 63)) c.0 in
-    let few : length ls ≤ 4 = leb-true _ _ b.1 in
+    let few : length ls ≤ greatest_runs format = leb-true _ _ b.1 in
     record {
       first_version = leb-true _ _ d.0;
       last_version = ltb-true _ _ d.1;
@@ -123,12 +124,12 @@ root_of v n ls h =
       each = all_fit ls a.1;
     }
 
-one_page_one_list : (v w n k : ℕ) (xs ys : List Place) → fits_root v n xs ≡ true → fits_root w k ys ≡ true
-    → spelled_root v n (map as_locator xs) ≡ spelled_root w k (map as_locator ys) → (n ≡ k) × (xs ≡ ys)
-one_page_one_list v w n k xs ys fx fy is =
-    let x = one_root (spelled_root w k (map as_locator ys)) v n (map as_locator xs) (record { fits = root_of v n xs fx; spelled = sym is }) in
-    let y = one_root (spelled_root w k (map as_locator ys)) w k (map as_locator ys) (record { fits = root_of w k ys fy; spelled = refl }) in
-    (sym x.1 ∙ y.1, one_list xs ys (sym x.2 ∙ y.2))
+one_page_one_list : (format v w n k : ℕ) (xs ys : List Place) → fits_root format v n xs ≡ true → fits_root format w k ys ≡ true
+    → spelled_root format v n (map as_locator xs) ≡ spelled_root format w k (map as_locator ys) → (n ≡ k) × (xs ≡ ys)
+one_page_one_list format v w n k xs ys fx fy is =
+    let x = one_reading (spelled_root format w k (map as_locator ys)) format v n (map as_locator xs) (root_of format v n xs fx) (sym is) in
+    let y = one_reading (spelled_root format w k (map as_locator ys)) format w k (map as_locator ys) (root_of format w k ys fy) refl in
+    (sym x.of_commands ∙ y.of_commands, one_list xs ys (sym x.of_runs ∙ y.of_runs))
 
 -- a page lists the runs in the other order
 all_fit_reversed : (ls : List Place) → list_all fits_locator ls ≡ true → list_all fits_locator (reverse ls) ≡ true
@@ -139,20 +140,39 @@ all_fit_reversed (l ∷ ls) h =
     (list_all-append fits_locator (reverse ls) (l ∷ [])
     ∙ and_from (list_all fits_locator (reverse ls)) (fits_locator l && true) (all_fit_reversed ls both.1) (and_from (fits_locator l) true both.0 refl))
 
-fits_reversed : (v n : ℕ) (ls : List Place) → fits_root v n ls ≡ true → fits_root v n (reverse ls) ≡ true
-fits_reversed v n ls h =
+fits_reversed : (format v n : ℕ) (ls : List Place) → fits_root format v n ls ≡ true → fits_root format v n (reverse ls) ≡ true
+fits_reversed format v n ls h =
     let a = and_parts _ (list_all fits_locator ls) h in
-    let b = and_parts _ (nat_le (length ls) 4) a.0 in
-    and_from _ _ (and_from _ _ b.0 (subst (λ (k : ℕ). nat_le k 4 ≡ true) (sym (length-reverse ls)) b.1)) (all_fit_reversed ls a.1)
+    let b = and_parts _ (nat_le (length ls) (greatest_runs format)) a.0 in
+    and_from _ _ (and_from _ _ b.0 (subst (λ (k : ℕ). nat_le k (greatest_runs format) ≡ true) (sym (length-reverse ls)) b.1)) (all_fit_reversed ls a.1)
 
-one_page_one_root : (v w n k : ℕ) (xs ys : List Place) → fits_root v n xs ≡ true → fits_root w k ys ≡ true
-    → spelled_root v n (map as_locator (reverse xs)) ≡ spelled_root w k (map as_locator (reverse ys)) → (n ≡ k) × (xs ≡ ys)
-one_page_one_root v w n k xs ys fx fy is =
-    let both = one_page_one_list v w n k (reverse xs) (reverse ys) (fits_reversed v n xs fx) (fits_reversed w k ys fy) is in
+one_page_one_root : (format v w n k : ℕ) (xs ys : List Place) → fits_root format v n xs ≡ true → fits_root format w k ys ≡ true
+    → spelled_root format v n (map as_locator (reverse xs)) ≡ spelled_root format w k (map as_locator (reverse ys)) → (n ≡ k) × (xs ≡ ys)
+one_page_one_root format v w n k xs ys fx fy is =
+    let both = one_page_one_list format v w n k (reverse xs) (reverse ys) (fits_reversed format v n xs fx) (fits_reversed format w k ys fy) is in
     (both.0, sym (reverse-reverse xs) ∙ ap (λ (ls : List Place). reverse ls) both.1 ∙ reverse-reverse ys)
 
+-- a root that can be spelled fits
+all_fit_back : (ls : List Place) → AllByRecursion FitsLocator (map as_locator ls) → list_all fits_locator ls ≡ true
+all_fit_back [] all = refl
+all_fit_back (l ∷ ls) all =
+    and_from (fits_locator l) (list_all fits_locator ls)
+    (and_from _ _ (and_from _ _ (lt-ltb l.extent (2 ^ 16) all.0.extent) (lt-ltb l.page (2 ^ 16) all.0.page)) (lt-ltb l.generation (2 ^ 32) all.0.generation))
+    (all_fit_back ls all.1)
+
+pub root_fits_from : (format v n : ℕ) (ls : List Place) → FitsRoot format v n (map as_locator (reverse ls)) → fits_root format v n ls ≡ true
+root_fits_from format v n ls fits =
+    let few : length ls ≤ greatest_runs format = omega (arith, fits.count, length-map (reverse ls) as_locator, length-reverse ls) in
+    let each : list_all fits_locator ls ≡ true =
+    subst (λ (xs : List Place). list_all fits_locator xs ≡ true) (reverse-reverse ls) (all_fit_reversed (reverse ls) (all_fit_back (reverse ls) fits.each)) in
+    and_from _ _
+    (and_from _ _
+    (and_from _ _ (and_from _ _ (le-leb 1 v fits.first_version) (lt-ltb v (2 ^ 63) fits.last_version)) (lt-ltb n (2 ^ 63) fits.last_command))
+    (le-leb (length ls) (greatest_runs format) few))
+    each
+
 -- what is there has numbers that fit
-in_range : (extents pages g : ℕ) (l : Place) → extents ≤ 2048 → pages ≤ 256 → g < 2 ^ 32 → l.extent < extents → l.page < pages
+in_range : (extents pages g : ℕ) (l : Place) → extents ≤ 7680 → pages ≤ 65535 → g < 2 ^ 32 → l.extent < extents → l.page < pages
     → l.generation ≤ g → fits_locator l ≡ true
 in_range extents pages g l few short old a b c =
     let extent : nat_lt l.extent (2 ^ 16) ≡ true = lt-ltb l.extent (2 ^ 16) (omega (arith, a, few)) in
@@ -340,25 +360,29 @@ some_entry (x ∷ xs) h = omega arith
 
 -- ---- all of it
 
-module _ (extents pages sections format : ℕ) (is : IsGeometry extents pages sections) where
+-- of dimensions that are in bounds, whatever number the shape's format has
+module _ (f extents pages sections format : ℕ) (is : IsGeometry f extents pages sections) where
   abbrev S : Shape
   S = shape_of extents pages sections (section_size extents sections) format
 
   abbrev F : Formats
   F = formats_of (shape_of extents pages sections (section_size extents sections) format)
 
-  few : pages ≤ 256
-  few = is.most_pages
+  limits : Bounds extents pages sections
+  limits = bounds f extents pages sections is
+
+  few : pages ≤ 65535
+  few = limits.most_pages
 
   fits : (l : Place) → InRange S l → fits_locator l ≡ true
-  fits l r = in_range extents pages 4294967295 l is.most_extents is.most_pages (omega arith) r.0.0 r.0.1 r.1
+  fits l r = in_range extents pages 4294967295 l limits.most_extents limits.most_pages (omega arith) r.0.0 r.0.1 r.1
 
   root_fits : (v n : ℕ) (ls : List Place) → 1 ≤ v → v ≤ 9223372036854775807 → n ≤ 9223372036854775807
-      → length ls ≤ 4 → ((l : Place) → l ∈ ls → InRange S l) → fits_root v n ls ≡ true
+      → length ls ≤ 4 → ((l : Place) → l ∈ ls → InRange S l) → fits_root format v n ls ≡ true
   root_fits v n ls some high last count each = and_from _ _
       (and_from _ _
       (and_from _ _ (and_from _ _ (le-leb _ _ some) (lt-ltb _ _ (omega (arith, high)))) (lt-ltb _ _ (omega (arith, last))))
-      (le-leb _ _ count))
+      (le-leb _ _ (omega (arith, count, fewest_runs format))))
       (all_of fits_locator ls (λ l there. fits l (each l there)))
 
   run_fits : (entries : List NamedEntry) → IsRunList S entries → fits_run entries ≡ true
@@ -383,12 +407,12 @@ module _ (extents pages sections format : ℕ) (is : IsGeometry extents pages se
       frame_fault-spelled kind (pages_from S F img e i (pages - i)) payload
       (stands_there S F img e i (pages - i) kind payload (omega (arith, few)) (omega (arith, inside)) stand)
 
-  pub is_format : IsFormat S F
-  is_format = record {
-    section = λ f j v p g q h same.
-        ap (λ (es : List (ℕ × ℕ)). if (f == 1) && (sections == 1) then spelled_first_format v pages es else spelled_superblock v extents pages sections j es) (one_section S.section p g q h j 0 extents same);
+  pub any_is_format : IsFormat S F
+  any_is_format = record {
+    section = λ k j v p g q h same.
+        ap (λ (es : List (ℕ × ℕ)). if (k == 1) && (format == 2) && (sections == 1) then spelled_first_format v pages es else spelled_superblock format v extents pages sections j es) (one_section S.section p g q h j 0 extents same);
     some_page = λ kind payload. omega (arith, length-spelled_frame (kind_number kind) payload);
-    one_root = one_page_one_root;
+    one_root = one_page_one_root format;
     one_run = λ xs ys fx fy same. one_entries xs ys (entries_fit xs fx) (entries_fit ys fy) (ap (drop 4) same);
     one_payload = λ img e i kind. one_payload img e i (kind_number kind);
     root_fits = root_fits;
@@ -396,3 +420,8 @@ module _ (extents pages sections format : ℕ) (is : IsGeometry extents pages se
     no_fault = λ img e i kind payload inside stand.
         ap (option_map refusal_of) (no_fault img e i (kind_number kind) payload inside stand);
   }
+
+-- so has a store's own shape
+pub is_format : (format extents pages sections : ℕ) → IsGeometry format extents pages sections
+    → let S = shape_of extents pages sections (section_size extents sections) format in IsFormat S (formats_of S)
+is_format format extents pages sections is = any_is_format format extents pages sections format is

@@ -1,24 +1,30 @@
 -- What the tests of a store's dimensions and of its sections say.
-use Rattle.std.proofs.Common.{◌≡◌, ℕ, zero, suc, ◌+◌, ◌-◌, ◌*◌, ◌/◌, ◌%◌, ◌<◌, ◌≤◌, min, true, arith, ◌&&◌, nat_le, nat_lt, sym, ap, ◌∙◌}
+use Rattle.std.proofs.Common.{◌≡◌, ⊎_elim, ℕ, zero, suc, ◌+◌, ◌-◌, ◌*◌, ◌/◌, ◌%◌, ◌<◌, ◌≤◌, min, true, arith, ◌&&◌, nat_le, nat_lt, sym, ap, subst, ◌∙◌}
 use Rattle.std.specs.Prelude.{◌↔◌}
 use Rattle.std.proofs.Math.Nat.{mod-lt, mul_comm}
 use Rattle.std.proofs.lemmas.Nat.{div-add-mod', div-mul-add, div_below}
-use Rattle.cs_model.specs.Geometry.{IsGeometry as IsModelGeometry}
+use Rattle.cs_model.proofs.LocalRecovery.{lies_below}
+use Rattle.cs_model.specs.Geometry.{IsGeometry as IsModelGeometry, shape_of}
+use Rattle.cs_model.specs.Local.{LiesBelow}
 use Rattle.std.proofs.lemmas.Bool.{and_parts, and_from, leb-true, ltb-true, le-leb, lt-ltb}
-use Rattle.cs_frame.specs.Geometries.{IsGeometry, greatest_extents, greatest_pages, greatest_section_extents, greatest_sections, in_bounds, is_divided, least_extents, least_pages, lengths_below, section_length, section_size, section_start}
+use Rattle.cs_frame.specs.Geometries.{IsGeometry, IsKnown, device_pages, greatest_extents, greatest_pages, greatest_section_extents, greatest_sections, in_bounds, is_divided, least_extents, least_pages, lengths_below, section_length, section_size, section_start}
+
+-- what holds for one known format and for the other holds for each
+pub for_known : (P : ℕ → Type 0) → P 2 → P 3 → (format : ℕ) → IsKnown format → P format
+for_known P two three format = ⊎_elim (λ is. subst P (sym is) two) (λ is. subst P (sym is) three)
 
 -- the dimensions are in bounds
-pub record IsWithin (greatest extents pages : ℕ) : Type 0 where
-  pub fewest_extents : least_extents ≤ extents
+pub record IsWithin (format greatest extents pages : ℕ) : Type 0 where
+  pub fewest_extents : least_extents format ≤ extents
   pub most_extents : extents ≤ greatest
   pub fewest_pages : least_pages ≤ pages
-  pub most_pages : pages ≤ greatest_pages
+  pub most_pages : pages ≤ greatest_pages format
 
-pub within : (greatest extents pages : ℕ) → in_bounds greatest extents pages ≡ true → IsWithin greatest extents pages
-within greatest extents pages h =
-    let three = and_parts (nat_le least_extents extents && nat_le extents greatest && nat_le least_pages pages) (nat_le pages greatest_pages) h in
-    let two = and_parts (nat_le least_extents extents && nat_le extents greatest) (nat_le least_pages pages) three.0 in
-    let one = and_parts (nat_le least_extents extents) (nat_le extents greatest) two.0 in
+pub within : (format greatest extents pages : ℕ) → in_bounds format greatest extents pages ≡ true → IsWithin format greatest extents pages
+within format greatest extents pages h =
+    let three = and_parts (nat_le (least_extents format) extents && nat_le extents greatest && nat_le least_pages pages) (nat_le pages (greatest_pages format)) h in
+    let two = and_parts (nat_le (least_extents format) extents && nat_le extents greatest) (nat_le least_pages pages) three.0 in
+    let one = and_parts (nat_le (least_extents format) extents) (nat_le extents greatest) two.0 in
     record {
       fewest_extents = leb-true _ _ one.0;
       most_extents = leb-true _ _ one.1;
@@ -26,20 +32,50 @@ within greatest extents pages h =
       most_pages = leb-true _ _ three.1;
     }
 
-pub in_bounds-within : (greatest extents pages : ℕ) → IsWithin greatest extents pages → in_bounds greatest extents pages ≡ true
-in_bounds-within greatest extents pages w =
-    and_from _ _ (and_from _ _ (and_from _ _ (le-leb least_extents extents w.fewest_extents) (le-leb extents greatest w.most_extents)) (le-leb least_pages pages w.fewest_pages)) (le-leb pages greatest_pages w.most_pages)
+pub in_bounds-within : (format greatest extents pages : ℕ) → IsWithin format greatest extents pages → in_bounds format greatest extents pages ≡ true
+in_bounds-within format greatest extents pages w =
+    and_from _ _ (and_from _ _ (and_from _ _ (le-leb (least_extents format) extents w.fewest_extents) (le-leb extents greatest w.most_extents)) (le-leb least_pages pages w.fewest_pages)) (le-leb pages (greatest_pages format) w.most_pages)
+
+-- what the bounds of a store say in any format
+pub record Bounds (extents pages sections : ℕ) : Type 0 where
+  pub fewest_extents : 4 ≤ extents
+  pub most_extents : extents ≤ 7680
+  pub fewest_pages : 2 ≤ pages
+  pub most_pages : pages ≤ 65535
+  pub most_sections : sections ≤ 15
+
+pub bounds : (format extents pages sections : ℕ) → IsGeometry format extents pages sections → Bounds extents pages sections
+bounds format extents pages sections g = record {
+  fewest_extents = omega (arith, g.fewest_extents, least format g.known);
+  most_extents = omega (arith, g.most_extents, most format g.known);
+  fewest_pages = g.fewest_pages;
+  most_pages = omega (arith, g.most_pages, longest format g.known);
+  most_sections = omega (arith, g.most_sections, divided format g.known);
+}
+  where
+    least : (format : ℕ) → IsKnown format → 4 ≤ least_extents format
+    least = for_known (λ f. 4 ≤ least_extents f) (omega arith) (omega arith)
+
+    most : (format : ℕ) → IsKnown format → greatest_extents format ≤ 7680
+    most = for_known (λ f. greatest_extents f ≤ 7680) (omega arith) (omega arith)
+
+    longest : (format : ℕ) → IsKnown format → greatest_pages format ≤ 65535
+    longest = for_known (λ f. greatest_pages f ≤ 65535) (omega arith) (omega arith)
+
+    divided : (format : ℕ) → IsKnown format → greatest_sections format ≤ 15
+    divided = for_known (λ f. greatest_sections f ≤ 15) (omega arith) (omega arith)
 
 -- the tests of a geometry pass for it alone
-pub geometry_tested : (extents pages sections : ℕ) → in_bounds greatest_extents extents pages ≡ true → is_divided extents sections ≡ true → IsGeometry extents pages sections
-geometry_tested extents pages sections bounds h =
-    let w = within greatest_extents extents pages bounds in
+pub geometry_tested : (format extents pages sections : ℕ) → IsKnown format → in_bounds format (greatest_extents format) extents pages ≡ true → is_divided format extents sections ≡ true → IsGeometry format extents pages sections
+geometry_tested format extents pages sections known bounds h =
+    let w = within format (greatest_extents format) extents pages bounds in
     let size : ℕ = section_size extents sections in
     let last : ℕ = section_start extents sections (sections - 1) in
-    let three = and_parts (nat_le 1 sections && nat_le sections greatest_sections && nat_le size greatest_section_extents) (nat_lt last extents) h in
-    let two = and_parts (nat_le 1 sections && nat_le sections greatest_sections) (nat_le size greatest_section_extents) three.0 in
-    let one = and_parts (nat_le 1 sections) (nat_le sections greatest_sections) two.0 in
+    let three = and_parts (nat_le 1 sections && nat_le sections (greatest_sections format) && nat_le size greatest_section_extents) (nat_lt last extents) h in
+    let two = and_parts (nat_le 1 sections && nat_le sections (greatest_sections format)) (nat_le size greatest_section_extents) three.0 in
+    let one = and_parts (nat_le 1 sections) (nat_le sections (greatest_sections format)) two.0 in
     record {
+      known = known;
       fewest_extents = w.fewest_extents;
       most_extents = w.most_extents;
       fewest_pages = w.fewest_pages;
@@ -50,13 +86,13 @@ geometry_tested extents pages sections bounds h =
       none_empty = ltb-true _ _ three.1;
     }
 
-pub in_bounds-geometry : (extents pages sections : ℕ) → IsGeometry extents pages sections → in_bounds greatest_extents extents pages ≡ true
-in_bounds-geometry extents pages sections s =
-    in_bounds-within greatest_extents extents pages (record { fewest_extents = s.fewest_extents; most_extents = s.most_extents; fewest_pages = s.fewest_pages; most_pages = s.most_pages })
+pub in_bounds-geometry : (format extents pages sections : ℕ) → IsGeometry format extents pages sections → in_bounds format (greatest_extents format) extents pages ≡ true
+in_bounds-geometry format extents pages sections s =
+    in_bounds-within format (greatest_extents format) extents pages (record { fewest_extents = s.fewest_extents; most_extents = s.most_extents; fewest_pages = s.fewest_pages; most_pages = s.most_pages })
 
-pub is_divided-geometry : (extents pages sections : ℕ) → IsGeometry extents pages sections → is_divided extents sections ≡ true
-is_divided-geometry extents pages sections s =
-    and_from _ _ (and_from _ _ (and_from _ _ (le-leb 1 sections s.fewest_sections) (le-leb sections greatest_sections s.most_sections)) (le-leb (section_size extents sections) greatest_section_extents s.section_fits)) (lt-ltb (section_start extents sections (sections - 1)) extents s.none_empty)
+pub is_divided-geometry : (format extents pages sections : ℕ) → IsGeometry format extents pages sections → is_divided format extents sections ≡ true
+is_divided-geometry format extents pages sections s =
+    and_from _ _ (and_from _ _ (and_from _ _ (le-leb 1 sections s.fewest_sections) (le-leb sections (greatest_sections format) s.most_sections)) (le-leb (section_size extents sections) greatest_section_extents s.section_fits)) (lt-ltb (section_start extents sections (sections - 1)) extents s.none_empty)
 
 -- no section has more extents than the first
 pub section_length-le : (extents sections section : ℕ) → section_length extents sections section ≤ section_size extents sections
@@ -67,7 +103,7 @@ section_length-le extents sections section = at_most (section_size extents secti
 
 -- ---- which extents a section has
 
-module _ (extents pages sections : ℕ) (g : IsGeometry extents pages sections) where
+module _ (format extents pages sections : ℕ) (g : IsGeometry format extents pages sections) where
   abbrev size : ℕ
   size = section_size extents sections
 
@@ -82,7 +118,7 @@ module _ (extents pages sections : ℕ) (g : IsGeometry extents pages sections) 
   all_covered = omega (arith, parts, rest, mul_comm sections size, g.fewest_sections)
 
   pub some_in_each : 0 < section_size extents sections
-  some_in_each = some size all_covered g.fewest_extents
+  some_in_each = some size all_covered (bounds format extents pages sections g).fewest_extents
     where
       some : (n : ℕ) → extents ≤ sections * n → 4 ≤ extents → 0 < n
       some zero le least = absurd (omega (arith, le, least))
@@ -126,3 +162,14 @@ module _ (extents pages sections : ℕ) (g : IsGeometry extents pages sections) 
     some_extent = some_in_each;
     all = all_covered;
   }
+
+-- all that a store looks at lies on its device
+pub lies_in_device : (format extents pages sections : ℕ) → IsGeometry format extents pages sections
+    → LiesBelow (shape_of extents pages sections (section_size extents sections) format) (device_pages format extents pages sections)
+lies_in_device format extents pages sections g =
+    let below = lies_below extents pages sections (section_size extents sections) format (model_geometry format extents pages sections g) in
+    record {
+      root = omega (arith, below.root);
+      sections = λ j lt. omega (arith, below.sections j lt);
+      frames = λ e i inside. omega (arith, below.frames e i inside);
+    }

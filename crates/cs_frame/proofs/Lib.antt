@@ -11,3 +11,5 @@ pub mod FirstFormatLaws
 pub mod FrameLaws
 pub mod RunLaws
 pub mod FormatLaws
+pub mod TellingLaws
+pub mod FittingLaws

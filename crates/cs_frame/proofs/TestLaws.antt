@@ -12,6 +12,12 @@ pub passed : (b : Bool) (f : FormatFault) (tests : List (Option FormatFault)) �
 passed true f tests h = (refl, h)
 passed false f tests h = cc
 
+-- where the first passes and the second doesn't, that one is answered
+pub fails_second : (a b : Bool) (f g : FormatFault) (tests : List (Option FormatFault)) → a ≡ true → b ≡ false → first_fault (unless a f ∷ unless b g ∷ tests) ≡ Some g
+fails_second true false f g tests p q = refl
+fails_second true true f g tests p q = cc
+fails_second false b f g tests p q = cc
+
 -- none of the tests fails
 pub record Passes (tests : List (Option FormatFault)) : Type 0 where
   pub none : first_fault tests ≡ None

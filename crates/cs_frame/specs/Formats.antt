@@ -11,7 +11,7 @@ use Rattle.cs_frame.specs.declared.faults.FormatFault.TheVariants as fault
 use Rattle.cs_frame.specs.declared.locators.Locator.{Locator}
 use Rattle.cs_frame.specs.FirstFormat.{spelled_first_format}
 use Rattle.cs_frame.specs.Frames.{frame_fault, spelled_frame}
-use Rattle.cs_frame.specs.Roots.{spelled_root}
+use Rattle.cs_frame.specs.Roots.{greatest_runs, spelled_root}
 use Rattle.cs_frame.specs.Runs.{Entry, spelled_run}
 use Rattle.cs_frame.specs.Superblocks.{spelled_superblock}
 
@@ -61,9 +61,9 @@ abbrev pub fits_locator : Place → Bool
 fits_locator l = nat_lt l.extent (2 ^ 16) && nat_lt l.page (2 ^ 16) && nat_lt l.generation (2 ^ 32)
 
 -- a root has a spelling
-abbrev pub fits_root : (version commands : ℕ) → List Place → Bool
-fits_root version commands runs =
-    nat_le 1 version && nat_lt version (2 ^ 63) && nat_lt commands (2 ^ 63) && nat_le (length runs) 4 && list_all fits_locator runs
+abbrev pub fits_root : (format version commands : ℕ) → List Place → Bool
+fits_root format version commands runs =
+    nat_le 1 version && nat_lt version (2 ^ 63) && nat_lt commands (2 ^ 63) && nat_le (length runs) (greatest_runs format) && list_all fits_locator runs
 
 -- an entry has at most eight locators, which fit
 abbrev pub fits_entry : NamedEntry → Bool
@@ -80,19 +80,19 @@ abbrev pub fits_run : List NamedEntry → Bool
 fits_run entries =
     nat_le 1 (length entries) && nat_lt (length entries) (2 ^ 32) && list_all fits_entry entries && rises entries
 
--- the formats of a store of this shape: a superblock of one section is one page for all extents in format 1, and any other is in sections; a
--- root lists its runs oldest first, which the machine has newest first
+-- the formats of a store of this shape: in a store of format 2 a superblock of one section may be one page for all extents, in format 1, and any
+-- other is in sections as the store's format has them; a root lists its runs oldest first, which the machine has newest first
 abbrev pub formats_of : Shape → Formats
 formats_of S = record {
   superblock = λ format section version pointers generations.
-      if (format == 1) && (S.sections == 1)
+      if (format == 1) && (S.format == 2) && (S.sections == 1)
       then spelled_first_format version S.pages (extents_of S.section pointers generations section 0 S.extents)
-      else spelled_superblock version S.extents S.pages S.sections section
+      else spelled_superblock S.format version S.extents S.pages S.sections section
       (extents_of S.section pointers generations section 0 S.extents);
-  root = λ version commands runs. spelled_root version commands (map as_locator (reverse runs));
+  root = λ version commands runs. spelled_root S.format version commands (map as_locator (reverse runs));
   frame = λ kind payload. spelled_frame (kind_number kind) payload;
   fault = λ kind pages. option_map refusal_of (frame_fault (kind_number kind) pages);
   run = λ entries. spelled_run (map as_entry entries);
-  fits_root = fits_root;
+  fits_root = fits_root S.format;
   fits_run = fits_run;
 }

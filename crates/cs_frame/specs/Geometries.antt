@@ -1,13 +1,17 @@
--- The dimensions of a store, the bounds of them, and which extents a section of its superblock has.
-use Rattle.std.specs.Prelude.{ℕ, zero, suc, ◌+◌, ◌-◌, ◌*◌, ◌/◌, ◌<◌, ◌≤◌, ◌&&◌, min, Bool, nat_le, nat_lt}
+-- The dimensions of a store, the bounds of them, and which extents a section of its superblock has. A bound is that of a format.
+use Rattle.std.specs.Prelude.{◌≡◌, ◌⊎◌, ℕ, zero, suc, ◌+◌, ◌-◌, ◌*◌, ◌/◌, ◌<◌, ◌≤◌, ◌&&◌, ◌==◌, min, Bool, if◌then◌else◌, nat_le, nat_lt}
+
+-- the formats in which a store is written
+abbrev pub IsKnown : (format : ℕ) → Type 0
+IsKnown format = (format ≡ 2) ⊎ (format ≡ 3)
 
 -- the least number of extents of a store
-abbrev pub least_extents : ℕ
-least_extents = 4
+abbrev pub least_extents : (format : ℕ) → ℕ
+least_extents format = if format == 3 then 5 else 4
 
 -- the greatest number of extents of a store
-abbrev pub greatest_extents : ℕ
-greatest_extents = 2048
+abbrev pub greatest_extents : (format : ℕ) → ℕ
+greatest_extents format = if format == 3 then 7680 else 2048
 
 -- the greatest number of extents of a section
 abbrev pub greatest_section_extents : ℕ
@@ -18,19 +22,20 @@ abbrev pub greatest_superblock_extents : ℕ
 greatest_superblock_extents = 512
 
 -- the greatest number of sections of a superblock
-abbrev pub greatest_sections : ℕ
-greatest_sections = 8
+abbrev pub greatest_sections : (format : ℕ) → ℕ
+greatest_sections format = if format == 3 then 15 else 8
 
 -- the least number of pages of an extent
 abbrev pub least_pages : ℕ
 least_pages = 2
 
 -- the greatest number of pages of an extent
-abbrev pub greatest_pages : ℕ
-greatest_pages = 256
+abbrev pub greatest_pages : (format : ℕ) → ℕ
+greatest_pages format = if format == 3 then 65535 else 256
 
--- how many extents there are, how many pages each has, and how many sections the superblock has
+-- which format the store has, how many extents there are, how many pages each has, and how many sections the superblock has
 pub record Dimensions : Type 0 where
+  pub format : ℕ
   pub extents : ℕ
   pub pages : ℕ
   pub sections : ℕ
@@ -53,13 +58,14 @@ lengths_below extents sections zero = 0
 lengths_below extents sections (suc section) = lengths_below extents sections section + section_length extents sections section
 
 -- There is a store of these dimensions: none of its superblock's sections is empty, and none has more extents than a page has room for.
-pub record IsGeometry (extents pages sections : ℕ) : Type 0 where
-  pub fewest_extents : least_extents ≤ extents
-  pub most_extents : extents ≤ greatest_extents
+pub record IsGeometry (format extents pages sections : ℕ) : Type 0 where
+  pub known : IsKnown format
+  pub fewest_extents : least_extents format ≤ extents
+  pub most_extents : extents ≤ greatest_extents format
   pub fewest_pages : least_pages ≤ pages
-  pub most_pages : pages ≤ greatest_pages
+  pub most_pages : pages ≤ greatest_pages format
   pub fewest_sections : 1 ≤ sections
-  pub most_sections : sections ≤ greatest_sections
+  pub most_sections : sections ≤ greatest_sections format
   pub section_fits : section_size extents sections ≤ greatest_section_extents
   pub none_empty : section_start extents sections (sections - 1) < extents
 
@@ -67,13 +73,29 @@ pub record IsGeometry (extents pages sections : ℕ) : Type 0 where
 abbrev pub sections_needed : (extents : ℕ) → ℕ
 sections_needed extents = (extents + (greatest_section_extents - 1)) / greatest_section_extents
 
+-- the pages that are kept for a second copy of the root and of each section: in format 3 the last of the device
+abbrev pub kept_pages : (format sections : ℕ) → ℕ
+kept_pages format sections = if format == 3 then 1 + sections else 0
+
+-- the pages of the device: the first section and the root, those of the extents, the other sections, and those that are kept
+abbrev pub device_pages : (format extents pages sections : ℕ) → ℕ
+device_pages format extents pages sections = 1 + extents * pages + sections + kept_pages format sections
+
+-- the bytes of a run of so many entries: a count of 4 bytes, and 81 for each entry
+abbrev pub run_bytes : (entries : ℕ) → ℕ
+run_bytes entries = 4 + 81 * entries
+
+-- how many entries a run has room for that takes one whole extent: a frame's header has 41 bytes, a run's count 4, and an entry 81
+abbrev pub named_limit : (pages : ℕ) → ℕ
+named_limit pages = (4096 * pages - 45) / 81
+
 -- so many extents of so many pages, where the greatest number of extents is this
-abbrev pub in_bounds : (greatest extents pages : ℕ) → Bool
-in_bounds greatest extents pages =
-    nat_le least_extents extents && nat_le extents greatest && nat_le least_pages pages && nat_le pages greatest_pages
+abbrev pub in_bounds : (format greatest extents pages : ℕ) → Bool
+in_bounds format greatest extents pages =
+    nat_le (least_extents format) extents && nat_le extents greatest && nat_le least_pages pages && nat_le pages (greatest_pages format)
 
 -- so many sections have so many extents, none too many, and the last of them some
-abbrev pub is_divided : (extents sections : ℕ) → Bool
-is_divided extents sections =
-    nat_le 1 sections && nat_le sections greatest_sections
+abbrev pub is_divided : (format extents sections : ℕ) → Bool
+is_divided format extents sections =
+    nat_le 1 sections && nat_le sections (greatest_sections format)
     && nat_le (section_size extents sections) greatest_section_extents && nat_lt (section_start extents sections (sections - 1)) extents

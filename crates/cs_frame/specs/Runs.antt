@@ -14,6 +14,7 @@ use Rattle.cs_frame.specs.declared.locators.Locator.{Locator}
 use Rattle.cs_frame.specs.declared.runs.Run.{Run}
 use Rattle.cs_frame.specs.Bytes.{IsBytes, all_zero, field, number, zeros}
 use Rattle.cs_frame.specs.Faults.{first_fault, unless}
+use Rattle.cs_frame.specs.Geometries.{run_bytes}
 use Rattle.cs_frame.specs.Locators.{FitsLocator, locators_in, spelled_locators}
 
 -- the greatest number of chunks of a shard
@@ -105,7 +106,7 @@ entries_in payload = map entry_in (pieces_in payload)
 -- a count of at least 1, and as many bytes as it says
 abbrev pub run_length_test : List ℕ → Option FormatFault
 run_length_test payload =
-    unless (nat_le 4 (length payload) && nat_le 1 (number 0 4 payload) && length payload == 4 + 81 * number 0 4 payload) BadLength
+    unless (nat_le 4 (length payload) && nat_le 1 (number 0 4 payload) && length payload == run_bytes (number 0 4 payload)) BadLength
 
 -- the identifier is greater than the one before, if there is one
 abbrev pub order_test : (previous : Option (List ℕ)) → (id : List ℕ) → Option FormatFault

@@ -1,4 +1,4 @@
--- The page of a section of a superblock, field by field, and the tests of its decoder in order.
+-- The page of a section of a superblock, field by field, and the tests of its decoder in order, those of a format.
 use Rattle.std.specs.Prelude.{◌≡◌, ℕ, ◌+◌, ◌*◌, ◌^◌, ◌<◌, ◌≤◌, ◌&&◌, List, [], ◌∷◌, ◌++◌, length, Option, codes, nat_lt, slice_index}
 use Rattle.std.specs.List.{AllByRecursion}
 use Rattle.byteorder.specs.Endian.{big_bytes}
@@ -11,52 +11,53 @@ use Rattle.cs_frame.specs.Geometries.{IsGeometry, greatest_extents, in_bounds, i
 use Rattle.cs_frame.specs.Pages.{digest_test, digit_test, magic_test, padded, padding_test, sealed}
 use Rattle.cs_frame.specs.Pointers.{FitsExtent, extents_from, pointers_test, spelled_extents, superblock_range_test}
 
--- |  0 | 4     | CSS2                                               |
+-- |  0 | 3     | CSS                                                |
+-- |  3 | 1     | the digit of the format, 2 or 3                    |
 -- |  4 | 8     | version                                            |
 -- | 12 | 2     | E, the number of extents, all sections together    |
 -- | 14 | 2     | P, the pages of an extent                          |
 -- | 16 | 1     | S, the number of sections                          |
 -- | 17 | 1     | j, which of them this is, from 0                   |
 -- | 18 | 6 * m | pointer and generation of each of its m extents    |
-abbrev pub superblock_fields : (version extents pages sections section : ℕ) → List (ℕ × ℕ) → List ℕ
-superblock_fields version extents pages sections section written =
-    codes "CSS2" ++ big_bytes 8 version ++ big_bytes 2 extents ++ big_bytes 2 pages ++ sections ∷ [] ++ section ∷ []
+abbrev pub superblock_fields : (format version extents pages sections section : ℕ) → List (ℕ × ℕ) → List ℕ
+superblock_fields format version extents pages sections section written =
+    codes "CSS" ++ (48 + format) ∷ [] ++ big_bytes 8 version ++ big_bytes 2 extents ++ big_bytes 2 pages ++ sections ∷ [] ++ section ∷ []
     ++ spelled_extents written
 
 -- | 18 + 6 * m | 32 | digest of all bytes before |
 -- | 50 + 6 * m |    | zeros to the end           |
-abbrev pub spelled_superblock : (version extents pages sections section : ℕ) → List (ℕ × ℕ) → List ℕ
-spelled_superblock version extents pages sections section written =
-    padded (sealed (superblock_fields version extents pages sections section written))
+abbrev pub spelled_superblock : (format version extents pages sections section : ℕ) → List (ℕ × ℕ) → List ℕ
+spelled_superblock format version extents pages sections section written =
+    padded (sealed (superblock_fields format version extents pages sections section written))
 
 -- what has a spelling
-pub record FitsSuperblock (version extents pages sections section : ℕ) (written : List (ℕ × ℕ)) : Type 0 where
+pub record FitsSuperblock (format version extents pages sections section : ℕ) (written : List (ℕ × ℕ)) : Type 0 where
   pub first_version : 1 ≤ version
   pub last_version : version < 2 ^ 63
-  pub geometry : IsGeometry extents pages sections
+  pub geometry : IsGeometry format extents pages sections
   pub one_of_them : section < sections
   pub count : length written ≡ section_length extents sections section
   pub each : AllByRecursion (FitsExtent pages) written
 
 -- the bytes are the spelling of these
-pub record SpellsSuperblock (bytes : List ℕ) (version extents pages sections section : ℕ) (written : List (ℕ × ℕ)) : Type 0 where
-  pub fits : FitsSuperblock version extents pages sections section written
-  pub spelled : bytes ≡ spelled_superblock version extents pages sections section written
+pub record SpellsSuperblock (bytes : List ℕ) (format version extents pages sections section : ℕ) (written : List (ℕ × ℕ)) : Type 0 where
+  pub fits : FitsSuperblock format version extents pages sections section written
+  pub spelled : bytes ≡ spelled_superblock format version extents pages sections section written
 
 -- a section that can be spelled: what its type doesn't say of its numbers
 pub record IsSuperblock (it : Superblock) : Type 0 where
   pub first_version : 1 ≤ it.version
   pub last_version : it.version < 2 ^ 63
-  pub geometry : IsGeometry it.extent_count it.pages it.sections
+  pub geometry : IsGeometry it.format it.extent_count it.pages it.sections
   pub one_of_them : it.section < it.sections
   pub count : length it.extents.items ≡ section_length it.extent_count it.sections it.section
   pub pointers : AllByRecursion (λ extent. extent.0 ≤ it.pages) it.extents.items
 
 -- these numbers are a section's that can be spelled: the types of the generations bound them
-pub record IsSection (version extents pages sections section : ℕ) (written : List (ℕ × ℕ)) : Type 0 where
+pub record IsSection (format version extents pages sections section : ℕ) (written : List (ℕ × ℕ)) : Type 0 where
   pub first_version : 1 ≤ version
   pub last_version : version < 2 ^ 63
-  pub geometry : IsGeometry extents pages sections
+  pub geometry : IsGeometry format extents pages sections
   pub one_of_them : section < sections
   pub count : length written ≡ section_length extents sections section
   pub pointers : AllByRecursion (λ extent. extent.0 ≤ pages) written
@@ -74,27 +75,27 @@ abbrev pub superblock_extents : List ℕ → List (ℕ × ℕ)
 superblock_extents bytes = extents_from (field 18 (superblock_end bytes) bytes)
 
 -- so many extents of so many pages have a superblock of so many sections, and this is one of them
-abbrev pub section_test : List ℕ → Option FormatFault
-section_test bytes =
-    unless (in_bounds greatest_extents (number 12 14 bytes) (number 14 16 bytes)
-    && is_divided (number 12 14 bytes) (slice_index bytes 16) && nat_lt (slice_index bytes 17) (slice_index bytes 16)) BadLength
+abbrev pub section_test : (format : ℕ) → List ℕ → Option FormatFault
+section_test format bytes =
+    unless (in_bounds format (greatest_extents format) (number 12 14 bytes) (number 14 16 bytes)
+    && is_divided format (number 12 14 bytes) (slice_index bytes 16) && nat_lt (slice_index bytes 17) (slice_index bytes 16)) BadLength
 
 -- no pointer is past the extent's pages
 abbrev pub superblock_pointer_test : List ℕ → Option FormatFault
 superblock_pointer_test bytes = pointers_test (number 14 16 bytes) (superblock_extents bytes)
 
 -- the tests of a section in order
-abbrev pub superblock_tests : List ℕ → List (Option FormatFault)
-superblock_tests bytes =
+abbrev pub superblock_tests : (format : ℕ) → List ℕ → List (Option FormatFault)
+superblock_tests format bytes =
     magic_test (codes "CSS") bytes
-    ∷ digit_test 50 bytes
-    ∷ section_test bytes
+    ∷ digit_test (48 + format) bytes
+    ∷ section_test format bytes
     ∷ digest_test (superblock_end bytes) bytes
     ∷ superblock_range_test bytes
     ∷ superblock_pointer_test bytes
     ∷ padding_test (superblock_end bytes + 32) bytes
     ∷ []
 
--- what is wrong with a page as a section
-abbrev pub superblock_fault : List ℕ → Option FormatFault
-superblock_fault bytes = first_fault (superblock_tests bytes)
+-- what is wrong with a page as a section of a store of this format
+abbrev pub superblock_fault : (format : ℕ) → List ℕ → Option FormatFault
+superblock_fault format bytes = first_fault (superblock_tests format bytes)

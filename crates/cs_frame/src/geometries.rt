@@ -1,16 +1,27 @@
 //! How many extents a store has, of how many pages, which of them each section of its superblock has, and where all of it lies.
 
-ghost use Rattle.std.specs.Prelude.{◌≡◌, ◌↔◌, ◌+◌, ◌-◌, ◌*◌, ◌/◌, ◌^◌, ◌<◌, ◌≤◌, ◌==◌, if◌then◌else◌, IfOk, IfErr, IsOk, IsTrue};
-ghost use Rattle.cs_frame.specs.Geometries.{Dimensions, IsGeometry, in_bounds, is_divided, section_length, section_size, section_start, sections_needed};
+ghost use Rattle.std.specs.Prelude.{◌≡◌, ◌↔◌, ◌+◌, ◌-◌, ◌*◌, ◌/◌, ◌^◌, ◌<◌, ◌≤◌, ◌==◌, if◌then◌else◌, IfOk, IfErr, IsOk, IsTrue, unwrap_or};
+ghost use Rattle.cs_frame.specs.Geometries.{Dimensions, IsGeometry, IsKnown, device_pages, greatest_extents, greatest_pages, greatest_sections, in_bounds, is_divided, kept_pages, least_extents, named_limit, section_length, section_size, section_start, sections_needed};
 
 use crate::faults::FormatFault;
 use std::marker::Model;
 
+/// The format in which stores are made where none is asked for.
+pub const FORMAT: u8 = 2;
+
 /// The least number of extents of a store.
-pub const LEAST_EXTENTS: u16 = 4;
+pub fn least_extents(format: u8) -> u16
+    ensures { result ≡ least_extents format }
+{
+    if format == 3 { 5 } else { 4 }
+}
 
 /// The greatest number of extents of a store.
-pub const GREATEST_EXTENTS: u16 = 2048;
+pub fn greatest_extents(format: u8) -> u16
+    ensures { result ≡ greatest_extents format }
+{
+    if format == 3 { 7680 } else { 2048 }
+}
 
 /// The greatest number of extents of a section, so that what it spells and its digest have room on a page.
 pub const GREATEST_SECTION_EXTENTS: u16 = 512;
@@ -19,22 +30,55 @@ pub const GREATEST_SECTION_EXTENTS: u16 = 512;
 pub const GREATEST_SUPERBLOCK_EXTENTS: u16 = 512;
 
 /// The greatest number of sections of a superblock.
-pub const GREATEST_SECTIONS: u8 = 8;
+pub fn greatest_sections(format: u8) -> u8
+    ensures { result ≡ greatest_sections format }
+{
+    if format == 3 { 15 } else { 8 }
+}
 
 /// The least number of pages of an extent.
 pub const LEAST_PAGES: u16 = 2;
 
 /// The greatest number of pages of an extent.
-pub const GREATEST_PAGES: u16 = 256;
-
-/// So many extents of so many pages are in bounds, where `greatest` is the greatest number of extents.
-pub(crate) fn are_in_bounds(greatest: u16, extents: u64, pages: u64) -> bool
-    ensures { result ≡ in_bounds greatest extents pages }
+pub fn greatest_pages(format: u8) -> u16
+    ensures { result ≡ greatest_pages format }
 {
-    u64::from(LEAST_EXTENTS) <= extents
+    if format == 3 { 65535 } else { 256 }
+}
+
+/// The last pages of the device, kept for a second copy of the root and of each section.
+fn kept_pages(format: u8, sections: u8) -> u64
+    ensures { result ≡ kept_pages format sections }
+{
+    if format == 3 {
+        1 + u64::from(sections)
+    } else {
+        0
+    }
+}
+
+/// The pages of the device of a store of this format, and of so many extents, pages and sections.
+pub fn device_pages(format: u8, extents: u16, pages: u16, sections: u8) -> u64
+    ensures { result ≡ device_pages format extents pages sections }
+{
+    1 + u64::from(extents) * u64::from(pages) + u64::from(sections) + kept_pages(format, sections)
+}
+
+/// A store may have this format.
+fn is_known(format: u64) -> bool
+    ensures { IsTrue result ↔ IsKnown format }
+{
+    format == 2 || format == 3
+}
+
+/// So many extents of so many pages are in the bounds of a format, where `greatest` is the greatest number of extents.
+pub(crate) fn are_in_bounds(format: u8, greatest: u16, extents: u64, pages: u64) -> bool
+    ensures { result ≡ in_bounds format greatest extents pages }
+{
+    u64::from(least_extents(format)) <= extents
         && extents <= u64::from(greatest)
         && u64::from(LEAST_PAGES) <= pages
-        && pages <= u64::from(GREATEST_PAGES)
+        && pages <= u64::from(greatest_pages(format))
 }
 
 /// The extents of each section but the last, which may have fewer.
@@ -46,11 +90,11 @@ fn extents_each(extents: u16, sections: u8) -> usize
     (usize::from(extents) + (usize::from(sections) - 1)) / usize::from(sections)
 }
 
-/// So many sections can have so many extents.
-pub(crate) fn can_be_divided(extents: u16, sections: u8) -> bool
-    ensures { result ≡ is_divided extents sections }
+/// So many sections of a format can have so many extents.
+pub(crate) fn can_be_divided(format: u8, extents: u16, sections: u8) -> bool
+    ensures { result ≡ is_divided format extents sections }
 {
-    if sections < 1 || sections > GREATEST_SECTIONS {
+    if sections < 1 || sections > greatest_sections(format) {
         return false;
     }
     let size = extents_each(extents, sections);
@@ -75,23 +119,28 @@ fn sections_needed(extents: u64) -> u64
     extents.div_ceil(u64::from(GREATEST_SECTION_EXTENTS))
 }
 
-/// There is a store of so many extents, pages and sections.
-fn is_geometry(extents: u64, pages: u64, sections: u64) -> bool
-    ensures { IsTrue result ↔ IsGeometry extents pages sections }
+/// There is a store of this format of so many extents, pages and sections.
+fn is_geometry(format: u64, extents: u64, pages: u64, sections: u64) -> bool
+    ensures { IsTrue result ↔ IsGeometry format extents pages sections }
 {
-    if !are_in_bounds(GREATEST_EXTENTS, extents, pages) {
+    if !is_known(format) {
         return false;
     }
-    if sections > u64::from(GREATEST_SECTIONS) {
+    let format = format as u8;
+    if !are_in_bounds(format, greatest_extents(format), extents, pages) {
         return false;
     }
-    can_be_divided(extents as u16, sections as u8)
+    if sections > u64::from(greatest_sections(format)) {
+        return false;
+    }
+    can_be_divided(format, extents as u16, sections as u8)
 }
 
 /// The geometry of a store. Section 0 of the superblock is on page 0 of the device and the root on page 1. The pages of the
-/// extents follow, one extent after another, and behind them the superblock's other sections.
+/// extents follow, one extent after another, behind them the superblock's other sections, and in format 3 pages that are kept.
 #[derive(Clone, Copy, Debug, PartialEq, Eq)]
 pub struct Geometry {
+    format: u8,
     extents: u16,
     pages: u16,
     sections: u8,
@@ -100,36 +149,33 @@ pub struct Geometry {
 impl Model for Geometry {
     ghost Value = { Dimensions };
 
-    ghost view = { λ g. record { extents = g.extents; pages = g.pages; sections = g.sections } };
+    ghost view = { λ g. record { format = g.format; extents = g.extents; pages = g.pages; sections = g.sections } };
 
-    ghost invariant = { λ g. IsGeometry g.extents g.pages g.sections };
+    ghost invariant = { λ g. IsGeometry g.format g.extents g.pages g.sections };
 
-    ghost inverse = { λ d. record { extents = d.extents; pages = d.pages; sections = d.sections } };
+    ghost inverse = { λ d. record { format = d.format; extents = d.extents; pages = d.pages; sections = d.sections } };
 }
 
 impl Geometry {
-    /// A store of `extents` extents, 4 to 2,048, of `pages` pages, 2 to 256, whose superblock has as few sections as it may.
-    pub fn new(extents: u64, pages: u64) -> Result<Geometry, FormatFault>
-        ensures valid { IsOk result ↔ IsGeometry extents pages (sections_needed extents) }
+    /// A store of a format, 2 or 3, of `extents` extents of `pages` pages each, whose superblock has `sections` sections, or as few as it
+    /// may. All sections but the last have as many extents, at most 512, and the last has what is left, which is at least one.
+    pub fn of_format(
+        format: u64,
+        extents: u64,
+        pages: u64,
+        sections: Option<u64>,
+    ) -> Result<Geometry, FormatFault>
+        ensures valid { IsOk result ↔ IsGeometry format extents pages (unwrap_or sections (sections_needed extents)) }
+        ensures format { IfOk result (λ geometry. geometry.format ≡ format) }
         ensures extents { IfOk result (λ geometry. geometry.extents ≡ extents) }
         ensures pages { IfOk result (λ geometry. geometry.pages ≡ pages) }
-        ensures sections { IfOk result (λ geometry. geometry.sections ≡ sections_needed extents) }
+        ensures sections { IfOk result (λ geometry. geometry.sections ≡ unwrap_or sections (sections_needed extents)) }
         ensures fault { IfErr result (λ fault. fault ≡ FormatFault.BadGeometry) }
     {
-        Geometry::with_sections(extents, pages, sections_needed(extents))
-    }
-
-    /// A store of `extents` extents, 4 to 2,048, of `pages` pages, 2 to 256, whose superblock has `sections` sections, 1 to 8: all
-    /// but the last have as many extents, at most 512, and the last has what is left, which is at least one.
-    pub fn with_sections(extents: u64, pages: u64, sections: u64) -> Result<Geometry, FormatFault>
-        ensures valid { IsOk result ↔ IsGeometry extents pages sections }
-        ensures extents { IfOk result (λ geometry. geometry.extents ≡ extents) }
-        ensures pages { IfOk result (λ geometry. geometry.pages ≡ pages) }
-        ensures sections { IfOk result (λ geometry. geometry.sections ≡ sections) }
-        ensures fault { IfErr result (λ fault. fault ≡ FormatFault.BadGeometry) }
-    {
-        if is_geometry(extents, pages, sections) {
+        let sections = sections.unwrap_or(sections_needed(extents));
+        if is_geometry(format, extents, pages, sections) {
             Ok(Geometry {
+                format: format as u8,
                 extents: extents as u16,
                 pages: pages as u16,
                 sections: sections as u8,
@@ -139,10 +185,43 @@ impl Geometry {
         }
     }
 
+    /// A store of format 2 of `extents` extents, 4 to 2,048, of `pages` pages, 2 to 256, whose superblock has as few sections as it may.
+    pub fn new(extents: u64, pages: u64) -> Result<Geometry, FormatFault>
+        ensures valid { IsOk result ↔ IsGeometry 2 extents pages (sections_needed extents) }
+        ensures format { IfOk result (λ geometry. geometry.format ≡ 2) }
+        ensures extents { IfOk result (λ geometry. geometry.extents ≡ extents) }
+        ensures pages { IfOk result (λ geometry. geometry.pages ≡ pages) }
+        ensures sections { IfOk result (λ geometry. geometry.sections ≡ sections_needed extents) }
+        ensures fault { IfErr result (λ fault. fault ≡ FormatFault.BadGeometry) }
+    {
+        Geometry::of_format(u64::from(FORMAT), extents, pages, None)
+    }
+
+    /// A store of format 2 of `extents` extents, 4 to 2,048, of `pages` pages, 2 to 256, whose superblock has `sections` sections, 1 to 8:
+    /// all but the last have as many extents, at most 512, and the last has what is left, which is at least one.
+    pub fn with_sections(extents: u64, pages: u64, sections: u64) -> Result<Geometry, FormatFault>
+        ensures valid { IsOk result ↔ IsGeometry 2 extents pages sections }
+        ensures format { IfOk result (λ geometry. geometry.format ≡ 2) }
+        ensures extents { IfOk result (λ geometry. geometry.extents ≡ extents) }
+        ensures pages { IfOk result (λ geometry. geometry.pages ≡ pages) }
+        ensures sections { IfOk result (λ geometry. geometry.sections ≡ sections) }
+        ensures fault { IfErr result (λ fault. fault ≡ FormatFault.BadGeometry) }
+    {
+        Geometry::of_format(u64::from(FORMAT), extents, pages, Some(sections))
+    }
+
+    /// The format of the store.
+    pub fn format(self) -> u8
+        ensures format { result ≡ self.format }
+        ensures geometry { IsGeometry self.format self.extents self.pages self.sections }
+    {
+        self.format
+    }
+
     /// The number of extents.
     pub fn extents(self) -> u16
         ensures extents { result ≡ self.extents }
-        ensures geometry { IsGeometry self.extents self.pages self.sections }
+        ensures geometry { IsGeometry self.format self.extents self.pages self.sections }
     {
         self.extents
     }
@@ -150,7 +229,7 @@ impl Geometry {
     /// The pages of an extent.
     pub fn pages(self) -> u16
         ensures pages { result ≡ self.pages }
-        ensures geometry { IsGeometry self.extents self.pages self.sections }
+        ensures geometry { IsGeometry self.format self.extents self.pages self.sections }
     {
         self.pages
     }
@@ -158,16 +237,16 @@ impl Geometry {
     /// The sections of the superblock.
     pub fn sections(self) -> u8
         ensures sections { result ≡ self.sections }
-        ensures geometry { IsGeometry self.extents self.pages self.sections }
+        ensures geometry { IsGeometry self.format self.extents self.pages self.sections }
     {
         self.sections
     }
 
     /// The pages of the device.
     pub fn device_pages(self) -> u64
-        ensures { result ≡ 1 + self.extents * self.pages + self.sections }
+        ensures { result ≡ device_pages self.format self.extents self.pages self.sections }
     {
-        1 + u64::from(self.extents) * u64::from(self.pages) + u64::from(self.sections)
+        device_pages(self.format, self.extents, self.pages, self.sections)
     }
 
     /// The page of the device that is a page of an extent.
@@ -223,7 +302,7 @@ impl Geometry {
     /// How many identifiers the index can name: the entries of a run that takes one whole extent. A frame's header has 41 bytes, a
     /// run's count 4, and an entry 81.
     pub fn named_limit(self) -> usize
-        ensures { result ≡ (4096 * self.pages - 45) / 81 }
+        ensures { result ≡ named_limit self.pages }
     {
         (4096 * usize::from(self.pages) - 45) / 81
     }

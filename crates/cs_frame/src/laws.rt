@@ -1,34 +1,38 @@
 //! The laws of the formats: a page without a fault is one value's spelling and no other's, and what is
 //! spelled has no fault.
 
-ghost use Rattle.std.specs.Prelude.{◌≡◌, ◌↔◌, ◌+◌, ◌/◌, ◌^◌, ◌<◌, ◌≤◌, ◌++◌, ℕ, List, Some, None, length, take};
+ghost use Rattle.std.specs.Prelude.{◌≡◌, ◌≢◌, ◌↔◌, ◌+◌, ◌/◌, ◌^◌, ◌<◌, ◌≤◌, ◌++◌, ℕ, List, Some, None, length, take};
 ghost use Rattle.byteorder.specs.Endian.{big_bytes, big_number};
+ghost use Rattle.cs_model.specs.Element.{Entry as NamedEntry};
+ghost use Rattle.cs_model.specs.Formats.{ChunkFrame, RunFrame};
 ghost use Rattle.cs_model.specs.Frames.{IsFormat};
 ghost use Rattle.cs_model.specs.Geometry.{IsGeometry as IsModelGeometry, shape_of};
+ghost use Rattle.cs_model.specs.Index.{IsRunList};
+ghost use Rattle.cs_model.specs.Safe.{FitsExtent};
 ghost use Rattle.cs_frame.specs.declared.faults.FormatFault.{FormatFault as Fault};
 ghost use Rattle.cs_frame.specs.declared.locators.Locator.{Locator as Place};
 ghost use Rattle.cs_frame.specs.Bytes.{EachHas, IsBytes, IsPage};
 ghost use Rattle.cs_frame.specs.Formats.{formats_of, id_bytes};
 ghost use Rattle.cs_frame.specs.Frames.{SpellsFrame, bytes_in, first_page, frame_count, frame_fault, header_fault, payload_in, spelled_frame};
 ghost use Rattle.cs_frame.specs.FirstFormat.{IsOfFirstFormat, SpellsFirstFormat, SpellsPageZero, first_format_fault, page_zero_fault};
-ghost use Rattle.cs_frame.specs.Geometries.{IsGeometry, lengths_below, section_length, section_size, section_start};
+ghost use Rattle.cs_frame.specs.Geometries.{IsGeometry, IsKnown, lengths_below, section_length, section_size, section_start};
 ghost use Rattle.cs_frame.specs.Roots.{SpellsRoot, root_fault};
 ghost use Rattle.cs_frame.specs.Runs.{Entry, SpellsRun, run_fault};
 ghost use Rattle.cs_frame.specs.Superblocks.{SpellsSuperblock, superblock_fault};
 
-/// A page is a superblock section's spelling exactly where no test fails, and of one section alone.
+/// In each format a page is a superblock section's spelling exactly where no test fails, and of one section alone.
 pub fn superblock_has_one_spelling()
-    ensures exact { (page : List ℕ) → IsPage page
-        → (superblock_fault page ≡ None)
+    ensures exact { (format : ℕ) (page : List ℕ) → IsKnown format → IsPage page
+        → (superblock_fault format page ≡ None)
         ↔ ((version : ℕ) × (extents : ℕ) × (pages : ℕ) × (sections : ℕ) × (section : ℕ) × (written : List (ℕ × ℕ))
-        × SpellsSuperblock page version extents pages sections section written) }
-    ensures one_page { (page other : List ℕ) (version extents pages sections section : ℕ) (written : List (ℕ × ℕ))
-        → SpellsSuperblock page version extents pages sections section written
-        → SpellsSuperblock other version extents pages sections section written → page ≡ other }
+        × SpellsSuperblock page format version extents pages sections section written) }
+    ensures one_page { (page other : List ℕ) (format version extents pages sections section : ℕ) (written : List (ℕ × ℕ))
+        → SpellsSuperblock page format version extents pages sections section written
+        → SpellsSuperblock other format version extents pages sections section written → page ≡ other }
     ensures one_section { (page : List ℕ)
-        (version w extents e pages p sections s section j : ℕ) (written es : List (ℕ × ℕ))
-        → SpellsSuperblock page version extents pages sections section written → SpellsSuperblock page w e p s j es
-        → (version ≡ w) × (extents ≡ e) × (pages ≡ p) × (sections ≡ s) × (section ≡ j) × (written ≡ es) }
+        (format f version w extents e pages p sections s section j : ℕ) (written es : List (ℕ × ℕ))
+        → SpellsSuperblock page format version extents pages sections section written → SpellsSuperblock page f w e p s j es
+        → (format ≡ f) × (version ≡ w) × (extents ≡ e) × (pages ≡ p) × (sections ≡ s) × (section ≡ j) × (written ≡ es) }
 {}
 
 /// What is read in the first format, which is no longer written: a page exactly where no test of that format fails, as one superblock
@@ -42,26 +46,42 @@ pub fn first_format_has_one_spelling()
         → (version ≡ w) × (pages ≡ p) × (extents ≡ es) }
 {}
 
-/// Page 0 spells a section in one of the two formats exactly where no test fails, and it spells no section in both.
+/// Page 0 spells a section in the store's format or in the first exactly where no test fails, and it spells no section in both.
 pub fn page_zero_has_one_spelling()
     ensures exact { (page : List ℕ) → IsPage page
         → (page_zero_fault page ≡ None)
-        ↔ ((version : ℕ) × (extents : ℕ) × (pages : ℕ) × (sections : ℕ) × (section : ℕ) × (written : List (ℕ × ℕ))
-        × SpellsPageZero page version extents pages sections section written) }
-    ensures one_format { (page : List ℕ) (version w extents e pages p sections s section j : ℕ) (written es : List (ℕ × ℕ))
-        → SpellsSuperblock page version extents pages sections section written → IsOfFirstFormat page w e p s j es → ⊥ }
+        ↔ ((format : ℕ) × (version : ℕ) × (extents : ℕ) × (pages : ℕ) × (sections : ℕ) × (section : ℕ) × (written : List (ℕ × ℕ))
+        × SpellsPageZero page format version extents pages sections section written) }
+    ensures one_format { (page : List ℕ) (format f version w extents e pages p sections s section j : ℕ) (written es : List (ℕ × ℕ))
+        → SpellsSuperblock page format version extents pages sections section written → IsOfFirstFormat page f w e p s j es → ⊥ }
 {}
 
-/// A page is a root's spelling exactly where no test fails, and of one root alone.
+/// In each format a page is a root's spelling exactly where no test fails, and of one root alone.
 pub fn root_has_one_spelling()
-    ensures exact { (page : List ℕ) → IsPage page
-        → (root_fault page ≡ None)
-        ↔ ((version : ℕ) × (commands : ℕ) × (runs : List Place) × SpellsRoot page version commands runs) }
-    ensures one_page { (page other : List ℕ) (version commands : ℕ) (runs : List Place)
-        → SpellsRoot page version commands runs → SpellsRoot other version commands runs → page ≡ other }
-    ensures one_root { (page : List ℕ) (version w commands n : ℕ) (runs ls : List Place)
-        → SpellsRoot page version commands runs → SpellsRoot page w n ls
-        → (version ≡ w) × (commands ≡ n) × (runs ≡ ls) }
+    ensures exact { (format : ℕ) (page : List ℕ) → IsKnown format → IsPage page
+        → (root_fault format page ≡ None)
+        ↔ ((version : ℕ) × (commands : ℕ) × (runs : List Place) × SpellsRoot page format version commands runs) }
+    ensures one_page { (page other : List ℕ) (format version commands : ℕ) (runs : List Place)
+        → SpellsRoot page format version commands runs → SpellsRoot other format version commands runs → page ≡ other }
+    ensures one_root { (page : List ℕ) (format f version w commands n : ℕ) (runs ls : List Place)
+        → SpellsRoot page format version commands runs → SpellsRoot page f w n ls
+        → (format ≡ f) × (version ≡ w) × (commands ≡ n) × (runs ≡ ls) }
+{}
+
+/// A page that is spelled in one format is refused by its fourth byte as a page of any other.
+pub fn formats_are_apart()
+    ensures section { (page : List ℕ) (format f version extents pages sections section : ℕ) (written : List (ℕ × ℕ))
+        → SpellsSuperblock page format version extents pages sections section written → f ≢ format
+        → superblock_fault f page ≡ Some Fault.BadVersion }
+    ensures section_as_first { (page : List ℕ) (format version extents pages sections section : ℕ) (written : List (ℕ × ℕ))
+        → SpellsSuperblock page format version extents pages sections section written
+        → first_format_fault page ≡ Some Fault.BadVersion }
+    ensures first_as_section { (page : List ℕ) (format version pages : ℕ) (extents : List (ℕ × ℕ))
+        → SpellsFirstFormat page version pages extents → IsKnown format
+        → superblock_fault format page ≡ Some Fault.BadVersion }
+    ensures root { (page : List ℕ) (format f version commands : ℕ) (runs : List Place)
+        → SpellsRoot page format version commands runs → IsKnown f → f ≢ format
+        → root_fault f page ≡ Some Fault.BadVersion }
 {}
 
 /// A payload is a run's spelling exactly where no test fails, and of one run alone.
@@ -101,7 +121,7 @@ pub fn frame_is_read_by_its_header()
 
 /// These formats keep what the machine's model asks of the spelling of its pages.
 pub fn these_formats_are_formats()
-    ensures formats { (extents pages sections format : ℕ) → IsGeometry extents pages sections
+    ensures formats { (f extents pages sections format : ℕ) → IsGeometry f extents pages sections
         → let S = shape_of extents pages sections (section_size extents sections) format in IsFormat S (formats_of S) }
     // The model doesn't bound the number of an identifier. One that 16 bytes can spell has these bytes, and any
     // 16 bytes are those of their number.
@@ -110,17 +130,36 @@ pub fn these_formats_are_formats()
         → id_bytes (big_number 16 bytes) ≡ bytes }
 {}
 
+/// The page of a section tells the pointers of its extents, in whatever format and version.
+pub fn sections_tell_pointers()
+    ensures { (extents pages sections format : ℕ) → IsGeometry format extents pages sections
+        → let S = shape_of extents pages sections (section_size extents sections) format in
+        (f k j v w : ℕ) (p g q h : ℕ → ℕ) → ((e : ℕ) → FitsExtent S (p e) (g e)) → ((e : ℕ) → FitsExtent S (q e) (h e))
+        → (formats_of S).superblock f j v p g ≡ (formats_of S).superblock k j w q h → (e : ℕ) → e < S.extents
+        → S.section e ≡ j → p e ≡ q e }
+{}
+
+/// Each run that the model may stage, and each chunk, fits on an extent.
+pub fn frames_fit_on_an_extent()
+    ensures runs { (extents pages sections format : ℕ) (entries : List NamedEntry) → IsGeometry format extents pages sections
+        → let S = shape_of extents pages sections (section_size extents sections) format in
+        IsRunList S entries → length ((formats_of S).frame RunFrame ((formats_of S).run entries)) ≤ S.pages }
+    ensures chunks { (extents pages sections format : ℕ) (chunk : List ℕ) → IsGeometry format extents pages sections
+        → let S = shape_of extents pages sections (section_size extents sections) format in
+        length chunk ≤ S.chunk_bytes → length ((formats_of S).frame ChunkFrame chunk) ≤ S.pages }
+{}
+
 /// Each extent belongs to one section, and all sections together have all extents.
 pub fn sections_have_all_extents()
-    ensures holds { (extents pages sections e j : ℕ) → IsGeometry extents pages sections → e < extents
+    ensures holds { (format extents pages sections e j : ℕ) → IsGeometry format extents pages sections → e < extents
         → (e / section_size extents sections ≡ j)
         ↔ ((section_start extents sections j ≤ e)
         × (e < section_start extents sections j + section_length extents sections j)) }
-    ensures inside { (extents pages sections e : ℕ) → IsGeometry extents pages sections → e < extents
+    ensures inside { (format extents pages sections e : ℕ) → IsGeometry format extents pages sections → e < extents
         → e / section_size extents sections < sections }
-    ensures lengths { (extents pages sections : ℕ) → IsGeometry extents pages sections
+    ensures lengths { (format extents pages sections : ℕ) → IsGeometry format extents pages sections
         → lengths_below extents sections sections ≡ extents }
     // The same in the words of the machine's model.
-    ensures model { (extents pages sections : ℕ) → IsGeometry extents pages sections
+    ensures model { (format extents pages sections : ℕ) → IsGeometry format extents pages sections
         → IsModelGeometry extents pages sections (section_size extents sections) }
 {}

@@ -22,17 +22,18 @@ pub use frames::{
     FrameHeader, FrameKind, decode_frame, decode_frame_header, encode_frame, frame_pages,
 };
 pub use geometries::{
-    GREATEST_EXTENTS, GREATEST_PAGES, GREATEST_SECTION_EXTENTS, GREATEST_SECTIONS,
-    GREATEST_SUPERBLOCK_EXTENTS, Geometry, LEAST_EXTENTS, LEAST_PAGES,
+    FORMAT, GREATEST_SECTION_EXTENTS, GREATEST_SUPERBLOCK_EXTENTS, Geometry, LEAST_PAGES,
+    device_pages, greatest_extents, greatest_pages, greatest_sections, least_extents,
 };
 pub use identifiers::ShardId;
 pub use laws::{
-    first_format_has_one_spelling, frame_has_one_spelling, frame_is_read_by_its_header,
-    page_zero_has_one_spelling, root_has_one_spelling, run_has_one_spelling,
-    sections_have_all_extents, superblock_has_one_spelling, these_formats_are_formats,
+    first_format_has_one_spelling, formats_are_apart, frame_has_one_spelling,
+    frame_is_read_by_its_header, frames_fit_on_an_extent, page_zero_has_one_spelling,
+    root_has_one_spelling, run_has_one_spelling, sections_have_all_extents, sections_tell_pointers,
+    superblock_has_one_spelling, these_formats_are_formats,
 };
 pub use locators::Locator;
 pub use page_zero::decode_superblock;
-pub use roots::{GREATEST_RUNS, Root, decode_root, encode_root};
-pub use runs::{GREATEST_CHUNKS, Run, decode_run, encode_run};
+pub use roots::{Root, decode_root, encode_root, greatest_runs};
+pub use runs::{GREATEST_CHUNKS, Run, decode_run, encode_run, run_bytes};
 pub use superblocks::{Superblock, decode_section, encode_section, encode_superblock};

@@ -4,11 +4,11 @@
 ghost use Rattle.std.specs.Prelude.{◌≡◌, ◌+◌, ◌*◌, ◌≤◌, ℕ, List, None, Ok, Err, IfOk, length, slice_index};
 ghost use Rattle.cs_frame.specs.Bytes.{IsPage, number};
 ghost use Rattle.cs_frame.specs.Faults.{HasFault, OkUnlessMemory, fault_in};
-ghost use Rattle.cs_frame.specs.FirstFormat.{IsOfFirstFormat, SpellsFirstFormat, SpellsPageZero, first_format_bounds_test, first_format_end, first_format_extents, first_format_fault, first_format_pointer_test, page_zero_fault};
+ghost use Rattle.cs_frame.specs.FirstFormat.{IsOfFirstFormat, SpellsFirstFormat, SpellsPageZero, first_format_bounds_test, first_format_end, first_format_extents, first_format_fault, first_format_pointer_test, page_zero_fault, zero_format};
 ghost use Rattle.cs_frame.specs.Superblocks.{SpellsSuperblock};
 
 use crate::faults::FormatFault;
-use crate::geometries::{GREATEST_SUPERBLOCK_EXTENTS, are_in_bounds};
+use crate::geometries::{FORMAT, GREATEST_SUPERBLOCK_EXTENTS, are_in_bounds};
 use crate::pages::{check_digest, check_magic, check_padding, check_version};
 use crate::pointers::{check_pointers_in, check_range, extents_of};
 use crate::superblocks::{Superblock, decode_section};
@@ -30,6 +30,7 @@ fn check_bounds(page: &[u8; 4096]) -> Result<(), FormatFault>
     let extents = BigEndian::read_u16(&page[12..14]);
     let pages = BigEndian::read_u16(&page[14..16]);
     if are_in_bounds(
+        FORMAT,
         GREATEST_SUPERBLOCK_EXTENTS,
         u64::from(extents),
         u64::from(pages),
@@ -68,6 +69,7 @@ fn check_first_format(page: &[u8; 4096]) -> Result<(), FormatFault>
 /// The superblock that a page without a fault spells, as the one section that it is.
 fn first_format_from(alloc: Global, page: &[u8; 4096]) -> Result<Superblock, AllocError>
     requires { first_format_end page.now ≤ 3088 }
+    ensures format { IfOk result (λ it. it.format ≡ 2) }
     ensures version { IfOk result (λ it. it.version ≡ number 4 12 page.now) }
     ensures extent_count { IfOk result (λ it. it.extent_count ≡ number 12 14 page.now) }
     ensures pages { IfOk result (λ it. it.pages ≡ number 14 16 page.now) }
@@ -77,6 +79,7 @@ fn first_format_from(alloc: Global, page: &[u8; 4096]) -> Result<Superblock, All
 {
     let extents = extents_of(alloc, &page[16..end_of(page)])?;
     Ok(Superblock {
+        format: FORMAT,
         version: BigEndian::read_u64(&page[4..12]),
         extent_count: BigEndian::read_u16(&page[12..14]),
         pages: BigEndian::read_u16(&page[14..16]),
@@ -89,10 +92,10 @@ fn first_format_from(alloc: Global, page: &[u8; 4096]) -> Result<Superblock, All
 /// The superblock that a page of the first format spells. The first test that fails is answered.
 fn decode_first_format(alloc: Global, page: &[u8; 4096]) -> Result<Superblock, FormatFault>
     ensures spelled { IfOk result (λ it.
-        IsOfFirstFormat page.now it.version it.extent_count it.pages it.sections it.section it.extents.items) }
+        IsOfFirstFormat page.now it.format it.version it.extent_count it.pages it.sections it.section it.extents.items) }
     ensures read { (version pages : ℕ) (extents : List (ℕ × ℕ)) → SpellsFirstFormat page.now version pages extents
-        → OkUnlessMemory result (λ it. (it.version ≡ version) × (it.extent_count ≡ length extents) × (it.pages ≡ pages)
-        × (it.sections ≡ 1) × (it.section ≡ 0) × (it.extents.items ≡ extents)) }
+        → OkUnlessMemory result (λ it. (it.format ≡ 2) × (it.version ≡ version) × (it.extent_count ≡ length extents)
+        × (it.pages ≡ pages) × (it.sections ≡ 1) × (it.section ≡ 0) × (it.extents.items ≡ extents)) }
     ensures fault { HasFault result (first_format_fault page.now) }
     ensures memory { result ≡ Err FormatFault.OutOfMemory → first_format_fault page.now ≡ None }
 {
@@ -100,23 +103,30 @@ fn decode_first_format(alloc: Global, page: &[u8; 4096]) -> Result<Superblock, F
     Ok(first_format_from(alloc, page)?)
 }
 
-/// What page 0 spells: a section of the superblock, or all of a superblock of the first format, which is one section. The first test
-/// that fails is answered: 20 BadMagic, 24 BadVersion where the fourth byte is neither digit, and then the tests of the format that
+/// The format whose tests of a section are made on page 0, by the digit that is its fourth byte.
+fn section_format(page: &[u8; 4096]) -> u8
+    ensures { result ≡ zero_format page.now }
+{
+    if page[3] == b'3' { 3 } else { 2 }
+}
+
+/// What page 0 spells: a section of the superblock in the format of the store, or all of a superblock of the first format, which is one
+/// section. The first test that fails is answered: 20 BadMagic, 24 BadVersion where the fourth byte is no format's digit, and then the tests of the format that
 /// the fourth byte names: 22 BadLength for the numbers of extents, pages and sections, 21 BadDigest, 24 for the version's range, 22 for
 /// a pointer, and 23 BadPadding; 9 OutOfMemory only for a page that has a spelling.
 pub fn decode_superblock(alloc: Global, page: &[u8; 4096]) -> Result<Superblock, FormatFault>
-    // What is read is spelled by the page, in one of the two formats.
+    // What is read is spelled by the page, in the store's format or in the first.
     ensures spelled { IfOk result (λ it.
-        SpellsPageZero page.now it.version it.extent_count it.pages it.sections it.section it.extents.items) }
+        SpellsPageZero page.now it.format it.version it.extent_count it.pages it.sections it.section it.extents.items) }
     // What the page spells is read, unless memory runs out.
-    ensures read { (version extents pages sections section : ℕ) (written : List (ℕ × ℕ))
-        → SpellsSuperblock page.now version extents pages sections section written
-        → OkUnlessMemory result (λ it. (it.version ≡ version) × (it.extent_count ≡ extents) × (it.pages ≡ pages)
-        × (it.sections ≡ sections) × (it.section ≡ section) × (it.extents.items ≡ written)) }
+    ensures read { (format version extents pages sections section : ℕ) (written : List (ℕ × ℕ))
+        → SpellsSuperblock page.now format version extents pages sections section written
+        → OkUnlessMemory result (λ it. (it.format ≡ format) × (it.version ≡ version) × (it.extent_count ≡ extents)
+        × (it.pages ≡ pages) × (it.sections ≡ sections) × (it.section ≡ section) × (it.extents.items ≡ written)) }
     // So is what it spells in the first format.
     ensures read_first { (version pages : ℕ) (extents : List (ℕ × ℕ)) → SpellsFirstFormat page.now version pages extents
-        → OkUnlessMemory result (λ it. (it.version ≡ version) × (it.extent_count ≡ length extents) × (it.pages ≡ pages)
-        × (it.sections ≡ 1) × (it.section ≡ 0) × (it.extents.items ≡ extents)) }
+        → OkUnlessMemory result (λ it. (it.format ≡ 2) × (it.version ≡ version) × (it.extent_count ≡ length extents)
+        × (it.pages ≡ pages) × (it.sections ≡ 1) × (it.section ≡ 0) × (it.extents.items ≡ extents)) }
     // Each other fault is that of the first test that fails.
     ensures fault { HasFault result (page_zero_fault page.now) }
     ensures memory { result ≡ Err FormatFault.OutOfMemory → page_zero_fault page.now ≡ None }
@@ -124,6 +134,6 @@ pub fn decode_superblock(alloc: Global, page: &[u8; 4096]) -> Result<Superblock,
     if page[3] == b'1' {
         decode_first_format(alloc, page)
     } else {
-        decode_section(alloc, page)
+        decode_section(alloc, page, section_format(page))
     }
 }

@@ -1,4 +1,4 @@
-//! Pointers and generations of extents, as a page of a superblock spells them in either format.
+//! Pointers and generations of extents, as a page of a superblock spells them in any format.
 
 ghost use Rattle.std.specs.Prelude.{◌≡◌, ◌+◌, ◌*◌, ◌/◌, ◌≤◌, ◌++◌, IfOk, length, nat_le};
 ghost use Rattle.std.specs.List.{AllByRecursion, list_all};

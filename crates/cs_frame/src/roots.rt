@@ -3,36 +3,51 @@
 ghost use Rattle.std.specs.Prelude.{◌≡◌, ℕ, List, None, Ok, Err, IfOk, ◌≤◌, slice_index};
 ghost use Rattle.cs_frame.specs.declared.locators.Locator.{Locator as Place};
 ghost use Rattle.cs_frame.specs.Faults.{HasFault, OkUnlessMemory, fault_in};
-ghost use Rattle.cs_frame.specs.Roots.{IsRoot, SpellsRoot, greatest_runs, root_fault, root_range_test, runs_in};
+ghost use Rattle.cs_frame.specs.Geometries.{IsKnown};
+ghost use Rattle.cs_frame.specs.Roots.{IsRoot, SpellsRoot, greatest_runs, root_digit, root_fault, root_range_test, runs_in};
 ghost use Rattle.cs_frame.specs.Bytes.{IsPage, number};
 
 use crate::faults::FormatFault;
 use crate::locators::{Locator, append_locators, locators_from};
-use crate::pages::{PageBuffer, check_digest, check_magic, check_padding, check_version};
+use crate::pages::{PageBuffer, check_digest, check_digit, check_magic, check_padding};
 use byteorder::{BigEndian, ByteOrder};
 use std::alloc::{AllocError, Global};
 
-/// The greatest number of runs of a root.
-pub const GREATEST_RUNS: usize = 4;
+/// The greatest number of runs of a root: 4, and 24 in format 3.
+pub fn greatest_runs(format: u8) -> usize
+    ensures { result ≡ greatest_runs format }
+{
+    if format <= 2 { 4 } else { 24 }
+}
+
+/// The fourth byte of a root.
+fn root_digit(format: u8) -> u8
+    ensures { result ≡ root_digit format }
+{
+    if format == 3 { b'3' } else { b'1' }
+}
 
 /// What page 1 spells: the index as of one version.
 #[derive(Debug, Drop)]
 pub struct Root {
+    /// The format of the store, 2 or 3.
+    pub format: u8,
     /// From 1 to 2^63 - 1.
     pub version: u64,
     /// How many puts and deletes are included, up to 2^63 - 1.
     pub commands: u64,
-    /// The frames of the runs, oldest first, at most 4.
+    /// The frames of the runs, oldest first, at most 4, and 24 in format 3.
     pub runs: Vec<Locator>,
 }
 
 /// The page that spells a root.
 pub fn encode_root(root: &Root) -> [u8; 4096]
     requires { IsRoot root.now }
-    ensures { SpellsRoot result root.now.version root.now.commands root.now.runs.items }
+    ensures { SpellsRoot result root.now.format root.now.version root.now.commands root.now.runs.items }
 {
     let mut page = PageBuffer::new();
-    page.append(b"CSR1");
+    page.append(b"CSR");
+    page.append(&[root_digit(root.format)]);
     page.append(&root.version.to_be_bytes());
     page.append(&root.commands.to_be_bytes());
     page.append(&[root.runs.len() as u8]);
@@ -55,14 +70,14 @@ fn check_range(page: &[u8; 4096]) -> Result<(), FormatFault>
 }
 
 /// Makes the tests of a root in order.
-fn check_root(page: &[u8; 4096]) -> Result<(), FormatFault>
-    ensures fault { fault_in result ≡ root_fault page.now }
+fn check_root(page: &[u8; 4096], format: u8) -> Result<(), FormatFault>
+    ensures fault { fault_in result ≡ root_fault format page.now }
     ensures page { IsPage page.now }
 {
     check_magic(page, b"CSR")?;
-    check_version(page)?;
+    check_digit(page, root_digit(format))?;
     let count = usize::from(page[20]);
-    if count > GREATEST_RUNS {
+    if count > greatest_runs(format) {
         return Err(FormatFault::BadLength);
     }
     let end = 21 + 8 * count;
@@ -72,8 +87,9 @@ fn check_root(page: &[u8; 4096]) -> Result<(), FormatFault>
 }
 
 /// The root that a page without a fault spells.
-fn root_from(alloc: Global, page: &[u8; 4096]) -> Result<Root, AllocError>
-    requires { slice_index page.now 20 ≤ greatest_runs }
+fn root_from(alloc: Global, page: &[u8; 4096], format: u8) -> Result<Root, AllocError>
+    requires { slice_index page.now 20 ≤ 24 }
+    ensures format { IfOk result (λ root. root.format ≡ format) }
     ensures version { IfOk result (λ root. root.version ≡ number 4 12 page.now) }
     ensures commands { IfOk result (λ root. root.commands ≡ number 12 20 page.now) }
     ensures runs { IfOk result (λ root. root.runs.items ≡ runs_in page.now) }
@@ -81,25 +97,29 @@ fn root_from(alloc: Global, page: &[u8; 4096]) -> Result<Root, AllocError>
     let end = 21 + 8 * usize::from(page[20]);
     let runs = locators_from(alloc, &page[21..end])?;
     Ok(Root {
+        format,
         version: BigEndian::read_u64(&page[4..12]),
         commands: BigEndian::read_u64(&page[12..20]),
         runs,
     })
 }
 
-/// The root that a page spells. The first test that fails is answered: 20 BadMagic, 24 BadVersion, 22 BadLength, 21 BadDigest, then 24
-/// for the ranges of version and number, and 23 BadPadding; 9 OutOfMemory only for a page that spells a root.
-pub fn decode_root(alloc: Global, page: &[u8; 4096]) -> Result<Root, FormatFault>
-    // What is read is spelled by the page.
-    ensures spelled { IfOk result (λ root. SpellsRoot page.now root.version root.commands root.runs.items) }
+/// The root that a page spells in this format, that of the store. The first test that fails is answered: 20 BadMagic, 24 BadVersion where
+/// the fourth byte isn't the format's, 22 BadLength, 21 BadDigest, then 24 for the ranges of version and number, and 23 BadPadding; 9
+/// OutOfMemory only for a page that spells a root.
+pub fn decode_root(alloc: Global, page: &[u8; 4096], format: u8) -> Result<Root, FormatFault>
+    requires { IsKnown format }
+    // What is read has this format, and is spelled by the page.
+    ensures format { IfOk result (λ root. root.format ≡ format) }
+    ensures spelled { IfOk result (λ root. SpellsRoot page.now root.format root.version root.commands root.runs.items) }
     // What the page spells is read, unless memory runs out.
-    ensures read { (version commands : ℕ) (runs : List Place) → SpellsRoot page.now version commands runs
+    ensures read { (version commands : ℕ) (runs : List Place) → SpellsRoot page.now format version commands runs
         → OkUnlessMemory result (λ root.
-        (root.version ≡ version) × (root.commands ≡ commands) × (root.runs.items ≡ runs)) }
+        (root.format ≡ format) × (root.version ≡ version) × (root.commands ≡ commands) × (root.runs.items ≡ runs)) }
     // Each other fault is that of the first test that fails.
-    ensures fault { HasFault result (root_fault page.now) }
-    ensures memory { result ≡ Err FormatFault.OutOfMemory → root_fault page.now ≡ None }
+    ensures fault { HasFault result (root_fault format page.now) }
+    ensures memory { result ≡ Err FormatFault.OutOfMemory → root_fault format page.now ≡ None }
 {
-    check_root(page)?;
-    Ok(root_from(alloc, page)?)
+    check_root(page, format)?;
+    Ok(root_from(alloc, page, format)?)
 }

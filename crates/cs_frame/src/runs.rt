@@ -1,10 +1,11 @@
 //! Runs of the index.
 
-ghost use Rattle.std.specs.Prelude.{◌≡◌, ◌+◌, ◌-◌, ◌<◌, ◌≤◌, ◌++◌, ℕ, List, Some, None, Ok, Err, IfOk, OnOk, length, map, option_map, slice_index, slice_index_or, []};
+ghost use Rattle.std.specs.Prelude.{◌≡◌, ◌+◌, ◌-◌, ◌^◌, ◌<◌, ◌≤◌, ◌++◌, ℕ, List, Some, None, Ok, Err, IfOk, OnOk, length, map, option_map, slice_index, slice_index_or, []};
 ghost use Rattle.cs_frame.specs.Bytes.{IsBytes};
 ghost use Rattle.cs_frame.specs.Locators.{FitsLocator, spelled_locators};
 ghost use Rattle.std.specs.List.{AllByRecursion};
 ghost use Rattle.cs_frame.specs.Faults.{HasFault, OkUnlessMemory, fault_in, first_fault};
+ghost use Rattle.cs_frame.specs.Geometries.{run_bytes};
 ghost use Rattle.cs_frame.specs.Runs.{Entry, FitsEntry, IsRun, SpellsRun, entries_of, entries_tests, entry_in, entry_of, entry_tests, greatest_chunks, id_in, order_test, pieces_in, run_fault, run_length_test, spelled_entry};
 
 use crate::faults::FormatFault;
@@ -25,6 +26,14 @@ pub struct Run {
     pub entries: Vec<(ShardId, Vec<Locator>)>,
 }
 
+/// How many bytes a run of so many entries has.
+pub fn run_bytes(entries: usize) -> usize
+    requires { run_bytes entries < 2 ^ 64 }
+    ensures { result ≡ run_bytes entries }
+{
+    4 + 81 * entries
+}
+
 /// As many bytes as the entries that are counted.
 fn check_length(payload: &[u8]) -> Result<(), FormatFault>
     ensures fault { fault_in result ≡ run_length_test payload.now }
@@ -35,7 +44,7 @@ fn check_length(payload: &[u8]) -> Result<(), FormatFault>
         return Err(FormatFault::BadLength);
     }
     let count = BigEndian::read_u32(&payload[0..4]) as usize;
-    if count >= 1 && payload.len() == 4 + 81 * count {
+    if count >= 1 && payload.len() == run_bytes(count) {
         Ok(())
     } else {
         Err(FormatFault::BadLength)

@@ -1,7 +1,7 @@
-//! The superblock in sections: a page for each.
+//! The superblock in sections, a page for each, in the format of the store.
 
 ghost use Rattle.std.specs.Prelude.{◌≡◌, ◌+◌, ◌*◌, ◌^◌, ◌<◌, ◌≤◌, ℕ, List, None, Ok, Err, IfOk, length, slice_index};
-ghost use Rattle.cs_frame.specs.Geometries.{section_length};
+ghost use Rattle.cs_frame.specs.Geometries.{IsKnown, section_length};
 ghost use Rattle.std.specs.List.{AllByRecursion};
 ghost use Rattle.cs_frame.specs.Buffers.{text_of};
 ghost use Rattle.cs_frame.specs.Bytes.{IsPage, number};
@@ -11,7 +11,7 @@ ghost use Rattle.cs_frame.specs.Pointers.{FitsGeneration};
 
 use crate::faults::FormatFault;
 use crate::geometries::{
-    GREATEST_EXTENTS, Geometry, are_in_bounds, can_be_divided, extents_in_section,
+    Geometry, are_in_bounds, can_be_divided, extents_in_section, greatest_extents,
 };
 use crate::pages::{PageBuffer, check_digest, check_digit, check_magic, check_padding};
 use crate::pointers::{append_extents, check_pointers_in, check_range, extents_of};
@@ -21,14 +21,16 @@ use std::alloc::{AllocError, Global};
 /// One section of a superblock as of one version.
 #[derive(Debug, Drop)]
 pub struct Superblock {
+    /// The format of the store, 2 or 3.
+    pub format: u8,
     /// From 1 to 2^63 - 1.
     pub version: u64,
-    /// The extents of the store, all sections together, from 4 to 2,048.
+    /// The extents of the store, all sections together, from 4 to 2,048, in format 3 from 5 to 7,680.
     pub extent_count: u16,
-    /// The pages of an extent, from 2 to 256.
+    /// The pages of an extent, from 2 to 256, in format 3 to 65,535.
     pub pages: u16,
-    /// How many sections the superblock has, from 1 to 8. All but the last have as many extents, at most 512, and
-    /// the last has what is left.
+    /// How many sections the superblock has, from 1 to 8, in format 3 to 15. All but the last have as many extents, at most 512,
+    /// and the last has what is left.
     pub sections: u8,
     /// Which of them this is, from 0.
     pub section: u8,
@@ -37,8 +39,17 @@ pub struct Superblock {
     pub extents: Vec<(u16, u32)>,
 }
 
+/// The digit of a format, its fourth byte.
+fn digit_of(format: u8) -> u8
+    requires { IsKnown format }
+    ensures { result ≡ 48 + format }
+{
+    b'0' + format
+}
+
 /// The page of a section up to its digest.
 fn unsealed(
+    format: u8,
     version: u64,
     extent_count: u16,
     pages: u16,
@@ -46,12 +57,14 @@ fn unsealed(
     section: u8,
     extents: &[(u16, u32)],
 ) -> PageBuffer
-    requires { 6 * length extents.now ≤ 4046 }
-    ensures text { text_of result ≡ superblock_fields version extent_count pages sections section extents.now }
+    requires known { IsKnown format }
+    requires size { 6 * length extents.now ≤ 4046 }
+    ensures text { text_of result ≡ superblock_fields format version extent_count pages sections section extents.now }
     ensures generations { AllByRecursion FitsGeneration extents.now }
 {
     let mut page = PageBuffer::new();
-    page.append(b"CSS2");
+    page.append(b"CSS");
+    page.append(&[digit_of(format)]);
     page.append(&version.to_be_bytes());
     page.append(&extent_count.to_be_bytes());
     page.append(&pages.to_be_bytes());
@@ -63,6 +76,7 @@ fn unsealed(
 
 /// The page that spells a section of so many extents, pages and sections.
 fn spelled_page(
+    format: u8,
     version: u64,
     extent_count: u16,
     pages: u16,
@@ -70,10 +84,18 @@ fn spelled_page(
     section: u8,
     extents: &[(u16, u32)],
 ) -> [u8; 4096]
-    requires { IsSection version extent_count pages sections section extents.now }
-    ensures { SpellsSuperblock result version extent_count pages sections section extents.now }
+    requires { IsSection format version extent_count pages sections section extents.now }
+    ensures { SpellsSuperblock result format version extent_count pages sections section extents.now }
 {
-    let mut page = unsealed(version, extent_count, pages, sections, section, extents);
+    let mut page = unsealed(
+        format,
+        version,
+        extent_count,
+        pages,
+        sections,
+        section,
+        extents,
+    );
     page.seal();
     page.finish()
 }
@@ -82,9 +104,10 @@ fn spelled_page(
 pub fn encode_superblock(superblock: &Superblock) -> [u8; 4096]
     requires { IsSuperblock superblock.now }
     ensures { let it = superblock.now in
-        SpellsSuperblock result it.version it.extent_count it.pages it.sections it.section it.extents.items }
+        SpellsSuperblock result it.format it.version it.extent_count it.pages it.sections it.section it.extents.items }
 {
     spelled_page(
+        superblock.format,
         superblock.version,
         superblock.extent_count,
         superblock.pages,
@@ -105,9 +128,10 @@ pub fn encode_section(
     requires section { section < geometry.sections }
     requires count { length extents.now ≡ section_length geometry.extents geometry.sections section }
     requires pointers { AllByRecursion (λ extent. extent.0 ≤ geometry.pages) extents.now }
-    ensures { SpellsSuperblock result version geometry.extents geometry.pages geometry.sections section extents.now }
+    ensures { SpellsSuperblock result geometry.format version geometry.extents geometry.pages geometry.sections section extents.now }
 {
     spelled_page(
+        geometry.format(),
         version,
         geometry.extents(),
         geometry.pages(),
@@ -126,15 +150,19 @@ fn end_of(page: &[u8; 4096]) -> usize
 }
 
 /// So many extents of so many pages have a superblock of so many sections, and this is one of them.
-fn check_section(page: &[u8; 4096]) -> Result<(), FormatFault>
-    ensures fault { fault_in result ≡ section_test page.now }
+fn check_section(page: &[u8; 4096], format: u8) -> Result<(), FormatFault>
+    ensures fault { fault_in result ≡ section_test format page.now }
     ensures sections { IfOk result (λ _. 1 ≤ slice_index page.now 16) }
     ensures end { IfOk result (λ _. superblock_end page.now + 32 ≤ 4096) }
 {
     let extents = BigEndian::read_u16(&page[12..14]);
     let pages = BigEndian::read_u16(&page[14..16]);
-    if are_in_bounds(GREATEST_EXTENTS, u64::from(extents), u64::from(pages))
-        && can_be_divided(extents, page[16])
+    if are_in_bounds(
+        format,
+        greatest_extents(format),
+        u64::from(extents),
+        u64::from(pages),
+    ) && can_be_divided(format, extents, page[16])
         && page[17] < page[16]
     {
         Ok(())
@@ -154,15 +182,16 @@ fn check_pointers(page: &[u8; 4096]) -> Result<(), FormatFault>
 }
 
 /// Makes the tests of a section's page in order.
-fn check_page(page: &[u8; 4096]) -> Result<(), FormatFault>
-    ensures fault { fault_in result ≡ superblock_fault page.now }
+fn check_page(page: &[u8; 4096], format: u8) -> Result<(), FormatFault>
+    requires { IsKnown format }
+    ensures fault { fault_in result ≡ superblock_fault format page.now }
     ensures sections { IfOk result (λ _. 1 ≤ slice_index page.now 16) }
     ensures end { IfOk result (λ _. superblock_end page.now + 32 ≤ 4096) }
     ensures page { IsPage page.now }
 {
     check_magic(page, b"CSS")?;
-    check_digit(page, b'2')?;
-    check_section(page)?;
+    check_digit(page, digit_of(format))?;
+    check_section(page, format)?;
     let end = end_of(page);
     check_digest(page, end)?;
     check_range(page)?;
@@ -171,9 +200,10 @@ fn check_page(page: &[u8; 4096]) -> Result<(), FormatFault>
 }
 
 /// The section that a page without a fault spells.
-fn section_from(alloc: Global, page: &[u8; 4096]) -> Result<Superblock, AllocError>
+fn section_from(alloc: Global, page: &[u8; 4096], format: u8) -> Result<Superblock, AllocError>
     requires sections { 1 ≤ slice_index page.now 16 }
     requires end { superblock_end page.now + 32 ≤ 4096 }
+    ensures format { IfOk result (λ it. it.format ≡ format) }
     ensures version { IfOk result (λ it. it.version ≡ number 4 12 page.now) }
     ensures extent_count { IfOk result (λ it. it.extent_count ≡ number 12 14 page.now) }
     ensures pages { IfOk result (λ it. it.pages ≡ number 14 16 page.now) }
@@ -183,6 +213,7 @@ fn section_from(alloc: Global, page: &[u8; 4096]) -> Result<Superblock, AllocErr
 {
     let extents = extents_of(alloc, &page[18..end_of(page)])?;
     Ok(Superblock {
+        format,
         version: BigEndian::read_u64(&page[4..12]),
         extent_count: BigEndian::read_u16(&page[12..14]),
         pages: BigEndian::read_u16(&page[14..16]),
@@ -192,22 +223,28 @@ fn section_from(alloc: Global, page: &[u8; 4096]) -> Result<Superblock, AllocErr
     })
 }
 
-/// The section that a page spells. The first test that fails is answered: 20 BadMagic, 24 BadVersion, also for a superblock of the
-/// first format, 22 BadLength for the numbers of extents, pages and sections, 21 BadDigest, then 24 for the version's range, 22 for a
-/// pointer, and 23 BadPadding; 9 OutOfMemory only for a page that spells a section.
-pub fn decode_section(alloc: Global, page: &[u8; 4096]) -> Result<Superblock, FormatFault>
-    // What is read is spelled by the page.
+/// The section that a page spells in this format, that of the store. The first test that fails is answered: 20 BadMagic, 24 BadVersion
+/// where the fourth byte is another digit than the format's, 22 BadLength for the numbers of extents, pages and sections, 21 BadDigest,
+/// then 24 for the version's range, 22 for a pointer, and 23 BadPadding; 9 OutOfMemory only for a page that spells a section.
+pub fn decode_section(
+    alloc: Global,
+    page: &[u8; 4096],
+    format: u8,
+) -> Result<Superblock, FormatFault>
+    requires { IsKnown format }
+    // What is read has this format, and is spelled by the page.
+    ensures format { IfOk result (λ it. it.format ≡ format) }
     ensures spelled { IfOk result (λ it.
-        SpellsSuperblock page.now it.version it.extent_count it.pages it.sections it.section it.extents.items) }
+        SpellsSuperblock page.now it.format it.version it.extent_count it.pages it.sections it.section it.extents.items) }
     // What the page spells is read, unless memory runs out.
     ensures read { (version extents pages sections section : ℕ) (written : List (ℕ × ℕ))
-        → SpellsSuperblock page.now version extents pages sections section written
-        → OkUnlessMemory result (λ it. (it.version ≡ version) × (it.extent_count ≡ extents) × (it.pages ≡ pages)
-        × (it.sections ≡ sections) × (it.section ≡ section) × (it.extents.items ≡ written)) }
+        → SpellsSuperblock page.now format version extents pages sections section written
+        → OkUnlessMemory result (λ it. (it.format ≡ format) × (it.version ≡ version) × (it.extent_count ≡ extents)
+        × (it.pages ≡ pages) × (it.sections ≡ sections) × (it.section ≡ section) × (it.extents.items ≡ written)) }
     // Each other fault is that of the first test that fails.
-    ensures fault { HasFault result (superblock_fault page.now) }
-    ensures memory { result ≡ Err FormatFault.OutOfMemory → superblock_fault page.now ≡ None }
+    ensures fault { HasFault result (superblock_fault format page.now) }
+    ensures memory { result ≡ Err FormatFault.OutOfMemory → superblock_fault format page.now ≡ None }
 {
-    check_page(page)?;
-    Ok(section_from(alloc, page)?)
+    check_page(page, format)?;
+    Ok(section_from(alloc, page, format)?)
 }

@@ -1,13 +1,15 @@
 -- What is read of an image is what it recovers.
-use Rattle.std.proofs.Common.{◌≡◌, ◌⊎◌, inl, inr, ⊎_elim, ℕ, zero, suc, ◌+◌, ◌-◌, ◌*◌, ◌<◌, ◌≤◌, Bool, true, nat_lt, ◌&&◌, ◌==◌, List, [], ◌∷◌, length, map, Option, Some, None, if◌then◌else◌, eq-eqb, refl, sym, ap, ◌∙◌, subst, arith}
+use Rattle.std.proofs.Common.{◌≡◌, ◌⊎◌, inl, inr, ⊎_elim, ℕ, zero, suc, ◌+◌, ◌-◌, ◌<◌, ◌≤◌, Bool, true, nat_lt, ◌&&◌, ◌==◌, List, [], ◌∷◌, length, map, Option, Some, None, if◌then◌else◌, eq-eqb, refl, sym, ap, ◌∙◌, subst, arith}
 use Rattle.std.specs.Prelude.{slice_index}
 use Rattle.std.specs.List.{AllByRecursion}
 use Rattle.std.proofs.lemmas.Bool.{lt-ltb}
 use Rattle.std.proofs.lemmas.List.{length-map}
 use Rattle.cs_extent.specs.State.{State as ExtentsState, extents_of, section_rows, shape}
 use Rattle.cs_frame.specs.declared.locators.Locator.{Locator}
+use Rattle.cs_frame.proofs.FormatLaws.{root_fits_from}
 use Rattle.cs_frame.specs.Formats.{formats_of, place_of}
-use Rattle.cs_frame.specs.Roots.{spelled_root}
+use Rattle.cs_frame.specs.Geometries.{device_pages}
+use Rattle.cs_frame.specs.Roots.{FitsRoot, greatest_runs, spelled_root}
 use Rattle.cs_index.proofs.Newest.{all_newest, all_oldest}
 use Rattle.cs_index.proofs.Whole.{length-newest}
 use Rattle.cs_index.specs.declared.runs.StoredRun.{StoredRun}
@@ -15,7 +17,7 @@ use Rattle.cs_index.specs.State.{IsShort, IsStored, named_entry, newest_first, r
 use Rattle.cs_model.proofs.Carries.{and_true}
 use Rattle.cs_model.specs.Element.{Bytes, Content, Damaged, Entry, Locator as Place, Map, Opening, Run}
 use Rattle.cs_model.specs.Formats.{ChunkFrame, RunFrame, Stand, opening_in, pages_from, places}
-use Rattle.cs_model.specs.Index.{AllPass, Gives, Holds, InBounds, InRange, Passes, Reads, ReadsAs, Value, after, entries_of, live, lookup}
+use Rattle.cs_model.specs.Index.{AllPass, Gives, Holds, InBounds, Passes, Reads, ReadsAs, Value, after, entries_of, live, lookup}
 use Rattle.cs_model.specs.Lists.{◌∈◌}
 use Rattle.cs_model.specs.Recovery.{Recovers}
 use Rattle.cs_model.specs.Refusal.{Refusal}
@@ -24,18 +26,18 @@ use Rattle.cs_image.specs.Reads.{AreLocated, ArePages, IsLocated, IsRunRead, IsS
 use Rattle.cs_image.proofs.Chunks.{chunk_or_fault}
 use Rattle.cs_image.proofs.Listed.{found_in, in_all, in_entries, oldest_places}
 use Rattle.cs_image.proofs.Runs.{Stored, stands_read, stored_read}
-use Rattle.cs_image.proofs.Superblocks.{extents_are, extents_fit, read_below, read_fits, read_format, read_listed, section_formats, zero_formats}
+use Rattle.cs_image.proofs.Superblocks.{extents_are, extents_fit, read_below, read_fits, read_listed, section_formats, zero_formats}
 
-module _ (view : ℕ → List ℕ) (versions : List ℕ) (pages : ℕ) (written : List (ℕ × ℕ)) (root commands : ℕ) (runs : List StoredRun)
-    (read : IsStoreRead view versions pages written root commands runs) where
+module _ (view : ℕ → List ℕ) (format : ℕ) (versions : List ℕ) (pages : ℕ) (written : List (ℕ × ℕ)) (root commands : ℕ) (runs : List StoredRun)
+    (read : IsStoreRead view format versions pages written root commands runs) where
   abbrev x : ExtentsState
-  x = extents_at pages (length versions) written
+  x = extents_at format pages (length versions) written
 
   abbrev p : ℕ → ℕ
-  p = (extents_of (extents_at pages (length versions) written)).pointer
+  p = (extents_of (extents_at format pages (length versions) written)).pointer
 
   abbrev g : ℕ → ℕ
-  g = (extents_of (extents_at pages (length versions) written)).generation
+  g = (extents_of (extents_at format pages (length versions) written)).generation
 
   abbrev opening : Opening
   opening = opening_in (shape x) (formats_of (shape x)) view p g
@@ -44,7 +46,7 @@ module _ (view : ℕ → List ℕ) (versions : List ℕ) (pages : ℕ) (written 
   Located = Passes (shape x) (formats_of (shape x)) view p g
 
   fit : (e : ℕ) → (p e ≤ pages) × (g e ≤ 4294967295)
-  fit = extents_fit view versions pages written read.sections
+  fit = extents_fit view format versions pages written read.sections
 
   passes : (l : Locator) → IsLocated x l → Located (place_of l)
   passes l is = record {
@@ -52,9 +54,6 @@ module _ (view : ℕ → List ℕ) (versions : List ℕ) (pages : ℕ) (written 
     below = is.page;
     inside = (is.extent, (let low : p l.extent ≤ pages = (fit l.extent).0 in let lt : l.page < p l.extent = is.page in omega arith));
   }
-
-  in_range : (l : Place) → Located l → InRange (shape x) l
-  in_range l is = (is.inside, subst (λ (n : ℕ). n ≤ 4294967295) is.generation (fit l.extent).1)
 
   not_empty : (l : Place) → Located l → opening.frozen l.extent l.generation ≡ true
   not_empty l is = and_true (g l.extent == l.generation) (nat_lt 0 (p l.extent)) (eq-eqb _ _ is.generation)
@@ -119,19 +118,10 @@ module _ (view : ℕ → List ℕ) (versions : List ℕ) (pages : ℕ) (written 
   few_chunks : (id : ℕ) → length (live (lookup id (entries_of (newest_first runs)))) ≤ 8
   few_chunks = found_in EntryIn (λ (o : Option (List Place)). length (live o) ≤ 8) (omega arith) (λ e is. is.0) (entries_of (newest_first runs)) all_entries
 
-  places_in : (rs : List Run) → AllByRecursion RunIn rs → (l : Place) → l ∈ places rs → InRange (shape x) l
-  places_in [] all l none = absurd none
-  places_in (run ∷ rs) all l (inl is) = subst (InRange (shape x)) (sym is) (in_range run.place all.0.reads.passes)
-  places_in (run ∷ rs) all l (inr has) = places_in rs all.1 l has
-
-  length-places : (rs : List Run) → length (places rs) ≡ length rs
-  length-places [] = refl
-  length-places (run ∷ rs) = ap suc (length-places rs)
-
   -- ---- what is found
 
-  few_runs : length (newest_first runs) ≤ 4
-  few_runs = let few : length (map (λ run. run.place) runs) ≤ 4 = read.root_page.fits.count in
+  few_runs : length (newest_first runs) ≤ greatest_runs format
+  few_runs = let few : length (map (λ run. run.place) runs) ≤ greatest_runs format = read.root_page.fits.count in
       omega (arith, few, length-newest runs, length-map runs (λ run. run.place))
 
   bounds : InBounds (shape x) root commands (length (newest_first runs)) (entries_of (newest_first runs))
@@ -145,33 +135,32 @@ module _ (view : ℕ → List ℕ) (versions : List ℕ) (pages : ℕ) (written 
   }
 
   -- the format of page 0, which with one section may be the first, is as good as any for the others
-  zero_format : 0 < length versions → (format : ℕ) × (view 0 ≡ (formats_of (shape x)).superblock format 0 (slice_index versions 0) p g)
-  zero_format some = zero_formats (shape x) p g (slice_index versions 0) (view 0) (section_rows x 0) (read_listed view versions pages written read.sections 0) (read.sections.each 0 some)
+  zero_format : 0 < length versions → (f : ℕ) × (view 0 ≡ (formats_of (shape x)).superblock f 0 (slice_index versions 0) p g)
+  zero_format some = zero_formats (shape x) p g (slice_index versions 0) (view 0) (section_rows x 0) (read_listed view format versions pages written read.sections 0) (read.sections.each 0 some)
 
-  abbrev format : ℕ
-  format = (zero_format read.sections.geometry.fewest_sections).0
+  abbrev first_written : ℕ
+  first_written = (zero_format read.sections.geometry.fewest_sections).0
 
-  section_there : (j : ℕ) → j < length versions → view ((shape x).section_page j) ≡ (formats_of (shape x)).superblock format j (slice_index versions j) p g
+  section_there : (j : ℕ) → j < length versions → view ((shape x).section_page j) ≡ (formats_of (shape x)).superblock first_written j (slice_index versions j) p g
   section_there zero lt = (zero_format read.sections.geometry.fewest_sections).1
-  section_there (suc j) lt = section_formats (shape x) p g format j (slice_index versions (suc j)) (view ((shape x).section_page (suc j))) (section_rows x (suc j))
-      (read_listed view versions pages written read.sections (suc j)) lt (read.sections.each (suc j) lt)
+  section_there (suc j) lt = section_formats (shape x) p g first_written j (slice_index versions (suc j)) (view ((shape x).section_page (suc j))) (section_rows x (suc j))
+      (read_listed view format versions pages written read.sections (suc j)) lt (read.sections.each (suc j) lt)
 
   module _ (m : Map) (gives : Gives (shape x) (formats_of (shape x)) opening view p g [] (newest_first runs) m) where
     abbrev found : Recovers (shape x) (formats_of (shape x)) view commands m
     found = record {
-      formats = λ j. format;
+      formats = λ j. first_written;
       versions = λ j. slice_index versions j;
       pointers = p;
       generations = g;
       superblock = section_there;
-      versions_fit = λ j lt. let fits = read_fits view versions pages written read.sections j lt in (fits.first_version, (let last = fits.last_version in omega (arith, last)));
+      versions_fit = λ j lt. let fits = read_fits view format versions pages written read.sections j lt in (fits.first_version, (let last = fits.last_version in omega (arith, last)));
       extents_fit = fit;
       version = root;
       runs = newest_first runs;
-      root = read.root_page.spelled ∙ ap (spelled_root root commands) (sym (oldest_places runs));
-      root_fits = (read_format view versions pages written read.sections).root_fits root commands (places (newest_first runs))
-          bounds.some_version bounds.version_fits bounds.commands_fit
-          (omega (arith, few_runs, length-places (newest_first runs))) (places_in (newest_first runs) runs_in);
+      root = read.root_page.spelled ∙ ap (spelled_root format root commands) (sym (oldest_places runs));
+      root_fits = root_fits_from format root commands (places (newest_first runs))
+          (subst (λ (ls : List Locator). FitsRoot format root commands ls) (sym (oldest_places runs)) read.root_page.fits);
       runs_fit = λ run has. (in_all RunIn (newest_first runs) runs_in run has).fits;
       bounds = bounds;
       gives = gives;
@@ -179,11 +168,11 @@ module _ (view : ℕ → List ℕ) (versions : List ℕ) (pages : ℕ) (written 
 
     pub found_as : (found : Recovers (shape x) (formats_of (shape x)) view commands m)
         × IsFoundAs (shape x) (formats_of (shape x)) view commands m found x versions root (newest_first runs)
-    found_as = (found, record { extents = extents_are pages (length versions) written; all_sections = refl; versions = λ j lt. refl; root_version = refl; same_runs = refl })
+    found_as = (found, record { extents = extents_are format pages (length versions) written; all_sections = refl; versions = λ j lt. refl; root_version = refl; same_runs = refl })
 
   -- ---- what the entries give
 
-  module _ (are : ArePages (1 + length written * pages + length versions) view) where
+  module _ (are : ArePages (device_pages format (length written) pages (length versions)) view) where
     chunk : (l : Place) → Located l
         → ((payload : List ℕ) × Reads (shape x) (formats_of (shape x)) opening view p g l ((formats_of (shape x)).frame ChunkFrame payload))
         ⊎ ((f : Refusal) × (opening.damage l ≡ Some f))
@@ -193,7 +182,7 @@ module _ (view : ℕ → List ℕ) (versions : List ℕ) (pages : ℕ) (written 
         inl (c.0, record { passes = is; below = inr (not_empty l is); inside = c.1; stand = c.2 }))
         (λ (b : (f : Refusal) × ((formats_of (shape x)).fault ChunkFrame (pages_from (shape x) (formats_of (shape x)) view l.extent l.page (pages - l.page)) ≡ Some f)).
         inr (b.0, shown l is b.0 b.1))
-        (chunk_or_fault (shape x) view (1 + length written * pages + length versions) (read_below view versions pages written read.sections) are l.extent l.page is.inside)
+        (chunk_or_fault (shape x) view (device_pages format (length written) pages (length versions)) (read_below view format versions pages written read.sections) are l.extent l.page is.inside)
       where
         shown : (l : Place) → Located l → (f : Refusal) → (formats_of (shape x)).fault ChunkFrame (pages_from (shape x) (formats_of (shape x)) view l.extent l.page (pages - l.page)) ≡ Some f
             → opening.damage l ≡ Some f

@@ -1,5 +1,5 @@
 -- What an image recovers can be read.
-use Rattle.std.proofs.Common.{◌≡◌, inl, inr, ℕ, zero, suc, ◌+◌, ◌*◌, ◌/◌, ◌<◌, ◌≤◌, List, [], ◌∷◌, ◌++◌, length, map, take, drop, Vec, refl, sym, ap, ◌∙◌, subst, arith}
+use Rattle.std.proofs.Common.{◌≡◌, inl, inr, ℕ, zero, suc, ◌+◌, ◌/◌, ◌<◌, ◌≤◌, List, [], ◌∷◌, ◌++◌, length, map, take, drop, Vec, refl, sym, ap, ◌∙◌, subst, arith}
 use Rattle.std.specs.Prelude.{reverse, slice_index, slice_index_or}
 use Rattle.std.specs.List.{AllByRecursion, flat_map}
 use Rattle.std.specs.declared.alloc.Global.{Global}
@@ -11,6 +11,7 @@ use Rattle.cs_extent.specs.State.{State as ExtentsState, section_rows, shape}
 use Rattle.cs_frame.proofs.Fields.{IsBytes-field}
 use Rattle.cs_frame.proofs.FrameLaws.{payload_is_read, stands}
 use Rattle.cs_frame.proofs.Pieces.{AllByRecursion-map, length-first_chunks}
+use Rattle.cs_frame.proofs.GeometryLaws.{bounds}
 use Rattle.cs_frame.proofs.RootLaws as roots
 use Rattle.cs_frame.specs.declared.identifiers.ShardId.{ShardId}
 use Rattle.cs_frame.specs.declared.locators.Locator.{Locator}
@@ -18,7 +19,7 @@ use Rattle.cs_frame.specs.Bytes.{IsBytes, IsPage}
 use Rattle.cs_frame.specs.FirstFormat.{SpellsPageZero}
 use Rattle.cs_frame.specs.Formats.{as_entry, as_locator, extents_of as listed_extents, formats_of, place_of}
 use Rattle.cs_frame.specs.Frames.{bytes_in, first_page, frame_bytes, frame_count, page_count, payload_length, spelled_frame}
-use Rattle.cs_frame.specs.Geometries.{IsGeometry, section_length, section_size, section_start}
+use Rattle.cs_frame.specs.Geometries.{IsGeometry, device_pages, section_length, section_size, section_start}
 use Rattle.cs_frame.specs.Locators.{FitsLocator}
 use Rattle.cs_frame.specs.Pointers.{FitsExtent as FitsPair}
 use Rattle.cs_frame.specs.Roots.{SpellsRoot}
@@ -79,10 +80,10 @@ length-places (run ∷ runs) = ap suc (length-places runs)
 
 -- ---- superblock and root
 
-module _ (extents pages sections : ℕ) (is : IsGeometry extents pages sections) (view : ℕ → List ℕ) (n : ℕ) (m : Map)
-    (r : Recovers (shape_of extents pages sections (section_size extents sections) 2) (formats_of (shape_of extents pages sections (section_size extents sections) 2)) view n m) where
+module _ (format extents pages sections : ℕ) (is : IsGeometry format extents pages sections) (view : ℕ → List ℕ) (n : ℕ) (m : Map)
+    (r : Recovers (shape_of extents pages sections (section_size extents sections) format) (formats_of (shape_of extents pages sections (section_size extents sections) format)) view n m) where
   abbrev S : Shape
-  S = shape_of extents pages sections (section_size extents sections) 2
+  S = shape_of extents pages sections (section_size extents sections) format
 
   abbrev pub rows : List (ℕ × ℕ)
   rows = rows_from r.pointers r.generations 0 extents
@@ -93,8 +94,8 @@ module _ (extents pages sections : ℕ) (is : IsGeometry extents pages sections)
 
   pub fits_located : (l : Place) → Passes S (formats_of S) view r.pointers r.generations l → FitsLocator (as_locator l)
   fits_located l passes = record {
-    extent = (let few : extents ≤ 2048 = is.most_extents in let lt : l.extent < extents = passes.inside.0 in omega (arith, lt));
-    page = (let few : pages ≤ 256 = is.most_pages in let lt : l.page < pages = passes.inside.1 in omega (arith, lt));
+    extent = (let few : extents ≤ 7680 = (bounds format extents pages sections is).most_extents in let lt : l.extent < extents = passes.inside.0 in omega (arith, lt));
+    page = (let few : pages ≤ 65535 = (bounds format extents pages sections is).most_pages in let lt : l.page < pages = passes.inside.1 in omega (arith, lt));
     generation = (let low : r.generations l.extent ≤ 4294967295 = (r.extents_fit l.extent).1 in let same : r.generations l.extent ≡ l.generation = passes.generation in omega (arith, low, same));
   }
 
@@ -106,9 +107,9 @@ module _ (extents pages sections : ℕ) (is : IsGeometry extents pages sections)
       ∙ ap (λ (k : ℕ). (r.pointers k, r.generations k)) (let same : 0 + e ≡ e = omega arith in same)
 
   rows_listed : (j : ℕ) → listed_extents S.section r.pointers r.generations j 0 extents ≡ part j
-  rows_listed j = section_listed extents pages sections 2 is rows rows_length r.pointers r.generations (λ k lt. sym (rows_at k lt)) j
+  rows_listed j = section_listed format extents pages sections is rows rows_length r.pointers r.generations (λ k lt. sym (rows_at k lt)) j
 
-  part_fits : (j : ℕ) → j < sections → FitsSuperblock (r.versions j) extents pages sections j (part j)
+  part_fits : (j : ℕ) → j < sections → FitsSuperblock format (r.versions j) extents pages sections j (part j)
   part_fits j lt = record {
     first_version = (r.versions_fit j lt).0;
     last_version = (let high : r.versions j ≤ 9223372036854775807 = (r.versions_fit j lt).1 in omega (arith, high));
@@ -127,29 +128,30 @@ module _ (extents pages sections : ℕ) (is : IsGeometry extents pages sections)
   }
 
   -- the page of each section spells it
-  pub section_spelled : (j : ℕ) → j < sections → SpellsAt j (view (S.section_page j)) (r.versions j) extents pages sections (part j)
-  section_spelled j lt = subst (λ (rs : List (ℕ × ℕ)). SpellsAt j (view (S.section_page j)) (r.versions j) extents pages sections rs) (rows_listed j)
+  pub section_spelled : (j : ℕ) → j < sections → SpellsAt j (view (S.section_page j)) format (r.versions j) extents pages sections (part j)
+  section_spelled j lt = subst (λ (rs : List (ℕ × ℕ)). SpellsAt j (view (S.section_page j)) format (r.versions j) extents pages sections rs) (rows_listed j)
       (from_formats S r.pointers r.generations (r.formats j) j (r.versions j) (view (S.section_page j)) (r.superblock j lt)
-      (subst (λ (rs : List (ℕ × ℕ)). FitsSuperblock (r.versions j) extents pages sections j rs) (sym (rows_listed j)) (part_fits j lt)))
+      (subst (λ (rs : List (ℕ × ℕ)). FitsSuperblock format (r.versions j) extents pages sections j rs) (sym (rows_listed j)) (part_fits j lt)))
 
   -- another reading of page 0 has the same numbers
-  pub zero_same : (version e p s j : ℕ) (written : List (ℕ × ℕ)) → SpellsPageZero (view 0) version e p s j written
-      → (e ≡ extents) × (p ≡ pages) × (s ≡ sections) × (j ≡ 0)
-  zero_same version e p s j written spelled =
-      let one = zero_one (view 0) version e p s j written (r.versions 0) extents pages sections 0 (part 0) spelled (section_spelled 0 is.fewest_sections) in
-      (one.0, one.1, one.2, one.3)
+  pub zero_same : (f version e p s j : ℕ) (written : List (ℕ × ℕ)) → SpellsPageZero (view 0) f version e p s j written
+      → (f ≡ format) × (e ≡ extents) × (p ≡ pages) × (s ≡ sections) × (j ≡ 0)
+  zero_same f version e p s j written spelled =
+      let one = zero_one (view 0) f version e p s j written format (r.versions 0) extents pages sections 0 (part 0) spelled (section_spelled 0 is.fewest_sections) in
+      (one.0, one.1, one.2, one.3, one.4)
 
   -- and another reading of a further section's page
-  pub section_same : (k version e p s j : ℕ) (written : List (ℕ × ℕ)) → 0 < k → k < sections → SpellsSuperblock (view (S.section_page k)) version e p s j written
-      → (e ≡ extents) × (p ≡ pages) × (s ≡ sections) × (j ≡ k)
-  section_same zero version e p s j written some lt spelled = absurd (omega (arith, some))
-  section_same (suc k) version e p s j written some lt spelled =
-      let one = section_one (view (S.section_page (suc k))) version e p s j written (r.versions (suc k)) extents pages sections (suc k) (part (suc k)) spelled (section_spelled (suc k) lt) in
-      (one.0, one.1, one.2, one.3)
+  pub section_same : (k f version e p s j : ℕ) (written : List (ℕ × ℕ)) → 0 < k → k < sections → SpellsSuperblock (view (S.section_page k)) f version e p s j written
+      → (f ≡ format) × (e ≡ extents) × (p ≡ pages) × (s ≡ sections) × (j ≡ k)
+  section_same zero f version e p s j written some lt spelled = absurd (omega (arith, some))
+  section_same (suc k) f version e p s j written some lt spelled =
+      let one = section_one (view (S.section_page (suc k))) f version e p s j written format (r.versions (suc k)) extents pages sections (suc k) (part (suc k)) spelled (section_spelled (suc k) lt) in
+      (one.0, one.1, one.2, one.3, one.4)
 
-  pub root_spelled : SpellsRoot (view 1) r.version n (map as_locator (reverse (places r.runs)))
+  pub root_spelled : SpellsRoot (view 1) format r.version n (map as_locator (reverse (places r.runs)))
   root_spelled = record {
     fits = record {
+      known = is.known;
       first_version = r.bounds.some_version;
       last_version = (let high = r.bounds.version_fits in omega (arith, high));
       last_command = (let high = r.bounds.commands_fit in omega (arith, high));
@@ -162,26 +164,26 @@ module _ (extents pages sections : ℕ) (is : IsGeometry extents pages sections)
 
 -- ---- runs
 
-module _ (view : ℕ → List ℕ) (versions : List ℕ) (pages : ℕ) (written : List (ℕ × ℕ)) (superblock : AreSectionsRead view versions pages written)
-    (are : ArePages (1 + length written * pages + length versions) view) (n : ℕ) (m : Map)
-    (r : Recovers (shape (extents_at pages (length versions) written)) (formats_of (shape (extents_at pages (length versions) written))) view n m) where
+module _ (view : ℕ → List ℕ) (format : ℕ) (versions : List ℕ) (pages : ℕ) (written : List (ℕ × ℕ)) (superblock : AreSectionsRead view format versions pages written)
+    (are : ArePages (device_pages format (length written) pages (length versions)) view) (n : ℕ) (m : Map)
+    (r : Recovers (shape (extents_at format pages (length versions) written)) (formats_of (shape (extents_at format pages (length versions) written))) view n m) where
   abbrev x : ExtentsState
-  x = extents_at pages (length versions) written
+  x = extents_at format pages (length versions) written
 
   abbrev Located : Place → Type 0
-  Located = Passes (shape (extents_at pages (length versions) written)) (formats_of (shape (extents_at pages (length versions) written))) view r.pointers r.generations
+  Located = Passes (shape (extents_at format pages (length versions) written)) (formats_of (shape (extents_at format pages (length versions) written))) view r.pointers r.generations
 
-  sizes : IsGeometry (length written) pages (length versions)
+  sizes : IsGeometry format (length written) pages (length versions)
   sizes = superblock.geometry
 
-  rows_are : (j : ℕ) → j < length versions → section_rows x j ≡ part (length written) pages (length versions) sizes view n m r j
-  rows_are j lt = at_one j (view ((shape x).section_page j)) (slice_index versions j) (length written) pages (length versions) (section_rows x j)
-      (r.versions j) (length written) pages (length versions) (part (length written) pages (length versions) sizes view n m r j)
-      (superblock.each j lt) (section_spelled (length written) pages (length versions) sizes view n m r j lt)
+  rows_are : (j : ℕ) → j < length versions → section_rows x j ≡ part format (length written) pages (length versions) sizes view n m r j
+  rows_are j lt = at_one j (view ((shape x).section_page j)) format (slice_index versions j) (length written) pages (length versions) (section_rows x j)
+      format (r.versions j) (length written) pages (length versions) (part format (length written) pages (length versions) sizes view n m r j)
+      (superblock.each j lt) (section_spelled format (length written) pages (length versions) sizes view n m r j lt)
 
   at : (e : ℕ) → e < length written → slice_index_or written e (0, 0) ≡ (r.pointers e, r.generations e)
-  at e lt = rows_agree (length written) pages (length versions) 2 sizes written (rows (length written) pages (length versions) sizes view n m r) rows_are e lt
-      ∙ rows_at (length written) pages (length versions) sizes view n m r e lt
+  at e lt = rows_agree format (length written) pages (length versions) sizes written (rows format (length written) pages (length versions) sizes view n m r) rows_are e lt
+      ∙ rows_at format (length written) pages (length versions) sizes view n m r e lt
 
   pub located : (l : Place) → Located l → IsLocated x (as_locator l)
   located l passes = record {
@@ -194,7 +196,7 @@ module _ (view : ℕ → List ℕ) (versions : List ℕ) (pages : ℕ) (written 
       → Stand (shape x) (formats_of (shape x)) view e i bs → AllByRecursion IsPage bs
   pages_stand e i [] there fits stand = tt
   pages_stand e i (b ∷ bs) there fits stand = (
-    subst IsPage stand.0 (are ((shape x).address e i) ((read_below view versions pages written superblock).frames e i (there, omega (arith, fits)))),
+    subst IsPage stand.0 (are ((shape x).address e i) ((read_below view format versions pages written superblock).frames e i (there, omega (arith, fits)))),
     pages_stand e (suc i) bs there (omega (arith, fits)) stand.1,
   )
 
@@ -202,8 +204,8 @@ module _ (view : ℕ → List ℕ) (versions : List ℕ) (pages : ℕ) (written 
       → Stand (shape x) (formats_of (shape x)) view e i (spelled_frame 1 payload) → IsBytes payload
   payload_bytes e i payload there fits stand =
       let size : length (spelled_frame 1 payload) ≡ page_count (length payload) = length-first_chunks 4096 (page_count (length payload)) (frame_bytes 1 payload) in
-      let most : pages ≤ 256 = sizes.most_pages in
-      let few : (41 + length payload + 4095) / 4096 ≤ 256 = omega (arith, size, fits, most) in
+      let most : pages ≤ 65535 = (bounds format (length written) pages (length versions) sizes).most_pages in
+      let few : (41 + length payload + 4095) / 4096 ≤ 65535 = omega (arith, size, fits, most) in
       let all : AllByRecursion IsPage (spelled_frame 1 payload ++ []) = all_append IsPage (spelled_frame 1 payload) [] (pages_stand e i (spelled_frame 1 payload) there fits stand) tt in
       let whole : IsBytes (bytes_in (spelled_frame 1 payload ++ [])) = bytes_joined (take (frame_count (spelled_frame 1 payload ++ [])) (spelled_frame 1 payload ++ []))
       (all_take IsPage (frame_count (spelled_frame 1 payload ++ [])) (spelled_frame 1 payload ++ []) all) in
@@ -225,30 +227,30 @@ module _ (view : ℕ → List ℕ) (versions : List ℕ) (pages : ℕ) (written 
           fits = named_fit run.entries (tests_of run.entries (r.runs_fit run has))
               (bytes_back (big_bytes 4 (length (map as_entry run.entries))) (flat_map spelled_entry (map as_entry run.entries))
               (payload_bytes run.place.extent run.place.page (spelled_run (map as_entry run.entries)) reads.passes.inside.0 reads.inside reads.stand))
-              (λ e there l at. fits_located (length written) pages (length versions) sizes view n m r l (entry_located run has e there l at));
+              (λ e there l at. fits_located format (length written) pages (length versions) sizes view n m r l (entry_located run has e there l at));
           spelled = refl;
         };
       }
 
-  module _ (root commands : ℕ) (listed : List Locator) (root_page : SpellsRoot (view 1) root commands listed) where
+  module _ (root commands : ℕ) (listed : List Locator) (root_page : SpellsRoot (view 1) format root commands listed) where
     pub same_commands : commands ≡ n
-    same_commands = sym (roots.one_root (view 1) root commands listed root_page).1
-        ∙ (roots.one_root (view 1) r.version n (map as_locator (reverse (places r.runs))) (root_spelled (length written) pages (length versions) sizes view n m r)).1
+    same_commands = sym (roots.one_root (view 1) format root commands listed root_page).of_commands
+        ∙ (roots.one_root (view 1) format r.version n (map as_locator (reverse (places r.runs))) (root_spelled format (length written) pages (length versions) sizes view n m r)).of_commands
 
     pub same_places : map as_locator (reverse (places r.runs)) ≡ listed
-    same_places = sym (roots.one_root (view 1) r.version n (map as_locator (reverse (places r.runs))) (root_spelled (length written) pages (length versions) sizes view n m r)).2
-        ∙ (roots.one_root (view 1) root commands listed root_page).2
+    same_places = sym (roots.one_root (view 1) format r.version n (map as_locator (reverse (places r.runs))) (root_spelled format (length written) pages (length versions) sizes view n m r)).of_runs
+        ∙ (roots.one_root (view 1) format root commands listed root_page).of_runs
 
     pub all_readable : AllByRecursion (λ place. IsReadable x view place) listed
     all_readable = subst (AllByRecursion (λ place. IsReadable x view place)) same_places
         (AllByRecursion-map (λ place. IsReadable x view place) as_locator (reverse (places r.runs)) (all_reverse (λ (l : Place). IsReadable x view (as_locator l)) (places r.runs)
         (all_places (λ (l : Place). IsReadable x view (as_locator l)) r.runs (λ run has. (map as_entry run.entries, has_run run has)))))
 
-  module _ (root commands : ℕ) (runs : List StoredRun) (root_page : SpellsRoot (view 1) root commands (map (λ run. run.place) runs))
-      (read : AllByRecursion (IsRunRead (extents_at pages (length versions) written) view) runs) where
+  module _ (root commands : ℕ) (runs : List StoredRun) (root_page : SpellsRoot (view 1) format root commands (map (λ run. run.place) runs))
+      (read : AllByRecursion (IsRunRead (extents_at format pages (length versions) written) view) runs) where
     -- the runs that were read are those that are recovered
     runs_are : newest_first runs ≡ r.runs
-    runs_are = same_runs (shape x) view (read_format view versions pages written superblock) (newest_first runs) r.runs
+    runs_are = same_runs (shape x) view (read_format view format versions pages written superblock) (newest_first runs) r.runs
         (same_listed r.runs runs (same_places root commands (map (λ run. run.place) runs) root_page))
         (all_stand x view runs read)
         (to_all (StandsAt (shape x) view) r.runs (λ run has. record { fits = r.runs_fit run has; inside = (r.gives.runs_read run has).inside; stand = (r.gives.runs_read run has).stand }))
@@ -268,7 +270,7 @@ module _ (view : ℕ → List ℕ) (versions : List ℕ) (pages : ℕ) (written 
     from_entries [] all = tt
     from_entries (e ∷ xs) all = (from_places e.1.items all.0, from_entries xs all.1)
 
-    pub store_read : IsStoreRead view versions pages written root commands runs
+    pub store_read : IsStoreRead view format versions pages written root commands runs
     store_read = record {
       sections = superblock;
       root_page = root_page;

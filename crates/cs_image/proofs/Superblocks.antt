@@ -1,20 +1,19 @@
 -- The extents that the sections of a superblock record.
-use Rattle.std.proofs.Common.{◌≡◌, inl, inr, ⊎_elim, ℕ, zero, suc, ◌+◌, ◌-◌, ◌*◌, ◌/◌, ◌<◌, ◌≤◌, ◌^◌, Bool, true, false, List, [], ◌∷◌, length, take, drop, Some, None, nat_lt, ◌==◌, ◌&&◌, if◌then◌else◌, eq-eqb, ne_eqb, refl, sym, ap, ◌∙◌, subst, arith}
+use Rattle.std.proofs.Common.{◌≡◌, inl, inr, ⊎_elim, ℕ, zero, suc, ◌+◌, ◌-◌, ◌/◌, ◌<◌, ◌≤◌, ◌^◌, Bool, true, false, List, [], ◌∷◌, length, take, drop, Some, None, nat_lt, ◌==◌, ◌&&◌, if◌then◌else◌, eq-eqb, ne_eqb, refl, sym, ap, ◌∙◌, subst, arith}
 use Rattle.std.specs.Prelude.{◌↔◌, slice_index, slice_index_or}
 use Rattle.std.specs.List.{AllByRecursion}
-use Rattle.std.proofs.lemmas.Bool.{and_parts, and_right, cases_lt, eqb-true, lt-ltb}
+use Rattle.std.proofs.lemmas.Bool.{and_from, and_parts, and_right, cases_lt, eqb-true, lt-ltb}
 use Rattle.std.proofs.lemmas.List.{get_or-drop, get_or-take, get_or_past, length-replicate}
 use Rattle.cs_extent.specs.State.{IsWhole, State as ExtentsState, extents_of, section_rows, shape}
 use Rattle.cs_frame.proofs.FirstFormatLaws.{apart, one_of_first_format, page_zero_fits, spelled_has_none as first_has_none}
 use Rattle.cs_frame.proofs.FormatLaws.{is_format}
-use Rattle.cs_frame.proofs.GeometryLaws.{model_geometry, section_holds, section_inside, section_length-le}
+use Rattle.cs_frame.proofs.GeometryLaws.{for_known, lies_in_device, model_geometry, section_holds, section_inside, section_length-le}
 use Rattle.cs_frame.proofs.SuperblockLaws.{one_section as section_of_page, spelled_has_none}
 use Rattle.cs_frame.specs.FirstFormat.{IsOfFirstFormat, SpellsPageZero, spelled_first_format}
 use Rattle.cs_frame.specs.Formats.{extents_of as listed_extents, formats_of}
-use Rattle.cs_frame.specs.Geometries.{IsGeometry, section_length, section_size, section_start}
+use Rattle.cs_frame.specs.Geometries.{IsGeometry, device_pages, section_length, section_size, section_start}
 use Rattle.cs_frame.specs.Pointers.{FitsExtent as FitsPair}
 use Rattle.cs_frame.specs.Superblocks.{FitsSuperblock, SpellsSuperblock, spelled_superblock}
-use Rattle.cs_model.proofs.LocalRecovery.{lies_below}
 use Rattle.cs_model.proofs.Shapes.{is_shape}
 use Rattle.cs_model.specs.Device.{IsShape, Shape}
 use Rattle.cs_model.specs.Frames.{IsFormat}
@@ -87,7 +86,7 @@ listed_part speaks pointers generations j zero (suc count) first (row ∷ rows) 
     )))
     (next_rows pointers generations first row rows each))
 
-module _ (extents pages sections format : ℕ) (g : IsGeometry extents pages sections) where
+module _ (format extents pages sections : ℕ) (g : IsGeometry format extents pages sections) where
   abbrev divided : Shape
   divided = shape_of extents pages sections (section_size extents sections) format
 
@@ -111,7 +110,7 @@ module _ (extents pages sections format : ℕ) (g : IsGeometry extents pages sec
           ↔ ((section_start extents sections j ≤ k) × (k < section_start extents sections j + section_length extents sections j))
       speak k lt =
           let here : divided.section (0 + k) ≡ divided.section k = ap (λ (n : ℕ). divided.section n) (let n : 0 + k ≡ k = omega arith in n) in
-          let holds = section_holds extents pages sections g k j lt in (
+          let holds = section_holds format extents pages sections g k j lt in (
             (λ (is : divided.section (0 + k) ≡ j). holds.0 (section_is k lt ∙ sym here ∙ is)),
             (λ (both : (section_start extents sections j ≤ k) × (k < section_start extents sections j + section_length extents sections j)). here ∙ sym (section_is k lt) ∙ holds.1 both),
           )
@@ -121,7 +120,7 @@ module _ (extents pages sections format : ℕ) (g : IsGeometry extents pages sec
       → slice_index_or (take (section_length extents sections j) (drop (section_start extents sections j) written)) (e - section_start extents sections j) (0, 0)
       ≡ slice_index_or written e (0, 0)
   row_at written e j lt is =
-      let holds : (section_start extents sections j ≤ e) × (e < section_start extents sections j + section_length extents sections j) = (section_holds extents pages sections g e j lt).0 is in
+      let holds : (section_start extents sections j ≤ e) × (e < section_start extents sections j + section_length extents sections j) = (section_holds format extents pages sections g e j lt).0 is in
       get_or-take (section_length extents sections j) (drop (section_start extents sections j) written) (e - section_start extents sections j) (0, 0) (omega (arith, holds.0, holds.1))
       ∙ get_or-drop (section_start extents sections j) written (e - section_start extents sections j) (0, 0)
       ∙ ap (λ (n : ℕ). slice_index_or written n (0, 0)) (let back : section_start extents sections j + (e - section_start extents sections j) ≡ e = omega (arith, holds.0) in back)
@@ -133,56 +132,60 @@ module _ (extents pages sections format : ℕ) (g : IsGeometry extents pages sec
   rows_agree xs ys same e lt =
       sym (row_at xs e (e / section_size extents sections) lt refl)
       ∙ ap (λ (rows : List (ℕ × ℕ)). slice_index_or rows (e - section_start extents sections (e / section_size extents sections)) (0, 0))
-      (same (e / section_size extents sections) (section_inside extents pages sections g e lt))
+      (same (e / section_size extents sections) (section_inside format extents pages sections g e lt))
       ∙ row_at ys e (e / section_size extents sections) lt refl
 
 -- ---- what a page spells
 
 -- it can be spelled
-pub at_fits : (j : ℕ) (page : List ℕ) (version extents pages sections : ℕ) (rows : List (ℕ × ℕ)) → SpellsAt j page version extents pages sections rows
-    → FitsSuperblock version extents pages sections j rows
-at_fits zero page version extents pages sections rows is = page_zero_fits page version extents pages sections 0 rows is
-at_fits (suc j) page version extents pages sections rows is = is.fits
+pub at_fits : (j : ℕ) (page : List ℕ) (format version extents pages sections : ℕ) (rows : List (ℕ × ℕ)) → SpellsAt j page format version extents pages sections rows
+    → FitsSuperblock format version extents pages sections j rows
+at_fits zero page format version extents pages sections rows is = page_zero_fits page format version extents pages sections 0 rows is
+at_fits (suc j) page format version extents pages sections rows is = is.fits
 
 -- and it is one section
-pub section_one : (page : List ℕ) (version extents pages sections section : ℕ) (rows : List (ℕ × ℕ)) (w e p s j : ℕ) (others : List (ℕ × ℕ))
-    → SpellsSuperblock page version extents pages sections section rows → SpellsSuperblock page w e p s j others
-    → (extents ≡ e) × (pages ≡ p) × (sections ≡ s) × (section ≡ j) × (rows ≡ others)
-section_one page version extents pages sections section rows w e p s j others a b =
-    let x = section_of_page page version extents pages sections section rows a in
-    let y = section_of_page page w e p s j others b in
-    (sym x.of_extents ∙ y.of_extents, sym x.of_pages ∙ y.of_pages, sym x.of_sections ∙ y.of_sections, sym x.of_section ∙ y.of_section, sym x.of_written ∙ y.of_written)
+pub section_one : (page : List ℕ) (format version extents pages sections section : ℕ) (rows : List (ℕ × ℕ)) (f w e p s j : ℕ) (others : List (ℕ × ℕ))
+    → SpellsSuperblock page format version extents pages sections section rows → SpellsSuperblock page f w e p s j others
+    → (format ≡ f) × (extents ≡ e) × (pages ≡ p) × (sections ≡ s) × (section ≡ j) × (rows ≡ others)
+section_one page format version extents pages sections section rows f w e p s j others a b =
+    let x = section_of_page page format version extents pages sections section rows a in
+    let y = section_of_page page f w e p s j others b in
+    (omega (arith, x.of_format, y.of_format), sym x.of_extents ∙ y.of_extents, sym x.of_pages ∙ y.of_pages, sym x.of_sections ∙ y.of_sections, sym x.of_section ∙ y.of_section, sym x.of_written ∙ y.of_written)
 
-pub zero_one : (page : List ℕ) (version extents pages sections section : ℕ) (rows : List (ℕ × ℕ)) (w e p s j : ℕ) (others : List (ℕ × ℕ))
-    → SpellsPageZero page version extents pages sections section rows → SpellsPageZero page w e p s j others
-    → (extents ≡ e) × (pages ≡ p) × (sections ≡ s) × (section ≡ j) × (rows ≡ others)
-zero_one page version extents pages sections section rows w e p s j others (inl a) (inl b) = section_one page version extents pages sections section rows w e p s j others a b
-zero_one page version extents pages sections section rows w e p s j others (inl a) (inr b) =
-    absurd (apart page (first_has_none page w p others b.spells) (spelled_has_none page version extents pages sections section rows a))
-zero_one page version extents pages sections section rows w e p s j others (inr a) (inl b) =
-    absurd (apart page (first_has_none page version pages rows a.spells) (spelled_has_none page w e p s j others b))
-zero_one page version extents pages sections section rows w e p s j others (inr a) (inr b) =
+pub zero_one : (page : List ℕ) (format version extents pages sections section : ℕ) (rows : List (ℕ × ℕ)) (f w e p s j : ℕ) (others : List (ℕ × ℕ))
+    → SpellsPageZero page format version extents pages sections section rows → SpellsPageZero page f w e p s j others
+    → (format ≡ f) × (extents ≡ e) × (pages ≡ p) × (sections ≡ s) × (section ≡ j) × (rows ≡ others)
+zero_one page format version extents pages sections section rows f w e p s j others (inl a) (inl b) = section_one page format version extents pages sections section rows f w e p s j others a b
+zero_one page format version extents pages sections section rows f w e p s j others (inl a) (inr b) =
+    absurd (apart format page a.fits.geometry.known (first_has_none page w p others b.spells) (spelled_has_none page format version extents pages sections section rows a))
+zero_one page format version extents pages sections section rows f w e p s j others (inr a) (inl b) =
+    absurd (apart f page b.fits.geometry.known (first_has_none page version pages rows a.spells) (spelled_has_none page f w e p s j others b))
+zero_one page format version extents pages sections section rows f w e p s j others (inr a) (inr b) =
     let x = one_of_first_format page version pages rows a.spells in
     let y = one_of_first_format page w p others b.spells in
     let same : rows ≡ others = sym x.2 ∙ y.2 in
-    (a.all_extents ∙ ap length same ∙ sym b.all_extents, sym x.1 ∙ y.1, a.one_section ∙ sym b.one_section, a.first_section ∙ sym b.first_section, same)
+    (a.written_in ∙ sym b.written_in, a.all_extents ∙ ap length same ∙ sym b.all_extents, sym x.1 ∙ y.1, a.one_section ∙ sym b.one_section, a.first_section ∙ sym b.first_section, same)
 
-pub at_one : (j : ℕ) (page : List ℕ) (version extents pages sections : ℕ) (rows : List (ℕ × ℕ)) (w e p s : ℕ) (others : List (ℕ × ℕ))
-    → SpellsAt j page version extents pages sections rows → SpellsAt j page w e p s others → rows ≡ others
-at_one zero page version extents pages sections rows w e p s others a b = (zero_one page version extents pages sections 0 rows w e p s 0 others a b).4
-at_one (suc j) page version extents pages sections rows w e p s others a b = (section_one page version extents pages sections (suc j) rows w e p s (suc j) others a b).4
+pub at_one : (j : ℕ) (page : List ℕ) (format version extents pages sections : ℕ) (rows : List (ℕ × ℕ)) (f w e p s : ℕ) (others : List (ℕ × ℕ))
+    → SpellsAt j page format version extents pages sections rows → SpellsAt j page f w e p s others → rows ≡ others
+at_one zero page format version extents pages sections rows f w e p s others a b = (zero_one page format version extents pages sections 0 rows f w e p s 0 others a b).5
+at_one (suc j) page format version extents pages sections rows f w e p s others a b = (section_one page format version extents pages sections (suc j) rows f w e p s (suc j) others a b).5
 
-pub of_section : (j : ℕ) (page : List ℕ) (version extents pages sections : ℕ) (rows : List (ℕ × ℕ)) → SpellsSuperblock page version extents pages sections j rows
-    → SpellsAt j page version extents pages sections rows
-of_section zero page version extents pages sections rows is = inl is
-of_section (suc j) page version extents pages sections rows is = is
+pub of_section : (j : ℕ) (page : List ℕ) (format version extents pages sections : ℕ) (rows : List (ℕ × ℕ)) → SpellsSuperblock page format version extents pages sections j rows
+    → SpellsAt j page format version extents pages sections rows
+of_section zero page format version extents pages sections rows is = inl is
+of_section (suc j) page format version extents pages sections rows is = is
 
-of_first : (j : ℕ) (page : List ℕ) (version extents pages sections : ℕ) (rows : List (ℕ × ℕ)) → j ≡ 0 → IsOfFirstFormat page version extents pages sections j rows
-    → SpellsAt j page version extents pages sections rows
-of_first zero page version extents pages sections rows first is = inr is
-of_first (suc j) page version extents pages sections rows first is = absurd (omega (arith, first))
+of_first : (j : ℕ) (page : List ℕ) (format version extents pages sections : ℕ) (rows : List (ℕ × ℕ)) → j ≡ 0 → IsOfFirstFormat page format version extents pages sections j rows
+    → SpellsAt j page format version extents pages sections rows
+of_first zero page format version extents pages sections rows first is = inr is
+of_first (suc j) page format version extents pages sections rows first is = absurd (omega (arith, first))
 
 -- ---- in the words of the machine's formats
+
+-- no store is of the first format
+pub not_first : (format extents pages sections : ℕ) → IsGeometry format extents pages sections → (format == 1) ≡ false
+not_first format extents pages sections is = for_known (λ f. (f == 1) ≡ false) refl refl format is.known
 
 all_of_them : (n : ℕ) → n ≡ section_length n 1 0
 all_of_them n = omega arith
@@ -196,11 +199,16 @@ module _ (S : Shape) (pointers generations : ℕ → ℕ) where
   of_first_format j version = spelled_first_format version S.pages (listed j)
 
   abbrev in_sections : (j version : ℕ) → List ℕ
-  in_sections j version = spelled_superblock version S.extents S.pages S.sections j (listed j)
+  in_sections j version = spelled_superblock S.format version S.extents S.pages S.sections j (listed j)
 
-  first_spelled : (j version : ℕ) (page : List ℕ) → j ≡ 0 → S.sections ≡ 1 → FitsSuperblock version S.extents S.pages S.sections j (listed j) → page ≡ of_first_format j version
-      → IsOfFirstFormat page version S.extents S.pages S.sections j (listed j)
-  first_spelled j version page first one fits is =
+  -- in a format that isn't the first they spell a section of several
+  pub own_format : (j version : ℕ) → (S.format == 1) ≡ false → (formats_of S).superblock S.format j version pointers generations ≡ in_sections j version
+  own_format j version other = ap (λ (b : Bool). if b && (S.format == 2) && (S.sections == 1) then of_first_format j version else in_sections j version) other
+
+  first_spelled : (j version : ℕ) (page : List ℕ) → j ≡ 0 → S.format ≡ 2 → S.sections ≡ 1 → FitsSuperblock S.format version S.extents S.pages S.sections j (listed j) → page ≡ of_first_format j version
+      → IsOfFirstFormat page S.format version S.extents S.pages S.sections j (listed j)
+  first_spelled j version page first second one fits is =
+      let g : IsGeometry 2 S.extents S.pages S.sections = subst (λ (f : ℕ). IsGeometry f S.extents S.pages S.sections) second fits.geometry in
       let count : length (listed j) ≡ S.extents = fits.count ∙ ap (λ (n : ℕ). section_length S.extents n j) one ∙ ap (section_length S.extents 1) first ∙ sym (all_of_them S.extents) in
       let most : section_length S.extents S.sections j ≤ section_size S.extents S.sections = section_length-le S.extents S.sections j in
       record {
@@ -208,14 +216,15 @@ module _ (S : Shape) (pointers generations : ℕ → ℕ) where
           fits = record {
             first_version = fits.first_version;
             last_version = fits.last_version;
-            fewest_extents = omega (arith, count, fits.geometry.fewest_extents);
-            most_extents = omega (arith, fits.count, most, fits.geometry.section_fits);
-            fewest_pages = fits.geometry.fewest_pages;
-            most_pages = fits.geometry.most_pages;
+            fewest_extents = omega (arith, count, g.fewest_extents);
+            most_extents = omega (arith, fits.count, most, g.section_fits);
+            fewest_pages = g.fewest_pages;
+            most_pages = g.most_pages;
             each = fits.each;
           };
           spelled = is;
         };
+        written_in = second;
         all_extents = sym count;
         one_section = one;
         first_section = first;
@@ -223,33 +232,35 @@ module _ (S : Shape) (pointers generations : ℕ → ℕ) where
 
   -- what they spell of a section, where it can be spelled, its page spells
   pub from_formats : (format j version : ℕ) (page : List ℕ) → page ≡ (formats_of S).superblock format j version pointers generations
-      → FitsSuperblock version S.extents S.pages S.sections j (listed j) → SpellsAt j page version S.extents S.pages S.sections (listed j)
-  from_formats format j version page is fits = go ((format == 1) && (S.sections == 1)) refl is
+      → FitsSuperblock S.format version S.extents S.pages S.sections j (listed j) → SpellsAt j page S.format version S.extents S.pages S.sections (listed j)
+  from_formats format j version page is fits = go ((format == 1) && (S.format == 2) && (S.sections == 1)) refl is
     where
-      go : (b : Bool) → ((format == 1) && (S.sections == 1)) ≡ b → page ≡ (if b then of_first_format j version else in_sections j version)
-          → SpellsAt j page version S.extents S.pages S.sections (listed j)
+      go : (b : Bool) → ((format == 1) && (S.format == 2) && (S.sections == 1)) ≡ b → page ≡ (if b then of_first_format j version else in_sections j version)
+          → SpellsAt j page S.format version S.extents S.pages S.sections (listed j)
       go true test is =
-          let one : S.sections ≡ 1 = eqb-true S.sections 1 (and_parts (format == 1) (S.sections == 1) test).1 in
+          let both = and_parts ((format == 1) && (S.format == 2)) (S.sections == 1) test in
+          let one : S.sections ≡ 1 = eqb-true S.sections 1 both.1 in
+          let second : S.format ≡ 2 = eqb-true S.format 2 (and_parts (format == 1) (S.format == 2) both.0).1 in
           let inside : j < S.sections = fits.one_of_them in
           let first : j ≡ 0 = omega (arith, one, inside) in
-          of_first j page version S.extents S.pages S.sections (listed j) first (first_spelled j version page first one fits is)
-      go false test is = of_section j page version S.extents S.pages S.sections (listed j) (record { fits = fits; spelled = is })
+          of_first j page S.format version S.extents S.pages S.sections (listed j) first (first_spelled j version page first second one fits is)
+      go false test is = of_section j page S.format version S.extents S.pages S.sections (listed j) (record { fits = fits; spelled = is })
 
   -- what page 0 spells, one of them spells
-  pub zero_formats : (version : ℕ) (page : List ℕ) (rows : List (ℕ × ℕ)) → listed 0 ≡ rows → SpellsPageZero page version S.extents S.pages S.sections 0 rows
+  pub zero_formats : (version : ℕ) (page : List ℕ) (rows : List (ℕ × ℕ)) → listed 0 ≡ rows → SpellsPageZero page S.format version S.extents S.pages S.sections 0 rows
       → (format : ℕ) × (page ≡ (formats_of S).superblock format 0 version pointers generations)
-  zero_formats version page rows same (inl is) = (2, is.spelled ∙ ap (spelled_superblock version S.extents S.pages S.sections 0) (sym same))
+  zero_formats version page rows same (inl is) = (2, is.spelled ∙ ap (spelled_superblock S.format version S.extents S.pages S.sections 0) (sym same))
   zero_formats version page rows same (inr is) =
-      let test : (S.sections == 1) ≡ true = eq-eqb S.sections 1 is.one_section in
+      let test : ((S.format == 2) && (S.sections == 1)) ≡ true = and_from (S.format == 2) (S.sections == 1) (eq-eqb S.format 2 is.written_in) (eq-eqb S.sections 1 is.one_section) in
       (1, is.spells.spelled ∙ ap (spelled_first_format version S.pages) (sym same) ∙ ap (λ (b : Bool). if b then of_first_format 0 version else in_sections 0 version) (sym test))
 
   -- and what the page of a further section spells, each of them
   pub section_formats : (format j version : ℕ) (page : List ℕ) (rows : List (ℕ × ℕ)) → listed (suc j) ≡ rows → suc j < S.sections
-      → SpellsSuperblock page version S.extents S.pages S.sections (suc j) rows → page ≡ (formats_of S).superblock format (suc j) version pointers generations
+      → SpellsSuperblock page S.format version S.extents S.pages S.sections (suc j) rows → page ≡ (formats_of S).superblock format (suc j) version pointers generations
   section_formats format j version page rows same inside is =
       let several : (S.sections == 1) ≡ false = ne_eqb S.sections 1 (λ one. omega (arith, one, inside)) in
-      let test : ((format == 1) && (S.sections == 1)) ≡ false = and_right (format == 1) (S.sections == 1) several in
-      is.spelled ∙ ap (spelled_superblock version S.extents S.pages S.sections (suc j)) (sym same)
+      let test : ((format == 1) && (S.format == 2) && (S.sections == 1)) ≡ false = and_right ((format == 1) && (S.format == 2)) (S.sections == 1) several in
+      is.spelled ∙ ap (spelled_superblock S.format version S.extents S.pages S.sections (suc j)) (sym same)
       ∙ ap (λ (b : Bool). if b then of_first_format (suc j) version else in_sections (suc j) version) (sym test)
 
 -- ---- what is read
@@ -260,26 +271,26 @@ fits_at pages [] all e = (omega arith, omega arith)
 fits_at pages (row ∷ rows) all zero = (all.0.pointer, (let lt = all.0.generation in omega (arith, lt)))
 fits_at pages (row ∷ rows) all (suc e) = fits_at pages rows all.1 e
 
-module _ (view : ℕ → List ℕ) (versions : List ℕ) (pages : ℕ) (written : List (ℕ × ℕ)) (is : AreSectionsRead view versions pages written) where
+module _ (view : ℕ → List ℕ) (format : ℕ) (versions : List ℕ) (pages : ℕ) (written : List (ℕ × ℕ)) (is : AreSectionsRead view format versions pages written) where
   abbrev x : ExtentsState
-  x = extents_at pages (length versions) written
+  x = extents_at format pages (length versions) written
 
   pub read_shape : IsShape (shape x)
-  read_shape = is_shape (length written) pages (length versions) (section_size (length written) (length versions)) 2 (model_geometry (length written) pages (length versions) is.geometry)
+  read_shape = is_shape (length written) pages (length versions) (section_size (length written) (length versions)) format (model_geometry format (length written) pages (length versions) is.geometry)
 
   pub read_format : IsFormat (shape x) (formats_of (shape x))
-  read_format = is_format (length written) pages (length versions) 2 is.geometry
+  read_format = is_format format (length written) pages (length versions) is.geometry
 
-  pub read_below : LiesBelow (shape x) (1 + length written * pages + length versions)
-  read_below = lies_below (length written) pages (length versions) (section_size (length written) (length versions)) 2 (model_geometry (length written) pages (length versions) is.geometry)
+  pub read_below : LiesBelow (shape x) (device_pages format (length written) pages (length versions))
+  read_below = lies_in_device format (length written) pages (length versions) is.geometry
 
   -- what each section has can be spelled
-  pub read_fits : (j : ℕ) → j < length versions → FitsSuperblock (slice_index versions j) (length written) pages (length versions) j (section_rows x j)
-  read_fits j lt = at_fits j (view ((shape x).section_page j)) (slice_index versions j) (length written) pages (length versions) (section_rows x j) (is.each j lt)
+  pub read_fits : (j : ℕ) → j < length versions → FitsSuperblock format (slice_index versions j) (length written) pages (length versions) j (section_rows x j)
+  read_fits j lt = at_fits j (view ((shape x).section_page j)) format (slice_index versions j) (length written) pages (length versions) (section_rows x j) (is.each j lt)
 
   -- the formats list a section's rows
   pub read_listed : (j : ℕ) → listed_extents (shape x).section (extents_of x).pointer (extents_of x).generation j 0 (length written) ≡ section_rows x j
-  read_listed j = section_listed (length written) pages (length versions) 2 is.geometry written refl (extents_of x).pointer (extents_of x).generation (λ k lt. refl) j
+  read_listed j = section_listed format (length written) pages (length versions) is.geometry written refl (extents_of x).pointer (extents_of x).generation (λ k lt. refl) j
 
   abbrev Fits : ℕ × ℕ → Type 0
   Fits row = (row.0 ≤ pages) × (row.1 ≤ 4294967295)
@@ -287,9 +298,9 @@ module _ (view : ℕ → List ℕ) (versions : List ℕ) (pages : ℕ) (written 
   pub extents_fit : (e : ℕ) → FitsExtent (shape x) ((extents_of x).pointer e) ((extents_of x).generation e)
   extents_fit e = ⊎_elim
       (λ (lt : e < length written). subst Fits
-      (row_at (length written) pages (length versions) 2 is.geometry written e (e / section_size (length written) (length versions)) lt refl)
+      (row_at format (length written) pages (length versions) is.geometry written e (e / section_size (length written) (length versions)) lt refl)
       (fits_at pages (section_rows x (e / section_size (length written) (length versions)))
-      (read_fits (e / section_size (length written) (length versions)) (section_inside (length written) pages (length versions) is.geometry e lt)).each
+      (read_fits (e / section_size (length written) (length versions)) (section_inside format (length written) pages (length versions) is.geometry e lt)).each
       (e - section_start (length written) (length versions) (e / section_size (length written) (length versions)))))
       (λ (past : length written ≤ e). subst Fits (sym (get_or_past written e (0, 0) past)) (omega arith, omega arith))
       (cases_lt e (length written))
@@ -300,25 +311,34 @@ module _ (view : ℕ → List ℕ) (versions : List ℕ) (pages : ℕ) (written 
     geometry = is.geometry;
     all_resets = length-replicate (length written) 0;
     all_swept = length-replicate (length written) false;
+    all_kinds = length-replicate (length written) false;
+    all_found = length-replicate (length written) 0;
     pointers = λ e. (extents_fit e).0;
     roots = λ e. subst (λ (k : ℕ). k < 2 ^ 63) (sym (all_default (length written) e 0)) (omega arith);
     open_inside = λ e none. absurd (let wrong : None ≡ Some e = none in cc);
     open_begun = λ e none. absurd (let wrong : None ≡ Some e = none in cc);
-    open_unfilled = λ e none. absurd (let wrong : None ≡ Some e = none in cc);
   }
 
 -- nothing is open, reset or being swept
-pub extents_are : (pages sections : ℕ) (written : List (ℕ × ℕ)) → extents_of (extents_at pages sections written) ≡ record {
-  pointer = (extents_of (extents_at pages sections written)).pointer;
-  generation = (extents_of (extents_at pages sections written)).generation;
+pub extents_are : (format pages sections : ℕ) (written : List (ℕ × ℕ)) → extents_of (extents_at format pages sections written) ≡ record {
+  pointer = (extents_of (extents_at format pages sections written)).pointer;
+  generation = (extents_of (extents_at format pages sections written)).generation;
   reset = λ e. 0;
   open_extent = None;
   swept = λ e. false;
+  of_runs = λ e. false;
+  found = λ e. 0;
+  fresh = None;
+  last = None;
 }
-extents_are pages sections written = λ i. record {
-  pointer = (extents_of (extents_at pages sections written)).pointer;
-  generation = (extents_of (extents_at pages sections written)).generation;
+extents_are format pages sections written = λ i. record {
+  pointer = (extents_of (extents_at format pages sections written)).pointer;
+  generation = (extents_of (extents_at format pages sections written)).generation;
   reset = λ e. all_default (length written) e 0 i;
   open_extent = None;
   swept = λ e. all_default (length written) e false i;
+  of_runs = λ e. all_default (length written) e false i;
+  found = λ e. all_default (length written) e 0 i;
+  fresh = None;
+  last = None;
 }

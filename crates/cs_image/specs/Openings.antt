@@ -34,10 +34,10 @@ graph_at versions root = record {
 abbrev pub index_at : (runs : List Run) → (limit : ℕ) → IndexState
 index_at runs limit = record { table = []; runs = runs; limit = limit; room = 0 }
 
--- the page of each section of a store of so many extents, which are all empty, spells version 1 of it
-abbrev pub AreNewSections : (view : ℕ → List ℕ) → (extents pages sections : ℕ) → Type 0
-AreNewSections view extents pages sections = (j : ℕ) → j < sections
-    → SpellsSuperblock (view ((shape_of extents pages sections (section_size extents sections) 2).section_page j)) 1 extents pages sections j
+-- the page of each section of a store of this format and of so many extents, which are all empty, spells version 1 of it
+abbrev pub AreNewSections : (view : ℕ → List ℕ) → (format extents pages sections : ℕ) → Type 0
+AreNewSections view format extents pages sections = (j : ℕ) → j < sections
+    → SpellsSuperblock (view ((shape_of extents pages sections (section_size extents sections) format).section_page j)) format 1 extents pages sections j
     (replicate (section_length extents sections j) (0, 0))
 
 -- What an image recovers is found to be these extents, these versions of the sections, this version of the root and these

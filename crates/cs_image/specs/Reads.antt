@@ -2,41 +2,53 @@
 use Rattle.std.specs.Prelude.{◌≡◌, ◌<◌, ◌≤◌, ℕ, zero, suc, false, List, None, length, map, replicate, slice_index, take}
 use Rattle.std.specs.List.{AllByRecursion}
 use Rattle.cs_chunk.specs.Chunks.{IsFrameAt}
-use Rattle.cs_extent.specs.State.{State as ExtentsState, extents_of, section_rows, shape}
+use Rattle.cs_extent.specs.State.{State as ExtentsState, extents_of, found_at, section_rows, shape}
 use Rattle.cs_frame.specs.declared.locators.Locator.{Locator}
 use Rattle.cs_frame.specs.Bytes.{IsPage}
 use Rattle.cs_frame.specs.FirstFormat.{SpellsPageZero}
-use Rattle.cs_frame.specs.Geometries.{IsGeometry}
+use Rattle.cs_frame.specs.Geometries.{IsGeometry, device_pages}
 use Rattle.cs_frame.specs.Roots.{SpellsRoot}
 use Rattle.cs_frame.specs.Runs.{Entry, SpellsRun, entries_of as spelled_entries}
 use Rattle.cs_frame.specs.Superblocks.{SpellsSuperblock}
 use Rattle.cs_index.specs.declared.runs.StoredRun.{StoredRun}
 use Rattle.cs_index.specs.State.{newest_first}
+use Rattle.cs_model.specs.Device.{Shape}
 use Rattle.cs_model.specs.Formats.{RunFrame}
+use Rattle.cs_model.specs.Geometry.{apart_in}
 use Rattle.cs_model.specs.Index.{entries_of, names}
 
--- the extents that so many sections record, one behind the other: none is open, none was reset, none is being swept
-abbrev pub extents_at : (pages sections : ℕ) → (written : List (ℕ × ℕ)) → ExtentsState
-extents_at pages sections written = record {
+-- the extents that so many sections of this format record, one behind the other: none is open, none was reset, none is being swept,
+-- and it isn't noted yet which hold runs
+abbrev pub extents_at : (format pages sections : ℕ) → (written : List (ℕ × ℕ)) → ExtentsState
+extents_at format pages sections written = record {
+  format = format;
   pages = pages;
   sections = sections;
   written = written;
   resets = replicate (length written) 0;
   swept = replicate (length written) false;
   open_extent = None;
+  of_runs = replicate (length written) false;
+  found = found_at (apart_in format) written;
+  fresh = None;
+  last = None;
 }
 
--- the bytes of section j's page spell it so: those of page 0, which has section 0, in either format
-abbrev pub SpellsAt : (j : ℕ) → (bytes : List ℕ) → (version extents pages sections : ℕ) → (rows : List (ℕ × ℕ)) → Type 0
-SpellsAt zero bytes version extents pages sections rows = SpellsPageZero bytes version extents pages sections 0 rows
-SpellsAt (suc j) bytes version extents pages sections rows = SpellsSuperblock bytes version extents pages sections (suc j) rows
+-- the bytes of section j's page spell it so, of a store of this format: those of page 0, which has section 0, maybe in the first format
+abbrev pub SpellsAt : (j : ℕ) → (bytes : List ℕ) → (format version extents pages sections : ℕ) → (rows : List (ℕ × ℕ)) → Type 0
+SpellsAt zero bytes format version extents pages sections rows = SpellsPageZero bytes format version extents pages sections 0 rows
+SpellsAt (suc j) bytes format version extents pages sections rows = SpellsSuperblock bytes format version extents pages sections (suc j) rows
 
--- Each section was read from its page, one of these versions each. Together they record these extents.
-pub record AreSectionsRead (view : ℕ → List ℕ) (versions : List ℕ) (pages : ℕ) (written : List (ℕ × ℕ)) : Type 0 where
-  pub geometry : IsGeometry (length written) pages (length versions)
+-- Each section of a store of this format was read from its page, one of these versions each. Together they record these extents.
+pub record AreSectionsRead (view : ℕ → List ℕ) (format : ℕ) (versions : List ℕ) (pages : ℕ) (written : List (ℕ × ℕ)) : Type 0 where
+  pub geometry : IsGeometry format (length written) pages (length versions)
   pub each : (j : ℕ) → j < length versions
-      → SpellsAt j (view ((shape (extents_at pages (length versions) written)).section_page j)) (slice_index versions j)
-      (length written) pages (length versions) (section_rows (extents_at pages (length versions) written) j)
+      → SpellsAt j (view ((shape (extents_at format pages (length versions) written)).section_page j)) format (slice_index versions j)
+      (length written) pages (length versions) (section_rows (extents_at format pages (length versions) written) j)
+
+-- how many pages the device has: the root's, those of the extents, and one for each section of the superblock
+abbrev pub page_total : Shape → ℕ
+page_total S = device_pages S.format S.extents S.pages S.sections
 
 -- the first `count` pages have 4,096 bytes each
 abbrev pub ArePages : (count : ℕ) → (view : ℕ → List ℕ) → Type 0
@@ -72,12 +84,12 @@ pub record AreRunsRead (x : ExtentsState) (view : ℕ → List ℕ) (places : Li
 abbrev pub AreLocated : ExtentsState → List StoredRun → Type 0
 AreLocated x runs = AllByRecursion (λ run. AllByRecursion (λ entry. AllByRecursion (IsLocated x) entry.1.items) run.entries.items) runs
 
--- A whole store was read: sections of a superblock with these versions and extents, a root over runs, which are all read, whose
+-- A whole store of this format was read: sections of a superblock with these versions and extents, a root over runs, which are all read, whose
 -- entries are all located, and which name no more identifiers than one run may.
-pub record IsStoreRead (view : ℕ → List ℕ) (versions : List ℕ) (pages : ℕ) (written : List (ℕ × ℕ)) (root commands : ℕ)
+pub record IsStoreRead (view : ℕ → List ℕ) (format : ℕ) (versions : List ℕ) (pages : ℕ) (written : List (ℕ × ℕ)) (root commands : ℕ)
     (runs : List StoredRun) : Type 0 where
-  pub sections : AreSectionsRead view versions pages written
-  pub root_page : SpellsRoot (view 1) root commands (map (λ run. run.place) runs)
-  pub runs_read : AllByRecursion (IsRunRead (extents_at pages (length versions) written) view) runs
-  pub located : AreLocated (extents_at pages (length versions) written) runs
-  pub named : names (entries_of (newest_first runs)) ≤ (shape (extents_at pages (length versions) written)).most_names
+  pub sections : AreSectionsRead view format versions pages written
+  pub root_page : SpellsRoot (view 1) format root commands (map (λ run. run.place) runs)
+  pub runs_read : AllByRecursion (IsRunRead (extents_at format pages (length versions) written) view) runs
+  pub located : AreLocated (extents_at format pages (length versions) written) runs
+  pub named : names (entries_of (newest_first runs)) ≤ (shape (extents_at format pages (length versions) written)).most_names

@@ -1,11 +1,11 @@
 //! New stores, and stores that are opened.
-ghost use Rattle.std.specs.Prelude.{◌≡◌, ◌+◌, ◌*◌, ◌<◌, ℕ, List, [], None, length, map, replicate};
+ghost use Rattle.std.specs.Prelude.{◌≡◌, ◌<◌, ℕ, List, [], None, length, map, replicate};
 ghost use Rattle.std.specs.List.{AllByRecursion};
 ghost use Rattle.cs_extent.specs.State.{shape};
 ghost use Rattle.cs_frame.specs.declared.locators.Locator.{Locator};
 ghost use Rattle.cs_frame.specs.FirstFormat.{SpellsPageZero};
 ghost use Rattle.cs_frame.specs.Formats.{formats_of};
-ghost use Rattle.cs_frame.specs.Geometries.{IsGeometry, section_size};
+ghost use Rattle.cs_frame.specs.Geometries.{IsGeometry, device_pages, section_size};
 ghost use Rattle.cs_frame.specs.Roots.{SpellsRoot};
 ghost use Rattle.cs_frame.specs.Superblocks.{SpellsSuperblock};
 ghost use Rattle.cs_image.specs.Openings.{AreNewSections, IsFoundAs};
@@ -19,64 +19,64 @@ ghost use Rattle.cs_model.specs.Recovery.{IsNew, Recovers};
 /// Sections of empty extents on the superblock's pages and a root without runs on page 1, all of version 1, are a new store,
 /// whatever lies on the other pages. It has no command and no shard.
 pub fn new_stores_are_new()
-    ensures new { (view : ℕ → List ℕ) (extents pages sections : ℕ) → IsGeometry extents pages sections
-        → AreNewSections view extents pages sections → SpellsRoot (view 1) 1 0 []
-        → (let x = extents_at pages sections (replicate extents (0, 0)) in IsNew (shape x) (formats_of (shape x)) view) }
+    ensures new { (view : ℕ → List ℕ) (format extents pages sections : ℕ) → IsGeometry format extents pages sections
+        → AreNewSections view format extents pages sections → SpellsRoot (view 1) format 1 0 []
+        → (let x = extents_at format pages sections (replicate extents (0, 0)) in IsNew (shape x) (formats_of (shape x)) view) }
     // It recovers no command and no shard, and is found to be these extents, all versions 1, and no runs.
-    ensures found { (view : ℕ → List ℕ) (extents pages sections : ℕ) → IsGeometry extents pages sections
-        → AreNewSections view extents pages sections → SpellsRoot (view 1) 1 0 []
-        → (let x = extents_at pages sections (replicate extents (0, 0)) in
+    ensures found { (view : ℕ → List ℕ) (format extents pages sections : ℕ) → IsGeometry format extents pages sections
+        → AreNewSections view format extents pages sections → SpellsRoot (view 1) format 1 0 []
+        → (let x = extents_at format pages sections (replicate extents (0, 0)) in
         (found : Recovers (shape x) (formats_of (shape x)) view 0 (λ id. None))
         × IsFoundAs (shape x) (formats_of (shape x)) view 0 (λ id. None) found x (replicate sections 1) 1 []) }
 {}
 
 /// A store that was read is recovered, as what was read.
 pub fn what_is_read_recovers()
-    ensures { (view : ℕ → List ℕ) (versions : List ℕ) (pages : ℕ) (written : List (ℕ × ℕ)) (root commands : ℕ)
+    ensures { (view : ℕ → List ℕ) (format : ℕ) (versions : List ℕ) (pages : ℕ) (written : List (ℕ × ℕ)) (root commands : ℕ)
         (runs : List StoredRun)
-        → ArePages (1 + length written * pages + length versions) view
-        → IsStoreRead view versions pages written root commands runs
-        → (let x = extents_at pages (length versions) written in
+        → ArePages (device_pages format (length written) pages (length versions)) view
+        → IsStoreRead view format versions pages written root commands runs
+        → (let x = extents_at format pages (length versions) written in
         (m : Map) × (found : Recovers (shape x) (formats_of (shape x)) view commands m)
         × IsFoundAs (shape x) (formats_of (shape x)) view commands m found x versions root (newest_first runs)) }
 {}
 
 /// What is recovered of an image can be read: no decoder refuses it, and each locator passes its tests.
 pub fn what_is_recovered_can_be_read()
-    // Each section's page spells that section, with the geometry's numbers of extents, pages and sections.
-    ensures superblock { (view : ℕ → List ℕ) (extents pages sections n : ℕ) (m : Map) → IsGeometry extents pages sections
-        → (let S = shape_of extents pages sections (section_size extents sections) 2 in Recovers S (formats_of S) view n m
+    // Each section's page spells that section, with the geometry's format and numbers of extents, pages and sections.
+    ensures superblock { (view : ℕ → List ℕ) (format extents pages sections n : ℕ) (m : Map) → IsGeometry format extents pages sections
+        → (let S = shape_of extents pages sections (section_size extents sections) format in Recovers S (formats_of S) view n m
         → (j : ℕ) → j < sections
-        → (version : ℕ) × (written : List (ℕ × ℕ)) × SpellsAt j (view (S.section_page j)) version extents pages sections written) }
-    // Whatever section page 0 spells is section 0, with these numbers.
-    ensures geometry { (view : ℕ → List ℕ) (extents pages sections n : ℕ) (m : Map) (version e p s j : ℕ) (written : List (ℕ × ℕ))
-        → IsGeometry extents pages sections
-        → (let S = shape_of extents pages sections (section_size extents sections) 2 in Recovers S (formats_of S) view n m
-        → SpellsPageZero (view 0) version e p s j written
-        → (e ≡ extents) × (p ≡ pages) × (s ≡ sections) × (j ≡ 0)) }
-    // Whatever section the page of a further one spells is that one, with these numbers.
-    ensures section { (view : ℕ → List ℕ) (extents pages sections n : ℕ) (m : Map) (k version e p s j : ℕ) (written : List (ℕ × ℕ))
-        → IsGeometry extents pages sections → 0 < k → k < sections
-        → (let S = shape_of extents pages sections (section_size extents sections) 2 in Recovers S (formats_of S) view n m
-        → SpellsSuperblock (view (S.section_page k)) version e p s j written
-        → (e ≡ extents) × (p ≡ pages) × (s ≡ sections) × (j ≡ k)) }
+        → (version : ℕ) × (written : List (ℕ × ℕ)) × SpellsAt j (view (S.section_page j)) format version extents pages sections written) }
+    // Whatever section page 0 spells is section 0, of this format and with these numbers.
+    ensures geometry { (view : ℕ → List ℕ) (format extents pages sections n : ℕ) (m : Map) (f version e p s j : ℕ) (written : List (ℕ × ℕ))
+        → IsGeometry format extents pages sections
+        → (let S = shape_of extents pages sections (section_size extents sections) format in Recovers S (formats_of S) view n m
+        → SpellsPageZero (view 0) f version e p s j written
+        → (f ≡ format) × (e ≡ extents) × (p ≡ pages) × (s ≡ sections) × (j ≡ 0)) }
+    // Whatever section the page of a further one spells is that one, of this format and with these numbers.
+    ensures section { (view : ℕ → List ℕ) (format extents pages sections n : ℕ) (m : Map) (k f version e p s j : ℕ) (written : List (ℕ × ℕ))
+        → IsGeometry format extents pages sections → 0 < k → k < sections
+        → (let S = shape_of extents pages sections (section_size extents sections) format in Recovers S (formats_of S) view n m
+        → SpellsSuperblock (view (S.section_page k)) f version e p s j written
+        → (f ≡ format) × (e ≡ extents) × (p ≡ pages) × (s ≡ sections) × (j ≡ k)) }
     // Page 1 spells a root, with as many commands as are recovered.
-    ensures root { (view : ℕ → List ℕ) (extents pages sections n : ℕ) (m : Map) → IsGeometry extents pages sections
-        → (let S = shape_of extents pages sections (section_size extents sections) 2 in Recovers S (formats_of S) view n m
-        → (version : ℕ) × (places : List Locator) × SpellsRoot (view 1) version n places) }
+    ensures root { (view : ℕ → List ℕ) (format extents pages sections n : ℕ) (m : Map) → IsGeometry format extents pages sections
+        → (let S = shape_of extents pages sections (section_size extents sections) format in Recovers S (formats_of S) view n m
+        → (version : ℕ) × (places : List Locator) × SpellsRoot (view 1) format version n places) }
     // Whatever root page 1 spells has as many commands as are recovered, and at each of its places a frame has a run.
-    ensures runs { (view : ℕ → List ℕ) (versions : List ℕ) (pages : ℕ) (written : List (ℕ × ℕ)) (root commands : ℕ)
+    ensures runs { (view : ℕ → List ℕ) (format : ℕ) (versions : List ℕ) (pages : ℕ) (written : List (ℕ × ℕ)) (root commands : ℕ)
         (places : List Locator) (n : ℕ) (m : Map)
-        → AreSectionsRead view versions pages written → ArePages (1 + length written * pages + length versions) view
-        → SpellsRoot (view 1) root commands places
-        → (let x = extents_at pages (length versions) written in Recovers (shape x) (formats_of (shape x)) view n m
+        → AreSectionsRead view format versions pages written → ArePages (device_pages format (length written) pages (length versions)) view
+        → SpellsRoot (view 1) format root commands places
+        → (let x = extents_at format pages (length versions) written in Recovers (shape x) (formats_of (shape x)) view n m
         → (commands ≡ n) × AllByRecursion (λ place. IsReadable x view place) places) }
     // Where page 1 spells a root over these runs, each of which was read where its place says, the whole store was read.
-    ensures store { (view : ℕ → List ℕ) (versions : List ℕ) (pages : ℕ) (written : List (ℕ × ℕ)) (root commands : ℕ)
+    ensures store { (view : ℕ → List ℕ) (format : ℕ) (versions : List ℕ) (pages : ℕ) (written : List (ℕ × ℕ)) (root commands : ℕ)
         (runs : List StoredRun) (n : ℕ) (m : Map)
-        → AreSectionsRead view versions pages written → ArePages (1 + length written * pages + length versions) view
-        → SpellsRoot (view 1) root commands (map (λ run. run.place) runs)
-        → (let x = extents_at pages (length versions) written in AllByRecursion (IsRunRead x view) runs
+        → AreSectionsRead view format versions pages written → ArePages (device_pages format (length written) pages (length versions)) view
+        → SpellsRoot (view 1) format root commands (map (λ run. run.place) runs)
+        → (let x = extents_at format pages (length versions) written in AllByRecursion (IsRunRead x view) runs
         → Recovers (shape x) (formats_of (shape x)) view n m
-        → IsStoreRead view versions pages written root commands runs) }
+        → IsStoreRead view format versions pages written root commands runs) }
 {}

@@ -1,5 +1,5 @@
 -- When staging is refused, and what it gives.
-use Rattle.std.proofs.Common.{◌≡◌, ◌≢◌, ◌⊎◌, inl, inr, ⊎_elim, ℕ, ◌<◌, ◌≤◌, List, [], ◌∷◌, length, map, refl, sym, ap, subst, ◌∙◌, arith, append-nil}
+use Rattle.std.proofs.Common.{◌≡◌, ◌≢◌, ◌⊎◌, inl, inr, ⊎_elim, ℕ, List, [], ◌∷◌, drop, length, map, append-nil, refl, sym, ap, subst, ◌∙◌, arith}
 use Rattle.std.specs.Prelude.{◌↔◌, Bool, MatchBool, MatchResult, Result, Ok, Err, false, true}
 use Rattle.cs_deps.specs.declared.refusals.Refusal.{Refusal}
 use Rattle.cs_deps.specs.declared.refusals.Refusal.TheVariants.{Full, OutOfMemory, WornOut}
@@ -7,12 +7,16 @@ use Rattle.cs_deps.specs.Staging.{Staging}
 use Rattle.cs_deps.specs.State.{State as GraphState}
 use Rattle.cs_extent.specs.State.{State as ExtentsState, extents_of, shape}
 use Rattle.cs_extent.specs.Worn.{IsFrameWorn}
-use Rattle.cs_model.specs.Element.{Entry, Locator as Place, Run}
+use Rattle.cs_model.specs.Device.{Shape}
+use Rattle.cs_model.specs.Element.{Entry, Locator as Place}
 use Rattle.cs_model.specs.Extents.{ForRun, NoPlace, Placed, Purpose as Reason}
-use Rattle.cs_model.specs.Index.{Ascending, IsMergedRun, IsTableRun, live_at}
-use Rattle.cs_index.specs.Staged.{IsExact, IsFull, IsMergeStaged, IsRootOver, IsRootWorn, IsRunStaged, IsStageWorn, IsTableStaged, IsWhy, WritesMerged, WritesRun, run_frame}
+use Rattle.cs_model.specs.Geometry.{pages_first_in}
+use Rattle.cs_model.specs.Index.{Ascending, IsMergedRun, lookup}
+use Rattle.cs_model.specs.Merges.{IsRunOf}
+use Rattle.cs_index.specs.Merges.{deletions_go, part, stage_takes}
+use Rattle.cs_index.specs.Staged.{IsExact, IsFull, IsNewestStaged, IsPartStaged, IsRootOver, IsRootWorn, IsRunStaged, IsStageWorn, IsWhy, WritesMerged, WritesPart, WritesRun, run_frame}
 use Rattle.cs_index.specs.State.{State, index_of}
-use Rattle.cs_index.proofs.Merged.{merged_live, merged_one, table_one}
+use Rattle.cs_index.proofs.Merged.{merged_one, run_one}
 
 -- the same refusals, where the same is full and the same is worn
 pub why_same : (f : Refusal) (A B V W : Type 0) → (A → B) → (B → A) → (V → W) → IsWhy f A V → IsWhy f B W
@@ -61,18 +65,18 @@ pub fits_one : (Writes : List Entry → Type 0) (x : ExtentsState) (reason : Rea
 fits_one Writes x reason E true writes one there = λ full. subst (λ (es : List Entry). NoPlace (shape x) (extents_of x) reason (length (run_frame x es))) (one full.0 full.1) full.2 there.0 there.1
 fits_one Writes x reason E false writes one none = (E, writes, none)
 
--- ---- a merge
+-- ---- the run of a part
 
-pub merged_writes : (s : State) (E es : List Entry) → IsMergedRun (index_of s) E → WritesMerged s es → es ≡ E
-merged_writes s E es run writes = merged_one (index_of s) es E writes.0 run
+pub part_writes : (go : Bool) (s : State) (k : ℕ) (E es : List Entry) → IsRunOf go (part s k) E → WritesPart go s k es → es ≡ E
+part_writes go s k E es run writes = run_one go (part s k) es E writes.0 run
 
-pub merged_none : (s : State) (E es : List Entry) → E ≡ [] → IsMergedRun (index_of s) E → WritesMerged s es → ⊥
-merged_none s E es none run writes = writes.1 (merged_writes s E es run writes ∙ none)
+pub part_none : (go : Bool) (s : State) (k : ℕ) (E es : List Entry) → E ≡ [] → IsRunOf go (part s k) E → WritesPart go s k es → ⊥
+part_none go s k E es none run writes = writes.1 (part_writes go s k E es run writes ∙ none)
 
-module _ (s : State) (x : ExtentsState) (g : GraphState) (reason : Reason) (v commands : ℕ) (t : State) (y : ExtentsState) (h : GraphState) (E : List Entry) (run : IsMergedRun (index_of s) E) where
-  pub merge_one : (place : Place) → E ≢ [] → IsRunStaged x g reason E [] place v commands y h → t ≡ record { table = []; runs = record { place = place; entries = E } ∷ []; limit = s.limit; room = 0 }
-      → IsMergeStaged s x g reason v commands t y h
-  merge_one place some staged is = subst (λ (u : State). IsMergeStaged s x g reason v commands u y h) (sym is) (record {
+module _ (go : Bool) (k : ℕ) (s : State) (x : ExtentsState) (g : GraphState) (reason : Reason) (v commands : ℕ) (t : State) (y : ExtentsState) (h : GraphState) (E : List Entry) (run : IsRunOf go (part s k) E) where
+  pub part_one : (place : Place) → E ≢ [] → IsRunStaged x g reason E (drop k s.runs) place v commands y h
+      → t ≡ record { table = []; runs = record { place = place; entries = E } ∷ drop k s.runs; limit = s.limit; room = 0 } → IsPartStaged go k s x g reason v commands t y h
+  part_one place some staged is = subst (λ (u : State). IsPartStaged go k s x g reason v commands u y h) (sym is) (record {
     between = staged.0;
     appended = inl (E, place, some, run, staged.1, refl);
     root = staged.2;
@@ -80,73 +84,71 @@ module _ (s : State) (x : ExtentsState) (g : GraphState) (reason : Reason) (v co
     limit = refl;
   })
 
-  pub merge_empty : E ≡ [] → IsRootOver g h v commands [] → t ≡ record { table = []; runs = []; limit = s.limit; room = 0 } → IsMergeStaged s x g reason v commands t x h
-  merge_empty none root is = subst (λ (u : State). IsMergeStaged s x g reason v commands u x h) (sym is) (record {
+  pub part_empty : E ≡ [] → drop k s.runs ≡ [] → IsRootOver x.format (pages_first_in x.format) g h v commands [] → t ≡ record { table = []; runs = []; limit = s.limit; room = 0 } → IsPartStaged go k s x g reason v commands t x h
+  part_empty none alone root is = subst (λ (u : State). IsPartStaged go k s x g reason v commands u x h) (sym is) (record {
     between = g;
-    appended = inr ((λ id. sym (merged_live (index_of s) E run id) ∙ ap (λ es. live_at es id) none), refl, refl, refl);
+    appended = inr (subst (λ (es : List Entry). IsRunOf go (part s k) es) none run, refl, refl, sym alone);
     root = root;
     table = refl;
     limit = refl;
   })
 
-pub one_map : (s t : State) (E : List Entry) (place : Place) → IsMergedRun (index_of s) E → t ≡ record { table = []; runs = record { place = place; entries = E } ∷ []; limit = s.limit; room = 0 }
-    → (id : ℕ) → live_at (index_of t) id ≡ live_at (index_of s) id
-one_map s t E place run is id = ap (λ (u : State). live_at (index_of u) id) is ∙ ap (λ es. live_at es id) (append-nil E) ∙ merged_live (index_of s) E run id
+-- the run of all that is live
+pub merged_writes : (s : State) (E es : List Entry) → IsMergedRun (index_of s) E → WritesMerged s es → es ≡ E
+merged_writes s E es run writes = merged_one (index_of s) es E writes.0 run
 
-pub none_map : (s t : State) (E : List Entry) → E ≡ [] → IsMergedRun (index_of s) E → t ≡ record { table = []; runs = []; limit = s.limit; room = 0 }
-    → (id : ℕ) → live_at (index_of t) id ≡ live_at (index_of s) id
-none_map s t E none run is id = ap (λ (u : State). live_at (index_of u) id) is ∙ ap (λ es. live_at es id) (sym none) ∙ merged_live (index_of s) E run id
+pub merged_none : (s : State) (E es : List Entry) → E ≡ [] → IsMergedRun (index_of s) E → WritesMerged s es → ⊥
+merged_none s E es none run writes = writes.1 (merged_writes s E es run writes ∙ none)
 
 -- ---- staging
 
 exact_with : {T : Type 0} (r : Result T Refusal) (A V P : Type 0) → P → IsExact r A V → IsExact r A (P × V)
 exact_with r A V P p h = exact_same r A A V (P × V) (λ a. a) (λ a. a) (λ v. (p, v)) (λ w. w.1) h
 
-pub exact_table : {T : Type 0} (s : State) (x : ExtentsState) (reason : Reason) (g : Staging) (r : Result T Refusal) → Ascending s.table → s.table ≢ [] → length s.runs < 4
-    → IsExact r (NoPlace (shape x) (extents_of x) reason (length (run_frame x s.table))) (IsRootWorn g ⊎ IsFrameWorn x reason g (length (run_frame x s.table)))
-    → IsExact r (IsFull (WritesRun s) x reason) ((s.table ≢ []) × IsStageWorn (WritesRun s) x reason g)
-exact_table s x reason g r order some few h =
-    exact_with r (IsFull (WritesRun s) x reason) (IsStageWorn (WritesRun s) x reason g) (s.table ≢ []) some
-    (exact_one (WritesRun s) x reason g s.table (some, inl (few, (order, λ id. refl)))
-    (λ es writes. ⊎_elim
-    (λ (table : (length s.runs < 4) × IsTableRun s.table es). table_one s.table es order table.1.0 table.1.1)
-    (λ (merge : (4 ≤ length s.runs) × WritesMerged s es). absurd (let le : 4 ≤ length s.runs = merge.0 in omega arith))
-    writes.1)
-    r h)
-
-pub exact_merged : {T : Type 0} (s : State) (x : ExtentsState) (reason : Reason) (g : Staging) (r : Result T Refusal) → s.table ≢ [] → 4 ≤ length s.runs
-    → IsExact r (IsFull (WritesMerged s) x reason) (IsStageWorn (WritesMerged s) x reason g)
-    → IsExact r (IsFull (WritesRun s) x reason) ((s.table ≢ []) × IsStageWorn (WritesRun s) x reason g)
-exact_merged s x reason g r some many h =
-    exact_with r (IsFull (WritesRun s) x reason) (IsStageWorn (WritesRun s) x reason g) (s.table ≢ []) some
-    (exact_same r (IsFull (WritesMerged s) x reason) (IsFull (WritesRun s) x reason) (IsStageWorn (WritesMerged s) x reason g) (IsStageWorn (WritesRun s) x reason g)
+-- the same refusals, where the same runs are to be written
+pub exact_writes : {T : Type 0} (V W : List Entry → Type 0) (x : ExtentsState) (reason : Reason) (g : Staging) (r : Result T Refusal) → ((es : List Entry) → V es → W es) → ((es : List Entry) → W es → V es)
+    → IsExact r (IsFull V x reason) (IsStageWorn V x reason g) → IsExact r (IsFull W x reason) (IsStageWorn W x reason g)
+exact_writes V W x reason g r to back h =
+    exact_same r (IsFull V x reason) (IsFull W x reason) (IsStageWorn V x reason g) (IsStageWorn W x reason g)
     (λ full. (full.0, to full.0 full.1, full.2))
     (λ full. (full.0, back full.0 full.1, full.2))
-    (λ worn. ⊎_elim (λ (root : IsRootWorn g). inl root) (λ (run : (es : List Entry) × WritesMerged s es × IsFrameWorn x reason g (length (run_frame x es))). inr (run.0, to run.0 run.1, run.2)) worn)
-    (λ worn. ⊎_elim (λ (root : IsRootWorn g). inl root) (λ (run : (es : List Entry) × WritesRun s es × IsFrameWorn x reason g (length (run_frame x es))). inr (run.0, back run.0 run.1, run.2)) worn)
-    h)
-  where
-    to : (es : List Entry) → WritesMerged s es → WritesRun s es
-    to es writes = (some, inr (many, writes))
+    (λ worn. ⊎_elim (λ (root : IsRootWorn g). inl root) (λ (run : (es : List Entry) × V es × IsFrameWorn x reason g (length (run_frame x es))). inr (run.0, to run.0 run.1, run.2)) worn)
+    (λ worn. ⊎_elim (λ (root : IsRootWorn g). inl root) (λ (run : (es : List Entry) × W es × IsFrameWorn x reason g (length (run_frame x es))). inr (run.0, back run.0 run.1, run.2)) worn)
+    h
 
-    back : (es : List Entry) → WritesRun s es → WritesMerged s es
-    back es writes = ⊎_elim
-        (λ (table : (length s.runs < 4) × IsTableRun s.table es). absurd (let lt : length s.runs < 4 = table.0 in omega arith))
-        (λ (merge : (4 ≤ length s.runs) × WritesMerged s es). merge.1)
-        writes.1
+-- where the table isn't empty, and so much is merged as a Stage merges
+module _ (S : Shape) (s : State) (k : ℕ) (go : Bool) (takes : k ≡ stage_takes S s) (goes : go ≡ deletions_go S s k) where
+  writes_to : s.table ≢ [] → (es : List Entry) → WritesPart go s k es → WritesRun S s es
+  writes_to some es writes = (some, subst (λ (n : ℕ). WritesPart (deletions_go S s n) s n es) takes (subst (λ (b : Bool). WritesPart b s k es) goes writes))
 
-pub table_staged : (s : State) (x : ExtentsState) (g : GraphState) (v commands : ℕ) (t : State) (y : ExtentsState) (h : GraphState) (place : Place) (older : List Run) → Ascending s.table
-    → IsRunStaged x g ForRun s.table older place v commands y h → older ≡ s.runs → t.table ≡ [] → t.runs ≡ record { place = place; entries = s.table } ∷ s.runs → t.limit ≡ s.limit
-    → IsTableStaged s x g v commands t y h
-table_staged s x g v commands t y h place older order staged same table runs limit = record {
-  entries = s.table;
-  place = place;
-  run = (order, λ id. refl);
-  staged = subst (λ (rs : List Run). IsRunStaged x g ForRun s.table rs place v commands y h) same staged;
-  table = table;
-  runs = runs;
-  limit = limit;
-}
+  writes_back : (es : List Entry) → WritesRun S s es → WritesPart go s k es
+  writes_back es writes = subst (λ (b : Bool). WritesPart b s k es) (sym goes) (subst (λ (n : ℕ). WritesPart (deletions_go S s n) s n es) (sym takes) writes.1)
+
+  -- the lookups stay where deletions stay
+  pub stays_too : deletions_go S s (stage_takes S s) ≡ false → go ≡ false
+  stays_too stay = goes ∙ ap (λ (n : ℕ). deletions_go S s n) takes ∙ stay
+
+pub exact_stage : {T : Type 0} (S : Shape) (s : State) (k : ℕ) (go : Bool) (x : ExtentsState) (g : Staging) (r : Result T Refusal) → k ≡ stage_takes S s → go ≡ deletions_go S s k → s.table ≢ []
+    → IsExact r (IsFull (WritesPart go s k) x ForRun) (IsStageWorn (WritesPart go s k) x ForRun g)
+    → IsExact r (IsFull (WritesRun S s) x ForRun) ((s.table ≢ []) × IsStageWorn (WritesRun S s) x ForRun g)
+exact_stage S s k go x g r takes goes some h =
+    exact_with r (IsFull (WritesRun S s) x ForRun) (IsStageWorn (WritesRun S s) x ForRun g) (s.table ≢ []) some
+    (exact_writes (WritesPart go s k) (WritesRun S s) x ForRun g r (writes_to S s k go takes goes some) (writes_back S s k go takes goes) h)
+
+pub newest_staged : (s : State) (x : ExtentsState) (k : ℕ) (go : Bool) → k ≡ stage_takes (shape x) s → go ≡ deletions_go (shape x) s k → (g : GraphState) (v commands : ℕ) (t : State) (y : ExtentsState) (h : GraphState)
+    → IsPartStaged go k s x g ForRun v commands t y h → IsNewestStaged (stage_takes (shape x) s) s x g v commands t y h
+newest_staged s x k go takes goes g v commands t y h staged =
+    subst (λ (n : ℕ). IsNewestStaged n s x g v commands t y h) takes (subst (λ (b : Bool). IsPartStaged b k s x g ForRun v commands t y h) goes staged)
+
+-- the table itself is the run of the table alone
+pub table_run : (s : State) → Ascending s.table → IsRunOf false (part s 0) s.table
+table_run s order = (order, λ id. ap (lookup id) (sym (append-nil s.table)))
+
+pub exact_table : {T : Type 0} (s : State) (x : ExtentsState) (g : Staging) (r : Result T Refusal) → Ascending s.table → s.table ≢ []
+    → IsExact r (NoPlace (shape x) (extents_of x) ForRun (length (run_frame x s.table))) (IsRootWorn g ⊎ IsFrameWorn x ForRun g (length (run_frame x s.table)))
+    → IsExact r (IsFull (WritesPart false s 0) x ForRun) (IsStageWorn (WritesPart false s 0) x ForRun g)
+exact_table s x g r order some h =
+    exact_one (WritesPart false s 0) x ForRun g s.table (table_run s order, some) (λ es writes. part_writes false s 0 s.table es (table_run s order) writes) r h
 
 pub none_of : {X Y : Type 0} (f : X → Y) (xs : List X) → length xs ≡ 0 → map f xs ≡ []
 none_of f [] is = refl
@@ -155,9 +157,6 @@ none_of f (x ∷ xs) is = absurd (omega arith)
 pub some_of : {X Y : Type 0} (f : X → Y) (xs : List X) → length xs ≢ 0 → map f xs ≢ []
 some_of f [] is none = is refl
 some_of f (x ∷ xs) is none = let e : f x ∷ map f xs ≡ [] = none in cc
-
-pub no_runs : (s t : State) (runs : List Run) → runs ≡ [] → t ≡ record { table = []; runs = runs; limit = s.limit; room = 0 } → t ≡ record { table = []; runs = []; limit = s.limit; room = 0 }
-no_runs s t runs none is = subst (λ (rs : List Run). t ≡ record { table = []; runs = rs; limit = s.limit; room = 0 }) none is
 
 -- ---- the append of a run for which there are a place and room
 

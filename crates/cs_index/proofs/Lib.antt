@@ -7,6 +7,10 @@ pub mod Whole
 pub mod Spelled
 pub mod Rooted
 pub mod Merged
+pub mod Shards
 pub mod Living
 pub mod Staging
+pub mod Parts
 pub mod Exact
+pub mod Cases
+pub mod Sizes

@@ -1,6 +1,6 @@
 -- The next version of the root.
-use Rattle.std.proofs.Common.{◌≡◌, ℕ, ◌+◌, ◌<◌, ◌≤◌, List, [], ◌∷◌, ◌++◌, length, map, get_or, set, get_or-set_same, refl, sym, ap, subst, ◌∙◌, arith}
-use Rattle.std.specs.Prelude.{◌↔◌, reverse}
+use Rattle.std.proofs.Common.{◌≡◌, ℕ, ◌+◌, ◌<◌, ◌≤◌, List, [], ◌∷◌, ◌++◌, length, map, get_or, set, get_or-set_same, le_trans, refl, sym, ap, subst, ◌∙◌, arith}
+use Rattle.std.specs.Prelude.{◌↔◌, Bool, true, false, reverse}
 use Rattle.std.proofs.lemmas.List.{length-set, map-append, reverse-append}
 use Rattle.cs_deps.specs.declared.elements.Element.{Element}
 use Rattle.cs_deps.specs.declared.elements.Element.TheVariants.{Plain, Version}
@@ -10,7 +10,7 @@ use Rattle.cs_deps.specs.State.{State as GraphState}
 use Rattle.cs_extent.proofs.Appending.{whatever_room}
 use Rattle.cs_extent.proofs.Staged.{frame_root}
 use Rattle.cs_extent.specs.Appended.{IsAppended}
-use Rattle.cs_extent.specs.Frames.{IsFrameStaged, IsSectionVersionUpTo, root_family}
+use Rattle.cs_extent.specs.Frames.{IsFrameStaged, IsRootNeed, root_family, root_pages}
 use Rattle.cs_extent.specs.State.{State as ExtentsState}
 use Rattle.cs_frame.specs.Formats.{as_locator, place_of}
 use Rattle.cs_frame.specs.declared.locators.Locator.{Locator}
@@ -18,15 +18,20 @@ use Rattle.cs_index.specs.declared.runs.StoredRun.{StoredRun}
 use Rattle.cs_model.specs.Element.{Entry, Locator as Place, Run}
 use Rattle.cs_model.specs.Extents.{Purpose as Reason}
 use Rattle.cs_model.specs.Formats.{places}
+use Rattle.cs_model.specs.Geometry.{pages_first_in}
 use Rattle.cs_index.specs.Staged.{IsRootOver, IsRootWorn, IsRunStaged, run_frame}
 use Rattle.cs_index.specs.State.{newest_first, run_of}
 
-pub within_sections : (d : Named) (staged : ℕ) (latest : List ℕ) → ((x : Element) → Names d x ↔ IsSectionVersionUpTo latest x) → IsWithin d staged latest
-within_sections d staged latest names (Plain n) h = absurd ((names (Plain n)).0 h)
-within_sections d staged latest names (Version f v) h = let r = (names (Version f v)).0 h in r.2
+within_pages : (pages_first : Bool) (staged : ℕ) → root_pages pages_first staged ≤ staged
+within_pages true staged = omega arith
+within_pages false staged = omega arith
 
-pub not_own_family : (d : Named) (latest : List ℕ) → ((x : Element) → Names d x ↔ IsSectionVersionUpTo latest x) → NamesFamily d root_family → ⊥
-not_own_family d latest names h = let r = (names (Version root_family h.0)).0 h.1 in r.0 refl
+pub within_needs : (d : Named) (pages_first : Bool) (staged : ℕ) (latest : List ℕ) → ((x : Element) → Names d x ↔ IsRootNeed (root_pages pages_first staged) latest x) → IsWithin d staged latest
+within_needs d pages_first staged latest names (Plain n) h = let r = (names (Plain n)).0 h in (r.0, le_trans r.1 (within_pages pages_first staged))
+within_needs d pages_first staged latest names (Version f v) h = let r = (names (Version f v)).0 h in r.2
+
+pub not_own_family : (d : Named) (pages : ℕ) (latest : List ℕ) → ((x : Element) → Names d x ↔ IsRootNeed pages latest x) → NamesFamily d root_family → ⊥
+not_own_family d pages latest names h = let r = (names (Version root_family h.0)).0 h.1 in r.0 refl
 
 module _ (old new : Staging) (v : ℕ) (d : Named) (staged : IsVersionStaged old root_family v d new) where
   pub root_number : get_or old.latest root_family 0 + 1 ≡ v
@@ -44,9 +49,9 @@ module _ (old new : Staging) (v : ℕ) (d : Named) (staged : IsVersionStaged old
       omega (arith, root_number, e)
 
 -- a frame that is staged leaves the root's number as it is
-pub frame_below : (old new : Staging) (sections j count root need : ℕ) → IsFrameStaged old new sections j count root need → (IsRootWorn old → ⊥) → IsRootWorn new → ⊥
-frame_below old new sections j count root need staged below worn =
-    let same : get_or new.latest root_family 0 ≡ get_or old.latest root_family 0 = frame_root old new sections j count root need staged in
+pub frame_below : (old new : Staging) (first : Bool) (sections j count root need : ℕ) → IsFrameStaged old new first sections j count root need → (IsRootWorn old → ⊥) → IsRootWorn new → ⊥
+frame_below old new first sections j count root need staged below worn =
+    let same : get_or new.latest root_family 0 ≡ get_or old.latest root_family 0 = frame_root old new first sections j count root need staged in
     below (omega (arith, same, worn))
 
 -- ---- the places of runs
@@ -71,17 +76,17 @@ newer_place older place =
 -- a frame was appended and a root staged over the places of runs: a run was staged over them
 pub run_staged : (x : ExtentsState) (g k : GraphState) (reason : Reason) (entries : List Entry) (older : List StoredRun) (place : Locator) (v commands : ℕ) (y : ExtentsState) (h : GraphState)
     (frame : List (List ℕ)) (oldest : List Locator) → k ≡ record g { room = k.room } → frame ≡ run_frame x entries → oldest ≡ map (λ run. run.place) older
-    → (between : GraphState) × IsAppended x k reason frame place y between × IsRootOver between h v commands (oldest ++ place ∷ [])
+    → (between : GraphState) × IsAppended x k reason frame place y between × IsRootOver x.format (pages_first_in x.format) between h v commands (oldest ++ place ∷ [])
     → IsRunStaged x g reason entries (newest_first older) (place_of place) v commands y h
 run_staged x g k reason entries older place v commands y h frame oldest same is are done = (
   done.0,
   subst (λ (f : List (List ℕ)). IsAppended x g reason f place y done.0) is (whatever_room x g k reason frame place y done.0 same done.1),
-  subst (λ (ls : List Locator). IsRootOver done.0 h v commands ls) (ap (λ (ls : List Locator). ls ++ place ∷ []) are ∙ sym (newer_place older (place_of place))) done.2,
+  subst (λ (ls : List Locator). IsRootOver x.format (pages_first_in x.format) done.0 h v commands ls) (ap (λ (ls : List Locator). ls ++ place ∷ []) are ∙ sym (newer_place older (place_of place))) done.2,
 )
 
 -- a root over a graph that differs in room alone
-root_room : (g h : GraphState) (room v commands : ℕ) (ls : List Locator) → IsRootOver (record g { room = room }) h v commands ls → IsRootOver g h v commands ls
-root_room g h room v commands ls root = record {
+root_room : (format : ℕ) (first : Bool) (g h : GraphState) (room v commands : ℕ) (ls : List Locator) → IsRootOver format first (record g { room = room }) h v commands ls → IsRootOver format first g h v commands ls
+root_room format first g h room v commands ls root = record {
   needs = root.needs;
   names = root.names;
   version = root.version;
@@ -90,5 +95,5 @@ root_room g h room v commands ls root = record {
   round = root.round;
 }
 
-pub root_over : (g k h : GraphState) (v commands : ℕ) (ls : List Locator) → k ≡ record g { room = k.room } → IsRootOver k h v commands ls → IsRootOver g h v commands ls
-root_over g k h v commands ls same root = root_room g h k.room v commands ls (subst (λ (s : GraphState). IsRootOver s h v commands ls) same root)
+pub root_over : (format : ℕ) (first : Bool) (g k h : GraphState) (v commands : ℕ) (ls : List Locator) → k ≡ record g { room = k.room } → IsRootOver format first k h v commands ls → IsRootOver format first g h v commands ls
+root_over format first g k h v commands ls same root = root_room format first g h k.room v commands ls (subst (λ (s : GraphState). IsRootOver format first s h v commands ls) same root)

@@ -1,5 +1,5 @@
 -- How a run is spelled.
-use Rattle.std.proofs.Common.{◌≡◌, ℕ, ◌+◌, ◌-◌, ◌*◌, List, [], ◌∷◌, ◌++◌, length, length-append, map, Vec, refl, sym, ap, ap₂, ◌∙◌, arith}
+use Rattle.std.proofs.Common.{◌≡◌, ℕ, ◌-◌, ◌*◌, List, [], ◌∷◌, ◌++◌, length, length-append, map, Vec, refl, sym, ap, ap₂, ◌∙◌, arith}
 use Rattle.std.specs.List.{AllByRecursion, flat_map}
 use Rattle.std.specs.declared.alloc.Global.{Global}
 use Rattle.std.proofs.lemmas.List.{length-map, length-replicate}
@@ -11,6 +11,7 @@ use Rattle.cs_frame.proofs.Pieces.{length-first_chunks}
 use Rattle.cs_frame.specs.Bytes.{zeros}
 use Rattle.cs_frame.specs.Formats.{as_entry, as_locator, id_bytes, place_of}
 use Rattle.cs_frame.specs.Frames.{frame_bytes, page_count, spelled_frame}
+use Rattle.cs_frame.specs.Geometries.{run_bytes}
 use Rattle.cs_frame.specs.Locators.{spelled_locators}
 use Rattle.cs_frame.specs.Runs.{Entry as SpelledEntry, FitsEntry, FitsRun, SpellsRun, entries_of as spelled_entries, entry_of, spelled_entry, spelled_run}
 use Rattle.cs_frame.specs.declared.identifiers.ShardId.{ShardId}
@@ -55,7 +56,7 @@ long_entries : (xs : List Entry) → AllByRecursion IsShort xs → length (flat_
 long_entries [] all = refl
 long_entries (x ∷ xs) all = omega (arith, length-append (spelled_entry (as_entry x)) (flat_map spelled_entry (map as_entry xs)), long_entry x all.0, long_entries xs all.1)
 
-long_run : (xs : List Entry) → AllByRecursion IsShort xs → length (spelled_run (map as_entry xs)) ≡ 4 + 81 * length xs
+long_run : (xs : List Entry) → AllByRecursion IsShort xs → length (spelled_run (map as_entry xs)) ≡ run_bytes (length xs)
 long_run xs all =
     omega (
       arith,
@@ -65,7 +66,7 @@ long_run xs all =
     )
 
 -- how many pages the frame of a run has
-pub run_pages : (x : ExtentsState) (xs : List Entry) → AllByRecursion IsShort xs → length (run_frame x xs) ≡ page_count (4 + 81 * length xs)
+pub run_pages : (x : ExtentsState) (xs : List Entry) → AllByRecursion IsShort xs → length (run_frame x xs) ≡ page_count (run_bytes (length xs))
 unfolding run_frame
 run_pages x xs all = length-first_chunks 4096 (page_count (length (spelled_run (map as_entry xs)))) (frame_bytes 1 (spelled_run (map as_entry xs))) ∙ ap page_count (long_run xs all)
 
@@ -73,7 +74,7 @@ length-entries : (es : List SpelledEntry) → AllByRecursion FitsEntry es → le
 length-entries [] all = refl
 length-entries (e ∷ es) all = omega (arith, length-append (spelled_entry e) (flat_map spelled_entry es), length-entry e all.0, length-entries es all.1)
 
-length-run : (es : List SpelledEntry) → FitsRun es → length (spelled_run es) ≡ 4 + 81 * length es
+length-run : (es : List SpelledEntry) → FitsRun es → length (spelled_run es) ≡ run_bytes (length es)
 length-run es fits =
     omega (arith, length-append (big_bytes 4 (length es)) (flat_map spelled_entry es), length-bytes_high_first 4 (length es), length-entries es fits.each)
 
@@ -93,8 +94,8 @@ same_entries (x ∷ xs) all = ap₂ (λ e es. e ∷ es) (same_entry x all.0) (sa
 
 -- a payload that spells these entries, and the pages of its frame
 module _ (xs : List (ShardId × Vec Locator Global)) (payload bytes : List ℕ) (same : payload ≡ bytes) (spells : SpellsRun bytes (spelled_entries xs)) where
-  pub payload_length : length payload ≡ 4 + 81 * length xs
-  payload_length = ap length (same ∙ spells.spelled) ∙ length-run (spelled_entries xs) spells.fits ∙ ap (λ n. 4 + 81 * n) (length-map xs entry_of)
+  pub payload_length : length payload ≡ run_bytes (length xs)
+  payload_length = ap length (same ∙ spells.spelled) ∙ length-run (spelled_entries xs) spells.fits ∙ ap run_bytes (length-map xs entry_of)
 
   pub payload_frame : (x : ExtentsState) → spelled_frame 1 payload ≡ run_frame x (map named_entry xs)
   unfolding run_frame

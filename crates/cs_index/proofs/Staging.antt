@@ -1,5 +1,5 @@
 -- What a staged index keeps.
-use Rattle.std.proofs.Common.{◌≡◌, ◌≢◌, ℕ, suc, ◌-◌, ◌*◌, ◌/◌, ◌<◌, ◌≤◌, true, false, List, [], ◌∷◌, ◌++◌, length, map, Option, Some, None, refl, sym, ap, subst, ◌∙◌, arith, append-nil}
+use Rattle.std.proofs.Common.{◌≡◌, ◌≢◌, ℕ, suc, ◌<◌, ◌≤◌, true, false, List, [], ◌∷◌, ◌++◌, length, map, Option, Some, None, refl, sym, ap, subst, ◌∙◌, arith, append-nil}
 use Rattle.std.specs.Prelude.{is_some}
 use Rattle.std.specs.List.{AllByRecursion}
 use Rattle.std.proofs.lemmas.Bool.{lt-ltb}
@@ -11,6 +11,7 @@ use Rattle.cs_model.proofs.Counting.{ascending_names, names_le}
 use Rattle.cs_model.specs.Element.{Entry, Locator as Place}
 use Rattle.cs_model.specs.Index.{Ascending, entries_of, lookup, names}
 use Rattle.cs_frame.specs.Formats.{place_of}
+use Rattle.cs_frame.specs.Geometries.{named_limit}
 use Rattle.cs_index.specs.State.{IsId, IsShort, IsStored, IsWhole, id_number, index_of, named_entry, newest_first, run_of, state_of}
 use Rattle.cs_index.proofs.Newest.{lookup_first}
 use Rattle.cs_index.proofs.Numbers.{before_is}
@@ -33,7 +34,7 @@ some_of [] some = absurd (some refl)
 some_of (x ∷ xs) some = omega arith
 
 pub is_run : (run : SpelledRun) (pages : ℕ) → AllByRecursion (λ entry. IsId entry.0) run.entries.items → Ascending (map named_entry run.entries.items) → AllByRecursion IsShort (map named_entry run.entries.items)
-    → map named_entry run.entries.items ≢ [] → pages ≤ 256 → length run.entries.items ≤ (4096 * pages - 45) / 81 → IsRun run
+    → map named_entry run.entries.items ≢ [] → pages ≤ 65535 → length run.entries.items ≤ named_limit pages → IsRun run
 is_run run pages ids order short some most few = record {
   some = some_of run.entries.items some;
   most = omega (arith, most, few);
@@ -57,7 +58,7 @@ table_few xs runs limit room whole =
 
 -- ---- a run more
 
-newest_push : (runs : List StoredRun) (r : StoredRun) → newest_first (runs ++ r ∷ []) ≡ run_of r ∷ newest_first runs
+pub newest_push : (runs : List StoredRun) (r : StoredRun) → newest_first (runs ++ r ∷ []) ≡ run_of r ∷ newest_first runs
 newest_push [] r = refl
 newest_push (x ∷ xs) r = ap (λ rs. rs ++ run_of x ∷ []) (newest_push xs r)
 

@@ -13,6 +13,7 @@ use Rattle.cs_index.specs.declared.runs.StoredRun.{StoredRun}
 use Rattle.cs_model.proofs.Counting.{lookup_here, lookup_there}
 use Rattle.cs_model.specs.Element.{Entry, Locator as Place, Run}
 use Rattle.cs_model.specs.Index.{Ascending, entries_of, lookup, names}
+use Rattle.cs_model.specs.Tally.{shards}
 use Rattle.cs_index.specs.Sorted.{IsPut}
 use Rattle.cs_frame.specs.Formats.{place_of}
 use Rattle.cs_index.specs.State.{IsId, IsSet, IsShort, IsStored, IsWhole, State, id_number, index_of, named_entry, newest_first, run_of, state_of}
@@ -179,7 +180,7 @@ pub index_second : (s : State) (xs : Entries) (runs : List StoredRun) (id : ℕ)
 index_second s xs runs id o same same' not is =
     is ∙ ap (λ (rs : List Run). lookup id (entries_of rs)) same' ∙ sym (lookup_second id s.table (entries_of s.runs) (ap (lookup id) (sym same) ∙ sym not))
 
-pub empty_whole : (runs : List StoredRun) (limit named : ℕ) (xs : Entries) → xs ≡ [] → AllByRecursion IsStored (newest_first runs) → length runs ≤ 4 → named ≡ names (entries_of (newest_first runs)) → named ≤ limit
+pub empty_whole : (runs : List StoredRun) (limit named : ℕ) (xs : Entries) → xs ≡ [] → AllByRecursion IsStored (newest_first runs) → length runs ≤ 24 → named ≡ names (entries_of (newest_first runs)) → named ≤ limit
     → IsWhole (state_of xs runs limit 0) × (named ≡ names (index_of (state_of xs runs limit 0)))
 empty_whole runs limit named xs none stored few is le =
     subst (λ (ys : Entries). IsWhole (state_of ys runs limit 0) × (named ≡ names (index_of (state_of ys runs limit 0)))) (sym none) (
@@ -207,6 +208,20 @@ short_found s id (Some ls) whole is = short_lookup s id ls.now whole is
 
 pub no_ids : (xs : Entries) → xs ≡ [] → AllByRecursion (λ entry. IsId entry.0) xs
 no_ids xs is = subst (λ (ys : Entries). AllByRecursion (λ entry. IsId entry.0) ys) (sym is) tt
+
+-- an index of nothing
+pub nothing_whole : (xs : Entries) (runs : List StoredRun) (limit : ℕ) → xs ≡ [] → runs ≡ []
+    → IsWhole (state_of xs runs limit 0) × (0 ≡ names (index_of (state_of xs runs limit 0))) × (0 ≡ shards (index_of (state_of xs runs limit 0)))
+nothing_whole xs runs limit none alone =
+    let whole = empty_whole runs limit 0 xs none
+    (subst (λ (rs : List StoredRun). AllByRecursion IsStored (newest_first rs)) (sym alone) tt)
+    (let e : length runs ≡ 0 = ap length alone in omega arith)
+    (ap (λ (rs : List StoredRun). names (entries_of (newest_first rs))) (sym alone))
+    (omega arith) in (
+      whole.0,
+      whole.1,
+      ap (λ (ys : Entries). shards (map named_entry ys ++ entries_of (newest_first []))) (sym none) ∙ ap (λ (rs : List StoredRun). shards (map named_entry xs ++ entries_of (newest_first rs))) (sym alone),
+    )
 
 -- the comparison of two locators decides whether they are the same
 pub locators_decide : (a b : Locator) → (((a.extent == b.extent) && ((a.page == b.page) && (a.generation == b.generation))) ≡ true → a ≡ b)

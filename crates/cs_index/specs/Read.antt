@@ -33,7 +33,7 @@ pub record IsReadable (table : List (ShardId × Vec Locator Global)) (runs : Lis
   pub ascending : Ascending (map named_entry table)
   pub short : AllByRecursion IsShort (map named_entry table)
   pub stored : AllByRecursion IsStored (newest_first runs)
-  pub few : length runs ≤ 4
+  pub few : length runs ≤ 24
 
 -- what a reading keeps of its fields
 pub record IsHeldAt (table : List (ShardId × Vec Locator Global)) (runs : List StoredRun) (after : Option ShardId) (table_place : ℕ) (run_places : List ℕ) : Type 0 where

@@ -1,5 +1,5 @@
 -- Places in sorted entries.
-use Rattle.std.specs.Prelude.{◌≡◌, ℕ, ◌<◌, ◌≤◌, ◌==◌, List, [], ◌∷◌, Option, Some, None, length, take, drop, nat_lt, if◌then◌else◌}
+use Rattle.std.specs.Prelude.{◌≡◌, ℕ, ◌<◌, ◌≤◌, ◌==◌, Bool, true, false, List, [], ◌∷◌, Option, Some, None, length, take, drop, nat_lt, if◌then◌else◌}
 use Rattle.std.specs.List.{AllByRecursion}
 use Rattle.cs_model.specs.Element.{Entry, Locator as Place}
 use Rattle.cs_model.specs.Index.{Ascending, if_live, lookup}
@@ -34,8 +34,17 @@ abbrev pub live_entry : ℕ → List Place → List Entry
 live_entry id [] = []
 live_entry id (l ∷ ls) = record { id = id; locators = l ∷ ls } ∷ []
 
--- sorted entries of all that is live in an index up to an identifier, and of nothing else
-pub record IsMergedTo (index : List Entry) (after : Option ℕ) (entries : List Entry) : Type 0 where
+-- the entry of an identifier, unless it has no locators and deletions go
+abbrev pub kept_entry : (deletions_go : Bool) → ℕ → List Place → List Entry
+kept_entry true id ls = live_entry id ls
+kept_entry false id ls = record { id = id; locators = ls } ∷ []
+
+-- sorted entries of an index up to an identifier, without its deletions or with them, and of nothing else
+pub record IsRunTo (deletions_go : Bool) (index : List Entry) (after : Option ℕ) (entries : List Entry) : Type 0 where
   pub ascending : Ascending entries
   pub none_after : AllByRecursion (λ x. ¬ IsAfter after x.id) entries
-  pub lookups : (d : ℕ) → ¬ IsAfter after d → lookup d entries ≡ if_live (lookup d index)
+  pub lookups : (d : ℕ) → ¬ IsAfter after d → lookup d entries ≡ (if deletions_go then if_live (lookup d index) else lookup d index)
+
+-- sorted entries of all that is live in an index up to an identifier, and of nothing else
+abbrev pub IsMergedTo : (index : List Entry) → (after : Option ℕ) → (entries : List Entry) → Type 0
+IsMergedTo index after entries = IsRunTo true index after entries

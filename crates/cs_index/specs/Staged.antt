@@ -1,5 +1,5 @@
 -- What staging an index does to the extents and to the graph.
-use Rattle.std.specs.Prelude.{◌≡◌, ◌≢◌, ◌⊎◌, ◌↔◌, ◌+◌, ◌^◌, ◌<◌, ◌≤◌, ◌∷◌, ℕ, List, [], Some, Result, Ok, Err, length, map, reverse, slice_index}
+use Rattle.std.specs.Prelude.{◌≡◌, ◌≢◌, ◌⊎◌, ◌↔◌, ◌+◌, ◌^◌, ◌≤◌, ◌∷◌, ℕ, Bool, List, [], Some, Result, Ok, Err, drop, length, map, reverse, slice_index}
 use Rattle.cs_deps.specs.declared.elements.Element.{Element}
 use Rattle.cs_deps.specs.declared.elements.Element.TheVariants.{Version}
 use Rattle.cs_deps.specs.declared.refusals.Refusal.{Refusal}
@@ -8,16 +8,20 @@ use Rattle.cs_deps.specs.Named.{Named, Names}
 use Rattle.cs_deps.specs.Staging.{IsVersionStaged, Staging}
 use Rattle.cs_deps.specs.State.{AddsOnly, State as GraphState, write_of}
 use Rattle.cs_extent.specs.Appended.{IsAppended}
-use Rattle.cs_extent.specs.Frames.{IsSectionVersionUpTo, root_family}
+use Rattle.cs_extent.specs.Frames.{IsRootNeed, root_family, root_pages}
 use Rattle.cs_extent.specs.State.{State as ExtentsState, extents_of, shape}
 use Rattle.cs_extent.specs.Worn.{IsFrameWorn}
 use Rattle.cs_frame.specs.declared.locators.Locator.{Locator}
 use Rattle.cs_frame.specs.Formats.{as_locator, formats_of}
 use Rattle.cs_frame.specs.Roots.{SpellsRoot}
+use Rattle.cs_model.specs.Device.{Shape}
 use Rattle.cs_model.specs.Element.{Entry, Locator as Place, Run}
 use Rattle.cs_model.specs.Extents.{ForRun, NoPlace, Purpose as Reason}
 use Rattle.cs_model.specs.Formats.{RunFrame, places}
+use Rattle.cs_model.specs.Geometry.{pages_first_in}
 use Rattle.cs_model.specs.Index.{IsMergedRun, IsTableRun, live_at}
+use Rattle.cs_model.specs.Merges.{IsRunOf}
+use Rattle.cs_index.specs.Merges.{deletions_go, part, stage_takes}
 use Rattle.cs_index.specs.State.{State, index_of}
 
 -- the pages of a run's frame
@@ -28,24 +32,25 @@ run_frame x entries = (formats_of (shape x)).frame RunFrame ((formats_of (shape 
 abbrev pub IsRunAppended : ExtentsState → GraphState → Reason → List Entry → Place → ExtentsState → GraphState → Type 0
 IsRunAppended x g reason entries place y h = IsAppended x g reason (run_frame x entries) (as_locator place) y h
 
--- The next version of the root was staged to page 1: its page spells so many commands and the runs at these places,
--- oldest first. It needs all versions of each section so far, and nothing else of its own.
-pub record IsRootOver (g h : GraphState) (v commands : ℕ) (oldest_first : List Locator) : Type 0 where
+-- The next version of the root was staged to page 1: its page spells, in this format, so many commands and the runs at
+-- these places, oldest first. It needs all versions of each section so far, where page writes don't come first all plain writes so far,
+-- and nothing else of its own.
+pub record IsRootOver (format : ℕ) (pages_first : Bool) (g h : GraphState) (v commands : ℕ) (oldest_first : List Locator) : Type 0 where
   pub needs : Named
-  pub names : (x : Element) → Names needs x ↔ IsSectionVersionUpTo g.staging.latest x
+  pub names : (x : Element) → Names needs x ↔ IsRootNeed (root_pages pages_first g.staging.staged) g.staging.latest x
   pub version : IsVersionStaged g.staging root_family v needs h.staging
-  pub page : (page : List ℕ) × (write_of h (Version root_family v) ≡ Some (1, page)) × SpellsRoot page v commands oldest_first
+  pub page : (page : List ℕ) × (write_of h (Version root_family v) ≡ Some (1, page)) × SpellsRoot page format v commands oldest_first
   pub others : AddsOnly g h (Version root_family v)
   pub round : h.round ≡ g.round
 
--- the root over these runs was staged
-abbrev pub IsRootStaged : GraphState → GraphState → (v commands : ℕ) → List Run → Type 0
-IsRootStaged g h v commands runs = IsRootOver g h v commands (map as_locator (reverse (places runs)))
+-- the root over these runs was staged, by the format's rule
+abbrev pub IsRootStaged : (format : ℕ) → GraphState → GraphState → (v commands : ℕ) → List Run → Type 0
+IsRootStaged format g h v commands runs = IsRootOver format (pages_first_in format) g h v commands (map as_locator (reverse (places runs)))
 
 -- the frame of a run was appended, and the root over it and over the older runs was staged
 abbrev pub IsRunStaged : ExtentsState → GraphState → Reason → List Entry → (older : List Run) → Place → (v commands : ℕ) → ExtentsState → GraphState → Type 0
 IsRunStaged x g reason entries older place v commands y h = (between : GraphState)
-    × IsRunAppended x g reason entries place y between × IsRootStaged between h v commands (record { place = place; entries = entries } ∷ older)
+    × IsRunAppended x g reason entries place y between × IsRootStaged x.format between h v commands (record { place = place; entries = entries } ∷ older)
 
 -- The table became a run over those before, and the root over all of them was staged.
 pub record IsTableStaged (s : State) (x : ExtentsState) (g : GraphState) (v commands : ℕ) (t : State) (y : ExtentsState) (h : GraphState) : Type 0 where
@@ -68,17 +73,41 @@ IsMergeAppended index x g reason runs y h =
 pub record IsMergeStaged (s : State) (x : ExtentsState) (g : GraphState) (reason : Reason) (v commands : ℕ) (t : State) (y : ExtentsState) (h : GraphState) : Type 0 where
   pub between : GraphState
   pub appended : IsMergeAppended (index_of s) x g reason t.runs y between
-  pub root : IsRootStaged between h v commands t.runs
+  pub root : IsRootStaged x.format between h v commands t.runs
   pub table : t.table ≡ []
   pub limit : t.limit ≡ s.limit
+
+-- the run of the table and of the newest k runs was appended in front of the others, or none where it would have no entry
+abbrev pub IsPartAppended : (go : Bool) → State → ℕ → ExtentsState → GraphState → Reason → List Run → ExtentsState → GraphState → Type 0
+IsPartAppended go s k x g reason runs y h =
+    ((entries : List Entry) × (place : Place) × (entries ≢ []) × IsRunOf go (part s k) entries × IsRunAppended x g reason entries place y h
+    × (runs ≡ record { place = place; entries = entries } ∷ drop k s.runs))
+    ⊎ (IsRunOf go (part s k) [] × (y ≡ x) × (h ≡ g) × (runs ≡ drop k s.runs))
+
+-- The table and the newest k runs became one run in front of the others, with their deletions or without them, or none where it
+-- would have no entry, and the root over all that stand then was staged.
+pub record IsPartStaged (go : Bool) (k : ℕ) (s : State) (x : ExtentsState) (g : GraphState) (reason : Reason) (v commands : ℕ) (t : State) (y : ExtentsState) (h : GraphState) : Type 0 where
+  pub between : GraphState
+  pub appended : IsPartAppended go s k x g reason t.runs y between
+  pub root : IsRootStaged x.format between h v commands t.runs
+  pub table : t.table ≡ []
+  pub limit : t.limit ≡ s.limit
+
+-- a Stage merged the table and the newest k runs
+abbrev pub IsNewestStaged : (k : ℕ) → State → ExtentsState → GraphState → (v commands : ℕ) → State → ExtentsState → GraphState → Type 0
+IsNewestStaged k s x g v commands t y h = IsPartStaged (deletions_go (shape x) s k) k s x g ForRun v commands t y h
 
 -- the run of all that is live, if anything is
 abbrev pub WritesMerged : State → List Entry → Type 0
 WritesMerged s entries = IsMergedRun (index_of s) entries × (entries ≢ [])
 
--- the run that staging writes: the table's where fewer than four stand, else the one of all that is live
-abbrev pub WritesRun : State → List Entry → Type 0
-WritesRun s entries = (s.table ≢ []) × (((length s.runs < 4) × IsTableRun s.table entries) ⊎ ((4 ≤ length s.runs) × WritesMerged s entries))
+-- the run of the table and of the newest k runs, if it has an entry
+abbrev pub WritesPart : (go : Bool) → State → ℕ → List Entry → Type 0
+WritesPart go s k entries = IsRunOf go (part s k) entries × (entries ≢ [])
+
+-- the run that a Stage writes, where the table isn't empty: that of the table and of as many of the newest runs as it takes
+abbrev pub WritesRun : Shape → State → List Entry → Type 0
+WritesRun S s entries = (s.table ≢ []) × WritesPart (deletions_go S s (stage_takes S s)) s (stage_takes S s) entries
 
 -- a run is to be written, and no extent takes its pages
 abbrev pub IsFull : (List Entry → Type 0) → ExtentsState → Reason → Type 0

@@ -61,7 +61,7 @@ pub record IsWhole (s : State) : Type 0 where
   pub ascending : Ascending s.table
   pub short : AllByRecursion IsShort s.table
   pub runs : AllByRecursion IsStored s.runs
-  pub few : length s.runs ≤ 4
+  pub few : length s.runs ≤ 24
   pub named : names (index_of s) ≤ s.limit
 
 -- An identifier has other locators, in the table and so in the whole index, and nothing else changed but the room.

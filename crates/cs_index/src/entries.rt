@@ -22,7 +22,7 @@ pub struct Entries<'a> {
     /// Where the entries after it begin in the table.
     table_place: usize,
     /// Where they begin in each run, oldest first.
-    run_places: [usize; 4],
+    run_places: [usize; 24],
 }
 
 impl<'a> Model for Entries<'a> {
@@ -65,7 +65,7 @@ pub fn entries_from<'a>(table: &'a [(ShardId, Vec<Locator>)], runs: &'a [StoredR
         runs,
         after: None,
         table_place: 0,
-        run_places: [0; 4],
+        run_places: [0; 24],
     }
 }
 
@@ -99,12 +99,12 @@ fn start_behind(entries: &[(ShardId, Vec<Locator>)], id: ShardId) -> usize
 }
 
 /// Where they begin in each run.
-fn starts_behind(runs: &[StoredRun], id: ShardId) -> [usize; 4]
-    requires few { length runs.now ≤ 4 }
+fn starts_behind(runs: &[StoredRun], id: ShardId) -> [usize; 24]
+    requires few { length runs.now ≤ 24 }
     requires stored { AllByRecursion IsStored (newest_first runs.now) }
     ensures { AreStarts (Some (id_number id)) runs.now result }
 {
-    let mut starts = [0; 4];
+    let mut starts = [0; 24];
     for k in 0..runs.len() {
         let run = &runs[k];
         starts[k] = start_behind(&run.entries, id);
@@ -142,9 +142,9 @@ fn lesser<'a>(
 /// Of the entries at these places of the runs one with the least identifier, and of those the newest.
 fn first_in_runs<'a>(
     runs: &'a [StoredRun],
-    places: &[usize; 4],
+    places: &[usize; 24],
 ) -> Option<&'a (ShardId, Vec<Locator>)>
-    requires few { length runs.now ≤ 4 }
+    requires few { length runs.now ≤ 24 }
     requires stored { AllByRecursion IsStored (newest_first runs.now) }
     ensures { (after : Option ℕ) → AreStarts after runs.now places.now → IsNext (entries_of (newest_first runs.now)) after (option_map named_entry (option_copied result)) }
 {
@@ -166,8 +166,8 @@ fn skip(entries: &[(ShardId, Vec<Locator>)], k: usize, id: ShardId) -> usize
 }
 
 /// Moves the places of the runs behind an identifier.
-fn skip_in_runs(runs: &[StoredRun], places: &mut [usize; 4], id: ShardId)
-    requires few { length runs.now ≤ 4 }
+fn skip_in_runs(runs: &[StoredRun], places: &mut [usize; 24], id: ShardId)
+    requires few { length runs.now ≤ 24 }
     requires stored { AllByRecursion IsStored (newest_first runs.now) }
     requires places { ArePlaces (id_number id) runs.now places.old }
     ensures { AreStarts (Some (id_number id)) runs.now places.new }

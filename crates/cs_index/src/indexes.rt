@@ -1,46 +1,39 @@
 //! The index of a store.
-ghost use Rattle.std.specs.Prelude.{◌≡◌, ◌≢◌, ℕ, ◌+◌, ◌∷◌, ◌<◌, ◌≤◌, ◌^◌, ◌⊎◌, ◌↔◌, ◌==◌, [], IfErr, IfOk, IfSome, IsOk, IsTrue, MatchOption, OnErr, OnOk, None, Some, MatchBool, false, length, map, option_copied, option_map, true};
+ghost use Rattle.std.specs.Prelude.{◌≡◌, ◌≢◌, ℕ, ◌+◌, ◌<◌, ◌≤◌, ◌⊎◌, ◌↔◌, ◌==◌, [], IfErr, IfOk, IfSome, IsOk, IsTrue, MatchOption, OnErr, OnOk, None, Some, MatchBool, length, map, option_copied, option_map, true, false};
 ghost use Rattle.std.specs.List.{AllByRecursion};
-ghost use Rattle.cs_extent.specs.Frames.{AreResetsStaged};
-ghost use Rattle.cs_extent.specs.Purposes.{reason_of};
-ghost use Rattle.cs_extent.specs.State.{extents_of, shape};
-ghost use Rattle.cs_extent.specs.Worn.{IsFrameWorn};
 ghost use Rattle.cs_frame.specs.Runs.{IsRun};
-ghost use Rattle.cs_model.specs.Element.{Locator as Place};
-ghost use Rattle.cs_model.specs.Extents.{ForRun, NoPlace};
-ghost use Rattle.cs_model.specs.Index.{Ascending, FirstLive, NothingLive, entries_of, live_at, lookup, names};
-ghost use Rattle.cs_index.specs.Staged.{IsExact, IsFull, IsMergeStaged, IsRootWorn, IsRunStaged, IsStageWorn, IsTableStaged, WritesMerged, WritesRun, run_frame};
+ghost use Rattle.cs_model.specs.Index.{FirstLive, NothingLive, entries_of, live_at, lookup, names};
+ghost use Rattle.cs_model.specs.Tally.{one_if_some};
 ghost use Rattle.cs_frame.specs.Formats.{place_of};
-ghost use Rattle.cs_index.specs.State.{IsId, IsSet, IsShort, IsStored, IsWhole, id_number, index_of, named_entry, newest_first};
+ghost use Rattle.cs_index.specs.State.{IsSet, IsWhole, id_number, index_of, newest_first};
 
+use crate::counts::{count_living, living_after, one_if_living};
 use crate::entries::{Entries, entries_after, entries_from};
 use crate::live::{Cleared, LiveChunk, NONE_KNOWN, known_up_to, search, still_cleared};
-use crate::mergers::merged;
 use crate::runs::{StoredRun, are_ids, count_after, count_names, find_in_runs};
-use crate::stagings::{run_fits, stage_empty, stage_run};
 use crate::tables::{find, put};
-use cs_deps::{Graph, Refusal};
-use cs_extent::{Extents, Purpose};
+use cs_deps::Refusal;
 use cs_frame::{Locator, Run, ShardId};
 use std::alloc::{AllocError, Global};
 use std::marker::Model;
-use std::mem::replace;
 
 /// Which locators each shard has: a table in memory over at most four runs.
 #[derive(Drop)]
 pub struct Index {
     /// The entries that no run has yet, by rising identifiers.
-    table: Run,
+    pub(crate) table: Run,
     /// Oldest first.
-    runs: Vec<StoredRun>,
+    pub(crate) runs: Vec<StoredRun>,
     /// How many identifiers have an entry.
-    named: usize,
+    pub(crate) named: usize,
+    /// How many of them have locators.
+    pub(crate) living: usize,
     /// How many may have one.
-    limit: usize,
+    pub(crate) limit: usize,
     /// So many more entries of the table have their place already.
-    room: usize,
+    pub(crate) room: usize,
     /// What the last search of an extent found out.
-    cleared: Cleared,
+    pub(crate) cleared: Cleared,
 }
 
 impl Model for Index {
@@ -52,16 +45,16 @@ impl Model for Index {
 
     ghost view = { λ x. state_of x.table.entries.items x.runs.items x.limit x.room };
 
-    ghost invariant = { λ x. IsHeld (state_of x.table.entries.items x.runs.items x.limit x.room) x.table.entries.items x.named (vec_len x.table.entries) (vec_capacity x.table.entries) x.cleared };
+    ghost invariant = { λ x. IsHeld (state_of x.table.entries.items x.runs.items x.limit x.room) x.table.entries.items x.named x.living (vec_len x.table.entries) (vec_capacity x.table.entries) x.cleared };
 }
 
 impl Index {
     /// The index of these runs, oldest first, with an empty table. `limit` is how many identifiers may have an entry:
     /// as many as one run in one extent can have.
     ///
-    /// 43 `NotAStore` where the runs name more. Asks for no memory. Seeks each entry among the older runs.
+    /// 43 `NotAStore` where the runs name more. Asks for no memory. Seeks each entry among the older runs, and then reads all in order.
     pub fn load(alloc: Global, limit: usize, runs: Vec<StoredRun>) -> Result<Index, Refusal>
-        requires few { length runs.items ≤ 4 }
+        requires few { length runs.items ≤ 24 }
         requires runs { AllByRecursion (λ run. IsRun (record { entries = run.entries })) runs.items }
         ensures loaded { IfOk result (λ x. x ≡ record { table = []; runs = newest_first runs.items; limit = limit; room = 0 }) }
         ensures full { (result ≡ Err Refusal.NotAStore) ↔ (limit < names (entries_of (newest_first runs.items))) }
@@ -72,12 +65,14 @@ impl Index {
         if limit < named {
             return Err(Refusal::NotAStore);
         }
+        let living = count_living(&[], &runs);
         Ok(Index {
             table: Run {
                 entries: Vec::new(alloc),
             },
             runs,
             named,
+            living,
             limit,
             room: 0,
             cleared: NONE_KNOWN,
@@ -147,10 +142,10 @@ impl Index {
         self.limit
     }
 
-    /// How many runs there are, at most 4.
+    /// How many runs there are, at most 24.
     pub fn run_count(&self) -> usize
         ensures count { result ≡ length self.now.runs }
-        ensures few { result ≤ 4 }
+        ensures few { result ≤ 24 }
         ensures whole { IsWhole self.now }
     {
         self.runs.len()
@@ -193,6 +188,17 @@ impl Index {
         !self.is_known(id) && self.limit <= self.named
     }
 
+    /// Whether an identifier has an entry, and 1 where it has locators, else 0.
+    fn standing(&self, id: ShardId) -> (bool, usize)
+        ensures known { MatchBool result.0 (lookup (id_number id) (index_of self.now) ≢ None) (lookup (id_number id) (index_of self.now) ≡ None) }
+        ensures lives { result.1 ≡ one_if_some (live_at (index_of self.now) (id_number id)) }
+    {
+        match self.lookup(id) {
+            Some(locators) => (true, one_if_living(locators)),
+            None => (false, 0),
+        }
+    }
+
     /// Gives an identifier other locators in the table.
     fn enter(&mut self, id: ShardId, locators: Vec<Locator>) -> Result<(), AllocError>
         requires short { length locators.items ≤ 8 }
@@ -202,12 +208,14 @@ impl Index {
         ensures memory { 0 < self.old.room → IsOk result }
         ensures err { OnErr result (self.new ≡ self.old) }
     {
-        let known = self.is_known(id);
+        let standing = self.standing(id);
+        let lives = one_if_living(&locators);
         let cleared = still_cleared(self.cleared, id, &locators);
         let left = put(&mut self.table.entries, self.room, id, locators)?;
         self.room = left;
         self.cleared = cleared;
-        self.named = count_after(self.named, known);
+        self.named = count_after(self.named, standing.0);
+        self.living = living_after(self.living, standing.1, lives);
         Ok(())
     }
 
@@ -292,223 +300,5 @@ impl Index {
         }
         self.enter(id, new)?;
         Ok(true)
-    }
-
-    /// Stages the table as a run, with `Purpose::Run`, and the root over all runs, after which the table is empty.
-    /// Where four runs stand, the whole index becomes one run, as by `stage_merged`. `commands` is how many puts and
-    /// deletes the root includes. Answers the version of the root, or None where the table is empty: then nothing changes.
-    ///
-    /// 30 `Full` where no extent takes the run, then 35 `WornOut` where a number would pass 2^63 - 1; 9 `OutOfMemory` may
-    /// come instead of either. After a refusal nothing has changed but the graph's room.
-    pub fn stage(
-        &mut self,
-        extents: &mut Extents,
-        graph: &mut Graph,
-        commands: u64,
-    ) -> Result<Option<u64>, Refusal>
-        requires limit { self.old.limit ≡ (shape extents.old).most_names }
-        requires families { length graph.old.staging.latest ≡ 1 + (shape extents.old).sections }
-        requires resets { AreResetsStaged (extents_of extents.old) graph.old.staging }
-        requires commands { commands < 2 ^ 63 }
-
-        // What is staged.
-        ensures none { IfOk result (λ staged. (staged ≡ None) ↔ (self.old.table ≡ [])) }
-        ensures unchanged { result ≡ Ok None → (self.new ≡ self.old) × (extents.new ≡ extents.old) × (graph.new ≡ graph.old) }
-        ensures staged { (v : ℕ) → result ≡ Ok (Some v) → length self.old.runs < 4 → IsTableStaged self.old extents.old graph.old v commands self.new extents.new graph.new }
-        ensures merged { (v : ℕ) → result ≡ Ok (Some v) → 4 ≤ length self.old.runs → IsMergeStaged self.old extents.old graph.old ForRun v commands self.new extents.new graph.new }
-
-        // The map stays: every entry where no merge takes deletions away, and all that is live in any case.
-        ensures lookups { length self.old.runs < 4 → (id : ℕ) → lookup id (index_of self.new) ≡ lookup id (index_of self.old) }
-        ensures map { (id : ℕ) → live_at (index_of self.new) id ≡ live_at (index_of self.old) id }
-
-        // Whatever the answer, the next append may be made.
-        ensures resets { AreResetsStaged (extents_of extents.new) graph.new.staging }
-        ensures families { length graph.new.staging.latest ≡ length graph.old.staging.latest }
-
-        ensures why { IsExact result (IsFull (WritesRun self.old) extents.old ForRun) ((self.old.table ≢ []) × IsStageWorn (WritesRun self.old) extents.old ForRun graph.old.staging) }
-        ensures refused { OnErr result (self.new ≡ self.old) }
-        ensures unwritten { OnErr result (extents.new ≡ extents.old) }
-        ensures unstaged { OnErr result (graph.new ≡ record graph.old { room = graph.new.room }) }
-    {
-        if self.is_table_empty() {
-            return Ok(None);
-        }
-        if self.run_count() < 4 {
-            match self.stage_table(extents, graph, commands) {
-                Ok(version) => Ok(Some(version)),
-                Err(refusal) => Err(refusal),
-            }
-        } else {
-            match self.stage_merged(extents, graph, commands, Purpose::Run) {
-                Ok(version) => Ok(Some(version)),
-                Err(refusal) => Err(refusal),
-            }
-        }
-    }
-
-    /// Stages the table as one run more.
-    fn stage_table(
-        &mut self,
-        extents: &mut Extents,
-        graph: &mut Graph,
-        commands: u64,
-    ) -> Result<u64, Refusal>
-        requires some { self.old.table ≢ [] }
-        requires few { length self.old.runs < 4 }
-        requires limit { self.old.limit ≡ (shape extents.old).most_names }
-        requires families { length graph.old.staging.latest ≡ 1 + (shape extents.old).sections }
-        requires resets { AreResetsStaged (extents_of extents.old) graph.old.staging }
-        requires commands { commands < 2 ^ 63 }
-        ensures staged { IfOk result (λ v. IsTableStaged self.old extents.old graph.old v commands self.new extents.new graph.new) }
-        ensures index { index_of self.new ≡ index_of self.old }
-        ensures resets { AreResetsStaged (extents_of extents.new) graph.new.staging }
-        ensures families { length graph.new.staging.latest ≡ length graph.old.staging.latest }
-        ensures why { IsExact result (NoPlace (shape extents.old) (extents_of extents.old) ForRun (length (run_frame extents.old self.old.table)))
-            (IsRootWorn graph.old.staging ⊎ IsFrameWorn extents.old ForRun graph.old.staging (length (run_frame extents.old self.old.table))) }
-        ensures refused { OnErr result (self.new ≡ self.old) }
-        ensures unwritten { OnErr result (extents.new ≡ extents.old) }
-        ensures unstaged { OnErr result (graph.new ≡ record graph.old { room = graph.new.room }) }
-    {
-        let alloc = *self.table.entries.allocator();
-        let _extents = extents.extent_count();
-        self.runs.reserve(1)?;
-        match stage_run(
-            alloc,
-            extents,
-            graph,
-            &self.table,
-            &self.runs,
-            commands,
-            Purpose::Run,
-        ) {
-            Ok((place, version)) => {
-                let entries = replace(&mut self.table.entries, Vec::new(alloc));
-                self.runs.push_reserved(StoredRun { place, entries });
-                self.room = 0;
-                Ok(version)
-            }
-            Err(refusal) => Err(refusal),
-        }
-    }
-
-    /// Stages all that is live as one run, for this purpose, and the root over it, after which there is no other
-    /// entry. Where nothing is live no run is staged, and the root has none. Answers the version of the root.
-    ///
-    /// 30 `Full` where no extent takes the run, then 35 `WornOut` where a number would pass 2^63 - 1; 9 `OutOfMemory` may
-    /// come instead of either. After a refusal nothing has changed but the graph's room. Takes memory for all that is
-    /// live, and time for all entries.
-    pub fn stage_merged(
-        &mut self,
-        extents: &mut Extents,
-        graph: &mut Graph,
-        commands: u64,
-        purpose: Purpose,
-    ) -> Result<u64, Refusal>
-        requires limit { self.old.limit ≡ (shape extents.old).most_names }
-        requires families { length graph.old.staging.latest ≡ 1 + (shape extents.old).sections }
-        requires resets { AreResetsStaged (extents_of extents.old) graph.old.staging }
-        requires commands { commands < 2 ^ 63 }
-        ensures staged { IfOk result (λ v. IsMergeStaged self.old extents.old graph.old (reason_of purpose) v commands self.new extents.new graph.new) }
-
-        // The map stays.
-        ensures map { (id : ℕ) → live_at (index_of self.new) id ≡ live_at (index_of self.old) id }
-
-        // Whatever the answer, the next append may be made.
-        ensures resets { AreResetsStaged (extents_of extents.new) graph.new.staging }
-        ensures families { length graph.new.staging.latest ≡ length graph.old.staging.latest }
-
-        ensures why { IsExact result (IsFull (WritesMerged self.old) extents.old (reason_of purpose)) (IsStageWorn (WritesMerged self.old) extents.old (reason_of purpose) graph.old.staging) }
-        ensures refused { OnErr result (self.new ≡ self.old) }
-        ensures unwritten { OnErr result (extents.new ≡ extents.old) }
-        ensures unstaged { OnErr result (graph.new ≡ record graph.old { room = graph.new.room }) }
-    {
-        let alloc = *self.table.entries.allocator();
-        let _extents = extents.extent_count();
-        let run = merged(alloc, self)?;
-        if run.entries.is_empty() {
-            match stage_empty(alloc, graph, commands) {
-                Ok(version) => {
-                    self.become_runs(alloc, Vec::new(alloc), 0);
-                    Ok(version)
-                }
-                Err(refusal) => Err(refusal),
-            }
-        } else {
-            self.stage_one(alloc, extents, graph, run, commands, purpose)
-        }
-    }
-
-    /// Whether an extent would take the run that `stage_merged` writes for this purpose, true also where it writes none.
-    /// Takes memory for all that is live, and time for all entries.
-    pub fn merged_fits(&self, extents: &Extents, purpose: Purpose) -> Result<bool, AllocError>
-        requires limit { self.now.limit ≡ (shape extents.now).most_names }
-        ensures { IfOk result (λ fits. MatchBool fits (IsFull (WritesMerged self.now) extents.now (reason_of purpose) → ⊥) (IsFull (WritesMerged self.now) extents.now (reason_of purpose))) }
-    {
-        let alloc = *self.table.entries.allocator();
-        let run = merged(alloc, self)?;
-        if run.entries.is_empty() {
-            return Ok(true);
-        }
-        let _extents = extents.extent_count();
-        Ok(run_fits(extents, &run, purpose))
-    }
-
-    /// Stages a run in place of all entries.
-    fn stage_one(
-        &mut self,
-        alloc: Global,
-        extents: &mut Extents,
-        graph: &mut Graph,
-        run: Run,
-        commands: u64,
-        purpose: Purpose,
-    ) -> Result<u64, Refusal>
-        requires some { map named_entry run.entries.items ≢ [] }
-        requires short { AllByRecursion IsShort (map named_entry run.entries.items) }
-        requires ascending { Ascending (map named_entry run.entries.items) }
-        requires ids { AllByRecursion (λ entry. IsId entry.0) run.entries.items }
-        requires few { length run.entries.items ≤ self.old.limit }
-        requires limit { self.old.limit ≡ (shape extents.old).most_names }
-        requires families { length graph.old.staging.latest ≡ 1 + (shape extents.old).sections }
-        requires resets { AreResetsStaged (extents_of extents.old) graph.old.staging }
-        requires commands { commands < 2 ^ 63 }
-        ensures staged { IfOk result (λ v. (place : Place)
-            × IsRunStaged extents.old graph.old (reason_of purpose) (map named_entry run.entries.items) [] place v commands extents.new graph.new
-            × (self.new ≡ record { table = []; runs = record { place = place; entries = map named_entry run.entries.items } ∷ []; limit = self.old.limit; room = 0 })) }
-        ensures resets { AreResetsStaged (extents_of extents.new) graph.new.staging }
-        ensures families { length graph.new.staging.latest ≡ length graph.old.staging.latest }
-        ensures why { IsExact result (NoPlace (shape extents.old) (extents_of extents.old) (reason_of purpose) (length (run_frame extents.old (map named_entry run.entries.items))))
-            (IsRootWorn graph.old.staging ⊎ IsFrameWorn extents.old (reason_of purpose) graph.old.staging (length (run_frame extents.old (map named_entry run.entries.items)))) }
-        ensures refused { OnErr result (self.new ≡ self.old) }
-        ensures unwritten { OnErr result (extents.new ≡ extents.old) }
-        ensures unstaged { OnErr result (graph.new ≡ record graph.old { room = graph.new.room }) }
-    {
-        let _extents = extents.extent_count();
-        let mut runs = Vec::with_capacity(alloc, 1)?;
-        let (place, version) = stage_run(alloc, extents, graph, &run, &[], commands, purpose)?;
-        let named = run.entries.len();
-        runs.push_reserved(StoredRun {
-            place,
-            entries: run.entries,
-        });
-        self.become_runs(alloc, runs, named);
-        Ok(version)
-    }
-
-    /// Takes runs in place of all entries.
-    fn become_runs(&mut self, alloc: Global, runs: Vec<StoredRun>, named: usize)
-        requires stored { AllByRecursion IsStored (newest_first runs.items) }
-        requires few { length runs.items ≤ 4 }
-        requires named { named ≡ names (entries_of (newest_first runs.items)) }
-        requires limit { named ≤ self.old.limit }
-        ensures { self.new ≡ record { table = []; runs = newest_first runs.items; limit = self.old.limit; room = 0 } }
-    {
-        self.table = Run {
-            entries: Vec::new(alloc),
-        };
-        self.runs = runs;
-        self.named = named;
-        self.room = 0;
-        self.cleared = NONE_KNOWN;
     }
 }

@@ -5,15 +5,20 @@
 //! all are read in order, table and runs side by side.
 #![tactic(auto)]
 
+mod counts;
 mod entries;
 mod indexes;
+mod laws;
 mod live;
 mod mergers;
+mod reach;
 mod runs;
+mod stages;
 mod stagings;
 mod tables;
 
 pub use entries::Entries;
 pub use indexes::Index;
+pub use laws::stages_without_sizes;
 pub use live::LiveChunk;
 pub use runs::StoredRun;

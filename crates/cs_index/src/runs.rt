@@ -61,7 +61,7 @@ fn count_new(entries: &[(ShardId, Vec<Locator>)], older: &[StoredRun]) -> usize
 /// How many identifiers the runs name.
 pub fn count_names(runs: &[StoredRun]) -> usize
     requires stored { AllByRecursion IsStored (newest_first runs.now) }
-    requires few { length runs.now ≤ 4 }
+    requires few { length runs.now ≤ 24 }
     requires short { AllByRecursion (λ run. length run.entries.items < 2 ^ 32) runs.now }
     ensures { result ≡ names (entries_of (newest_first runs.now)) }
 {

@@ -8,16 +8,21 @@ ghost use Rattle.cs_extent.specs.Purposes.{reason_of};
 ghost use Rattle.cs_extent.specs.State.{extents_of, shape};
 ghost use Rattle.cs_extent.specs.Worn.{IsFrameWorn};
 ghost use Rattle.cs_frame.specs.Frames.{page_count};
+ghost use Rattle.cs_frame.specs.Geometries.{IsKnown, run_bytes};
+ghost use Rattle.cs_frame.specs.Roots.{greatest_runs};
 ghost use Rattle.cs_frame.specs.Runs.{IsRun};
 ghost use Rattle.cs_model.specs.Extents.{NoPlace, Placed};
+ghost use Rattle.cs_model.specs.Geometry.{pages_first_in};
 ghost use Rattle.cs_index.specs.Staged.{IsExact, IsRootOver, IsRootWorn, IsRunStaged, IsWhy, run_frame};
 ghost use Rattle.cs_frame.specs.Formats.{place_of};
 ghost use Rattle.cs_index.specs.State.{IsShort, named_entry, newest_first};
 
 use crate::runs::StoredRun;
 use cs_deps::{Graph, LAST_NUMBER, Refusal};
-use cs_extent::{Extents, Purpose, ROOT, on_sections};
-use cs_frame::{FrameKind, Locator, Root, Run, encode_frame, encode_root, encode_run, frame_pages};
+use cs_extent::{Extents, Purpose, ROOT, root_needs};
+use cs_frame::{
+    FrameKind, Locator, Root, Run, encode_frame, encode_root, encode_run, frame_pages, run_bytes,
+};
 use std::alloc::{AllocError, Global};
 
 /// Whether the last number of a root is given.
@@ -28,26 +33,36 @@ fn is_last_root(graph: &Graph) -> bool
     LAST_NUMBER <= graph.last_version(ROOT)
 }
 
-/// Stages the next version of the root over runs whose frames begin at these places, oldest first.
-fn stage_root(alloc: Global, graph: &mut Graph, places: Vec<Locator>, commands: u64) -> u64
+/// Stages the next version of the root, in this format, over runs whose frames begin at these places, oldest first. It needs all plain
+/// writes that were staged where those don't come first.
+fn stage_root(
+    alloc: Global,
+    graph: &mut Graph,
+    format: u8,
+    pages_first: bool,
+    places: Vec<Locator>,
+    commands: u64,
+) -> u64
+    requires format { IsKnown format }
     requires families { root_family < length graph.old.staging.latest }
     requires few { length graph.old.staging.latest ≤ 16 }
     requires room { 0 < graph.old.room }
     requires number { ¬ IsRootWorn graph.old.staging }
     requires commands { commands < 2 ^ 63 }
-    requires places { length places.items ≤ 4 }
-    ensures staged { IsRootOver graph.old graph.new result commands places.items }
+    requires places { length places.items ≤ greatest_runs format }
+    ensures staged { IsRootOver format pages_first graph.old graph.new result commands places.items }
     ensures families { length graph.new.staging.latest ≡ length graph.old.staging.latest }
     ensures rises { slice_index graph.old.staging.latest root_family ≤ slice_index graph.new.staging.latest root_family }
 {
     let version = graph.last_version(ROOT) + 1;
     let root = Root {
+        format,
         version,
         commands,
         runs: places,
     };
     let page = encode_root(&root);
-    let needs = on_sections(alloc, graph);
+    let needs = root_needs(alloc, graph, pages_first);
     match graph.stage_version(ROOT, 1, &page, needs) {
         Ok(staged) => staged,
         Err(_) => unreachable!(),
@@ -57,9 +72,9 @@ fn stage_root(alloc: Global, graph: &mut Graph, places: Vec<Locator>, commands: 
 /// The pages that spell a run.
 fn frame_of(alloc: Global, run: &Run) -> Result<Vec<[u8; 4096]>, AllocError>
     requires run { IsRun run.now }
-    requires most { length run.now.entries.items ≤ 12945 }
+    requires most { run_bytes (length run.now.entries.items) < 2 ^ 32 }
     ensures frame { IfOk result (λ frame. (x : _) → frame.items ≡ run_frame x (map named_entry run.now.entries.items)) }
-    ensures count { IfOk result (λ frame. length frame.items ≡ page_count (4 + 81 * length run.now.entries.items)) }
+    ensures count { IfOk result (λ frame. length frame.items ≡ page_count (run_bytes (length run.now.entries.items))) }
 {
     let payload = encode_run(alloc, run)?;
     encode_frame(alloc, FrameKind::Run, &payload)
@@ -94,7 +109,7 @@ pub fn run_fits(extents: &Extents, run: &Run, purpose: Purpose) -> bool
     ensures { MatchBool result ((e : ℕ) × Placed (shape extents.now) (extents_of extents.now) (reason_of purpose) (length (run_frame extents.now (map named_entry run.now.entries.items))) e) (NoPlace (shape extents.now) (extents_of extents.now) (reason_of purpose) (length (run_frame extents.now (map named_entry run.now.entries.items)))) }
 {
     let _extents = extents.extent_count();
-    let pages = frame_pages(4 + 81 * run.entries.len());
+    let pages = frame_pages(run_bytes(run.entries.len()));
     has_place(extents, pages, purpose)
 }
 
@@ -158,18 +173,19 @@ fn write_run(
     requires spare { vec_len places < vec_capacity places }
     ensures staged { IfOk result (λ made. (between : GraphState)
         × IsAppended extents.old graph.old (reason_of purpose) frame.now made.0 extents.new between
-        × IsRootOver between graph.new made.1 commands (places.items ++ made.0 ∷ [])) }
+        × IsRootOver extents.old.format (pages_first_in extents.old.format) between graph.new made.1 commands (places.items ++ made.0 ∷ [])) }
     ensures resets { AreResetsStaged (extents_of extents.new) graph.new.staging }
     ensures families { length graph.new.staging.latest ≡ length graph.old.staging.latest }
     ensures worn { MatchResult result (λ _. ¬ IsFrameWorn extents.old (reason_of purpose) graph.old.staging (length frame.now)) (λ refusal. (refusal ≡ Refusal.WornOut) × IsFrameWorn extents.old (reason_of purpose) graph.old.staging (length frame.now)) }
     ensures refused { OnErr result (extents.new ≡ extents.old) }
     ensures unstaged { OnErr result (graph.new ≡ record graph.old { room = graph.new.room }) }
 {
-    let _extents = extents.extent_count();
+    let format = extents.geometry().format();
+    let pages_first = extents.pages_first();
     match extents.append(graph, frame, purpose) {
         Ok((place, _)) => {
             places.push_reserved(place);
-            let version = stage_root(alloc, graph, places, commands);
+            let version = stage_root(alloc, graph, format, pages_first, places, commands);
             Ok((place, version))
         }
         Err(refusal) => Err(refusal),
@@ -209,14 +225,21 @@ pub fn stage_run(
     write_run(alloc, extents, graph, &frame, places, commands, purpose)
 }
 
-/// Stages a root without runs.
+/// Stages a root of this format without runs, which needs all plain writes that were staged where those don't come first.
 ///
 /// 35 `WornOut` where the last number of a root is given, then 9 `OutOfMemory`, where the graph has no room and gets none.
-pub fn stage_empty(alloc: Global, graph: &mut Graph, commands: u64) -> Result<u64, Refusal>
+pub fn stage_empty(
+    alloc: Global,
+    graph: &mut Graph,
+    format: u8,
+    pages_first: bool,
+    commands: u64,
+) -> Result<u64, Refusal>
+    requires format { IsKnown format }
     requires families { root_family < length graph.old.staging.latest }
     requires few { length graph.old.staging.latest ≤ 16 }
     requires commands { commands < 2 ^ 63 }
-    ensures staged { IfOk result (λ v. IsRootOver graph.old graph.new v commands []) }
+    ensures staged { IfOk result (λ v. IsRootOver format pages_first graph.old graph.new v commands []) }
     ensures families { length graph.new.staging.latest ≡ length graph.old.staging.latest }
     ensures rises { slice_index graph.old.staging.latest root_family ≤ slice_index graph.new.staging.latest root_family }
     ensures worn { MatchResult result (λ _. ¬ IsRootWorn graph.old.staging) (λ refusal. IsWhy refusal ⊥ (IsRootWorn graph.old.staging)) }
@@ -226,5 +249,5 @@ pub fn stage_empty(alloc: Global, graph: &mut Graph, commands: u64) -> Result<u6
         return Err(Refusal::WornOut);
     }
     graph.reserve(1)?;
-    Ok(stage_root(alloc, graph, Vec::new(alloc), commands))
+    Ok(stage_root(alloc, graph, format, pages_first, Vec::new(alloc), commands))
 }

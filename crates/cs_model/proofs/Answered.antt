@@ -2,15 +2,15 @@
 use Rattle.std.proofs.Common.{◌≡◌, ◌⊎◌, inl, inr, ⊎_elim, ℕ, suc, ◌*◌, ◌<◌, ◌≤◌, true, false, List, [], ◌∷◌, length, Option, Some, None, refl, sym, ap, ap₂, ◌∙◌, subst, le_of_eq, le_trans, arith}
 use Rattle.std.proofs.lemmas.Bool.{cases_lt, cases_Bool}
 use Rattle.cs_model.proofs.Places.{fits_or_full}
-use Rattle.cs_model.proofs.Needs.{all_one, fits_appends, appends_fit}
+use Rattle.cs_model.proofs.Needs.{all_one, fits_appends_by, appends_fit_by}
 use Rattle.cs_model.proofs.Chunks.{chunked_there, chunked_one}
 use Rattle.cs_model.proofs.Limits.{past_decided, worn_or_not, not_past}
-use Rattle.cs_model.proofs.Outcomes.{Answers, not_true, all_generations, clears, ends}
-use Rattle.cs_model.specs.Append.{AppendAll, chunk_frames, page_counts}
+use Rattle.cs_model.proofs.Outcomes.{Answers, not_true, clears, ends, all_generations_by}
+use Rattle.cs_model.specs.Append.{chunk_frames, page_counts, AppendAllBy}
 use Rattle.cs_model.specs.Device.{IsShape, Shape}
 use Rattle.cs_model.specs.Element.{Content, Locator}
 use Rattle.cs_model.specs.Events.{Does}
-use Rattle.cs_model.specs.Extents.{Fits, ForPut}
+use Rattle.cs_model.specs.Extents.{ForPut, FitsBy}
 use Rattle.cs_model.specs.Formats.{Formats}
 use Rattle.cs_model.specs.Frames.{IsFormat}
 use Rattle.cs_model.specs.Grounds.{NoRoomToPut, WouldPass, is_named}
@@ -26,8 +26,8 @@ module _ (S : Shape) (F : Formats) (shape : IsShape S) (format : IsFormat S F) w
       → Does S F s (Put id bytes) q u → u ≡ t
   put_one s id bytes (Accepted n) (Accepted m) t u a b =
       let chunks : a.0 ≡ b.0 = chunked_one S.chunk_bytes bytes a.0 b.0 a.3 b.3 in
-      let one = all_one S s.world a.4.0 b.4.0 ForPut (chunk_frames S F b.0) a.1 b.1
-      (subst (λ (cs : List (List ℕ)). AppendAll S s.world ForPut (chunk_frames S F cs) a.1 a.4.0) chunks a.4.1)
+      let one = all_one S S.apart s.world a.4.0 b.4.0 ForPut (chunk_frames S F b.0) a.1 b.1
+      (subst (λ (cs : List (List ℕ)). AppendAllBy S S.apart s.world ForPut (chunk_frames S F cs) a.1 a.4.0) chunks a.4.1)
       b.4.1 in
       let mid : a.2 ≡ b.2 = a.4.2 ∙ ap (λ (v : World). record s { world = v }) one.1 ∙ sym b.4.2 in
       b.6 ∙ ap₂ (λ (x : State) (ls : List Locator). record x {
@@ -48,8 +48,8 @@ module _ (S : Shape) (F : Formats) (shape : IsShape S) (format : IsFormat S F) w
               (λ full. (Refused IndexFull, s, (inl (inr (go, inr (fits, inl (full, refl)))), refl)))
               (λ (named : (is_named S F s id ≡ false) × (S.most_names ≤ names (index_now s)) → ⊥).
               let chunks = chunked_there S.chunk_bytes bytes shape.some_byte in ⊎_elim
-              (λ (place : Fits S s.world.extents ForPut (page_counts (chunk_frames S F chunks.0))).
-              let all = fits_appends S shape s.world ForPut (chunk_frames S F chunks.0) place in
+              (λ (place : FitsBy S S.apart s.world.extents ForPut (page_counts (chunk_frames S F chunks.0))).
+              let all = fits_appends_by S shape S.apart s.world ForPut (chunk_frames S F chunks.0) place in
               let mid : State = record s { world = all.1 } in
               let t : State = record mid {
                 table = record { id = id; locators = all.0 } ∷ mid.table;
@@ -63,7 +63,7 @@ module _ (S : Shape) (F : Formats) (shape : IsShape S) (format : IsFormat S F) w
               → t.world.extents.generation e ≤ S.greatest_generation =
               (λ e. le_trans (le_of_eq
               (ap (λ (f : ℕ → ℕ). f e)
-              (all_generations S F shape format s.world all.1 ForPut (chunk_frames S F chunks.0) all.0 all.2)))
+              (all_generations_by S F shape format S.apart s.world all.1 ForPut (chunk_frames S F chunks.0) all.0 all.2)))
               (sound.safe.extents_fit e).1) in
               ⊎_elim
               (λ worn. (
@@ -83,7 +83,7 @@ module _ (S : Shape) (F : Formats) (shape : IsShape S) (format : IsFormat S F) w
               (worn_or_not S F s t (Put id bytes) (Accepted (suc (length s.commands))) d
               (λ r u x. put_one s id bytes (Accepted (suc (length s.commands))) r t u d x)
               (past_decided S F t young)))
-              (λ (no_place : Fits S s.world.extents ForPut (page_counts (chunk_frames S F chunks.0)) → ⊥). (
+              (λ (no_place : FitsBy S S.apart s.world.extents ForPut (page_counts (chunk_frames S F chunks.0)) → ⊥). (
                 Refused Full,
                 s,
                 (
@@ -95,8 +95,8 @@ module _ (S : Shape) (F : Formats) (shape : IsShape S) (format : IsFormat S F) w
                         named,
                         inl (
                           (λ cs ls mid chunked appends.
-                              no_place (appends_fit S shape s.world appends.0 ForPut (chunk_frames S F chunks.0) ls
-                              (subst (λ (x : List (List ℕ)). AppendAll S s.world ForPut
+                              no_place (appends_fit_by S shape S.apart s.world appends.0 ForPut (chunk_frames S F chunks.0) ls
+                              (subst (λ (x : List (List ℕ)). AppendAllBy S S.apart s.world ForPut
                               (chunk_frames S F x) ls appends.0)
                               (chunked_one S.chunk_bytes bytes cs chunks.0 chunked chunks.1) appends.1))),
                           refl,
@@ -107,7 +107,7 @@ module _ (S : Shape) (F : Formats) (shape : IsShape S) (format : IsFormat S F) w
                   refl,
                 ),
               ))
-              (fits_or_full S s.world.extents ForPut (page_counts (chunk_frames S F chunks.0))))
+              (fits_or_full S S.apart s.world.extents ForPut (page_counts (chunk_frames S F chunks.0))))
               (full_or_not s id))
         ])
   ]

@@ -1,11 +1,11 @@
 -- A frame is appended.
-use Rattle.std.proofs.Common.{Option, ◌≡◌, ◌≢◌, inl, inr, ⊎_elim, ℕ, suc, ◌+◌, ◌<◌, ◌≤◌, Bool, true, false, if◌then◌else◌, List, [], ◌∷◌, length, le_of_eq, le_trans, true≢false, refl, sym, ap, ◌∙◌, subst, arith}
+use Rattle.std.proofs.Common.{◌≡◌, ◌≢◌, inl, inr, ⊎_elim, ℕ, suc, ◌+◌, ◌<◌, ◌≤◌, Bool, true, false, if◌then◌else◌, List, [], ◌∷◌, length, le_of_eq, le_trans, true≢false, refl, sym, ap, ◌∙◌, subst, arith}
 use Rattle.std.proofs.lemmas.Bool.{cases_eq, cases_lt}
-use Rattle.cs_model.specs.Append.{Append, AppendAll, IsNeed, appended, stage_pages, with_open}
+use Rattle.cs_model.specs.Append.{AppendAllBy, AppendBy, IsNeed, appended, appended_by, stage_pages}
 use Rattle.cs_model.specs.Cut.{page_in}
 use Rattle.cs_model.specs.Device.{Inside, IsShape, Page, Shape}
 use Rattle.cs_model.specs.Element.{A_root, A_superblock, A_write, Element, Locator, Opening, Superblock, roots_of, superblocks_of, writes_of}
-use Rattle.cs_model.specs.Extents.{Purpose, open_after}
+use Rattle.cs_model.specs.Extents.{Purpose}
 use Rattle.cs_model.specs.Formats.{Formats, Stand}
 use Rattle.cs_model.specs.Lists.{with, ◌∈◌}
 use Rattle.cs_model.specs.Machine.{StagePage, StageSuperblock, World, everything, happens, superblock_now}
@@ -18,6 +18,11 @@ use Rattle.cs_model.proofs.RoundMoves.{keeps_marks}
 use Rattle.cs_model.proofs.Carries.{root_local}
 use Rattle.cs_model.proofs.Pages.{Paged, paged}
 
+pages_found : (S : Shape) (w : World) (e i : ℕ) (bs : List Page)
+    → (stage_pages S w e i bs).extents.found ≡ w.extents.found
+pages_found S w e i [] = refl
+pages_found S w e i (b ∷ bs) = pages_found S (happens S w (StagePage (S.address e i) b)) e (suc i) bs
+
 module _ (S : Shape) (F : Formats) (opening : Opening) (shape : IsShape S) (opened : ℕ → Page) where
   -- what a read gives: the newest write to the page
   abbrev pub newest : World → ℕ → Page
@@ -29,6 +34,7 @@ module _ (S : Shape) (F : Formats) (opening : Opening) (shape : IsShape S) (open
     pub roots : (roots_of v.elements) ≡ roots_of w.elements
     pub generation : v.extents.generation ≡ w.extents.generation
     pub swept : v.extents.swept ≡ w.extents.swept
+    pub found : v.extents.found ≡ w.extents.found
     pub root : v.root ≡ w.root
     pub pointer_there : v.extents.pointer e ≡ i + length bs
     pub grows : (d k : ℕ) → k < w.extents.pointer d → k < v.extents.pointer d
@@ -45,15 +51,15 @@ module _ (S : Shape) (F : Formats) (opening : Opening) (shape : IsShape S) (open
       (settled : (d : ℕ) → Settled S w d) (ex : e < S.extents)
       (fits : w.extents.pointer e + length bs ≤ S.pages) (needs : IsNeed S w (S.section e) need)
       (room : suc (w.superblocks (S.section e)) ≤ S.greatest_number)
-      (thawed : opening.frozen e (w.extents.generation e) ≡ false) where
+      (thawed : opening.frozen e (w.extents.generation e) ≡ false) (apart : Bool) (purpose : Purpose) where
     u : World
     u = stage_pages S w e (w.extents.pointer e) bs
 
     v : World
     v = happens S u (StageSuperblock (S.section e) need)
 
-    abbrev o : Option ℕ
-    o = open_after S e (w.extents.pointer e + length bs)
+    abbrev end : World
+    end = appended_by S apart purpose w e need bs
 
     g : Paged S F opening shape opened w u e (w.extents.pointer e) bs
     unfolding u
@@ -136,15 +142,16 @@ module _ (S : Shape) (F : Formats) (opening : Opening) (shape : IsShape S) (open
         new : Superblock
         new = superblock_now S u (S.section e) need
 
-    pub framed : Framed w (appended S w e need bs) e (w.extents.pointer e) bs
+    pub framed : Framed w (appended_by S apart purpose w e need bs) e (w.extents.pointer e) bs
     unfolding u v
     framed = record {
       safe = keeps_marks S (RootGives S F opening) opening.frozen opened
-          (root_local S F shape) v o u.extents.swept safe_after;
+          (root_local S F shape) v end.extents safe_after;
       settled = λ d. (let z = settled_after d in record { last = z.last; pages = z.pages; current = z.current });
       roots = g.roots;
       generation = g.generation;
       swept = g.swept;
+      found = pages_found S w e (w.extents.pointer e) bs;
       root = g.root;
       pointer_there = g.pointer_there;
       grows = longer;
@@ -164,7 +171,7 @@ module _ (S : Shape) (F : Formats) (opening : Opening) (shape : IsShape S) (open
           | inr not ↦ subst (λ (n : ℕ). k < n) (sym (g.pointer_other d not)) lt
         ]
 
-        superblock_back : (m : Element) → IsMember S (with_open S v o) m → IsMember S u m
+        superblock_back : (m : Element) → IsMember S end m → IsMember S u m
         superblock_back (A_write x) is = is
         superblock_back (A_superblock y) is = (
           ⊎_elim (λ (is_new : y ≡ _). absurd (
@@ -179,7 +186,7 @@ module _ (S : Shape) (F : Formats) (opening : Opening) (shape : IsShape S) (open
         )
         superblock_back (A_root r) is = is
 
-        superblock_member : (m : Element) → IsMember S u m → IsMember S (with_open S v o) m
+        superblock_member : (m : Element) → IsMember S u m → IsMember S end m
         superblock_member (A_write x) is = is
         superblock_member (A_superblock y) is = (inr is.0, is.1, is.2)
         superblock_member (A_root r) is = is
@@ -195,16 +202,16 @@ pub appended_superblocks : (S : Shape) (w : World) (e need : ℕ) (bs : List Pag
 appended_superblocks S w e need bs =
     ap (λ (f : ℕ → ℕ). with f (S.section e) (suc (f (S.section e)))) (pages_superblocks S w e (w.extents.pointer e) bs)
 
-pub append_up : (S : Shape) (w v : World) (purpose : Purpose) (bs : List Page) (l : Locator)
-    → Append S w purpose bs l v → (j : ℕ) → w.superblocks j ≤ v.superblocks j
-append_up S w v purpose bs l a j = subst (λ (f : ℕ → ℕ). w.superblocks j ≤ f j)
+pub append_up : (S : Shape) (apart : Bool) (w v : World) (purpose : Purpose) (bs : List Page) (l : Locator)
+    → AppendBy S apart w purpose bs l v → (j : ℕ) → w.superblocks j ≤ v.superblocks j
+append_up S apart w v purpose bs l a j = subst (λ (f : ℕ → ℕ). w.superblocks j ≤ f j)
     (sym (ap (λ (x : World). x.superblocks) a.after ∙ appended_superblocks S w a.extent a.need bs))
     (grows w.superblocks (S.section a.extent) (suc (w.superblocks (S.section a.extent))) j (omega arith))
 
-pub all_up : (S : Shape) (w v : World) (purpose : Purpose) (frames : List (List Page)) (ls : List Locator)
-    → AppendAll S w purpose frames ls v → (j : ℕ) → w.superblocks j ≤ v.superblocks j
-all_up S w v purpose [] [] is j = le_of_eq (ap (λ (x : World). x.superblocks j) (sym is))
-all_up S w v purpose [] (l ∷ ls) is j = absurd is
-all_up S w v purpose (bs ∷ frames) [] is j = absurd is
-all_up S w v purpose (bs ∷ frames) (l ∷ ls) is j = le_trans (append_up S w is.0 purpose bs l is.1 j)
-    (all_up S is.0 v purpose frames ls is.2 j)
+pub all_up : (S : Shape) (apart : Bool) (w v : World) (purpose : Purpose) (frames : List (List Page)) (ls : List Locator)
+    → AppendAllBy S apart w purpose frames ls v → (j : ℕ) → w.superblocks j ≤ v.superblocks j
+all_up S apart w v purpose [] [] is j = le_of_eq (ap (λ (x : World). x.superblocks j) (sym is))
+all_up S apart w v purpose [] (l ∷ ls) is j = absurd is
+all_up S apart w v purpose (bs ∷ frames) [] is j = absurd is
+all_up S apart w v purpose (bs ∷ frames) (l ∷ ls) is j = le_trans (append_up S apart w is.0 purpose bs l is.1 j)
+    (all_up S apart is.0 v purpose frames ls is.2 j)

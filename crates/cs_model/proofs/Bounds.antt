@@ -1,19 +1,21 @@
 -- All numbers keep to their bounds, so that what is staged can be spelled.
-use Rattle.std.proofs.Common.{◌≡◌, ◌≢◌, ◌⊎◌, inl, inr, ⊎_elim, ℕ, suc, ◌+◌, ◌<◌, ◌≤◌, true, false, List, [], ◌∷◌, ◌++◌, length, Option, Some, None, ◌==◌, eq-eqb, ne_eqb, true≢false, le_trans, le_of_eq, refl, sym, ap, ap₂, ◌∙◌, subst, arith}
+use Rattle.std.proofs.Common.{◌≡◌, ◌≢◌, ◌⊎◌, inl, inr, ⊎_elim, ℕ, suc, ◌+◌, ◌<◌, ◌≤◌, Bool, true, false, List, [], ◌∷◌, ◌++◌, length, drop, if◌then◌else◌, Option, Some, None, ◌==◌, eq-eqb, ne_eqb, true≢false, le_trans, le_of_eq, refl, sym, ap, ap₂, ◌∙◌, subst, arith}
 use Rattle.std.specs.Prelude.{is_some}
 use Rattle.std.proofs.lemmas.Bool.{cases_eq, cases_Bool}
 use Rattle.cs_model.proofs.Parts.{each}
 use Rattle.cs_model.proofs.Counting.{names_le, ascending_names, ascending_lookup, lookup_here, lookup_there}
 use Rattle.cs_model.proofs.Roots.{RootFits}
-use Rattle.cs_model.proofs.Gives.{front_passes, lookup_append}
+use Rattle.cs_model.proofs.Gives.{front_passes}
+use Rattle.cs_model.proofs.Merging.{in_drop, index_cut, most_fits}
 use Rattle.cs_model.specs.Device.{IsShape, Page, Shape}
 use Rattle.cs_model.specs.Disk.{written}
 use Rattle.cs_model.specs.Element.{Entry, Locator, Map, Run}
 use Rattle.cs_model.specs.Events.{newest_page}
 use Rattle.cs_model.specs.Formats.{Formats, places}
-use Rattle.cs_model.specs.Frames.{IsFormat}
+use Rattle.cs_model.specs.Frames.{IsFormat, most_staged}
 use Rattle.cs_model.specs.Index.{AllPass, Ascending, Gives, InBounds, InRange, IsRunList, Passes, entries_of, if_live, live, lookup, names}
 use Rattle.cs_model.specs.Lists.{◌∈◌}
+use Rattle.cs_model.specs.Merges.{IsRunOf, part}
 use Rattle.cs_model.specs.Refusal.{Refusal}
 use Rattle.cs_model.specs.Sound.{Bounded, Sound}
 use Rattle.cs_model.specs.State.{Command, State, index_now, map_now}
@@ -67,7 +69,7 @@ module _ (S : Shape) (F : Formats) (shape : IsShape S) (format : IsFormat S F) w
   places_in (run ∷ runs) all l (inl is) = subst (λ (k : Locator). InRange S k) (sym is) (all run (inl refl))
   places_in (run ∷ runs) all l (inr has) = places_in runs (λ r h. all r (inr h)) l has
 
-  run_list : (s : State) (v n k : ℕ) (index entries : List Entry) (img : ℕ → Page) (p : ℕ → ℕ) → Sound S F s
+  pub run_list : (s : State) (v n k : ℕ) (index entries : List Entry) (img : ℕ → Page) (p : ℕ → ℕ) → Sound S F s
       → InBounds S v n k index → entries ≢ [] → Ascending entries
       → ((id : ℕ) (ls : List Locator) → lookup id entries ≡ Some ls → lookup id index ≡ Some ls)
       → ((id : ℕ) → AllPass S F img p s.world.extents.generation (lookup id entries)) → IsRunList S entries
@@ -89,7 +91,7 @@ module _ (S : Shape) (F : Formats) (shape : IsShape S) (format : IsFormat S F) w
 
   -- the next root of these runs
   fits : (s : State) (runs : List Run) (img : ℕ → Page) (p : ℕ → ℕ) (m : Map) → Sound S F s
-      → Gives S F s.opening img p s.world.extents.generation [] runs m → length runs ≤ 4
+      → Gives S F s.opening img p s.world.extents.generation [] runs m → length runs ≤ most_staged S
       → InBounds S (suc s.world.root) (s.count + length s.commands) (length runs) (entries_of runs)
       → ((run : Run) → run ∈ runs → F.fits_run run.entries ≡ true) → RootFits S F s runs
   fits s runs img p m sound gives few bounds all = (
@@ -101,88 +103,66 @@ module _ (S : Shape) (F : Formats) (shape : IsShape S) (format : IsFormat S F) w
     bounds,
   )
 
-  pub stage_fits : (s : State) (l : Locator) (entries : List Entry) → Sound S F s → Bounded S F s
-      → suc s.world.root ≤ S.greatest_number → length s.runs < 4 → entries ≢ [] → Ascending entries
-      → ((id : ℕ) → lookup id entries ≡ lookup id s.table)
-      → Gives S F s.opening (newest_page s) s.world.extents.pointer s.world.extents.generation []
-      (record { place = l; entries = entries } ∷ s.runs) (map_now s)
-      → RootFits S F s (record { place = l; entries = entries } ∷ s.runs)
-  stage_fits s l entries sound b root few some order same gives =
-      fits s (record { place = l; entries = entries } ∷ s.runs) (newest_page s) s.world.extents.pointer
-      (map_now s) sound gives few
+  if_kept : (go : Bool) (o : Option (List Locator)) (ls : List Locator)
+      → (if go then if_live o else o) ≡ Some ls → o ≡ Some ls
+  if_kept true o ls is = if_live_some o ls is
+  if_kept false o ls is = is
+
+  -- the next root of runs in which each identifier has what it had, or where deletions go all that lives
+  kept_fits : (s : State) (runs : List Run) (q : ℕ → ℕ) (go : Bool) → Sound S F s → Bounded S F s
+      → suc s.world.root ≤ S.greatest_number → length runs ≤ most_staged S
+      → ((id : ℕ) → lookup id (entries_of runs) ≡ (if go then if_live (lookup id (index_now s)) else lookup id (index_now s)))
+      → Gives S F s.opening (newest_page s) q s.world.extents.generation [] runs (map_now s)
+      → ((run : Run) → run ∈ runs → F.fits_run run.entries ≡ true)
+      → RootFits S F s runs
+  kept_fits s runs q go sound b root few same gives all = fits s runs (newest_page s) q (map_now s) sound gives few
       (record {
         some_version = omega arith;
         version_fits = root;
         commands_fit = b.bounds.commands_fit;
-        few_runs = le_trans few shape.enough_runs;
-        named = le_trans (names_le (entries ++ entries_of s.runs) (s.table ++ entries_of s.runs)
-            (λ id is. ap (λ (o : Option (List Locator)). is_some o) (sym (both id)) ∙ is)) b.bounds.named;
-        chunks_fit = λ id. subst (λ (o : Option (List Locator)). length (live o) ≤ S.most_chunks) (sym (both id))
-            (b.bounds.chunks_fit id);
-      })
-      (each (λ (run : Run). F.fits_run run.entries ≡ true) _ _
-      (format.run_fits entries
-      (run_list s _ _ _ (s.table ++ entries_of s.runs) entries
-      (newest_page s) s.world.extents.pointer sound b.bounds some order
-      (λ id ls at. lookup_front id s.table (entries_of s.runs) ls (sym (same id) ∙ at))
-      (λ id. front_passes S F shape format _ _ _ id entries (entries_of s.runs) (gives.visible_pass id))))
-      b.runs_fit)
+        few_runs = le_trans few (most_fits S shape);
+        named = le_trans (names_le (entries_of runs) (index_now s)
+            (λ id is. (let at = some_named (lookup id (entries_of runs)) is in
+            ap (λ (o : Option (List Locator)). is_some o) (in_index id at.0 at.1)))) b.bounds.named;
+        chunks_fit = λ id. small id (lookup id (entries_of runs)) refl;
+      }) all
     where
-      both : (id : ℕ) → lookup id (entries ++ entries_of s.runs) ≡ lookup id (s.table ++ entries_of s.runs)
-      both id = lookup_append id entries s.table (entries_of s.runs) (same id)
+      in_index : (id : ℕ) (ls : List Locator) → lookup id (entries_of runs) ≡ Some ls → lookup id (index_now s) ≡ Some ls
+      in_index id ls at = if_kept go (lookup id (index_now s)) ls (sym (same id) ∙ at)
 
-  pub merged_fits : (s : State) (l : Locator) (entries : List Entry) (q : ℕ → ℕ) → Sound S F s → Bounded S F s
-      → suc s.world.root ≤ S.greatest_number → entries ≢ [] → Ascending entries
-      → ((id : ℕ) → lookup id entries ≡ if_live (lookup id (index_now s)))
-      → Gives S F s.opening (newest_page s) q s.world.extents.generation []
-      (record { place = l; entries = entries } ∷ []) (map_now s)
-      → RootFits S F s (record { place = l; entries = entries } ∷ [])
-  merged_fits s l entries q sound b root some order same gives =
-      fits s (record { place = l; entries = entries } ∷ []) (newest_page s) q (map_now s) sound gives
-      (omega arith)
-      (record {
-        some_version = omega arith;
-        version_fits = root;
-        commands_fit = b.bounds.commands_fit;
-        few_runs = le_trans (omega arith) shape.enough_runs;
-        named = le_trans (names_le (entries ++ []) (index_now s)
-            (λ id is. (let at = some_named (lookup id (entries ++ [])) is in
-            ap (λ (o : Option (List Locator)). is_some o) (in_index id at.0 (sym (whole id) ∙ at.1)))))
-            b.bounds.named;
-        chunks_fit = λ id. small id (lookup id (entries ++ [])) refl;
-      })
-      (each (λ (run : Run). F.fits_run run.entries ≡ true) _ []
-      (format.run_fits entries
-      (run_list s _ _ _ (index_now s) entries (newest_page s) q sound b.bounds some order in_index
-      (λ id. front_passes S F shape format _ _ _ id entries [] (gives.visible_pass id))))
-      (λ r none. absurd none))
-    where
-      append_none : (xs : List Entry) → xs ++ [] ≡ xs
-      append_none [] = refl
-      append_none (x ∷ xs) = ap (λ (ys : List Entry). x ∷ ys) (append_none xs)
-
-      whole : (id : ℕ) → lookup id (entries ++ []) ≡ lookup id entries
-      whole id = ap (lookup id) (append_none entries)
-
-      in_index : (id : ℕ) (ls : List Locator) → lookup id entries ≡ Some ls → lookup id (index_now s) ≡ Some ls
-      in_index id ls at = if_live_some (lookup id (index_now s)) ls (sym (same id) ∙ at)
-
-      small : (id : ℕ) (o : Option (List Locator)) → lookup id (entries ++ []) ≡ o → length (live o) ≤ S.most_chunks
+      small : (id : ℕ) (o : Option (List Locator)) → lookup id (entries_of runs) ≡ o → length (live o) ≤ S.most_chunks
       small id None at = omega arith
       small id (Some ls) at = subst (λ (o : Option (List Locator)). length (live o) ≤ S.most_chunks)
-          (in_index id ls (sym (whole id) ∙ at)) (b.bounds.chunks_fit id)
+          (in_index id ls at) (b.bounds.chunks_fit id)
 
-  pub empty_fits : (s : State) (q : ℕ → ℕ) → Sound S F s → Bounded S F s → suc s.world.root ≤ S.greatest_number
-      → Gives S F s.opening (newest_page s) q s.world.extents.generation [] [] (map_now s) → RootFits S F s []
-  empty_fits s q sound b root gives = fits s [] (newest_page s) q (map_now s) sound gives (omega arith)
-      (record {
-        some_version = omega arith;
-        version_fits = root;
-        commands_fit = b.bounds.commands_fit;
-        few_runs = omega arith;
-        named = omega arith;
-        chunks_fit = λ id. omega arith;
-      }) (λ r none. absurd none)
+  -- the next root of the runs that are left and one in front of them of the part that is merged
+  pub part_fits : (s : State) (k : ℕ) (go : Bool) (l : Locator) (entries : List Entry) (q : ℕ → ℕ) → Sound S F s
+      → Bounded S F s → suc s.world.root ≤ S.greatest_number → suc (length (drop k s.runs)) ≤ most_staged S
+      → entries ≢ [] → IsRunOf go (part s k) entries
+      → ((id : ℕ) → lookup id (entries ++ entries_of (drop k s.runs)) ≡ (if go then if_live (lookup id (index_now s))
+      else lookup id (index_now s)))
+      → Gives S F s.opening (newest_page s) q s.world.extents.generation []
+      (record { place = l; entries = entries } ∷ drop k s.runs) (map_now s)
+      → RootFits S F s (record { place = l; entries = entries } ∷ drop k s.runs)
+  part_fits s k go l entries q sound b root few some run same gives =
+      kept_fits s (record { place = l; entries = entries } ∷ drop k s.runs) q go sound b root few same gives
+      (each (λ (r : Run). F.fits_run r.entries ≡ true) _ _
+      (format.run_fits entries
+      (run_list s _ _ _ (index_now s) entries (newest_page s) q sound b.bounds some run.0
+      (λ id ls at. ap (lookup id) (index_cut s k)
+      ∙ lookup_front id (part s k) (entries_of (drop k s.runs)) ls
+      (if_kept go (lookup id (part s k)) ls (sym (run.1 id) ∙ at)))
+      (λ id. front_passes S F _ _ _ id entries (entries_of (drop k s.runs)) (gives.visible_pass id))))
+      (λ r has. b.runs_fit r (in_drop k s.runs r has)))
+
+  -- the next root of the runs that are left alone
+  pub rest_fits : (s : State) (k : ℕ) (go : Bool) (q : ℕ → ℕ) → Sound S F s → Bounded S F s
+      → suc s.world.root ≤ S.greatest_number → length (drop k s.runs) ≤ most_staged S
+      → ((id : ℕ) → lookup id (entries_of (drop k s.runs)) ≡ (if go then if_live (lookup id (index_now s))
+      else lookup id (index_now s)))
+      → Gives S F s.opening (newest_page s) q s.world.extents.generation [] (drop k s.runs) (map_now s)
+      → RootFits S F s (drop k s.runs)
+  rest_fits s k go q sound b root few same gives = kept_fits s (drop k s.runs) q go sound b root few same gives (λ r has. b.runs_fit r (in_drop k s.runs r has))
 
   pub bounded_same : (s t : State) → t.world.written ≤ S.greatest_number → t.world.root ≡ s.world.root
       → t.count ≡ s.count → t.commands ≡ s.commands → t.runs ≡ s.runs → t.table ≡ s.table → Bounded S F s

@@ -76,7 +76,7 @@ module _ (S : Shape) (F : Formats) (shape : IsShape S) (format : IsFormat S F) w
       let large = not_first TooLarge a.1 in
       let full = not_first IndexFull large.1 in
       let worn = not_first WornOut (not_first Full full.1).1 in
-      let p = put_in S F shape format s d.2 d.0 d.1 sound d.4
+      let p = put_in S F shape format S.apart (λ on. on) s d.2 d.0 d.1 sound d.4
       (in_room s t d.2.world (Put id bytes) (Accepted n) worn.0 d
       (ap (λ (x : State). x.world.superblocks) (sym d.6))) in
       let mid : Bounded S F d.2 = bounded_same S F shape format s d.2

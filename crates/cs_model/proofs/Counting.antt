@@ -7,7 +7,8 @@ use Rattle.cs_model.specs.Events.{AllFullButLast}
 use Rattle.cs_model.specs.Index.{Ascending, joined, lookup, names}
 use Rattle.cs_model.specs.Lists.{◌∈◌}
 
-abbrev without : ℕ → List Entry → List Entry
+-- the entries but for those of an identifier
+abbrev pub without : ℕ → List Entry → List Entry
 without id [] = []
 without id (x ∷ xs) = if x.id == id then without id xs else x ∷ without id xs
 
@@ -17,13 +18,13 @@ lookup_here x xs id is = let test : (x.id == id) ≡ true = eq-eqb x.id id is in
 pub lookup_there : (x : Entry) (xs : List Entry) (id : ℕ) → x.id ≢ id → lookup id (x ∷ xs) ≡ lookup id xs
 lookup_there x xs id not = let test : (x.id == id) ≡ false = ne_eqb x.id id not in rw test
 
-without_here : (x : Entry) (xs : List Entry) (id : ℕ) → x.id ≡ id → without id (x ∷ xs) ≡ without id xs
+pub without_here : (x : Entry) (xs : List Entry) (id : ℕ) → x.id ≡ id → without id (x ∷ xs) ≡ without id xs
 without_here x xs id is = let test : (x.id == id) ≡ true = eq-eqb x.id id is in rw test
 
-without_there : (x : Entry) (xs : List Entry) (id : ℕ) → x.id ≢ id → without id (x ∷ xs) ≡ x ∷ without id xs
+pub without_there : (x : Entry) (xs : List Entry) (id : ℕ) → x.id ≢ id → without id (x ∷ xs) ≡ x ∷ without id xs
 without_there x xs id not = let test : (x.id == id) ≡ false = ne_eqb x.id id not in rw test
 
-without_other : (id k : ℕ) (xs : List Entry) → k ≢ id → lookup k (without id xs) ≡ lookup k xs
+pub without_other : (id k : ℕ) (xs : List Entry) → k ≢ id → lookup k (without id xs) ≡ lookup k xs
 without_other id k [] not = refl
 without_other id k (x ∷ xs) not = elim (cases_eq x.id id) [
   | inl is ↦ ap (lookup k) (without_here x xs id is) ∙ without_other id k xs not

@@ -1,11 +1,11 @@
 -- A frame that is appended keeps a state sound.
-use Rattle.std.proofs.Common.{◌≡◌, ◌≢◌, inl, ⊎_elim, ℕ, suc, ◌+◌, ◌<◌, ◌≤◌, Bool, true, false, List, [], ◌∷◌, length, Some, None, if◌then◌else◌, ◌==◌, le_of_eq, le_trans, true≢false, refl, sym, ap, ◌∙◌, subst, subst₂, arith}
-use Rattle.std.proofs.lemmas.Bool.{false_from_ne_true}
-use Rattle.cs_model.specs.Append.{Append, AppendAll, AppendsChunks, AppendsFrame, IsNeed, appended, chunk_frames}
+use Rattle.std.proofs.Common.{◌≡◌, ◌≢◌, inl, ⊎_elim, ℕ, suc, ◌+◌, ◌<◌, ◌≤◌, Bool, true, false, List, [], ◌∷◌, length, Some, le_of_eq, le_trans, true≢false, refl, sym, ap, ◌∙◌, subst, subst₂, arith}
+use Rattle.cs_model.specs.Apart.{any_below}
+use Rattle.cs_model.specs.Append.{AppendAllBy, AppendBy, AppendsChunksBy, AppendsFrame, AppendsFrameBy, IsNeed, appended_by, chunk_frames}
 use Rattle.cs_model.specs.Device.{Inside, IsShape, Page, Shape}
 use Rattle.cs_model.specs.Element.{Locator, Root}
 use Rattle.cs_model.specs.Events.{newest_page}
-use Rattle.cs_model.specs.Extents.{ForPut, Placed, Purpose}
+use Rattle.cs_model.specs.Extents.{ForPut, Goes, Purpose}
 use Rattle.cs_model.specs.Formats.{ChunkFrame, Formats, FrameKind}
 use Rattle.cs_model.specs.Frames.{IsFormat}
 use Rattle.cs_model.specs.Index.{Chunks, Reads}
@@ -16,6 +16,7 @@ use Rattle.cs_model.specs.State.{State, map_now}
 use Rattle.cs_model.proofs.Parts.{with_same}
 use Rattle.cs_model.proofs.Carries.{carry, carry_reads}
 use Rattle.cs_model.proofs.Needs.{appended_numbers}
+use Rattle.cs_model.proofs.Places.{goes_inside, opens, unfrozen}
 use Rattle.cs_model.proofs.Appends.{Framed, framed, appended_superblocks, all_up}
 
 module _ (S : Shape) (F : Formats) (shape : IsShape S) (format : IsFormat S F) where
@@ -38,44 +39,31 @@ module _ (S : Shape) (F : Formats) (shape : IsShape S) (format : IsFormat S F) w
     pub still : (d k : ℕ) → s.opening.frozen d (s.world.extents.generation d) ≡ true → 0 < s.world.extents.pointer d
         → Inside S d k → newest_page t (S.address d k) ≡ newest_page s (S.address d k)
     pub reads : Reads S F t.opening (newest_page t) t.world.extents.pointer t.world.extents.generation l bs
-    -- it isn't put where a sweep goes on
-    pub apart : (e : ℕ) → s.world.extents.swept e ≡ true → l.extent ≢ e
 
-  module _ (s : State) (purpose : Purpose) (kind : FrameKind) (payload : List ℕ) (e need : ℕ) (sound : Sound S F s)
-      (placed : Placed S s.world.extents purpose (length (F.frame kind payload)) e)
+  module _ (apart : Bool) (by : apart ≡ true → S.apart ≡ true) (s : State) (purpose : Purpose) (kind : FrameKind)
+      (payload : List ℕ) (e need : ℕ) (sound : Sound S F s)
+      (placed : Goes S apart s.world.extents purpose (length (F.frame kind payload)) e)
       (needs : IsNeed S s.world (S.section e) need)
       (room : suc (s.world.superblocks (S.section e)) ≤ S.greatest_number) where
     bs : List Page
     bs = F.frame kind payload
 
     fits : s.world.extents.pointer e + length (F.frame kind payload) ≤ S.pages
-    fits = ⊎_elim (λ open_one. open_one.2) (λ empty. let none : s.world.extents.pointer e ≡ 0 = empty.1.1 in
-        let k : length (F.frame kind payload) ≤ S.pages = empty.2 in omega arith) placed
+    fits = (goes_inside S apart s.world.extents purpose (length (F.frame kind payload)) e placed).1
 
     exists : e < S.extents
-    exists = ⊎_elim (λ open_one. open_one.1) (λ empty. empty.1.0) placed
+    exists = (goes_inside S apart s.world.extents purpose (length (F.frame kind payload)) e placed).0
 
     thawed : s.opening.frozen e (s.world.extents.generation e) ≡ false
-    thawed = false_from_ne_true (s.opening.frozen e (s.world.extents.generation e)) (λ fz. ⊎_elim
-        (λ open_one. (sound.frozen e fz).0 open_one.0)
-        (λ empty. let none : s.world.extents.pointer e ≡ 0 = empty.1.1 in
-        let some : 0 < s.world.extents.pointer e = (sound.frozen e fz).1 in omega arith) placed)
+    thawed = unfrozen S F apart by s purpose (length (F.frame kind payload)) e sound placed
 
-    fr : Framed S F s.opening shape s.opened s.world (appended S s.world e need (F.frame kind payload)) e
+    fr : Framed S F s.opening shape s.opened s.world (appended_by S apart purpose s.world e need (F.frame kind payload)) e
         (s.world.extents.pointer e) (F.frame kind payload)
     fr = framed S F s.opening shape s.opened s.world e need
-        (F.frame kind payload) sound.safe sound.settled exists fits needs room thawed
+        (F.frame kind payload) sound.safe sound.settled exists fits needs room thawed apart purpose
 
     abbrev next : State
-    next = record s { world = appended S s.world e need (F.frame kind payload) }
-
-    not_swept : (d : ℕ) → s.world.extents.swept d ≡ true → e ≢ d
-    not_swept d is same = ⊎_elim
-        (λ open_one. (sound.swept d is).0 (open_one.0 ∙ ap (λ (x : ℕ). Some x) same))
-        (λ empty. let none : s.world.extents.pointer e ≡ 0 = empty.1.1 in
-        let some : 0 < s.world.extents.pointer d = (sound.swept d is).1 in
-        let same_pointer : s.world.extents.pointer e
-        ≡ s.world.extents.pointer d = ap s.world.extents.pointer same in omega arith) placed
+    next = record s { world = appended_by S apart purpose s.world e need (F.frame kind payload) }
 
     frame_added : Added s next
         (record { extent = e; page = s.world.extents.pointer e; generation = s.world.extents.generation e })
@@ -96,12 +84,22 @@ module _ (S : Shape) (F : Formats) (shape : IsShape S) (format : IsFormat S F) w
         issued = λ m has. fr.member m (sound.issued m has);
         swept = λ d is. (let was : s.world.extents.swept d ≡ true = ap (λ (f : ℕ → Bool). f d) (sym fr.swept)
             ∙ is in (not_open d was, zero_below d was, (sound.swept d was).2));
-        frozen = λ d is. (let was : s.opening.frozen d (s.world.extents.generation d) ≡ true = ap
-            (λ (f : ℕ → ℕ). s.opening.frozen d (f d)) (sym fr.generation) ∙ is in (
-              not_some (s.world.extents.pointer e + length (F.frame kind payload) == S.pages) d (not_frozen d was),
-              fr.grows d 0 (sound.frozen d was).1,
-            ));
+        frozen = λ d is. (let was = was_frozen d is in (frozen_closed d was, fr.grows d 0 (sound.frozen d was).1));
         damaged = sound.damaged;
+        apart = λ on. record {
+          found = λ d is. subst (λ (f : ℕ → ℕ). 0 < f d) (sym fr.found) ((sound.apart on).found d (was_frozen d is));
+          one_sweep = λ d c is also. (sound.apart on).one_sweep d c (was_swept d is) (was_swept c also);
+          copied = λ some c has.
+              (let old = (sound.apart on).copied (ap (λ (f : ℕ → Bool). any_below f S.extents) (sym fr.swept) ∙ some) c has in (
+                (
+                  old.0.0,
+                  carry_reads S F s.opening _ _ _ _ _ _ fr.carries fr.still c.from (F.frame ChunkFrame old.0.0) old.0.1,
+                  carry_reads S F s.opening _ _ _ _ _ _ fr.carries fr.still c.to (F.frame ChunkFrame old.0.0) old.0.2,
+                  old.0.3,
+                ),
+                ap (λ (f : ℕ → Bool). f c.from.extent) fr.swept ∙ old.1,
+              ));
+        };
       };
       opened = refl;
       opening = refl;
@@ -131,20 +129,33 @@ module _ (S : Shape) (F : Formats) (shape : IsShape S) (format : IsFormat S F) w
         inside = fits;
         stand = fr.stand;
       };
-      apart = not_swept;
     }
       where
-        not_some : (b : Bool) (d : ℕ) → e ≢ d → (if b then None else Some e) ≢ Some d
-        not_some true d not = λ same. let is : None ≡ Some d = same in cc
-        not_some false d not = λ same. not (let is : Some e ≡ Some d = same in cc)
+        was_swept : (d : ℕ) → next.world.extents.swept d ≡ true → s.world.extents.swept d ≡ true
+        was_swept d is = ap (λ (f : ℕ → Bool). f d) (sym fr.swept) ∙ is
 
-        not_frozen : (d : ℕ) → s.opening.frozen d (s.world.extents.generation d) ≡ true → e ≢ d
+        was_frozen : (d : ℕ) → s.opening.frozen d (next.world.extents.generation d) ≡ true
+            → s.opening.frozen d (s.world.extents.generation d) ≡ true
+        was_frozen d is = ap (λ (f : ℕ → ℕ). s.opening.frozen d (f d)) (sym fr.generation) ∙ is
+
+        not_frozen : (d : ℕ) → s.opening.frozen d (s.world.extents.generation d) ≡ true → d ≢ e
         not_frozen d is same = true≢false
-            (sym is ∙ ap (λ (n : ℕ). s.opening.frozen n (s.world.extents.generation n)) (sym same) ∙ thawed)
+            (sym is ∙ ap (λ (n : ℕ). s.opening.frozen n (s.world.extents.generation n)) same ∙ thawed)
+
+        -- an extent that is open then was so before, or is the one that is given
+        frozen_closed : (d : ℕ) → s.opening.frozen d (s.world.extents.generation d) ≡ true
+            → next.world.extents.open_extent ≢ Some d
+        frozen_closed d is now_open = ⊎_elim (λ (was : s.world.extents.open_extent ≡ Some d). (sound.frozen d is).0 was)
+            (λ given. not_frozen d is given.0)
+            (opens S apart s.world.extents purpose (length (F.frame kind payload)) e d placed now_open)
 
         not_open : (d : ℕ) → s.world.extents.swept d ≡ true → next.world.extents.open_extent ≢ Some d
-        not_open d is = not_some (s.world.extents.pointer e + length (F.frame kind payload) == S.pages) d
-            (not_swept d is)
+        not_open d is now_open = ⊎_elim (λ (was : s.world.extents.open_extent ≡ Some d). (sound.swept d is).0 was)
+            (λ given. ⊎_elim
+            (λ (not : s.world.extents.swept d ≡ false). true≢false (sym is ∙ not))
+            (λ (none : s.world.extents.pointer d ≡ 0).
+            let some : 0 < s.world.extents.pointer d = (sound.swept d is).1 in omega arith) given.1)
+            (opens S apart s.world.extents purpose (length (F.frame kind payload)) e d placed now_open)
 
         zero_below : (d : ℕ) → s.world.extents.swept d ≡ true → 0 < next.world.extents.pointer d
         zero_below d is = fr.grows d 0 (sound.swept d is).1
@@ -153,9 +164,10 @@ module _ (S : Shape) (F : Formats) (shape : IsShape S) (format : IsFormat S F) w
   abbrev pub InRoom : World → Type 0
   InRoom v = (j : ℕ) → j < S.sections → v.superblocks j ≤ S.greatest_number
 
-  appended_room : (w v : World) (purpose : Purpose) (bs : List Page) (l : Locator) (a : Append S w purpose bs l v)
+  appended_room : (apart : Bool) (w v : World) (purpose : Purpose) (bs : List Page) (l : Locator)
+      (a : AppendBy S apart w purpose bs l v)
       → InRoom v → suc (w.superblocks (S.section a.extent)) ≤ S.greatest_number
-  appended_room w v purpose bs l a room =
+  appended_room apart w v purpose bs l a room =
       le_trans (le_of_eq (sym
       (with_same w.superblocks (S.section a.extent) (suc (w.superblocks (S.section a.extent)))
       (S.section a.extent) refl)))
@@ -163,19 +175,33 @@ module _ (S : Shape) (F : Formats) (shape : IsShape S) (format : IsFormat S F) w
       (ap (λ (x : World). x.superblocks) a.after ∙ appended_superblocks S w a.extent a.need bs)
       (room (S.section a.extent) (shape.section a.extent)))
 
-  added_world : (s : State) (v : World) (purpose : Purpose) (kind : FrameKind) (payload : List ℕ) (l : Locator)
-      → Sound S F s → Append S s.world purpose (F.frame kind payload) l v → InRoom v
+  added_world : (apart : Bool) → (apart ≡ true → S.apart ≡ true) → (s : State) (v : World) (purpose : Purpose)
+      (kind : FrameKind) (payload : List ℕ) (l : Locator)
+      → Sound S F s → AppendBy S apart s.world purpose (F.frame kind payload) l v → InRoom v
       → Added s (record s { world = v }) l (F.frame kind payload)
-  added_world s v purpose kind payload l sound a room =
+  added_world apart by s v purpose kind payload l sound a room =
       subst₂ (λ (x : World) (y : Locator). Added s (record s { world = x }) y (F.frame kind payload)) (sym a.after)
       (sym a.at)
-      (frame_added s purpose kind payload a.extent a.need sound a.placed a.needs
-      (appended_room s.world v purpose (F.frame kind payload) l a room))
+      (frame_added apart by s purpose kind payload a.extent a.need sound a.placed a.needs
+      (appended_room apart s.world v purpose (F.frame kind payload) l a room))
 
-  pub added : (s t : State) (purpose : Purpose) (kind : FrameKind) (payload : List ℕ) (l : Locator) → Sound S F s
-      → AppendsFrame S F s purpose kind payload l t → InRoom t.world → Added s t l (F.frame kind payload)
-  added s t purpose kind payload l sound a room = subst (λ (x : State). Added s x l (F.frame kind payload)) (sym a.2)
-      (added_world s a.0 purpose kind payload l sound a.1 (subst (λ (x : State). InRoom x.world) a.2 room))
+  pub added : (apart : Bool) → (apart ≡ true → S.apart ≡ true) → (s t : State) (purpose : Purpose) (kind : FrameKind)
+      (payload : List ℕ) (l : Locator) → Sound S F s
+      → AppendsFrameBy S F apart s purpose kind payload l t → InRoom t.world → Added s t l (F.frame kind payload)
+  added apart by s t purpose kind payload l sound a room = subst (λ (x : State). Added s x l (F.frame kind payload))
+      (sym a.2) (added_world apart by s a.0 purpose kind payload l sound a.1
+      (subst (λ (x : State). InRoom x.world) a.2 room))
+
+  -- without the rule that keeps chunks and runs apart: a frame isn't put where a sweep goes on
+  pub away : (s t : State) (purpose : Purpose) (kind : FrameKind) (payload : List ℕ) (l : Locator) → Sound S F s
+      → AppendsFrame S F s purpose kind payload l t → (e : ℕ) → s.world.extents.swept e ≡ true → l.extent ≢ e
+  away s t purpose kind payload l sound a e is same =
+      let at : a.1.extent ≡ e = ap (λ (x : Locator). x.extent) (sym a.1.at) ∙ same in ⊎_elim
+      (λ open_one. (sound.swept e is).0 (open_one.0 ∙ ap (λ (x : ℕ). Some x) at))
+      (λ empty. let none : s.world.extents.pointer a.1.extent ≡ 0 = empty.1.1 in
+      let some : 0 < s.world.extents.pointer e = (sound.swept e is).1 in
+      let same_pointer : s.world.extents.pointer a.1.extent ≡ s.world.extents.pointer e = ap s.world.extents.pointer at in
+      omega arith) a.1.placed
 
   -- the chunks of a put
   pub record PutIn (s t : State) (ls : List Locator) (cs : List (List ℕ)) : Type 0 where
@@ -194,9 +220,10 @@ module _ (S : Shape) (F : Formats) (shape : IsShape S) (format : IsFormat S F) w
     pub root : t.world.root ≡ s.world.root
     pub chunks : Chunks S F t.opening (newest_page t) t.world.extents.pointer t.world.extents.generation ls cs
 
-  put_world : (s : State) (v : World) (cs : List (List ℕ)) (ls : List Locator) → Sound S F s
-      → AppendAll S s.world ForPut (chunk_frames S F cs) ls v → InRoom v → PutIn s (record s { world = v }) ls cs
-  put_world s v [] [] sound is room = subst (λ (x : World). PutIn s (record s { world = x }) [] []) (sym is) (record {
+  put_world : (apart : Bool) → (apart ≡ true → S.apart ≡ true) → (s : State) (v : World) (cs : List (List ℕ))
+      (ls : List Locator) → Sound S F s
+      → AppendAllBy S apart s.world ForPut (chunk_frames S F cs) ls v → InRoom v → PutIn s (record s { world = v }) ls cs
+  put_world apart by s v [] [] sound is room = subst (λ (x : World). PutIn s (record s { world = x }) [] []) (sym is) (record {
     sound = sound;
     opened = refl;
     table = refl;
@@ -209,12 +236,12 @@ module _ (S : Shape) (F : Formats) (shape : IsShape S) (format : IsFormat S F) w
     root = refl;
     chunks = tt;
   })
-  put_world s v [] (l ∷ ls) sound is room = absurd is
-  put_world s v (c ∷ cs) [] sound is room = absurd is
-  put_world s v (c ∷ cs) (l ∷ ls) sound is room =
-      let a = added_world s is.0 ForPut ChunkFrame c l sound is.1
-      (λ j lt. le_trans (all_up S is.0 v ForPut (chunk_frames S F cs) ls is.2 j) (room j lt)) in
-      let rest = put_world (record s { world = is.0 }) v cs ls a.sound is.2 room in
+  put_world apart by s v [] (l ∷ ls) sound is room = absurd is
+  put_world apart by s v (c ∷ cs) [] sound is room = absurd is
+  put_world apart by s v (c ∷ cs) (l ∷ ls) sound is room =
+      let a = added_world apart by s is.0 ForPut ChunkFrame c l sound is.1
+      (λ j lt. le_trans (all_up S apart is.0 v ForPut (chunk_frames S F cs) ls is.2 j) (room j lt)) in
+      let rest = put_world apart by (record s { world = is.0 }) v cs ls a.sound is.2 room in
       record {
         sound = rest.sound;
         opened = rest.opened ∙ a.opened;
@@ -237,7 +264,7 @@ module _ (S : Shape) (F : Formats) (shape : IsShape S) (format : IsFormat S F) w
         );
       }
 
-  pub put_in : (s t : State) (cs : List (List ℕ)) (ls : List Locator) → Sound S F s → AppendsChunks S F s cs ls t
-      → InRoom t.world → PutIn s t ls cs
-  put_in s t cs ls sound a room = subst (λ (x : State). PutIn s x ls cs) (sym a.2)
-      (put_world s a.0 cs ls sound a.1 (subst (λ (x : State). InRoom x.world) a.2 room))
+  pub put_in : (apart : Bool) → (apart ≡ true → S.apart ≡ true) → (s t : State) (cs : List (List ℕ)) (ls : List Locator)
+      → Sound S F s → AppendsChunksBy S F apart s cs ls t → InRoom t.world → PutIn s t ls cs
+  put_in apart by s t cs ls sound a room = subst (λ (x : State). PutIn s x ls cs) (sym a.2)
+      (put_world apart by s a.0 cs ls sound a.1 (subst (λ (x : State). InRoom x.world) a.2 room))

@@ -1,6 +1,7 @@
 -- An extent that is frozen is as it was at open, and so is the damage in it.
-use Rattle.std.proofs.Common.{◌≡◌, ◌≢◌, inl, inr, ⊎_elim, ℕ, zero, suc, ◌+◌, ◌-◌, ◌<◌, ◌≤◌, ◌==◌, true, false, List, [], ◌∷◌, Some, ne_eqb, refl, sym, ap, ap₂, ◌∙◌, arith}
-use Rattle.cs_model.specs.Append.{AppendsFrame}
+use Rattle.std.proofs.Common.{◌≡◌, ◌≢◌, inl, inr, ℕ, zero, suc, ◌+◌, ◌-◌, ◌<◌, ◌≤◌, ◌==◌, Bool, true, false, true≢false, length, List, [], ◌∷◌, Some, ne_eqb, refl, sym, ap, ap₂, ◌∙◌, arith}
+use Rattle.cs_model.proofs.Places.{unfrozen}
+use Rattle.cs_model.specs.Append.{AppendsFrameBy}
 use Rattle.cs_model.specs.Cut.{Cut, page_in}
 use Rattle.cs_model.specs.Device.{Inside, IsShape, Page, Shape}
 use Rattle.cs_model.specs.Element.{Locator, Write, writes_of}
@@ -46,19 +47,16 @@ module _ (S : Shape) (F : Formats) (shape : IsShape S) (s : State) (sound : Soun
       let below : l.page < S.pages = pass.inside.1 in
       ap (F.fault ChunkFrame) (pages_same l.extent l.page (S.pages - l.page) fz pass.inside.0 (omega arith)) ∙ known.1
 
-  pub new_undamaged : (t : State) (purpose : Purpose) (kind : FrameKind) (payload : List ℕ) (l : Locator)
-      (f : Refusal) → AppendsFrame S F s purpose kind payload l t → s.opening.damage l ≢ Some f
-  new_undamaged t purpose kind payload l f a is =
-      let e = a.1.extent in
-      let at : Locator = record {
-        extent = e;
-        page = s.world.extents.pointer e;
-        generation = s.world.extents.generation e;
-      } in
-      let known = sound.damaged at f (ap s.opening.damage (sym a.1.at) ∙ is) in
-      let there = sound.frozen e known.0 in
-      ⊎_elim
-      (λ open_one. there.0 open_one.0)
-      (λ empty. let none : s.world.extents.pointer e ≡ 0 = empty.1.1 in
-      let some : 0 < s.world.extents.pointer e = there.1 in omega arith)
-      a.1.placed
+-- no chunk that is appended was damaged at open
+pub new_undamaged_by : (S : Shape) (F : Formats) (s : State) → Sound S F s → (apart : Bool) → (apart ≡ true → S.apart ≡ true) → (t : State) (purpose : Purpose) (kind : FrameKind)
+    (payload : List ℕ) (l : Locator) (f : Refusal) → AppendsFrameBy S F apart s purpose kind payload l t
+    → s.opening.damage l ≢ Some f
+new_undamaged_by S F s sound apart by t purpose kind payload l f a is =
+    let e = a.1.extent in
+    let at : Locator = record {
+      extent = e;
+      page = s.world.extents.pointer e;
+      generation = s.world.extents.generation e;
+    } in
+    let known = sound.damaged at f (ap s.opening.damage (sym a.1.at) ∙ is) in
+    true≢false (sym known.0 ∙ unfrozen S F apart by s purpose (length (F.frame kind payload)) e sound a.1.placed)

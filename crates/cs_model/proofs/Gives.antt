@@ -1,5 +1,5 @@
 -- What an index gives, when its table, its runs or the pointers change.
-use Rattle.std.proofs.Common.{◌≡◌, ◌≢◌, inl, inr, ⊎_elim, ℕ, ◌+◌, ◌<◌, ◌≤◌, Bool, true, false, List, [], ◌∷◌, ◌++◌, length, Option, Some, None, if◌then◌else◌, ◌==◌, eq-eqb, ne_eqb, append-nil, refl, sym, ap, ◌∙◌, subst}
+use Rattle.std.proofs.Common.{◌≡◌, ◌≢◌, inl, inr, ⊎_elim, ℕ, ◌+◌, ◌<◌, ◌≤◌, Bool, true, false, List, [], ◌∷◌, ◌++◌, length, Option, Some, None, if◌then◌else◌, ◌==◌, eq-eqb, ne_eqb, refl, sym, ap, ◌∙◌, subst, true≢false}
 use Rattle.std.proofs.lemmas.Bool.{cases_eq}
 use Rattle.cs_model.specs.Device.{IsShape, Page, Shape}
 use Rattle.cs_model.specs.Element.{Content, Entry, Locator, Map, Opening, Run}
@@ -7,7 +7,6 @@ use Rattle.cs_model.specs.Formats.{ChunkFrame, Formats, RunFrame}
 use Rattle.cs_model.specs.Frames.{IsFormat}
 use Rattle.cs_model.specs.Index.{AllPass, Chunks, Gives, Holds, Passes, Reads, ReadsAs, Value, entries_of, if_live, live, lookup}
 use Rattle.cs_model.specs.Lists.{◌∈◌}
-use Rattle.cs_model.proofs.Parts.{each}
 
 -- the value of an identifier in two lists
 pub lookup_append : (id : ℕ) (xs ys zs : List Entry) → lookup id xs ≡ lookup id ys
@@ -72,30 +71,9 @@ module _ (S : Shape) (F : Formats) (shape : IsShape S) (format : IsFormat S F) w
       ];
     }
 
-    -- the table becomes a run
-    pub gives_run : (table : List Entry) (runs : List Run) (m : Map) (l : Locator) (entries : List Entry)
-        → Gives S F opening img p g table runs m
-        → ((id : ℕ) → lookup id entries ≡ lookup id table)
-        → Reads S F opening img p g l (F.frame RunFrame (F.run entries))
-        → Gives S F opening img p g [] (record { place = l; entries = entries } ∷ runs) m
-    gives_run table runs m l entries gives same reads = record {
-      runs_read = each (λ (r : Run). Reads S F opening img p g r.place (F.frame RunFrame (F.run r.entries))) _ _
-          reads gives.runs_read;
-      table_passes = λ id. tt;
-      visible_pass = λ id. subst (λ (o : Option (List Locator)). AllPass S F img p g o)
-          (sym (lookup_append id entries table (entries_of runs) (same id))) (gives.visible_pass id);
-      runs_pass = λ stand. each (λ (r : Run). (id : ℕ) → AllPass S F img p g (lookup id r.entries)) _ _
-          (λ id. subst (λ (o : Option (List Locator)). AllPass S F img p g o) (sym (same id))
-          (gives.table_passes id)) (gives.runs_pass stand);
-      holds = λ id k has. gives.holds id k
-          (subst (λ (o : Option (List Locator)). k ∈ live o)
-          (lookup_append id entries table (entries_of runs) (same id)) has);
-      values = λ id. subst (λ (o : Option (List Locator)). Value S F opening img p g o (m id))
-          (sym (lookup_append id entries table (entries_of runs) (same id))) (gives.values id);
-    }
-
+module _ (S : Shape) (F : Formats) where
   -- under other pointers that agree where the locators are
-  reads_under : (opening : Opening) (img : ℕ → Page) (p q g : ℕ → ℕ) (l : Locator) (bs : List Page)
+  pub reads_under : (opening : Opening) (img : ℕ → Page) (p q g : ℕ → ℕ) (l : Locator) (bs : List Page)
       → q l.extent ≡ p l.extent → Reads S F opening img p g l bs → Reads S F opening img q g l bs
   reads_under opening img p q g l bs same r = record {
     passes = record {
@@ -167,53 +145,84 @@ module _ (S : Shape) (F : Formats) (shape : IsShape S) (format : IsFormat S F) w
   front_passes img p g id (x ∷ xs) ys all = pass_if img p g (x.id == id) x.locators _ _
       (λ rest. front_passes img p g id xs ys rest) all
 
-  none_value : (opening : Opening) → (img : ℕ → Page) (p g : ℕ → ℕ) (o : Option (List Locator)) (v : Option Content)
-      → live o ≡ [] → Value S F opening img p g o v → v ≡ None
-  none_value opening img p g None v none value = value
-  none_value opening img p g (Some []) v none value = value
-  none_value opening img p g (Some (l ∷ ls)) v none value = absurd (let e : l ∷ ls ≡ [] = none in cc)
+  value_under : (opening : Opening)
+      → (img : ℕ → Page) (p q g : ℕ → ℕ) (o : Option (List Locator)) (v : Option Content)
+      → ((l : Locator) → l ∈ live o → q l.extent ≡ p l.extent) → Value S F opening img p g o v
+      → Value S F opening img q g o v
+  value_under opening img p q g None v same value = value
+  value_under opening img p q g (Some []) v same value = value
+  value_under opening img p q g (Some (l ∷ ls)) v same value =
+      (value.0, reading_under opening img p q g (l ∷ ls) value.0 same value.1, value.2)
 
-  -- one run of all that is live
-  pub gives_merged : {opening : Opening}
-      → (img : ℕ → Page) (p q g : ℕ → ℕ) (table : List Entry) (runs : List Run) (m : Map) (l : Locator)
-      (entries : List Entry) → Gives S F opening img p g table runs m
-      → ((id : ℕ) → lookup id entries ≡ if_live (lookup id (table ++ entries_of runs)))
+  pub pass_under : (img : ℕ → Page) (p q g : ℕ → ℕ) (o : Option (List Locator))
+      → ((l : Locator) → l ∈ live o → q l.extent ≡ p l.extent) → AllPass S F img p g o → AllPass S F img q g o
+  pass_under img p q g None same pass = tt
+  pass_under img p q g (Some ls) same pass = λ k has.
+      (let old = pass k has in
+      record {
+        generation = old.generation;
+        below = subst (λ (n : ℕ). k.page < n) (sym (same k has)) old.below;
+        inside = old.inside;
+      })
+
+  -- what a merge keeps of what an identifier has
+  in_kept : (go : Bool) (o : Option (List Locator)) (l : Locator) → l ∈ live (if go then if_live o else o) → l ∈ live o
+  in_kept true o l has = in_live o l has
+  in_kept false o l has = has
+
+  pub kept_pass : (go : Bool) (img : ℕ → Page) (p q g : ℕ → ℕ) (o : Option (List Locator))
+      → ((l : Locator) → l ∈ live o → q l.extent ≡ p l.extent) → AllPass S F img p g o
+      → AllPass S F img q g (if go then if_live o else o)
+  kept_pass true img p q g o same pass = live_pass img p q g o same pass
+  kept_pass false img p q g o same pass = pass_under img p q g o same pass
+
+  kept_value : (go : Bool) (opening : Opening)
+      → (img : ℕ → Page) (p q g : ℕ → ℕ) (o : Option (List Locator)) (v : Option Content)
+      → ((l : Locator) → l ∈ live o → q l.extent ≡ p l.extent) → Value S F opening img p g o v
+      → Value S F opening img q g (if go then if_live o else o) v
+  kept_value true opening img p q g o v same value = live_value opening img p q g o v same value
+  kept_value false opening img p q g o v same value = value_under opening img p q g o v same value
+
+  -- other runs in which each identifier has what it had, or where deletions go all that lives, under pointers that agree
+  -- where it lies
+  pub gives_kept : {opening : Opening} (go : Bool)
+      → (img : ℕ → Page) (p q g : ℕ → ℕ) (table : List Entry) (runs : List Run) (m : Map) (new : List Run)
+      → Gives S F opening img p g table runs m
+      → ((id : ℕ) → lookup id (entries_of new) ≡ (if go then if_live (lookup id (table ++ entries_of runs))
+      else lookup id (table ++ entries_of runs)))
       → ((id : ℕ) (k : Locator) → k ∈ live (lookup id (table ++ entries_of runs)) → q k.extent ≡ p k.extent)
-      → q l.extent ≡ p l.extent → Reads S F opening img p g l (F.frame RunFrame (F.run entries))
-      → Gives S F opening img q g [] (record { place = l; entries = entries } ∷ []) m
-  gives_merged {opening} img p q g table runs m l entries gives same agree here reads = record {
-    runs_read = each (λ (r : Run). Reads S F opening img q g r.place (F.frame RunFrame (F.run r.entries))) _ []
-        (reads_under opening img p q g l (F.frame RunFrame (F.run entries)) here reads) (λ r none. absurd none);
+      → ((run : Run) → run ∈ new → Reads S F opening img q g run.place (F.frame RunFrame (F.run run.entries)))
+      → (S.hidden_stand ≡ true → (run : Run) → run ∈ new → (id : ℕ) → AllPass S F img q g (lookup id run.entries))
+      → Gives S F opening img q g [] new m
+  gives_kept {opening} go img p q g table runs m new gives same agree reads hidden = record {
+    runs_read = reads;
     table_passes = λ id. tt;
-    visible_pass = λ id. subst (λ (o : Option (List Locator)). AllPass S F img q g o) (sym (lookup_nil id entries))
-        (merged_pass id);
-    runs_pass = λ stand. each (λ (r : Run). (id : ℕ) → AllPass S F img q g (lookup id r.entries)) _ []
-        merged_pass (λ r none. absurd none);
+    visible_pass = λ id. subst (λ (o : Option (List Locator)). AllPass S F img q g o) (sym (same id))
+        (kept_pass go img p q g (lookup id (table ++ entries_of runs)) (agree id) (gives.visible_pass id));
+    runs_pass = hidden;
     holds = λ id k has.
-        (let old : k ∈ live (lookup id (table ++ entries_of runs)) = in_live
-        (lookup id (table ++ entries_of runs)) k
-        (subst (λ (o : Option (List Locator)). k ∈ live o) (lookup_nil id entries ∙ same id) has) in
+        (let old : k ∈ live (lookup id (table ++ entries_of runs)) = in_kept go
+        (lookup id (table ++ entries_of runs)) k (subst (λ (o : Option (List Locator)). k ∈ live o) (same id) has) in
         holds_under opening img p q g k (agree id k old) (gives.holds id k old));
-    values = λ id. subst (λ (o : Option (List Locator)). Value S F opening img q g o (m id))
-        (sym (lookup_nil id entries ∙ same id)) (live_value opening img p q g _ (m id) (agree id) (gives.values id));
+    values = λ id. subst (λ (o : Option (List Locator)). Value S F opening img q g o (m id)) (sym (same id))
+        (kept_value go opening img p q g (lookup id (table ++ entries_of runs)) (m id) (agree id) (gives.values id));
+  }
+
+  -- the same table and runs, under pointers that agree where what they name lies
+  pub gives_under : {opening : Opening} (img : ℕ → Page) (p q g : ℕ → ℕ) (table : List Entry) (runs : List Run) (m : Map)
+      → Gives S F opening img p g table runs m → S.hidden_stand ≡ false
+      → ((id : ℕ) (k : Locator) → k ∈ live (lookup id (table ++ entries_of runs)) → q k.extent ≡ p k.extent)
+      → ((run : Run) → run ∈ runs → q run.place.extent ≡ p run.place.extent)
+      → Gives S F opening img q g table runs m
+  gives_under {opening} img p q g table runs m gives gone agree there = record {
+    runs_read = λ run has. reads_under opening img p q g run.place (F.frame RunFrame (F.run run.entries)) (there run has)
+        (gives.runs_read run has);
+    table_passes = λ id. front_passes img q g id table (entries_of runs) (pass id);
+    visible_pass = pass;
+    runs_pass = λ stand. absurd (true≢false (sym stand ∙ gone));
+    holds = λ id k has. holds_under opening img p q g k (agree id k has) (gives.holds id k has);
+    values = λ id. value_under opening img p q g (lookup id (table ++ entries_of runs)) (m id) (agree id) (gives.values id);
   }
     where
-      lookup_nil : (id : ℕ) (xs : List Entry) → lookup id (xs ++ []) ≡ lookup id xs
-      lookup_nil id xs = ap (lookup id) (append-nil xs)
-
-      merged_pass : (id : ℕ) → AllPass S F img q g (lookup id entries)
-      merged_pass id = subst (λ (o : Option (List Locator)). AllPass S F img q g o) (sym (same id))
-          (live_pass img p q g _ (agree id) (gives.visible_pass id))
-
-  pub gives_nothing : {opening : Opening}
-      → (img : ℕ → Page) (p q g : ℕ → ℕ) (table : List Entry) (runs : List Run) (m : Map)
-      → Gives S F opening img p g table runs m
-      → ((id : ℕ) → live (lookup id (table ++ entries_of runs)) ≡ []) → Gives S F opening img q g [] [] m
-  gives_nothing {opening} img p q g table runs m gives none = record {
-    runs_read = λ r has. absurd has;
-    table_passes = λ id. tt;
-    visible_pass = λ id. tt;
-    runs_pass = λ stand r has. absurd has;
-    holds = λ id l has. absurd has;
-    values = λ id. none_value opening img p g _ (m id) (none id) (gives.values id);
-  }
+      pass : (id : ℕ) → AllPass S F img q g (lookup id (table ++ entries_of runs))
+      pass id = pass_under img p q g (lookup id (table ++ entries_of runs)) (agree id) (gives.visible_pass id)

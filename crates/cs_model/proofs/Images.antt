@@ -1,5 +1,5 @@
 -- The image of a closed set gives what its greatest root gave when it was staged.
-use Rattle.std.proofs.Common.{◌≡◌, subst, ℕ, ◌<◌, ◌≤◌, true, false, ◌&&◌, nat_le, [], ◌==◌, le_of_eq, le-leb, leb-true, eq-eqb, subst₂, sym, ap, ◌∙◌, arith}
+use Rattle.std.proofs.Common.{◌≡◌, refl, subst, ℕ, ◌<◌, ◌≤◌, true, false, ◌&&◌, nat_le, [], ◌==◌, le_of_eq, le-leb, leb-true, eq-eqb, subst₂, sym, ap, ◌∙◌, arith}
 use Rattle.std.proofs.lemmas.Bool.{false_from_ne_true}
 use Rattle.cs_model.specs.Cut.{Closed, Cut, Exact, Within, held_by, section_of}
 use Rattle.cs_model.specs.Device.{Inside, IsShape, Page, PageKind, Place, Shape}
@@ -82,7 +82,7 @@ module _ (S : Shape) (F : Formats) {opening : Opening} (shape : IsShape S) (form
       )
 
   -- an extent that the root found frozen is as it was at open
-  frozen_there : (e i : ℕ) → opening.frozen e (exact.root.0.generations e) ≡ true → 0 < exact.root.0.pointers e
+  pub frozen_there : (e i : ℕ) → opening.frozen e (exact.root.0.generations e) ≡ true → 0 < exact.root.0.pointers e
       → Inside S e i
       → img (S.address e i) ≡ page_as_staged S exact.root.0 opened (writes_of w.elements) (S.address e i)
   frozen_there e i fz some inside =
@@ -123,3 +123,15 @@ module _ (S : Shape) (F : Formats) {opening : Opening} (shape : IsShape S) (form
         pointers_of generations_of frames_there frozen_there
         [] exact.root.0.runs exact.root.0.map (safe.good exact.root.0 exact.root.1).0;
   }
+
+  -- by that root's version and runs
+  pub recovers_root : (recovers.version ≡ exact.root.0.version) × (recovers.runs ≡ exact.root.0.runs)
+  unfolding recovers
+  recovers_root = (refl, refl)
+
+  -- what it has of the pages below the root's pointers
+  pub recovers_frames : (e i : ℕ) → i < exact.root.0.pointers e → Inside S e i
+      → (img (S.address e i) ≡ page_as_staged S exact.root.0 opened (writes_of w.elements) (S.address e i))
+      × (recovers.generations e ≡ exact.root.0.generations e) × (i < recovers.pointers e)
+  unfolding recovers
+  recovers_frames e i below inside = frames_there e i below inside

@@ -1,81 +1,37 @@
 -- Every event keeps a state sound.
-use Rattle.std.proofs.Common.{◌≡◌, ◌≢◌, inl, inr, ⊎_elim, ℕ, ◌<◌, Bool, true, false, List, [], ◌∷◌, ◌++◌, Option, Some, if◌then◌else◌, ◌==◌, eq-eqb, ne_eqb, true≢false, refl, sym, subst}
-use Rattle.std.proofs.lemmas.Bool.{cases_eq}
+use Rattle.std.proofs.Common.{◌≡◌, inl, inr, ⊎_elim, ℕ, true, List, [], ◌∷◌, ◌++◌, refl, sym, subst}
+use Rattle.std.proofs.lemmas.Bool.{cases_Bool}
+use Rattle.cs_model.proofs.Quiet.{none_moved, unchanged}
+use Rattle.cs_model.proofs.ApartMoving.{keeps_move_apart, keeps_retire_apart}
+use Rattle.cs_model.proofs.ApartStaging.{keeps_stage_apart}
+use Rattle.cs_model.proofs.Rules.{apart_rule, before_rule}
+use Rattle.cs_model.proofs.Marks.{keeps_abandon, keeps_begin_sweep}
 use Rattle.cs_model.specs.Device.{IsShape, Shape}
-use Rattle.cs_model.specs.Element.{A_root, A_superblock, A_write, Element}
-use Rattle.cs_model.specs.Events.{Does, mark}
-use Rattle.cs_model.specs.Extents.{marked}
+use Rattle.cs_model.specs.Events.{Does}
 use Rattle.cs_model.specs.Formats.{Formats}
 use Rattle.cs_model.specs.Frames.{IsFormat}
 use Rattle.cs_model.specs.Grounds.{Refuses}
-use Rattle.cs_model.specs.Machine.{World}
-use Rattle.cs_model.specs.Recovery.{RootGives}
 use Rattle.cs_model.specs.Refusal.{Refusal}
-use Rattle.cs_model.specs.Round.{IsMember}
 use Rattle.cs_model.specs.Sound.{Bounded, Sound}
 use Rattle.cs_model.specs.State.{Abandon, Abandoned, Absent, Accepted, Begin, BeginSweep, Begun, Delete, End, Ended, Event, Found, Get, Issue, Issued, MoveOne, Moved, NoneLive, NotYet, Nothing, Persistent, Put, Refused, Reply, Retire, Retired, Settle, Stage, Staged, State, Sweeping, Unchanged}
 use Rattle.cs_model.specs.Step.{History, Step}
-use Rattle.cs_model.proofs.RoundMoves.{keeps_marks}
-use Rattle.cs_model.proofs.Carries.{root_local}
 use Rattle.cs_model.proofs.Commands.{both, keeps_put, keeps_delete}
 use Rattle.cs_model.proofs.Stagings.{keeps_stage, keeps_retire}
 use Rattle.cs_model.proofs.Movings.{keeps_move}
 use Rattle.cs_model.proofs.KeptRounds.{keeps_take, keeps_end_round, keeps_issue}
 
 module _ (S : Shape) (F : Formats) (shape : IsShape S) (format : IsFormat S F) where
-  marks_member : (w : World) (o : Option ℕ) (swept : ℕ → Bool) (m : Element) → IsMember S w m
-      → IsMember S (record w { extents = record w.extents { open_extent = o; swept = swept } }) m
-  marks_member w o swept (A_write x) is = is
-  marks_member w o swept (A_superblock u) is = is
-  marks_member w o swept (A_root r) is = is
-
-  marks_back : (w : World) (o : Option ℕ) (swept : ℕ → Bool) (m : Element)
-      → IsMember S (record w { extents = record w.extents { open_extent = o; swept = swept } }) m → IsMember S w m
-  marks_back w o swept (A_write x) is = is
-  marks_back w o swept (A_superblock u) is = is
-  marks_back w o swept (A_root r) is = is
-
-  other_sweeps : (s : State) (e : ℕ) (b : Bool) → Sound S F s
-      → ((d : ℕ) → (if d == e then b else s.world.extents.swept d) ≡ true → (s.world.extents.open_extent ≢ Some d)
-      × (0 < s.world.extents.pointer d) × (d < S.extents)) → Sound S F (mark s e b)
-  other_sweeps s e b sound new = record {
-    safe = keeps_marks S (RootGives S F s.opening) s.opening.frozen s.opened
-        (root_local S F shape) s.world s.world.extents.open_extent swept sound.safe;
-    settled = λ d. (let o = sound.settled d in record { last = o.last; pages = o.pages; current = o.current });
-    gives = sound.gives;
-    maps = sound.maps;
-    caught_up = sound.caught_up;
-    frozen = sound.frozen;
-    damaged = sound.damaged;
-    left = λ m has. marks_member s.world s.world.extents.open_extent swept m (sound.left m has);
-    issued = λ m has. marks_member s.world s.world.extents.open_extent swept m (sound.issued m has);
-    complete = λ busy m is. sound.complete busy m (marks_back s.world s.world.extents.open_extent swept m is);
-    once = sound.once;
-    idle = sound.idle;
-    swept = new;
-  }
-    where
-      swept : ℕ → Bool
-      swept = (marked s.world.extents e b).swept
-
-  keeps_begin_sweep : (s t : State) (e : ℕ) → Sound S F s → Does S F s (BeginSweep e) Sweeping t → Sound S F t
-  keeps_begin_sweep s t e sound d = subst (λ (x : State). Sound S F x) (sym d.4)
-      (other_sweeps s e true sound (λ k. elim (cases_eq k e) [
-        | inl is ↦ (λ has. subst (λ (x : ℕ). (s.world.extents.open_extent ≢ Some x) × (0 < s.world.extents.pointer x)
-            × (x < S.extents)) (sym is) (d.1, d.3, d.2))
-        | inr not ↦ (let test : (k == e) ≡ false = ne_eqb k e not in rw test (λ has. sound.swept k has))
-      ]))
-
-  keeps_abandon : (s t : State) (e : ℕ) → Sound S F s → Does S F s (Abandon e) Abandoned t → Sound S F t
-  keeps_abandon s t e sound d = subst (λ (x : State). Sound S F x) (sym d.1)
-      (other_sweeps s e false sound (λ k. elim (cases_eq k e) [
-        | inl is ↦ (let test : (k == e) ≡ true = eq-eqb k e is in rw test (λ wrong. absurd (true≢false (sym wrong))))
-        | inr not ↦ (let test : (k == e) ≡ false = ne_eqb k e not in rw test (λ has. sound.swept k has))
-      ]))
-
   -- what leaves the numbers, the table and the runs as they are
   rest : (s t u : State) → t ≡ u → Sound S F t → Bounded S F u → Sound S F t × Bounded S F t
   rest s t u is sound b = (sound, subst (λ (x : State). Bounded S F x) (sym is) b)
+
+  begun_bounded : (s t : State) (e : ℕ) → Bounded S F s → Does S F s (BeginSweep e) Sweeping t → Bounded S F t
+  begun_bounded s t e b d = elim (cases_Bool S.apart) [
+    | inl on ↦ subst (λ (x : State). Bounded S F x) (sym (apart_rule _ _ S.apart on d).5)
+        (record { bounds = b.bounds; runs_fit = b.runs_fit; written_fits = b.written_fits })
+    | inr before ↦ subst (λ (x : State). Bounded S F x) (sym (before_rule _ _ S.apart before d).4)
+        (record { bounds = b.bounds; runs_fit = b.runs_fit; written_fits = b.written_fits })
+  ]
 
   pub keeps : (s t : State) (event : Event) (reply : Reply) → Sound S F s → Bounded S F s
       → ((f : Refusal) → Refuses S F s event f → ⊥) → Does S F s event reply t → Sound S F t × Bounded S F t
@@ -84,8 +40,11 @@ module _ (S : Shape) (F : Formats) (shape : IsShape S) (format : IsFormat S F) w
   keeps s t (Get id) Absent sound b none d = both S F shape format s t d.1 sound b
   keeps s t (Delete id) (Accepted n) sound b none d = keeps_delete S F shape format s t id n sound b none d
   keeps s t (Delete id) Absent sound b none d = both S F shape format s t d.1 sound b
-  keeps s t Stage Unchanged sound b none d = both S F shape format s t d.1 sound b
-  keeps s t Stage (Staged v) sound b none d = keeps_stage S F shape format s t v sound b none d
+  keeps s t Stage Unchanged sound b none d = both S F shape format s t (unchanged S F s t d) sound b
+  keeps s t Stage (Staged v) sound b none d = elim (cases_Bool S.apart) [
+    | inl on ↦ keeps_stage_apart S F shape format on s t v sound b none d
+    | inr before ↦ keeps_stage S F shape format before s t v sound b none d
+  ]
   keeps s t Begin Nothing sound b none d = both S F shape format s t d.2 sound b
   keeps s t Begin (Begun members) sound b none d = rest s t _ d.6 (keeps_take S F shape format s t members sound d)
       (record { bounds = b.bounds; runs_fit = b.runs_fit; written_fits = b.written_fits })
@@ -93,12 +52,19 @@ module _ (S : Shape) (F : Formats) (shape : IsShape S) (format : IsFormat S F) w
       (record { bounds = b.bounds; runs_fit = b.runs_fit; written_fits = b.written_fits })
   keeps s t End (Ended n) sound b none d = rest s t _ d.2 (keeps_end_round S F shape format s t n sound d)
       (record { bounds = b.bounds; runs_fit = b.runs_fit; written_fits = b.written_fits })
-  keeps s t (BeginSweep e) Sweeping sound b none d = rest s t _ d.4 (keeps_begin_sweep s t e sound d)
-      (record { bounds = b.bounds; runs_fit = b.runs_fit; written_fits = b.written_fits })
-  keeps s t (MoveOne e) NoneLive sound b none d = both S F shape format s t d.2 sound b
-  keeps s t (MoveOne e) (Moved id k) sound b none d = keeps_move S F shape format s t e id k sound b none d
-  keeps s t (Retire e) (Retired v) sound b none d = keeps_retire S F shape format s t e v sound b none d
-  keeps s t (Abandon e) Abandoned sound b none d = rest s t _ d.1 (keeps_abandon s t e sound d)
+  keeps s t (BeginSweep e) Sweeping sound b none d =
+      (keeps_begin_sweep S F shape s t e sound d, begun_bounded s t e b d)
+  keeps s t (MoveOne e) NoneLive sound b none d = both S F shape format s t (none_moved S F s t e d) sound b
+  keeps s t (MoveOne e) (Moved id k) sound b none d = elim (cases_Bool S.apart) [
+    | inl on ↦ keeps_move_apart S F shape format on s t e id k sound b none d
+    | inr before ↦ keeps_move S F shape format before s t e id k sound b none d
+  ]
+  keeps s t (Retire e) (Retired v) sound b none d = elim (cases_Bool S.apart) [
+    | inl on ↦ keeps_retire_apart S F shape format on s t e v sound b none d
+    | inr before ↦ keeps_retire S F shape format before s t e v sound b none d
+  ]
+  keeps s t (Abandon e) Abandoned sound b none d = rest s t _ d.1
+      (subst (λ (x : State). Sound S F x) (sym d.1) (keeps_abandon S F shape s e sound d.0))
       (record { bounds = b.bounds; runs_fit = b.runs_fit; written_fits = b.written_fits })
   keeps s t (Settle n) Persistent sound b none d = both S F shape format s t d.4 sound b
   keeps s t (Settle n) (NotYet f) sound b none d = both S F shape format s t d.2 sound b
@@ -113,6 +79,7 @@ module _ (S : Shape) (F : Formats) (shape : IsShape S) (format : IsFormat S F) w
     caught_up = sound.caught_up;
     frozen = sound.frozen;
     damaged = sound.damaged;
+    apart = λ on. record { found = (sound.apart on).found; one_sweep = (sound.apart on).one_sweep; copied = (sound.apart on).copied };
     left = sound.left;
     issued = sound.issued;
     complete = sound.complete;

@@ -96,6 +96,7 @@ module _ (S : Shape) (F : Formats) (shape : IsShape S) (format : IsFormat S F) w
     caught_up = sound.caught_up;
     frozen = sound.frozen;
     damaged = sound.damaged;
+    apart = λ on. record { found = (sound.apart on).found; one_sweep = (sound.apart on).one_sweep; copied = (sound.apart on).copied };
     left = λ m has. (d.3 m).0 has;
     issued = λ m has. absurd has;
     complete = λ busy m is. inl ((d.3 m).1 is);
@@ -113,6 +114,7 @@ module _ (S : Shape) (F : Formats) (shape : IsShape S) (format : IsFormat S F) w
     caught_up = sound.caught_up;
     frozen = sound.frozen;
     damaged = sound.damaged;
+    apart = λ on. record { found = (sound.apart on).found; one_sweep = (sound.apart on).one_sweep; copied = (sound.apart on).copied };
     left = λ m has. absurd has;
     issued = λ m has. absurd has;
     complete = λ wrong. absurd (true≢false (sym wrong));
@@ -157,6 +159,7 @@ module _ (S : Shape) (F : Formats) (shape : IsShape S) (format : IsFormat S F) w
     caught_up = sound.caught_up;
     frozen = sound.frozen;
     damaged = sound.damaged;
+    apart = λ on. record { found = (sound.apart on).found; one_sweep = (sound.apart on).one_sweep; copied = (sound.apart on).copied };
     swept = sound.swept;
     once = moved d.0 d.1 s.issued m (subst (λ (l : List Element). AreDistinct (l ++ s.issued)) d.2 sound.once);
     idle = λ off. absurd (not_empty d.0 d.1 m (sym d.2 ∙ (sound.idle off).0));

@@ -1,5 +1,7 @@
 -- MoveOne keeps a state sound.
-use Rattle.std.proofs.Common.{◌≡◌, inl, inr, ℕ, zero, suc, true, List, [], ◌∷◌, length, Option, Some, None, le_of_eq, le_trans, refl, sym, ap, ap₂, ◌∙◌, subst, subst₂, arith}
+use Rattle.std.proofs.Common.{◌≡◌, inl, inr, ℕ, zero, suc, true, List, [], ◌∷◌, length, Option, Some, None, le_of_eq, le_trans, refl, sym, ap, ap₂, ◌∙◌, subst, subst₂, arith, false}
+use Rattle.cs_model.proofs.Rules.{before_rule}
+use Rattle.cs_model.proofs.Parts.{not_apart}
 use Rattle.cs_model.specs.Device.{IsShape, Page, Shape}
 use Rattle.cs_model.specs.Element.{Content, Entry, Locator, Map, Opening}
 use Rattle.cs_model.specs.Events.{Does, newest_page}
@@ -53,7 +55,7 @@ module _ (S : Shape) (F : Formats) (shape : IsShape S) (format : IsFormat S F) w
   moved_pass img p g (x ∷ ls) (suc k) new all fresh l (inr has) = moved_pass img p g ls k new
       (λ y h. all y (inr h)) fresh l has
 
-  moved_holds : (opening : Opening) → (img : ℕ → Page) (p g : ℕ → ℕ) (ls : List Locator) (k : ℕ) (new : Locator)
+  pub moved_holds : (opening : Opening) → (img : ℕ → Page) (p g : ℕ → ℕ) (ls : List Locator) (k : ℕ) (new : Locator)
       → ((l : Locator) → l ∈ ls → Holds S F opening img p g l) → Holds S F opening img p g new → (l : Locator)
       → l ∈ replaced ls k new → Holds S F opening img p g l
   moved_holds opening img p g [] k new all fresh l none = absurd none
@@ -64,7 +66,7 @@ module _ (S : Shape) (F : Formats) (shape : IsShape S) (format : IsFormat S F) w
   moved_holds opening img p g (x ∷ ls) (suc k) new all fresh l (inr has) = moved_holds opening img p g ls k new
       (λ y h. all y (inr h)) fresh l has
 
-  moved_value : (opening : Opening)
+  pub moved_value : (opening : Opening)
       → (img : ℕ → Page) (p g : ℕ → ℕ) (o : Option (List Locator)) (v : Option Content) (k : ℕ) (l new : Locator)
       (payload : List ℕ) → Value S F opening img p g o v → AllPass S F img p g o → nth (live o) k ≡ Some l
       → opening.damage l ≡ None → Reads S F opening img p g l (F.frame ChunkFrame payload)
@@ -92,25 +94,26 @@ module _ (S : Shape) (F : Formats) (shape : IsShape S) (format : IsFormat S F) w
     ),
   )
 
-  length_replaced : (ls : List Locator) (k : ℕ) (new : Locator) → length (replaced ls k new) ≡ length ls
+  pub length_replaced : (ls : List Locator) (k : ℕ) (new : Locator) → length (replaced ls k new) ≡ length ls
   length_replaced [] k new = refl
   length_replaced (x ∷ ls) zero new = refl
   length_replaced (x ∷ ls) (suc k) new = ap suc (length_replaced ls k new)
 
-  named_nth : (o : Option (List Locator)) (k : ℕ) (l : Locator) → nth (live o) k ≡ Some l → is_some o ≡ true
+  pub named_nth : (o : Option (List Locator)) (k : ℕ) (l : Locator) → nth (live o) k ≡ Some l → is_some o ≡ true
   named_nth None k l at = absurd (let e : None ≡ Some l = at in cc)
   named_nth (Some ls) k l at = refl
 
-  pub keeps_move : (s t : State) (e id k : ℕ) → Sound S F s → Bounded S F s
+  pub keeps_move : S.apart ≡ false → (s t : State) (e id k : ℕ) → Sound S F s → Bounded S F s
       → ((f : Refusal) → Refuses S F s (MoveOne e) f → ⊥) → Does S F s (MoveOne e) (Moved id k) t → Sound S F t
       × Bounded S F t
-  keeps_move s t e id k sound b none d =
+  keeps_move before s t e id k sound b none d =
+      let o = before_rule _ _ S.apart before d in
       let worn = not_first WornOut
       (not_first Full (not_found (not_first NotSweepable (not_first Halted none).1).1)).1 in
-      let l = d.0 in let new = d.1 in let payload = d.2 in let mid = d.3 in
-      let a = added S F shape format s mid ForMove ChunkFrame payload new sound d.8
+      let l = o.0 in let new = o.1 in let payload = o.2 in let mid = o.3 in
+      let a = added S F shape format false not_apart s mid ForMove ChunkFrame payload new sound o.8
       (in_room S F shape format s t mid.world (MoveOne e) (Moved id k) worn.0 d
-      (ap (λ (x : State). x.world.superblocks) (sym d.9))) in
+      (ap (λ (x : State). x.world.superblocks) (sym o.9))) in
       let value = carry_value S F s.opening _ _ _ _ _ _ a.carries a.still (lookup id (index_now s)) (map_now s id)
       (sound.gives.values id) in
       let pass = carry_pass S F s.opening _ _ _ _ _ _ a.carries a.still (lookup id (index_now s))
@@ -121,14 +124,14 @@ module _ (S : Shape) (F : Formats) (shape : IsShape S) (format : IsFormat S F) w
       (newest_page mid) mid.world.extents.pointer mid.world.extents.generation new
       (F.frame ChunkFrame payload)) a.opening a.reads in
       let done = moved_value s.opening _ _ _ (lookup id (index_now s))
-      (map_now s id) k l new payload value pass d.5.there d.6
-      (carry_reads S F s.opening _ _ _ _ _ _ a.carries a.still l (F.frame ChunkFrame payload) d.7) fresh in
+      (map_now s id) k l new payload value pass o.5.there o.6
+      (carry_reads S F s.opening _ _ _ _ _ _ a.carries a.still l (F.frame ChunkFrame payload) o.7) fresh in
       let same_map : map_now mid ≡ map_now s = ap₂ after_all a.start a.commands in
       let index = same_index S F shape format s mid a.table a.runs in
       let bm : Bounded S F mid = bounded_same S F shape format s mid
       (in_number S F shape format s t mid.world (MoveOne e) (Moved id k) worn.0 d
-      (ap (λ (x : State). x.world.written) (sym d.9))) a.root a.count a.commands a.runs a.table b in
-      both S F shape format _ t d.9
+      (ap (λ (x : State). x.world.written) (sym o.9))) a.root a.count a.commands a.runs a.table b in
+      both S F shape format _ t o.9
       (moved_entry S F shape format mid id _ a.sound done.0
       (subst (λ (o : Opening). (x : Locator) → x ∈ replaced (live_at (index_now s) id) k new
       → Holds S F o (newest_page mid) mid.world.extents.pointer mid.world.extents.generation x) (sym a.opening)
@@ -141,6 +144,6 @@ module _ (S : Shape) (F : Formats) (shape : IsShape S) (format : IsFormat S F) w
       (ap (λ (m : Map). m id) (sym same_map)) done.1))
       (bounded_entry S F shape format mid id (replaced (live_at (index_now s) id) k new) mid.commands bm
       (inl (ap (λ (es : List Entry). is_some (lookup id es)) index
-      ∙ named_nth (lookup id (index_now s)) k l d.5.there))
+      ∙ named_nth (lookup id (index_now s)) k l o.5.there))
       (le_trans (le_of_eq (length_replaced (live_at (index_now s) id) k new)) (b.bounds.chunks_fit id))
       bm.bounds.commands_fit)

@@ -1,13 +1,13 @@
 -- What a superblock version needs of the root, and that an append has one outcome.
-use Rattle.std.proofs.Common.{◌≡◌, ◌↔◌, inl, inr, ⊎_elim, ℕ, zero, suc, ◌+◌, ◌<◌, ◌≤◌, List, [], ◌∷◌, length, refl, sym, ap, ap₂, ◌∙◌, subst, le_refl, le_trans, arith}
+use Rattle.std.proofs.Common.{◌≡◌, ◌↔◌, inl, inr, ⊎_elim, ℕ, zero, suc, ◌+◌, ◌<◌, ◌≤◌, Bool, false, List, [], ◌∷◌, length, refl, sym, ap, ap₂, ◌∙◌, subst, le_refl, le_trans, arith}
 use Rattle.std.proofs.lemmas.Bool.{cases_eq, cases_lt}
 use Rattle.cs_model.proofs.Parts.{with_same, with_other}
 use Rattle.cs_model.proofs.Appends.{appended_superblocks}
-use Rattle.cs_model.proofs.Places.{placed_one, placed_inside}
-use Rattle.cs_model.specs.Append.{Append, AppendAll, IsNeed, appended, page_counts, stage_pages}
+use Rattle.cs_model.proofs.Places.{goes_one, goes_inside}
+use Rattle.cs_model.specs.Append.{Append, AppendAll, AppendAllBy, AppendBy, IsNeed, appended, appended_by, page_counts, stage_pages}
 use Rattle.cs_model.specs.Device.{IsShape, Page, Shape}
 use Rattle.cs_model.specs.Element.{Locator, Superblock, superblocks_of}
-use Rattle.cs_model.specs.Extents.{Extents, Fits, Placed, Purpose, open_after, taken}
+use Rattle.cs_model.specs.Extents.{Extents, Fits, FitsBy, Goes, Placed, Purpose, noted_by, open_after, taken, taken_by}
 use Rattle.cs_model.specs.Lists.{with, ◌∈◌}
 use Rattle.cs_model.specs.Machine.{StagePage, World, happens}
 
@@ -84,36 +84,40 @@ module _ (S : Shape) where
   need_one w j r q a b = (let x : r ≤ q = a.least q b.resets b.last in let y : q ≤ r = b.least r a.resets a.last in
       omega arith)
 
-  pub append_there : (w : World) (purpose : Purpose) (bs : List Page) (e : ℕ)
-      → Placed S w.extents purpose (length bs) e → (l : Locator) × (v : World) × Append S w purpose bs l v
-  append_there w purpose bs e placed = let need = need_there w (S.section e) in
+  pub append_there_by : (apart : Bool) (w : World) (purpose : Purpose) (bs : List Page) (e : ℕ)
+      → Goes S apart w.extents purpose (length bs) e → (l : Locator) × (v : World) × AppendBy S apart w purpose bs l v
+  append_there_by apart w purpose bs e placed = let need = need_there w (S.section e) in
       (_, _, record { extent = e; need = need.0; placed = placed; needs = need.1; at = refl; after = refl })
 
-  pub append_one : (w v u : World) (purpose : Purpose) (bs : List Page) (l k : Locator) → Append S w purpose bs l v
-      → Append S w purpose bs k u → (l ≡ k) × (v ≡ u)
-  append_one w v u purpose bs l k a b =
-      let same : a.extent ≡ b.extent = placed_one S w.extents purpose (length bs) a.extent b.extent a.placed b.placed in
+  pub append_there : (w : World) (purpose : Purpose) (bs : List Page) (e : ℕ)
+      → Placed S w.extents purpose (length bs) e → (l : Locator) × (v : World) × Append S w purpose bs l v
+  append_there w purpose bs e placed = append_there_by false w purpose bs e placed
+
+  pub append_one : (apart : Bool) (w v u : World) (purpose : Purpose) (bs : List Page) (l k : Locator)
+      → AppendBy S apart w purpose bs l v → AppendBy S apart w purpose bs k u → (l ≡ k) × (v ≡ u)
+  append_one apart w v u purpose bs l k a b =
+      let same : a.extent ≡ b.extent = goes_one S apart w.extents purpose (length bs) a.extent b.extent a.placed b.placed in
       let need : a.need ≡ b.need = need_one w (S.section b.extent) a.need b.need
       (subst (λ (e : ℕ). IsNeed S w (S.section e) a.need) same a.needs) b.needs in (
         a.at ∙ ap (λ (e : ℕ). at_pointer e) same ∙ sym b.at,
         a.after
-            ∙ ap₂ (λ (e n : ℕ). appended S w e n bs) same need ∙ sym b.after,
+            ∙ ap₂ (λ (e n : ℕ). appended_by S apart purpose w e n bs) same need ∙ sym b.after,
       )
     where
       at_pointer : ℕ → Locator
       at_pointer e = record { extent = e; page = w.extents.pointer e; generation = w.extents.generation e }
 
-  pub all_one : (w v u : World) (purpose : Purpose) (frames : List (List Page)) (ls ks : List Locator)
-      → AppendAll S w purpose frames ls v → AppendAll S w purpose frames ks u → (ls ≡ ks) × (v ≡ u)
-  all_one w v u purpose [] [] [] a b = (refl, a ∙ sym b)
-  all_one w v u purpose [] [] (k ∷ ks) a b = absurd b
-  all_one w v u purpose [] (l ∷ ls) ks a b = absurd a
-  all_one w v u purpose (bs ∷ frames) [] ks a b = absurd a
-  all_one w v u purpose (bs ∷ frames) (l ∷ ls) [] a b = absurd b
-  all_one w v u purpose (bs ∷ frames) (l ∷ ls) (k ∷ ks) a b =
-      let here = append_one w a.0 b.0 purpose bs l k a.1 b.1 in
-      let rest = all_one b.0 v u purpose frames ls ks
-      (subst (λ (x : World). AppendAll S x purpose frames ls v) here.1 a.2) b.2 in
+  pub all_one : (apart : Bool) (w v u : World) (purpose : Purpose) (frames : List (List Page)) (ls ks : List Locator)
+      → AppendAllBy S apart w purpose frames ls v → AppendAllBy S apart w purpose frames ks u → (ls ≡ ks) × (v ≡ u)
+  all_one apart w v u purpose [] [] [] a b = (refl, a ∙ sym b)
+  all_one apart w v u purpose [] [] (k ∷ ks) a b = absurd b
+  all_one apart w v u purpose [] (l ∷ ls) ks a b = absurd a
+  all_one apart w v u purpose (bs ∷ frames) [] ks a b = absurd a
+  all_one apart w v u purpose (bs ∷ frames) (l ∷ ls) [] a b = absurd b
+  all_one apart w v u purpose (bs ∷ frames) (l ∷ ls) (k ∷ ks) a b =
+      let here = append_one apart w a.0 b.0 purpose bs l k a.1 b.1 in
+      let rest = all_one apart b.0 v u purpose frames ls ks
+      (subst (λ (x : World). AppendAllBy S apart x purpose frames ls v) here.1 a.2) b.2 in
       (ap₂ (λ (x : Locator) (xs : List Locator). x ∷ xs) here.0 rest.0, rest.1)
 
   -- what an append does to the extents
@@ -161,40 +165,62 @@ module _ (S : Shape) where
         ap (λ (x : Extents). record x { open_extent = open_after S e (w.extents.pointer e + length bs) })
         (pages_extents w e (w.extents.pointer e) bs exists refl fits)
 
+    pub appended_by_extents : (apart : Bool) (purpose : Purpose) (w : World) (e need : ℕ) (bs : List Page) → e < S.extents
+        → w.extents.pointer e + length bs ≤ S.pages
+        → (appended_by S apart purpose w e need bs).extents ≡ taken_by S apart purpose w.extents e (length bs)
+    appended_by_extents apart purpose w e need bs exists fits =
+        ap (λ (x : Extents). noted_by S apart purpose w.extents e (length bs) x)
+        (pages_extents w e (w.extents.pointer e) bs exists refl fits)
+
+    pub after_extents_by : (apart : Bool) (w v : World) (purpose : Purpose) (bs : List Page) (l : Locator)
+        (a : AppendBy S apart w purpose bs l v) → v.extents ≡ taken_by S apart purpose w.extents a.extent (length bs)
+    after_extents_by apart w v purpose bs l a =
+        let inside = goes_inside S apart w.extents purpose (length bs) a.extent a.placed in
+        ap (λ (x : World). x.extents) a.after ∙ appended_by_extents apart purpose w a.extent a.need bs inside.0 inside.1
+
+    pub fits_appends_by : (apart : Bool) (w : World) (purpose : Purpose) (frames : List (List Page))
+        → FitsBy S apart w.extents purpose (page_counts frames) → (ls : List Locator) × (v : World)
+        × AppendAllBy S apart w purpose frames ls v
+    fits_appends_by apart w purpose [] fits = ([], w, refl)
+    fits_appends_by apart w purpose (bs ∷ frames) fits =
+        let one = append_there_by apart w purpose bs fits.0 fits.1 in
+        let rest = fits_appends_by apart one.1 purpose frames
+        (subst (λ (x : Extents). FitsBy S apart x purpose (page_counts frames))
+        (sym (after_extents_by apart w one.1 purpose bs one.0 one.2))
+        (subst (λ (e : ℕ). FitsBy S apart (taken_by S apart purpose w.extents e (length bs)) purpose (page_counts frames))
+        (goes_one S apart w.extents purpose (length bs) fits.0 one.2.extent fits.1 one.2.placed) fits.2)) in
+        (one.0 ∷ rest.0, rest.1, (one.1, one.2, rest.2))
+
+    pub appends_fit_by : (apart : Bool) (w v : World) (purpose : Purpose) (frames : List (List Page)) (ls : List Locator)
+        → AppendAllBy S apart w purpose frames ls v → FitsBy S apart w.extents purpose (page_counts frames)
+    appends_fit_by apart w v purpose [] ls all = tt
+    appends_fit_by apart w v purpose (bs ∷ frames) [] all = absurd all
+    appends_fit_by apart w v purpose (bs ∷ frames) (l ∷ ls) all = (
+      all.1.extent,
+      all.1.placed,
+      subst (λ (x : Extents). FitsBy S apart x purpose (page_counts frames))
+          (after_extents_by apart w all.0 purpose bs l all.1) (appends_fit_by apart all.0 v purpose frames ls all.2),
+    )
+
+    -- the same without the rule that keeps chunks and runs apart
     pub after_extents : (w v : World) (purpose : Purpose) (bs : List Page) (l : Locator)
         (a : Append S w purpose bs l v) → v.extents ≡ taken S w.extents a.extent (length bs)
-    after_extents w v purpose bs l a = let inside = placed_inside S w.extents purpose (length bs) a.extent a.placed in
-        ap (λ (x : World). x.extents) a.after ∙ appended_extents w a.extent a.need bs inside.0 inside.1
+    after_extents w v purpose bs l a = after_extents_by false w v purpose bs l a
 
     pub fits_appends : (w : World) (purpose : Purpose) (frames : List (List Page))
         → Fits S w.extents purpose (page_counts frames) → (ls : List Locator) × (v : World)
         × AppendAll S w purpose frames ls v
-    fits_appends w purpose [] fits = ([], w, refl)
-    fits_appends w purpose (bs ∷ frames) fits =
-        let one = append_there w purpose bs fits.0 fits.1 in
-        let rest = fits_appends one.1 purpose frames
-        (subst (λ (x : Extents). Fits S x purpose (page_counts frames))
-        (sym (after_extents w one.1 purpose bs one.0 one.2))
-        (subst (λ (e : ℕ). Fits S (taken S w.extents e (length bs)) purpose (page_counts frames))
-        (placed_one S w.extents purpose (length bs) fits.0 one.2.extent fits.1 one.2.placed) fits.2)) in
-        (one.0 ∷ rest.0, rest.1, (one.1, one.2, rest.2))
+    fits_appends w purpose frames fits = fits_appends_by false w purpose frames fits
 
     pub appends_fit : (w v : World) (purpose : Purpose) (frames : List (List Page)) (ls : List Locator)
         → AppendAll S w purpose frames ls v → Fits S w.extents purpose (page_counts frames)
-    appends_fit w v purpose [] ls all = tt
-    appends_fit w v purpose (bs ∷ frames) [] all = absurd all
-    appends_fit w v purpose (bs ∷ frames) (l ∷ ls) all = (
-      all.1.extent,
-      all.1.placed,
-      subst (λ (x : Extents). Fits S x purpose (page_counts frames))
-          (after_extents w all.0 purpose bs l all.1) (appends_fit all.0 v purpose frames ls all.2),
-    )
+    appends_fit w v purpose frames ls all = appends_fit_by false w v purpose frames ls all
 
-    pub fits_exactly : (w : World) (purpose : Purpose) (frames : List (List Page))
-        → Fits S w.extents purpose (page_counts frames)
-        ↔ ((ls : List Locator) × (v : World) × AppendAll S w purpose frames ls v)
-    fits_exactly w purpose frames =
-        (fits_appends w purpose frames, λ all. appends_fit w all.1 purpose frames all.0 all.2)
+    pub fits_exactly : (apart : Bool) (w : World) (purpose : Purpose) (frames : List (List Page))
+        → FitsBy S apart w.extents purpose (page_counts frames)
+        ↔ ((ls : List Locator) × (v : World) × AppendAllBy S apart w purpose frames ls v)
+    fits_exactly apart w purpose frames =
+        (fits_appends_by apart w purpose frames, λ all. appends_fit_by apart w all.1 purpose frames all.0 all.2)
 
     -- what an append does to the numbers, and to what is persistent
     pages_written : (w : World) (e i : ℕ) (bs : List Page) → (stage_pages S w e i bs).written ≡ w.written + length bs

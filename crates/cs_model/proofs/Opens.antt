@@ -1,17 +1,22 @@
 -- A store that is opened on what a crash left is sound.
-use Rattle.std.proofs.Common.{nat_lt, ◌==◌, ◌&&◌, ◌-◌, Some, None, eqb-true, ◌≡◌, inl, inr, ℕ, zero, suc, List, ◌+◌, ◌<◌, ◌≤◌, [], ◌∷◌, le_of_eq, le_refl, true≢false, refl, sym, ap, ◌∙◌, subst, arith}
+use Rattle.std.proofs.Common.{nat_lt, ◌==◌, ◌&&◌, ◌-◌, Some, None, eqb-true, ◌≡◌, inl, inr, ℕ, zero, suc, List, ◌+◌, ◌<◌, ◌≤◌, [], ◌∷◌, le_of_eq, le_refl, true≢false, refl, sym, ap, ◌∙◌, subst, arith, Bool, if◌then◌else◌, true, false, ◌||◌, ◌⊎◌, ⊎_elim}
 use Rattle.std.proofs.lemmas.Bool.{cases_eq}
+use Rattle.cs_model.specs.Tally.{lives_on}
+use Rattle.cs_model.specs.Apart.{any_run_on, freed, named}
+use Rattle.cs_model.proofs.ApartResets.{freed_sound}
+use Rattle.cs_model.proofs.Named.{gives_named, unnamed_blank}
 use Rattle.cs_model.specs.Cut.{page_in}
 use Rattle.cs_model.specs.Device.{IsShape, Page, Shape}
 use Rattle.cs_model.specs.Element.{Map, Root, RootBefore, Superblock, SuperblockBefore, Write, WriteBefore, roots_of, superblocks_of, writes_of}
 use Rattle.cs_model.specs.Formats.{ChunkFrame, Formats, opening_in, pages_from}
 use Rattle.cs_model.specs.Guard.{page_as_staged}
-use Rattle.cs_model.specs.Index.{Gives}
+use Rattle.cs_model.specs.Index.{Gives, entries_of}
 use Rattle.cs_model.specs.Lists.{Descends, ◌∈◌}
 use Rattle.cs_model.specs.Machine.{everything}
-use Rattle.cs_model.specs.Open.{opened_state, opened_world, root_read, superblock_read, superblocks_read}
+use Rattle.cs_model.specs.Open.{extents_read, opened_state, opened_world, root_read, superblock_read, superblocks_read, state_read}
 use Rattle.cs_model.specs.Recovery.{Recovers, RootGives}
 use Rattle.cs_model.specs.Safe.{FitsExtent}
+use Rattle.cs_model.specs.State.{State}
 use Rattle.cs_model.specs.Sound.{Bounded, Sound}
 use Rattle.cs_model.proofs.Tests.{some_pages, not_empty_at, where_damaged}
 use Rattle.cs_model.proofs.Parts.{each}
@@ -78,8 +83,37 @@ module _ (S : Shape) (F : Formats) (shape : IsShape S) (img : ℕ → Page) (n :
   as_read p = ap (λ (ws : List Write). page_in (everything (opened_world S F img n m g)) img ws p)
       (no_writes S.sections)
 
-  pub opens_sound : Sound S F (opened_state S F img n m g)
-  opens_sound = record {
+  -- the root's own pointers are those of the extents, but 0 where it names nothing
+  root_pointers : (e : ℕ) → ((root_read S F img n m g).pointers e ≡ g.pointers e)
+      ⊎ ((root_read S F img n m g).pointers e ≡ 0)
+  root_pointers e = go S.apart
+    where
+      names : (b : Bool) → ((if b then g.pointers e else 0) ≡ g.pointers e) ⊎ ((if b then g.pointers e else 0) ≡ 0)
+      names true = inl refl
+      names false = inr refl
+
+      go : (b : Bool) → ((if b then named g.pointers g.runs else g.pointers) e ≡ g.pointers e)
+          ⊎ ((if b then named g.pointers g.runs else g.pointers) e ≡ 0)
+      go true = names (nat_lt 0 (lives_on e (entries_of g.runs)) || any_run_on g.runs e)
+      go false = inl refl
+
+  root_below : (k e : ℕ) → k < (root_read S F img n m g).pointers e → k < g.pointers e
+  root_below k e lt = ⊎_elim
+      (λ (same : (root_read S F img n m g).pointers e ≡ g.pointers e). subst (λ (j : ℕ). k < j) same lt)
+      (λ (none : (root_read S F img n m g).pointers e ≡ 0). absurd
+      (let below : k < (root_read S F img n m g).pointers e = lt in omega arith)) (root_pointers e)
+
+  root_gives : Gives S F (opening_in S F img g.pointers g.generations) img (root_read S F img n m g).pointers g.generations
+      [] g.runs m
+  root_gives = go S.apart refl
+    where
+      go : (b : Bool) → S.apart ≡ b → Gives S F (opening_in S F img g.pointers g.generations) img
+          (if b then named g.pointers g.runs else g.pointers) g.generations [] g.runs m
+      go true on = gives_named S F (shape.apart on).0 img g.pointers g.generations g.runs m g.gives
+      go false before = g.gives
+
+  read_sound : Sound S F (state_read S F img n m g)
+  read_sound = record {
     safe = record {
       guards = record {
         guarded = only_root _
@@ -91,7 +125,7 @@ module _ (S : Shape) (F : Formats) (shape : IsShape S) (img : ℕ → Page) (n :
                         (is_read S.sections u has).0 ∙ c.generation;
                     below = subst (λ (k : ℕ). S.index h.page < k)
                         (ap (λ (v : Superblock). v.pointers (S.extent h.page)) (sym (is_read S.sections u has).0))
-                        c.below;
+                        (root_below (S.index h.page) (S.extent h.page) c.below);
                   });
             });
         needed = only_root _
@@ -112,12 +146,15 @@ module _ (S : Shape) (F : Formats) (shape : IsShape S) (img : ℕ → Page) (n :
         good = only_root _
             (subst (λ (ws : List Write). RootGives S F (opening_in S F img g.pointers g.generations)
             (root_read S F img n m g) (page_as_staged S (root_read S F img n m g) img ws))
-            (sym (no_writes S.sections)) (g.gives, g.root_fits, g.runs_fit, g.bounds));
+            (sym (no_writes S.sections)) (root_gives, g.root_fits, g.runs_fit, g.bounds));
         rewritten = λ x y none. absurd (no_write x none);
         written_later = λ r is e fz some x none. absurd (no_write x none);
       };
       since_resets = record {
-        fresh = only_root _ (λ h c. inl c);
+        fresh = only_root _ (λ h c. inl (record {
+          generation = c.generation;
+          below = root_below (S.index h.page) (S.extent h.page) c.below;
+        }));
         same_or_reset = only_root _ (λ e some. inl refl);
         written_once = λ x none. absurd (no_write x none);
         unwritten = λ e fz x none at. absurd (no_write x none);
@@ -221,6 +258,13 @@ module _ (S : Shape) (F : Formats) (shape : IsShape S) (img : ℕ → Page) (n :
     once = tt;
     idle = λ off. (refl, refl, refl);
     swept = λ e wrong. absurd (true≢false (sym wrong));
+    apart = λ on. record {
+      found = λ e fz. subst (λ (f : ℕ → ℕ). 0 < f e)
+          (sym (ap (λ (b : Bool). if b then g.pointers else λ (d : ℕ). 0) on))
+          (some_pages (and_right (g.generations e == g.generations e) (nat_lt 0 (g.pointers e)) fz));
+      one_sweep = λ d e wrong. absurd (true≢false (sym wrong));
+      copied = λ some c none. absurd none;
+    };
     frozen = λ e fz. (
       (λ same. let wrong : None ≡ Some e = same in cc),
       some_pages (and_right (g.generations e == g.generations e) (nat_lt 0 (g.pointers e)) fz),
@@ -248,8 +292,8 @@ module _ (S : Shape) (F : Formats) (shape : IsShape S) (img : ℕ → Page) (n :
           → r.commands ≡ n
       count = only_root _ refl
 
-  pub opens_bounded : Bounded S F (opened_state S F img n m g)
-  opens_bounded = record {
+  read_bounded : Bounded S F (state_read S F img n m g)
+  read_bounded = record {
     bounds = record {
       some_version = g.bounds.some_version;
       version_fits = g.bounds.version_fits;
@@ -260,4 +304,30 @@ module _ (S : Shape) (F : Formats) (shape : IsShape S) (img : ℕ → Page) (n :
     };
     runs_fit = g.runs_fit;
     written_fits = omega arith;
+  }
+
+  -- the state as it was read, with extents that were reset by the rule or not
+  abbrev with_extents : Bool → State
+  with_extents b = record (state_read S F img n m g) {
+    world = record (state_read S F img n m g).world {
+      extents = if b then (freed S (state_read S F img n m g)).world.extents else extents_read S F img n m g;
+    };
+  }
+
+  pub opens_sound : Sound S F (opened_state S F img n m g)
+  opens_sound = go S.apart refl
+    where
+      go : (b : Bool) → S.apart ≡ b → Sound S F (with_extents b)
+      go false before = read_sound
+      go true on = freed_sound S F shape on (state_read S F img n m g) read_sound
+          (λ e is. only_root _ (λ ver. subst (λ (f : ℕ → ℕ). f e ≡ 0)
+          (sym (ap (λ (b : Bool). if b then named g.pointers g.runs else g.pointers) on))
+          (unnamed_blank S (state_read S F img n m g) e g.pointers g.runs refl refl is)))
+          (root_read S F img n m g, inl refl, refl, λ e x none. absurd (no_write x none))
+
+  pub opens_bounded : Bounded S F (opened_state S F img n m g)
+  opens_bounded = record {
+    bounds = read_bounded.bounds;
+    runs_fit = read_bounded.runs_fit;
+    written_fits = read_bounded.written_fits;
   }

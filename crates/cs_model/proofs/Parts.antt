@@ -1,5 +1,5 @@
 -- Members of a list, functions changed at one place, and sets of elements as more is staged.
-use Rattle.std.proofs.Common.{◌≡◌, ◌≢◌, inl, inr, ℕ, ◌≤◌, Bool, true, false, ◌&&◌, if◌then◌else◌, List, ◌∷◌, ◌==◌, le_refl, le_trans, refl, sym, subst, arith}
+use Rattle.std.proofs.Common.{◌≡◌, ◌≢◌, inl, inr, ℕ, ◌≤◌, Bool, true, false, ◌&&◌, if◌then◌else◌, List, ◌∷◌, ◌==◌, le_refl, le_trans, true≢false, refl, sym, subst, arith}
 use Rattle.std.proofs.lemmas.Bool.{cases_eq}
 use Rattle.std.proofs.lemmas.Bool.Decides.{nat_tests}
 use Rattle.cs_model.specs.Cut.{Cut, Exact, page_in}
@@ -21,6 +21,10 @@ pub each_two : {A : Type 0} (P : A → A → Type 0) (y : A) (ys : List A) → P
 each_two P y ys both first second old x z is_x is_z = each (λ x. P x z) y ys
     (each (λ z. P y z) y ys both first z is_z)
     (λ x has. each (λ z. P x z) y ys (second x has) (λ z has_z. old x z has has_z) z is_z) x is_x
+
+-- the false rule isn't the true one
+pub not_apart : {A : Type 0} → false ≡ true → A
+not_apart wrong = absurd (true≢false (sym wrong))
 
 pub with_same : (f : ℕ → ℕ) (e v x : ℕ) → x ≡ e → with f e v x ≡ v
 with_same f e v x is = let test : (x == e) ≡ true = grind (arith, nat_tests) in rw test

@@ -1,6 +1,9 @@
 -- Every event has an answer.
-use Rattle.std.proofs.Common.{◌≡◌, ◌≢◌, ◌⊎◌, inl, inr, ⊎_elim, ℕ, ◌≤◌, true, false, List, [], ◌∷◌, Option, Some, None, refl, sym, ap, ◌∙◌, arith}
+use Rattle.std.proofs.Common.{◌≡◌, ◌≢◌, ◌⊎◌, inl, inr, ⊎_elim, ℕ, ◌≤◌, true, false, List, [], ◌∷◌, Option, Some, None, refl, sym, ◌∙◌, arith, ◌<◌}
 use Rattle.std.proofs.lemmas.Bool.{cases_eq, cases_lt, cases_Bool}
+use Rattle.cs_model.proofs.Places.{is_at}
+use Rattle.cs_model.proofs.Rules.{before_rule, rule_before}
+use Rattle.cs_model.proofs.ApartAnswered.{answers_begin_apart, answers_move_apart, answers_retire_apart}
 use Rattle.cs_model.proofs.Lists.{some_frontier}
 use Rattle.cs_model.proofs.Taking.{some_round, some_members, waits_or_not}
 use Rattle.cs_model.proofs.Outcomes.{Answers, not_true, clears, ends}
@@ -116,41 +119,48 @@ module _ (S : Shape) (F : Formats) (shape : IsShape S) (format : IsFormat S F) w
         inl (inr (on, inl (inr (λ empty. let e : m ∷ ms ≡ [] = sym is ∙ empty in cc), refl)), refl),
       )
 
+  begin_before : S.apart ≡ false → (s : State) (e : ℕ) → (s.halted ≡ true → ⊥) → Answers S F shape format s (BeginSweep e)
+  begin_before before s e on = ⊎_elim
+      (λ (open_one : s.world.extents.open_extent ≡ Some e). refused (inl open_one))
+      (λ (closed : s.world.extents.open_extent ≢ Some e). elim (cases_lt e S.extents) [
+        | inr out ↦ refused (inr (inl out))
+        | inl there ↦ elim (cases_eq (s.world.extents.pointer e) 0) [
+          | inl empty ↦ refused (inr (inr (inl empty)))
+          | inr some ↦ elim (cases_Bool (s.world.extents.swept e)) [
+            | inl swept ↦ refused (inr (inr (inr swept)))
+            | inr not ↦ (
+              Sweeping,
+              mark s e true,
+              (
+                clears Halted on (clears NotSweepable (λ bad. fine closed there some not (before_rule _ _ S.apart before bad)) ends),
+                rule_before _ _ S.apart before (not, closed, there, omega arith, refl),
+              ),
+            )
+          ]
+        ]
+      ])
+      (is_at S s.world.extents.open_extent e)
+    where
+      refused : (s.world.extents.open_extent ≡ Some e) ⊎ (S.extents ≤ e) ⊎ (s.world.extents.pointer e ≡ 0)
+          ⊎ (s.world.extents.swept e ≡ true) → Answers S F shape format s (BeginSweep e)
+      refused bad = (Refused NotSweepable, s, (inl (inr (on, inl (rule_before _ _ S.apart before bad, refl))), refl))
+
+      fine : s.world.extents.open_extent ≢ Some e → e < S.extents → s.world.extents.pointer e ≢ 0
+          → s.world.extents.swept e ≡ false → (s.world.extents.open_extent ≡ Some e) ⊎ (S.extents ≤ e)
+          ⊎ (s.world.extents.pointer e ≡ 0) ⊎ (s.world.extents.swept e ≡ true) → ⊥
+      fine closed there some not (inl open_one) = closed open_one
+      fine closed there some not (inr (inl out)) = omega arith
+      fine closed there some not (inr (inr (inl empty))) = some empty
+      fine closed there some not (inr (inr (inr swept))) = not_true (s.world.extents.swept e) not swept
+
   answers_begin_sweep : (s : State) (e : ℕ) → Answers S F shape format s (BeginSweep e)
   answers_begin_sweep s e = elim (cases_Bool s.halted) [
     | inl halted ↦ (Refused Halted, s, (inl (inl (halted, refl)), refl))
-    | inr runs ↦ (let on : s.halted ≡ true → ⊥ = not_true s.halted runs in ⊎_elim
-        (λ (open_one : s.world.extents.open_extent ≡ Some e).
-        (Refused NotSweepable, s, (inl (inr (on, inl (inl open_one, refl))), refl)))
-        (λ (closed : s.world.extents.open_extent ≢ Some e). elim (cases_lt e S.extents) [
-          | inr out ↦ (Refused NotSweepable, s, (inl (inr (on, inl (inr (inl out), refl))), refl))
-          | inl there ↦ elim (cases_eq (s.world.extents.pointer e) 0) [
-            | inl empty ↦ (Refused NotSweepable, s, (inl (inr (on, inl (inr (inr (inl empty)), refl))), refl))
-            | inr some ↦ elim (cases_Bool (s.world.extents.swept e)) [
-              | inl swept ↦ (Refused NotSweepable, s, (inl (inr (on, inl (inr (inr (inr swept)), refl))), refl))
-              | inr not ↦ (
-                Sweeping,
-                mark s e true,
-                (
-                  clears Halted on (clears NotSweepable
-                      (λ bad. ⊎_elim closed (λ b. ⊎_elim (λ (out : S.extents ≤ e). omega arith)
-                      (λ c. ⊎_elim some (λ swept. not_true (s.world.extents.swept e) not swept) c) b) bad) ends),
-                  (not, closed, there, omega arith, refl),
-                ),
-              )
-            ]
-          ]
-        ])
-        (is_open s.world.extents.open_extent refl))
+    | inr runs ↦ elim (cases_Bool S.apart) [
+      | inl apart ↦ answers_begin_apart S F shape format apart s e (not_true s.halted runs)
+      | inr before ↦ begin_before before s e (not_true s.halted runs)
+    ]
   ]
-    where
-      is_open : (o : Option ℕ) → s.world.extents.open_extent ≡ o → (s.world.extents.open_extent ≡ Some e)
-          ⊎ (s.world.extents.open_extent ≢ Some e)
-      is_open None is = inr (λ open_one. let wrong : None ≡ Some e = sym is ∙ open_one in cc)
-      is_open (Some d) is = elim (cases_eq d e) [
-        | inl same ↦ inl (is ∙ ap (λ (n : ℕ). Some n) same)
-        | inr not ↦ inr (λ open_one. not (let at : Some d ≡ Some e = sym is ∙ open_one in cc))
-      ]
 
   answers_abandon : (s : State) (e : ℕ) → Answers S F shape format s (Abandon e)
   answers_abandon s e = elim (cases_Bool s.halted) [
@@ -188,7 +198,13 @@ module _ (S : Shape) (F : Formats) (shape : IsShape S) (format : IsFormat S F) w
   answers s Issue sound b = answers_issue s
   answers s End sound b = answers_end s sound
   answers s (BeginSweep e) sound b = answers_begin_sweep s e
-  answers s (MoveOne e) sound b = answers_move S F shape format s e sound b
-  answers s (Retire e) sound b = answers_retire S F shape format s e sound b
+  answers s (MoveOne e) sound b = elim (cases_Bool S.apart) [
+    | inl apart ↦ answers_move_apart S F shape format apart s e sound b
+    | inr before ↦ answers_move S F shape format before s e sound b
+  ]
+  answers s (Retire e) sound b = elim (cases_Bool S.apart) [
+    | inl apart ↦ answers_retire_apart S F shape format apart s e sound b
+    | inr before ↦ answers_retire S F shape format before s e sound b
+  ]
   answers s (Abandon e) sound b = answers_abandon s e
   answers s (Settle n) sound b = answers_settle s n sound

@@ -1,6 +1,8 @@
 -- A root that locates nothing on an extent, and the reset of the extent, keep a state sound.
-use Rattle.std.proofs.Common.{◌≡◌, ◌≢◌, ◌⊎◌, inl, inr, ⊎_elim, ℕ, suc, ◌+◌, ◌<◌, ◌≤◌, true, false, List, [], length, if◌then◌else◌, ◌==◌, eq-eqb, ne_eqb, true≢false, refl, sym, ap, ◌∙◌, subst, arith}
+use Rattle.std.proofs.Common.{◌≡◌, ◌≢◌, ◌⊎◌, inl, inr, ⊎_elim, ℕ, suc, ◌+◌, ◌<◌, ◌≤◌, true, false, List, [], length, if◌then◌else◌, ◌==◌, eq-eqb, ne_eqb, true≢false, refl, sym, ap, ◌∙◌, subst, arith, Bool, Option, Some, None}
 use Rattle.std.proofs.lemmas.Bool.{cases_eq}
+use Rattle.cs_model.proofs.Rules.{not_both_rules}
+use Rattle.cs_model.specs.Extents.{other_than}
 use Rattle.cs_model.specs.Device.{IsShape, Shape}
 use Rattle.cs_model.specs.Element.{A_root, A_superblock, A_write, Element, Root, Run}
 use Rattle.cs_model.specs.Events.{newest_page, retired}
@@ -20,14 +22,25 @@ use Rattle.cs_model.proofs.RoundMoves.{keeps_marks}
 use Rattle.cs_model.proofs.Carries.{root_local, carry}
 use Rattle.cs_model.proofs.Roots.{RootFits, root_staged, root_maps, root_last, root_member, root_back}
 
+-- the extent that is open after one was forgotten was open before
+pub was_open : (apart : Bool) (e d : ℕ) (o : Option ℕ) → (if apart then other_than e o else o) ≡ Some d → o ≡ Some d
+was_open false e d o is = is
+was_open true e d None is = is
+was_open true e d (Some c) is = kept (c == e) is
+  where
+    kept : (b : Bool) → (if b then None else Some c) ≡ Some d → Some c ≡ Some d
+    kept true at = absurd (let wrong : None ≡ Some d = at in cc)
+    kept false at = at
+
 module _ (S : Shape) (F : Formats) (shape : IsShape S) (format : IsFormat S F) where
   -- a root is staged that covers nothing of an extent, and the extent is reset
-  pub reset_sound : (s : State) (runs : List Run) (e : ℕ) → Sound S F s
+  pub reset_sound : S.apart ≡ false → (s : State) (runs : List Run) (e : ℕ) → Sound S F s
       → Gives S F s.opening (newest_page s) (with s.world.extents.pointer e 0) s.world.extents.generation [] runs
       (map_now s) → RootFits S F s runs → s.world.extents.generation e < S.greatest_generation
       → e < S.extents → Sound S F (retired S F s runs e)
-  reset_sound s runs e sound gives fit young exists = record {
+  reset_sound before s runs e sound gives fit young exists = record {
     damaged = sound.damaged;
+    apart = λ on. not_both_rules S.apart before on;
     frozen = λ d. elim (cases_eq d e) [
       | inl same ↦ (λ fz. absurd (
           let up : with s.world.extents.generation e (suc (s.world.extents.generation e)) d ≡ suc
@@ -39,10 +52,10 @@ module _ (S : Shape) (F : Formats) (shape : IsShape S) (format : IsFormat S F) w
       | inr not ↦ (λ fz. let old = sound.frozen d
           (ap (s.opening.frozen d)
           (sym (with_other s.world.extents.generation e (suc (s.world.extents.generation e)) d not)) ∙ fz) in
-          (old.0, subst (λ (k : ℕ). 0 < k) (sym (with_other s.world.extents.pointer e 0 d not)) old.1))
+          (still_closed d old.0, subst (λ (k : ℕ). 0 < k) (sym (with_other s.world.extents.pointer e 0 d not)) old.1))
     ];
     safe = keeps_marks S (RootGives S F s.opening) s.opening.frozen s.opened (root_local S F shape)
-        (happens S w (ResetExtent e)) s.world.extents.open_extent (retired S F s runs e).world.extents.swept
+        (happens S w (ResetExtent e)) (retired S F s runs e).world.extents
         (keeps_reset S (RootGives S F s.opening) s.opening.frozen s.opened (root_local S F shape) w e (
           each (λ (r : Root). suc s.world.root ≤ r.version → r.pointers e ≡ 0) _ _
               (λ ver. with_same s.world.extents.pointer e 0 e refl)
@@ -96,9 +109,13 @@ module _ (S : Shape) (F : Formats) (shape : IsShape S) (format : IsFormat S F) w
     issued = λ m has. reset_member m
         (root_member S F shape format s.world n runs (map_now s) pointers m (sound.issued m has));
     swept = λ d is. (let l = less d is in let o = sound.swept d l.1 in
-        (o.0, subst (λ (k : ℕ). 0 < k) (sym (with_other s.world.extents.pointer e 0 d l.0)) o.1, o.2));
+        (still_closed d o.0, subst (λ (k : ℕ). 0 < k) (sym (with_other s.world.extents.pointer e 0 d l.0)) o.1, o.2));
   }
     where
+      still_closed : (d : ℕ) → s.world.extents.open_extent ≢ Some d
+          → (if S.apart then other_than e s.world.extents.open_extent else s.world.extents.open_extent) ≢ Some d
+      still_closed d not is = not (was_open S.apart e d s.world.extents.open_extent is)
+
       less : (d : ℕ) → (if d == e then false else s.world.extents.swept d) ≡ true → (d ≢ e)
           × (s.world.extents.swept d ≡ true)
       less d = elim (cases_eq d e) [

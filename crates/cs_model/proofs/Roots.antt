@@ -56,6 +56,7 @@ module _ (S : Shape) (F : Formats) (shape : IsShape S) (format : IsFormat S F) w
     swept = sound.swept;
     frozen = sound.frozen;
     damaged = sound.damaged;
+    apart = λ on. record { found = (sound.apart on).found; one_sweep = (sound.apart on).one_sweep; copied = (sound.apart on).copied };
   }
 
   -- where each locator passes and holds what its id then has
@@ -143,26 +144,39 @@ module _ (S : Shape) (F : Formats) (shape : IsShape S) (format : IsFormat S F) w
     is.2,
   )
 
+  -- a root is staged whose own record of the pointers may count extents as empty
+  pub rooted_under : (s : State) (runs : List Run) (pointers : ℕ → ℕ) → Sound S F s
+      → ((e : ℕ) → (pointers e ≡ s.world.extents.pointer e) ⊎ (pointers e ≡ 0))
+      → Gives S F s.opening (newest_page s) s.world.extents.pointer s.world.extents.generation [] runs (map_now s)
+      → Gives S F s.opening (newest_page s) pointers s.world.extents.generation [] runs (map_now s)
+      → RootFits S F s runs → Sound S F (rooted S F s runs pointers)
+  rooted_under s runs pointers sound agree gives under fit = record {
+    frozen = sound.frozen;
+    damaged = sound.damaged;
+    apart = λ on. record {
+      found = (sound.apart on).found;
+      one_sweep = (sound.apart on).one_sweep;
+      copied = (sound.apart on).copied;
+    };
+    safe = keeps_root S (RootGives S F s.opening) s.opening.frozen s.opened (root_local S F shape) s.world
+        (s.count + length s.commands) runs (map_now s) pointers
+        (root_staged s runs pointers sound agree under fit) sound.safe;
+    settled = root_settled s.world (s.count + length s.commands) runs (map_now s) pointers sound.settled;
+    gives = gives;
+    maps = root_maps s runs pointers sound;
+    caught_up = λ none. root_last s runs pointers sound;
+    complete = λ busy m is. sound.complete busy m (root_back s runs pointers sound m is);
+    once = sound.once;
+    idle = sound.idle;
+    left = λ m has. root_member s.world (s.count + length s.commands) runs (map_now s) pointers m (sound.left m has);
+    issued = λ m has. root_member s.world (s.count + length s.commands) runs (map_now s) pointers m
+        (sound.issued m has);
+    swept = sound.swept;
+  }
+
   pub rooted_sound : (s : State) (runs : List Run) → Sound S F s
       → Gives S F s.opening (newest_page s) s.world.extents.pointer s.world.extents.generation [] runs (map_now s)
       → RootFits S F s runs
       → Sound S F (rooted S F s runs s.world.extents.pointer)
-  rooted_sound s runs sound gives fit = record {
-    frozen = sound.frozen;
-    damaged = sound.damaged;
-    safe = keeps_root S (RootGives S F s.opening) s.opening.frozen s.opened (root_local S F shape) s.world
-        (s.count + length s.commands) runs (map_now s) s.world.extents.pointer
-        (root_staged s runs s.world.extents.pointer sound (λ e. inl refl) gives fit) sound.safe;
-    settled = root_settled s.world (s.count + length s.commands) runs (map_now s) s.world.extents.pointer sound.settled;
-    gives = gives;
-    maps = root_maps s runs s.world.extents.pointer sound;
-    caught_up = λ none. root_last s runs s.world.extents.pointer sound;
-    complete = λ busy m is. sound.complete busy m (root_back s runs s.world.extents.pointer sound m is);
-    once = sound.once;
-    idle = sound.idle;
-    left = λ m has. root_member s.world (s.count + length s.commands) runs (map_now s) s.world.extents.pointer m
-        (sound.left m has);
-    issued = λ m has. root_member s.world (s.count + length s.commands) runs (map_now s) s.world.extents.pointer m
-        (sound.issued m has);
-    swept = sound.swept;
-  }
+  rooted_sound s runs sound gives fit =
+      rooted_under s runs s.world.extents.pointer sound (λ e. inl refl) gives gives fit

@@ -1,11 +1,16 @@
 -- A round, and a mark on an extent, keep what makes a crash safe.
-use Rattle.std.proofs.Common.{Bool, Option, ◌≡◌, inl, ⊎_elim, ℕ, suc, ◌<◌, ◌≤◌, true, le_trans, le_refl, arith}
+use Rattle.std.proofs.Common.{Bool, ◌≡◌, inl, ⊎_elim, ℕ, suc, ◌<◌, ◌≤◌, true, le_trans, le_refl, arith}
 use Rattle.cs_model.specs.Cut.{Closed, Cut, Exact, Within}
 use Rattle.cs_model.specs.Device.{Inside, Page, Place, Shape}
 use Rattle.cs_model.specs.Element.{Log, Root, log_of, roots_of, superblocks_of}
+use Rattle.cs_model.specs.Extents.{Extents}
 use Rattle.cs_model.specs.Guard.{Covers}
 use Rattle.cs_model.specs.Machine.{BeginRound, EndRound, World, happens}
 use Rattle.cs_model.specs.Safe.{Allowed, AreThere, ClosesRound, IsNoLater, Safe}
+
+-- the marks of y, on extents of these pointers, generations and resets
+abbrev pub marks_of : (x y : Extents) → Extents
+marks_of x y = record y { pointer = x.pointer; generation = x.generation; reset = x.reset }
 
 same : (X : Cut) → Within X X
 same X = record { writes = λ n has. has; superblocks = λ j. le_refl _; root = le_refl _ }
@@ -61,17 +66,16 @@ module _ (S : Shape) (Good : Root → (ℕ → Page) → Type 0) (frozen : ℕ �
   suc_le : {a b : ℕ} → a ≤ b → suc a ≤ suc b
   suc_le h = omega arith
 
-  -- which extent is open, and which are being swept, matters to no element; nor does what is persistent, but to what
-  -- isn't yet
-  turned : (w : World) (o : Option ℕ) (swept : ℕ → Bool) (P R : Cut) → Safe S Good frozen opened w
+  -- what is noted of extents matters to no element; nor does what is persistent, but to what isn't yet
+  turned : (w : World) (x : Extents) (P R : Cut) → Safe S Good frozen opened w
       → AreThere (superblocks_of w.elements) (roots_of w.elements) w.superblocks w.root P
       → ClosesRound S (log_of w.elements) w.written w.superblocks w.root P R
       → Safe S Good frozen opened (record w {
-        extents = record w.extents { open_extent = o; swept = swept };
+        extents = marks_of w.extents x;
         persistent = P;
         round = R;
       })
-  turned w o swept P R s there round = record {
+  turned w x P R s there round = record {
     guards = s.guards;
     reads = s.reads;
     since_resets = s.since_resets;
@@ -86,13 +90,13 @@ module _ (S : Shape) (Good : Root → (ℕ → Page) → Type 0) (frozen : ℕ �
     round = round;
   }
 
-  pub keeps_marks : (w : World) (o : Option ℕ) (swept : ℕ → Bool) → Safe S Good frozen opened w
-      → Safe S Good frozen opened (record w { extents = record w.extents { open_extent = o; swept = swept } })
-  keeps_marks w o swept s = turned w o swept w.persistent w.round s s.there s.round
+  pub keeps_marks : (w : World) (x : Extents) → Safe S Good frozen opened w
+      → Safe S Good frozen opened (record w { extents = marks_of w.extents x })
+  keeps_marks w x s = turned w x w.persistent w.round s s.there s.round
 
   pub keeps_begin : (w : World) (R : Cut) → Allowed S Good frozen opened w (BeginRound R)
       → Safe S Good frozen opened w → Safe S Good frozen opened (happens S w (BeginRound R))
-  keeps_begin w R next s = turned w w.extents.open_extent w.extents.swept w.persistent R s s.there (record {
+  keeps_begin w R next s = turned w w.extents w.persistent R s s.there (record {
     closed = s.closed;
     exact = s.exact;
     round_exact = next.0;
@@ -103,7 +107,7 @@ module _ (S : Shape) (Good : Root → (ℕ → Page) → Type 0) (frozen : ℕ �
   })
 
   pub keeps_end : (w : World) → Safe S Good frozen opened w → Safe S Good frozen opened (happens S w EndRound)
-  keeps_end w s = turned w w.extents.open_extent w.extents.swept w.round w.round s
+  keeps_end w s = turned w w.extents w.round w.round s
       (record {
         superblocks_there = λ j n lo hi. s.superblocks_there j n (le_trans (suc_le (s.within.superblocks j)) lo) hi;
         roots_there = λ n lo hi. s.roots_there n (le_trans (suc_le s.within.root) lo) hi;

@@ -3,6 +3,7 @@ use Rattle.std.proofs.Common.{◌≡◌, ◌≢◌, inl, inr, ℕ, suc, ◌+◌,
 use Rattle.std.proofs.lemmas.Bool.{cases_Bool, cases_eq, cases_lt}
 use Rattle.std.proofs.lemmas.Bool.Decides.{nat_tests}
 use Rattle.std.proofs.lemmas.Nat.{div-mul-add, mod-mul-add, div_below}
+use Rattle.cs_model.proofs.Parts.{not_apart}
 use Rattle.cs_model.specs.Device.{FramePage, IsShape, RootPage, SectionPage, Shape}
 use Rattle.cs_model.specs.Geometry.{IsGeometry, shape_of}
 
@@ -74,6 +75,7 @@ module _ (E P N Q f : ℕ) (g : IsGeometry E P N Q) where
       | inl few ↦ rw few (le_refl _)
       | inr many ↦ rw many (omega arith)
     ];
+    apart = λ on. not_apart on;
     some_byte = (let p : 0 < P = g.some_page in omega arith);
     section_only = only_section;
     frame_kind = λ e i inside. at_frames (2 + (e * P + i)) (omega arith) (inside_below e i inside.0 inside.1);

@@ -68,7 +68,7 @@ module _ (S : Shape) (F : Formats) (format : IsFormat S F) (img : ℕ → Page) 
   same_value (Some (l ∷ ls)) v w a b = a.2 ∙ ap (λ (c : Content). Some c) (same_reading (l ∷ ls) a.0 b.0 a.1 b.1)
       ∙ sym b.2
 
-  same_entries : (xs ys : List Run) → places xs ≡ places ys → ((r : Run) → r ∈ xs → F.fits_run r.entries ≡ true)
+  pub same_entries : (xs ys : List Run) → places xs ≡ places ys → ((r : Run) → r ∈ xs → F.fits_run r.entries ≡ true)
       → ((r : Run) → r ∈ ys → F.fits_run r.entries ≡ true)
       → ((r : Run) → r ∈ xs
       → Reads S F (opening_in S F img p g) img p g r.place (F.frame RunFrame (F.run r.entries)))

@@ -88,7 +88,7 @@ one_or_other : (b : Bool) (x y : Option Content) (f : Refusal) → x ≢ Some (D
 one_or_other true x y f a b is = a is
 one_or_other false x y f a b is = b is
 
-whole_after : (start : Map) (cs : List Command) → NoneDamaged start → NoneDamaged (after_all start cs)
+pub whole_after : (start : Map) (cs : List Command) → NoneDamaged start → NoneDamaged (after_all start cs)
 whole_after start [] whole = whole
 whole_after start (c ∷ cs) whole = λ id f. one_or_other (id == c.0) (content_of c.1) (after_all start cs id) f
     (not_damaged c.1 f) (whole_after start cs whole id f)

@@ -1,8 +1,8 @@
 -- What is staged with a frame.
-use Rattle.std.specs.Prelude.{◌≡◌, ◌≢◌, ◌⊎◌, ◌+◌, ◌<◌, ◌≤◌, ◌∷◌, ℕ, suc, List, length, Option, []}
+use Rattle.std.specs.Prelude.{◌≡◌, ◌≢◌, ◌⊎◌, ◌+◌, ◌<◌, ◌≤◌, ◌∷◌, ℕ, suc, Bool, false, List, length, Option, []}
 use Rattle.cs_model.specs.Device.{Page, Shape}
 use Rattle.cs_model.specs.Element.{Entry, Locator, Run, Superblock, superblocks_of}
-use Rattle.cs_model.specs.Extents.{Extents, ForPut, Placed, Purpose, open_after}
+use Rattle.cs_model.specs.Extents.{Extents, ForPut, Goes, Purpose, noted_by, open_after}
 use Rattle.cs_model.specs.Formats.{ChunkFrame, Formats, FrameKind, RunFrame}
 use Rattle.cs_model.specs.Index.{IsMergedRun, live_at}
 use Rattle.cs_model.specs.Lists.{◌∈◌}
@@ -33,22 +33,38 @@ module _ (S : Shape) where
       (happens S (stage_pages w e (w.extents.pointer e) bs) (StageSuperblock (S.section e) need))
       (open_after S e (w.extents.pointer e + length bs))
 
+  -- the world v, with what is noted of its extents where k pages of e were given that x had left
+  abbrev pub noting : (apart : Bool) → Purpose → (x : Extents) → (e k : ℕ) → (v : World) → World
+  noting apart purpose x e k v = record v { extents = noted_by S apart purpose x e k v.extents }
+
+  -- the same of an append, where chunks and runs lie apart or not
+  abbrev pub appended_by : (apart : Bool) → Purpose → World → (e need : ℕ) → List Page → World
+  appended_by apart purpose w e need bs = noting apart purpose w.extents e (length bs)
+      (happens S (stage_pages w e (w.extents.pointer e) bs) (StageSuperblock (S.section e) need))
+
   -- a frame of these pages is appended, and l is where it begins
-  pub record Append (w : World) (purpose : Purpose) (bs : List Page) (l : Locator) (v : World) : Type 0 where
+  pub record AppendBy (apart : Bool) (w : World) (purpose : Purpose) (bs : List Page) (l : Locator)
+      (v : World) : Type 0 where
     pub extent : ℕ
     pub need : ℕ
-    pub placed : Placed S w.extents purpose (length bs) extent
+    pub placed : Goes S apart w.extents purpose (length bs) extent
     pub needs : IsNeed w (S.section extent) need
     pub at : l ≡ record { extent = extent; page = w.extents.pointer extent; generation = w.extents.generation extent }
-    pub after : v ≡ appended w extent need bs
+    pub after : v ≡ appended_by apart purpose w extent need bs
+
+  abbrev pub Append : World → Purpose → List Page → Locator → World → Type 0
+  Append w purpose bs l v = AppendBy false w purpose bs l v
 
   -- frames of these pages are appended one after another
+  abbrev pub AppendAllBy : (apart : Bool) → World → Purpose → List (List Page) → List Locator → World → Type 0
+  AppendAllBy apart w purpose [] [] v = v ≡ w
+  AppendAllBy apart w purpose (bs ∷ frames) (l ∷ ls) v =
+      (mid : World) × AppendBy apart w purpose bs l mid × AppendAllBy apart mid purpose frames ls v
+  AppendAllBy apart w purpose [] (l ∷ ls) v = ⊥
+  AppendAllBy apart w purpose (bs ∷ frames) [] v = ⊥
+
   abbrev pub AppendAll : World → Purpose → List (List Page) → List Locator → World → Type 0
-  AppendAll w purpose [] [] v = v ≡ w
-  AppendAll w purpose (bs ∷ frames) (l ∷ ls) v =
-      (mid : World) × Append w purpose bs l mid × AppendAll mid purpose frames ls v
-  AppendAll w purpose [] (l ∷ ls) v = ⊥
-  AppendAll w purpose (bs ∷ frames) [] v = ⊥
+  AppendAll w purpose frames ls v = AppendAllBy false w purpose frames ls v
 
   -- an append would take a number past its greatest
   abbrev pub AppendWorn : World → Purpose → List Page → Type 0
@@ -78,11 +94,17 @@ module _ (S : Shape) (F : Formats) where
       ⊎ (((id : ℕ) → live_at index id ≡ []) × (v ≡ w) × (runs ≡ []))
 
   -- in a state: a frame of this payload is appended
+  abbrev pub AppendsFrameBy : (apart : Bool) → State → Purpose → FrameKind → List ℕ → Locator → State → Type 0
+  AppendsFrameBy apart s purpose kind payload l t =
+      (v : World) × AppendBy S apart s.world purpose (F.frame kind payload) l v × (t ≡ record s { world = v })
+
   abbrev pub AppendsFrame : State → Purpose → FrameKind → List ℕ → Locator → State → Type 0
-  AppendsFrame s purpose kind payload l t =
-      (v : World) × Append S s.world purpose (F.frame kind payload) l v × (t ≡ record s { world = v })
+  AppendsFrame s purpose kind payload l t = AppendsFrameBy false s purpose kind payload l t
 
   -- in a state: the chunks of a put are appended
-  abbrev pub AppendsChunks : State → List (List ℕ) → List Locator → State → Type 0
-  AppendsChunks s cs ls t = (v : World) × AppendAll S s.world ForPut (chunk_frames cs) ls v
+  abbrev pub AppendsChunksBy : (apart : Bool) → State → List (List ℕ) → List Locator → State → Type 0
+  AppendsChunksBy apart s cs ls t = (v : World) × AppendAllBy S apart s.world ForPut (chunk_frames cs) ls v
       × (t ≡ record s { world = v })
+
+  abbrev pub AppendsChunks : State → List (List ℕ) → List Locator → State → Type 0
+  AppendsChunks s cs ls t = AppendsChunksBy false s cs ls t

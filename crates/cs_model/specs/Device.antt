@@ -1,5 +1,5 @@
 -- The device: its pages, what lies on each, and the limits of a store.
-use Rattle.std.specs.Prelude.{◌≡◌, ◌<◌, ◌≤◌, ℕ, Bool, List}
+use Rattle.std.specs.Prelude.{◌≡◌, ◌+◌, ◌<◌, ◌≤◌, ℕ, Bool, true, false, List}
 
 -- the bytes of a page
 abbrev pub Page : Type 0
@@ -24,6 +24,11 @@ pub record Shape : Type 0 where
   pub pages_first : Bool
   -- each entry of a root's runs names what is there; where not, one that a newer entry hides may name what is gone
   pub hidden_stand : Bool
+  -- a Stage merges the newest runs by their sizes; where not, all once there are four
+  pub by_size : Bool
+  -- an extent holds chunks or runs, and not both, and copies count once the sweep ends; how many may hold runs then
+  pub apart : Bool
+  pub run_extents : ℕ
   -- what is written to a page; the pages of the root and of the sections
   pub kind : ℕ → PageKind
   pub root_page : ℕ
@@ -48,7 +53,8 @@ pub record Shape : Type 0 where
 abbrev pub Inside : Shape → ℕ → ℕ → Type 0
 Inside S e i = (e < S.extents) × (i < S.pages)
 
--- no two things lie on one page, a shard can be put, and a root may have as many runs as Stage leaves
+-- no two things lie on one page, a shard can be put, and a root may have as many runs as Stage leaves; where chunks and
+-- runs lie apart a hidden entry may name what is gone, a Stage merges by sizes, and extents are left for both
 pub record IsShape (S : Shape) : Type 0 where
   pub root_kind : S.kind S.root_page ≡ RootPage
   pub section_kind : (j : ℕ) → j < S.sections → S.kind (S.section_page j) ≡ SectionPage j
@@ -61,6 +67,8 @@ pub record IsShape (S : Shape) : Type 0 where
   pub some_chunk : 0 < S.most_chunks
   pub some_byte : 0 < S.chunk_bytes
   pub enough_runs : 4 ≤ S.most_runs
+  pub apart : S.apart ≡ true → (S.hidden_stand ≡ false) × (S.by_size ≡ true)
+      × (1 ≤ S.run_extents) × (S.run_extents + 2 ≤ S.extents)
 
 -- a page of the device as one generation of its extent has it
 pub record Place : Type 0 where

@@ -31,6 +31,13 @@ pub record Locator : Type 0 where
   pub page : ℕ
   pub generation : ℕ
 
+-- a copy that a sweep wrote of a chunk: of which shard, its number there, where it was read and where it was written
+pub record Copy : Type 0 where
+  pub id : ℕ
+  pub chunk : ℕ
+  pub from : Locator
+  pub to : Locator
+
 -- what is known of the image at open
 pub record Opening : Type 0 where
   -- of a chunk that is damaged there, the refusal

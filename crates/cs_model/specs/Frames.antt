@@ -1,10 +1,14 @@
 -- The laws of a format.
-use Rattle.std.specs.Prelude.{◌≡◌, ◌+◌, ◌-◌, ◌<◌, ◌≤◌, ◌∷◌, ℕ, suc, true, List, length, None}
+use Rattle.std.specs.Prelude.{◌≡◌, ◌+◌, ◌-◌, ◌<◌, ◌≤◌, ◌∷◌, ℕ, suc, true, List, length, None, if◌then◌else◌}
 use Rattle.cs_model.specs.Device.{Page, Shape}
 use Rattle.cs_model.specs.Element.{Entry, Locator}
 use Rattle.cs_model.specs.Formats.{Formats, FrameKind, Stand, pages_from}
 use Rattle.cs_model.specs.Index.{InRange, IsRunList}
 use Rattle.cs_model.specs.Lists.{◌∈◌}
+
+-- how many runs a root that is staged has at most
+abbrev pub most_staged : Shape → ℕ
+most_staged S = if S.by_size then S.most_runs else 4
 
 -- what the machine asks of the spelling of its pages
 pub record IsFormat (S : Shape) (F : Formats) : Type 0 where
@@ -23,7 +27,7 @@ pub record IsFormat (S : Shape) (F : Formats) : Type 0 where
       → Stand S F img e i (F.frame kind a) → Stand S F img e i (F.frame kind b) → a ≡ b
   -- what is staged keeps to these bounds, and can be spelled
   pub root_fits : (v n : ℕ) (ls : List Locator) → 1 ≤ v → v ≤ S.greatest_number → n ≤ S.greatest_number
-      → length ls ≤ 4 → ((l : Locator) → l ∈ ls → InRange S l) → F.fits_root v n ls ≡ true
+      → length ls ≤ most_staged S → ((l : Locator) → l ∈ ls → InRange S l) → F.fits_root v n ls ≡ true
   pub run_fits : (entries : List Entry) → IsRunList S entries → F.fits_run entries ≡ true
   -- where a frame stands there is no fault
   pub no_fault : (img : ℕ → Page) (e i : ℕ) (kind : FrameKind) (payload : List ℕ)

@@ -1,17 +1,41 @@
 -- Where everything lies on the device, for a superblock of any number of sections.
-use Rattle.std.specs.Prelude.{◌+◌, ◌*◌, ◌-◌, ◌/◌, ◌%◌, ◌<◌, ◌≤◌, ◌==◌, ℕ, nat_le, nat_lt, if◌then◌else◌}
+use Rattle.std.specs.Prelude.{◌+◌, ◌*◌, ◌-◌, ◌/◌, ◌%◌, ◌<◌, ◌≤◌, ◌==◌, ℕ, Bool, true, false, nat_le, nat_lt, if◌then◌else◌}
 use Rattle.cs_model.specs.Device.{FramePage, RootPage, SectionPage, Shape}
 
+-- The rules that a format goes by. Each is the same for all formats until code goes by the other rule:
+-- a version of the superblock needs the page writes that it counts
+abbrev pub pages_first_in : (format : ℕ) → Bool
+pages_first_in format = true
+
+-- an entry of a run that a newer one hides names what is there
+abbrev pub hidden_stand_in : (format : ℕ) → Bool
+hidden_stand_in format = true
+
+-- a Stage merges the newest runs by their sizes
+abbrev pub by_size_in : (format : ℕ) → Bool
+by_size_in format = false
+
+-- chunks and runs lie apart
+abbrev pub apart_in : (format : ℕ) → Bool
+apart_in format = false
+
+-- how many extents may hold runs where they do
+abbrev pub most_run_extents : (extents : ℕ) → ℕ
+most_run_extents extents = if nat_le 16 extents then 2 else 1
+
 -- section 0 is on page 0, the root on page 1, the extents begin at page 2, and behind them are the other sections.
--- Up to format 2 page writes come first, hidden entries name what is there, and a root has few runs
+-- Up to format 2 a root has few runs
 abbrev pub shape_of : (extents pages sections per_section format : ℕ) → Shape
 shape_of extents pages sections per_section format = record {
   extents = extents;
   pages = pages;
   sections = sections;
   format = format;
-  pages_first = nat_le format 2;
-  hidden_stand = nat_le format 2;
+  pages_first = pages_first_in format;
+  hidden_stand = hidden_stand_in format;
+  by_size = by_size_in format;
+  apart = apart_in format;
+  run_extents = most_run_extents extents;
   kind = λ p. if p == 0 then SectionPage 0 else if p == 1 then RootPage
       else if nat_lt p (2 + extents * pages) then FramePage else SectionPage (p - (1 + extents * pages));
   root_page = 1;

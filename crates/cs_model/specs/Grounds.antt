@@ -1,13 +1,15 @@
 -- The grounds of each event's refusals, in their order.
 use Rattle.std.specs.Prelude.{◌≡◌, ◌≢◌, ◌⊎◌, ◌+◌, ◌*◌, ◌<◌, ◌≤◌, ℕ, Bool, true, false, List, length, Some, is_some, []}
-use Rattle.cs_model.specs.Append.{AppendsChunks, AppendsFrame}
+use Rattle.cs_model.specs.Append.{AppendsChunksBy, AppendsFrame, ResetWorn}
+use Rattle.cs_model.specs.Apart.{DamagedLeft, MayStage, NoRoomToCopy, NotSweepableApart, NothingLeft, StagesApart, by_rule, settled}
 use Rattle.cs_model.specs.Device.{Shape}
 use Rattle.cs_model.specs.Element.{Damaged, Entry, Locator, Run}
-use Rattle.cs_model.specs.Events.{Chunked, Does, Merged, ReadsNow}
+use Rattle.cs_model.specs.Events.{Chunked, Does, Merged, ReadsNow, mark}
 use Rattle.cs_model.specs.Extents.{ForMove, ForRun, Purpose}
 use Rattle.cs_model.specs.Formats.{ChunkFrame, Formats, RunFrame}
 use Rattle.cs_model.specs.Index.{FirstLive, IsTableRun, NothingLive, lookup, names}
 use Rattle.cs_model.specs.Machine.{PastGreatest}
+use Rattle.cs_model.specs.Merges.{MergesNewest, stage_takes}
 use Rattle.cs_model.specs.Refusal.{Full, Halted, InFlight, IndexFull, NoRound, NotSweepable, Refusal, StillLive, TooLarge, WornOut}
 use Rattle.cs_model.specs.State.{Abandon, Begin, BeginSweep, Delete, End, Event, Get, Issue, MoveOne, Put, Reply, Retire, Settle, Stage, State, index_now, map_now}
 
@@ -44,7 +46,7 @@ module _ (S : Shape) (F : Formats) where
   -- the chunks of these bytes don't fit
   abbrev pub NoRoomToPut : State → List ℕ → Type 0
   NoRoomToPut s bytes = (cs : List (List ℕ)) (ls : List Locator) (mid : State)
-      → Chunked S.chunk_bytes bytes cs → AppendsChunks S F s cs ls mid → ⊥
+      → Chunked S.chunk_bytes bytes cs → AppendsChunksBy S F S.apart s cs ls mid → ⊥
 
   -- the table doesn't fit as a run
   abbrev pub NoRoomForTable : State → Type 0
@@ -54,6 +56,14 @@ module _ (S : Shape) (F : Formats) where
   -- what is live doesn't fit as a run
   abbrev pub NoRoomForRun : State → Purpose → Type 0
   NoRoomForRun s purpose = (mid : State) (runs : List Run) → Merged S F s purpose mid runs → ⊥
+
+  -- what a Stage merges doesn't fit as a run
+  abbrev pub NoRoomToStage : State → Type 0
+  NoRoomToStage s = (mid : State) (runs : List Run) → MergesNewest S F s ForRun (stage_takes S s) mid runs → ⊥
+
+  -- what a Stage merges where chunks and runs lie apart goes nowhere, however much it merges
+  abbrev pub NoRoomApart : State → Type 0
+  NoRoomApart s = (t : State) → StagesApart S F s t → ⊥
 
   -- the first live chunk on the extent has nowhere to go
   abbrev pub NoRoomToMove : State → ℕ → Type 0
@@ -71,8 +81,7 @@ module _ (S : Shape) (F : Formats) where
   Refuses s (Get id) = FoundDamaged (λ f. map_now s id ≡ Some (Damaged f)) NoMore
   Refuses s (Delete id) = First Halted (s.halted ≡ true) (First WornOut (WouldPass s (Delete id)) NoMore)
   Refuses s Stage = First Halted (s.halted ≡ true)
-      (First Full ((s.table ≢ []) × (((length s.runs < 4) × NoRoomForTable s)
-      ⊎ ((4 ≤ length s.runs) × NoRoomForRun s ForRun)))
+      (First Full (by_rule S.apart ((s.table ≢ []) × NoRoomToStage s) (MayStage S s × NoRoomApart s))
       (First WornOut (WouldPass s Stage) NoMore))
   Refuses s Begin = First Halted (s.halted ≡ true) (First InFlight (s.round_out ≡ true) NoMore)
   Refuses s Issue = First Halted (s.halted ≡ true)
@@ -80,18 +89,22 @@ module _ (S : Shape) (F : Formats) where
   Refuses s End = First Halted (s.halted ≡ true)
       (First NoRound ((s.round_out ≡ false) ⊎ (s.left ≢ [])) NoMore)
   Refuses s (BeginSweep e) = First Halted (s.halted ≡ true)
-      (First NotSweepable ((s.world.extents.open_extent ≡ Some e) ⊎ (S.extents ≤ e)
-      ⊎ (s.world.extents.pointer e ≡ 0) ⊎ (s.world.extents.swept e ≡ true)) NoMore)
+      (First NotSweepable (by_rule S.apart
+      ((s.world.extents.open_extent ≡ Some e) ⊎ (S.extents ≤ e)
+      ⊎ (s.world.extents.pointer e ≡ 0) ⊎ (s.world.extents.swept e ≡ true))
+      (NotSweepableApart S s e)) NoMore)
   Refuses s (MoveOne e) = First Halted (s.halted ≡ true)
       (First NotSweepable (s.world.extents.swept e ≡ false)
-      (FoundDamaged (DamagedFirst s e)
-      (First Full ((NothingLive (index_now s) e → ⊥) × NoRoomToMove s e)
+      (FoundDamaged (λ f. by_rule S.apart (DamagedFirst s e f) (DamagedLeft S F s e f))
+      (First Full (by_rule S.apart ((NothingLive (index_now s) e → ⊥) × NoRoomToMove s e)
+      ((NothingLeft s e → ⊥) × NoRoomToCopy S F s e))
       (First WornOut (WouldPass s (MoveOne e)) NoMore))))
   Refuses s (Retire e) = First Halted (s.halted ≡ true)
       (First NotSweepable (s.world.extents.swept e ≡ false)
-      (First StillLive (NothingLive (index_now s) e → ⊥)
-      (First Full (NoRoomForRun s ForMove)
-      (First WornOut (WouldPass s (Retire e)) NoMore))))
+      (First StillLive (by_rule S.apart (NothingLive (index_now s) e → ⊥) (NothingLeft s e → ⊥))
+      (First Full (by_rule S.apart (NoRoomForRun s ForMove) (NoRoomApart (settled (mark s e false))))
+      (First WornOut (by_rule S.apart (WouldPass s (Retire e))
+      (WouldPass s (Retire e) ⊎ ResetWorn S s.world.extents e)) NoMore))))
   Refuses s (Abandon e) = First Halted (s.halted ≡ true)
       (First NotSweepable (s.world.extents.swept e ≡ false) NoMore)
   Refuses s (Settle n) = NoMore

@@ -1,4 +1,8 @@
+pub mod Apart
+pub mod ApartExample
 pub mod Append
+pub mod Before
+pub mod Changes
 pub mod Checkpoint
 pub mod Cut
 pub mod Device
@@ -17,6 +21,7 @@ pub mod Index
 pub mod Lists
 pub mod Local
 pub mod Machine
+pub mod Merges
 pub mod Numbers
 pub mod Open
 pub mod Recovery
@@ -27,3 +32,4 @@ pub mod Sound
 pub mod State
 pub mod Stays
 pub mod Step
+pub mod Tally

@@ -3,7 +3,7 @@ use Rattle.std.specs.Prelude.{◌⊎◌, ◌<◌, ◌∷◌, ℕ, suc, true, Lis
 use Rattle.cs_model.specs.Cut.{Cut, page_in}
 use Rattle.cs_model.specs.Device.{Page, Shape}
 use Rattle.cs_model.specs.Element.{A_root, A_superblock, A_write, Element, Map, Root, Run, Superblock, Write, writes_of}
-use Rattle.cs_model.specs.Extents.{Extents, emptied}
+use Rattle.cs_model.specs.Extents.{Extents, emptied, forgotten}
 use Rattle.cs_model.specs.Lists.{with}
 
 -- what was staged, the extents, and what is persistent
@@ -98,6 +98,6 @@ module _ (S : Shape) where
     elements = A_root (root_now w n runs m pointers) ∷ w.elements;
     root = suc w.root;
   }
-  happens w (ResetExtent e) = record w { extents = emptied w.extents e w.root }
+  happens w (ResetExtent e) = record w { extents = forgotten S.apart (emptied w.extents e w.root) e }
   happens w (BeginRound r) = record w { round = r }
   happens w EndRound = record w { persistent = w.round }

@@ -1,5 +1,6 @@
 -- The store as it is opened on an image.
-use Rattle.std.specs.Prelude.{◌∷◌, ℕ, zero, suc, false, List, None, []}
+use Rattle.std.specs.Prelude.{◌∷◌, ℕ, zero, suc, false, List, None, [], if◌then◌else◌}
+use Rattle.cs_model.specs.Apart.{any_run_on, freed, named}
 use Rattle.cs_model.specs.Cut.{Cut}
 use Rattle.cs_model.specs.Device.{Page, Shape}
 use Rattle.cs_model.specs.Element.{A_root, A_superblock, Element, Map, Root, Superblock}
@@ -31,7 +32,7 @@ module _ (S : Shape) (F : Formats) where
     superblocks_read zero = []
     superblocks_read (suc j) = A_superblock (superblock_read j) ∷ superblocks_read j
 
-    -- the root that was read
+    -- the root that was read; where chunks and runs lie apart it counts as empty what it doesn't name
     abbrev pub root_read : Root
     root_read = record {
       version = version;
@@ -41,7 +42,7 @@ module _ (S : Shape) (F : Formats) where
       pages = 0;
       map = m;
       writes = λ j. 0;
-      pointers = pointers;
+      pointers = if S.apart then named pointers runs else pointers;
       generations = generations;
     }
 
@@ -49,7 +50,8 @@ module _ (S : Shape) (F : Formats) where
     abbrev pub nothing_staged : Cut
     nothing_staged = record { writes = λ k. false; superblocks = versions; root = version }
 
-    -- the extents as they were read: none is open, none was reset, none is being swept
+    -- the extents as they were read: none is open, none was reset, none is being swept. Where chunks and runs lie apart
+    -- those of runs are the ones on which a run lies
     abbrev pub extents_read : Extents
     extents_read = record {
       pointer = pointers;
@@ -57,6 +59,10 @@ module _ (S : Shape) (F : Formats) where
       reset = λ e. 0;
       open_extent = None;
       swept = λ e. false;
+      of_runs = if S.apart then any_run_on runs else λ e. false;
+      found = if S.apart then pointers else λ e. 0;
+      fresh = None;
+      last = None;
     }
 
     -- what was staged, the extents and what is persistent, at open
@@ -72,13 +78,14 @@ module _ (S : Shape) (F : Formats) where
       round = nothing_staged;
     }
 
-    -- the state at open
-    abbrev pub opened_state : State
-    opened_state = record {
+    -- the state as it was read
+    abbrev pub state_read : State
+    state_read = record {
       opened = img;
       world = opened_world;
       table = [];
       runs = runs;
+      copies = [];
       start = m;
       opening = opening_in S F img pointers generations;
       count = n;
@@ -87,4 +94,10 @@ module _ (S : Shape) (F : Formats) where
       left = [];
       issued = [];
       halted = false;
+    }
+
+    -- the state at open: where chunks and runs lie apart blank extents are reset, which writes nothing
+    abbrev pub opened_state : State
+    opened_state = record state_read {
+      world = record opened_world { extents = if S.apart then (freed S state_read).world.extents else extents_read };
     }

@@ -1,9 +1,10 @@
 -- What every event keeps, and what a crash may leave.
-use Rattle.std.specs.Prelude.{◌≡◌, ◌≢◌, ◌⊎◌, ◌+◌, ◌-◌, ◌<◌, ◌≤◌, ◌++◌, ℕ, Bool, true, false, List, length, Some, []}
+use Rattle.std.specs.Prelude.{◌≡◌, ◌≢◌, ◌⊎◌, ◌+◌, ◌-◌, ◌<◌, ◌≤◌, ◌++◌, ℕ, Bool, true, false, List, length, Some, None, []}
+use Rattle.cs_model.specs.Apart.{any_swept}
 use Rattle.cs_model.specs.Device.{Page, Shape}
 use Rattle.cs_model.specs.Disk.{applied, kept_of, page_writes}
-use Rattle.cs_model.specs.Element.{Element, Locator, Root, Run, log_of, roots_of}
-use Rattle.cs_model.specs.Events.{IsFrontier, newest_page}
+use Rattle.cs_model.specs.Element.{Copy, Element, Locator, Root, Run, log_of, roots_of}
+use Rattle.cs_model.specs.Events.{IsFrontier, ReadsNow, newest_page}
 use Rattle.cs_model.specs.Formats.{ChunkFrame, Formats, image, pages_from}
 use Rattle.cs_model.specs.Index.{Gives, InBounds, NoneDamaged}
 use Rattle.cs_model.specs.Distinct.{AreDistinct}
@@ -15,6 +16,21 @@ use Rattle.cs_model.specs.Safe.{Safe, Settled}
 use Rattle.cs_model.specs.State.{State, index_now, map_after, map_now}
 
 module _ (S : Shape) (F : Formats) where
+  -- a copy has what was copied, which wasn't damaged
+  abbrev pub IsCopy : State → Copy → Type 0
+  IsCopy s c = (payload : List ℕ) × ReadsNow S F s c.from ChunkFrame payload × ReadsNow S F s c.to ChunkFrame payload
+      × (s.opening.damage c.from ≡ None)
+
+  -- what every event keeps where chunks and runs lie apart
+  pub record SoundApart (s : State) : Type 0 where
+    -- a frozen extent that wasn't reset since was found with pages
+    pub found : (e : ℕ) → s.opening.frozen e (s.world.extents.generation e) ≡ true → 0 < s.world.extents.found e
+    -- one extent is being swept at most
+    pub one_sweep : (d e : ℕ) → s.world.extents.swept d ≡ true → s.world.extents.swept e ≡ true → d ≡ e
+    -- while it is, its chunks and their copies stand
+    pub copied : any_swept S s ≡ true → (c : Copy) → c ∈ s.copies
+        → IsCopy s c × (s.world.extents.swept c.from.extent ≡ true)
+
   -- what every event keeps
   pub record Sound (s : State) : Type 0 where
     pub safe : Safe S (RootGives S F s.opening) s.opening.frozen s.opened s.world
@@ -46,6 +62,7 @@ module _ (S : Shape) (F : Formats) where
     pub damaged : (l : Locator) (f : Refusal) → s.opening.damage l ≡ Some f
         → (s.opening.frozen l.extent l.generation ≡ true)
         × (F.fault ChunkFrame (pages_from S F s.opened l.extent l.page (S.pages - l.page)) ≡ Some f)
+    pub apart : S.apart ≡ true → SoundApart s
 
   -- all numbers keep to their bounds, and each run can be spelled
   pub record Bounded (s : State) : Type 0 where

@@ -1,7 +1,7 @@
 -- The core's state, its events and their replies, and the map after its commands.
 use Rattle.std.specs.Prelude.{◌∷◌, ◌++◌, ◌==◌, ℕ, Bool, List, length, Option, Some, None, nat_le, [], if◌then◌else◌}
 use Rattle.cs_model.specs.Device.{Page}
-use Rattle.cs_model.specs.Element.{Bytes, Content, Element, Entry, Map, Opening, Run}
+use Rattle.cs_model.specs.Element.{Bytes, Content, Copy, Element, Entry, Map, Opening, Run}
 use Rattle.cs_model.specs.Index.{entries_of}
 use Rattle.cs_model.specs.Machine.{World}
 use Rattle.cs_model.specs.Refusal.{Refusal}
@@ -37,6 +37,8 @@ pub record State : Type 0 where
   -- the index: the table over the runs, newest first
   pub table : List Entry
   pub runs : List Run
+  -- what the sweep has copied, newest first, where copies count once it ends
+  pub copies : List Copy
   -- the map at open, and what is known of the image at open
   pub start : Map
   pub opening : Opening

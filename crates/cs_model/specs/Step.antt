@@ -1,5 +1,6 @@
 -- One event, and a history of them.
 use Rattle.std.specs.Prelude.{◌≡◌, ◌≢◌, ◌⊎◌, ◌+◌, ◌≤◌, ◌∷◌, ◌++◌, ℕ, true, false, List, None, []}
+use Rattle.cs_model.specs.Apart.{NothingLeft, by_rule}
 use Rattle.cs_model.specs.Device.{Shape}
 use Rattle.cs_model.specs.Element.{Element, Root, roots_of}
 use Rattle.cs_model.specs.Events.{Does, issued_one}
@@ -14,7 +15,8 @@ module _ (S : Shape) (F : Formats) where
   -- the event has frames to read from the device
   abbrev pub Reading : State → Event → Type 0
   Reading s (Get id) = map_now s id ≢ None
-  Reading s (MoveOne e) = (s.halted ≡ false) × (s.world.extents.swept e ≡ true) × (NothingLive (index_now s) e → ⊥)
+  Reading s (MoveOne e) = (s.halted ≡ false) × (s.world.extents.swept e ≡ true)
+      × by_rule S.apart (NothingLive (index_now s) e → ⊥) (NothingLeft s e → ⊥)
   Reading s event = ⊥
 
   -- the device fails in a write: the core is halted, and the write was added to the volatile ones or wasn't

@@ -1,18 +1,20 @@
 //! Answers, commands and the frontier.
+ghost use Rattle.cs_model.specs.Before.{FullAsBefore, StagesAsBefore};
 ghost use Rattle.cs_model.specs.Cut.{Cut};
 ghost use Rattle.cs_model.specs.Device.{IsShape, Shape};
 ghost use Rattle.cs_model.specs.Element.{Element, Root};
 ghost use Rattle.cs_model.specs.Events.{Does, IsFrontier};
 ghost use Rattle.cs_model.specs.Formats.{Formats};
 ghost use Rattle.cs_model.specs.Frames.{IsFormat};
+ghost use Rattle.cs_model.specs.Grounds.{NoRoomToStage};
 ghost use Rattle.cs_model.specs.Distinct.{AreDistinct};
 ghost use Rattle.cs_model.specs.Lists.{◌∈◌};
 ghost use Rattle.cs_model.specs.Round.{IsMember, IsRound, NothingWaits};
 ghost use Rattle.cs_model.specs.Sound.{Bounded, Sound};
-ghost use Rattle.cs_model.specs.State.{Begin, Begun, Delete, End, Ended, Event, Issue, Issued, MoveOne, Put, Reply, Retire, Stage, State, after_all, commands_of, map_now};
+ghost use Rattle.cs_model.specs.State.{Begin, Begun, Delete, End, Ended, Event, Issue, Issued, MoveOne, Put, Reply, Retire, Stage, Staged, State, after_all, commands_of, map_now};
 ghost use Rattle.cs_model.specs.Stays.{KeepsRound, RootsAfter};
 ghost use Rattle.cs_model.specs.Step.{DependsOn, History, Step};
-ghost use Rattle.std.specs.Prelude.{◌≡◌, ◌≢◌, ◌↔◌, ◌≤◌, ◌++◌, [], ℕ, List, length};
+ghost use Rattle.std.specs.Prelude.{◌≡◌, ◌≢◌, ◌↔◌, ◌≤◌, ◌++◌, [], ℕ, false, List, length};
 
 /// In every sound state every event has an answer: it is refused, or does what it does. So the refusals are exact.
 pub fn events_are_total()
@@ -100,4 +102,13 @@ pub fn the_frontier_rises()
 pub fn each_member_is_issued_once()
     ensures { (S : Shape) (F : Formats) (s t : State) (member : Element) → Sound S F s
         → Does S F s Issue (Issued member) t → (member ∈ s.issued → ⊥) × (member ∈ t.left → ⊥) }
+{}
+
+/// Where a Stage doesn't merge by size and chunks and runs may lie on one extent, as in formats 1 and 2, it makes the table the newest run while there are fewer than four,
+/// and else one run of all that lives; and it is full where that run goes nowhere.
+pub fn format_2_stages_as_before()
+    ensures stages { (S : Shape) (F : Formats) (s t : State) (v : ℕ) → S.by_size ≡ false
+        → S.apart ≡ false → Does S F s Stage (Staged v) t ↔ StagesAsBefore S F s v t }
+    ensures full { (S : Shape) (F : Formats) (s : State) → S.by_size ≡ false → S.apart ≡ false → s.table ≢ []
+        → NoRoomToStage S F s ↔ FullAsBefore S F s }
 {}

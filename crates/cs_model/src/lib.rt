@@ -10,6 +10,7 @@
 mod allocation;
 mod crashes;
 mod events;
+mod index;
 mod premises;
 mod recovery;
 mod sets;
@@ -17,7 +18,8 @@ mod writeback;
 
 pub use allocation::{
     a_frame_goes_to_one_extent, a_frame_is_appended_or_the_extents_are_full, an_append_takes_pages,
-    appends_are_deterministic, frames_fit_where_they_can_be_appended, what_is_appended_is_read,
+    appends_are_deterministic, appends_by_either_rule, frames_fit_where_they_can_be_appended,
+    what_is_appended_by_either_rule_is_read, what_is_appended_is_read,
 };
 pub use crashes::{
     a_crash_leaves_a_prefix, any_moment_of_an_event, checkpoints_are_safe, every_event_keeps,
@@ -25,13 +27,15 @@ pub use crashes::{
 };
 pub use events::{
     all_is_persistent_at_rest, commands_go_on, each_member_is_issued_once,
-    events_are_deterministic, events_are_total, the_frontier_is_exact, the_frontier_rises,
-    there_is_a_frontier, there_is_a_round, what_an_event_leaves,
+    events_are_deterministic, events_are_total, format_2_stages_as_before, the_frontier_is_exact,
+    the_frontier_rises, there_is_a_frontier, there_is_a_round, what_an_event_leaves,
 };
-pub use premises::{formats_exist, geometries_are_shapes};
+pub use index::tallies_count_identifiers;
+pub use premises::{apart_can_happen, formats_exist, geometries_are_shapes};
 pub use recovery::{
     a_new_store_is_empty, an_image_gives_one_map, frames_tell_their_payload,
-    recovery_looks_at_the_pages_of_the_store, what_was_there_at_open_stays,
+    recovery_looks_at_the_pages_of_the_store, what_is_reset_is_not_named,
+    what_was_there_at_open_stays,
 };
 pub use sets::{
     closed_sets_are_intact, crashes_leave_sets, every_move_keeps, needs_are_met_in_closed_sets,

@@ -1,9 +1,14 @@
 //! The premises of the laws can be met.
+ghost use Rattle.cs_model.specs.ApartExample.{example_abandoned, example_apart, example_image, example_retired};
 ghost use Rattle.cs_model.specs.Device.{IsShape, Shape};
 ghost use Rattle.cs_model.specs.Example.{example_format};
 ghost use Rattle.cs_model.specs.Frames.{IsFormat};
 ghost use Rattle.cs_model.specs.Geometry.{IsGeometry, shape_of};
-ghost use Rattle.std.specs.Prelude.{ℕ};
+ghost use Rattle.cs_model.specs.Open.{opened_state};
+ghost use Rattle.cs_model.specs.Recovery.{IsNew, Recovers};
+ghost use Rattle.cs_model.specs.State.{State};
+ghost use Rattle.cs_model.specs.Step.{History};
+ghost use Rattle.std.specs.Prelude.{◌≡◌, ℕ, None};
 
 /// Pages of the device are apart, for any number of sections.
 pub fn geometries_are_shapes()
@@ -14,4 +19,19 @@ pub fn geometries_are_shapes()
 /// The laws that are asked of a format hold together.
 pub fn formats_exist()
     ensures { (S : Shape) → IsFormat S example_format }
+{}
+
+/// In a new store in which chunks and runs lie apart a shard is put and staged, and its extent is swept.
+pub fn apart_can_happen()
+    ensures new { IsShape example_apart × IsNew example_apart example_format example_image }
+    // The sweep ends, and the extent is reset.
+    ensures retired { (given : Recovers example_apart example_format example_image 0 (λ id. None)) × (t : State)
+        × History example_apart example_format
+        (opened_state example_apart example_format example_image 0 (λ id. None) given) example_retired t
+        × (t.world.extents.generation 0 ≡ 1) }
+    // Or it is given up, and the next root resets the extent on which it had written a copy.
+    ensures abandoned { (given : Recovers example_apart example_format example_image 0 (λ id. None)) × (t : State)
+        × History example_apart example_format
+        (opened_state example_apart example_format example_image 0 (λ id. None) given) example_abandoned t
+        × (t.world.extents.generation 2 ≡ 1) }
 {}

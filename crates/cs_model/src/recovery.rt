@@ -1,4 +1,5 @@
 //! What a store finds on an image, and what stays of it.
+ghost use Rattle.cs_model.specs.Apart.{Grows, IsFreed};
 ghost use Rattle.cs_model.specs.Append.{AppendsFrame, appended};
 ghost use Rattle.cs_model.specs.Device.{Inside, IsShape, Page, Shape};
 ghost use Rattle.cs_model.specs.Element.{Locator, Map, Opening};
@@ -9,11 +10,13 @@ ghost use Rattle.cs_model.specs.Frames.{IsFormat, IsFrameFormat};
 ghost use Rattle.cs_model.specs.Index.{Passes};
 ghost use Rattle.cs_model.specs.Geometry.{IsGeometry, shape_of};
 ghost use Rattle.cs_model.specs.Local.{AgreeBelow, LiesBelow};
+ghost use Rattle.cs_model.specs.Open.{opened_state, state_read};
 ghost use Rattle.cs_model.specs.Recovery.{IsNew, Recovers, RecoversBut};
 ghost use Rattle.cs_model.specs.Refusal.{Refusal};
 ghost use Rattle.cs_model.specs.Sound.{Sound};
-ghost use Rattle.cs_model.specs.State.{State};
-ghost use Rattle.std.specs.Prelude.{◌≡◌, ◌≢◌, ◌-◌, Some, ◌+◌, ◌*◌, ◌≤◌, ℕ, true, List, None, length};
+ghost use Rattle.cs_model.specs.State.{Event, Reply, State};
+ghost use Rattle.cs_model.specs.Step.{Step};
+ghost use Rattle.std.specs.Prelude.{◌≡◌, ◌≢◌, ◌⊎◌, ◌-◌, Some, ◌+◌, ◌*◌, ◌≤◌, ℕ, true, List, None, length};
 
 /// An image gives one number of commands and one map.
 pub fn an_image_gives_one_map()
@@ -62,4 +65,15 @@ pub fn recovery_looks_at_the_pages_of_the_store()
         → RecoversBut S F opening other n m }
     ensures geometries { (extents pages sections per_section format : ℕ) → IsGeometry extents pages sections per_section
         → LiesBelow (shape_of extents pages sections per_section format) (1 + extents * pages + sections) }
+{}
+
+/// Where chunks and runs lie apart an event gives more pages of an extent, or resets it under the last root, which names
+/// nothing there.
+pub fn what_is_reset_is_not_named()
+    ensures event { (S : Shape) (F : Formats) (s t : State) (event : Event) (reply : Reply) (e : ℕ) → IsShape S
+        → S.apart ≡ true → Step S F s event reply t → Grows s t e ⊎ IsFreed s t e }
+    // So does an opening of what it reads.
+    ensures opening { (S : Shape) (F : Formats) (img : ℕ → Page) (n : ℕ) (m : Map) (gives : Recovers S F img n m) (e : ℕ)
+        → IsShape S → S.apart ≡ true → Grows (state_read S F img n m gives) (opened_state S F img n m gives) e
+        ⊎ IsFreed (state_read S F img n m gives) (opened_state S F img n m gives) e }
 {}

@@ -7,10 +7,11 @@ use Rattle.cs_model.specs.Device.{Shape}
 use Rattle.cs_model.specs.Geometry.{shape_of}
 use Rattle.cs_core.specs.Views.{View}
 
--- the image that was on the disk when the core was opened, how many extents the store has, of how many pages, in how many sections of the
+-- the image that was on the disk when the core was opened, the format of the store, how many extents it has, of how many pages, in how many sections of the
 -- superblock, and how many events its history may have
 pub record Start : Type 0 where
   pub opened : Image
+  pub format : ℕ
   pub extents : ℕ
   pub pages : ℕ
   pub sections : ℕ
@@ -18,12 +19,13 @@ pub record Start : Type 0 where
 
 -- the shape of such a store
 abbrev pub shape_at : Start → Shape
-shape_at start = shape_of start.extents start.pages start.sections (section_size start.extents start.sections) 2
+shape_at start = shape_of start.extents start.pages start.sections (section_size start.extents start.sections) start.format
 
 -- what this core was opened on
 abbrev pub start_of : {D : Type 0} → View D → Start
 start_of v = record {
   opened = v.opened;
+  format = (shape v.store.extents).format;
   extents = (shape v.store.extents).extents;
   pages = (shape v.store.extents).pages;
   sections = (shape v.store.extents).sections;
@@ -32,4 +34,4 @@ start_of v = record {
 
 -- the start of no core
 abbrev pub no_start : Start
-no_start = record { opened = []; extents = 4; pages = 2; sections = 1; limit = 0 }
+no_start = record { opened = []; format = 2; extents = 4; pages = 2; sections = 1; limit = 0 }

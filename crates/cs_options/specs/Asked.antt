@@ -15,6 +15,10 @@ number_of text = decimal_of (without_leading_plus text)
 abbrev pub number_at : ArgMatches → (name : List ℕ) → Option ℕ
 number_at options name = option_and_then number_of (one_text (found_of options) name)
 
+-- of which format a new store is asked for: 2 where no number is there
+abbrev pub format_asked : ArgMatches → ℕ
+format_asked options = unwrap_or (number_at options (codes "format")) 2
+
 -- of how many extents a new store is asked for: 6 where no number is there
 abbrev pub extents_asked : ArgMatches → ℕ
 extents_asked options = unwrap_or (number_at options (codes "extents")) 6

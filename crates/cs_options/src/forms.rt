@@ -137,19 +137,24 @@ pub const FORMS: &[Form] = &[
         after: Some(RUN_EXAMPLES),
         options: &[
             Choice {
+                name: "format",
+                takes: Takes::Number("2"),
+                help: "Which format a new store has: 2, or 3, which is not final",
+            },
+            Choice {
                 name: "extents",
                 takes: Takes::Number("6"),
-                help: "How many extents a new store has, 4 to 2,048",
+                help: "How many extents a new store has, 4 to 2,048; in format 3 from 5 to 7,680",
             },
             Choice {
                 name: "pages",
                 takes: Takes::Number("2"),
-                help: "How many pages of 4,096 bytes an extent of a new store has, 2 to 256",
+                help: "How many pages of 4,096 bytes an extent of a new store has, 2 to 256; in format 3 to 65,535",
             },
             Choice {
                 name: "sections",
                 takes: Takes::NumberOrNone,
-                help: "How many sections the superblock of a new store has, 1 to 8; without it as few as its extents need",
+                help: "How many sections the superblock of a new store has, 1 to 8, in format 3 to 15; without it as few as its extents need",
             },
             Choice {
                 name: "file",

@@ -1,7 +1,7 @@
 //! What the options of a command ask for.
 ghost use Rattle.std.specs.Prelude.{◌≡◌, ◌↔◌, IfErr, IfOk, IfSome, IsOk, MatchBool, MatchOption, codes, option_map};
 ghost use Rattle.cs_frame.specs.Geometries.{IsGeometry};
-ghost use Rattle.cs_options.specs.Asked.{IsMeasurable, TellsFlag, batch_asked, bytes_asked, calls_asked, drops_asked, extents_asked, from_asked, id_at, limit_asked, number_at, pages_asked, puts_asked, sections_asked, threads_asked};
+ghost use Rattle.cs_options.specs.Asked.{IsMeasurable, TellsFlag, batch_asked, bytes_asked, calls_asked, drops_asked, extents_asked, format_asked, from_asked, id_at, limit_asked, number_at, pages_asked, puts_asked, sections_asked, threads_asked};
 ghost use Rattle.cs_script.specs.RaceNumbers.{IsRaceable};
 
 use clap::ArgMatches;
@@ -16,22 +16,21 @@ fn number_given(options: &ArgMatches, name: &str) -> Option<u64>
     options.get_one(name)
 }
 
-/// The geometry that the options ask for: 6 extents of 2 pages where they aren't given, and as few sections as the extents need. Refused
-/// 7 BadGeometry alone, where there is none.
+/// The geometry that the options ask for: of format 2, 6 extents of 2 pages where they aren't given, and as few sections as the extents
+/// need. Refused 7 BadGeometry alone, where there is none.
 pub fn geometry_of(options: &ArgMatches) -> Result<Geometry, Refusal>
-    ensures valid { IsOk result ↔ IsGeometry (extents_asked options.now) (pages_asked options.now) (sections_asked options.now) }
+    ensures valid { IsOk result ↔ IsGeometry (format_asked options.now) (extents_asked options.now) (pages_asked options.now) (sections_asked options.now) }
+    ensures format { IfOk result (λ geometry. geometry.format ≡ format_asked options.now) }
     ensures extents { IfOk result (λ geometry. geometry.extents ≡ extents_asked options.now) }
     ensures pages { IfOk result (λ geometry. geometry.pages ≡ pages_asked options.now) }
     ensures sections { IfOk result (λ geometry. geometry.sections ≡ sections_asked options.now) }
     ensures refusal { IfErr result (λ refusal. refusal ≡ Refusal.BadGeometry) }
 {
+    let format = number_given(options, "format").unwrap_or(2);
     let extents = number_given(options, "extents").unwrap_or(6);
     let pages = number_given(options, "pages").unwrap_or(2);
-    let geometry = match number_given(options, "sections") {
-        Some(sections) => Geometry::with_sections(extents, pages, sections),
-        None => Geometry::new(extents, pages),
-    };
-    match geometry {
+    let sections = number_given(options, "sections");
+    match Geometry::of_format(format, extents, pages, sections) {
         Ok(geometry) => Ok(geometry),
         Err(_) => Err(Refusal::BadGeometry),
     }

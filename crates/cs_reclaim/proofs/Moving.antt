@@ -25,7 +25,7 @@ use Rattle.cs_index.specs.declared.live.LiveChunk.{LiveChunk}
 use Rattle.cs_reclaim.specs.Moves.{AnswersMove, AnswersPlace, IsMoveFull, IsMoveWorn, IsMoved, chunk_frame}
 
 -- what lies in an extent is short
-pub small_payload : (page pages : ℕ) (payload : List ℕ) → pages ≤ 256 → page + length (spelled_frame 0 payload) ≤ pages → length payload < 2 ^ 32
+pub small_payload : (page pages : ℕ) (payload : List ℕ) → pages ≤ 65535 → page + length (spelled_frame 0 payload) ≤ pages → length payload < 2 ^ 32
 small_payload page pages payload few le = omega (arith, few, le, length-spelled 0 payload)
 
 pub on_ok : {T E : Type 0} (r : Result T E) (A B : Type 0) → (A → B) → OnOk r A → OnOk r B

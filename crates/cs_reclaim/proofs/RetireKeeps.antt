@@ -27,6 +27,7 @@ use Rattle.cs_model.specs.Device.{Shape}
 use Rattle.cs_model.specs.Element.{Entry, Locator as Place}
 use Rattle.cs_model.specs.Extents.{Extents, ForMove, marked}
 use Rattle.cs_model.specs.Formats.{ChunkFrame, Stand, places}
+use Rattle.cs_model.specs.Geometry.{pages_first_in}
 use Rattle.cs_model.specs.Index.{IsMergedRun, NothingLive, live_at}
 use Rattle.cs_model.specs.Lists.{◌∈◌}
 use Rattle.cs_reclaim.specs.Keeps.{AreBelow, places_at}
@@ -35,7 +36,7 @@ use Rattle.cs_reclaim.specs.Retired.{IsRetired}
 
 -- ---- a root that is staged changes no page of an extent
 
-module _ (b h : Graph) (v commands : ℕ) (runs : List Locator) (over : IsRootOver b h v commands runs) (has : HasWrites h) where
+module _ (format : ℕ) (first : Bool) (b h : Graph) (v commands : ℕ) (runs : List Locator) (over : IsRootOver format first b h v commands runs) (has : HasWrites h) where
   abbrev waited : List (Element × Named)
   waited = b.staging.pending.waiting
 
@@ -104,10 +105,10 @@ module _ (s t : IndexState) (x y : ExtentsState) (g h : Graph) (e v commands : �
   over = map as_locator (reverse (places t.runs))
 
   has : HasWrites between
-  has = has_before between h v commands over retired.1.root (has_writes h kept)
+  has = has_before x.format (pages_first_in x.format) between h v commands over retired.1.root (has_writes h kept)
 
   are : AreNewest between image now
-  are = under_root between h v commands over retired.1.root (has_writes h kept) image now after
+  are = under_root x.format (pages_first_in x.format) between h v commands over retired.1.root (has_writes h kept) image now after
 
   abbrev Was : Locator → List ℕ → Type 0
   Was l c = IsFrameAt (shape x) view ChunkFrame l c × IsBelow (extents_of x) l (chunk_frame x c)

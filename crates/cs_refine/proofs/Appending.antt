@@ -1,5 +1,5 @@
 -- What an append does to a store is what the machine's append does to its world.
-use Rattle.std.proofs.Common.{◌≡◌, ◌≢◌, ◌⊎◌, inl, inr, ⊎_elim, ℕ, suc, ◌+◌, ◌<◌, ◌≤◌, Bool, true, false, ◌==◌, if◌then◌else◌, List, [], ◌∷◌, length, ◌++◌, eq-eqb, eqb-true, true≢false, refl, sym, ap, ◌∙◌, subst, arith}
+use Rattle.std.proofs.Common.{◌≡◌, ◌≢◌, ◌⊎◌, inl, inr, ⊎_elim, ℕ, suc, ◌+◌, ◌<◌, ◌≤◌, Bool, true, false, ◌==◌, if◌then◌else◌, List, [], ◌∷◌, length, ◌++◌, eq-eqb, eqb-true, le_of_eq, le_trans, true≢false, refl, sym, ap, ◌∙◌, subst, arith}
 use Rattle.std.proofs.lemmas.Bool.{cases_eq}
 use Rattle.cs_deps.specs.Staging.{Staging}
 use Rattle.cs_deps.specs.State.{State as GraphState}
@@ -41,7 +41,7 @@ some_more n some not = elim (cases_eq n 1) [
   | inr other ↦ omega arith
 ]
 
-module _ (x : State) (g : GraphState) (w : World) (geometry : IsGeometry (length x.written) x.pages x.sections) (is : IsWorldOf x g w) where
+module _ (x : State) (g : GraphState) (w : World) (geometry : IsGeometry x.format (length x.written) x.pages x.sections) (is : IsWorldOf x g w) where
   store : IsShape (shape x)
   store = shape_of_store x geometry
 
@@ -113,7 +113,7 @@ module _ (x : State) (g : GraphState) (w : World) (geometry : IsGeometry (length
         (λ (page : IsPage (shape x) l.extent (w.extents.pointer l.extent) w.written frame (A_write v)). inr (of_page v page))
         (old_or_page (shape x) l.extent (w.extents.pointer l.extent) frame w (A_write v) (write_in after_pages.elements v has))
 
-    -- what the section's version needs of its own
+    -- where page writes come first: what the section's version needs of its own
     own : (b : Bool) → (x.sections == 1) ≡ b → (v : Write) → v ∈ writes_of after_pages.elements → (if b then 1 else g.staging.staged + 1) ≤ v.number
         → section_of (shape x) v.page ≡ j
     own true one v has late = only_one (section_of (shape x) v.page) j x.sections (store.section ((shape x).extent v.page)) there (eqb-true x.sections 1 one)
@@ -144,19 +144,35 @@ module _ (x : State) (g : GraphState) (w : World) (geometry : IsGeometry (length
           bound,
         )
 
-    first_some : (b : Bool) → 1 ≤ (if b then 1 else g.staging.staged + 1)
-    first_some true = omega arith
+    abbrev first : ℕ
+    first = own_first (shape x).pages_first x.sections g.staging.staged (length frame)
+
+    first_is : (b : Bool) → (shape x).pages_first ≡ b → first ≡ own_first b x.sections g.staging.staged (length frame)
+    first_is b rule = ap (λ (c : Bool). own_first c x.sections g.staging.staged (length frame)) rule
+
+    one_or_next : (b : Bool) → 1 ≤ (if b then 1 else g.staging.staged + 1)
+    one_or_next true = omega arith
+    one_or_next false = omega arith
+
+    first_some : (b : Bool) → 1 ≤ own_first b x.sections g.staging.staged (length frame)
+    first_some true = one_or_next (x.sections == 1)
     first_some false = omega arith
+
+    -- where they don't, it needs none
+    none_own : (shape x).pages_first ≡ false → a.staged.between.staged < first
+    none_own rule =
+        let past : first ≡ g.staging.staged + length frame + 1 = first_is false rule in
+        let count : a.staged.between.staged ≡ g.staging.staged + length frame = a.staged.pages.staged in omega arith
 
     abbrev next : World
     next = appended (shape x) w l.extent (need_of x j) frame
 
     all_staged : IsStagingOf (shape x) (need_of x) next h.staging
     all_staged = moved (shape x) (need_of x) (happens (shape x) after_pages (StageSuperblock j (need_of x j))) h.staging next.extents next.round
-        (section_step (shape x) (need_of x) after_pages a.staged.between pages_staged refl j there (own_first x.sections g.staging.staged) (first_some (x.sections == 1))
-        (λ v has late. own (x.sections == 1) refl v has late)
-        (λ v has early at. older (x.sections == 1) refl v has early)
-        h.staging a.staged.section)
+        (section_step (shape x) (need_of x) after_pages a.staged.between pages_staged j there first (first_some (shape x).pages_first)
+        (λ rule v has late. own (x.sections == 1) refl v has (le_trans (le_of_eq (sym (first_is true rule))) late))
+        (λ rule v has early at. older (x.sections == 1) refl v has (le_trans early (le_of_eq (first_is true rule))))
+        none_own h.staging a.staged.section)
 
     same_extents : next.extents ≡ extents_of y
     same_extents = appended_extents (shape x) store w l.extent (need_of x j) frame inside.0 inside.1 ∙ ap (λ (z : Extents). taken (shape x) z l.extent (length frame)) is.extents ∙ sym a.extents
@@ -176,7 +192,7 @@ module _ (x : State) (g : GraphState) (w : World) (geometry : IsGeometry (length
       inl refl,
       sym at,
       sym (with_same after_pages.superblocks j (suc (after_pages.superblocks j)) j refl),
-      λ rule. ((pages_staged.numbers v.number).1 (v, has, refl)).1,
+      λ rule. le_trans ((pages_staged.numbers v.number).1 (v, has, refl)).1 (le_of_eq (sym (ap (λ (b : Bool). if b then after_pages.written else 0) rule))),
     )
 
     -- and one of another section by the version that did so before

@@ -22,7 +22,7 @@ use Rattle.cs_frame.specs.declared.locators.Locator.{Locator}
 use Rattle.cs_extent.specs.Appended.{IsAppended}
 use Rattle.cs_extent.specs.Frames.{IsOfFrame, family_of, next_section}
 use Rattle.cs_extent.specs.State.{State, extents_of, need_of, section_rows, shape}
-use Rattle.cs_image.proofs.Superblocks.{section_listed}
+use Rattle.cs_image.proofs.Superblocks.{not_first, own_format, section_listed}
 use Rattle.cs_refine.specs.Bridge.{name}
 use Rattle.cs_refine.specs.Stores.{AreWritesOf, IsStagingOf, IsWorldOf}
 use Rattle.cs_refine.proofs.Places.{not_one, one_family}
@@ -72,7 +72,7 @@ not_of_frame S need w s j count (A_superblock u) there is has of =
     let e : w.superblocks j ≡ get_or s.latest (family_of j) 0 = is.sections j there in let n : u.version ≡ get_or s.latest (family_of j) 0 + 1 = of.1 in absurd (omega arith)
 not_of_frame S need w s j count (A_root r) there is has of = absurd (not_one j (sym of.0))
 
-module _ (x : State) (g : GraphState) (w : World) (geometry : IsGeometry (length x.written) x.pages x.sections) (is : IsWorldOf x g w)
+module _ (x : State) (g : GraphState) (w : World) (geometry : IsGeometry x.format (length x.written) x.pages x.sections) (is : IsWorldOf x g w)
     (reason : Reason) (frame : List (List ℕ)) (l : Locator) (y : State) (h : GraphState) (a : IsAppended x g reason frame l y h)
     (there : (shape x).section l.extent < (shape x).sections) where
   -- the section of the frame's extent
@@ -93,13 +93,15 @@ module _ (x : State) (g : GraphState) (w : World) (geometry : IsGeometry (length
     -- the rows of the section are those of the extents as they are then
     rows : listed_extents (shape x).section after_pages.extents.pointer after_pages.extents.generation j 0 (shape x).extents ≡ section_rows y j
     rows = ap (λ (S : Shape). listed_extents S.section after_pages.extents.pointer after_pages.extents.generation j 0 S.extents) (sym a.same_shape)
-        ∙ section_listed (length y.written) y.pages y.sections 2 (subst (λ (S : Shape). IsGeometry S.extents S.pages S.sections) (sym a.same_shape) geometry) y.written refl
+        ∙ section_listed y.format (length y.written) y.pages y.sections (subst (λ (S : Shape). IsGeometry S.format S.extents S.pages S.sections) (sym a.same_shape) geometry) y.written refl
         after_pages.extents.pointer after_pages.extents.generation (λ k lt. ap (λ (z : Extents). (z.pointer k, z.generation k)) same_extents) j
 
     section_is : page_write (shape x) (formats_of (shape x)) (A_superblock (superblock_now (shape x) after_pages j (need_of x j))) ≡ ((shape x).section_page j, a.section.0)
     section_is = ap (λ (b : List ℕ). ((shape x).section_page j, b))
-        (ap₂ (λ (n : ℕ) (q : List (ℕ × ℕ)). spelled_superblock n (shape x).extents (shape x).pages (shape x).sections j q) version rows
-        ∙ ap (λ (S : Shape). spelled_superblock (get_or g.staging.latest (family_of j) 0 + 1) S.extents S.pages S.sections j (section_rows y j)) (sym a.same_shape)
+        (own_format (shape x) after_pages.extents.pointer after_pages.extents.generation j (suc (after_pages.superblocks j))
+        (not_first x.format (length x.written) x.pages x.sections geometry)
+        ∙ ap₂ (λ (n : ℕ) (q : List (ℕ × ℕ)). spelled_superblock (shape x).format n (shape x).extents (shape x).pages (shape x).sections j q) version rows
+        ∙ ap (λ (S : Shape). spelled_superblock S.format (get_or g.staging.latest (family_of j) 0 + 1) S.extents S.pages S.sections j (section_rows y j)) (sym a.same_shape)
         ∙ sym a.section.2.spelled)
 
     section_kept : (p : PageWrite) → write_of h (Version (family_of j) (suc (after_pages.superblocks j))) ≡ Some p

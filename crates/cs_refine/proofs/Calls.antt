@@ -1,5 +1,5 @@
 -- What the calls of a store's parts do is what the machine's events do.
-use Rattle.std.proofs.Common.{◌≡◌, ◌≢◌, inl, inr, ℕ, suc, ◌+◌, ◌<◌, ◌≤◌, List, [], ◌∷◌, Some, None, length, map, false, true, refl, sym, ap, ◌∙◌, subst, arith}
+use Rattle.std.proofs.Common.{◌≡◌, ◌≢◌, inl, inr, ℕ, suc, ◌+◌, ◌<◌, ◌≤◌, Bool, List, [], ◌∷◌, Some, None, drop, length, map, false, true, refl, sym, ap, ◌∙◌, subst, arith}
 use Rattle.std.specs.Prelude.{reverse}
 use Rattle.std.proofs.lemmas.Bool.{cases_lt, false_from_ne_true}
 use Rattle.cs_deps.specs.declared.elements.Element.TheVariants.{Version}
@@ -10,7 +10,9 @@ use Rattle.cs_extent.specs.State.{IsWhole, State as ExtentsState, extents_of, ne
 use Rattle.cs_frame.specs.declared.locators.Locator.{Locator}
 use Rattle.cs_frame.specs.Formats.{as_locator, formats_of, place_of}
 use Rattle.cs_frame.specs.Roots.{spelled_root}
-use Rattle.cs_index.specs.Staged.{IsMergeAppended, IsMergeStaged, IsRootStaged, IsRunAppended, IsTableStaged, run_frame}
+use Rattle.cs_index.proofs.Cases.{merged_exactly, table_exactly}
+use Rattle.cs_index.specs.Merges.{deletions_go as index_deletions_go, stage_takes as index_takes}
+use Rattle.cs_index.specs.Staged.{IsMergeAppended, IsMergeStaged, IsNewestStaged, IsPartAppended, IsRootStaged, IsRunAppended, IsTableStaged, run_frame}
 use Rattle.cs_index.specs.State.{IsSet, State as IndexState, index_of}
 use Rattle.cs_model.specs.Append.{Append, MergesTo, chunk_frames}
 use Rattle.cs_model.specs.Device.{Shape}
@@ -21,6 +23,7 @@ use Rattle.cs_model.specs.Extents.{Extents, ForMove, ForPut, ForRun, Purpose as 
 use Rattle.cs_model.specs.Formats.{ChunkFrame, RunFrame, places}
 use Rattle.cs_model.specs.Index.{NothingLive, live_at, lookup}
 use Rattle.cs_model.specs.Lists.{replaced, with}
+use Rattle.cs_model.specs.Merges.{MergesPart}
 use Rattle.cs_model.specs.Machine.{StageRoot, World, happens, root_now}
 use Rattle.cs_model.specs.State.{Abandon, Abandoned, Accepted, BeginSweep, Delete, MoveOne, Moved, Put, Retire, Retired, Stage, Staged, State, Sweeping, index_now, map_now}
 use Rattle.cs_reclaim.specs.Moves.{IsMoved}
@@ -29,8 +32,9 @@ use Rattle.cs_reclaim.specs.Sweeps.{IsNotSweepable}
 use Rattle.cs_refine.specs.Parts.{ArePartsOf, IsIndexOf}
 use Rattle.cs_refine.specs.Stores.{IsWorldOf}
 use Rattle.cs_refine.proofs.Appending.{after_append}
-use Rattle.cs_refine.proofs.Indexes.{after_set, as_many_runs, first_live, live_same, looked_up, merged_run, nothing_live, some_table, table_run}
+use Rattle.cs_refine.proofs.Indexes.{after_set, first_live, live_same, looked_up, merged_run, nothing_live, some_table}
 use Rattle.cs_refine.proofs.Keeping.{after_appends, after_mark}
+use Rattle.cs_refine.proofs.Merges.{merges_there, run_there, stages_so}
 use Rattle.cs_refine.proofs.Numbers.{append_numbers}
 use Rattle.cs_refine.proofs.Resetting.{after_reset}
 use Rattle.cs_refine.proofs.Rooting.{after_root, next_version}
@@ -72,16 +76,25 @@ run_append x y g h w reason entries place whole is a =
     after_append x g w whole.geometry is reason (run_frame x entries) (as_locator place) y h a
 
 -- the root over these runs is the machine's next, whatever it remembers
-module _ (x : ExtentsState) (g h : GraphState) (w : World) (v commands : ℕ) (runs : List Run) (some : 0 < (shape x).sections) (is : IsWorldOf x g w) (root : IsRootStaged g h v commands runs) where
+module _ (x : ExtentsState) (g h : GraphState) (w : World) (v commands : ℕ) (runs : List Run) (some : 0 < (shape x).sections) (is : IsWorldOf x g w) (root : IsRootStaged x.format g h v commands runs) where
   pub root_version : v ≡ suc w.root
-  root_version = next_version (shape x) some (need_of x) w g.staging is.staging refl v root.needs h.staging root.version root.names
+  root_version = next_version (shape x) some (need_of x) w g.staging is.staging v root.needs h.staging root.version root.names
 
-  pub root_staged : (m : Map) (pointers : ℕ → ℕ) → IsWorldOf x h (happens (shape x) w (StageRoot commands runs m pointers))
+  root_staged : (m : Map) (pointers : ℕ → ℕ) → IsWorldOf x h (happens (shape x) w (StageRoot commands runs m pointers))
   root_staged m pointers =
       let oldest : List Locator = map as_locator (reverse (places runs)) in
       let kept : write_of h (Version root_family v) ≡ Some (page_write (shape x) (formats_of (shape x)) (A_root (root_now (shape x) w commands runs m pointers))) =
-      root.page.1 ∙ ap (λ (b : List ℕ). Some (1, b)) (root.page.2.spelled ∙ ap (λ (k : ℕ). spelled_root k commands oldest) root_version) in
+      root.page.1 ∙ ap (λ (b : List ℕ). Some (1, b)) (root.page.2.spelled ∙ ap (λ (k : ℕ). spelled_root x.format k commands oldest) root_version) in
       after_root x g h w some is v root.needs root.version root.names commands runs m pointers kept root.others
+
+  -- the same of the shape by another name
+  pub root_staged_as : (S : Shape) → shape x ≡ S → (m : Map) (pointers : ℕ → ℕ) → IsWorldOf x h (happens S w (StageRoot commands runs m pointers))
+  root_staged_as S same m pointers = subst (λ (T : Shape). IsWorldOf x h (happens T w (StageRoot commands runs m pointers))) same (root_staged m pointers)
+
+-- extents of the same shape have the same format
+of_same_shape : (x y : ExtentsState) (g h : GraphState) (v commands : ℕ) (runs : List Run) → shape y ≡ shape x
+    → IsRootStaged x.format g h v commands runs → IsRootStaged y.format g h v commands runs
+of_same_shape x y g h v commands runs same = subst (λ (S : Shape). IsRootStaged S.format g h v commands runs) (sym same)
 
 -- ---- stages
 
@@ -92,38 +105,6 @@ module _ (x : ExtentsState) (g : GraphState) (i : IndexState) (s : State) (whole
   -- there are as many sections in extents of the same shape
   some_there : (y : ExtentsState) → shape y ≡ shape x → 0 < (shape y).sections
   some_there y same = subst (λ (S : Shape). 0 < S.sections) (sym same) (some_sections x whole)
-
-  pub table_staged : (y : ExtentsState) (h : GraphState) (j : IndexState) (v : ℕ) → i.table ≢ [] → length i.runs < 4
-      → IsTableStaged i x g v commands j y h
-      → (t : State) × Does (shape x) (formats_of (shape x)) s Stage (Staged v) t × ArePartsOf y h j t
-  table_staged y h j v some few done =
-      let appended = run_append x y g done.staged.0 s.world ForRun done.entries done.place whole are.world done.staged.1 in
-      let runs : List Run = record { place = done.place; entries = done.entries } ∷ s.runs in
-      let mid : State = record s { world = appended.0 } in
-      let root : IsRootStaged done.staged.0 h v commands runs =
-      subst (λ (rs : List Run). IsRootStaged done.staged.0 h v commands (record { place = done.place; entries = done.entries } ∷ rs)) are.index.same_runs done.staged.2 in
-      let some_here : 0 < (shape y).sections = some_there y done.staged.1.same_shape in
-      let world = root_staged y done.staged.0 h appended.0 v commands runs some_here appended.2 root (map_now s) appended.0.extents.pointer in (
-        rooted (shape x) (formats_of (shape x)) mid runs appended.0.extents.pointer,
-        (
-          some_table i s.table s.runs are.index some,
-          root_version y done.staged.0 h appended.0 v commands runs some_here appended.2 root
-              ∙ ap suc (append_numbers (shape x) (store_shape x whole) s.world appended.0 ForRun ((formats_of (shape x)).frame RunFrame ((formats_of (shape x)).run done.entries)) done.place appended.1).2,
-          inl (
-            subst (λ (n : ℕ). n < 4) (as_many_runs i s.table s.runs are.index) few,
-            done.entries,
-            done.place,
-            mid,
-            table_run i.table s.table are.index.lookups done.entries done.run,
-            (appended.0, appended.1, refl),
-            refl,
-          ),
-        ),
-        record {
-          world = world;
-          index = record { lookups = λ id. ap (lookup id) done.table; same_runs = done.runs ∙ ap (λ (rs : List Run). record { place = done.place; entries = done.entries } ∷ rs) are.index.same_runs };
-        },
-      )
 
   -- ---- merges
 
@@ -150,24 +131,61 @@ module _ (x : ExtentsState) (g : GraphState) (i : IndexState) (s : State) (whole
   no_table : (j : IndexState) → j.table ≡ [] → IsIndexOf j [] j.runs
   no_table j none = record { lookups = λ id. ap (lookup id) none; same_runs = refl }
 
-  pub merge_staged : (y : ExtentsState) (h : GraphState) (j : IndexState) (v : ℕ) → i.table ≢ [] → 4 ≤ length i.runs
-      → IsMergeStaged i x g ForRun v commands j y h
+  -- ---- stages
+
+  -- so is the run of a part
+  module _ (go : Bool) (k : ℕ) (runs : List Run) (mid : ExtentsState) (between : GraphState) where
+    part_merges : IsPartAppended go i k x g ForRun runs mid between
+        → (w : World) × MergesPart (shape x) (formats_of (shape x)) false go s ForRun k (record s { world = w }) runs × IsWorldOf mid between w
+        × (w.root ≡ s.world.root) × (shape mid ≡ shape x)
+    part_merges (inl (entries, place, some, run, appended, one)) =
+        let a = run_append x mid g between s.world ForRun entries place whole are.world appended in (
+          a.0,
+          inl (entries, place, some, run_there i s are.index go k entries run, (a.0, a.1, refl), one ∙ ap (λ (rs : List Run). record { place = place; entries = entries } ∷ drop k rs) are.index.same_runs),
+          a.2,
+          (append_numbers (shape x) (store_shape x whole) s.world a.0 ForRun ((formats_of (shape x)).frame RunFrame ((formats_of (shape x)).run entries)) place a.1).2,
+          appended.same_shape,
+        )
+    part_merges (inr (run, same, unstaged, none)) = (
+      s.world,
+      inr (run_there i s are.index go k [] run, refl, none ∙ ap (λ (rs : List Run). drop k rs) are.index.same_runs),
+      subst (λ (z : ExtentsState). IsWorldOf z between s.world) (sym same) (subst (λ (h : GraphState). IsWorldOf x h s.world) (sym unstaged) are.world),
+      refl,
+      ap shape same,
+    )
+
+  pub newest_staged : (y : ExtentsState) (h : GraphState) (j : IndexState) (v : ℕ) → i.table ≢ [] → IsNewestStaged (index_takes (shape x) i) i x g v commands j y h
       → (t : State) × Does (shape x) (formats_of (shape x)) s Stage (Staged v) t × ArePartsOf y h j t
-  merge_staged y h j v some many done =
-      let merged = merges ForRun j.runs y done.between done.appended in
+  newest_staged y h j v some done =
+      let merged = part_merges (index_deletions_go (shape x) i (index_takes (shape x) i)) (index_takes (shape x) i) j.runs y done.between done.appended in
+      let root : IsRootStaged y.format done.between h v commands j.runs = of_same_shape x y done.between h v commands j.runs merged.4 done.root in
       let some_here : 0 < (shape y).sections = some_there y merged.4 in
       let mid : State = record s { world = merged.0 } in (
         rooted (shape x) (formats_of (shape x)) mid j.runs merged.0.extents.pointer,
-        (
+        stages_so (shape x) (formats_of (shape x)) s (rooted (shape x) (formats_of (shape x)) mid j.runs merged.0.extents.pointer) v refl (
           some_table i s.table s.runs are.index some,
-          root_version y done.between h merged.0 v commands j.runs some_here merged.2 done.root ∙ ap suc merged.3,
-          inr (subst (λ (n : ℕ). 4 ≤ n) (as_many_runs i s.table s.runs are.index) many, mid, j.runs, (merged.0, merged.1, refl), refl),
+          root_version y done.between h merged.0 v commands j.runs some_here merged.2 root ∙ ap suc merged.3,
+          mid,
+          j.runs,
+          merges_there (shape x) i s are.index (formats_of (shape x)) mid j.runs merged.1,
+          refl,
         ),
         record {
-          world = root_staged y done.between h merged.0 v commands j.runs some_here merged.2 done.root (map_now s) merged.0.extents.pointer;
+          world = root_staged_as y done.between h merged.0 v commands j.runs some_here merged.2 root (shape x) merged.4 (map_now s) merged.0.extents.pointer;
           index = no_table j done.table;
         },
       )
+
+  -- up to format 2 that is the table's run where there are fewer than four, else the one of all that is live
+  pub table_staged : (y : ExtentsState) (h : GraphState) (j : IndexState) (v : ℕ) → i.table ≢ [] → length i.runs < 4
+      → IsTableStaged i x g v commands j y h
+      → (t : State) × Does (shape x) (formats_of (shape x)) s Stage (Staged v) t × ArePartsOf y h j t
+  table_staged y h j v some few done = newest_staged y h j v some ((table_exactly i x g v commands j y h refl some few).1 done)
+
+  pub merge_staged : (y : ExtentsState) (h : GraphState) (j : IndexState) (v : ℕ) → i.table ≢ [] → 4 ≤ length i.runs
+      → IsMergeStaged i x g ForRun v commands j y h
+      → (t : State) × Does (shape x) (formats_of (shape x)) s Stage (Staged v) t × ArePartsOf y h j t
+  merge_staged y h j v some many done = newest_staged y h j v some ((merged_exactly i x g v commands j y h refl many).1 done)
 
   -- ---- sweeps
 
@@ -201,11 +219,12 @@ module _ (x : ExtentsState) (g : GraphState) (i : IndexState) (s : State) (whole
       → (t : State) × Does (shape x) (formats_of (shape x)) s (Retire e) (Retired v) t × ArePartsOf y h j t
   retire y h j e v swept inside same nothing (mid, done, extents) =
       let merged = merges ForMove j.runs mid done.between done.appended in
+      let root : IsRootStaged mid.format done.between h v commands j.runs = of_same_shape x mid done.between h v commands j.runs merged.4 done.root in
       let before : State = record s { world = merged.0 } in
       let pointers : ℕ → ℕ = with merged.0.extents.pointer e 0 in
       let some_here : 0 < (shape mid).sections = some_there mid merged.4 in
-      let version : v ≡ suc merged.0.root = root_version mid done.between h merged.0 v commands j.runs some_here merged.2 done.root in
-      let staged = root_staged mid done.between h merged.0 v commands j.runs some_here merged.2 done.root (map_now s) pointers in
+      let version : v ≡ suc merged.0.root = root_version mid done.between h merged.0 v commands j.runs some_here merged.2 root in
+      let staged = root_staged_as mid done.between h merged.0 v commands j.runs some_here merged.2 root (shape x) merged.4 (map_now s) pointers in
       let rooted_world : World = happens (shape x) merged.0 (StageRoot commands j.runs (map_now s) pointers) in
       let emptied_now : Extents = marked (emptied merged.0.extents e (suc merged.0.root)) e false in
       let is : extents_of y ≡ emptied_now = extents ∙ ap (λ (z : Extents). marked (emptied z e v) e false) (sym merged.2.extents)

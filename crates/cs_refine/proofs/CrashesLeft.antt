@@ -1,13 +1,14 @@
 -- What a crash leaves of a disk is recovered.
-use Rattle.std.proofs.Common.{◌≡◌, ℕ, ◌+◌, ◌*◌, ◌≤◌, Bool, true, nat_le, List, [], ◌∷◌, ◌++◌, length, le-leb, le_trans, length-append, refl, sym, ap, ◌∙◌, subst, arith}
+use Rattle.std.proofs.Common.{◌≡◌, ℕ, ◌+◌, ◌≤◌, Bool, true, nat_le, List, [], ◌∷◌, ◌++◌, length, le-leb, le_trans, length-append, refl, sym, ap, ◌∙◌, subst, arith}
 use Rattle.cs_disk.proofs.Images.{length-applied}
 use Rattle.cs_disk.specs.Disk.{Image, MayLeave, State as DiskState, kept, page}
 use Rattle.cs_extent.specs.State.{IsWhole, State as ExtentsState, shape}
-use Rattle.cs_frame.proofs.GeometryLaws.{model_geometry}
+use Rattle.cs_frame.proofs.GeometryLaws.{lies_in_device}
 use Rattle.cs_frame.specs.Formats.{formats_of}
 use Rattle.cs_frame.specs.Geometries.{section_size}
+use Rattle.cs_image.specs.Reads.{page_total}
 use Rattle.cs_model.proofs.Crash.{leaves_prefix}
-use Rattle.cs_model.proofs.LocalRecovery.{lies_below, recovers_alike, recovers_alike_but}
+use Rattle.cs_model.proofs.LocalRecovery.{recovers_alike, recovers_alike_but}
 use Rattle.cs_model.proofs.Unique.{one_recovery}
 use Rattle.cs_model.specs.Device.{Page, Shape}
 use Rattle.cs_model.specs.Element.{Map}
@@ -26,13 +27,12 @@ pub same_size : (disk : DiskState) (left : Image) → MayLeave disk left → len
 same_size disk left may = ap length may.2 ∙ length-applied disk.durable (kept may.0 disk.volatile)
 
 -- the pages of a store are the first of its device
-pub store_below : (x : ExtentsState) → IsWhole x → LiesBelow (shape x) (1 + (shape x).extents * (shape x).pages + (shape x).sections)
-store_below x whole = lies_below (length x.written) x.pages x.sections (section_size (length x.written) x.sections) 2
-    (model_geometry (length x.written) x.pages x.sections whole.geometry)
+pub store_below : (x : ExtentsState) → IsWhole x → LiesBelow (shape x) (page_total (shape x))
+store_below x whole = lies_in_device x.format (length x.written) x.pages x.sections whole.geometry
 
 module _ (x : ExtentsState) (s : State) (disk : DiskState) (left : Image) (whole : IsWhole x)
     (sound : Sound (shape x) (formats_of (shape x)) s) (is : IsDiskOf (shape x) (formats_of (shape x)) s disk)
-    (sized : length disk.durable ≡ 1 + (shape x).extents * (shape x).pages + (shape x).sections) (may : MayLeave disk left) where
+    (sized : length disk.durable ≡ page_total (shape x)) (may : MayLeave disk left) where
   below : LiesBelow (shape x) (length left)
   below = subst (λ (n : ℕ). LiesBelow (shape x) n) (sym (same_size disk left may ∙ sized)) (store_below x whole)
 

@@ -1,25 +1,29 @@
 -- What the disk of a state reads as, and what a crash may leave of it.
-use Rattle.std.proofs.Common.{◌≡◌, ◌≢◌, inl, inr, ℕ, ◌+◌, ◌<◌, Bool, true, false, ◌==◌, List, [], ◌∷◌, ◌++◌, length, Some, None, if◌then◌else◌, eq-eqb, ne_eqb, refl, sym, ap, ap₂, ◌∙◌, subst, arith}
-use Rattle.std.proofs.lemmas.Bool.{cases_eq}
+use Rattle.std.proofs.Common.{◌≡◌, ◌≢◌, inl, inr, ℕ, ◌<◌, Bool, true, false, ◌==◌, List, [], ◌∷◌, ◌++◌, length, Some, None, if◌then◌else◌, eq-eqb, ne_eqb, refl, sym, ap, ap₂, ◌∙◌, subst, arith}
+use Rattle.std.proofs.lemmas.Bool.{cases_Bool, cases_eq}
 use Rattle.cs_disk.proofs.Images.{length-applied, page-applied}
 use Rattle.cs_disk.specs.Disk.{Image, MayLeave, State as DiskState, applied as applied_to, flushed, kept, latest, page, seen, written as written_to}
 use Rattle.cs_model.proofs.Device.{flush_makes, writes_more}
+use Rattle.cs_model.proofs.Quiet.{none_moved, unchanged}
+use Rattle.cs_model.proofs.Rules.{apart_rule, before_rule}
+use Rattle.cs_model.specs.Apart.{sweeping}
 use Rattle.cs_model.specs.Device.{IsShape, Page, Shape}
 use Rattle.cs_model.specs.Disk.{applied, kept_of, page_write, page_writes, written}
-use Rattle.cs_model.specs.Append.{chunk_frames}
-use Rattle.cs_model.specs.Element.{Element, Entry, Run, log_of}
-use Rattle.cs_model.specs.Events.{Does, issued_one, mark, retired, rooted}
-use Rattle.cs_model.specs.Extents.{Extents, ForMove, ForPut, ForRun}
+use Rattle.cs_model.specs.Append.{AppendsFrame, AppendsFrameBy, chunk_frames}
+use Rattle.cs_model.specs.Element.{Copy, Element, Entry, Locator, Run, log_of}
+use Rattle.cs_model.specs.Events.{Does, Merged, issued_one, mark, retired, rooted}
+use Rattle.cs_model.specs.Extents.{ForMove, ForPut, ForRun}
 use Rattle.cs_model.specs.Index.{live_at}
 use Rattle.cs_model.specs.Lists.{replaced, with}
+use Rattle.cs_model.specs.Merges.{deletions_go, stage_takes}
 use Rattle.cs_model.specs.Safe.{IsStaged}
-use Rattle.cs_model.specs.Formats.{ChunkFrame, Formats, RunFrame, image}
+use Rattle.cs_model.specs.Formats.{ChunkFrame, Formats, image}
 use Rattle.cs_model.specs.Machine.{BeginRound, EndRound, World, happens}
 use Rattle.cs_model.specs.Sound.{Sound, crashed}
-use Rattle.cs_model.specs.State.{Abandon, Abandoned, Absent, Accepted, Begin, BeginSweep, Begun, Command, Delete, End, Event, Found, Get, Issue, Issued, MoveOne, Moved, NoneLive, NotYet, Nothing, Persistent, Put, Refused, Reply, Retire, Retired, Settle, Stage, Staged, State, Sweeping, Unchanged, index_now, map_now}
+use Rattle.cs_model.specs.State.{Abandon, Abandoned, Absent, Accepted, Begin, BeginSweep, Begun, Command, Delete, End, Event, Found, Get, Issue, Issued, MoveOne, Moved, NoneLive, NotYet, Nothing, Persistent, Put, Refused, Reply, Retire, Retired, Settle, Stage, Staged, State, Sweeping, Unchanged, index_now}
 use Rattle.cs_model.specs.Step.{Step}
 use Rattle.cs_refine.specs.Devices.{IsDeviceOf, IsDiskOf, persistent_image}
-use Rattle.cs_refine.proofs.ImagesStay.{Stays, append_stays, appends_stay, merge_stays, root_stays, stays_more}
+use Rattle.cs_refine.proofs.ImagesStay.{Keeps, Stays, append_stays, appends_stay, merge_stays, other_extents, part_keeps, retires_keep, rooted_stays, stages_keep}
 
 -- the last write to a page, in the words of the disk and in those of the machine
 same_latest : (writes : List (ℕ × Page)) (img : ℕ → Page) (p : ℕ) → latest writes p (img p) ≡ applied img writes p
@@ -99,24 +103,69 @@ module _ (S : Shape) (F : Formats) (s : State) (disk : DiskState) (is : IsDiskOf
   retabled : (u : State) (table : List Entry) (commands : List Command) → IsDiskOf S F u disk → IsDiskOf S F (record u { table = table; commands = commands }) disk
   retabled u table commands was = record { durable = was.durable; volatile = was.volatile }
 
-  -- a run and the root over it
-  rooted_still : (v : World) (runs : List Run) (pointers : ℕ → ℕ) → Stays S F s.world.persistent s.opened s.world v
-      → Stays S F s.world.persistent s.opened s.world (rooted S F (record s { world = v }) runs pointers).world
-  rooted_still v runs pointers stays = stays_more S F s.world.persistent s.opened s.world v (rooted S F (record s { world = v }) runs pointers).world stays
-      (root_stays S F s.world.persistent s.opened v (s.count + length s.commands) runs (map_now s) pointers stays.staged)
-
-  other_extents : (v : World) → Stays S F s.world.persistent s.opened s.world v → (extents : Extents)
-      → Stays S F s.world.persistent s.opened s.world (record v { extents = extents })
-  other_extents v stays extents = record { same = stays.same; staged = stays.staged; persistent = stays.persistent }
-
   here : (t u : State) → t ≡ u → IsDiskOf S F u disk → IsDiskOf S F t disk
   here t u same was = subst (λ (z : State). IsDiskOf S F z disk) (sym same) was
+
+  kept_disk : (t : State) → Keeps S F s.world.persistent s.opened s t → IsDiskOf S F t disk
+  kept_disk t k = after t k.same_opened k.same_issued k.world
+
+  -- ---- events that go by either rule
+
+  staged_one : (t : State) (version : ℕ) → IsStaged S s.world s.world.persistent → Does S F s Stage (Staged version) t → IsDiskOf S F t disk
+  staged_one t version low does = elim (cases_Bool S.apart) [
+    | inl on ↦ (let o = apart_rule _ _ S.apart on does in kept_disk t (stages_keep S F s.world.persistent s.opened s t low o.2))
+    | inr before ↦ (let o = before_rule _ _ S.apart before does in
+        kept_disk t (part_keeps S F s.world.persistent s.opened s o.2 t (deletions_go S s (stage_takes S s)) (stage_takes S s) ForRun o.3 low o.4 o.5))
+  ]
+
+  begun : (t : State) (e : ℕ) → Does S F s (BeginSweep e) Sweeping t → IsDiskOf S F t disk
+  begun t e does = elim (cases_Bool S.apart) [
+    | inl on ↦ here t (sweeping S s e) (apart_rule _ _ S.apart on does).5 (alike (sweeping S s e) refl refl refl refl)
+    | inr before ↦ here t (mark s e true) (before_rule _ _ S.apart before does).4 (alike (mark s e true) refl refl refl refl)
+  ]
+
+  moved_before : (t mid : State) (id k : ℕ) (new : Locator) (payload : List ℕ) → IsStaged S s.world s.world.persistent → AppendsFrame S F s ForMove ChunkFrame payload new mid
+      → t ≡ record mid { table = record { id = id; locators = replaced (live_at (index_now s) id) k new } ∷ mid.table } → IsDiskOf S F t disk
+  moved_before t mid id k new payload low (v, append, same) done =
+      let table : List Entry = record { id = id; locators = replaced (live_at (index_now s) id) k new } ∷ s.table in
+      let next : State = record s { world = v; table = table } in
+      here t next (done ∙ ap (λ (u : State). record u { table = record { id = id; locators = replaced (live_at (index_now s) id) k new } ∷ u.table }) same)
+      (after next refl refl (append_stays S F s.world.persistent s.opened false s.world v ForMove (F.frame ChunkFrame payload) new low append))
+
+  moved_apart : (t mid : State) (c : Copy) (payload : List ℕ) → IsStaged S s.world s.world.persistent → AppendsFrameBy S F true s ForMove ChunkFrame payload c.to mid
+      → t ≡ record mid { copies = c ∷ mid.copies } → IsDiskOf S F t disk
+  moved_apart t mid c payload low (v, append, same) done =
+      let next : State = record s { world = v; copies = c ∷ s.copies } in
+      here t next (done ∙ ap (λ (u : State). record u { copies = c ∷ u.copies }) same)
+      (after next refl refl (append_stays S F s.world.persistent s.opened true s.world v ForMove (F.frame ChunkFrame payload) c.to low append))
+
+  moved_one : (t : State) (e id k : ℕ) → IsStaged S s.world s.world.persistent → Does S F s (MoveOne e) (Moved id k) t → IsDiskOf S F t disk
+  moved_one t e id k low does = elim (cases_Bool S.apart) [
+    | inl on ↦ (let o = apart_rule _ _ S.apart on does in moved_apart t o.3 (record { id = id; chunk = k; from = o.0; to = o.1 }) o.2 low o.8 o.9)
+    | inr before ↦ (let o = before_rule _ _ S.apart before does in moved_before t o.3 id k o.1 o.2 low o.8 o.9)
+  ]
+
+  retired_before : (t mid : State) (e : ℕ) (runs : List Run) → IsStaged S s.world s.world.persistent → Merged S F s ForMove mid runs → t ≡ retired S F mid runs e → IsDiskOf S F t disk
+  retired_before t mid e runs low (v, merges, same) done =
+      let next : State = retired S F (record s { world = v }) runs e in
+      let root : World = (rooted S F (record s { world = v }) runs (with v.extents.pointer e 0)).world in
+      here t next (done ∙ ap (λ (u : State). retired S F u runs e) same)
+      (after next refl refl (other_extents S F s.world.persistent s.opened s.world root next.world.extents
+      (rooted_stays S F s.world.persistent s.opened s v runs (with v.extents.pointer e 0) (merge_stays S F s.world.persistent s.opened s.world v (index_now s) ForMove runs low merges))))
+
+  retired_one : (t : State) (e version : ℕ) → IsStaged S s.world s.world.persistent → Does S F s (Retire e) (Retired version) t → IsDiskOf S F t disk
+  retired_one t e version low does = elim (cases_Bool S.apart) [
+    | inl on ↦ (let o = apart_rule _ _ S.apart on does in kept_disk t (retires_keep S F s.world.persistent s.opened s t e low o.3))
+    | inr before ↦ (let o = before_rule _ _ S.apart before does in retired_before t o.3 e o.4 low o.5 o.6)
+  ]
+
+  -- ---- all events but Issue and End
 
   pub other : (t : State) (event : Event) (reply : Reply) → IsStaged S s.world s.world.persistent → Does S F s event reply t → event ≢ Issue → event ≢ End → (s.round_out ≡ false → s.issued ≡ []) → IsDiskOf S F t disk
   other t (Put id bytes) (Accepted n) low (cs, ls, mid, cut, (v, all, same), number, done) a b c =
       let next : State = record s { world = v; table = record { id = id; locators = ls } ∷ s.table; commands = (id, Some bytes) ∷ s.commands } in
       here t next (done ∙ ap (λ (u : State). record u { table = record { id = id; locators = ls } ∷ u.table; commands = (id, Some bytes) ∷ u.commands }) same)
-      (after next refl refl (appends_stay S F s.world.persistent s.opened s.world v ForPut (chunk_frames S F cs) ls low all))
+      (after next refl refl (appends_stay S F s.world.persistent s.opened S.apart s.world v ForPut (chunk_frames S F cs) ls low all))
   other t (Put id bytes) reply low does a b c = absurd does
   other t (Get id) (Found bytes) low does a b c = here t s does.1 is
   other t (Get id) Absent low does a b c = here t s does.1 is
@@ -125,16 +174,8 @@ module _ (S : Shape) (F : Formats) (s : State) (disk : DiskState) (is : IsDiskOf
       here t (record s { table = record { id = id; locators = [] } ∷ s.table; commands = (id, None) ∷ s.commands }) does.2 (retabled s (record { id = id; locators = [] } ∷ s.table) ((id, None) ∷ s.commands) is)
   other t (Delete id) Absent low does a b c = here t s does.1 is
   other t (Delete id) reply low does a b c = absurd does
-  other t Stage Unchanged low does a b c = here t s does.1 is
-  other t Stage (Staged version) low (some, number, inl (few, entries, l, mid, run, (v, append, same), done)) a b c =
-      let runs : List Run = record { place = l; entries = entries } ∷ s.runs in
-      let next : State = rooted S F (record s { world = v }) runs v.extents.pointer in
-      here t next (done ∙ ap (λ (u : State). rooted S F u runs u.world.extents.pointer) same)
-      (after next refl refl (rooted_still v runs v.extents.pointer (append_stays S F s.world.persistent s.opened s.world v ForRun (F.frame RunFrame (F.run entries)) l low append)))
-  other t Stage (Staged version) low (some, number, inr (many, mid, runs, (v, merges, same), done)) a b c =
-      let next : State = rooted S F (record s { world = v }) runs v.extents.pointer in
-      here t next (done ∙ ap (λ (u : State). rooted S F u runs u.world.extents.pointer) same)
-      (after next refl refl (rooted_still v runs v.extents.pointer (merge_stays S F s.world.persistent s.opened s.world v (index_now s) ForRun runs low merges)))
+  other t Stage Unchanged low does a b c = here t s (unchanged S F s t does) is
+  other t Stage (Staged version) low does a b c = staged_one t version low does
   other t Stage reply low does a b c = absurd does
   other t Begin Nothing low does a b c = here t s does.2 is
   other t Begin (Begun members) low (out, R, round, are, once, some, done) a b c =
@@ -143,20 +184,12 @@ module _ (S : Shape) (F : Formats) (s : State) (disk : DiskState) (is : IsDiskOf
   other t Begin reply low does a b c = absurd does
   other t Issue reply low does a b c = absurd (a refl)
   other t End reply low does a b c = absurd (b refl)
-  other t (BeginSweep e) Sweeping low does a b c = here t (mark s e true) does.4 (alike (mark s e true) refl refl refl refl)
+  other t (BeginSweep e) Sweeping low does a b c = begun t e does
   other t (BeginSweep e) reply low does a b c = absurd does
-  other t (MoveOne e) NoneLive low does a b c = here t s does.2 is
-  other t (MoveOne e) (Moved id k) low (l, new, payload, mid, swept, first, undamaged, reads, (v, append, same), done) a b c =
-      let table : List Entry = record { id = id; locators = replaced (live_at (index_now s) id) k new } ∷ s.table in
-      let next : State = record s { world = v; table = table } in
-      here t next (done ∙ ap (λ (u : State). record u { table = record { id = id; locators = replaced (live_at (index_now s) id) k new } ∷ u.table }) same)
-      (after next refl refl (append_stays S F s.world.persistent s.opened s.world v ForMove (F.frame ChunkFrame payload) new low append))
+  other t (MoveOne e) NoneLive low does a b c = here t s (none_moved S F s t e does) is
+  other t (MoveOne e) (Moved id k) low does a b c = moved_one t e id k low does
   other t (MoveOne e) reply low does a b c = absurd does
-  other t (Retire e) (Retired version) low (swept, nothing, number, mid, runs, (v, merges, same), done) a b c =
-      let next : State = retired S F (record s { world = v }) runs e in
-      let root : World = (rooted S F (record s { world = v }) runs (with v.extents.pointer e 0)).world in
-      here t next (done ∙ ap (λ (u : State). retired S F u runs e) same)
-      (after next refl refl (other_extents root (rooted_still v runs (with v.extents.pointer e 0) (merge_stays S F s.world.persistent s.opened s.world v (index_now s) ForMove runs low merges)) next.world.extents))
+  other t (Retire e) (Retired version) low does a b c = retired_one t e version low does
   other t (Retire e) reply low does a b c = absurd does
   other t (Abandon e) Abandoned low does a b c = here t (mark s e false) does.1 (alike (mark s e false) refl refl refl refl)
   other t (Abandon e) reply low does a b c = absurd does

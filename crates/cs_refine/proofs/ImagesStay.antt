@@ -1,17 +1,22 @@
 -- What is staged changes nothing of the image of what is persistent.
-use Rattle.std.proofs.Common.{◌≡◌, inl, inr, ℕ, suc, ◌<◌, ◌≤◌, le_refl, Bool, true, false, ◌&&◌, ◌==◌, nat_le, List, [], ◌∷◌, refl, sym, ◌∙◌, subst, arith}
+use Rattle.std.proofs.Common.{◌≡◌, inl, inr, ℕ, suc, ◌+◌, ◌<◌, ◌≤◌, le_refl, Bool, true, false, ◌&&◌, ◌==◌, nat_le, List, [], ◌∷◌, length, refl, sym, ap, ◌∙◌, subst, arith}
 use Rattle.std.proofs.lemmas.Bool.{cases_eq, false_from_ne_true}
 use Rattle.std.proofs.lemmas.Bool.Decides.{nat_tests}
 use Rattle.cs_model.proofs.ClosedSets.{gt-leb}
 use Rattle.cs_model.proofs.Parts.{grows, still_staged}
-use Rattle.cs_model.specs.Append.{Append, AppendAll, MergesTo, stage_pages}
+use Rattle.cs_model.proofs.Settling.{settled_alike}
+use Rattle.cs_model.specs.Apart.{StagesApart, named, rooted_apart, settled, takes}
+use Rattle.cs_model.specs.Append.{AppendAllBy, AppendBy, MergesTo, stage_pages}
 use Rattle.cs_model.specs.Cut.{Cut}
 use Rattle.cs_model.specs.Device.{FramePage, Page, PageKind, RootPage, SectionPage, Shape}
 use Rattle.cs_model.specs.Element.{A_root, A_superblock, A_write, Element, Entry, Locator, Map, Root, Run, Superblock, Write, log_of}
-use Rattle.cs_model.specs.Extents.{Purpose}
+use Rattle.cs_model.specs.Events.{mark, rooted}
+use Rattle.cs_model.specs.Extents.{Extents, ForMerge, ForRun, Purpose}
 use Rattle.cs_model.specs.Formats.{Formats, image, image_at}
+use Rattle.cs_model.specs.Merges.{MergesPart, deletions_go}
 use Rattle.cs_model.specs.Machine.{StagePage, StageRoot, StageSuperblock, World, happens, root_now, superblock_now, write_now}
 use Rattle.cs_model.specs.Safe.{IsStaged}
+use Rattle.cs_model.specs.State.{State, map_now}
 
 -- a test fails where its second part does
 and_false : (a b : Bool) → b ≡ false → (a && b) ≡ false
@@ -91,22 +96,79 @@ module _ (S : Shape) (F : Formats) (P : Cut) (opened : ℕ → Page) where
       stays_more w (happens S w (StagePage (S.address e i) b)) (stage_pages S (happens S w (StagePage (S.address e i) b)) e (suc i) bs) one
       (pages_stay bs (happens S w (StagePage (S.address e i) b)) e (suc i) one.staged)
 
-  pub append_stays : (w v : World) (purpose : Purpose) (bs : List Page) (l : Locator) → IsStaged S w P → Append S w purpose bs l v → Stays w v
-  append_stays w v purpose bs l staged a = subst (λ (u : World). Stays w u) (sym a.after)
+  -- so it is by either rule, that of chunks and runs on one extent and that of chunks and runs apart
+  pub append_stays : (apart : Bool) (w v : World) (purpose : Purpose) (bs : List Page) (l : Locator) → IsStaged S w P → AppendBy S apart w purpose bs l v → Stays w v
+  append_stays apart w v purpose bs l staged a = subst (λ (u : World). Stays w u) (sym a.after)
       (let mid : World = stage_pages S w a.extent (w.extents.pointer a.extent) bs in
       let pages = pages_stay bs w a.extent (w.extents.pointer a.extent) staged in
       let last = superblock_stays mid (S.section a.extent) a.need pages.staged in
       let all = stays_more w mid (happens S mid (StageSuperblock (S.section a.extent) a.need)) pages last in
       record { same = all.same; staged = all.staged; persistent = all.persistent })
 
-  pub appends_stay : (w v : World) (purpose : Purpose) (frames : List (List Page)) (ls : List Locator) → IsStaged S w P → AppendAll S w purpose frames ls v → Stays w v
-  appends_stay w v purpose [] [] staged is = subst (λ (u : World). Stays w u) (sym is) (stays_still w staged)
-  appends_stay w v purpose [] (l ∷ ls) staged is = absurd is
-  appends_stay w v purpose (bs ∷ frames) [] staged is = absurd is
-  appends_stay w v purpose (bs ∷ frames) (l ∷ ls) staged (mid, a, rest) =
-      let one = append_stays w mid purpose bs l staged a in
-      stays_more w mid v one (appends_stay mid v purpose frames ls one.staged rest)
+  pub appends_stay : (apart : Bool) (w v : World) (purpose : Purpose) (frames : List (List Page)) (ls : List Locator) → IsStaged S w P → AppendAllBy S apart w purpose frames ls v → Stays w v
+  appends_stay apart w v purpose [] [] staged is = subst (λ (u : World). Stays w u) (sym is) (stays_still w staged)
+  appends_stay apart w v purpose [] (l ∷ ls) staged is = absurd is
+  appends_stay apart w v purpose (bs ∷ frames) [] staged is = absurd is
+  appends_stay apart w v purpose (bs ∷ frames) (l ∷ ls) staged (mid, a, rest) =
+      let one = append_stays apart w mid purpose bs l staged a in
+      stays_more w mid v one (appends_stay apart mid v purpose frames ls one.staged rest)
 
   pub merge_stays : (w v : World) (index : List Entry) (purpose : Purpose) (runs : List Run) → IsStaged S w P → MergesTo S F w index purpose v runs → Stays w v
-  merge_stays w v index purpose runs staged (inl (entries, l, some, run, a, one)) = append_stays w v purpose (F.frame _ (F.run entries)) l staged a
+  merge_stays w v index purpose runs staged (inl (entries, l, some, run, a, one)) = append_stays false w v purpose (F.frame _ (F.run entries)) l staged a
   merge_stays w v index purpose runs staged (inr (nothing, same, none)) = subst (λ (u : World). Stays w u) (sym same) (stays_still w staged)
+
+  -- the newest runs become one
+  pub part_stays : (apart go : Bool) (s t : State) (purpose : Purpose) (k : ℕ) (runs : List Run) → IsStaged S s.world P → MergesPart S F apart go s purpose k t runs
+      → (v : World) × (t ≡ record s { world = v }) × Stays s.world v
+  part_stays apart go s t purpose k runs staged (inl (entries, l, some, run, (v, a, same), one)) = (v, same, append_stays apart s.world v purpose (F.frame _ (F.run entries)) l staged a)
+  part_stays apart go s t purpose k runs staged (inr (run, same, one)) = (s.world, same, stays_still s.world staged)
+
+  -- ---- from one state to another
+
+  -- the image stays from one state to another, and so does what was issued
+  pub record Keeps (s t : State) : Type 0 where
+    pub world : Stays s.world t.world
+    pub same_opened : t.opened ≡ s.opened
+    pub same_issued : t.issued ≡ s.issued
+
+  pub other_extents : (w v : World) (extents : Extents) → Stays w v → Stays w (record v { extents = extents })
+  other_extents w v extents stays = record { same = stays.same; staged = stays.staged; persistent = stays.persistent }
+
+  -- a root over what was staged
+  pub rooted_stays : (s : State) (v : World) (runs : List Run) (pointers : ℕ → ℕ) → Stays s.world v → Stays s.world (rooted S F (record s { world = v }) runs pointers).world
+  rooted_stays s v runs pointers stays = stays_more s.world v (rooted S F (record s { world = v }) runs pointers).world stays
+      (root_stays v (s.count + length s.commands) runs (map_now s) pointers stays.staged)
+
+  -- the newest runs become one, with a root over it
+  pub part_keeps : (s mid t : State) (go : Bool) (k : ℕ) (purpose : Purpose) (runs : List Run) → IsStaged S s.world P → MergesPart S F false go s purpose k mid runs
+      → t ≡ rooted S F mid runs mid.world.extents.pointer → Keeps s t
+  part_keeps s mid t go k purpose runs staged merges done =
+      let m = part_stays false go s mid purpose k runs staged merges in
+      subst (λ (u : State). Keeps s u) (sym (done ∙ ap (λ (u : State). rooted S F u runs u.world.extents.pointer) m.1))
+      (record { world = rooted_stays s m.0 runs m.0.extents.pointer m.2; same_opened = refl; same_issued = refl })
+
+  -- so where chunks and runs lie apart
+  part_keeps_apart : (s mid t : State) (go : Bool) (k : ℕ) (purpose : Purpose) (runs : List Run) → IsStaged S s.world P → MergesPart S F true go s purpose k mid runs
+      → t ≡ rooted_apart S F mid runs → Keeps s t
+  part_keeps_apart s mid t go k purpose runs staged merges done =
+      let m = part_stays true go s mid purpose k runs staged merges in
+      let pointers : ℕ → ℕ = named m.0.extents.pointer runs in
+      let root : World = (rooted S F (record s { world = m.0 }) runs pointers).world in
+      let next : State = rooted_apart S F (record s { world = m.0 }) runs in
+      subst (λ (u : State). Keeps s u) (sym (done ∙ ap (λ (u : State). rooted_apart S F u runs) m.1))
+      (record { world = other_extents s.world root next.world.extents (rooted_stays s m.0 runs pointers m.2); same_opened = refl; same_issued = refl })
+
+  pub stages_keep : (s t : State) → IsStaged S s.world P → StagesApart S F s t → Keeps s t
+  stages_keep s t staged (mid, runs, inl m, done) = part_keeps_apart s mid t (deletions_go S s (takes S s)) (takes S s) ForRun runs staged m done
+  stages_keep s t staged (mid, runs, inr m, done) = part_keeps_apart s mid t (deletions_go S s (length s.runs)) (length s.runs) ForMerge runs staged m.1 done
+
+  -- the copies of a sweep that ended count, which changes the table alone
+  pub retires_keep : (s t : State) (e : ℕ) → IsStaged S s.world P → StagesApart S F (settled (mark s e false)) t → Keeps s t
+  retires_keep s t e staged stages = settled_alike (λ (x : State). Keeps x t → Keeps s t) (mark s e false)
+      (λ k. record {
+        world = record { same = k.world.same; staged = k.world.staged; persistent = k.world.persistent };
+        same_opened = k.same_opened;
+        same_issued = k.same_issued;
+      })
+      (stages_keep (settled (mark s e false)) t
+      (settled_alike (λ (x : State). IsStaged S x.world P) (mark s e false) (record { writes = staged.writes; superblocks = staged.superblocks; root = staged.root })) stages)

@@ -142,7 +142,7 @@ after_mark x y g w e b is same extents =
     }
 
 pub after_appends : (x y : ExtentsState) (g h : GraphState) (w : World) (reason : Reason) (frames : List (List (List ℕ))) (ls : List Locator)
-    → IsGeometry (shape x).extents (shape x).pages (shape x).sections → IsWorldOf x g w → AreAppended x g reason frames ls y h
+    → IsGeometry (shape x).format (shape x).extents (shape x).pages (shape x).sections → IsWorldOf x g w → AreAppended x g reason frames ls y h
     → (v : World) × AppendAll (shape x) w reason frames (map place_of ls) v × IsWorldOf y h v
 after_appends x y g h w reason [] [] geometry is all = (
   w,
@@ -155,7 +155,7 @@ after_appends x y g h w reason (frame ∷ frames) [] geometry is all = absurd al
 after_appends x y g h w reason (frame ∷ frames) (l ∷ ls) geometry is all =
     let one = after_append x g w geometry is reason frame l all.0 all.1 all.2 in
     let same : shape all.0 ≡ shape x = all.2.same_shape in
-    let rest = after_appends all.0 y all.1 h one.0 reason frames ls (subst (λ (S : Shape). IsGeometry S.extents S.pages S.sections) (sym same) geometry) one.2 all.3 in
+    let rest = after_appends all.0 y all.1 h one.0 reason frames ls (subst (λ (S : Shape). IsGeometry S.format S.extents S.pages S.sections) (sym same) geometry) one.2 all.3 in
     (rest.0, (one.0, one.1, subst (λ (S : Shape). AppendAll S one.0 reason frames (map place_of ls) rest.0) same rest.1), rest.2)
 
 -- what waits in the world waits in its graph

@@ -1,5 +1,5 @@
 -- A store that is opened has the machine's world at open.
-use Rattle.std.proofs.Common.{◌≡◌, inl, inr, ⊎_elim, ℕ, zero, suc, ◌<◌, ◌≤◌, Bool, true, if◌then◌else◌, List, [], ◌∷◌, ◌++◌, length, true≢false, le_refl, le-leb, refl, sym, ap, ◌∙◌, subst, arith}
+use Rattle.std.proofs.Common.{◌≡◌, inl, inr, ⊎_elim, ℕ, zero, suc, ◌<◌, ◌≤◌, Bool, true, false, if◌then◌else◌, List, [], ◌∷◌, ◌++◌, length, true≢false, le_refl, le-leb, refl, sym, ap, ◌∙◌, subst, arith}
 use Rattle.std.specs.Prelude.{slice_index}
 use Rattle.cs_deps.specs.Staging.{Staging}
 use Rattle.cs_deps.specs.State.{State as GraphState}
@@ -106,8 +106,9 @@ module _ (x : State) (g : GraphState) (F : Formats) (img : ℕ → Page) (n : �
     persistent = record { writes = λ k has. absurd (true≢false (sym has)); superblocks = λ j. le_refl _; root = le_refl _ };
     closed = closed_at;
     numbers = λ k. ((λ low. absurd (omega (arith, low.0, low.1))), (λ from. absurd (no_write (shape x).sections from.0 from.1)));
-    superblocks = of_all (λ (v : Superblock). (v.section < (shape x).sections) × (v.version ≤ found.versions v.section) × (v.writes ≤ 0) × (v.root ≤ need_of x v.section))
-        (λ j lt. (lt, le_refl _, le_refl _, omega arith));
+    superblocks = of_all (λ (v : Superblock). (v.section < (shape x).sections) × (v.version ≤ found.versions v.section) × (v.writes ≤ 0) × (v.root ≤ need_of x v.section)
+        × ((shape x).pages_first ≡ false → v.writes ≡ 0))
+        (λ j lt. (lt, le_refl _, le_refl _, omega arith, (λ rule. refl)));
     roots = of_root (λ (q : Root). (q.version ≤ found.version) × ((j : ℕ) → q.superblocks j ≤ found.versions j) × (q.pages ≤ 0) × ((shape x).pages_first ≡ true → q.pages ≡ 0))
         (le_refl _, (λ j. le_refl _), le_refl _, (λ rule. refl));
   }

@@ -12,6 +12,7 @@ use Rattle.cs_extent.specs.State.{IsWhole, State as ExtentsState, shape}
 use Rattle.cs_frame.proofs.GeometryLaws.{model_geometry}
 use Rattle.cs_frame.specs.Formats.{formats_of}
 use Rattle.cs_frame.specs.Geometries.{section_size}
+use Rattle.cs_image.specs.Reads.{page_total}
 use Rattle.cs_model.proofs.Carries.{and_left, and_true, found}
 use Rattle.cs_model.proofs.Frozen.{page_unwritten}
 use Rattle.cs_model.proofs.Rounds.{before_it}
@@ -189,11 +190,11 @@ module _ (x : ExtentsState) (g : GraphState) (s : State) (held : Image) (whole :
   frames_below : (p : ℕ) → (shape x).kind p ≡ FramePage → p < 2 + (shape x).extents * (shape x).pages
   frames_below p frame = elim (cases_lt p (2 + (shape x).extents * (shape x).pages)) [
     | inl lt ↦ lt
-    | inr ge ↦ absurd (let behind = at_behind (length x.written) x.pages x.sections (section_size (length x.written) x.sections) 2
-        (model_geometry (length x.written) x.pages x.sections whole.geometry) p ge in (let e = sym behind ∙ frame in cc))
+    | inr ge ↦ absurd (let behind = at_behind (length x.written) x.pages x.sections (section_size (length x.written) x.sections) x.format
+        (model_geometry x.format (length x.written) x.pages x.sections whole.geometry) p ge in (let e = sym behind ∙ frame in cc))
   ]
 
-  pub pages_read : IsDeviceOf (shape x) (formats_of (shape x)) s held → 1 + (shape x).extents * (shape x).pages + (shape x).sections ≤ length held
+  pub pages_read : IsDeviceOf (shape x) (formats_of (shape x)) s held → page_total (shape x) ≤ length held
       → AreNewest g held (pages_now (shape x) s held)
   pages_read device size p = go ((shape x).kind p) refl
     where

@@ -1,36 +1,45 @@
 -- Why a Stage and a Retire are refused.
-use Rattle.std.proofs.Common.{◌≡◌, ◌≢◌, ◌⊎◌, ◌↔◌, inl, inr, ⊎_elim, ℕ, suc, ◌+◌, ◌^◌, ◌<◌, ◌≤◌, true, List, [], ◌∷◌, length, refl, sym, ap, ◌∙◌, subst, le_of_eq, le_trans, arith}
-use Rattle.std.proofs.lemmas.Bool.{cases_eq, cases_lt}
+use Rattle.std.proofs.Common.{◌≡◌, ◌≢◌, ◌⊎◌, ◌↔◌, inl, inr, ⊎_elim, ℕ, suc, ◌+◌, ◌^◌, ◌<◌, ◌≤◌, Bool, true, false, List, [], ◌∷◌, drop, length, refl, sym, ap, ◌∙◌, subst, le_of_eq, le_trans, arith}
+use Rattle.std.proofs.lemmas.Bool.{cases_eq}
 use Rattle.std.specs.Prelude.{◌==◌, if◌then◌else◌, slice_index}
 use Rattle.cs_deps.specs.State.{State as GraphState}
 use Rattle.cs_extent.specs.Frames.{IsWorn, root_family}
 use Rattle.cs_extent.specs.State.{IsWhole, State as ExtentsState, extents_of, shape}
 use Rattle.cs_extent.specs.Worn.{IsFrameWorn, in_section}
 use Rattle.cs_frame.specs.Formats.{formats_of}
-use Rattle.cs_index.specs.Staged.{IsFull, IsRootWorn, IsStageWorn, WritesMerged, WritesRun, run_frame}
+use Rattle.cs_index.specs.Merges.{deletions_go as index_deletions_go, part as index_part, stage_takes as index_takes}
+use Rattle.cs_index.specs.Staged.{IsFull, IsRootWorn, IsStageWorn, WritesMerged, WritesPart, WritesRun, run_frame}
 use Rattle.cs_index.specs.State.{State as IndexState, index_of}
+use Rattle.cs_model.proofs.Before.{full_as_before}
 use Rattle.cs_model.proofs.Limits.{not_past}
 use Rattle.cs_model.proofs.Needs.{append_there}
-use Rattle.cs_model.proofs.Outcomes.{frame_generations, merged_generations, merged_or_full, none_live, not_both}
+use Rattle.cs_model.proofs.Outcomes.{frame_generations, merged_generations, merged_or_full, none_live, not_both, part_or_full}
 use Rattle.cs_model.proofs.Parts.{with_other, with_same}
-use Rattle.cs_model.proofs.Places.{placed_one, placed_or_full}
+use Rattle.cs_model.proofs.Places.{placed_one}
 use Rattle.cs_model.proofs.Sorted.{one_sorted, sorted, sorted_live}
 use Rattle.cs_model.specs.Append.{Append, MergesTo}
 use Rattle.cs_model.specs.Element.{Entry, Locator as Place, Run}
 use Rattle.cs_model.specs.Events.{Does, Merged, retired, rooted}
 use Rattle.cs_model.specs.Extents.{Extents, ForMove, ForRun, NoPlace, Placed, Purpose as Reason}
 use Rattle.cs_model.specs.Formats.{RunFrame}
-use Rattle.cs_model.specs.Grounds.{NoRoomForRun, NoRoomForTable, PastLimit, WouldPass}
-use Rattle.cs_model.specs.Index.{IsMergedRun, IsTableRun, NothingLive, if_live, live, lookup}
+use Rattle.cs_model.specs.Grounds.{NoRoomForRun, NoRoomForTable, NoRoomToStage, PastLimit, WouldPass}
+use Rattle.cs_model.specs.Index.{IsMergedRun, NothingLive, if_live, live, lookup}
 use Rattle.cs_model.specs.Machine.{World}
+use Rattle.cs_model.specs.Merges.{IsRunOf, MergesNewest, MergesPart, deletions_go, part, stage_takes}
 use Rattle.cs_model.specs.Sound.{Bounded, Sound}
 use Rattle.cs_model.specs.State.{Reply, Retire, Retired, Stage, Staged, State, Unchanged, index_now}
 use Rattle.cs_reclaim.specs.Retired.{IsRetireFull, IsRetireWorn}
-use Rattle.cs_refine.proofs.Indexes.{as_many_runs, looked_up, merged_run, nothing_live, some_table, some_table_here, table_run}
+use Rattle.cs_refine.proofs.Indexes.{looked_up, merged_run, nothing_live, some_table, some_table_here}
+use Rattle.cs_refine.proofs.Merges.{merges_here, merges_there, run_here, run_there, same_run, stages_so}
 use Rattle.cs_refine.proofs.Numbers.{IsPast, append_numbers, past, past_too}
 use Rattle.cs_refine.proofs.RefusedPuts.{IsOver, no_command, no_section, no_write, of_frame, to_frame, young}
 use Rattle.cs_refine.proofs.Shapes.{store_format, store_shape}
 use Rattle.cs_refine.specs.Parts.{ArePartsOf}
+
+-- there is a run of an index
+some_run : (go : Bool) (index : List Entry) → (ws : List Entry) × IsRunOf go index ws
+some_run true index = let all = sorted_live index in (all.0, (all.1, all.2))
+some_run false index = let all = sorted index in (all.0, (all.1, all.2))
 
 module _ (x : ExtentsState) (g : GraphState) (i : IndexState) (s : State) (whole : IsWhole x) (are : ArePartsOf x g i s) where
   -- the pages of a run, as the machine has them
@@ -68,16 +77,13 @@ module _ (x : ExtentsState) (g : GraphState) (i : IndexState) (s : State) (whole
   same_merged : (xs ys : List Entry) → IsMergedRun (index_now s) xs → IsMergedRun (index_of i) ys → xs ≡ ys
   same_merged xs ys a b = one_sorted xs ys a.0 b.0 (λ id. a.1 id ∙ ap if_live (sym (asked id)) ∙ sym (b.1 id))
 
-  same_table : (xs ys : List Entry) → IsTableRun s.table xs → IsTableRun i.table ys → xs ≡ ys
-  same_table xs ys a b = one_sorted xs ys a.0 b.0 (λ id. a.1 id ∙ sym (are.index.lookups id) ∙ sym (b.1 id))
-
   -- ---- room
 
   run_full_to : (reason : Reason) → NoRoomForRun (shape x) (formats_of (shape x)) s reason → IsFull (WritesMerged i) x reason
   run_full_to reason none = let all = sorted_live (index_of i) in go all.0 (all.1, all.2)
     where
       go : (ws : List Entry) → IsMergedRun (index_of i) ws → IsFull (WritesMerged i) x reason
-      go [] run = absurd (none s [] (s.world, inr ((λ id. ap live (sym (asked id)) ∙ none_live (shape x) (formats_of (shape x)) (store_shape x whole) (store_format x whole) (lookup id (index_of i)) (run.1 id)), refl, refl), refl))
+      go [] run = absurd (none s [] (s.world, inr ((λ id. ap live (sym (asked id)) ∙ none_live (lookup id (index_of i)) (run.1 id)), refl, refl), refl))
       go (w ∷ ws) run =
           let some : w ∷ ws ≢ [] = (λ is. let e : w ∷ ws ≡ [] = is in cc) in (
             w ∷ ws,
@@ -100,31 +106,54 @@ module _ (x : ExtentsState) (g : GraphState) (i : IndexState) (s : State) (whole
   IsStageFull = (s.table ≢ []) × (((length s.runs < 4) × NoRoomForTable (shape x) (formats_of (shape x)) s)
       ⊎ ((4 ≤ length s.runs) × NoRoomForRun (shape x) (formats_of (shape x)) s ForRun))
 
-  stage_full_to : IsStageFull → IsFull (WritesRun i) x ForRun
-  stage_full_to (some, inl (few, none)) =
-      let all = sorted i.table in (
-        all.0,
-        (some_table_here i s.table s.runs are.index some, inl (subst (λ (n : ℕ). n < 4) (sym (as_many_runs i s.table s.runs are.index)) few, (all.1, all.2))),
-        λ e placed. let a = append_run ForRun all.0 e placed in
-            none all.0 a.0 (record s { world = a.1 }) (table_run i.table s.table are.index.lookups all.0 (all.1, all.2)) (a.1, a.2, refl),
-      )
-  stage_full_to (some, inr (many, none)) =
-      let full = run_full_to ForRun none in
-      (full.0, (some_table_here i s.table s.runs are.index some, inr (subst (λ (n : ℕ). 4 ≤ n) (sym (as_many_runs i s.table s.runs are.index)) many, full.1)), full.2)
+  -- the run of a part goes nowhere
+  part_full_to : (go : Bool) (k : ℕ) → ((mid : State) (runs : List Run) → MergesPart (shape x) (formats_of (shape x)) false go s ForRun k mid runs → ⊥) → IsFull (WritesPart go i k) x ForRun
+  part_full_to go k none = let all = some_run go (index_part i k) in by all.0 all.1
+    where
+      by : (ws : List Entry) → IsRunOf go (index_part i k) ws → IsFull (WritesPart go i k) x ForRun
+      by [] run = absurd (none s (drop k s.runs) (inr (run_there i s are.index go k [] run, refl, refl)))
+      by (w ∷ ws) run =
+          let some : w ∷ ws ≢ [] = (λ is. let e : w ∷ ws ≡ [] = is in cc) in (
+            w ∷ ws,
+            (run, some),
+            λ e placed. let a = append_run ForRun (w ∷ ws) e placed in
+                none (record s { world = a.1 }) (record { place = a.0; entries = w ∷ ws } ∷ drop k s.runs)
+                (inl (w ∷ ws, a.0, some, run_there i s are.index go k (w ∷ ws) run, (a.1, a.2, refl), refl)),
+          )
 
-  stage_full_from : IsFull (WritesRun i) x ForRun → IsStageFull
-  stage_full_from (entries, (some, inl (few, run)), none) = (
+  part_full_from : (go : Bool) (k : ℕ) → IsFull (WritesPart go i k) x ForRun → (mid : State) (runs : List Run) → MergesPart (shape x) (formats_of (shape x)) false go s ForRun k mid runs → ⊥
+  part_full_from go k (entries, (run, some), none) mid runs (inl (es, l, some', run', (v, a, same), one)) =
+      has_place ForRun es entries l v (same_run i s are.index go k es entries run' run) a none
+  part_full_from go k (entries, (run, some), none) mid runs (inr (run', same, left)) = some (sym (same_run i s are.index go k [] entries run' run))
+
+  -- so much of the index is merged by a Stage
+  abbrev takes : ℕ
+  takes = index_takes (shape x) i
+
+  abbrev goes : Bool
+  goes = index_deletions_go (shape x) i takes
+
+  no_room_to : (s.table ≢ []) × NoRoomToStage (shape x) (formats_of (shape x)) s → IsFull (WritesRun (shape x) i) x ForRun
+  no_room_to (some, none) =
+      let full = part_full_to goes takes (λ mid runs m. none mid runs (merges_there (shape x) i s are.index (formats_of (shape x)) mid runs m)) in
+      (full.0, (some_table_here i s.table s.runs are.index some, full.1), full.2)
+
+  no_room_from : IsFull (WritesRun (shape x) i) x ForRun → (s.table ≢ []) × NoRoomToStage (shape x) (formats_of (shape x)) s
+  no_room_from (entries, (some, writes), none) = (
     some_table i s.table s.runs are.index some,
-    inl (
-      subst (λ (n : ℕ). n < 4) (as_many_runs i s.table s.runs are.index) few,
-      λ es l mid run' a. has_place ForRun es entries l a.0 (same_table es entries run' run) a.1 none,
-    ),
+    λ mid runs m. part_full_from goes takes (entries, writes, none) mid runs (merges_here (shape x) i s are.index (formats_of (shape x)) mid runs m),
   )
-  stage_full_from (entries, (some, inr (many, run)), none) =
-      (some_table i s.table s.runs are.index some, inr (subst (λ (n : ℕ). 4 ≤ n) (as_many_runs i s.table s.runs are.index) many, run_full_from ForRun (entries, run, none)))
 
-  pub stage_full : IsStageFull ↔ IsFull (WritesRun i) x ForRun
-  stage_full = (stage_full_to, stage_full_from)
+  -- the machine's ground is that
+  pub no_room_to_stage : ((s.table ≢ []) × NoRoomToStage (shape x) (formats_of (shape x)) s) ↔ IsFull (WritesRun (shape x) i) x ForRun
+  no_room_to_stage = (no_room_to, no_room_from)
+
+  -- up to format 2 in two branches
+  pub stage_full : IsStageFull ↔ IsFull (WritesRun (shape x) i) x ForRun
+  stage_full = (
+    (λ full. no_room_to (full.0, (full_as_before (shape x) (formats_of (shape x)) s refl refl full.0).1 full.1)),
+    (λ full. let none = no_room_from full in (none.0, (full_as_before (shape x) (formats_of (shape x)) s refl refl none.0).0 none.1)),
+  )
 
   -- ---- numbers
 
@@ -232,75 +261,65 @@ module _ (x : ExtentsState) (g : GraphState) (i : IndexState) (s : State) (whole
 
     -- ---- stages
 
-    few_alone : (Any : Type 0) → length s.runs < 4 → 4 ≤ length i.runs → Any
-    few_alone Any few many = let same : length i.runs ≡ length s.runs = (as_many_runs i s.table s.runs are.index) in absurd (omega arith)
+    -- what a part takes past the greatest as a run, with the root over it and the older runs
+    part_past : (go : Bool) (k : ℕ) (mid : State) (runs : List Run) → MergesPart (shape x) (formats_of (shape x)) false go s ForRun k mid runs
+        → PastLimit (shape x) (formats_of (shape x)) (rooted (shape x) (formats_of (shape x)) mid runs mid.world.extents.pointer) → IsStageWorn (WritesPart go i k) x ForRun g.staging
+    part_past go k mid runs (inl (entries, l, some, run, (w, a, same), one)) over =
+        run_past (WritesPart go i k) ForRun entries l w runs w.extents.pointer a (run_here i s are.index go k entries run, some)
+        (subst (λ (u : State). PastLimit (shape x) (formats_of (shape x)) u) (ap (λ (m : State). rooted (shape x) (formats_of (shape x)) m runs m.world.extents.pointer) same) over)
+    part_past go k mid runs (inr (run, same, left)) over = root_alone (WritesPart go i k) ForRun
+        (past x (formats_of (shape x)) s (after_root s.world runs s.world.extents.pointer) 0 (λ j. 0) 1 0 (omega arith) (λ j. none_more (s.world.superblocks j)) (sym root_next) same_commands (young x s sound bounded)
+        (subst (λ (u : State). PastLimit (shape x) (formats_of (shape x)) u) (ap (λ (m : State). rooted (shape x) (formats_of (shape x)) m runs m.world.extents.pointer) same) over))
+
+    worn_run : (go : Bool) (k : ℕ) (entries : List Entry) → IsRunOf go (part s k) entries → IsStageWorn (WritesPart go i k) x ForRun g.staging → IsRunWorn ForRun entries
+    worn_run go k entries run (inl root) = inl root
+    worn_run go k entries run (inr (es, (run', some'), over)) =
+        inr (subst (λ (ys : List Entry). IsFrameWorn x ForRun g.staging (length (run_frame x ys))) (sym (same_run i s are.index go k entries es run run')) over)
+
+    part_past_back : (go : Bool) (k : ℕ) (mid : State) (runs : List Run) → MergesPart (shape x) (formats_of (shape x)) false go s ForRun k mid runs
+        → IsStageWorn (WritesPart go i k) x ForRun g.staging → PastLimit (shape x) (formats_of (shape x)) (rooted (shape x) (formats_of (shape x)) mid runs mid.world.extents.pointer)
+    part_past_back go k mid runs (inl (entries, l, some, run, (w, a, same), one)) worn =
+        subst (λ (u : State). PastLimit (shape x) (formats_of (shape x)) u) (sym (ap (λ (m : State). rooted (shape x) (formats_of (shape x)) m runs m.world.extents.pointer) same))
+        (run_past_back ForRun entries l w runs w.extents.pointer a (worn_run go k entries run worn))
+    part_past_back go k mid runs (inr (run, same, left)) (inl root) =
+        subst (λ (u : State). PastLimit (shape x) (formats_of (shape x)) u) (sym (ap (λ (m : State). rooted (shape x) (formats_of (shape x)) m runs m.world.extents.pointer) same))
+        (past_too x (formats_of (shape x)) s (after_root s.world runs s.world.extents.pointer) 0 (λ j. 0) 1 0 (omega arith) (λ j. none_more (s.world.superblocks j)) (sym root_next) same_commands (inr (inr (inl (root_worn_back root)))))
+    part_past_back go k mid runs (inr (run, same, left)) (inr (es, (run', some'), over)) = absurd (some' (sym (same_run i s are.index go k [] es run run')))
+
+    -- where the table isn't empty, a Stage writes the run of the part
+    worn_to : i.table ≢ [] → IsStageWorn (WritesPart goes i takes) x ForRun g.staging → IsStageWorn (WritesRun (shape x) i) x ForRun g.staging
+    worn_to some (inl root) = inl root
+    worn_to some (inr (entries, writes, over)) = inr (entries, (some, writes), over)
+
+    worn_from : IsStageWorn (WritesRun (shape x) i) x ForRun g.staging → IsStageWorn (WritesPart goes i takes) x ForRun g.staging
+    worn_from (inl root) = inl root
+    worn_from (inr (entries, (some, writes), over)) = inr (entries, writes, over)
 
     stage_past : (reply : Reply) (t : State) → Does (shape x) (formats_of (shape x)) s Stage reply t → PastLimit (shape x) (formats_of (shape x)) t
-        → (i.table ≢ []) × IsStageWorn (WritesRun i) x ForRun g.staging
+        → (i.table ≢ []) × IsStageWorn (WritesRun (shape x) i) x ForRun g.staging
     stage_past Unchanged t (none, same) over =
         absurd (not_past (shape x) (formats_of (shape x)) s sound bounded (subst (λ (u : State). PastLimit (shape x) (formats_of (shape x)) u) same over))
-    stage_past (Staged v) t (some, version, inl (few, entries, l, mid, run, (w, a, same), is)) over = (
-      some_table_here i s.table s.runs are.index some,
-      run_past (WritesRun i) ForRun entries l w (record { place = l; entries = entries } ∷ s.runs) w.extents.pointer a
-          (some_table_here i s.table s.runs are.index some, inl (subst (λ (n : ℕ). n < 4) (sym (as_many_runs i s.table s.runs are.index)) few, table_run s.table i.table (λ id. sym (are.index.lookups id)) entries run))
-          (subst (λ (u : State). PastLimit (shape x) (formats_of (shape x)) u)
-          (is ∙ ap (λ (m : State). rooted (shape x) (formats_of (shape x)) m (record { place = l; entries = entries } ∷ s.runs) m.world.extents.pointer) same) over),
-    )
-    stage_past (Staged v) t (some, version, inr (many, mid, runs, (w, merges, same), is)) over = (
-      some_table_here i s.table s.runs are.index some,
-      of_merge (merge_past ForRun w runs w.extents.pointer merges (subst (λ (u : State). PastLimit (shape x) (formats_of (shape x)) u)
-          (is ∙ ap (λ (m : State). rooted (shape x) (formats_of (shape x)) m runs m.world.extents.pointer) same) over)),
-    )
-      where
-        of_merge : IsStageWorn (WritesMerged i) x ForRun g.staging → IsStageWorn (WritesRun i) x ForRun g.staging
-        of_merge (inl root) = inl root
-        of_merge (inr (entries, writes, worn)) =
-            inr (entries, (some_table_here i s.table s.runs are.index some, inr (subst (λ (n : ℕ). 4 ≤ n) (sym (as_many_runs i s.table s.runs are.index)) many, writes)), worn)
+    stage_past (Staged v) t (some, version, mid, runs, merges, is) over =
+        let some_here : i.table ≢ [] = some_table_here i s.table s.runs are.index some in (
+          some_here,
+          worn_to some_here (part_past goes takes mid runs (merges_here (shape x) i s are.index (formats_of (shape x)) mid runs merges)
+              (subst (λ (u : State). PastLimit (shape x) (formats_of (shape x)) u) is over)),
+        )
     stage_past reply t d over = absurd d
 
-    stage_past_back : ¬ IsFull (WritesRun i) x ForRun → i.table ≢ [] → IsStageWorn (WritesRun i) x ForRun g.staging → WouldPass (shape x) (formats_of (shape x)) s Stage
-    stage_past_back room some worn = elim (cases_lt (length s.runs) 4) [ inl few ↦ of_table few | inr many ↦ of_merge many ]
-      where
-        of_table : length s.runs < 4 → WouldPass (shape x) (formats_of (shape x)) s Stage
-        of_table few =
-            let all = sorted i.table in
-            let run : IsTableRun i.table all.0 = (all.1, all.2) in
-            let few' : length i.runs < 4 = subst (λ (n : ℕ). n < 4) (sym (as_many_runs i s.table s.runs are.index)) few in
-            ⊎_elim
-            (λ (at : (e : ℕ) × Placed (shape x) (extents_of x) ForRun (length (run_frame x all.0)) e).
-            let a = append_run ForRun all.0 at.0 at.1 in
-            let runs : List Run = record { place = a.0; entries = all.0 } ∷ s.runs in (
-              Staged (suc s.world.root),
-              after_root a.1 runs a.1.extents.pointer,
-              (some_table i s.table s.runs are.index some, refl, inl (few, all.0, a.0, record s { world = a.1 }, table_run i.table s.table are.index.lookups all.0 run, (a.1, a.2, refl), refl)),
-              run_past_back ForRun all.0 a.0 a.1 runs a.1.extents.pointer a.2 (of_run all.0 run worn),
-            ))
-            (λ (none : NoPlace (shape x) (extents_of x) ForRun (length (run_frame x all.0))). absurd (room (all.0, (some, inl (few', run)), none)))
-            (placed_or_full (shape x) (extents_of x) ForRun (length (run_frame x all.0)))
-          where
-            of_run : (entries : List Entry) → IsTableRun i.table entries → IsStageWorn (WritesRun i) x ForRun g.staging → IsRunWorn ForRun entries
-            of_run entries run (inl root) = inl root
-            of_run entries run (inr (es, (some', inl (few', run')), over)) = inr
-                (subst (λ (ys : List Entry). IsFrameWorn x ForRun g.staging (length (run_frame x ys))) (one_sorted es entries run'.0 run.0 (λ id. run'.1 id ∙ sym (run.1 id))) over)
-            of_run entries run (inr (es, (some', inr (many, run')), over)) = few_alone (IsRunWorn ForRun entries) few many
+    stage_past_back : ¬ IsFull (WritesRun (shape x) i) x ForRun → i.table ≢ [] → IsStageWorn (WritesRun (shape x) i) x ForRun g.staging → WouldPass (shape x) (formats_of (shape x)) s Stage
+    stage_past_back room some worn = ⊎_elim
+        (λ (found : (t : State) × (runs : List Run) × MergesNewest (shape x) (formats_of (shape x)) s ForRun (stage_takes (shape x) s) t runs).
+        let after : State = rooted (shape x) (formats_of (shape x)) found.0 found.1 found.0.world.extents.pointer in (
+          Staged (suc s.world.root),
+          after,
+          stages_so (shape x) (formats_of (shape x)) s after (suc s.world.root) refl (some_table i s.table s.runs are.index some, refl, found.0, found.1, found.2, refl),
+          part_past_back goes takes found.0 found.1 (merges_here (shape x) i s are.index (formats_of (shape x)) found.0 found.1 found.2) (worn_from worn),
+        ))
+        (λ (none : NoRoomToStage (shape x) (formats_of (shape x)) s). absurd (room (no_room_to (some_table i s.table s.runs are.index some, none))))
+        (part_or_full (shape x) (formats_of (shape x)) (store_shape x whole) (store_format x whole) false s ForRun (stage_takes (shape x) s) (deletions_go (shape x) s (stage_takes (shape x) s)))
 
-        of_merge : 4 ≤ length s.runs → WouldPass (shape x) (formats_of (shape x)) s Stage
-        of_merge many = ⊎_elim
-            (λ (found : (t : State) × (runs : List Run) × Merged (shape x) (formats_of (shape x)) s ForRun t runs). (
-              Staged (suc s.world.root),
-              after_root found.2.0 found.1 found.2.0.extents.pointer,
-              (some_table i s.table s.runs are.index some, refl, inr (many, record s { world = found.2.0 }, found.1, (found.2.0, found.2.1, refl), refl)),
-              merge_past_back ForRun found.2.0 found.1 found.2.0.extents.pointer found.2.1 (of_run worn),
-            ))
-            (λ (none : NoRoomForRun (shape x) (formats_of (shape x)) s ForRun). absurd (room (stage_full_to (some_table i s.table s.runs are.index some, inr (many, none)))))
-            (merged_or_full (shape x) (formats_of (shape x)) (store_shape x whole) (store_format x whole) s ForRun)
-          where
-            of_run : IsStageWorn (WritesRun i) x ForRun g.staging → IsStageWorn (WritesMerged i) x ForRun g.staging
-            of_run (inl root) = inl root
-            of_run (inr (es, (some', inl (few, run)), over)) = absurd (let same : length i.runs ≡ length s.runs = (as_many_runs i s.table s.runs are.index) in omega arith)
-            of_run (inr (es, (some', inr (many', run)), over)) = inr (es, run, over)
-
-    pub stage_worn : ¬ IsFull (WritesRun i) x ForRun → WouldPass (shape x) (formats_of (shape x)) s Stage ↔ ((i.table ≢ []) × IsStageWorn (WritesRun i) x ForRun g.staging)
+    pub stage_worn : ¬ IsFull (WritesRun (shape x) i) x ForRun → WouldPass (shape x) (formats_of (shape x)) s Stage ↔ ((i.table ≢ []) × IsStageWorn (WritesRun (shape x) i) x ForRun g.staging)
     stage_worn room = ((λ would. stage_past would.0 would.1 would.2 would.3), (λ both. stage_past_back room both.0 both.1))
 
     -- ---- retires

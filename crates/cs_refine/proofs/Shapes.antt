@@ -12,15 +12,15 @@ use Rattle.cs_extent.specs.State.{IsWhole, State, extents_of, need_of, shape}
 use Rattle.cs_extent.proofs.Changes.{greatest_below, greatest_is}
 use Rattle.cs_extent.proofs.Sections.{end_inside, section_is}
 
-pub shape_of_store : (x : State) → IsGeometry (length x.written) x.pages x.sections → IsShape (shape x)
-shape_of_store x geometry = is_shape (length x.written) x.pages x.sections (section_size (length x.written) x.sections) 2
-    (model_geometry (length x.written) x.pages x.sections geometry)
+pub shape_of_store : (x : State) → IsGeometry x.format (length x.written) x.pages x.sections → IsShape (shape x)
+shape_of_store x geometry = is_shape (length x.written) x.pages x.sections (section_size (length x.written) x.sections) x.format
+    (model_geometry x.format (length x.written) x.pages x.sections geometry)
 
 pub store_shape : (x : State) → IsWhole x → IsShape (shape x)
 store_shape x whole = shape_of_store x whole.geometry
 
 pub store_format : (x : State) → IsWhole x → IsFormat (shape x) (formats_of (shape x))
-store_format x whole = is_format (length x.written) x.pages x.sections 2 whole.geometry
+store_format x whole = is_format x.format (length x.written) x.pages x.sections whole.geometry
 
 -- there is a section
 pub some_sections : (x : State) → IsWhole x → 0 < (shape x).sections
@@ -37,7 +37,7 @@ part_from : (start count i : ℕ) → i < count → (start ≤ start + i) × (st
 part_from start count i lt = (omega arith, omega arith)
 
 -- what section j's next version needs of the root: the greatest version that goes with a last reset of one of its extents
-module _ (x : State) (geometry : IsGeometry (length x.written) x.pages x.sections) (j : ℕ) where
+module _ (x : State) (geometry : IsGeometry x.format (length x.written) x.pages x.sections) (j : ℕ) where
   abbrev first : ℕ
   first = section_start (length x.written) x.sections j
 
@@ -46,7 +46,7 @@ module _ (x : State) (geometry : IsGeometry (length x.written) x.pages x.section
 
   pub need_reset : (d : ℕ) → d < length x.written → (shape x).section d ≡ j → (extents_of x).reset d ≤ need_of x j
   need_reset d lt at =
-      let place = (section_holds (length x.written) x.pages x.sections geometry d j lt).0 (section_is x d lt ∙ at) in
+      let place = (section_holds x.format (length x.written) x.pages x.sections geometry d j lt).0 (section_is x d lt ∙ at) in
       let part = in_part first many d place.0 place.1 in
       subst (λ (n : ℕ). (extents_of x).reset n ≤ need_of x j) part.0
       (greatest_is (λ i. (extents_of x).reset (section_start (length x.written) x.sections j + i)) many (d - first) part.1)
@@ -56,8 +56,8 @@ module _ (x : State) (geometry : IsGeometry (length x.written) x.pages x.section
     where
       below : (i : ℕ) → i < section_length (length x.written) x.sections j → (extents_of x).reset (section_start (length x.written) x.sections j + i) ≤ q
       below i lt =
-          let inside : first + i < length x.written = part_inside first many (length x.written) i (end_inside (length x.written) x.pages x.sections j geometry there) lt in
-          let at = (section_holds (length x.written) x.pages x.sections geometry (first + i) j inside).1 (part_from first many i lt) in
+          let inside : first + i < length x.written = part_inside first many (length x.written) i (end_inside x.format (length x.written) x.pages x.sections j geometry there) lt in
+          let at = (section_holds x.format (length x.written) x.pages x.sections geometry (first + i) j inside).1 (part_from first many i lt) in
           resets (first + i) inside (sym (section_is x (first + i) inside) ∙ at)
 
 -- extents of the same resets need the same

@@ -2,7 +2,7 @@
 use Rattle.std.proofs.Common.{◌≡◌, ◌⊎◌, ◌↔◌, inl, inr, ⊎_elim, ℕ, suc, ◌+◌, ◌<◌, ◌≤◌, Bool, true, false, if◌then◌else◌, List, [], ◌∷◌, ◌++◌, length, set, Some, get_or, slice_get, append_assoc}
 use Rattle.std.proofs.Common.{append-nil, length-set, get_or-set_same, get_or-set_other, le_of_eq, leb-true}
 use Rattle.std.proofs.Common.{le_trans, le_refl, refl, sym, ap, ◌∙◌, subst, arith}
-use Rattle.std.proofs.lemmas.Bool.{cases_eq, cases_lt}
+use Rattle.std.proofs.lemmas.Bool.{cases_Bool, cases_eq, cases_lt}
 use Rattle.std.proofs.lemmas.Option.{same_Some}
 use Rattle.cs_deps.specs.declared.elements.Element.{Element as Name}
 use Rattle.cs_deps.specs.declared.elements.Element.TheVariants.{Plain, Version}
@@ -54,7 +54,7 @@ more_needed S need more w s le is = record {
   persistent = is.persistent;
   closed = is.closed;
   numbers = is.numbers;
-  superblocks = λ u has. (let old = is.superblocks u has in (old.0, old.1, old.2, le_trans old.3 (le u.section)));
+  superblocks = λ u has. (let old = is.superblocks u has in (old.0, old.1, old.2, le_trans old.3 (le u.section), old.4));
   roots = is.roots;
 }
 
@@ -116,7 +116,7 @@ module _ (S : Shape) (need : ℕ → ℕ) where
       persistent = record { writes = λ n has. (let le : n ≤ w.written = is.persistent.writes n has in omega arith); superblocks = is.persistent.superblocks; root = is.persistent.root };
       closed = closed_still (write_now S w p b) refl;
       numbers = more_numbers (write_now S w p b) refl;
-      superblocks = λ u has. (let old = is.superblocks u has in (old.0, old.1, (let le : u.writes ≤ w.written = old.2 in omega arith), old.3));
+      superblocks = λ u has. (let old = is.superblocks u has in (old.0, old.1, (let le : u.writes ≤ w.written = old.2 in omega arith), old.3, old.4));
       roots = λ r has. (let old = is.roots r has in (old.0, old.1, (let le : r.pages ≤ w.written = old.2 in omega arith), old.3));
     }
 
@@ -180,11 +180,12 @@ module _ (S : Shape) (need : ℕ → ℕ) where
     pub needs_within : (j k v : ℕ) (d : Named) (z : Name) → slice_get s.pending.waiting k ≡ Some (Version (family_of j) v, d) → Names d z → IsSectionNeed 1 s.staged (need j) z
     needs_within j k v d z at names = let u = waiting_version j k v d at in within j u.0 u.1 u.2 z (u.3 z names)
 
-  -- Where page writes come first: a version of section j, which needs of its own the plain writes from `first` on, all on extents of its
-  -- section. An older one of them is needed by the version before.
-  module _ (w : World) (s : Staging) (is : IsStagingOf S need w s) (rule : S.pages_first ≡ true) (j : ℕ) (there : j < S.sections) (first : ℕ) (some : 1 ≤ first)
-      (own : (x : Write) → x ∈ writes_of w.elements → first ≤ x.number → section_of S x.page ≡ j)
-      (older : (x : Write) → x ∈ writes_of w.elements → x.number < first → section_of S x.page ≡ j → (1 < S.sections) × IsRecorded S w x)
+  -- A version of section j. Where page writes come first, it needs of its own the plain writes from `first` on, all on extents of its
+  -- section, and an older one of them is needed by the version before. Where not, there are none from `first` on.
+  module _ (w : World) (s : Staging) (is : IsStagingOf S need w s) (j : ℕ) (there : j < S.sections) (first : ℕ) (some : 1 ≤ first)
+      (own : S.pages_first ≡ true → (x : Write) → x ∈ writes_of w.elements → first ≤ x.number → section_of S x.page ≡ j)
+      (older : S.pages_first ≡ true → (x : Write) → x ∈ writes_of w.elements → x.number < first → section_of S x.page ≡ j → (1 < S.sections) × IsRecorded S w x)
+      (past : S.pages_first ≡ false → s.staged < first)
       (new : Staging) (staged : IsSectionStaged s new j first (need j)) where
     abbrev it : Superblock
     it = superblock_now S w j (need j)
@@ -195,17 +196,36 @@ module _ (S : Shape) (need : ℕ → ℕ) where
     abbrev latest : ℕ
     latest = get_or s.latest (family_of j) 0
 
-    all_needed : it.writes ≡ w.written
-    all_needed = ap (λ (b : Bool). if b then w.written else 0) rule
+    all_needed : S.pages_first ≡ true → it.writes ≡ w.written
+    all_needed rule = ap (λ (b : Bool). if b then w.written else 0) rule
+
+    none_needed : S.pages_first ≡ false → it.writes ≡ 0
+    none_needed rule = ap (λ (b : Bool). if b then w.written else 0) rule
+
+    staged_needed : it.writes ≤ w.written
+    staged_needed = elim (cases_Bool S.pages_first) [
+      | inl rule ↦ le_of_eq (all_needed rule)
+      | inr rule ↦ le_trans (le_of_eq (none_needed rule)) (omega arith)
+    ]
+
+    -- plain writes are numbered from 1 on
+    not_below : (x : Write) (n : ℕ) → x ∈ writes_of w.elements → x.number ≤ n → n ≡ 0 → ⊥
+    not_below x n has bound none = let low : 1 ≤ x.number = ((is.numbers x.number).1 (x, has, refl)).0 in omega arith
 
     of_own : (z : Name) → IsSectionNeed first s.staged (need j) z → NeedsName S more (A_superblock it) z
-    of_own (Plain n) h =
-        let from = (is.numbers n).0 (le_trans some h.0, le_trans h.1 (le_of_eq (sym is.written))) in
-        (from.0, from.1, own from.0 from.1 (le_trans h.0 (le_of_eq (sym from.2))), le_trans (le_of_eq from.2) (le_trans h.1 (le_of_eq (sym is.written ∙ sym all_needed))), from.2)
     of_own (Version f v) h = (h.0, h.1, h.2)
+    of_own (Plain n) h = elim (cases_Bool S.pages_first) [
+      | inl rule ↦
+          (let from = (is.numbers n).0 (le_trans some h.0, le_trans h.1 (le_of_eq (sym is.written))) in
+          (from.0, from.1, own rule from.0 from.1 (le_trans h.0 (le_of_eq (sym from.2))), le_trans (le_of_eq from.2) (le_trans h.1 (le_of_eq (sym is.written ∙ sym (all_needed rule)))), from.2))
+      | inr rule ↦ absurd (let low : first ≤ n = h.0 in let high : n ≤ s.staged = h.1 in let none : s.staged < first = past rule in omega arith)
+    ]
 
     of_before : (u : Superblock) → u ∈ superblocks_of w.elements → u.section ≡ j → (z : Name) → NeedsName S w.elements (A_superblock u) z → NeedsName S more (A_superblock it) z
-    of_before u has same (Plain n) needs = (needs.0, needs.1, needs.2 ∙ same, le_trans needs.3 (le_trans (is.superblocks u has).2 (le_of_eq (sym all_needed))), needs.4)
+    of_before u has same (Plain n) needs = elim (cases_Bool S.pages_first) [
+      | inl rule ↦ (needs.0, needs.1, needs.2 ∙ same, le_trans needs.3 (le_trans (is.superblocks u has).2 (le_of_eq (sym (all_needed rule)))), needs.4)
+      | inr rule ↦ absurd (not_below needs.0 u.writes needs.1 needs.3 ((is.superblocks u has).4 rule))
+    ]
     of_before u has same (Version f v) needs = (needs.0, needs.1, le_trans needs.2 (subst (λ (i : ℕ). u.root ≤ need i) same (is.superblocks u has).3))
 
     needs_only : (z : Name) → Names staged.version.1 z → NeedsName S more (A_superblock it) z
@@ -237,17 +257,20 @@ module _ (S : Shape) (need : ℕ → ℕ) where
         (λ (out : MayLeaveOut S w.persistent (A_superblock q) (Plain x.number)). inr (out.0, out.1))
         (at.3.1.all (Plain x.number) (x, has, sec, bound, refl))
 
-    older_one : (x : Write) → x ∈ writes_of w.elements → section_of S x.page ≡ j → (1 < S.sections) × IsRecorded S w x
+    older_one : S.pages_first ≡ true → (x : Write) → x ∈ writes_of w.elements → section_of S x.page ≡ j → (1 < S.sections) × IsRecorded S w x
         → Names staged.version.1 (Plain x.number) ⊎ MayLeaveOut S w.persistent (A_superblock it) (Plain x.number)
-    older_one x has sec (several, (q, has_q, same, last, bound)) =
+    older_one rule x has sec (several, (q, has_q, same, last, bound)) =
         by_last x q has has_q (sym same) (same ∙ sec) last (bound rule) several (satisfied w.persistent (A_superblock q)) refl
 
     needs_all : (z : Name) → NeedsName S more (A_superblock it) z → Names staged.version.1 z ⊎ MayLeaveOut S w.persistent (A_superblock it) z
     needs_all (Version f v) needs = inl (own_named (Version f v) (needs.0, needs.1, needs.2))
     needs_all (Plain n) needs = subst (λ (i : ℕ). Names staged.version.1 (Plain i) ⊎ MayLeaveOut S w.persistent (A_superblock it) (Plain i)) needs.4
-        (elim (cases_lt needs.0.number first) [
-          | inl old ↦ older_one needs.0 needs.1 needs.2 (older needs.0 needs.1 old needs.2)
-          | inr late ↦ inl (own_named (Plain needs.0.number) (late, le_trans needs.3 (le_of_eq (all_needed ∙ is.written))))
+        (elim (cases_Bool S.pages_first) [
+          | inl rule ↦ ⊎_elim
+              (λ (old : needs.0.number < first). older_one rule needs.0 needs.1 needs.2 (older rule needs.0 needs.1 old needs.2))
+              (λ (late : first ≤ needs.0.number). inl (own_named (Plain needs.0.number) (late, le_trans needs.3 (le_of_eq (all_needed rule ∙ is.written)))))
+              (cases_lt needs.0.number first)
+          | inr rule ↦ absurd (not_below needs.0 it.writes needs.1 needs.3 (none_needed rule))
         ])
 
     next_is : suc (w.superblocks j) ≡ latest + 1
@@ -302,9 +325,10 @@ module _ (S : Shape) (need : ℕ → ℕ) where
       numbers = is.numbers;
       superblocks = λ u has. ⊎_elim
           (λ (here : u ≡ it). subst
-          (λ (v : Superblock). (v.section < S.sections) × (v.version ≤ with w.superblocks j (suc (w.superblocks j)) v.section) × (v.writes ≤ w.written) × (v.root ≤ need v.section))
-          (sym here) (there, le_of_eq (sym (with_same w.superblocks j (suc (w.superblocks j)) j refl)), le_of_eq all_needed, le_refl _))
-          (λ (old : u ∈ superblocks_of w.elements). (let from = is.superblocks u old in (from.0, le_trans from.1 (rises u.section), from.2, from.3)))
+          (λ (v : Superblock). (v.section < S.sections) × (v.version ≤ with w.superblocks j (suc (w.superblocks j)) v.section) × (v.writes ≤ w.written) × (v.root ≤ need v.section)
+          × (S.pages_first ≡ false → v.writes ≡ 0))
+          (sym here) (there, le_of_eq (sym (with_same w.superblocks j (suc (w.superblocks j)) j refl)), staged_needed, le_refl _, none_needed))
+          (λ (old : u ∈ superblocks_of w.elements). (let from = is.superblocks u old in (from.0, le_trans from.1 (rises u.section), from.2, from.3, from.4)))
           has;
       roots = λ r has. (let old = is.roots r has in (old.0, (λ i. le_trans (old.1 i) (rises i)), old.2, old.3));
     })

@@ -1,5 +1,5 @@
 -- Which world a store is: its extents, and the graph of what it staged.
-use Rattle.std.specs.Prelude.{◌≡◌, ◌↔◌, ◌<◌, ◌≤◌, ℕ, suc, true, Contains, List, Some, length, slice_index}
+use Rattle.std.specs.Prelude.{◌≡◌, ◌↔◌, ◌<◌, ◌≤◌, ℕ, suc, true, false, Contains, List, Some, length, slice_index}
 use Rattle.cs_deps.specs.declared.elements.Element.{Element as Name}
 use Rattle.cs_deps.specs.Staging.{Staging}
 use Rattle.cs_deps.specs.State.{State as GraphState, Write as PageWrite, write_of}
@@ -33,9 +33,10 @@ pub record IsStagingOf (S : Shape) (need : ℕ → ℕ) (w : World) (s : Staging
   pub closed : Closed S (log_of w.elements) w.persistent
   -- plain writes are numbered from 1 on
   pub numbers : (n : ℕ) → ((1 ≤ n) × (n ≤ w.written)) ↔ ((a : Write) × (a ∈ writes_of w.elements) × (a.number ≡ n))
-  -- a version of a section is of one that is there, and needs staged plain writes
+  -- a version of a section is of one that is there, and needs staged plain writes, and none where page writes don't come first
   pub superblocks : (u : Superblock) → u ∈ superblocks_of w.elements
       → (u.section < S.sections) × (u.version ≤ w.superblocks u.section) × (u.writes ≤ w.written) × (u.root ≤ need u.section)
+      × (S.pages_first ≡ false → u.writes ≡ 0)
   -- a version of the root needs staged versions of the sections and staged plain writes, and none where page writes come first
   pub roots : (r : Root) → r ∈ roots_of w.elements → (r.version ≤ w.root) × ((j : ℕ) → r.superblocks j ≤ w.superblocks j) × (r.pages ≤ w.written)
       × (S.pages_first ≡ true → r.pages ≡ 0)

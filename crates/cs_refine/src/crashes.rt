@@ -1,10 +1,11 @@
 //! What a crash leaves of a store's disk.
-ghost use Rattle.std.specs.Prelude.{◌≡◌, ◌+◌, ◌*◌, ◌≤◌, ◌++◌, ℕ, List, length};
+ghost use Rattle.std.specs.Prelude.{◌≡◌, ◌≤◌, ◌++◌, ℕ, List, length};
 ghost use Rattle.cs_refine.specs.Crashes.{IsPrefix, LeavesPrefixOn};
 ghost use Rattle.cs_refine.specs.Devices.{IsDiskOf};
 ghost use Rattle.cs_disk.specs.Disk.{Image, MayLeave, State as DiskState};
 ghost use Rattle.cs_extent.specs.State.{IsWhole, State as ExtentsState, shape};
 ghost use Rattle.cs_frame.specs.Formats.{formats_of};
+ghost use Rattle.cs_image.specs.Reads.{page_total};
 ghost use Rattle.cs_model.specs.Device.{Page, Shape};
 ghost use Rattle.cs_model.specs.Events.{IsFrontier};
 ghost use Rattle.cs_model.specs.Recovery.{Recovers};
@@ -18,12 +19,12 @@ pub fn what_a_crash_leaves_recovers()
     // In the words of the state: by what is known at open, and by the image itself where no shard was damaged at open.
     ensures left { (x : ExtentsState) (s : State) (disk : DiskState) (left : Image)
         → IsWhole x → Sound (shape x) (formats_of (shape x)) s → IsDiskOf (shape x) (formats_of (shape x)) s disk
-        → length disk.durable ≡ 1 + (shape x).extents * (shape x).pages + (shape x).sections → MayLeave disk left
+        → length disk.durable ≡ page_total (shape x) → MayLeave disk left
         → LeavesPrefixOn (shape x) (formats_of (shape x)) s left }
     // In the words of the image at open, where what that recovers is the start of the state.
     ensures prefix { (x : ExtentsState) (s : State) (disk : DiskState) (left : Image) (frontier : ℕ)
         → IsWhole x → Sound (shape x) (formats_of (shape x)) s → IsDiskOf (shape x) (formats_of (shape x)) s disk
-        → length disk.durable ≡ 1 + (shape x).extents * (shape x).pages + (shape x).sections → MayLeave disk left
+        → length disk.durable ≡ page_total (shape x) → MayLeave disk left
         → Recovers (shape x) (formats_of (shape x)) s.opened s.count s.start
         → IsFrontier (shape x) (formats_of (shape x)) s frontier
         → IsPrefix (shape x) s.opened s.commands frontier (length s.commands) left }

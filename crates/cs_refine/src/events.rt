@@ -5,7 +5,8 @@ ghost use Rattle.cs_extent.specs.Appended.{AreAppended};
 ghost use Rattle.cs_extent.specs.State.{IsWhole, State as ExtentsState, extents_of, shape};
 ghost use Rattle.cs_frame.specs.declared.locators.Locator.{Locator};
 ghost use Rattle.cs_frame.specs.Formats.{formats_of, place_of};
-ghost use Rattle.cs_index.specs.Staged.{IsMergeStaged, IsTableStaged};
+ghost use Rattle.cs_index.specs.Merges.{stage_takes};
+ghost use Rattle.cs_index.specs.Staged.{IsMergeStaged, IsNewestStaged, IsTableStaged};
 ghost use Rattle.cs_index.specs.State.{IsSet, State as IndexState, index_of};
 ghost use Rattle.cs_model.specs.Append.{chunk_frames};
 ghost use Rattle.cs_model.specs.Device.{Shape};
@@ -69,6 +70,11 @@ pub fn delete_refines_delete()
 
 /// The run and the root that an index stages are the machine's Stage.
 pub fn stage_refines_stage()
+    // The table and as many of the newest runs as a Stage of the index merges become one run, or none where it would have no entry.
+    ensures newest { (x y : ExtentsState) (g h : GraphState) (i j : IndexState) (s : State) (v : ℕ)
+        → IsWhole x → ArePartsOf x g i s → i.table ≢ []
+        → IsNewestStaged (stage_takes (shape x) i) i x g v (s.count + length s.commands) j y h
+        → (t : State) × Does (shape x) (formats_of (shape x)) s Stage (Staged v) t × ArePartsOf y h j t }
     // Where there are fewer than four runs, the table becomes one.
     ensures table { (x y : ExtentsState) (g h : GraphState) (i j : IndexState) (s : State) (v : ℕ)
         → IsWhole x → ArePartsOf x g i s → i.table ≢ [] → length i.runs < 4

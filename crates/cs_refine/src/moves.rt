@@ -17,7 +17,7 @@ ghost use Rattle.cs_model.specs.Extents.{Purpose as Reason, emptied, marked};
 ghost use Rattle.cs_deps.specs.State.{AddsNone, IsWhole as IsWholeGraph, KeepsBytes, AddsOnly, State as GraphState, write_of};
 ghost use Rattle.cs_frame.specs.declared.locators.Locator.{Locator};
 ghost use Rattle.cs_extent.specs.Appended.{AreAppended, IsAppended};
-ghost use Rattle.cs_extent.specs.Frames.{IsSectionNeed, IsSectionVersionUpTo, family_of, root_family};
+ghost use Rattle.cs_extent.specs.Frames.{IsRootNeed, IsSectionNeed, family_of, root_family, root_pages};
 ghost use Rattle.cs_image.specs.Openings.{by_family};
 ghost use Rattle.cs_model.specs.Open.{extents_read, opened_world};
 ghost use Rattle.cs_model.specs.Recovery.{Recovers};
@@ -40,11 +40,12 @@ pub fn reset_refines_reset()
         → IsWorldOf y g (happens (shape x) w (ResetExtent e)) }
 {}
 
-/// A version of the root that is staged in the graph, and needs the versions of all sections so far, is the machine's root.
+/// A version of the root that is staged in the graph, and needs the versions of all sections so far and, where page writes don't come
+/// first, all plain writes so far, is the machine's root.
 pub fn root_refines_root()
     ensures { (x : ExtentsState) (g h : GraphState) (w : World) (v : ℕ) (needs : Named) (n : ℕ) (runs : List Run) (m : Map) (pointers : ℕ → ℕ)
         → IsWhole x → IsWorldOf x g w → IsVersionStaged g.staging root_family v needs h.staging
-        → ((z : Name) → Names needs z ↔ IsSectionVersionUpTo g.staging.latest z)
+        → ((z : Name) → Names needs z ↔ IsRootNeed (root_pages (shape x).pages_first g.staging.staged) g.staging.latest z)
         → write_of h (Version root_family v) ≡ Some (page_write (shape x) (formats_of (shape x)) (A_root (root_now (shape x) w n runs m pointers))) → AddsOnly g h (Version root_family v)
         → IsWorldOf x h (happens (shape x) w (StageRoot n runs m pointers)) }
 {}

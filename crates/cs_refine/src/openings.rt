@@ -1,10 +1,10 @@
 //! A store as it is made, and as it is opened.
-ghost use Rattle.std.specs.Prelude.{◌+◌, ◌*◌, ◌++◌, ◌≤◌, ℕ, List, [], None, length, replicate};
+ghost use Rattle.std.specs.Prelude.{◌++◌, ◌≤◌, ℕ, List, [], None, length, replicate};
 ghost use Rattle.cs_refine.specs.Openings.{IsStartOf};
 ghost use Rattle.cs_disk.specs.Disk.{Image, IsWhole as IsWholeDisk, MayLeave, State as DiskState, Write, flushed, latest, page, seen};
 ghost use Rattle.cs_extent.specs.State.{IsWhole, State as ExtentsState, shape};
 ghost use Rattle.cs_frame.specs.Formats.{formats_of};
-ghost use Rattle.cs_frame.specs.Geometries.{IsGeometry};
+ghost use Rattle.cs_frame.specs.Geometries.{IsGeometry, device_pages};
 ghost use Rattle.cs_frame.specs.Roots.{SpellsRoot};
 ghost use Rattle.cs_image.specs.Openings.{AreNewSections, IsFoundAs, graph_at, index_at};
 ghost use Rattle.cs_image.specs.Reads.{ArePages, IsStoreRead, extents_at};
@@ -27,19 +27,19 @@ pub fn what_is_found_is_the_start()
 /// A new store is a store of the machine with no command and no shard.
 pub fn new_store_refines_start()
     // Of the pages of the sections and of the root that were written, in whatever order, and then flushed.
-    ensures written { (old : DiskState) (writes : List Write) (extents pages sections limit : ℕ)
-        → IsGeometry extents pages sections → 1 + extents * pages + sections ≤ length old.durable
-        → AreNewSections (λ p. latest writes p (page (seen old) p)) extents pages sections
-        → SpellsRoot (latest writes 1 (page (seen old) 1)) 1 0 []
-        → (let x = extents_at pages sections (replicate extents (0, 0)) in
+    ensures written { (old : DiskState) (writes : List Write) (format extents pages sections limit : ℕ)
+        → IsGeometry format extents pages sections → device_pages format extents pages sections ≤ length old.durable
+        → AreNewSections (λ p. latest writes p (page (seen old) p)) format extents pages sections
+        → SpellsRoot (latest writes 1 (page (seen old) 1)) format 1 0 []
+        → (let x = extents_at format pages sections (replicate extents (0, 0)) in
         let image = (flushed (record { durable = old.durable; volatile = old.volatile ++ writes })).durable in
         (found : Recovers (shape x) (formats_of (shape x)) (page image) 0 (λ id. None))
         × IsStartOf x (graph_at (replicate sections 1) 1) (index_at [] limit) image
         (opened_state (shape x) (formats_of (shape x)) (page image) 0 (λ id. None) found)) }
     // Of an image that has such pages.
-    ensures image { (image : Image) (extents pages sections limit : ℕ) → IsGeometry extents pages sections
-        → AreNewSections (page image) extents pages sections → SpellsRoot (page image 1) 1 0 []
-        → (let x = extents_at pages sections (replicate extents (0, 0)) in
+    ensures image { (image : Image) (format extents pages sections limit : ℕ) → IsGeometry format extents pages sections
+        → AreNewSections (page image) format extents pages sections → SpellsRoot (page image 1) format 1 0 []
+        → (let x = extents_at format pages sections (replicate extents (0, 0)) in
         (found : Recovers (shape x) (formats_of (shape x)) (page image) 0 (λ id. None))
         × IsStartOf x (graph_at (replicate sections 1) 1) (index_at [] limit) image
         (opened_state (shape x) (formats_of (shape x)) (page image) 0 (λ id. None) found)) }
@@ -47,11 +47,11 @@ pub fn new_store_refines_start()
 
 /// A store that was read is a store of the machine, with as many commands as its root says.
 pub fn read_store_refines_start()
-    ensures { (image : Image) (versions : List ℕ) (pages : ℕ) (written : List (ℕ × ℕ)) (root commands limit : ℕ)
+    ensures { (image : Image) (format : ℕ) (versions : List ℕ) (pages : ℕ) (written : List (ℕ × ℕ)) (root commands limit : ℕ)
         (runs : List StoredRun)
-        → ArePages (1 + length written * pages + length versions) (page image)
-        → IsStoreRead (page image) versions pages written root commands runs
-        → (let x = extents_at pages (length versions) written in
+        → ArePages (device_pages format (length written) pages (length versions)) (page image)
+        → IsStoreRead (page image) format versions pages written root commands runs
+        → (let x = extents_at format pages (length versions) written in
         (m : Map) × (found : Recovers (shape x) (formats_of (shape x)) (page image) commands m)
         × IsStartOf x (graph_at versions root) (index_at (newest_first runs) limit) image
         (opened_state (shape x) (formats_of (shape x)) (page image) commands m found)) }

@@ -1,5 +1,5 @@
 //! What the pages of a store read as, and what reading shards gives.
-ghost use Rattle.std.specs.Prelude.{◌≡◌, ◌≢◌, ◌+◌, ◌*◌, ◌≤◌, ℕ, List, [], None, Some, length, map, slice_get, take};
+ghost use Rattle.std.specs.Prelude.{◌≡◌, ◌≢◌, ◌≤◌, ℕ, List, [], None, Some, length, map, slice_get, take};
 ghost use Rattle.cs_chunk.specs.Chunks.{AreChunksAt, IsFrameAt};
 ghost use Rattle.cs_chunk.specs.Newest.{AreNewest};
 ghost use Rattle.cs_chunk.specs.Reads.{fault_at};
@@ -10,6 +10,7 @@ ghost use Rattle.cs_frame.specs.declared.faults.FormatFault.{FormatFault};
 ghost use Rattle.cs_frame.specs.declared.frames.FrameKind.TheVariants.{Chunk};
 ghost use Rattle.cs_frame.specs.declared.locators.Locator.{Locator};
 ghost use Rattle.cs_frame.specs.Formats.{as_locator, formats_of, refusal_of};
+ghost use Rattle.cs_image.specs.Reads.{page_total};
 ghost use Rattle.cs_index.specs.State.{State as IndexState, index_of};
 ghost use Rattle.cs_model.specs.Element.{Bytes, Damaged, Locator as Place};
 ghost use Rattle.cs_model.specs.Events.{ReadsNow};
@@ -27,7 +28,7 @@ ghost use Rattle.cs_refine.specs.Stores.{IsWorldOf};
 pub fn pages_are_read()
     ensures { (x : ExtentsState) (g : GraphState) (s : State) (held : Image)
         → IsWhole x → IsWholeGraph g → IsWorldOf x g s.world → Sound (shape x) (formats_of (shape x)) s
-        → IsDeviceOf (shape x) (formats_of (shape x)) s held → 1 + (shape x).extents * (shape x).pages + (shape x).sections ≤ length held
+        → IsDeviceOf (shape x) (formats_of (shape x)) s held → page_total (shape x) ≤ length held
         → AreNewest g held (pages_now (shape x) s held) }
 {}
 

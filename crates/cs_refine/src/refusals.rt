@@ -17,7 +17,7 @@ ghost use Rattle.cs_model.specs.Device.{Shape};
 ghost use Rattle.cs_model.specs.Events.{Chunked, ReadsNow};
 ghost use Rattle.cs_model.specs.Extents.{Fits, ForMove, ForPut, ForRun, NoPlace};
 ghost use Rattle.cs_model.specs.Formats.{ChunkFrame, Formats};
-ghost use Rattle.cs_model.specs.Grounds.{NoRoomForRun, NoRoomForTable, NoRoomToMove, NoRoomToPut, Refuses, WouldPass};
+ghost use Rattle.cs_model.specs.Grounds.{NoRoomForRun, NoRoomForTable, NoRoomToMove, NoRoomToPut, NoRoomToStage, Refuses, WouldPass};
 ghost use Rattle.cs_model.specs.Index.{FirstLive, NothingLive};
 ghost use Rattle.cs_model.specs.Numbers.{number_of as number_in_machine};
 ghost use Rattle.cs_model.specs.Refusal.{NotSweepable, Refusal as Ground};
@@ -63,12 +63,15 @@ pub fn stage_refusals_agree()
     ensures full { (x : ExtentsState) (g : GraphState) (i : IndexState) (s : State) → IsWhole x → ArePartsOf x g i s
         → ((s.table ≢ []) × (((length s.runs < 4) × NoRoomForTable (shape x) (formats_of (shape x)) s)
         ⊎ ((4 ≤ length s.runs) × NoRoomForRun (shape x) (formats_of (shape x)) s ForRun)))
-        ↔ IsFull (WritesRun i) x ForRun }
+        ↔ IsFull (WritesRun (shape x) i) x ForRun }
+    // That is the machine's ground: where the table isn't empty, what a Stage merges doesn't fit as a run.
+    ensures no_room { (x : ExtentsState) (g : GraphState) (i : IndexState) (s : State) → IsWhole x → ArePartsOf x g i s
+        → ((s.table ≢ []) × NoRoomToStage (shape x) (formats_of (shape x)) s) ↔ IsFull (WritesRun (shape x) i) x ForRun }
     // Where there is room, a number would pass its greatest exactly where the table isn't empty and one that is staged would.
     ensures worn { (x : ExtentsState) (g : GraphState) (i : IndexState) (s : State)
         → IsWhole x → ArePartsOf x g i s → Sound (shape x) (formats_of (shape x)) s → Bounded (shape x) (formats_of (shape x)) s
-        → ¬ IsFull (WritesRun i) x ForRun
-        → WouldPass (shape x) (formats_of (shape x)) s Stage ↔ ((i.table ≢ []) × IsStageWorn (WritesRun i) x ForRun g.staging) }
+        → ¬ IsFull (WritesRun (shape x) i) x ForRun
+        → WouldPass (shape x) (formats_of (shape x)) s Stage ↔ ((i.table ≢ []) × IsStageWorn (WritesRun (shape x) i) x ForRun g.staging) }
 {}
 
 /// There is no room for a Retire where there is no place for the run of all that is live. Where there is room, it would take

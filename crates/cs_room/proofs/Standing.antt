@@ -31,7 +31,7 @@ not_empty s t e grows some is = ⊎_elim (λ empty. some empty) (λ same. some (
 
 module _ (S : Shape) (J : ℕ) where
   -- an extent on which something lies isn't empty, and the sweep didn't open it
-  named_stands : (t : Room) → Keeps S J t → (e : ℕ) → (any_on t.chunks e || has t.runs e) ≡ true
+  pub named_stands : (t : Room) → Keeps S J t → (e : ℕ) → (any_on t.chunks e || has t.runs e) ≡ true
       → (t.holds e ≢ Empty) × (is_at (fresh_of t.sweep) e ≡ false)
   named_stands t keeps e on = ⊎_elim
       (λ chunk. let found = any_of t.chunks e chunk in

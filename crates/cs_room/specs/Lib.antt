@@ -1,5 +1,9 @@
 pub mod Events
 pub mod Example
 pub mod Invariant
+pub mod Lives
+pub mod OfMachine
 pub mod Rooms
+pub mod RootsOfMachine
 pub mod Sweeps
+pub mod SweepsOfMachine

@@ -1,5 +1,6 @@
 -- A store as far as room goes: what lies on each extent, what lives, and what roots name.
-use Rattle.std.specs.Prelude.{◌∷◌, ◌==◌, ◌||◌, ◌&&◌, ◌+◌, ℕ, zero, suc, Bool, true, false, List, Option, Some, None, is_none, [], if◌then◌else◌}
+use Rattle.std.specs.Prelude.{◌∷◌, ◌==◌, ◌||◌, ◌&&◌, ◌+◌, ℕ, Bool, true, false, List, Option, Some, None, is_none, [], if◌then◌else◌}
+pub use Rattle.cs_model.specs.Extents.{how_many, one_if}
 
 -- what lies on an extent: nothing, frames of chunks or frames of runs. No extent has both
 pub data Holding : Type 0 where
@@ -63,11 +64,6 @@ is_of_runs Empty = false
 is_of_runs OfChunks = false
 is_of_runs OfRuns = true
 
--- how many of the numbers below n pass the test
-abbrev pub how_many : (ℕ → Bool) → ℕ → ℕ
-how_many test zero = 0
-how_many test (suc n) = (if test n then 1 else 0) + how_many test n
-
 -- how many pages those chunks take that pass the test
 abbrev pub pages_of : (Chunk → Bool) → List Chunk → ℕ
 pages_of test [] = 0
@@ -115,10 +111,6 @@ abbrev pub run_extents : Room → ℕ → ℕ
 run_extents s n = how_many (λ e. is_of_runs (s.holds e)) n
 
 -- 1 where the unfinished sweep has opened an extent, else 0
-abbrev pub one_if : Option ℕ → ℕ
-one_if None = 0
-one_if (Some e) = 1
-
 abbrev pub opened_by : Option Sweep → ℕ
 opened_by None = 0
 opened_by (Some w) = one_if w.fresh

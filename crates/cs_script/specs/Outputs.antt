@@ -59,12 +59,14 @@ end_lines (Some n) = end_line n
 
 -- the letters by family: of the first section of a superblock, of the root, and of the further sections in their order
 abbrev pub letters : List ℕ
-letters = codes "srabcdefg"
+letters = codes "srabcdefghijklmn"
 
 -- the letter of a family, the last one for all that come behind it
 abbrev pub letter_of : ℕ → List ℕ
 letter_of f = if f == 0 then codes "s" else if f == 1 then codes "r" else if f == 2 then codes "a" else if f == 3 then codes "b" else if f == 4 then codes "c"
-    else if f == 5 then codes "d" else if f == 6 then codes "e" else if f == 7 then codes "f" else codes "g"
+    else if f == 5 then codes "d" else if f == 6 then codes "e" else if f == 7 then codes "f" else if f == 8 then codes "g" else if f == 9 then codes "h"
+    else if f == 10 then codes "i" else if f == 11 then codes "j" else if f == 12 then codes "k" else if f == 13 then codes "l" else if f == 14 then codes "m"
+    else codes "n"
 
 -- a plain write, or a version of a family
 abbrev pub element_name : Element → List ℕ

@@ -1,8 +1,9 @@
 -- The stores that scripts run over.
-use Rattle.std.specs.Prelude.{◌≡◌, ◌+◌, ◌*◌, ℕ, List, [], Option, Result, Ok, Err, replicate}
+use Rattle.std.specs.Prelude.{◌≡◌, ℕ, List, [], Option, Result, Ok, Err, replicate}
 use Rattle.cs_deps.specs.declared.refusals.Refusal.{Refusal}
 use Rattle.cs_disk.specs.declared.disk.PageDisk.{Ghosts as PageDisk}
 use Rattle.cs_disk.specs.Disk.{State as DiskState}
+use Rattle.cs_frame.specs.Geometries.{device_pages}
 use Rattle.cs_core.specs.Openings.{IsOpened}
 use Rattle.cs_core.specs.Started.{IsNewOn, new_stored}
 use Rattle.cs_core.specs.Views.{View}
@@ -18,16 +19,16 @@ abbrev pub IsJustOpened : {D : Type 0} → View D → Type 0
 IsJustOpened core = IsUnused core × IsOpened ⊥ core.opened core.found core.store
 
 -- a store that was made, with nothing in it
-abbrev pub IsNew : {D : Type 0} → (extents pages sections : ℕ) → View D → Type 0
-IsNew extents pages sections core = IsUnused core × (core.store ≡ new_stored extents pages sections)
+abbrev pub IsNew : {D : Type 0} → (format extents pages sections : ℕ) → View D → Type 0
+IsNew format extents pages sections core = IsUnused core × (core.store ≡ new_stored format extents pages sections)
 
 -- a disk of so many pages of zeros
 abbrev pub zeros : ℕ → DiskState
 zeros pages = record { durable = replicate pages (replicate 4096 0); volatile = [] }
 
 -- the disk of a new store: its superblock and its root are written and durable, and all other pages are zeros
-abbrev pub IsNewDisk : (extents pages sections : ℕ) → DiskState → Type 0
-IsNewDisk extents pages sections disk = IsNewOn extents pages sections (zeros (1 + extents * pages + sections)) disk
+abbrev pub IsNewDisk : (format extents pages sections : ℕ) → DiskState → Type 0
+IsNewDisk format extents pages sections disk = IsNewOn format extents pages sections (zeros (device_pages format extents pages sections)) disk
 
 module _ {D : Type 0} (disks : PageDisk D) (can_crash : D → Type 0) (volatile_count : D → ℕ) where
   -- a script runs over the store that there is; or there is none, and that is printed

@@ -7,7 +7,9 @@ ghost use Rattle.cs_script.specs.Scripts.{document_letters};
 use cs_deps::GraphView;
 
 /// The letters, by family. No store has more families.
-const LETTERS: &[char] = &['s', 'r', 'a', 'b', 'c', 'd', 'e', 'f', 'g'];
+const LETTERS: &[char] = &[
+    's', 'r', 'a', 'b', 'c', 'd', 'e', 'f', 'g', 'h', 'i', 'j', 'k', 'l', 'm', 'n',
+];
 
 /// A letter for each family of a view, where there are as many letters.
 pub fn letters_of(view: &GraphView) -> &'static [char]
@@ -17,7 +19,7 @@ pub fn letters_of(view: &GraphView) -> &'static [char]
     &LETTERS[..families.min(LETTERS.len())]
 }
 
-/// The letter of a family, `g` for those past the last that there is.
+/// The letter of a family, `n` for those past the last that there is.
 pub fn letter_of(family: usize) -> &'static str
     ensures { result.now ≡ letter_of family }
 {
@@ -30,6 +32,13 @@ pub fn letter_of(family: usize) -> &'static str
         5 => "d",
         6 => "e",
         7 => "f",
-        _ => "g",
+        8 => "g",
+        9 => "h",
+        10 => "i",
+        11 => "j",
+        12 => "k",
+        13 => "l",
+        14 => "m",
+        _ => "n",
     }
 }

@@ -45,8 +45,8 @@ pub fn run_over<D: CrashDisk + Drop, R: Read + Drop, W: Write>(
 
 /// A new store in memory. Refused 9 OutOfMemory alone.
 pub fn new_in_memory(alloc: Global, geometry: Geometry) -> Result<Core<MemoryDisk>, Refusal>
-    ensures store { IfOk result (IsNew geometry.extents geometry.pages geometry.sections) }
-    ensures disk { IfOk result (λ core. IsNewDisk geometry.extents geometry.pages geometry.sections (memory_state core.disk)) }
+    ensures store { IfOk result (IsNew geometry.format geometry.extents geometry.pages geometry.sections) }
+    ensures disk { IfOk result (λ core. IsNewDisk geometry.format geometry.extents geometry.pages geometry.sections (memory_state core.disk)) }
     ensures memory { IfErr result (λ refusal. refusal ≡ Refusal.OutOfMemory) }
 {
     let Ok(disk) = MemoryDisk::new(alloc, geometry.device_pages()) else {
@@ -66,7 +66,7 @@ pub fn new_in_file<R: Files<File = File>>(
     path: &str,
     geometry: Geometry,
 ) -> Result<Core<FileDisk>, Refusal>
-    ensures store { IfOk result (IsNew geometry.extents geometry.pages geometry.sections) }
+    ensures store { IfOk result (IsNew geometry.format geometry.extents geometry.pages geometry.sections) }
     ensures refusals { IfErr result (λ refusal. (refusal ≡ Refusal.DeviceFault) ⊎ (refusal ≡ Refusal.OutOfMemory)) }
 {
     let disk = match FileDisk::create(rt, alloc, path, geometry.device_pages()) {

@@ -1,10 +1,11 @@
 -- Which extent is chosen to be swept.
-use Rattle.std.proofs.Common.{◌≡◌, ◌+◌, ◌-◌, ◌*◌, ◌/◌, ◌<◌, ◌≤◌, ℕ, List, Some, None, Bool, true, false, ⊎_elim, ◌∙◌, ap, arith, get_or, length, min, refl, inl, inr, sym, subst}
+use Rattle.std.proofs.Common.{◌≡◌, ◌-◌, ◌<◌, ◌≤◌, ℕ, List, Some, None, Bool, true, false, ⊎_elim, ◌∙◌, ap, arith, get_or, length, min, refl, inl, inr, sym, subst}
 use Rattle.std.specs.Prelude.{if◌then◌else◌, slice_get}
 use Rattle.std.proofs.lemmas.Bool.{cases_lt}
 use Rattle.std.proofs.lemmas.Option.{same_Some, slice_get_read, slice_get_within}
 use Rattle.cs_extent.specs.State.{State as Extents, IsWhole, extents_of, shape}
 use Rattle.cs_frame.specs.Frames.{page_count}
+use Rattle.cs_frame.specs.Geometries.{named_limit, run_bytes}
 use Rattle.cs_survey.specs.declared.extent_uses.ExtentUse.{ExtentUse}
 use Rattle.cs_survey.specs.Uses.{AreExtents, HasNoGarbage, IsMostGarbage, garbage}
 use Rattle.cs_store.specs.Reclaims.{Chooses, run_pages}
@@ -12,17 +13,17 @@ use Rattle.cs_store.specs.Reclaims.{Chooses, run_pages}
 -- ---- the pages of a run
 
 -- one with no more than so many entries takes no more pages than one with all
-pub pages_all : (named limit dead : ℕ) → dead ≤ page_count (4 + 81 * min named limit) → dead ≤ run_pages named
+pub pages_all : (named limit dead : ℕ) → dead ≤ page_count (run_bytes (min named limit)) → dead ≤ run_pages named
 pages_all named limit dead le = omega (arith, le)
 
 -- one that has as many entries as it may takes all pages of an extent
-full_run : (pages limit : ℕ) → limit ≡ (4096 * pages - 45) / 81 → pages ≤ page_count (4 + 81 * limit)
+full_run : (pages limit : ℕ) → limit ≡ named_limit pages → pages ≤ page_count (run_bytes limit)
 full_run pages limit is = omega (arith, is)
 
-pub pages_fewer : (pages named limit dead : ℕ) → limit ≡ (4096 * pages - 45) / 81 → dead ≤ pages → page_count (4 + 81 * min named limit) < dead → run_pages named < dead
+pub pages_fewer : (pages named limit dead : ℕ) → limit ≡ named_limit pages → dead ≤ pages → page_count (run_bytes (min named limit)) < dead → run_pages named < dead
 pages_fewer pages named limit dead is le lt = elim (cases_lt limit named) [
-  | inl more ↦ (let same : min named limit ≡ limit = omega (arith, more) in let less : page_count (4 + 81 * limit) < dead = subst (λ (n : ℕ). page_count (4 + 81 * n) < dead) same lt in absurd (omega (arith, full_run pages limit is, le, less)))
-  | inr few ↦ (let same : min named limit ≡ named = omega (arith, few) in subst (λ (n : ℕ). page_count (4 + 81 * n) < dead) same lt)
+  | inl more ↦ (let same : min named limit ≡ limit = omega (arith, more) in let less : page_count (run_bytes limit) < dead = subst (λ (n : ℕ). page_count (run_bytes n) < dead) same lt in absurd (omega (arith, full_run pages limit is, le, less)))
+  | inr few ↦ (let same : min named limit ≡ named = omega (arith, few) in subst (λ (n : ℕ). page_count (run_bytes n) < dead) same lt)
 ]
 
 -- ---- the extent with most garbage
@@ -70,7 +71,7 @@ module _ (x held : Extents) (uses listed : List ExtentUse) (extent dead named li
   its : IsMostGarbage uses extent
   its = subst (λ (us : List ExtentUse). IsMostGarbage us extent) is_listed best
 
-  module _ (limited : limit ≡ (4096 * x.pages - 45) / 81) (pages : index_pages ≡ page_count (4 + 81 * min named limit)) (entries : ℕ) (all : named ≡ entries) where
+  module _ (limited : limit ≡ named_limit x.pages) (pages : index_pages ≡ page_count (run_bytes (min named limit))) (entries : ℕ) (all : named ≡ entries) where
     pub chooses_it : index_pages < dead → Chooses uses (run_pages entries) (Some (extent, dead))
     chooses_it lt = subst (λ (n : ℕ). Chooses uses (run_pages n) (Some (extent, dead))) all
         (some_chosen uses extent dead its used there is (run_pages named)

@@ -1,5 +1,5 @@
 -- How a reclaim chooses the extent that it sweeps.
-use Rattle.std.specs.Prelude.{◌≡◌, ◌⊎◌, ◌+◌, ◌*◌, ◌<◌, ◌≤◌, ℕ, List, Option, Some, None, slice_get}
+use Rattle.std.specs.Prelude.{◌≡◌, ◌⊎◌, ◌<◌, ◌≤◌, ℕ, List, Option, Some, None, slice_get}
 use Rattle.cs_chunk.specs.Reads.{OnlyReads}
 use Rattle.cs_core.specs.Views.{View}
 use Rattle.cs_deps.specs.declared.refusals.Refusal.{Refusal}
@@ -7,6 +7,7 @@ use Rattle.cs_deps.specs.declared.refusals.Refusal.TheVariants.{OutOfMemory}
 use Rattle.cs_disk.specs.declared.disk.PageDisk.{Ghosts as PageDisk}
 use Rattle.cs_extent.specs.State.{extents_of, shape}
 use Rattle.cs_frame.specs.Frames.{page_count}
+use Rattle.cs_frame.specs.Geometries.{run_bytes}
 use Rattle.cs_store.specs.declared.reclaims.Found.{Found}
 use Rattle.cs_store.specs.declared.reclaims.Reclaimed.{Reclaimed}
 use Rattle.cs_store.specs.Sweeps.{DeclinesSweep, SweepsReady}
@@ -15,7 +16,7 @@ use Rattle.cs_survey.specs.Uses.{AreCountedAsRead, AreExtents, Head, IsMostGarba
 
 -- how many pages a run with so many entries takes
 abbrev pub run_pages : ℕ → ℕ
-run_pages entries = page_count (4 + 81 * entries)
+run_pages entries = page_count (run_bytes entries)
 
 -- an extent, and how many of its pages no shard has, of an answer
 abbrev pub chosen_extent : Option Found → Option (ℕ × ℕ)

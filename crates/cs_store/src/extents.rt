@@ -23,6 +23,7 @@ pub struct ExtentLook {
 impl<D: PageDisk> Store<D> {
     /// How the store lies on its disk.
     pub fn geometry(&self) -> Geometry
+        ensures format { result.format ≡ (shape self.now.store.extents).format }
         ensures extents { result.extents ≡ (shape self.now.store.extents).extents }
         ensures pages { result.pages ≡ (shape self.now.store.extents).pages }
         ensures sections { result.sections ≡ (shape self.now.store.extents).sections }

@@ -1,7 +1,7 @@
 //! Stores in files.
-ghost use Rattle.std.specs.Prelude.{◌+◌, ◌*◌, ◌↔◌, ◌≡◌, ◌≢◌, ◌⊎◌, Err, IfErr, IfOk, []};
+ghost use Rattle.std.specs.Prelude.{◌↔◌, ◌≡◌, ◌≢◌, ◌⊎◌, Err, IfErr, IfOk, []};
 ghost use Rattle.cs_disk.specs.Files.{file_pages};
-ghost use Rattle.cs_frame.specs.Geometries.{IsGeometry, sections_needed};
+ghost use Rattle.cs_frame.specs.Geometries.{IsGeometry, device_pages, sections_needed};
 ghost use Rattle.cs_core.specs.Openings.{IsOpened};
 ghost use Rattle.cs_core.specs.Started.{new_stored};
 
@@ -18,8 +18,8 @@ use std::rt::Files;
 // No clause can say what the operating system answers, so bodies that always refuse, or take another file, would be proved too. A program that is tested
 // makes a file, and opens it again.
 impl Store<FileDisk> {
-    /// Makes a new store in a file, with nothing in it. The file is made, or emptied where it is there, and locked for as long as the store lives. All of
-    /// it is written and synced, 4,096 bytes for each page of the disk.
+    /// Makes a new store in a file, with nothing in it. The file is made, or emptied where it is there, and locked for as long as the store lives. It is
+    /// synced, 4,096 bytes for each page of the disk, all of them written up to a gibibyte; a larger file takes room as its pages are written.
     ///
     /// Refused 7 BadGeometry, before any file is touched, 1 DeviceFault and 9 OutOfMemory, after which the file may be there, with anything in it.
     pub fn create_file<R: Files<File = File>>(
@@ -29,14 +29,15 @@ impl Store<FileDisk> {
         options: Options,
     ) -> Result<Self, OpenError>
         ensures new { IfOk result (λ made. (made.history ≡ []) × (made.base ≡ 0) × (made.limit ≡ options.limits.history)) }
-        ensures store { IfOk result (λ made. made.store ≡ new_stored options.extents options.pages (sections_needed options.extents)) }
+        ensures store { IfOk result (λ made. made.store ≡ new_stored options.format options.extents options.pages (sections_needed options.extents)) }
         ensures found { IfOk result (λ made. made.found ≡ (0, 0)) }
-        ensures pages { IfOk result (λ made. file_pages made.disk ≡ 1 + options.extents * options.pages + sections_needed options.extents) }
-        // It is refused 7 just where there is no store of so many extents and pages.
-        ensures geometry { (result ≡ Err OpenError.BadGeometry) ↔ ¬ IsGeometry options.extents options.pages (sections_needed options.extents) }
+        ensures pages { IfOk result (λ made. file_pages made.disk ≡ device_pages options.format options.extents options.pages (sections_needed options.extents)) }
+        // It is refused 7 just where there is no store of this format of so many extents and pages.
+        ensures geometry { (result ≡ Err OpenError.BadGeometry) ↔ ¬ IsGeometry options.format options.extents options.pages (sections_needed options.extents) }
         ensures refusals { IfErr result (λ error. (error ≡ OpenError.BadGeometry) ⊎ (error ≡ OpenError.DeviceFault) ⊎ (error ≡ OpenError.OutOfMemory)) }
     {
-        let Ok(geometry) = Geometry::new(options.extents, options.pages) else {
+        let Ok(geometry) = Geometry::of_format(options.format, options.extents, options.pages, None)
+        else {
             return Err(OpenError::BadGeometry);
         };
         let Ok(disk) = FileDisk::create(rt, alloc, path, geometry.device_pages()) else {

@@ -26,7 +26,7 @@ use crate::sweeps::sweep_ready;
 use cs_core::Core;
 use cs_deps::Refusal;
 use cs_disk::PageDisk;
-use cs_frame::frame_pages;
+use cs_frame::{frame_pages, run_bytes};
 use cs_survey::{most_garbage, uses};
 use std::alloc::{AllocError, Global};
 
@@ -141,7 +141,7 @@ fn worth_sweeping<D: PageDisk>(
     // An index names no more than one run has room for, which takes all pages of an extent then: more of them can't be dead.
     let limit = core.extents().geometry().named_limit();
     let named = core.index().named_count().min(limit);
-    let index_pages = frame_pages(4 + 81 * named);
+    let index_pages = frame_pages(run_bytes(named));
     let uses = uses(alloc, core)?;
     let Some(extent) = most_garbage(&uses) else {
         return Ok(None);

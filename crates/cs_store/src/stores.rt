@@ -1,10 +1,10 @@
 //! Stores: how they are made, opened and closed.
-ghost use Rattle.std.specs.Prelude.{◌+◌, ◌*◌, ◌<◌, ◌↔◌, ◌≡◌, ◌≢◌, ◌⊎◌, IfErr, IfOk, MatchResult, None, OnOk, [], ℕ};
+ghost use Rattle.std.specs.Prelude.{◌<◌, ◌↔◌, ◌≡◌, ◌≢◌, ◌⊎◌, IfErr, IfOk, MatchResult, None, OnOk, [], ℕ};
 ghost use Rattle.cs_chunk.specs.Reads.{IsNoAnswer};
 ghost use Rattle.cs_disk.specs.Disk.{LeavesOnly, MayLeave, Rises, flushed, page, seen};
 ghost use Rattle.cs_extent.specs.State.{shape};
 ghost use Rattle.cs_frame.specs.Formats.{formats_of};
-ghost use Rattle.cs_frame.specs.Geometries.{IsGeometry, section_size};
+ghost use Rattle.cs_frame.specs.Geometries.{IsGeometry, device_pages, section_size};
 ghost use Rattle.cs_image.specs.Counts.{HasCount};
 ghost use Rattle.cs_model.specs.Element.{Map};
 ghost use Rattle.cs_model.specs.Geometry.{shape_of};
@@ -47,16 +47,16 @@ impl<D: PageDisk> Store<D> {
         limits: Limits,
     ) -> Result<Self, (Refusal, D)>
         ensures new { IfOk result (λ made. (made.history ≡ []) × (made.base ≡ 0) × (made.limit ≡ limits.history)) }
-        ensures store { IfOk result (λ made. made.store ≡ new_stored geometry.extents geometry.pages geometry.sections) }
+        ensures store { IfOk result (λ made. made.store ≡ new_stored geometry.format geometry.extents geometry.pages geometry.sections) }
         ensures found { IfOk result (λ made. made.found ≡ (0, 0)) }
         // It has no shard.
         ensures map { D.honest disk → IfOk result (λ made. HasMap made (λ id. None)) }
-        ensures written { D.honest disk → MatchResult result (λ made. IsNewOn geometry.extents geometry.pages geometry.sections (D.state disk) (D.state made.disk)) (λ refused. IsHeadWritten geometry.extents geometry.pages (D.state disk) (D.state refused.1)) }
-        ensures same { D.page_count disk ≢ 1 + geometry.extents * geometry.pages + geometry.sections → result ≡ Err (Refusal.NotAStore, disk) }
-        ensures not_a_store { IfErr result (λ refused. (refused.0 ≡ Refusal.NotAStore) ↔ (D.page_count disk ≢ 1 + geometry.extents * geometry.pages + geometry.sections)) }
+        ensures written { D.honest disk → MatchResult result (λ made. IsNewOn geometry.format geometry.extents geometry.pages geometry.sections (D.state disk) (D.state made.disk)) (λ refused. IsHeadWritten geometry.extents geometry.pages (D.state disk) (D.state refused.1)) }
+        ensures same { D.page_count disk ≢ device_pages geometry.format geometry.extents geometry.pages geometry.sections → result ≡ Err (Refusal.NotAStore, disk) }
+        ensures not_a_store { IfErr result (λ refused. (refused.0 ≡ Refusal.NotAStore) ↔ (D.page_count disk ≢ device_pages geometry.format geometry.extents geometry.pages geometry.sections)) }
         ensures pages { IfOk result (λ made. D.page_count made.disk ≡ D.page_count disk) }
         ensures honest { MatchResult result (λ made. D.honest disk ↔ D.honest made.disk) (λ refused. D.honest disk ↔ D.honest refused.1) }
-        ensures sized { OnOk result (D.page_count disk ≡ 1 + geometry.extents * geometry.pages + geometry.sections) }
+        ensures sized { OnOk result (D.page_count disk ≡ device_pages geometry.format geometry.extents geometry.pages geometry.sections) }
         ensures refusals { IfErr result (λ refused. (refused.0 ≡ Refusal.NotAStore) ⊎ (refused.0 ≡ Refusal.DeviceFault) ⊎ (refused.0 ≡ Refusal.OutOfMemory)) }
         ensures cause { IfErr result (λ refused. refused.0 ≡ Refusal.DeviceFault → Rises (D.failure_count disk) (D.failure_count refused.1)) }
     {
@@ -76,8 +76,8 @@ impl<D: PageDisk> Store<D> {
         ensures image { IfOk result (λ opened. D.honest disk → (opened.opened ≡ seen (D.state disk)) × (D.state opened.disk ≡ flushed (D.state disk))) }
         ensures store { IfOk result (λ opened. IsOpened (D.honest disk) opened.opened opened.found opened.store) }
         // Where the disk reads as a store of some geometry with this map, that store is opened and has this map.
-        ensures recovers { D.honest disk → (extents pages sections : ℕ) → IsGeometry extents pages sections → D.page_count disk ≡ 1 + extents * pages + sections → (n : ℕ) (m : Map)
-            → (let S = shape_of extents pages sections (section_size extents sections) 2 in Recovers S (formats_of S) (page (seen (D.state disk))) n m
+        ensures recovers { D.honest disk → (format extents pages sections : ℕ) → IsGeometry format extents pages sections → D.page_count disk ≡ device_pages format extents pages sections → (n : ℕ) (m : Map)
+            → (let S = shape_of extents pages sections (section_size extents sections) format in Recovers S (formats_of S) (page (seen (D.state disk))) n m
             → MatchResult result (λ opened. (shape opened.store.extents ≡ S) × (opened.found.0 ≡ n) × HasCount (λ id. m id ≢ None) opened.found.1 × HasMap opened m) (λ refused. IsNoAnswer refused.0)) }
         ensures refusals { IfErr result (λ refused. D.honest disk → IsNoAnswer refused.0 ⊎ IsWhyNotOpened (D.page_count disk) (page (seen (D.state disk))) refused.0) }
         // Whatever the disk answers: 1, 9, 20 to 25, or 43.

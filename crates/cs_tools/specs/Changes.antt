@@ -1,5 +1,5 @@
 -- What the commands `put` and `del` do.
-use Rattle.std.specs.Prelude.{◌≡◌, ◌≢◌, ◌⊎◌, ◌<◌, ℕ, suc, List, None, Some, length}
+use Rattle.std.specs.Prelude.{◌≡◌, ◌≢◌, ◌⊎◌, ◌*◌, ◌<◌, ℕ, suc, List, None, Some, length}
 use Rattle.cs_core.specs.declared.events.Event.{Event}
 use Rattle.cs_core.specs.declared.events.Event.TheVariants.{Delete, Put}
 use Rattle.cs_core.specs.declared.events.Reply.TheVariants as reply
@@ -8,8 +8,10 @@ use Rattle.cs_deps.specs.declared.refusals.Refusal.{Refusal}
 use Rattle.cs_deps.specs.declared.refusals.Refusal.TheVariants.{TooLarge}
 use Rattle.cs_disk.specs.declared.disk.PageDisk.{Ghosts as PageDisk}
 use Rattle.cs_drive.specs.Syncs.{StopsSync, Syncs}
+use Rattle.cs_extent.specs.State.{shape}
 use Rattle.cs_frame.specs.declared.identifiers.ShardId.{ShardId}
 use Rattle.cs_index.specs.State.{id_number}
+use Rattle.cs_model.specs.Device.{Shape}
 use Rattle.cs_model.specs.Element.{Map}
 use Rattle.cs_model.specs.State.{changed}
 use Rattle.cs_store.specs.Events.{Declines, DeclinesCopy, Does, IsHalted}
@@ -21,9 +23,13 @@ use Rattle.cs_tools.specs.declared.outcomes.Outcome.TheVariants.{Absent, Damaged
 abbrev pub IsOneMore : {D : Type 0} → (old new : View D) → Type 0
 IsOneMore old new = (new.store.accepted ≡ suc old.store.accepted) × (new.store.frontier ≡ new.store.accepted)
 
--- no store takes so many bytes, and nothing has changed
+-- the most bytes that a store takes under an identifier
+abbrev pub most_bytes : Shape → ℕ
+most_bytes S = S.most_chunks * S.chunk_bytes
+
+-- the store takes no so many bytes, and nothing has changed
 abbrev pub IsTooLarge : {D : Type 0} → (text : List ℕ) → (old : View D) → Refusal → (new : View D) → Type 0
-IsTooLarge text old r new = (8388280 < length text) × (r ≡ TooLarge) × (new ≡ old)
+IsTooLarge text old r new = (most_bytes (shape old.store.extents) < length text) × (r ≡ TooLarge) × (new ≡ old)
 
 module _ {D : Type 0} (disks : PageDisk D) where
   -- what was accepted is made persistent; or that is refused, as the store is halted or its sync stops

@@ -21,7 +21,7 @@ pub fn advice(refusal: Refusal) -> &'static str
             "The file is cut, or no store: its length is no multiple of 4,096 bytes. Restore it from a copy."
         }
         Refusal::BadGeometry => {
-            "A store has 4 to 2,048 extents, 2 to 256 pages each, and 1 to 8 sections of at most 512 extents."
+            "A store has 4 to 2,048 extents, 2 to 256 pages each, and 1 to 8 sections of at most 512 extents; one of format 3 has 5 to 7,680 extents, 2 to 65,535 pages each, and 1 to 15 sections."
         }
         Refusal::OutOfMemory => "Give the program more memory, and try again.",
         Refusal::BadDocument => {

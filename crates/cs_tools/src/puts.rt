@@ -1,12 +1,12 @@
 //! The command `put`.
-ghost use Rattle.std.specs.Prelude.{◌≡◌, ◌⊎◌, ◌<◌, ◌↔◌, ℕ, List, IfOk, Some, length, take};
+ghost use Rattle.std.specs.Prelude.{◌≡◌, ◌⊎◌, ◌+◌, ◌^◌, ◌<◌, ◌↔◌, ℕ, List, IfOk, Some, length, take};
 ghost use Rattle.cs_core.specs.Meanings.{commands_said};
 ghost use Rattle.cs_disk.specs.Disk.{Leaves, LeavesOnly, page};
 ghost use Rattle.cs_extent.specs.State.{shape};
 ghost use Rattle.cs_model.specs.Element.{Map};
 ghost use Rattle.cs_refine.specs.Crashes.{IsPrefix};
 ghost use Rattle.cs_store.specs.Maps.{HasMap};
-ghost use Rattle.cs_tools.specs.Changes.{Puts, PutsInto};
+ghost use Rattle.cs_tools.specs.Changes.{Puts, PutsInto, most_bytes};
 ghost use Rattle.cs_tools.specs.declared.outcomes.Outcome.TheVariants.{Failed, Refused};
 
 use crate::commits::commit;
@@ -19,10 +19,18 @@ use std::alloc::Global;
 use std::io;
 use std::io::Read;
 
-/// No store takes more bytes under an identifier: 8 chunks of 256 pages, but for their headers.
-const MOST: usize = 8_388_280;
+/// The most bytes that a store takes under an identifier: 8 chunks, of an extent each.
+fn most_bytes<D: PageDisk>(store: &Store<D>) -> usize
+    ensures bytes { result ≡ most_bytes (shape store.now.store.extents) }
+    ensures small { result < 2 ^ 32 }
+{
+    let geometry = store.geometry();
+    // Called for its contract alone: what a geometry is.
+    geometry.pages();
+    8 * geometry.payload_bytes()
+}
 
-/// Keeps all that the reader gives under an identifier, in place of what was there, and makes it persistent. Of more bytes than any store takes
+/// Keeps all that the reader gives under an identifier, in place of what was there, and makes it persistent. Of more bytes than the store takes
 /// it reads one more, and is refused 31 TooLarge.
 ///
 /// Refused as `Store::put` is, 1 DeviceFault, 9 OutOfMemory, 30 Full, 31 TooLarge, 32 IndexFull, 35 WornOut, 40 Halted or 41 HistoryFull, or as
@@ -37,7 +45,7 @@ pub fn put<D: PageDisk, R: Read + Drop>(
     ensures map { (text : List ℕ) → R.remaining reader ≡ Some text → (m : Map) → HasMap store.old m → D.honest store.old.disk
         → PutsInto D.PageDisk m id text store.old store.new result }
     // Longer texts are always refused so, where the reader gives them, and nothing has changed.
-    ensures large { (text : List ℕ) → R.remaining reader ≡ Some text → 8388280 < length text
+    ensures large { (text : List ℕ) → R.remaining reader ≡ Some text → most_bytes (shape store.old.store.extents) < length text
         → ((result ≡ Refused Refusal.TooLarge) ⊎ (result ≡ Failed)) × (store.new ≡ store.old) }
     // Whatever the reader gives, some bytes are put so, once.
     ensures once { (bytes : List ℕ) × Puts D.PageDisk id bytes store.old store.new result }
@@ -49,18 +57,19 @@ pub fn put<D: PageDisk, R: Read + Drop>(
 {
     // Called for its contract alone: what a crash leaves now.
     store.persistent();
-    match read_bytes(alloc, reader) {
+    match read_bytes(alloc, reader, most_bytes(store)) {
         Ok(bytes) => put_bytes(store, id, &bytes),
         Err(_) => Outcome::Failed,
     }
 }
 
-/// What the reader gives, one byte more than a store takes at most.
-fn read_bytes<R: Read + Drop>(alloc: Global, reader: R) -> io::Result<Vec<u8>>
-    ensures { (text : List ℕ) → R.remaining reader ≡ Some text → IfOk result (λ bytes. bytes.items ≡ take 8388281 text) }
+/// What the reader gives, up to one byte more than this.
+fn read_bytes<R: Read + Drop>(alloc: Global, reader: R, most: usize) -> io::Result<Vec<u8>>
+    requires { most < 2 ^ 32 }
+    ensures { (text : List ℕ) → R.remaining reader ≡ Some text → IfOk result (λ bytes. bytes.items ≡ take (most + 1) text) }
 {
     let mut bytes = Vec::new(alloc);
-    reader.take(8_388_281).read_to_end(&mut bytes)?;
+    reader.take(most as u64 + 1).read_to_end(&mut bytes)?;
     Ok(bytes)
 }
 
@@ -68,14 +77,14 @@ fn read_bytes<R: Read + Drop>(alloc: Global, reader: R) -> io::Result<Vec<u8>>
 fn put_bytes<D: PageDisk>(store: &mut Store<D>, id: ShardId, bytes: &[u8]) -> Outcome
     ensures events { Puts D.PageDisk id bytes.now store.old store.new result }
     ensures map { (m : Map) → HasMap store.old m → D.honest store.old.disk → PutsInto D.PageDisk m id bytes.now store.old store.new result }
-    ensures large { 8388280 < length bytes.now → (result ≡ Refused Refusal.TooLarge) × (store.new ≡ store.old) }
+    ensures large { most_bytes (shape store.old.store.extents) < length bytes.now → (result ≡ Refused Refusal.TooLarge) × (store.new ≡ store.old) }
     ensures crash { D.honest store.old.disk → LeavesOnly D.moment D.left_since store.old.disk store.new.disk (IsPrefix (shape store.old.store.extents) (page store.old.opened) (commands_said store.new.history) store.old.store.frontier store.new.store.accepted) }
     ensures left { D.honest store.new.disk → Leaves (D.state store.new.disk) (IsPrefix (shape store.new.store.extents) (page store.new.opened) (commands_said store.new.history) store.new.store.frontier store.new.store.accepted) }
     ensures honest { D.honest store.old.disk ↔ D.honest store.new.disk }
 {
     // Called for its contract alone: what a crash leaves now.
     store.persistent();
-    if bytes.len() > MOST {
+    if bytes.len() > most_bytes(store) {
         return Outcome::Refused(Refusal::TooLarge);
     }
     match store.put(id, bytes) {

@@ -49,7 +49,7 @@ fn tell_shard<R: Print>(rt: &R, index: &Index) -> Result<(), Fault> {
 fn superblock_of(alloc: Global, page: &[u8; 4096]) -> Result<Superblock, Fault>
     ensures { IfOk result (λ it. AreSections (it ∷ [])) }
 {
-    let superblock = decode_section(alloc, page)?;
+    let superblock = decode_section(alloc, page, 2)?;
     if superblock.sections != 1 || superblock.section != 0 {
         return Err(Fault::Missing);
     }

@@ -49,6 +49,18 @@ const GEOMETRIES: &[(&[&str], u64)] = &[
         ],
         524_297,
     ),
+    (&["cs_cli", "run", "--format", "2"], 14),
+    (&["cs_cli", "run", "--format=3"], 16),
+    (
+        &[
+            "cs_cli",
+            "run",
+            "--format=3",
+            "--extents=7680",
+            "--pages=65535",
+        ],
+        503_308_832,
+    ),
 ];
 
 /// Words that ask for one that there isn't.
@@ -63,6 +75,10 @@ const NO_GEOMETRIES: &[&[&str]] = &[
     &["cs_cli", "run", "--extents=64", "--sections=9"],
     &["cs_cli", "run", "--extents=64", "--sections=259"],
     &["cs_cli", "run", "--extents=513", "--sections=1"],
+    &["cs_cli", "run", "--format=1"],
+    &["cs_cli", "run", "--format=4"],
+    &["cs_cli", "run", "--format=259"],
+    &["cs_cli", "run", "--format=3", "--extents=4"],
 ];
 
 #[test]

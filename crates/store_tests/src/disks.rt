@@ -5,6 +5,7 @@ use cs_disk::{
     CrashDisk, DiskFault, FailAt, FileDisk, ImageFault, MemoryDisk, OpenFault, PageDisk,
 };
 use std::fs::File;
+use std::os::unix::fs::MetadataExt;
 use std::process::Abort;
 use std::rt::Files;
 
@@ -222,6 +223,12 @@ fn file_of<R: Abort + AllocGlobal + Files<File = File>>(
     (bytes.len(), firsts)
 }
 
+/// The length of a file, and whether less than half of it takes room on the device.
+fn room_of<R: Abort + Files<File = File>>(rt: &R, path: &str) -> (u64, bool) {
+    let metadata = std::fs::metadata(rt, path).expect(rt, "a file");
+    (metadata.len(), metadata.blocks() < metadata.len() / 1024)
+}
+
 /// Crashes the disk that is open, which has no volatile write, and tells whether it is open still.
 fn crashes(rt: &impl Abort, disk: &mut Option<FileDisk>) -> bool {
     let open = disk.take().expect(rt, "a disk");
@@ -250,6 +257,7 @@ fn done<R: Abort + AllocGlobal + Files<File = File>>(
         "fill" => text_of(rt, &std::fs::write(rt, path, last).is_ok()),
         "remove" => text_of(rt, &std::fs::remove_file(rt, path).is_ok()),
         "file" => text_of(rt, &file_of(rt, path)),
+        "room" => text_of(rt, &room_of(rt, path)),
         _ => said(rt, disk.as_mut().expect(rt, "a disk"), line),
     }
 }
@@ -288,6 +296,28 @@ close > true
 open cs_disk_pages > OddLength
 remove cs_disk_pages > true
 open cs_disk_pages > DeviceFault";
+
+/// A file above a gibibyte takes no room for pages that weren't written.
+#[test]
+fn a_large_file_is_sparse(rt: HostRuntime) {
+    plays_files(&rt, LARGE);
+}
+
+const LARGE: &str = "create cs_disk_small 16 > \"open\"
+close > true
+room cs_disk_small > (65536, false)
+remove cs_disk_small > true
+create cs_disk_large 281600 > \"open\"
+room cs_disk_large > (1153433600, true)
+read 9 > (Ok(()), 0, 0)
+write 9 3 > Ok(())
+flush > Ok(())
+close > true
+open cs_disk_large > \"open\"
+read 9 > (Ok(()), 3, 3)
+room cs_disk_large > (1153433600, true)
+close > true
+remove cs_disk_large > true";
 
 #[test]
 fn a_file_that_cannot_be_made(rt: HostRuntime) {

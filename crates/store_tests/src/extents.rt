@@ -5,8 +5,8 @@ use crate::stores::{Store, assert_families, geometry, new_extents, plays, plays_
 use crate::texts::{byte, text_of, words_of};
 use cs_deps::{Dependency, Element, Graph, Refusal};
 use cs_extent::{
-    Extents, Purpose, ROOT, joining_adds_nothing_to_one_section, needs_never_fall, on_sections,
-    one_place, pages_are_given_once, section_family,
+    Extents, Purpose, ROOT, joining_adds_nothing_to_one_section, needs_never_fall, one_place,
+    pages_are_given_once, root_needs, section_family,
 };
 use cs_frame::{Locator, decode_section};
 use std::alloc::Global;
@@ -49,12 +49,17 @@ fn last_page(store: &Store) -> Option<u64> {
         .page_of(Element::Plain(store.graph.last_plain()))
 }
 
-/// Stages the next version of the root, which needs what was staged of all sections.
-fn stage_root(rt: &impl Abort, alloc: Global, store: &mut Store) -> Result<u64, Refusal> {
+/// Stages the next version of the root, which needs what was staged of all sections, and all plain writes where those don't come first.
+fn stage_root(
+    rt: &impl Abort,
+    alloc: Global,
+    store: &mut Store,
+    pages_first: bool,
+) -> Result<u64, Refusal> {
     let families = store.graph.families();
     assert!(rt; 1 < families);
     assert!(rt; families <= 16);
-    let needs = on_sections(alloc, &store.graph);
+    let needs = root_needs(alloc, &store.graph, pages_first);
     store.graph.stage_version(ROOT, 1, &[0; 4096], needs)
 }
 
@@ -111,7 +116,7 @@ fn state(rt: &impl Abort, store: &Store, extent: usize) -> ((usize, usize), (usi
 fn spelled(rt: &(impl Abort + AllocGlobal), graph: &Graph, section: u8, version: u16) -> String {
     let element = Element::Version(section_family(section), u64::from(version));
     let page = graph.bytes_of(element).expect(rt, "a page");
-    let spelled = decode_section(rt.alloc(), page).expect(rt, "a section");
+    let spelled = decode_section(rt.alloc(), page, 2).expect(rt, "a section");
     text_of(rt, &(spelled.version, spelled.section, &spelled.extents))
 }
 
@@ -132,7 +137,8 @@ pub fn said(rt: &(impl Abort + AllocGlobal), store: &mut Store, line: &str) -> S
         "reset" => text_of(rt, &reset(rt, store, extent, u64::from(numbers[1]))),
         "state" => text_of(rt, &state(rt, store, extent)),
         "fits" => text_of(rt, &fits(rt, store)),
-        "root" => text_of(rt, &stage_root(rt, rt.alloc(), store)),
+        "root" => text_of(rt, &stage_root(rt, rt.alloc(), store, true)),
+        "whole" => text_of(rt, &stage_root(rt, rt.alloc(), store, false)),
         "two" => text_of(rt, &names_superblock(rt, store)),
         "reserve" => text_of(rt, &reserve(store)),
         "dimensions" => text_of(rt, &dimensions(&store.extents)),
@@ -199,7 +205,8 @@ byte 1 > Some(7)
 extent spelled 0 2 > (2, 0, [(2, 0), (0, 0), (0, 0), (0, 0), (0, 0), (0, 0)])
 extent dimensions > (6, 2, 1)";
 
-/// Each of three sections has two extents: its versions record these and need what is written there, and are on a page of their own.
+/// Each of three sections has two extents: its versions record these and need what is written there, and are on a page of their own. A
+/// root needs the versions, and all plain writes too where those don't come first.
 #[test]
 fn frames_of_several_sections(rt: HostRuntime) {
     plays_divided(&rt, DIVIDED);
@@ -233,7 +240,12 @@ extent root > Ok(2)
 names 1.2 0.5 > true
 names 1.2 2.5 > true
 names 1.2 3.2 > true
-names 1.2 9 > false";
+names 1.2 9 > false
+extent whole > Ok(3)
+names 1.3 3.2 > true
+names 1.3 1 > true
+names 1.3 9 > true
+names 1.3 10 > false";
 
 /// The section of an extent that was emptied says so with its next version, and no version of another section needs the root that emptied it.
 #[test]

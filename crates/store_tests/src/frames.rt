@@ -3,7 +3,7 @@ use crate::texts::{is_said, prints};
 use cs_frame::{
     FormatFault, FrameKind, Locator, Root, Run, ShardId, decode_frame, decode_frame_header,
     decode_root, decode_run, decode_section, decode_superblock, encode_frame, encode_root,
-    encode_run, first_format_has_one_spelling, frame_has_one_spelling, frame_is_read_by_its_header,
+    encode_run, first_format_has_one_spelling, formats_are_apart, frame_has_one_spelling, frame_is_read_by_its_header,
     frame_pages, page_zero_has_one_spelling, root_has_one_spelling, run_has_one_spelling,
     sections_have_all_extents, superblock_has_one_spelling, these_formats_are_formats,
 };
@@ -80,25 +80,27 @@ pub fn page_of(rt: &impl Abort, start: &[u8]) -> [u8; 4096] {
 #[test]
 fn roots(rt: HostRuntime) {
     let first = Root {
+        format: 2,
         version: 1,
         commands: 0,
         runs: Vec::new(rt.alloc()),
     };
     assert!(rt; is_page(&encode_root(&first), &FORMAT_ROOT));
     let later = Root {
+        format: 2,
         version: 2,
         commands: 1,
         runs: vec![in rt.alloc(); SECOND].expect(&rt, "memory"),
     };
     let page = encode_root(&later);
     assert!(rt; is_page(&page, &ROOT));
-    let read = decode_root(rt.alloc(), &page).expect(&rt, "a root");
+    let read = decode_root(rt.alloc(), &page, 2).expect(&rt, "a root");
     prints(&rt, &read, OF_ONE);
 }
 
 /// How a root of one run prints.
 const OF_ONE: &str =
-    "Root { version: 2, commands: 1, runs: [Locator { extent: 0, page: 1, generation: 0 }] }";
+    "Root { format: 2, version: 2, commands: 1, runs: [Locator { extent: 0, page: 1, generation: 0 }] }";
 
 /// The pages of a frame.
 fn encoded(rt: &(impl Abort + AllocGlobal), kind: FrameKind, payload: &[u8]) -> Vec<[u8; 4096]> {
@@ -174,9 +176,12 @@ fn frames_of_two_pages(rt: HostRuntime) {
 pub enum Format {
     // page 0
     First,
-    // another page of a superblock
+    // another page of a superblock, in format 2 and in format 3
     Section,
+    ThirdSection,
+    // page 1, in format 2 and in format 3
     Root,
+    ThirdRoot,
     // the first of two pages
     Chunk,
     // alone
@@ -195,8 +200,10 @@ fn number_of<T: Drop>(read: Result<T, FormatFault>) -> u8 {
 pub fn fault_of(rt: &(impl Abort + AllocGlobal), format: Format, page: &[u8; 4096]) -> u8 {
     match format {
         Format::First => number_of(decode_superblock(rt.alloc(), page)),
-        Format::Section => number_of(decode_section(rt.alloc(), page)),
-        Format::Root => number_of(decode_root(rt.alloc(), page)),
+        Format::Section => number_of(decode_section(rt.alloc(), page, 2)),
+        Format::ThirdSection => number_of(decode_section(rt.alloc(), page, 3)),
+        Format::Root => number_of(decode_root(rt.alloc(), page, 2)),
+        Format::ThirdRoot => number_of(decode_root(rt.alloc(), page, 3)),
         Format::Chunk => number_of(decoded(rt, FrameKind::Chunk, &[*page, *page])),
         Format::Run => number_of(decoded(rt, FrameKind::Run, &[*page])),
     }
@@ -331,6 +338,7 @@ fn laws() {
     page_zero_has_one_spelling();
     sections_have_all_extents();
     root_has_one_spelling();
+    formats_are_apart();
     run_has_one_spelling();
     frame_has_one_spelling();
     frame_is_read_by_its_header();

@@ -1,5 +1,5 @@
 //! Geometries by scripts: which there are, and where what they divide lies. The numbers of a line are those of extents, of pages and, but
-//! after `new`, of sections.
+//! after `new` and `new_third`, of sections. Those of format 3 have other words.
 use crate::texts::{byte, is_said, prints, sides, text_of, words_of};
 use cs_frame::{FormatFault, Geometry};
 use std::process::Abort;
@@ -7,6 +7,11 @@ use std::process::Abort;
 /// A geometry, which has to be one.
 fn geometry(rt: &impl Abort, extents: u64, pages: u64, sections: u64) -> Geometry {
     Geometry::with_sections(extents, pages, sections).expect(rt, "a geometry")
+}
+
+/// A geometry of format 3.
+fn third(extents: u64, pages: u64, sections: Option<u64>) -> Result<Geometry, FormatFault> {
+    Geometry::of_format(3, extents, pages, sections)
 }
 
 /// How many sections a geometry has, or the number of the fault.
@@ -44,6 +49,12 @@ fn said(rt: &(impl Abort + AllocGlobal), line: &str) -> String {
             rt,
             &sections_of(Geometry::with_sections(extents, pages, sections)),
         ),
+        "new_third" => text_of(rt, &sections_of(third(extents, pages, None))),
+        "with_third" => text_of(rt, &sections_of(third(extents, pages, Some(sections)))),
+        "pages_third" => {
+            let made = third(extents, pages, Some(sections)).expect(rt, "a geometry");
+            text_of(rt, &made.device_pages())
+        }
         "pages" => text_of(rt, &geometry(rt, extents, pages, sections).device_pages()),
         "section" => {
             let made = geometry(rt, extents, pages, sections);
@@ -89,6 +100,25 @@ with 2048 256 4 > Ok(4)
 with 2048 2 8 > Ok(8)
 with 2048 2 9 > Err(7)
 with 2049 2 8 > Err(7)";
+
+/// Each format has bounds of its own.
+#[test]
+fn which_geometries_of_format_3_there_are(rt: HostRuntime) {
+    plays(&rt, THIRD_RULES);
+}
+
+const THIRD_RULES: &str = "new_third 4 2 > Err(7)
+new_third 5 2 > Ok(1)
+new_third 5 1 > Err(7)
+new_third 5 65535 > Ok(1)
+new_third 7680 65535 > Ok(15)
+new_third 7681 2 > Err(7)
+with_third 7680 2 14 > Err(7)
+with_third 7680 2 15 > Ok(15)
+with_third 7680 2 16 > Err(7)
+with_third 30 2 15 > Ok(15)
+pages_third 6 2 3 > 20
+pages_third 7680 65535 15 > 503308832";
 
 /// Section 0 is before all extents, and the others are behind them. The last one may have fewer extents.
 #[test]

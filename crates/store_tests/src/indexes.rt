@@ -96,7 +96,7 @@ fn listed(index: &Index) -> (Option<u8>, Option<u8>, Option<u8>) {
 /// How many commands and how many runs a root has that is version 6.
 fn root(rt: &impl Abort, alloc: Global, graph: &Graph) -> (u64, usize) {
     let page = graph.bytes_of(Element::Version(1, 6)).expect(rt, "a page");
-    let root = decode_root(alloc, page).expect(rt, "a root");
+    let root = decode_root(alloc, page, 2).expect(rt, "a root");
     (root.commands, root.runs.len())
 }
 

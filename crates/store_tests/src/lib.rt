@@ -44,3 +44,5 @@ mod sweeps;
 mod targets;
 #[cfg(test)]
 mod texts;
+#[cfg(test)]
+mod third_format;

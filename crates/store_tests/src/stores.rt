@@ -38,6 +38,7 @@ pub fn geometry(rt: &impl Abort, extents: u64, sections: u64) -> Geometry {
 
 /// A section of a new store's superblock.
 fn new_section(alloc: Global, geometry: Geometry, section: u8) -> Result<Superblock, AllocError>
+    ensures format { IfOk result (λ it. it.format ≡ geometry.format) }
     ensures version { IfOk result (λ it. it.version ≡ 1) }
     ensures extents { IfOk result (λ it. it.extent_count ≡ geometry.extents) }
     ensures pages { IfOk result (λ it. it.pages ≡ geometry.pages) }
@@ -46,6 +47,7 @@ fn new_section(alloc: Global, geometry: Geometry, section: u8) -> Result<Superbl
     ensures rows { IfOk result (λ it. it.extents.items ≡ replicate {A = ℕ × ℕ} (section_length geometry.extents geometry.sections section) (0, 0)) }
 {
     Ok(Superblock {
+        format: geometry.format(),
         version: 1,
         extent_count: geometry.extents(),
         pages: geometry.pages(),

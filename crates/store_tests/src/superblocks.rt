@@ -56,8 +56,19 @@ pub const FIRST_FORMAT_FAULTS: [(usize, u8); 6] = [
     (4096, 23),
 ];
 
-/// Why one of the one section isn't.
-pub const ONE_SECTION_FAULTS: [(usize, u8); 8] = [
+/// Why one of the one section on page 0 isn't: by the fourth byte, which is turned to the digit 3, as a section of format 3.
+pub const ONE_SECTION_FAULTS: [(usize, u8); 7] = [
+    (3, 20),
+    (14, 21),
+    (15, 22),
+    (16, 21),
+    (18, 22),
+    (86, 21),
+    (4096, 23),
+];
+
+/// Why one of the one section on another page isn't.
+const SECTION_FAULTS: [(usize, u8); 8] = [
     (3, 20),
     (4, 24),
     (14, 21),
@@ -86,7 +97,7 @@ fn reads(rt: &(impl Abort + AllocGlobal), page: &[u8; 4096], wanted: &str) {
 
 /// Asserts how the section that a page spells prints.
 fn reads_section(rt: &(impl Abort + AllocGlobal), page: &[u8; 4096], wanted: &str) {
-    let read = decode_section(rt.alloc(), page).expect(rt, "a section");
+    let read = decode_section(rt.alloc(), page, 2).expect(rt, "a section");
     prints(rt, &read, wanted);
 }
 
@@ -94,6 +105,7 @@ fn reads_section(rt: &(impl Abort + AllocGlobal), page: &[u8; 4096], wanted: &st
 fn a_superblock_of_one_section(rt: HostRuntime) {
     let extents = vec![in rt.alloc(); (2, 0), (2, 0), (0, 0), (0, 0), (0, 0), (0, 0)];
     let superblock = Superblock {
+        format: 2,
         version: 5,
         extent_count: 6,
         pages: 2,
@@ -109,7 +121,7 @@ fn a_superblock_of_one_section(rt: HostRuntime) {
 
 /// How that section prints.
 const ONE: &str =
-    "Superblock { version: 5, extent_count: 6, pages: 2, sections: 1, section: 0, extents: [(2, 0), (2, 0), (0, 0), (0, 0), (0, 0), (0, 0)] }";
+    "Superblock { format: 2, version: 5, extent_count: 6, pages: 2, sections: 1, section: 0, extents: [(2, 0), (2, 0), (0, 0), (0, 0), (0, 0), (0, 0)] }";
 
 #[test]
 fn a_section_of_three(rt: HostRuntime) {
@@ -122,7 +134,7 @@ fn a_section_of_three(rt: HostRuntime) {
 
 /// How that section prints.
 const SECOND: &str =
-    "Superblock { version: 3, extent_count: 6, pages: 2, sections: 3, section: 1, extents: [(1, 0), (0, 1)] }";
+    "Superblock { format: 2, version: 3, extent_count: 6, pages: 2, sections: 3, section: 1, extents: [(1, 0), (0, 1)] }";
 
 /// What page 0 spells in the first format is one section. No other page is read so.
 #[test]
@@ -135,7 +147,7 @@ fn a_superblock_of_the_first_format(rt: HostRuntime) {
 
 /// How it prints.
 const FIRST: &str =
-    "Superblock { version: 3, extent_count: 6, pages: 2, sections: 1, section: 0, extents: [(2, 0), (0, 0), (0, 0), (0, 0), (0, 0), (0, 0)] }";
+    "Superblock { format: 2, version: 3, extent_count: 6, pages: 2, sections: 1, section: 0, extents: [(2, 0), (0, 0), (0, 0), (0, 0), (0, 0), (0, 0)] }";
 
 #[test]
 fn damaged_first_formats(rt: HostRuntime) {
@@ -150,7 +162,7 @@ fn damaged_superblocks(rt: HostRuntime) {
 /// A page that isn't page 0 is read in one format alone.
 #[test]
 fn damaged_sections(rt: HostRuntime) {
-    damaged(&rt, Format::Section, &ONE_SECTION, &ONE_SECTION_FAULTS);
+    damaged(&rt, Format::Section, &ONE_SECTION, &SECTION_FAULTS);
     damaged(
         &rt,
         Format::Section,

@@ -5,6 +5,6 @@ use Rattle.cs_chunk.proofs.puts.append_all.Given as goal
 
 abbrev pub invariant-loop-k : goal.invariant-loop-k
 invariant-loop-k l = record {
-  so_far : IsPutSoFar l.initial.extents l.initial.graph (take l.k (map (λ f. f.items) l.frames)) (drop l.k (map (λ f. f.items) l.frames)) l.places.items l.extents l.graph;
+  so_far : IsPutSoFar l.apart l.initial.extents l.initial.graph (take l.k (map (λ f. f.items) l.frames)) (drop l.k (map (λ f. f.items) l.frames)) l.places.items l.extents l.graph;
   room : vec_len l.places + (length l.frames - l.k) ≤ vec_capacity l.places;
 }

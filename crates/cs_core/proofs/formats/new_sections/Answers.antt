@@ -10,7 +10,7 @@ loop-k-init c =
     record {
       size = ap length items;
       room = omega (arith, c.in_ok-sections.ensures.exact, c.from.ensures);
-      new_ones = subst (AreFirstNew g.extents g.pages g.sections 0) (sym items) (none_new g.extents g.pages g.sections);
+      new_ones = subst (AreFirstNew g.format g.extents g.pages g.sections 0) (sym items) (none_new g.format g.extents g.pages g.sections);
     }
 
 pub loop-k-preserved : goal.loop-k-preserved
@@ -23,9 +23,9 @@ loop-k-preserved c =
     record {
       size = omega (arith, c.push_reserved.ensures.len, c.loop-k.invariant.size, c.push_reserved.new.self.ok.0, c.loop-k.sections.ok.0);
       room = omega (arith, c.loop-k.invariant.room, c.push_reserved.ensures.capacity);
-      new_ones = subst (AreFirstNew g.extents g.pages g.sections (c.loop-k.k + 1)) (sym items)
-          (more_new g.extents g.pages g.sections c.loop-k.k c.loop-k.sections.items it c.loop-k.invariant.new_ones
-          (new_section_is g.extents g.pages g.sections c.loop-k.k c.sections-count.ensures.geometry lt it e.version e.extents e.pages e.sections e.section e.rows));
+      new_ones = subst (AreFirstNew g.format g.extents g.pages g.sections (c.loop-k.k + 1)) (sym items)
+          (more_new g.format g.extents g.pages g.sections c.loop-k.k c.loop-k.sections.items it c.loop-k.invariant.new_ones
+          (new_section_is g.format g.extents g.pages g.sections c.loop-k.k c.sections-count.ensures.geometry lt it e.format e.version e.extents e.pages e.sections e.section e.rows));
     }
 
 pub returns : goal.returns
@@ -34,5 +34,5 @@ returns c =
     let end : c.loop-k.k ≡ g.sections = omega (arith, c.loop-k-test.false, c.loop-k.auto.k-end, c.sections-count.ensures.sections) in
     record {
       geometry = c.sections-count.ensures.geometry;
-      new_ones = subst (λ (n : ℕ). AreFirstNew g.extents g.pages g.sections n c.loop-k.sections.items) end c.loop-k.invariant.new_ones;
+      new_ones = subst (λ (n : ℕ). AreFirstNew g.format g.extents g.pages g.sections n c.loop-k.sections.items) end c.loop-k.invariant.new_ones;
     }

@@ -6,5 +6,5 @@ abbrev pub invariant-loop-k : goal.invariant-loop-k
 invariant-loop-k l = record {
   size : length l.sections.items ≡ l.k;
   room : l.count ≤ vec_capacity l.sections;
-  new_ones : AreFirstNew l.geometry.extents l.geometry.pages l.geometry.sections l.k l.sections.items;
+  new_ones : AreFirstNew l.geometry.format l.geometry.extents l.geometry.pages l.geometry.sections l.k l.sections.items;
 }

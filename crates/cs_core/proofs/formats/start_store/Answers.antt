@@ -5,10 +5,10 @@ use Rattle.cs_core.proofs.Heads.{head_none, on_err}
 use Rattle.cs_core.proofs.formats.start_store.Goals as goal
 
 pub new_store-requires : goal.new_store-requires
-new_store-requires g c = subst (λ (ss : List Superblock). AreNew c.args.geometry.extents c.args.geometry.pages c.args.geometry.sections ss) (sym c.deref.ensures.value) c.in_ok-sections.ensures
+new_store-requires g c = subst (λ (ss : List Superblock). AreNew c.args.geometry.format c.args.geometry.extents c.args.geometry.pages c.args.geometry.sections ss) (sym c.deref.ensures.value) c.in_ok-sections.ensures
 
 pub write_heads-requires-clause-new : goal.write_heads-requires-clause-new
-write_heads-requires-clause-new g c = subst (λ (ss : List Superblock). AreNew c.args.geometry.extents c.args.geometry.pages c.args.geometry.sections ss) (sym c.deref-2.ensures.value) c.in_ok-sections.ensures
+write_heads-requires-clause-new g c = subst (λ (ss : List Superblock). AreNew c.args.geometry.format c.args.geometry.extents c.args.geometry.pages c.args.geometry.sections ss) (sym c.deref-2.ensures.value) c.in_ok-sections.ensures
 
 pub returns-in_err-sections-clause-failed : goal.returns-in_err-sections-clause-failed
 returns-in_err-sections-clause-failed g c = λ h.

@@ -1,4 +1,4 @@
-use Rattle.std.proofs.Common.{◌∙◌, List, arith, subst}
+use Rattle.std.proofs.Common.{◌∙◌, ℕ, List, [], arith, subst}
 use Rattle.cs_frame.specs.declared.locators.Locator.{Locator}
 use Rattle.cs_frame.specs.Roots.{SpellsRoot}
 use Rattle.cs_core.proofs.Heads.{heads_failed, heads_written}
@@ -10,8 +10,9 @@ write_root-requires g c = omega (arith, c.write_sections.ensures.pages, c.requir
 pub returns-in-Ok-clause-written : goal.returns-in-Ok-clause-written
 returns-in-Ok-clause-written g c = λ h.
     let s = c.args.geometry in
-    heads_written s.extents s.pages s.sections (g.D.PageDisk.state c.args.disk.now) (g.met.D.PageDisk.sized c.args.disk.now h ∙ c.requires.sized) c.write_root.result (g.D.PageDisk.state c.write_sections.new.disk) (g.D.PageDisk.state c.write_root.new.disk)
-    c.encode_root.result (c.in-Ok.ensures.written h) (subst (λ (ls : List Locator). SpellsRoot c.encode_root.result 1 0 ls) c.new.ensures.items c.encode_root.ensures) c.requires.new.geometry.fewest_sections
+    heads_written s.format s.extents s.pages s.sections (g.D.PageDisk.state c.args.disk.now) (g.met.D.PageDisk.sized c.args.disk.now h ∙ c.requires.sized) c.write_root.result (g.D.PageDisk.state c.write_sections.new.disk) (g.D.PageDisk.state c.write_root.new.disk)
+    c.encode_root.result (c.in-Ok.ensures.written h) (subst (λ (f : ℕ). SpellsRoot c.encode_root.result f 1 0 []) c.format.ensures.format
+    (subst (λ (ls : List Locator). SpellsRoot c.encode_root.result c.format.result 1 0 ls) c.new.ensures.items c.encode_root.ensures)) c.requires.new.geometry.fewest_sections
     (c.write_root.ensures.written (c.write_sections.ensures.honest.0 h))
 
 pub returns-in-Ok-clause-failed : goal.returns-in-Ok-clause-failed

@@ -1,6 +1,6 @@
-use Rattle.std.proofs.Common.{◌≡◌, ◌⊎◌, ◌∙◌, ◌+◌, ◌*◌, ◌<◌, inl, inr, ⊎_elim, ℕ, List, Result, Ok, Err, OnErr, OnOk, ap, arith, replicate, subst}
+use Rattle.std.proofs.Common.{◌≡◌, ◌⊎◌, ◌∙◌, ◌<◌, inl, inr, ⊎_elim, ℕ, List, Result, Ok, Err, OnErr, OnOk, ap, arith, replicate, subst}
 use Rattle.cs_disk.specs.Disk.{State as DiskState, written}
-use Rattle.cs_frame.specs.Geometries.{section_length}
+use Rattle.cs_frame.specs.Geometries.{device_pages, section_length}
 use Rattle.cs_frame.specs.Superblocks.{SpellsSuperblock}
 use Rattle.cs_core.proofs.Heads.{head_below, head_page}
 use Rattle.cs_core.proofs.Starting.{spelled_new}
@@ -21,8 +21,8 @@ faulted (Err e) old now number place bytes same why = ⊎_elim (λ (n : now ≡ 
 pub write-requires : goal.write-requires
 write-requires g c =
     let it = c.args.superblock.now in
-    let below : head_page c.args.geometry.extents c.args.geometry.pages it.section < 1 + c.args.geometry.extents * c.args.geometry.pages + c.args.geometry.sections =
-    head_below c.args.geometry.extents c.args.geometry.pages c.args.geometry.sections it.section
+    let below : head_page c.args.geometry.extents c.args.geometry.pages it.section < device_pages c.args.geometry.format c.args.geometry.extents c.args.geometry.pages c.args.geometry.sections =
+    head_below c.args.geometry.format c.args.geometry.extents c.args.geometry.pages c.args.geometry.sections it.section
     (subst (λ (n : ℕ). it.section < n) c.requires.section.section_at.of_sections c.requires.section.section_at.is.one_of_them) in
     omega (arith, below, c.section_page-number.ensures, c.requires.sized)
 
@@ -34,8 +34,8 @@ returns-clause-written g c = λ h.
     let it = c.args.superblock.now in
     let s = c.args.geometry in
     wrote c.write.result (g.D.PageDisk.state c.args.disk.now) (g.D.PageDisk.state c.write.new.self) c.section_page-number.result (head_page s.extents s.pages it.section) c.encode_superblock.result
-    (λ (b : List ℕ). SpellsSuperblock b 1 s.extents s.pages s.sections it.section (replicate (section_length s.extents s.sections it.section) (0, 0))) c.section_page-number.ensures
-    (spelled_new s.extents s.pages s.sections it.section it c.requires.section c.encode_superblock.result c.encode_superblock.ensures) (c.write.ensures.ok h)
+    (λ (b : List ℕ). SpellsSuperblock b s.format 1 s.extents s.pages s.sections it.section (replicate (section_length s.extents s.sections it.section) (0, 0))) c.section_page-number.ensures
+    (spelled_new s.format s.extents s.pages s.sections it.section it c.requires.section c.encode_superblock.result c.encode_superblock.ensures) (c.write.ensures.ok h)
 
 pub returns-clause-failed : goal.returns-clause-failed
 returns-clause-failed g c = λ h.

@@ -7,18 +7,18 @@ use Rattle.cs_core.proofs.Starting.{moved_section}
 use Rattle.cs_core.proofs.formats.write_sections.Goals as goal
 
 -- section k of those that are given
-section_k : (extents pages sections k : ℕ) (items : List Superblock) (it : Superblock) → ((j : ℕ) (other : Superblock) → slice_get items j ≡ Some other → IsNewSection extents pages sections j other)
-    → slice_get items k ≡ Some it → IsNewSection extents pages sections it.section it
-section_k extents pages sections k items it each at =
+section_k : (format extents pages sections k : ℕ) (items : List Superblock) (it : Superblock) → ((j : ℕ) (other : Superblock) → slice_get items j ≡ Some other → IsNewSection format extents pages sections j other)
+    → slice_get items k ≡ Some it → IsNewSection format extents pages sections it.section it
+section_k format extents pages sections k items it each at =
     let here = each k it at in
-    subst (λ (n : ℕ). IsNewSection extents pages sections n it) (sym here.section_at.place) here
+    subst (λ (n : ℕ). IsNewSection format extents pages sections n it) (sym here.section_at.place) here
 
 pub loop-k-init : goal.loop-k-init
 loop-k-init g c = record {
   honesty = ((λ h. h), (λ h. h));
   size = refl;
   failures = omega arith;
-  written = λ h. none_written c.args.geometry.extents c.args.geometry.pages c.args.geometry.sections (g.D.PageDisk.state c.args.disk.now) (g.met.D.PageDisk.sized c.args.disk.now h ∙ c.requires.sized);
+  written = λ h. none_written c.args.geometry.format c.args.geometry.extents c.args.geometry.pages c.args.geometry.sections (g.D.PageDisk.state c.args.disk.now) (g.met.D.PageDisk.sized c.args.disk.now h ∙ c.requires.sized);
 }
 
 pub write_section-requires-clause-sized : goal.write_section-requires-clause-sized
@@ -26,7 +26,7 @@ write_section-requires-clause-sized g c = c.loop-k.invariant.size ∙ c.requires
 
 pub write_section-requires-clause-section : goal.write_section-requires-clause-section
 write_section-requires-clause-section g c =
-    section_k c.args.geometry.extents c.args.geometry.pages c.args.geometry.sections c.loop-k.k c.args.sections.now c.index-sections-k.result c.requires.new.new_ones.each
+    section_k c.args.geometry.format c.args.geometry.extents c.args.geometry.pages c.args.geometry.sections c.loop-k.k c.args.sections.now c.index-sections-k.result c.requires.new.new_ones.each
     (slice_get_read c.args.sections.now (length c.args.sections.now) c.loop-k.k c.index-sections-k.result refl c.loop-k-test.true c.index-sections-k.is)
 
 pub loop-k-preserved : goal.loop-k-preserved
@@ -41,8 +41,8 @@ loop-k-preserved g c =
       size = c.write_section.ensures.pages ∙ c.loop-k.invariant.size;
       failures = omega (arith, c.loop-k.invariant.failures, c.write_section.ensures.cause.later);
       written = λ h.
-          let w = moved_section s.extents s.pages s.sections it.section c.loop-k.k place (g.D.PageDisk.state c.loop-k.disk) (g.D.PageDisk.state c.write_section.new.disk) (c.in-Ok.ensures.written (c.loop-k.invariant.honesty.0 h)) in
-          more_written s.extents s.pages s.sections (g.D.PageDisk.state c.args.disk.now) (g.met.D.PageDisk.sized c.args.disk.now h ∙ c.requires.sized) c.loop-k.k (g.D.PageDisk.state c.loop-k.disk) (g.D.PageDisk.state c.write_section.new.disk)
+          let w = moved_section s.format s.extents s.pages s.sections it.section c.loop-k.k place (g.D.PageDisk.state c.loop-k.disk) (g.D.PageDisk.state c.write_section.new.disk) (c.in-Ok.ensures.written (c.loop-k.invariant.honesty.0 h)) in
+          more_written s.format s.extents s.pages s.sections (g.D.PageDisk.state c.args.disk.now) (g.met.D.PageDisk.sized c.args.disk.now h ∙ c.requires.sized) c.loop-k.k (g.D.PageDisk.state c.loop-k.disk) (g.D.PageDisk.state c.write_section.new.disk)
           w.0 (c.loop-k.invariant.written h) lt w.1 w.2;
     }
 
@@ -57,4 +57,4 @@ pub returns-clause-written : goal.returns-clause-written
 returns-clause-written g c = λ h.
     let s = c.args.geometry in
     let end : c.loop-k.k ≡ s.sections = omega (arith, c.loop-k-test.false, c.loop-k.auto.k-end, c.requires.new.new_ones.counted) in
-    subst (λ (n : ℕ). AreNewWritten s.extents s.pages s.sections n (g.D.PageDisk.state c.args.disk.now) (g.D.PageDisk.state c.loop-k.disk)) end (c.loop-k.invariant.written h)
+    subst (λ (n : ℕ). AreNewWritten s.format s.extents s.pages s.sections n (g.D.PageDisk.state c.args.disk.now) (g.D.PageDisk.state c.loop-k.disk)) end (c.loop-k.invariant.written h)

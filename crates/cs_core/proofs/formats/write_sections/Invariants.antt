@@ -9,5 +9,5 @@ invariant-loop-k g l = record {
   size : g.D.PageDisk.page_count l.disk ≡ g.D.PageDisk.page_count l.fn.disk;
   failures : g.D.PageDisk.failure_count l.fn.disk ≤ g.D.PageDisk.failure_count l.disk;
   written : g.D.PageDisk.honest l.fn.disk
-      → AreNewWritten l.geometry.extents l.geometry.pages l.geometry.sections l.k (g.D.PageDisk.state l.fn.disk) (g.D.PageDisk.state l.disk);
+      → AreNewWritten l.geometry.format l.geometry.extents l.geometry.pages l.geometry.sections l.k (g.D.PageDisk.state l.fn.disk) (g.D.PageDisk.state l.disk);
 }

@@ -10,17 +10,17 @@ use Rattle.cs_core.proofs.sections.read_section.Goals as goal
 pub returns-in-Err-clause-why : goal.returns-in-Err-clause-why
 returns-in-Err-clause-why g c = λ h.
     let image = seen (g.D.PageDisk.state c.args.disk.now) in
-    subst (λ (n : ℕ). IsNoAnswer c.in-Err.refusal ⊎ IsWhyNoSection c.args.extents c.args.pages c.args.sections c.args.section (page image n) c.in-Err.refusal) c.further_page-number.ensures
-    (damaged_further c.args.extents c.args.pages c.args.sections c.args.section (page image c.further_page-number.result) c.in-Err.refusal (c.in-Err.ensures.fault h))
+    subst (λ (n : ℕ). IsNoAnswer c.in-Err.refusal ⊎ IsWhyNoSection c.args.format c.args.extents c.args.pages c.args.sections c.args.section (page image n) c.in-Err.refusal) c.further_page-number.ensures
+    (damaged_further c.args.format c.args.extents c.args.pages c.args.sections c.args.section (page image c.further_page-number.result) c.in-Err.refusal (c.in-Err.ensures.fault h))
 
 pub returns-then-not-has_numbers-clause-why : goal.returns-then-not-has_numbers-clause-why
 returns-then-not-has_numbers-clause-why g c = λ h.
     let image = seen (g.D.PageDisk.state c.args.disk.now) in
-    subst (λ (n : ℕ). IsNoAnswer NotAStore ⊎ IsWhyNoSection c.args.extents c.args.pages c.args.sections c.args.section (page image n) NotAStore) c.further_page-number.ensures
-    (other_further c.args.extents c.args.pages c.args.sections c.args.section (page image c.further_page-number.result) c.in-Ok.superblock c.if-not-has_numbers.ensures (c.in-Ok.ensures.read h))
+    subst (λ (n : ℕ). IsNoAnswer NotAStore ⊎ IsWhyNoSection c.args.format c.args.extents c.args.pages c.args.sections c.args.section (page image n) NotAStore) c.further_page-number.ensures
+    (other_further c.args.format c.args.extents c.args.pages c.args.sections c.args.section (page image c.further_page-number.result) c.in-Ok.superblock c.in-Ok.ensures.format c.if-not-has_numbers.ensures (c.in-Ok.ensures.read h))
 
 pub returns-clause-read : goal.returns-clause-read
 returns-clause-read g c = λ h.
     let image = seen (g.D.PageDisk.state c.args.disk.now) in
     let it = c.in-Ok.superblock in
-    subst (λ (n : ℕ). SpellsSuperblock (page image n) it.version it.extent_count it.pages it.sections it.section it.extents.items) c.further_page-number.ensures (c.in-Ok.ensures.read h)
+    subst (λ (n : ℕ). SpellsSuperblock (page image n) it.format it.version it.extent_count it.pages it.sections it.section it.extents.items) c.further_page-number.ensures (c.in-Ok.ensures.read h)

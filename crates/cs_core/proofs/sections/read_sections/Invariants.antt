@@ -9,5 +9,5 @@ invariant-loop-k g l = record {
   disk : OnlyReads g.D.PageDisk l.fn.disk l.disk;
   size : length l.sections.items ≡ l.k;
   room : l.count ≤ vec_capacity l.sections;
-  read : AreReadTo (g.D.PageDisk.honest l.fn.disk) (page (seen (g.D.PageDisk.state l.fn.disk))) l.extents l.pages l.count l.k l.sections.items;
+  read : AreReadTo (g.D.PageDisk.honest l.fn.disk) (page (seen (g.D.PageDisk.state l.fn.disk))) l.format l.extents l.pages l.count l.k l.sections.items;
 }

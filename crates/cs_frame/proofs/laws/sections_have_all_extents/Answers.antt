@@ -2,10 +2,10 @@ use Rattle.cs_frame.proofs.GeometryLaws.{lengths_sum, model_geometry, section_ho
 use Rattle.cs_frame.proofs.laws.sections_have_all_extents.Goals as goal
 
 pub returns-clause-holds : goal.returns-clause-holds
-returns-clause-holds c = λ extents pages sections e j g lt. section_holds extents pages sections g e j lt
+returns-clause-holds c = λ format extents pages sections e j g lt. section_holds format extents pages sections g e j lt
 
 pub returns-clause-inside : goal.returns-clause-inside
-returns-clause-inside c = λ extents pages sections e g lt. section_inside extents pages sections g e lt
+returns-clause-inside c = λ format extents pages sections e g lt. section_inside format extents pages sections g e lt
 
 pub returns-clause-lengths : goal.returns-clause-lengths
 returns-clause-lengths c = lengths_sum

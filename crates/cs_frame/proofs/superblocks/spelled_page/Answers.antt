@@ -5,12 +5,12 @@ use Rattle.cs_frame.proofs.Pieces.{AllByRecursion-and}
 use Rattle.cs_frame.proofs.SuperblockLaws.{end_in_page, length-superblock_fields}
 use Rattle.cs_frame.proofs.superblocks.spelled_page.Goals as goal
 
-pub unsealed-page-requires : goal.unsealed-page-requires
-unsealed-page-requires c = omega (arith, c.requires.count, end_in_page c.args.extent_count c.args.pages c.args.sections c.args.section c.requires.geometry)
+pub unsealed-page-requires-clause-size : goal.unsealed-page-requires-clause-size
+unsealed-page-requires-clause-size c = omega (arith, c.requires.count, end_in_page c.args.format c.args.extent_count c.args.pages c.args.sections c.args.section c.requires.geometry)
 
 pub seal-requires : goal.seal-requires
 seal-requires c =
-    omega (arith, ap length c.unsealed-page.ensures.text, length-superblock_fields c.args.version c.args.extent_count c.args.pages c.args.sections c.args.section c.args.extents.now, c.requires.count, end_in_page c.args.extent_count c.args.pages c.args.sections c.args.section c.requires.geometry)
+    omega (arith, ap length c.unsealed-page.ensures.text, length-superblock_fields c.args.format c.args.version c.args.extent_count c.args.pages c.args.sections c.args.section c.args.extents.now, c.requires.count, end_in_page c.args.format c.args.extent_count c.args.pages c.args.sections c.args.section c.requires.geometry)
 
 pub returns : goal.returns
 returns c = record {
@@ -24,3 +24,6 @@ returns c = record {
   };
   spelled = c.finish.ensures ∙ ap padded (c.seal.ensures ∙ ap sealed c.unsealed-page.ensures.text);
 }
+
+pub unsealed-page-requires-clause-known : goal.unsealed-page-requires-clause-known
+unsealed-page-requires-clause-known c = c.requires.geometry.known

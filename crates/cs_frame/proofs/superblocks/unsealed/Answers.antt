@@ -1,14 +1,15 @@
-use Rattle.std.proofs.Common.{◌≡◌, codes, refl}
+use Rattle.std.proofs.Common.{◌≡◌, ◌+◌, ◌∷◌, ◌++◌, [], ap, codes, refl, ℕ}
 use Rattle.cs_frame.specs.Buffers.{text_of}
 use Rattle.cs_frame.proofs.Fields.{wrote}
 use Rattle.cs_frame.proofs.superblocks.unsealed.Goals as goal
 
 pub returns-clause-text : goal.returns-clause-text
 returns-clause-text c =
-    let magic : text_of c.append.new.self ≡ codes "CSS2" = wrote c.new-page.ensures c.append.ensures refl in
-    let version = wrote magic c.append-2.ensures c.to_be_bytes.ensures in
-    let count = wrote version c.append-3.ensures c.to_be_bytes-2.ensures in
-    let pages = wrote count c.append-4.ensures c.to_be_bytes-3.ensures in
-    let sections = wrote pages c.append-5.ensures refl in
-    let section = wrote sections c.append-6.ensures refl in
+    let magic : text_of c.append.new.self ≡ codes "CSS" = wrote c.new-page.ensures c.append.ensures refl in
+    let digit : text_of c.append-2.new.self ≡ codes "CSS" ++ (48 + c.args.format) ∷ [] = wrote magic c.append-2.ensures (ap (λ (n : ℕ). n ∷ []) c.digit_of.ensures) in
+    let version = wrote digit c.append-3.ensures c.to_be_bytes.ensures in
+    let count = wrote version c.append-4.ensures c.to_be_bytes-2.ensures in
+    let pages = wrote count c.append-5.ensures c.to_be_bytes-3.ensures in
+    let sections = wrote pages c.append-6.ensures refl in
+    let section = wrote sections c.append-7.ensures refl in
     wrote section c.append_extents.ensures.text refl

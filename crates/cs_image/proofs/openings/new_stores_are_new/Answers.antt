@@ -3,6 +3,6 @@ use Rattle.cs_image.proofs.New.{is_new, new_found}
 
 pub returns : goal.returns
 returns c = record {
-  new = λ view extents pages sections is written root. is_new view extents pages sections is written root;
-  found = λ view extents pages sections is written root. new_found view extents pages sections is written root;
+  new = λ view format extents pages sections is written root. is_new view format extents pages sections is written root;
+  found = λ view format extents pages sections is written root. new_found view format extents pages sections is written root;
 }

@@ -7,11 +7,11 @@ use Rattle.std.specs.Prelude.{reverse}
 
 pub returns : goal.returns
 returns c = record {
-  superblock = λ view extents pages sections n m is r j lt. (r.versions j, part extents pages sections is view n m r j, section_spelled extents pages sections is view n m r j lt);
-  geometry = λ view extents pages sections n m version e p s j written is r spelled. zero_same extents pages sections is view n m r version e p s j written spelled;
-  section = λ view extents pages sections n m k version e p s j written is some lt r spelled. section_same extents pages sections is view n m r k version e p s j written some lt spelled;
-  root = λ view extents pages sections n m is r. (r.version, map as_locator (reverse (places r.runs)), root_spelled extents pages sections is view n m r);
-  runs = λ view versions pages written root commands listed n m superblock are root_page r.
-      (same_commands view versions pages written superblock are n m r root commands listed root_page, all_readable view versions pages written superblock are n m r root commands listed root_page);
-  store = λ view versions pages written root commands runs n m superblock are root_page read r. store_read view versions pages written superblock are n m r root commands runs root_page read;
+  superblock = λ view format extents pages sections n m is r j lt. (r.versions j, part format extents pages sections is view n m r j, section_spelled format extents pages sections is view n m r j lt);
+  geometry = λ view format extents pages sections n m f version e p s j written is r spelled. zero_same format extents pages sections is view n m r f version e p s j written spelled;
+  section = λ view format extents pages sections n m k f version e p s j written is some lt r spelled. section_same format extents pages sections is view n m r k f version e p s j written some lt spelled;
+  root = λ view format extents pages sections n m is r. (r.version, map as_locator (reverse (places r.runs)), root_spelled format extents pages sections is view n m r);
+  runs = λ view format versions pages written root commands listed n m superblock are root_page r.
+      (same_commands view format versions pages written superblock are n m r root commands listed root_page, all_readable view format versions pages written superblock are n m r root commands listed root_page);
+  store = λ view format versions pages written root commands runs n m superblock are root_page read r. store_read view format versions pages written superblock are n m r root commands runs root_page read;
 }

@@ -7,7 +7,7 @@ use Rattle.cs_index.proofs.entries.skip_in_runs.Given as goal
 
 abbrev pub invariant-loop-k : goal.invariant-loop-k
 invariant-loop-k l = record {
-  count : length l.places ≡ 4;
+  count : length l.places ≡ 24;
   moved : (j : ℕ) (run : StoredRun) → slice_get l.runs j ≡ Some run → j < l.k → IsStart (Some (id_number l.id)) (slice_index l.places j) (map named_entry run.entries.items);
   still : (j : ℕ) (run : StoredRun) → slice_get l.runs j ≡ Some run → l.k ≤ j → IsPlace (id_number l.id) (slice_index l.places j) (map named_entry run.entries.items);
 }

@@ -7,6 +7,6 @@ use Rattle.cs_index.proofs.entries.starts_behind.Given as goal
 
 abbrev pub invariant-loop-k : goal.invariant-loop-k
 invariant-loop-k l = record {
-  count : length l.starts ≡ 4;
+  count : length l.starts ≡ 24;
   begun : (j : ℕ) (run : StoredRun) → slice_get l.runs j ≡ Some run → j < l.k → IsStart (Some (id_number l.id)) (slice_index l.starts j) (map named_entry run.entries.items);
 }

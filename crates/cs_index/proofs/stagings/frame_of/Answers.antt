@@ -1,6 +1,7 @@
-use Rattle.std.proofs.Common.{◌≡◌, ◌∙◌, ◌+◌, ◌*◌, ap, arith, length, vec_len}
+use Rattle.std.proofs.Common.{◌≡◌, ◌∙◌, ap, arith, length, vec_len}
 use Rattle.std.proofs.lemmas.Result.{IfOk-weaker}
 use Rattle.cs_frame.specs.Frames.{page_count}
+use Rattle.cs_frame.specs.Geometries.{run_bytes}
 use Rattle.cs_index.proofs.Spelled.{payload_frame, payload_length}
 use Rattle.cs_index.proofs.stagings.frame_of.Goals as goal
 
@@ -16,7 +17,7 @@ returns-clause-frame c =
 
 pub returns-clause-count : goal.returns-clause-count
 returns-clause-count c =
-    let long : length c.deref.result.now ≡ 4 + 81 * length c.args.run.now.entries.items = payload_length c.args.run.now.entries.items c.deref.result.now c.in_ok-payload.payload.items c.deref.ensures.value c.in_ok-payload.ensures in
+    let long : length c.deref.result.now ≡ run_bytes (length c.args.run.now.entries.items) = payload_length c.args.run.now.entries.items c.deref.result.now c.in_ok-payload.payload.items c.deref.ensures.value c.in_ok-payload.ensures in
     IfOk-weaker c.encode_frame.result (λ frame. vec_len frame ≡ page_count (length c.deref.result.now)) _
     (λ frame is. omega (arith, frame.ok.0, is, ap page_count long))
     c.encode_frame.ensures.count

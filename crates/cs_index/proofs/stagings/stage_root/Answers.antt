@@ -2,7 +2,7 @@ use Rattle.std.proofs.Common.{◌≡◌, ◌∙◌, ◌⊎◌, ◌+◌, ap, subs
 use Rattle.cs_deps.specs.declared.refusals.Refusal.{Refusal}
 use Rattle.cs_deps.specs.declared.refusals.Refusal.TheVariants.{UnknownNeed, OwnFamily, WornOut, OutOfMemory}
 use Rattle.cs_frame.specs.Roots.{SpellsRoot}
-use Rattle.cs_index.proofs.Rooted.{not_own_family, root_families, root_number, root_rises, within_sections}
+use Rattle.cs_index.proofs.Rooted.{not_own_family, root_families, root_number, root_rises, within_needs}
 use Rattle.cs_index.proofs.stagings.stage_root.Goals as goal
 
 pub unreachable-requires : goal.unreachable-requires
@@ -10,9 +10,9 @@ unreachable-requires c =
     let e = c.in-Err.ensures in
     let r : Refusal = c.in-Err.field-0 in
     ⊎_elim
-    (λ (is : r ≡ UnknownNeed). e.unknown.0 (ap (λ (f : Refusal). Err f) is) (within_sections c.on_sections-needs.result c.args.graph.now.staging.staged c.args.graph.now.staging.latest c.on_sections-needs.ensures.names))
+    (λ (is : r ≡ UnknownNeed). e.unknown.0 (ap (λ (f : Refusal). Err f) is) (within_needs c.root_needs-needs.result c.args.pages_first c.args.graph.now.staging.staged c.args.graph.now.staging.latest c.root_needs-needs.ensures.names))
     (λ (o : (r ≡ OwnFamily) ⊎ ((r ≡ WornOut) ⊎ (r ≡ OutOfMemory))). ⊎_elim
-    (λ (is : r ≡ OwnFamily). not_own_family c.on_sections-needs.result _ c.on_sections-needs.ensures.names ((e.own.0 (ap (λ (f : Refusal). Err f) is)).1))
+    (λ (is : r ≡ OwnFamily). not_own_family c.root_needs-needs.result _ _ c.root_needs-needs.ensures.names ((e.own.0 (ap (λ (f : Refusal). Err f) is)).1))
     (λ (p : (r ≡ WornOut) ⊎ (r ≡ OutOfMemory)). ⊎_elim
     (λ (is : r ≡ WornOut). c.requires.number ((e.worn.0 (ap (λ (f : Refusal). Err f) is)).2))
     (λ (is : r ≡ OutOfMemory). e.memory c.requires.room (ap (λ (f : Refusal). Err f) is))
@@ -23,18 +23,18 @@ unreachable-requires c =
 pub returns-clause-staged : goal.returns-clause-staged
 returns-clause-staged c =
     let e = c.in-Ok.ensures in
-    let number : c.last_version-version.result + 1 ≡ c.in-Ok.staged = ap (λ (n : ℕ). n + 1) c.last_version-version.ensures ∙ root_number c.args.graph.now.staging c.stage_version.new.self.staging c.in-Ok.staged c.on_sections-needs.result e.staged in
+    let number : c.last_version-version.result + 1 ≡ c.in-Ok.staged = ap (λ (n : ℕ). n + 1) c.last_version-version.ensures ∙ root_number c.args.graph.now.staging c.stage_version.new.self.staging c.in-Ok.staged c.root_needs-needs.result e.staged in
     record {
-      needs = c.on_sections-needs.result;
-      names = c.on_sections-needs.ensures.names;
+      needs = c.root_needs-needs.result;
+      names = c.root_needs-needs.ensures.names;
       version = e.staged;
-      page = (c.encode_root-page.result, e.write, subst (λ (n : ℕ). SpellsRoot c.encode_root-page.result n c.args.commands c.args.places.items) number c.encode_root-page.ensures);
+      page = (c.encode_root-page.result, e.write, subst (λ (n : ℕ). SpellsRoot c.encode_root-page.result c.args.format n c.args.commands c.args.places.items) number c.encode_root-page.ensures);
       others = e.others;
       round = e.round;
     }
 
 pub returns-clause-families : goal.returns-clause-families
-returns-clause-families c = root_families c.args.graph.now.staging c.stage_version.new.self.staging c.in-Ok.staged c.on_sections-needs.result c.in-Ok.ensures.staged
+returns-clause-families c = root_families c.args.graph.now.staging c.stage_version.new.self.staging c.in-Ok.staged c.root_needs-needs.result c.in-Ok.ensures.staged
 
 pub returns-clause-rises : goal.returns-clause-rises
-returns-clause-rises c = root_rises c.args.graph.now.staging c.stage_version.new.self.staging c.in-Ok.staged c.on_sections-needs.result c.in-Ok.ensures.staged c.requires.families
+returns-clause-rises c = root_rises c.args.graph.now.staging c.stage_version.new.self.staging c.in-Ok.staged c.root_needs-needs.result c.in-Ok.ensures.staged c.requires.families

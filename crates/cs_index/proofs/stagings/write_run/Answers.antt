@@ -1,14 +1,16 @@
-use Rattle.std.proofs.Common.{arith, length}
+use Rattle.std.proofs.Common.{arith, length, subst, sym, ℕ}
 use Rattle.cs_extent.specs.Purposes.{reason_of}
 use Rattle.cs_extent.specs.State.{extents_of, shape}
 use Rattle.cs_extent.specs.Worn.{IsFrameWorn}
 use Rattle.cs_model.specs.Extents.{Placed}
+use Rattle.cs_frame.proofs.RootLaws.{fewest_runs}
+use Rattle.cs_frame.specs.Geometries.{IsKnown}
 use Rattle.cs_index.proofs.Exact.{append_worn}
 use Rattle.cs_index.proofs.Rooted.{frame_below}
 use Rattle.cs_index.proofs.stagings.write_run.Goals as goal
 
 pub stage_root-version-requires-clause-number : goal.stage_root-version-requires-clause-number
-stage_root-version-requires-clause-number c = frame_below c.args.graph.now.staging c.append.new.graph.staging _ _ _ _ _ c.in-Ok.ensures.staged c.requires.number
+stage_root-version-requires-clause-number c = frame_below c.args.graph.now.staging c.append.new.graph.staging _ _ _ _ _ _ c.in-Ok.ensures.staged c.requires.number
 
 pub returns-in-Ok-clause-resets : goal.returns-in-Ok-clause-resets
 returns-in-Ok-clause-resets c = λ e. omega (arith, c.in-Ok.ensures.resets e, c.stage_root-version.ensures.rises)
@@ -20,3 +22,10 @@ returns-in-Err-clause-worn c =
 
 pub returns-in-Ok-clause-worn : goal.returns-in-Ok-clause-worn
 returns-in-Ok-clause-worn c = λ worn. absurd (let is = c.append.ensures.worn.1 worn in cc (is, c.in-Ok.is))
+
+pub stage_root-version-requires-clause-format : goal.stage_root-version-requires-clause-format
+stage_root-version-requires-clause-format c = subst (λ (f : ℕ). IsKnown f) (sym c.format-format.ensures.format) c.format-format.ensures.geometry.known
+
+pub stage_root-version-requires-clause-places : goal.stage_root-version-requires-clause-places
+stage_root-version-requires-clause-places c =
+    omega (arith, c.requires.few, c.push_reserved.ensures.len, c.push_reserved.new.self.ok.0, c.args.places.ok.0, fewest_runs c.format-format.result)

@@ -1,4 +1,4 @@
-use Rattle.std.proofs.Common.{ℕ, List, subst, sym}
+use Rattle.std.proofs.Common.{ℕ, List, ◌≡◌, arith, subst, sym, ⊎_elim}
 use Rattle.std.specs.Io.KnownBytes.{Appends}
 use Rattle.cs_node.specs.Starts.{Start}
 use Rattle.cs_race.specs.Races.{Races}
@@ -9,3 +9,7 @@ returns-in-Ok-close-clause-closes g c small =
     let before = g.W.Write.contents c.args.writer.now in
     let after = g.W.Write.contents c.close.new.writer in
     subst (λ (s : Start). (out : List ℕ) × Races g.D.PageDisk s c.in-Ok-close.status out × Appends before after out) (sym c.requires.named.1) c.in-Ok-close.ensures.closes
+
+pub returns-in-Err-clause-refused : goal.returns-in-Err-clause-refused
+returns-in-Err-clause-refused g c is =
+    ⊎_elim (λ p. (c.in-Err.refusal, c.in-Err.ensures, p.1)) (λ (e : c.print_no_store.result ≡ 4). absurd (omega (arith, is, e))) c.print_no_store.ensures

@@ -5,6 +5,7 @@ use Rattle.cs_extent.specs.State.{shape}
 use Rattle.cs_frame.specs.declared.frames.FrameKind.TheVariants.{Chunk}
 use Rattle.cs_frame.specs.Frames.{spelled_frame}
 use Rattle.cs_model.specs.Extents.{ForMove}
+use Rattle.cs_frame.proofs.GeometryLaws.{bounds}
 use Rattle.cs_reclaim.specs.Moves.{chunk_frame}
 use Rattle.cs_reclaim.proofs.Moving.{exact_answers, exact_cause, exact_place, exact_refusals, full_move, not_full, not_worn, on_ok, small_payload, worn_move}
 use Rattle.cs_reclaim.proofs.sweeps.move_live.Given.{Over}
@@ -28,7 +29,7 @@ returns-in-Err-clause-worn g c = λ is. absurd (not_worn c.in-Err.refusal c.in-E
 
 pub encode_frame-requires : goal.encode_frame-requires
 encode_frame-requires g c =
-    let small : length c.in-Ok.payload.items < 2 ^ 32 = small_payload c.args.live.now.place.page c.args.extents.now.pages c.in-Ok.payload.items c.in-Ok.ensures.whole.geometry.most_pages c.in-Ok.ensures.size in
+    let small : length c.in-Ok.payload.items < 2 ^ 32 = small_payload c.args.live.now.place.page c.args.extents.now.pages c.in-Ok.payload.items (bounds _ _ _ _ c.in-Ok.ensures.whole.geometry).most_pages c.in-Ok.ensures.size in
     omega (arith, small, ap length c.deref.ensures.value)
 
 -- the frame is that of the payload

@@ -27,6 +27,17 @@ returns-then-is_some-clause-why c = still_live c
 pub returns-clause-nothing : goal.returns-clause-nothing
 returns-clause-nothing c = dead c.first_live.result _ _ c.first_live.ensures.found (sym c.is_some.ensures ∙ c.if-is_some.false)
 
+pub reset-requires-clause-closed : goal.reset-requires-clause-closed
+reset-requires-clause-closed c =
+    (merge_stays c.first_live.new.self c.args.extents.now c.args.graph.now ForMove c.in_ok-root.root c.args.commands c.stage_merged.new.self c.stage_merged.new.extents c.stage_merged.new.graph c.args.extent
+    c.in_ok-root.ensures.staged c.requires.swept).closed
+
+pub returns-clause-alive : goal.returns-clause-alive
+returns-clause-alive c = (
+  (λ is. absurd (cc is)),
+  (λ some. absurd (some (dead c.first_live.result _ _ c.first_live.ensures.found (sym c.is_some.ensures ∙ c.if-is_some.false)))),
+)
+
 pub reset-requires-clause-written : goal.reset-requires-clause-written
 reset-requires-clause-written c =
     (merge_stays c.first_live.new.self c.args.extents.now c.args.graph.now ForMove c.in_ok-root.root c.args.commands c.stage_merged.new.self c.stage_merged.new.extents c.stage_merged.new.graph c.args.extent

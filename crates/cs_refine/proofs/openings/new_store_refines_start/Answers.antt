@@ -3,6 +3,6 @@ use Rattle.cs_refine.proofs.Started.{new_started, written_started}
 
 pub returns : goal.returns
 returns c = record {
-  written = λ old writes extents pages sections limit geometry enough superblocks root. written_started old writes extents pages sections limit geometry enough superblocks root;
-  image = λ image extents pages sections limit geometry superblocks root. new_started image extents pages sections limit geometry superblocks root;
+  written = λ old writes format extents pages sections limit geometry enough superblocks root. written_started old writes format extents pages sections limit geometry enough superblocks root;
+  image = λ image format extents pages sections limit geometry superblocks root. new_started image format extents pages sections limit geometry superblocks root;
 }

@@ -1,8 +1,9 @@
 use Rattle.cs_refine.proofs.refusals.stage_refusals_agree.Goals as goal
-use Rattle.cs_refine.proofs.RefusedStages.{stage_full, stage_worn}
+use Rattle.cs_refine.proofs.RefusedStages.{stage_full, no_room_to_stage, stage_worn}
 
 pub returns : goal.returns
 returns c = record {
   full = λ x g i s whole are. stage_full x g i s whole are;
+  no_room = λ x g i s whole are. no_room_to_stage x g i s whole are;
   worn = λ x g i s whole are sound bounded room. stage_worn x g i s whole are sound bounded room;
 }

@@ -1,6 +1,7 @@
-use Rattle.std.proofs.Common.{◌∙◌, ◌<◌, ◌*◌, ◌+◌, ◌-◌, ◌/◌, ap, arith, length, subst, ℕ}
+use Rattle.std.proofs.Common.{◌∙◌, ◌<◌, ap, arith, length, subst, ℕ}
 use Rattle.std.proofs.lemmas.Option.{slice_get_within}
 use Rattle.cs_frame.specs.Frames.{page_count}
+use Rattle.cs_frame.specs.Geometries.{named_limit, run_bytes}
 use Rattle.cs_index.specs.State.{index_of}
 use Rattle.cs_model.specs.Index.{names}
 use Rattle.cs_survey.specs.Uses.{HasNoGarbage}
@@ -30,8 +31,8 @@ returns-then-dead-index_pages-clause-chosen g c = λ honest view chunks are live
   read = c.in_ok-uses.ensures.read honest view chunks are live;
   chooses = chooses_it c.extents.result.now c.args.core.now.store.extents c.in_ok-uses.uses.items c.deref.result.now c.in-Some.extent c.dead-dead.result c.named_count.result c.named_limit-limit.result c.frame_pages-index_pages.result c.index-2.result.now
       c.geometry.ensures.whole c.extents.ensures c.in_ok-uses.ensures.extents c.deref.ensures.value c.in-Some.ensures c.index-2.ensures c.dead-dead.ensures
-      (c.named_limit-limit.ensures ∙ ap (λ (p : ℕ). (4096 * p - 45) / 81) c.geometry.ensures.pages)
-      (c.frame_pages-index_pages.ensures ∙ ap (λ (n : ℕ). page_count (4 + 81 * n)) c.min-named.ensures)
+      (c.named_limit-limit.ensures ∙ ap named_limit c.geometry.ensures.pages)
+      (c.frame_pages-index_pages.ensures ∙ ap page_count c.run_bytes.ensures ∙ ap (λ (n : ℕ). page_count (run_bytes n)) c.min-named.ensures)
       (names (index_of c.args.core.now.store.index)) (c.named_count.ensures.count ∙ ap names (index_shown c.args.core.now.store.index c.index.result.now c.index.ensures.index))
       c.if-dead-index_pages.true;
 }
@@ -43,8 +44,8 @@ returns-clause-chosen g c = λ honest view chunks are live. record {
   read = c.in_ok-uses.ensures.read honest view chunks are live;
   chooses = chooses_none c.extents.result.now c.args.core.now.store.extents c.in_ok-uses.uses.items c.deref.result.now c.in-Some.extent c.dead-dead.result c.named_count.result c.named_limit-limit.result c.frame_pages-index_pages.result c.index-2.result.now
       c.geometry.ensures.whole c.extents.ensures c.in_ok-uses.ensures.extents c.deref.ensures.value c.in-Some.ensures c.index-2.ensures c.dead-dead.ensures
-      (c.named_limit-limit.ensures ∙ ap (λ (p : ℕ). (4096 * p - 45) / 81) c.geometry.ensures.pages)
-      (c.frame_pages-index_pages.ensures ∙ ap (λ (n : ℕ). page_count (4 + 81 * n)) c.min-named.ensures)
+      (c.named_limit-limit.ensures ∙ ap named_limit c.geometry.ensures.pages)
+      (c.frame_pages-index_pages.ensures ∙ ap page_count c.run_bytes.ensures ∙ ap (λ (n : ℕ). page_count (run_bytes n)) c.min-named.ensures)
       (names (index_of c.args.core.now.store.index)) (c.named_count.ensures.count ∙ ap names (index_shown c.args.core.now.store.index c.index.result.now c.index.ensures.index))
       c.if-dead-index_pages.false;
 }

@@ -32,7 +32,7 @@ pub returns-in-Err-clause-map : goal.returns-in-Err-clause-map
 returns-in-Err-clause-map g c m has honest =
     inl (c.in-Err.ensures.map m has, refused_put g.D.PageDisk c.args.id c.args.bytes.now c.args.store.now c.put.new.self (put_refusal c.in-Err.error) c.refusal.result c.refusal.ensures c.in-Err.ensures.refused)
 
-pub returns-then-bytes-gt-MOST-clause-crash : goal.returns-then-bytes-gt-MOST-clause-crash
-returns-then-bytes-gt-MOST-clause-crash g c honest =
+pub returns-then-bytes-most_bytes-clause-crash : goal.returns-then-bytes-most_bytes-clause-crash
+returns-then-bytes-most_bytes-clause-crash g c honest =
     let v = c.args.store.now in
     crash_now g.D.PageDisk v.disk (Left v v) (c.persistent.ensures.left honest) (λ image since. g.met.D.PageDisk.only_now v.disk image honest since)

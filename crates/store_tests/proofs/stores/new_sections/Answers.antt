@@ -9,7 +9,7 @@ loop-k-init c =
     record {
       size = ap length items;
       room = omega (arith, c.in_ok-sections.ensures.exact, c.from.ensures);
-      first = subst (AreFirst g.extents g.pages g.sections 0) (sym items) (none_first g.extents g.pages g.sections);
+      first = subst (AreFirst g.format g.extents g.pages g.sections 0) (sym items) (none_first g.format g.extents g.pages g.sections);
     }
 
 pub loop-k-preserved : goal.loop-k-preserved
@@ -23,14 +23,14 @@ loop-k-preserved c =
     record {
       size = omega (arith, c.push_reserved.ensures.len, c.loop-k.invariant.size, c.push_reserved.new.self.ok.0, c.loop-k.sections.ok.0);
       room = omega (arith, c.loop-k.invariant.room, c.push_reserved.ensures.capacity);
-      first = subst (AreFirst g.extents g.pages g.sections (c.loop-k.k + 1)) (sym items)
-          (more_first g.extents g.pages g.sections is c.loop-k.k c.loop-k.sections.items it c.loop-k.invariant.first
-          (is_section g.extents g.pages g.sections is c.loop-k.k lt it e.version e.extents e.pages e.sections e.section e.rows));
+      first = subst (AreFirst g.format g.extents g.pages g.sections (c.loop-k.k + 1)) (sym items)
+          (more_first g.format g.extents g.pages g.sections is c.loop-k.k c.loop-k.sections.items it c.loop-k.invariant.first
+          (is_section g.format g.extents g.pages g.sections is c.loop-k.k lt it e.format e.version e.extents e.pages e.sections e.section e.rows));
     }
 
 pub returns : goal.returns
 returns c =
     let g = c.args.geometry in
     let end : c.loop-k.k ≡ g.sections = omega (arith, c.loop-k-test.false, c.loop-k.auto.k-end, c.sections-count.ensures.sections) in
-    all_first g.extents g.pages g.sections c.sections-count.ensures.geometry c.loop-k.sections.items
-    (subst (λ (n : ℕ). AreFirst g.extents g.pages g.sections n c.loop-k.sections.items) end c.loop-k.invariant.first)
+    all_first g.format g.extents g.pages g.sections c.sections-count.ensures.geometry c.loop-k.sections.items
+    (subst (λ (n : ℕ). AreFirst g.format g.extents g.pages g.sections n c.loop-k.sections.items) end c.loop-k.invariant.first)

@@ -3,10 +3,11 @@ use Rattle.cs_extent.specs.State.{shape}
 use Rattle.cs_index.specs.State.{id_number}
 use Rattle.cs_model.specs.Index.{live}
 use Rattle.cs_core.specs.contracts.stores.Store.{the_view}
-use Rattle.cs_core.specs.Stored.{Stored, page_total}
+use Rattle.cs_core.specs.Stored.{Stored}
 use Rattle.cs_core.proofs.Gets.{found_live, get_absent, get_found_answers, get_refused_answers, none_left, some_left}
 use Rattle.cs_core.proofs.Kept.{found_there}
 use Rattle.cs_core.proofs.stores.Store.get.Goals as goal
+use Rattle.cs_image.specs.Reads.{page_total}
 
 pub returns-in_default-clause-step : goal.returns-in_default-clause-step
 returns-in_default-clause-step g c = rw (← c.self.view_is) (λ honest.

@@ -2,12 +2,13 @@ use Rattle.std.proofs.Common.{◌≡◌, ◌∙◌, ℕ, ap, le_of_eq, refl, sym
 use Rattle.cs_extent.specs.State.{extents_of, shape}
 use Rattle.cs_core.specs.contracts.stores.Store.{the_view}
 use Rattle.cs_core.specs.Reads.{MoveAnswers}
-use Rattle.cs_core.specs.Stored.{IsKept, Stored, page_total}
+use Rattle.cs_core.specs.Stored.{IsKept, Stored}
 use Rattle.cs_core.proofs.Going.{round_told}
 use Rattle.cs_core.proofs.KeptMoves.{kept_moved, move_behind, move_round}
 use Rattle.cs_core.proofs.MoveSteps.{move_answers, move_unswept}
 use Rattle.cs_core.proofs.SweepSteps.{unswept}
 use Rattle.cs_core.proofs.stores.Store.move_one.Goals as goal
+use Rattle.cs_image.specs.Reads.{page_total}
 
 pub returns-in_default-clause-step : goal.returns-in_default-clause-step
 returns-in_default-clause-step g c = rw (← c.self.view_is) (λ runs honest.

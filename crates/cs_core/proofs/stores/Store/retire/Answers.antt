@@ -1,4 +1,5 @@
-use Rattle.std.proofs.Common.{◌≡◌, ◌<◌, ◌++◌, ◌∷◌, ℕ, [], ap, arith, refl, sym, subst, true}
+use Rattle.std.proofs.Common.{◌≡◌, ◌<◌, ◌++◌, ◌∷◌, ℕ, [], Result, Ok, Err, OnOk, ap, arith, refl, sym, subst, false, true}
+use Rattle.std.specs.Result.{is_ok}
 use Rattle.cs_extent.specs.State.{State as ExtentsState, extents_of, shape}
 use Rattle.cs_deps.specs.declared.refusals.Refusal.TheVariants as code
 use Rattle.cs_deps.specs.State.{State as GraphState}
@@ -80,3 +81,11 @@ pub returns-in-Ok-clause-round : goal.returns-in-Ok-clause-round
 returns-in-Ok-clause-round c = rw (← c.self.view_is) (
     let s : Stored = the_view c.self.inside in
     ((moves_retired s.index s.extents s.graph c.in-Some.sweep c.in-Ok.version _ c.retire.new.index c.retire.new.extents c.retire.new.graph c.extent_count.ensures.whole.geometry.fewest_sections c.in-Ok.ensures.retired c.retire.ensures.shape).round, refl))
+
+-- what is ensured where it went well
+on_ok : {T E : Type 0} (r : Result T E) (P : Type 0) → is_ok r ≡ true → OnOk r P → P
+on_ok (Ok t) P is ensured = ensured
+on_ok (Err e) P is ensured = absurd (let clash : false ≡ true = is in cc clash)
+
+pub push_back_reserved-requires : goal.push_back_reserved-requires
+push_back_reserved-requires c = omega (arith, on_ok c.reserve.result _ c.if-is_err.ensures.negation c.reserve.ensures.ok)

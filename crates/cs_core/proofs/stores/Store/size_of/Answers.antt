@@ -3,11 +3,12 @@ use Rattle.cs_extent.specs.State.{shape}
 use Rattle.cs_index.specs.State.{id_number, index_of}
 use Rattle.cs_model.specs.Index.{live, live_at}
 use Rattle.cs_core.specs.contracts.stores.Store.{the_view}
-use Rattle.cs_core.specs.Stored.{Stored, page_total}
+use Rattle.cs_core.specs.Stored.{Stored}
 use Rattle.cs_core.proofs.Gets.{found_live, none_left, some_left}
 use Rattle.cs_core.proofs.Sizes.{none_said, refusal_said, size_absent, size_found, size_refused, some_said}
 use Rattle.cs_core.proofs.Kept.{found_there}
 use Rattle.cs_core.proofs.stores.Store.size_of.Goals as goal
+use Rattle.cs_image.specs.Reads.{page_total}
 
 pub returns-in_default-clause-size : goal.returns-in_default-clause-size
 returns-in_default-clause-size g c = rw (← c.self.view_is) (λ honest.

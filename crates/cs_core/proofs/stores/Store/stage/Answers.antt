@@ -35,55 +35,55 @@ pub invariant_of-self-in-Err : goal.invariant_of-self-in-Err
 invariant_of-self-in-Err c =
     let s : Stored = the_view c.self.inside in
     let e = c.stage.ensures in
-    let m = stage_moves c.stage.result _ s.index s.extents s.graph c.stage.new.self c.stage.new.extents c.stage.new.graph c.extent_count.ensures.whole.geometry.fewest_sections e.unchanged e.staged e.merged e.refused e.unwritten e.unstaged in
+    let m = stage_moves c.stage.result _ s.index s.extents s.graph c.stage.new.self c.stage.new.extents c.stage.new.graph c.extent_count.ensures.whole.geometry.fewest_sections e.unchanged e.staged e.refused e.unwritten e.unstaged in
     kept_on s (record s { extents = c.stage.new.extents; graph = c.stage.new.graph; out = c.stage.new.graph.round; index = c.stage.new.self; roots = c.reserve.new.self.items }) c.self.invariant m.0 e.resets e.families m.1
     (inside_live (shape s.extents) s.index c.stage.new.self c.self.invariant.places e.map) m.0.round refl c.self.invariant.numbers
-    (swept_staged c.stage.result _ s.index s.extents s.graph c.stage.new.self c.stage.new.extents c.stage.new.graph e.unchanged e.staged e.merged e.unwritten c.self.invariant.swept)
+    (swept_staged c.stage.result _ s.index s.extents s.graph c.stage.new.self c.stage.new.extents c.stage.new.graph e.unchanged e.staged e.unwritten c.self.invariant.swept)
     (noted_on s c.self.invariant c.stage.new.graph (ap last_root c.in-Err.ensures.unstaged) c.reserve.new.self.items c.reserve.ensures.items s.accepted (omega arith))
 
 pub invariant_of-self-in-Ok-Some : goal.invariant_of-self-in-Ok-Some
 invariant_of-self-in-Ok-Some c =
     let s : Stored = the_view c.self.inside in
     let e = c.stage.ensures in
-    let m = stage_moves c.stage.result _ s.index s.extents s.graph c.stage.new.self c.stage.new.extents c.stage.new.graph c.extent_count.ensures.whole.geometry.fewest_sections e.unchanged e.staged e.merged e.refused e.unwritten e.unstaged in
+    let m = stage_moves c.stage.result _ s.index s.extents s.graph c.stage.new.self c.stage.new.extents c.stage.new.graph c.extent_count.ensures.whole.geometry.fewest_sections e.unchanged e.staged e.refused e.unwritten e.unstaged in
     kept_on s (record s { extents = c.stage.new.extents; graph = c.stage.new.graph; out = c.stage.new.graph.round; index = c.stage.new.self; roots = c.push_back_reserved.new.self.items }) c.self.invariant m.0 e.resets e.families m.1
     (inside_live (shape s.extents) s.index c.stage.new.self c.self.invariant.places e.map) m.0.round refl c.self.invariant.numbers
-    (swept_staged c.stage.result _ s.index s.extents s.graph c.stage.new.self c.stage.new.extents c.stage.new.graph e.unchanged e.staged e.merged e.unwritten c.self.invariant.swept)
+    (swept_staged c.stage.result _ s.index s.extents s.graph c.stage.new.self c.stage.new.extents c.stage.new.graph e.unchanged e.staged e.unwritten c.self.invariant.swept)
     (noted_staged s c.self.invariant c.families.ensures.whole.kept c.stage.new.graph c.in-Ok-Some.version
-    (root_staged c.stage.result _ s.index s.extents s.graph c.stage.new.self c.stage.new.extents c.stage.new.graph e.staged e.merged (omega (arith, e.families, c.self.invariant.families, c.extent_count.ensures.whole.geometry.fewest_sections)) c.in-Ok-Some.version (search rules))
+    (root_staged c.stage.result _ s.index s.extents s.graph c.stage.new.self c.stage.new.extents c.stage.new.graph e.staged (omega (arith, e.families, c.self.invariant.families, c.extent_count.ensures.whole.geometry.fewest_sections)) c.in-Ok-Some.version (search rules))
     c.push_back_reserved.new.self.items (pushed_last c.push_back_reserved.new.self.items c.reserve.new.self.items s.roots _ c.push_back_reserved.ensures.items c.reserve.ensures.items))
 
 pub returns-in-Ok-Some-clause-shape : goal.returns-in-Ok-Some-clause-shape
 returns-in-Ok-Some-clause-shape c = rw (← c.self.view_is) (
     let s : Stored = the_view c.self.inside in
     let e = c.stage.ensures in
-    (stage_moves c.stage.result _ s.index s.extents s.graph c.stage.new.self c.stage.new.extents c.stage.new.graph c.extent_count.ensures.whole.geometry.fewest_sections e.unchanged e.staged e.merged e.refused e.unwritten e.unstaged).0.same_shape)
+    (stage_moves c.stage.result _ s.index s.extents s.graph c.stage.new.self c.stage.new.extents c.stage.new.graph c.extent_count.ensures.whole.geometry.fewest_sections e.unchanged e.staged e.refused e.unwritten e.unstaged).0.same_shape)
 
 pub returns-in-Ok-Some-clause-step : goal.returns-in-Ok-Some-clause-step
 returns-in-Ok-Some-clause-step c = rw (← c.self.view_is) (λ runs.
     let v : Stored = the_view c.self.inside in
     let e = c.stage.ensures in
     let done : c.stage.result ≡ Ok (Some c.in-Ok-Some.version) = search rules in
-    let why = subst (λ r. IsExact r (IsFull (WritesRun v.index) v.extents ForRun) ((v.index.table ≡ [] → ⊥) × IsStageWorn (WritesRun v.index) v.extents ForRun v.graph.staging)) done e.why in
-    let m = stage_moves c.stage.result _ v.index v.extents v.graph c.stage.new.self c.stage.new.extents c.stage.new.graph c.extent_count.ensures.whole.geometry.fewest_sections e.unchanged e.staged e.merged e.refused e.unwritten e.unstaged in
+    let why = subst (λ r. IsExact r (IsFull (WritesRun (shape v.extents) v.index) v.extents ForRun) ((v.index.table ≡ [] → ⊥) × IsStageWorn (WritesRun (shape v.extents) v.index) v.extents ForRun v.graph.staging)) done e.why in
+    let m = stage_moves c.stage.result _ v.index v.extents v.graph c.stage.new.self c.stage.new.extents c.stage.new.graph c.extent_count.ensures.whole.geometry.fewest_sections e.unchanged e.staged e.refused e.unwritten e.unstaged in
     round_told (λ (u : Stored). Steps v Stage (Staged c.in-Ok-Some.version) u) (record v { graph = c.stage.new.graph; extents = c.stage.new.extents; index = c.stage.new.self; roots = c.push_back_reserved.new.self.items }) m.0.round (stage_steps v c.extent_count.ensures.whole runs c.in-Ok-Some.version c.stage.new.extents c.stage.new.graph c.stage.new.self c.push_back_reserved.new.self.items why.0 why.1 (staged_some c.stage.result (v.index.table ≡ []) c.in-Ok-Some.version e.none done)
-    (λ few. e.staged c.in-Ok-Some.version done few) (λ many. e.merged c.in-Ok-Some.version done many) m.0.same_shape
+    (e.staged c.in-Ok-Some.version done) m.0.same_shape
     (pushed_last c.push_back_reserved.new.self.items c.reserve.new.self.items v.roots _ c.push_back_reserved.ensures.items c.reserve.ensures.items)))
 
 pub returns-in-Ok-Some-clause-staged : goal.returns-in-Ok-Some-clause-staged
 returns-in-Ok-Some-clause-staged c =
     let s : Stored = the_view c.self.inside in
     let e = c.stage.ensures in
-    stage_empties c.stage.result _ s.index s.extents s.graph c.stage.new.self c.stage.new.extents c.stage.new.graph e.staged e.merged c.in-Ok-Some.version (search rules)
+    stage_empties c.stage.result _ s.index s.extents s.graph c.stage.new.self c.stage.new.extents c.stage.new.graph e.staged c.in-Ok-Some.version (search rules)
 
 pub returns-in-Ok-Some-clause-behind : goal.returns-in-Ok-Some-clause-behind
 returns-in-Ok-Some-clause-behind c = rw (← c.self.view_is) (
     let s : Stored = the_view c.self.inside in
     let e = c.stage.ensures in
-    (stage_moves c.stage.result _ s.index s.extents s.graph c.stage.new.self c.stage.new.extents c.stage.new.graph c.extent_count.ensures.whole.geometry.fewest_sections e.unchanged e.staged e.merged e.refused e.unwritten e.unstaged).0.behind)
+    (stage_moves c.stage.result _ s.index s.extents s.graph c.stage.new.self c.stage.new.extents c.stage.new.graph c.extent_count.ensures.whole.geometry.fewest_sections e.unchanged e.staged e.refused e.unwritten e.unstaged).0.behind)
 
 pub returns-in-Ok-Some-clause-round : goal.returns-in-Ok-Some-clause-round
 returns-in-Ok-Some-clause-round c = rw (← c.self.view_is) (
     let s : Stored = the_view c.self.inside in
     let e = c.stage.ensures in
-    ((stage_moves c.stage.result _ s.index s.extents s.graph c.stage.new.self c.stage.new.extents c.stage.new.graph c.extent_count.ensures.whole.geometry.fewest_sections e.unchanged e.staged e.merged e.refused e.unwritten e.unstaged).0.round, refl))
+    ((stage_moves c.stage.result _ s.index s.extents s.graph c.stage.new.self c.stage.new.extents c.stage.new.graph c.extent_count.ensures.whole.geometry.fewest_sections e.unchanged e.staged e.refused e.unwritten e.unstaged).0.round, refl))

@@ -1,4 +1,5 @@
 use Rattle.std.proofs.Common.{add-one, arith, refl}
+use Rattle.cs_frame.proofs.GeometryLaws.{bounds}
 use Rattle.cs_extent.specs.Purposes.{reason_of}
 use Rattle.cs_extent.specs.State.{extents_of, shape}
 use Rattle.cs_extent.proofs.Worn.{counted_all, counted_more, counted_none, place_is, way_inside}
@@ -22,13 +23,13 @@ section-requires c =
     (c.requires.pages c.loop-pages.pages-index 0 c.loop-pages-test.true).0 c.goes_on-way.result c.goes_on-way.ensures.stays c.goes_on-way.ensures.opens
 
 pub count-requires : goal.count-requires
-count-requires c = omega (arith, c.section.ensures.inside, c.room.ensures.whole.geometry.most_sections)
+count-requires c = omega (arith, c.section.ensures.inside, (bounds _ _ _ _ c.room.ensures.whole.geometry).most_sections)
 
 pub loop-pages-preserved : goal.loop-pages-preserved
 loop-pages-preserved c =
     rw add-one (counted_more (shape c.args.self.now) (extents_of c.args.self.now) (reason_of c.args.purpose) c.args.frame_pages.now c.loop-pages.pages-index c.loop-pages.way c.loop-pages.counts c.loop-pages.invariant c.loop-pages-test.true
     (c.requires.pages c.loop-pages.pages-index 0 c.loop-pages-test.true).0 c.goes_on-way.result c.goes_on-way.ensures.stays c.goes_on-way.ensures.opens
-    c.section.result c.section.ensures.section (omega (arith, c.section.ensures.inside, c.room.ensures.whole.geometry.most_sections)) c.count.new.counts c.count.ensures)
+    c.section.result c.section.ensures.section (omega (arith, c.section.ensures.inside, (bounds _ _ _ _ c.room.ensures.whole.geometry).most_sections)) c.count.new.counts c.count.ensures)
 
 pub returns : goal.returns
 returns c =

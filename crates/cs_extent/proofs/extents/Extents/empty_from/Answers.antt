@@ -1,5 +1,6 @@
 use Rattle.std.proofs.Common.{◌≡◌, ◌<◌, ◌≤◌, ℕ, arith, sym, subst, ⊎_elim}
 use Rattle.std.proofs.lemmas.Bool.{cases_lt}
+use Rattle.cs_frame.proofs.GeometryLaws.{bounds}
 use Rattle.cs_extent.specs.State.{extents_of}
 use Rattle.cs_extent.proofs.extents.Extents.empty_from.Goals as goal
 
@@ -15,7 +16,7 @@ returns-then-is_empty-clause-empty c = record {
 }
 
 pub returns-then-is_empty-clause-small : goal.returns-then-is_empty-clause-small
-returns-then-is_empty-clause-small c = omega (arith, c.loop-e-test.true, c.extent_count-e-end.ensures.count, c.extent_count-e-end.ensures.whole.geometry.most_extents)
+returns-then-is_empty-clause-small c = omega (arith, c.loop-e-test.true, c.extent_count-e-end.ensures.count, (bounds _ _ _ _ c.extent_count-e-end.ensures.whole.geometry).most_extents)
 
 pub loop-e-preserved : goal.loop-e-preserved
 loop-e-preserved c = λ d le lt. ⊎_elim

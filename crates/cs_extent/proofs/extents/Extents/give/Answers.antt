@@ -5,6 +5,7 @@ use Rattle.cs_deps.specs.State.{write_of}
 use Rattle.cs_model.specs.Extents.{Extents, taken}
 use Rattle.std.specs.Prelude.{◌↔◌}
 use Rattle.cs_frame.specs.Geometries.{section_length, section_start}
+use Rattle.cs_frame.proofs.GeometryLaws.{bounds}
 use Rattle.cs_extent.specs.Frames.{AddsOnlyOf, IsOfFrame, IsVersionUpTo, IsWorn, family_of, next_section, root_family}
 use Rattle.cs_extent.specs.State.{SpellsExtents, State, extents_of, need_of, shape}
 use Rattle.cs_extent.proofs.Changes.{greatest_within}
@@ -34,12 +35,12 @@ stage_frame-requires-clause-need c =
 
 pub on_versions-requires : goal.on_versions-requires
 on_versions-requires c =
-    omega (arith, c.section_family-family.ensures, family_small c.section-section.result, c.section-section.ensures.inside, c.geometry-geometry.ensures.whole.geometry.most_sections)
+    omega (arith, c.section_family-family.ensures, family_small c.section-section.result, c.section-section.ensures.inside, (bounds _ _ _ _ c.geometry-geometry.ensures.whole.geometry).most_sections)
 
 pub returns-clause-staged : goal.returns-clause-staged
 returns-clause-staged c =
-    framed c.args.graph.now.staging c.stage_frame.new.graph.staging c.args.self.now c.sections-sections.result c.section-section.result ((shape c.args.self.now).section c.args.extent) (length c.args.frame.now) c.root_of-root.result ((extents_of c.args.self.now).reset c.args.extent) c.need-need.result
-    c.stage_frame.ensures.staged (c.sections-sections.ensures.sections ∙ c.geometry-geometry.ensures.sections) c.section-section.ensures.section c.root_of-root.ensures c.need-need.ensures
+    framed c.args.graph.now.staging c.stage_frame.new.graph.staging c.args.self.now c.pages_first-pages_first.result c.sections-sections.result c.section-section.result ((shape c.args.self.now).section c.args.extent) (length c.args.frame.now) c.root_of-root.result ((extents_of c.args.self.now).reset c.args.extent) c.need-need.result
+    c.stage_frame.ensures.staged c.pages_first-pages_first.ensures (c.sections-sections.ensures.sections ∙ c.geometry-geometry.ensures.sections) c.section-section.ensures.section c.root_of-root.ensures c.need-need.ensures
 
 pub returns-clause-pages : goal.returns-clause-pages
 returns-clause-pages c =
@@ -77,7 +78,7 @@ returns-clause-resets c =
     let new : Extents = extents_of c.take.new.self in
     let same : new ≡ taken (shape c.args.self.now) (extents_of c.args.self.now) c.args.extent (length c.args.frame.now) = c.take.ensures.extents in
     resets_still (extents_of c.args.self.now) new c.args.graph.now.staging c.stage_frame.new.graph.staging (λ e. ap (λ (x : Extents). x.reset e) same)
-    (frame_root c.args.graph.now.staging c.stage_frame.new.graph.staging c.sections-sections.result c.section-section.result (length c.args.frame.now) c.root_of-root.result c.need-need.result c.stage_frame.ensures.staged) c.requires.resets
+    (frame_root c.args.graph.now.staging c.stage_frame.new.graph.staging c.pages_first-pages_first.result c.sections-sections.result c.section-section.result (length c.args.frame.now) c.root_of-root.result c.need-need.result c.stage_frame.ensures.staged) c.requires.resets
 
 pub returns-clause-families : goal.returns-clause-families
-returns-clause-families c = frame_families c.args.graph.now.staging c.stage_frame.new.graph.staging c.sections-sections.result c.section-section.result (length c.args.frame.now) c.root_of-root.result c.need-need.result c.stage_frame.ensures.staged
+returns-clause-families c = frame_families c.args.graph.now.staging c.stage_frame.new.graph.staging c.pages_first-pages_first.result c.sections-sections.result c.section-section.result (length c.args.frame.now) c.root_of-root.result c.need-need.result c.stage_frame.ensures.staged

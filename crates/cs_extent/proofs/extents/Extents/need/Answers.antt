@@ -12,7 +12,7 @@ greatest_of-requires c =
     let inside = rw (← c.self.view_is) at c.requires in
     let start : c.section_start-start.result ≡ section_start (length s.written) s.sections c.args.section = c.section_start-start.ensures ∙ ap (λ (n : ℕ). section_start n s.sections c.args.section) c.self.invariant.extents in
     let count : c.section_length-count.result ≡ section_length (length s.written) s.sections c.args.section = c.section_length-count.ensures ∙ ap (λ (n : ℕ). section_length n s.sections c.args.section) c.self.invariant.extents in
-    omega (arith, start, count, end_inside (length s.written) s.pages s.sections c.args.section c.self.invariant.whole.geometry inside, c.self.invariant.whole.all_resets, ap length c.deref.ensures.value)
+    omega (arith, start, count, end_inside s.format (length s.written) s.pages s.sections c.args.section c.self.invariant.whole.geometry inside, c.self.invariant.whole.all_resets, ap length c.deref.ensures.value)
 
 pub returns : goal.returns
 returns c =

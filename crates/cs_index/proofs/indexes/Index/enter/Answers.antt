@@ -1,32 +1,75 @@
-use Rattle.std.proofs.Common.{◌≡◌, ◌≢◌, ◌⊎◌, ◌<◌, List, arith, map, sym, subst, MatchBool, None}
+use Rattle.std.proofs.Common.{◌≡◌, ◌≢◌, ◌⊎◌, ◌+◌, ◌-◌, ◌<◌, ◌≤◌, ◌∙◌, List, ap, arith, map, sym, subst, MatchBool, None}
 use Rattle.std.specs.Prelude.{option_map}
 use Rattle.std.proofs.lemmas.List.{length-map}
-use Rattle.cs_model.specs.Index.{lookup, names}
+use Rattle.cs_model.specs.Index.{live_at, lookup, names}
+use Rattle.cs_model.specs.Tally.{one_if_some, shards}
 use Rattle.cs_frame.specs.Formats.{place_of}
 use Rattle.cs_frame.specs.declared.locators.Locator.{Locator}
 use Rattle.cs_index.specs.Live.{NoneOn}
-use Rattle.cs_index.specs.State.{IsAfter, State, id_number, index_of, state_of}
+use Rattle.cs_index.specs.contracts.indexes.Index.{the_view}
+use Rattle.cs_index.specs.State.{IsAfter, IsSet, State, id_number, index_of, state_of}
 use Rattle.cs_index.proofs.Living.{still_clear}
+use Rattle.cs_index.proofs.Shards.{counted_no_more, lives_then, shards_few}
 use Rattle.cs_index.proofs.Whole.{enter_count, enter_set, enter_whole}
 use Rattle.cs_index.proofs.indexes.Index.enter.Goals as goal
+use Rattle.cs_index.proofs.indexes.Index.enter.Goals.{After-count_after-self-inside}
+
+-- the index before and after
+abbrev before_put : After-count_after-self-inside → State
+before_put c = the_view c.self.inside
+
+abbrev after_put : After-count_after-self-inside → State
+after_put c = state_of c.put.new.entries.items c.self.inside.runs.items c.self.inside.limit c.in_ok-left.left
+
+set_there : (c : After-count_after-self-inside) → IsSet (before_put c) (id_number c.args.id) (map place_of c.args.locators.items) (after_put c)
+set_there c = enter_set c.self.inside.table.entries.items c.put.new.entries.items c.self.inside.runs.items c.self.inside.limit c.self.inside.room c.in_ok-left.left (id_number c.args.id) (map place_of c.args.locators.items) c.in_ok-left.ensures.put
+
+lived : (c : After-count_after-self-inside) → c.standing-standing.result.1 ≡ one_if_some (live_at (index_of (before_put c)) (id_number c.args.id))
+lived c = subst (λ (s : State). c.standing-standing.result.1 ≡ one_if_some (live_at (index_of s) (id_number c.args.id))) (sym c.self.view_is) c.standing-standing.ensures.lives
+
+lives_now : (c : After-count_after-self-inside) → c.one_if_living-lives.result ≡ one_if_some (map place_of c.args.locators.items)
+lives_now c = c.one_if_living-lives.ensures ∙ ap (λ (ls : List Locator). one_if_some (map place_of ls)) c.deref.ensures.value
+
+lives_there : (c : After-count_after-self-inside) → (c.self.inside.living - c.standing-standing.result.1) + c.one_if_living-lives.result ≡ shards (index_of (after_put c))
+lives_there c = lives_then (index_of (before_put c)) (index_of (after_put c)) (id_number c.args.id) (map place_of c.args.locators.items) (set_there c).index c.self.inside.living c.standing-standing.result.1 c.one_if_living-lives.result c.self.invariant.lives (lived c) (lives_now c)
+
+few_there : (c : After-count_after-self-inside) → names (index_of (after_put c)) ≤ c.self.inside.limit
+few_there c =
+    let i = c.self.inside in
+    let known = subst (λ (s : State). MatchBool c.standing-standing.result.0 (lookup (id_number c.args.id) (index_of s) ≢ None) (lookup (id_number c.args.id) (index_of s) ≡ None)) (sym c.self.view_is) c.standing-standing.ensures.known in
+    let limit = subst (λ (s : State). lookup (id_number c.args.id) (index_of s) ≡ None → names (index_of s) < s.limit) (sym c.self.view_is) c.requires.limit in
+    let whole = enter_whole i.table.entries.items c.put.new.entries.items i.runs.items i.limit i.room c.in_ok-left.left (id_number c.args.id) i.named c.count_after-self-inside.result (map place_of c.args.locators.items) c.standing-standing.result.0
+    c.in_ok-left.ensures.put (omega (arith, length-map c.args.locators.items place_of, c.requires.short)) c.self.invariant.count known limit c.count_after-self-inside.ensures c.self.invariant.whole in
+    whole.named
+
+pub living_after-self-inside-requires-clause-less : goal.living_after-self-inside-requires-clause-less
+living_after-self-inside-requires-clause-less c =
+    let at = (goal.at.living_after-self-inside-requires-clause-less c).After-count_after-self-inside in
+    counted_no_more (index_of (before_put at)) (index_of (after_put at)) (id_number c.args.id) (map place_of c.args.locators.items) (set_there at).index c.self.inside.living c.standing-standing.result.1 c.one_if_living-lives.result c.self.invariant.lives (lived at) (lives_now at)
+
+pub living_after-self-inside-requires-clause-fits : goal.living_after-self-inside-requires-clause-fits
+living_after-self-inside-requires-clause-fits c =
+    let at = (goal.at.living_after-self-inside-requires-clause-fits c).After-count_after-self-inside in
+    omega (arith, lives_there at, shards_few (index_of (after_put at)), few_there at)
 
 pub invariant_of-self-2 : goal.invariant_of-self-2
 invariant_of-self-2 c =
     let i = c.self.inside in
-    let known = subst (λ (s : State). MatchBool c.is_known-known.result (lookup (id_number c.args.id) (index_of s) ≢ None) (lookup (id_number c.args.id) (index_of s) ≡ None)) (sym c.self.view_is) c.is_known-known.ensures in
+    let known = subst (λ (s : State). MatchBool c.standing-standing.result.0 (lookup (id_number c.args.id) (index_of s) ≢ None) (lookup (id_number c.args.id) (index_of s) ≡ None)) (sym c.self.view_is) c.standing-standing.ensures.known in
     let limit = subst (λ (s : State). lookup (id_number c.args.id) (index_of s) ≡ None → names (index_of s) < s.limit) (sym c.self.view_is) c.requires.limit in
     record {
-      whole = enter_whole i.table.entries.items c.put.new.entries.items i.runs.items i.limit i.room c.in_ok-left.left (id_number c.args.id) i.named c.count_after-self-inside.result (map place_of c.args.locators.items) c.is_known-known.result
+      whole = enter_whole i.table.entries.items c.put.new.entries.items i.runs.items i.limit i.room c.in_ok-left.left (id_number c.args.id) i.named c.count_after-self-inside.result (map place_of c.args.locators.items) c.standing-standing.result.0
           c.in_ok-left.ensures.put (omega (arith, length-map c.args.locators.items place_of, c.requires.short)) c.self.invariant.count known limit c.count_after-self-inside.ensures c.self.invariant.whole;
       ids = c.in_ok-left.ensures.ids;
-      count = enter_count i.table.entries.items c.put.new.entries.items i.runs.items i.limit i.room c.in_ok-left.left (id_number c.args.id) i.named c.count_after-self-inside.result (map place_of c.args.locators.items) c.is_known-known.result
+      count = enter_count i.table.entries.items c.put.new.entries.items i.runs.items i.limit i.room c.in_ok-left.left (id_number c.args.id) i.named c.count_after-self-inside.result (map place_of c.args.locators.items) c.standing-standing.result.0
           c.in_ok-left.ensures.put c.self.invariant.count known c.count_after-self-inside.ensures;
+      lives = c.living_after-self-inside.ensures ∙ lives_there (goal.at.invariant_of-self-2 c).After-count_after-self-inside;
       fits = c.in_ok-left.ensures.fits;
       clear = still_clear (index_of (state_of i.table.entries.items i.runs.items i.limit i.room)) (index_of (state_of c.put.new.entries.items i.runs.items i.limit c.in_ok-left.left)) (id_number c.args.id) (map place_of c.args.locators.items)
           (enter_set i.table.entries.items c.put.new.entries.items i.runs.items i.limit i.room c.in_ok-left.left (id_number c.args.id) (map place_of c.args.locators.items) c.in_ok-left.ensures.put).index
           i.cleared c.still_cleared-cleared.result
           (subst (λ (ls : List Locator). ((c.still_cleared-cleared.result ≡ i.cleared) × (IsAfter (option_map id_number i.cleared.up_to) (id_number c.args.id) ⊎ NoneOn (map place_of ls) i.cleared.extent)) ⊎ (c.still_cleared-cleared.result.up_to ≡ None))
-          c.deref.ensures.value c.still_cleared-cleared.ensures)
+          c.deref-2.ensures.value c.still_cleared-cleared.ensures)
           c.self.invariant.clear;
     }
 

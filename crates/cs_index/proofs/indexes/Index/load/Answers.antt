@@ -1,10 +1,11 @@
-use Rattle.std.proofs.Common.{◌∙◌, ◌<◌, ◌^◌, ap, arith, length, subst, sym, List}
+use Rattle.std.proofs.Common.{◌∙◌, ◌++◌, ◌<◌, ◌^◌, [], ap, arith, length, map, subst, sym, List}
 use Rattle.std.specs.List.{AllByRecursion}
 use Rattle.cs_index.specs.declared.runs.StoredRun.{StoredRun}
 use Rattle.cs_model.specs.Index.{entries_of, names}
-use Rattle.cs_index.specs.State.{IsId, IsStored, index_of, newest_first, state_of}
+use Rattle.cs_model.specs.Tally.{shards}
+use Rattle.cs_index.specs.State.{IsId, IsStored, index_of, named_entry, newest_first, state_of}
 use Rattle.cs_index.proofs.Living.{none_at_first}
-use Rattle.cs_index.proofs.Whole.{empty_whole, lengths_of, no_ids, stored_runs}
+use Rattle.cs_index.proofs.Whole.{Entries, empty_whole, lengths_of, no_ids, stored_runs}
 use Rattle.cs_index.proofs.indexes.Index.load.Goals as goal
 use Rattle.cs_index.proofs.indexes.Index.load.Goals.{After-deref-2}
 
@@ -20,6 +21,19 @@ pub count_names-named-requires-clause-short : goal.count_names-named-requires-cl
 count_names-named-requires-clause-short c =
     subst (λ (runs : List StoredRun). AllByRecursion (λ run. length run.entries.items < 2 ^ 32) runs) (sym c.deref-2.ensures.value) (lengths_of c.args.runs.items c.requires.runs)
 
+pub count_living-living-requires-clause-readable : goal.count_living-living-requires-clause-readable
+count_living-living-requires-clause-readable c = rw (c.deref-3.ensures.value) (record {
+  ascending = tt;
+  short = tt;
+  stored = stored (goal.at.count_living-living-requires-clause-readable c).After-deref-2;
+  few = c.requires.few;
+})
+
+pub count_living-living-requires-clause-few : goal.count_living-living-requires-clause-few
+count_living-living-requires-clause-few c =
+    let same = ap (λ (runs : List StoredRun). names (entries_of (newest_first runs))) (c.deref-2.ensures.value ∙ sym c.deref-3.ensures.value) in
+    omega (arith, c.count_names-named.ensures, same)
+
 pub invariant_of-result : goal.invariant_of-result
 invariant_of-result c =
     let all = empty_whole c.args.runs.items c.args.limit c.count_names-named.result c.new.result.items c.new.ensures.items (stored (goal.at.invariant_of-result c).After-deref-2) c.requires.few
@@ -28,6 +42,9 @@ invariant_of-result c =
       whole = all.0;
       ids = no_ids c.new.result.items c.new.ensures.items;
       count = all.1;
+      lives = c.count_living-living.ensures
+          ∙ ap (λ (runs : List StoredRun). shards (map named_entry [] ++ entries_of (newest_first runs))) c.deref-3.ensures.value
+          ∙ ap (λ (xs : Entries). shards (map named_entry xs ++ entries_of (newest_first c.args.runs.items))) (sym c.new.ensures.items);
       fits = omega (arith, c.new.ensures.len);
       clear = none_at_first (index_of (state_of c.new.result.items c.args.runs.items c.args.limit 0)) 0;
     }

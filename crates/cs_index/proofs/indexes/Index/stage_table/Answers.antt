@@ -1,14 +1,18 @@
-use Rattle.std.proofs.Common.{◌∙◌, ◌≡◌, ◌≢◌, ◌<◌, ◌≤◌, [], ◌∷◌, arith, ap, length, map, subst, sym, List, refl, Vec, vec_len}
+use Rattle.std.proofs.Common.{◌∙◌, ◌≡◌, ◌≢◌, ◌<◌, ◌≤◌, [], ◌∷◌, Ok, Err, false, arith, ap, length, map, subst, sym, List, ℕ, Vec, vec_len}
 use Rattle.std.specs.declared.alloc.Global.{Global}
 use Rattle.cs_frame.specs.declared.identifiers.ShardId.{ShardId}
 use Rattle.cs_frame.specs.declared.locators.Locator.{Locator}
-use Rattle.cs_model.specs.Element.{Entry}
+use Rattle.cs_model.specs.Element.{Entry, Run}
+use Rattle.cs_model.specs.Extents.{ForRun}
 use Rattle.cs_model.specs.Index.{names}
+use Rattle.cs_frame.proofs.GeometryLaws.{bounds}
+use Rattle.cs_model.specs.Tally.{shards}
 use Rattle.cs_index.specs.contracts.indexes.Index.{the_view}
 use Rattle.cs_frame.specs.Formats.{place_of}
 use Rattle.cs_index.specs.Live.{IsClear}
+use Rattle.cs_index.specs.Staged.{IsRunStaged}
 use Rattle.cs_index.specs.State.{index_of, named_entry, newest_first, state_of}
-use Rattle.cs_index.proofs.Exact.{table_staged}
+use Rattle.cs_index.proofs.Exact.{exact_table, part_one, table_run}
 use Rattle.cs_index.proofs.Staging.{is_run, pushed_index, pushed_runs, pushed_whole, table_few}
 use Rattle.cs_index.proofs.Whole.{length-newest, no_ids}
 use Rattle.cs_index.proofs.indexes.Index.stage_table.Goals as goal
@@ -27,7 +31,7 @@ pub stage_run-requires-clause-run : goal.stage_run-requires-clause-run
 stage_run-requires-clause-run c =
     let limit = rw (← c.self.view_is) at c.requires.limit in
     is_run (record { entries = c.self.inside.table.entries }) c.args.extents.now.pages c.self.invariant.ids c.self.invariant.whole.ascending c.self.invariant.whole.short (some_entries c)
-    c.extent_count-extents.ensures.whole.geometry.most_pages (omega (arith, most_entries c, limit))
+    (bounds _ _ _ _ c.extent_count-extents.ensures.whole.geometry).most_pages (omega (arith, most_entries c, limit))
 
 pub stage_run-requires-clause-most : goal.stage_run-requires-clause-most
 stage_run-requires-clause-most c =
@@ -38,7 +42,9 @@ stage_run-requires-clause-few c =
     omega (arith, few_runs c, length-newest c.self.inside.runs.items, ap length (c.deref.ensures.value ∙ c.in_ok-reserve.ensures.items))
 
 pub returns-in-Err-clause-why : goal.returns-in-Err-clause-why
-returns-in-Err-clause-why c = let w = c.in-Err.ensures.why in rw (← c.self.view_is) w
+returns-in-Err-clause-why c =
+    let some = some_entries (goal.at.returns-in-Err-clause-why c).After-deref in
+    rw (← c.self.view_is) (exact_table {T = ℕ} (the_view c.self.inside) c.args.extents.now c.args.graph.now.staging (Err c.in-Err.refusal) c.self.invariant.whole.ascending some c.in-Err.ensures.why)
 
 none_left : (c : After-push_reserved) → c.replace-entries.new.dest.items ≡ []
 none_left c = ap (λ (v : Vec (ShardId × Vec Locator Global) Global). v.items) c.replace-entries.ensures.after ∙ c.new.ensures.items
@@ -56,6 +62,13 @@ index_is c =
     pushed_index c.self.inside.table.entries.items c.replace-entries.new.dest.items c.self.inside.runs.items c.reserve.new.self.items c.push_reserved.new.self.items (record { place = c.in-Ok.place; entries = c.replace-entries.result })
     c.push_reserved.ensures.items c.in_ok-reserve.ensures.items (taken c) (none_left c) c.self.inside.limit c.self.inside.room
 
+state_is : (c : After-push_reserved) → state_of c.replace-entries.new.dest.items c.push_reserved.new.self.items c.self.inside.limit 0
+    ≡ record { table = []; runs = record { place = place_of c.in-Ok.place; entries = map named_entry c.self.inside.table.entries.items } ∷ newest_first c.self.inside.runs.items; limit = c.self.inside.limit; room = 0 }
+state_is c =
+    let table : map named_entry c.replace-entries.new.dest.items ≡ [] = ap (map named_entry) (none_left c) in
+    let runs = runs_are c in
+    λ i. record { table = table i; runs = runs i; limit = c.self.inside.limit; room = 0 }
+
 pub invariant_of-self-in-Ok : goal.invariant_of-self-in-Ok
 invariant_of-self-in-Ok c =
     let i = c.self.inside in
@@ -67,6 +80,7 @@ invariant_of-self-in-Ok c =
           c.push_reserved.ensures.items c.in_ok-reserve.ensures.items (taken at) (none_left at) i.limit i.room some few c.self.invariant.whole;
       ids = no_ids c.replace-entries.new.dest.items (none_left at);
       count = c.self.invariant.count ∙ ap (λ (es : List Entry). names es) (sym (index_is at));
+      lives = c.self.invariant.lives ∙ ap (λ (es : List Entry). shards es) (sym (index_is at));
       fits = (let e : vec_len c.replace-entries.new.dest ≡ 0 = ap (λ (v : Vec (ShardId × Vec Locator Global) Global). vec_len v) c.replace-entries.ensures.after ∙ c.new.ensures.len in omega (arith, e));
       clear = subst (λ (es : List Entry). IsClear es i.cleared) (sym (index_is at)) c.self.invariant.clear;
     }
@@ -74,12 +88,15 @@ invariant_of-self-in-Ok c =
 pub returns-in-Ok-clause-staged : goal.returns-in-Ok-clause-staged
 returns-in-Ok-clause-staged c =
     let at = (goal.at.returns-in-Ok-clause-staged c).After-push_reserved in
-    rw (← c.self.view_is) (table_staged (the_view c.self.inside) c.args.extents.now c.args.graph.now c.in-Ok.version c.args.commands
-    (state_of c.replace-entries.new.dest.items c.push_reserved.new.self.items c.self.inside.limit 0) c.stage_run.new.extents c.stage_run.new.graph (place_of c.in-Ok.place) (newest_first c.deref.result.now) c.self.invariant.whole.ascending
-    c.in-Ok.ensures.staged (ap newest_first (c.deref.ensures.value ∙ c.in_ok-reserve.ensures.items)) (ap (map named_entry) (none_left at)) (runs_are at) refl)
-
-pub returns-in-Ok-clause-index : goal.returns-in-Ok-clause-index
-returns-in-Ok-clause-index c = rw (← c.self.view_is) (index_is (goal.at.returns-in-Ok-clause-index c).After-push_reserved)
+    let was = (goal.at.returns-in-Ok-clause-staged c).After-deref in
+    rw (← c.self.view_is) (part_one false 0 (the_view c.self.inside) c.args.extents.now c.args.graph.now ForRun c.in-Ok.version c.args.commands
+    (state_of c.replace-entries.new.dest.items c.push_reserved.new.self.items c.self.inside.limit 0) c.stage_run.new.extents c.stage_run.new.graph (map named_entry c.self.inside.table.entries.items) (table_run (the_view c.self.inside) c.self.invariant.whole.ascending)
+    (place_of c.in-Ok.place) (some_entries was)
+    (subst (λ (rs : List Run). IsRunStaged c.args.extents.now c.args.graph.now ForRun (map named_entry c.self.inside.table.entries.items) rs (place_of c.in-Ok.place) c.in-Ok.version c.args.commands c.stage_run.new.extents c.stage_run.new.graph)
+    (ap newest_first (c.deref.ensures.value ∙ c.in_ok-reserve.ensures.items)) c.in-Ok.ensures.staged)
+    (state_is at))
 
 pub returns-in-Ok-clause-why : goal.returns-in-Ok-clause-why
-returns-in-Ok-clause-why c = let w = c.in-Ok.ensures.why in rw (← c.self.view_is) w
+returns-in-Ok-clause-why c =
+    let some = some_entries (goal.at.returns-in-Ok-clause-why c).After-deref in
+    rw (← c.self.view_is) (exact_table {T = ℕ} (the_view c.self.inside) c.args.extents.now c.args.graph.now.staging (Ok c.in-Ok.version) c.self.invariant.whole.ascending some c.in-Ok.ensures.why)

@@ -1,0 +1,11 @@
+use Rattle.std.proofs.Common.{◌∙◌, arith, length-set}
+use Rattle.cs_extent.specs.State.{extents_of, shape}
+use Rattle.cs_extent.proofs.Thought.{fits_next}
+use Rattle.cs_extent.proofs.extents.Extents.fits_apart.Goals as goal
+
+pub loop-i-preserved : goal.loop-i-preserved
+loop-i-preserved c = record {
+  size = length-set c.loop-i.puts c.loop-i.i c.in-Some.put ∙ c.loop-i.invariant.size;
+  left = fits_next (shape c.args.self.now) (extents_of c.args.self.now) c.args.frame_pages.now c.loop-i.i c.loop-i-test.true c.loop-i.puts c.in-Some.put
+      (omega (arith, c.loop-i-test.true, c.requires.few, c.loop-i.invariant.size)) c.in-Some.ensures.0 c.in-Some.ensures.1 c.loop-i.invariant.left;
+}

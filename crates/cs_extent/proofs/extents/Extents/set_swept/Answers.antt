@@ -1,0 +1,11 @@
+use Rattle.std.proofs.Common.{arith}
+use Rattle.cs_extent.specs.State.{State}
+use Rattle.cs_extent.specs.contracts.extents.Extents.{the_view}
+use Rattle.cs_extent.proofs.Noting.{mark_set}
+use Rattle.cs_extent.proofs.extents.Extents.set_swept.Goals as goal
+
+pub returns-clause-extents : goal.returns-clause-extents
+returns-clause-extents c =
+    let s : State = the_view c.self.inside in
+    let inside = rw (← c.self.view_is) at c.requires in
+    rw (← c.self.view_is) (mark_set s c.args.extent c.args.swept (omega (arith, inside, c.self.invariant.whole.all_swept)))

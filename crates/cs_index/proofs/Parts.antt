@@ -1,0 +1,193 @@
+-- The table and the newest runs as one run, in front of the others.
+use Rattle.std.proofs.Common.{◌≡◌, ◌≢◌, ◌⊎◌, inl, inr, ⊎_elim, ℕ, zero, suc, ◌+◌, ◌-◌, ◌<◌, ◌≤◌, Bool, true, false, List, [], ◌∷◌, ◌++◌, length, length-drop, take, drop, map, Option, Some, None, if◌then◌else◌, refl, sym, ap, subst, ◌∙◌, arith, append_assoc, append-nil, take-append-drop, le_trans}
+use Rattle.std.proofs.Math.Seq.{take-length}
+use Rattle.std.specs.Prelude.{is_some}
+use Rattle.std.specs.List.{AllByRecursion}
+use Rattle.std.proofs.lemmas.List.{length-map}
+use Rattle.cs_deps.specs.State.{State as GraphState}
+use Rattle.cs_extent.specs.State.{State as ExtentsState}
+use Rattle.cs_frame.specs.Formats.{place_of}
+use Rattle.cs_index.specs.declared.runs.StoredRun.{StoredRun}
+use Rattle.cs_model.proofs.Counting.{ascending_names, lookup_here, names_le}
+use Rattle.cs_model.proofs.Gives.{lookup_append}
+use Rattle.cs_model.specs.Element.{Entry, Locator as Place, Run}
+use Rattle.cs_model.specs.Extents.{Purpose as Reason}
+use Rattle.cs_model.specs.Index.{Ascending, entries_of, if_live, live, live_at, lookup, names}
+use Rattle.cs_model.specs.Merges.{IsRunOf}
+use Rattle.cs_index.specs.Merges.{part}
+use Rattle.cs_index.specs.Staged.{IsPartAppended, IsPartStaged}
+use Rattle.cs_index.specs.State.{IsShort, IsStored, IsWhole, State, index_of, named_entry, newest_first, run_of, state_of}
+use Rattle.cs_index.proofs.Merged.{left, live_left, run_few, some_left}
+use Rattle.cs_index.proofs.Names.{names_of_lookups}
+use Rattle.cs_index.proofs.Newest.{all_newest, all_oldest, lookup_first}
+use Rattle.cs_index.proofs.Sorted.{all_drop}
+use Rattle.cs_index.proofs.Staging.{newest_push}
+use Rattle.cs_index.proofs.Whole.{Entries, length-newest}
+
+-- ---- the newest of runs that are listed oldest first are the last of them
+
+newest_append : (a b : List StoredRun) → newest_first (a ++ b) ≡ newest_first b ++ newest_first a
+newest_append [] b = sym (append-nil (newest_first b))
+newest_append (x ∷ a) b = ap (λ (rs : List Run). rs ++ run_of x ∷ []) (newest_append a b) ∙ append_assoc (newest_first b) (newest_first a) (run_of x ∷ [])
+
+take_front : (a b : List Run) → take (length a) (a ++ b) ≡ a
+take_front [] b = refl
+take_front (x ∷ a) b = ap (λ (rs : List Run). x ∷ rs) (take_front a b)
+
+drop_front : (a b : List Run) → drop (length a) (a ++ b) ≡ b
+drop_front [] b = refl
+drop_front (x ∷ a) b = drop_front a b
+
+-- what is behind a place, as code takes it
+pub behind_place : (n : ℕ) (xs : List StoredRun) → take (length xs - n) (drop n xs) ≡ drop n xs
+behind_place n xs = ap (λ (m : ℕ). take m (drop n xs)) (sym (length-drop n xs)) ∙ take-length (drop n xs)
+
+-- n older runs and k newer ones
+module _ (runs : List StoredRun) (n k : ℕ) (split : n + k ≡ length runs) where
+  abbrev newer : List Run
+  newer = newest_first (drop n runs)
+
+  abbrev older : List Run
+  older = newest_first (take n runs)
+
+  as_many : length newer ≡ k
+  as_many = length-newest (drop n runs) ∙ (let e : length (drop n runs) ≡ length runs - n = length-drop n runs in let k_is : length runs - n ≡ k = omega (arith, split) in e ∙ k_is)
+
+  joined : newest_first runs ≡ newer ++ older
+  joined = ap newest_first (sym (take-append-drop n runs)) ∙ newest_append (take n runs) (drop n runs)
+
+  pub newest_taken : newest_first (drop n runs) ≡ take k (newest_first runs)
+  newest_taken = sym (ap (take k) joined ∙ ap (λ (m : ℕ). take m (newer ++ older)) (sym as_many) ∙ take_front newer older)
+
+  pub newest_left : newest_first (take n runs) ≡ drop k (newest_first runs)
+  newest_left = sym (ap (drop k) joined ∙ ap (λ (m : ℕ). drop m (newer ++ older)) (sym as_many) ∙ drop_front newer older)
+
+  pub few_left : length (drop k (newest_first runs)) < 4 → length (take n runs) < 4
+  few_left few =
+      let e : length (newest_first (take n runs)) ≡ length (take n runs) = length-newest (take n runs) in
+      let same : length (newest_first (take n runs)) ≡ length (drop k (newest_first runs)) = ap length newest_left in
+      omega arith
+
+  pub stored_newest : AllByRecursion IsStored (newest_first runs) → AllByRecursion IsStored (newest_first (drop n runs))
+  stored_newest all = all_newest IsStored (drop n runs) (all_drop (λ (r : StoredRun). IsStored (run_of r)) n runs (all_oldest IsStored runs all))
+
+  pub few_newest : length runs ≤ 24 → length (drop n runs) ≤ 24
+  few_newest few = omega (arith, length-drop n runs, few)
+
+-- ---- what an identifier has once a part is merged
+
+entries_cut : (k : ℕ) (runs : List Run) → entries_of runs ≡ entries_of (take k runs) ++ entries_of (drop k runs)
+entries_cut zero runs = refl
+entries_cut (suc k) [] = refl
+entries_cut (suc k) (run ∷ runs) = ap (λ (es : List Entry). run.entries ++ es) (entries_cut k runs)
+    ∙ sym (append_assoc run.entries (entries_of (take k runs)) (entries_of (drop k runs)))
+
+-- the index is the part and the rest
+pub index_cut : (s : State) (k : ℕ) → index_of s ≡ part s k ++ entries_of (drop k s.runs)
+index_cut s k = ap (λ (es : List Entry). s.table ++ es) (entries_cut k s.runs)
+    ∙ sym (append_assoc s.table (entries_of (take k s.runs)) (entries_of (drop k s.runs)))
+
+-- a part names no more than the index
+pub named_first : (id : ℕ) (xs ys : List Entry) → is_some (lookup id xs) ≡ true → is_some (lookup id (xs ++ ys)) ≡ true
+named_first id xs ys is = by (lookup id xs) refl is
+  where
+    by : (o : Option (List Place)) → lookup id xs ≡ o → is_some o ≡ true → is_some (lookup id (xs ++ ys)) ≡ true
+    by None at some = absurd (let e : false ≡ true = some in cc)
+    by (Some ls) at some = ap (λ (o : Option (List Place)). is_some o) (lookup_first id xs ys ls at)
+
+pub part_names : (s : State) (k : ℕ) → names (part s k) ≤ names (index_of s)
+part_names s k = names_le (part s k) (index_of s)
+    (λ id is. ap (λ (es : List Entry). is_some (lookup id es)) (index_cut s k) ∙ named_first id (part s k) (entries_of (drop k s.runs)) is)
+
+-- so its run has room
+pub part_few : (go : Bool) (s : State) (k : ℕ) (xs : List Entry) → IsWhole s → IsRunOf go (part s k) xs → length xs ≤ s.limit
+part_few go s k xs whole run =
+    let few : length xs ≤ names (part s k) = run_few go (part s k) xs run in
+    let le : names (part s k) ≤ names (index_of s) = part_names s k in
+    let most : names (index_of s) ≤ s.limit = whole.named in
+    omega arith
+
+pub part_lookup : (go : Bool) (s : State) (k : ℕ) (xs : List Entry) → (go ≡ true → drop k s.runs ≡ []) → IsRunOf go (part s k) xs
+    → (id : ℕ) → lookup id (xs ++ entries_of (drop k s.runs)) ≡ left go (lookup id (index_of s))
+part_lookup true s k xs all run id =
+    let none : drop k s.runs ≡ [] = all refl in
+    let whole : part s k ≡ index_of s = sym (index_cut s k ∙ ap (λ (rs : List Run). part s k ++ entries_of rs) none ∙ append-nil (part s k)) in
+    ap (λ (rs : List Run). lookup id (xs ++ entries_of rs)) none ∙ ap (lookup id) (append-nil xs) ∙ run.1 id ∙ ap (λ (es : List Entry). if_live (lookup id es)) whole
+part_lookup false s k xs all run id =
+    lookup_append id xs (part s k) (entries_of (drop k s.runs)) (run.1 id) ∙ ap (lookup id) (sym (index_cut s k))
+
+-- a run of a table that isn't empty has an entry, where deletions stay
+pub goes_where_none : (go : Bool) (s : State) (k : ℕ) (xs : List Entry) → xs ≡ [] → IsRunOf go (part s k) xs → (go ≡ true) ⊎ (s.table ≢ []) → go ≡ true
+goes_where_none true s k xs none run some = refl
+goes_where_none false s k xs none run some = ⊎_elim (λ (is : false ≡ true). is) (λ (table : s.table ≢ []). absurd (has s.table table (λ id. sym (run.1 id) ∙ ap (lookup id) none))) some
+  where
+    has : (es : List Entry) → es ≢ [] → ((id : ℕ) → lookup id (es ++ entries_of (take k s.runs)) ≡ None) → ⊥
+    has [] some nothing = some refl
+    has (e ∷ es) some nothing = let wrong : Some e.locators ≡ None = sym (lookup_here e (es ++ entries_of (take k s.runs)) e.id refl) ∙ nothing e.id in cc
+
+-- ---- an index in which a part is one run
+
+module _ (go : Bool) (k : ℕ) (s : State) (x : ExtentsState) (g : GraphState) (reason : Reason) (v commands : ℕ) (t : State) (y : ExtentsState) (h : GraphState)
+    (staged : IsPartStaged go k s x g reason v commands t y h) (all : go ≡ true → drop k s.runs ≡ []) where
+  pub part_left : (id : ℕ) → lookup id (index_of t) ≡ left go (lookup id (index_of s))
+  part_left id = ap (λ (es : List Entry). lookup id (es ++ entries_of t.runs)) staged.table ∙ by staged.appended
+    where
+      by : IsPartAppended go s k x g reason t.runs y staged.between → lookup id (entries_of t.runs) ≡ left go (lookup id (index_of s))
+      by (inl m) = ap (λ (rs : List Run). lookup id (entries_of rs)) m.5 ∙ part_lookup go s k m.0 all m.3 id
+      by (inr m) = ap (λ (rs : List Run). lookup id (entries_of rs)) m.3 ∙ part_lookup go s k [] all m.0 id
+
+  pub part_live : (id : ℕ) → live_at (index_of t) id ≡ live_at (index_of s) id
+  part_live id = ap live (part_left id) ∙ live_left go (lookup id (index_of s))
+
+pub part_stays : (go : Bool) (k : ℕ) (s : State) (x : ExtentsState) (g : GraphState) (reason : Reason) (v commands : ℕ) (t : State) (y : ExtentsState) (h : GraphState)
+    → IsPartStaged go k s x g reason v commands t y h → go ≡ false → (id : ℕ) → lookup id (index_of t) ≡ lookup id (index_of s)
+part_stays true k s x g reason v commands t y h staged stay id = absurd (let e : true ≡ false = stay in cc)
+part_stays false k s x g reason v commands t y h staged stay id = part_left false k s x g reason v commands t y h staged (λ e. absurd (let wrong : false ≡ true = e in cc)) id
+
+-- ---- the fields of such an index: n older runs stay, and one takes the place of the k newer ones and of the table
+
+-- how many are named then
+count_then : (go : Bool) (es old new : List Entry) (rest : List Run) (named before : ℕ) → new ≡ es ++ entries_of rest → (go ≡ true → rest ≡ []) → Ascending es
+    → ((id : ℕ) → lookup id new ≡ left go (lookup id old)) → before ≡ names old → named ≡ (if go then length es else before) → named ≡ names new
+count_then true es old new rest named before is all order look was count =
+    count ∙ sym (ap names (is ∙ ap (λ (rs : List Run). es ++ entries_of rs) (all refl) ∙ append-nil es) ∙ ascending_names es order)
+count_then false es old new rest named before is all order look was count = count ∙ was ∙ sym (names_of_lookups new old look)
+
+module _ (xs empty : Entries) (runs kept news : List StoredRun) (r : StoredRun) (n k : ℕ) (split : n + k ≡ length runs) (is : news ≡ kept ++ r ∷ []) (same : kept ≡ take n runs) (none : empty ≡ []) where
+  pub parted_runs : newest_first news ≡ record { place = place_of r.place; entries = map named_entry r.entries.items } ∷ drop k (newest_first runs)
+  parted_runs = ap newest_first (is ∙ ap (λ (rs : List StoredRun). rs ++ r ∷ []) same) ∙ newest_push (take n runs) r ∙ ap (λ (rs : List Run). run_of r ∷ rs) (newest_left runs n k split)
+
+  pub parted_state : (limit : ℕ)
+      → state_of empty news limit 0 ≡ record { table = []; runs = record { place = place_of r.place; entries = map named_entry r.entries.items } ∷ drop k (newest_first runs); limit = limit; room = 0 }
+  parted_state limit =
+      let table : map named_entry empty ≡ [] = ap (map named_entry) none in
+      λ i. record { table = table i; runs = parted_runs i; limit = limit; room = 0 }
+
+  parted_index : (limit : ℕ) → index_of (state_of empty news limit 0) ≡ map named_entry r.entries.items ++ entries_of (drop k (newest_first runs))
+  parted_index limit = ap (λ (es : Entries). map named_entry es ++ entries_of (newest_first news)) none ∙ ap entries_of parted_runs
+
+  module _ (limit room : ℕ) (go : Bool) (run : IsRunOf go (part (state_of xs runs limit room) k) (map named_entry r.entries.items)) (all : go ≡ true → drop k (newest_first runs) ≡ []) where
+    parted_lookup : (id : ℕ) → lookup id (index_of (state_of empty news limit 0)) ≡ left go (lookup id (index_of (state_of xs runs limit room)))
+    parted_lookup id = ap (lookup id) (parted_index limit) ∙ part_lookup go (state_of xs runs limit room) k (map named_entry r.entries.items) all run id
+
+    pub parted_live : (id : ℕ) → live_at (index_of (state_of empty news limit 0)) id ≡ live_at (index_of (state_of xs runs limit room)) id
+    parted_live id = ap live (parted_lookup id) ∙ live_left go (lookup id (index_of (state_of xs runs limit room)))
+
+    pub parted_names : (named before : ℕ) → before ≡ names (index_of (state_of xs runs limit room)) → named ≡ (if go then length r.entries.items else before)
+        → named ≡ names (index_of (state_of empty news limit 0))
+    parted_names named before was count =
+        count_then go (map named_entry r.entries.items) (index_of (state_of xs runs limit room)) (index_of (state_of empty news limit 0)) (drop k (newest_first runs)) named before
+        (parted_index limit) all run.0 parted_lookup was (count ∙ ap (λ (m : ℕ). if go then m else before) (sym (length-map r.entries.items named_entry)))
+
+    pub parted_whole : map named_entry r.entries.items ≢ [] → AllByRecursion IsShort (map named_entry r.entries.items) → length (drop k (newest_first runs)) < 4
+        → IsWhole (state_of xs runs limit room) → IsWhole (state_of empty news limit 0)
+    parted_whole some short few whole = record {
+      ascending = subst (λ (es : Entries). Ascending (map named_entry es)) (sym none) tt;
+      short = subst (λ (es : Entries). AllByRecursion IsShort (map named_entry es)) (sym none) tt;
+      runs = subst (AllByRecursion IsStored) (sym parted_runs) ((run.0, some, short), all_drop IsStored k (newest_first runs) whole.runs);
+      few = (let e : length (newest_first news) ≡ suc (length (drop k (newest_first runs))) = ap length parted_runs in omega arith);
+      named = le_trans
+          (names_le (index_of (state_of empty news limit 0)) (index_of (state_of xs runs limit room))
+          (λ id some_now. some_left go (lookup id (index_of (state_of xs runs limit room))) (ap (λ (o : Option (List Place)). is_some o) (sym (parted_lookup id)) ∙ some_now)))
+          whole.named;
+    }

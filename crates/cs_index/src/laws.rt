@@ -1,0 +1,26 @@
+//! What a Stage merges that doesn't go by sizes.
+ghost use Rattle.std.specs.Prelude.{◌≡◌, ◌≢◌, ◌⊎◌, ◌↔◌, ◌<◌, ◌≤◌, ℕ, false, List, [], length};
+ghost use Rattle.cs_deps.specs.State.{State as GraphState};
+ghost use Rattle.cs_extent.specs.State.{State as ExtentsState, shape};
+ghost use Rattle.cs_index.specs.Merges.{stage_takes};
+ghost use Rattle.cs_index.specs.Staged.{IsMergeStaged, IsNewestStaged, IsTableStaged, WritesMerged, WritesRun};
+ghost use Rattle.cs_index.specs.State.{State};
+ghost use Rattle.cs_model.specs.Device.{Shape};
+ghost use Rattle.cs_model.specs.Element.{Entry};
+ghost use Rattle.cs_model.specs.Extents.{ForRun};
+ghost use Rattle.cs_model.specs.Index.{IsTableRun};
+
+/// Where a Stage doesn't merge by size, it makes the table the newest run while there are fewer than four, and else one run of
+/// all that is live.
+pub fn stages_without_sizes()
+    ensures table { (s t : State) (x y : ExtentsState) (g h : GraphState) (v commands : ℕ)
+        → (shape x).by_size ≡ false → s.table ≢ [] → length s.runs < 4
+        → IsNewestStaged (stage_takes (shape x) s) s x g v commands t y h ↔ IsTableStaged s x g v commands t y h }
+    ensures merged { (s t : State) (x y : ExtentsState) (g h : GraphState) (v commands : ℕ)
+        → (shape x).by_size ≡ false → 4 ≤ length s.runs
+        → IsNewestStaged (stage_takes (shape x) s) s x g v commands t y h ↔ IsMergeStaged s x g ForRun v commands t y h }
+    // So it is one of these runs that is written.
+    ensures writes { (S : Shape) (s : State) (entries : List Entry) → S.by_size ≡ false
+        → WritesRun S s entries ↔ ((s.table ≢ []) × (((length s.runs < 4) × IsTableRun s.table entries)
+        ⊎ ((4 ≤ length s.runs) × WritesMerged s entries))) }
+{}

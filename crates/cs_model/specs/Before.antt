@@ -1,0 +1,25 @@
+-- Stage where it doesn't merge by size and chunks and runs may lie on one extent, as formats 1 and 2 have it: in two branches.
+use Rattle.std.specs.Prelude.{◌≡◌, ◌≢◌, ◌⊎◌, ◌<◌, ◌≤◌, ◌∷◌, ℕ, suc, List, length, []}
+use Rattle.cs_model.specs.Append.{AppendsFrame}
+use Rattle.cs_model.specs.Device.{Shape}
+use Rattle.cs_model.specs.Element.{Entry, Locator, Run}
+use Rattle.cs_model.specs.Events.{Merged, rooted}
+use Rattle.cs_model.specs.Extents.{ForRun}
+use Rattle.cs_model.specs.Formats.{Formats, RunFrame}
+use Rattle.cs_model.specs.Grounds.{NoRoomForRun, NoRoomForTable}
+use Rattle.cs_model.specs.Index.{IsTableRun}
+use Rattle.cs_model.specs.State.{State}
+
+module _ (S : Shape) (F : Formats) where
+  -- the table becomes the newest run where there are fewer than four, else all that lives becomes one run
+  abbrev pub StagesAsBefore : State → (version : ℕ) → State → Type 0
+  StagesAsBefore s v t = (s.table ≢ []) × (v ≡ suc s.world.root)
+      × (((length s.runs < 4) × (entries : List Entry) × (l : Locator) × (mid : State) × IsTableRun s.table entries
+      × AppendsFrame S F s ForRun RunFrame (F.run entries) l mid
+      × (t ≡ rooted S F mid (record { place = l; entries = entries } ∷ s.runs) mid.world.extents.pointer))
+      ⊎ ((4 ≤ length s.runs) × (mid : State) × (runs : List Run) × Merged S F s ForRun mid runs
+      × (t ≡ rooted S F mid runs mid.world.extents.pointer)))
+
+  -- that run goes nowhere
+  abbrev pub FullAsBefore : State → Type 0
+  FullAsBefore s = ((length s.runs < 4) × NoRoomForTable S F s) ⊎ ((4 ≤ length s.runs) × NoRoomForRun S F s ForRun)
