@@ -2,5 +2,4 @@ pub mod Calls
 pub mod Crashes
 pub mod Images
 pub mod Moments
-pub mod Newest
 pub mod Whole

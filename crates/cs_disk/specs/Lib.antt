@@ -1,3 +1,4 @@
+pub mod Ahead
 pub mod Disk
 pub mod Fails
 pub mod Faults

@@ -1,8 +1,12 @@
 // A disk in a file.
-ghost use Rattle.std.specs.Prelude.{◌≡◌, ◌<◌, ◌^◌, ◌↔◌, [], IsOk, IfErr, IfOk, IsOkUnless, OnOk};
-ghost use Rattle.std.specs.List.Sorted.{IsPermutation};
+ghost use Rattle.std.specs.Prelude.{◌≡◌, ◌<◌, ◌^◌, ◌↔◌, ◌*◌, [], IsOk, IfErr, IfOk, IsOkUnless, OnErr, OnOk, Some, List, ℕ};
+ghost use Rattle.std.specs.BTreeMap.{IsEmpty, get};
+ghost use Rattle.std.specs.Ordering.{nat_cmp};
+ghost use Rattle.cs_disk.specs.Ahead.{pages_ahead};
+ghost use Rattle.cs_disk.specs.Unflushed.{bytes_at};
 ghost use Rattle.cs_disk.specs.Disk.{HasCause};
 
+use crate::ahead::Ahead;
 use crate::unflushed::Unflushed;
 use crate::{CrashDisk, DiskFault, OpenFault, PageDisk};
 use std::alloc::Global;
@@ -16,9 +20,10 @@ use std::rt::Files;
 /// the model, `sync_data` being the flush of a file whose length doesn't change. No crash of it can be tried out.
 ///
 /// A write stays in memory up to the next flush, so it may be refused 9 OutOfMemory; what was never flushed is lost with the
-/// value, as after a crash. A flush writes what was kept, in the order of the pages and adjacent ones in one call where they came
+/// value, as after a crash. A flush writes the last write to each page, in the order of the pages and adjacent ones in one call where they came
 /// in that order, and makes one `sync_data`. Where one of these calls fails, all of it is kept, and the next flush writes it again.
-/// A read is of one page: the last write to it that is kept, else what the file has there.
+/// A read is the last write to the page that is kept, else what the file has there. Where pages are read one after another, up to 64 are
+/// taken from the file in one call, and answer the reads that follow, up to the next flush.
 ///
 /// A call of the operating system that fails is 1 DeviceFault, and counted.
 ///
@@ -28,6 +33,7 @@ use std::rt::Files;
 pub struct FileDisk {
     file: File,
     unflushed: Unflushed,
+    ahead: Ahead,
     pages: u64,
     failures: u64,
     ghost small: { pages < 2 ^ 52 },
@@ -54,6 +60,7 @@ impl FileDisk {
         Ok(FileDisk {
             file,
             unflushed: Unflushed::new(alloc),
+            ahead: Ahead::new(alloc),
             pages: length / 4096,
             failures: 0,
         })
@@ -80,6 +87,7 @@ impl FileDisk {
             Ok(file) => Ok(FileDisk {
                 file,
                 unflushed: Unflushed::new(alloc),
+                ahead: Ahead::new(alloc),
                 pages,
                 failures: 0,
             }),
@@ -89,14 +97,33 @@ impl FileDisk {
 }
 
 impl FileDisk {
-    /// Writes to the file what is kept, syncs it, and forgets what was kept. Where one of these calls fails, all of it is kept.
-    fn write_out(&mut self) -> io::Result<()>
-        ensures kept { IfErr result (λ _. self.new.unflushed.pages.items ≡ self.old.unflushed.pages.items) }
-        ensures same_places { IfErr result (λ _. IsPermutation self.old.unflushed.places.items self.new.unflushed.places.items) }
-        ensures forgotten { OnOk result (self.new.unflushed.places.items ≡ []) }
+    /// Reads a page: the last write to it that is kept, else what the file has there.
+    fn read_newest(&mut self, number: u64, buffer: &mut [u8; 4096]) -> io::Result<()>
+        requires { number < self.old.pages }
+        ensures ok { (bytes : List ℕ) → bytes_at self.old.unflushed.pages.items (get nat_cmp self.old.unflushed.newest (number * 4096)) ≡ Some bytes → IsOk result }
+        ensures kept { (bytes : List ℕ) → bytes_at self.old.unflushed.pages.items (get nat_cmp self.old.unflushed.newest (number * 4096)) ≡ Some bytes → buffer.new ≡ bytes }
         ensures pages { self.new.pages ≡ self.old.pages }
         ensures failures { self.new.failures ≡ self.old.failures }
     {
+        if let Some(bytes) = self.unflushed.newest(number * 4096) {
+            self.ahead.follows(number);
+            *buffer = *bytes;
+            return Ok(());
+        }
+        self.ahead.read(&self.file, self.pages, number, buffer)
+    }
+
+    /// Writes to the file what is kept, syncs it, and forgets what was kept. Where one of these calls fails, all of it is kept. What was
+    /// read ahead is forgotten before.
+    fn write_out(&mut self) -> io::Result<()>
+        ensures kept { IfErr result (λ _. self.new.unflushed.pages.items ≡ self.old.unflushed.pages.items) }
+        ensures same_places { OnErr result (self.new.unflushed.newest.entries ≡ self.old.unflushed.newest.entries) }
+        ensures forgotten { OnOk result (IsEmpty self.new.unflushed.newest) }
+        ensures ahead { pages_ahead self.new.ahead ≡ 0 }
+        ensures pages { self.new.pages ≡ self.old.pages }
+        ensures failures { self.new.failures ≡ self.old.failures }
+    {
+        self.ahead.forget();
         self.unflushed.write_to(&self.file)?;
         self.file.sync_data()?;
         self.unflushed.clear();
@@ -192,12 +219,7 @@ impl PageDisk for FileDisk {
     // The body `Ok(())` would be proved here, in `write` and in `flush`, since nothing says that the disk is honest, nor
     // that a call of the operating system fails. A test reads back what was written.
     fn read(&mut self, number: u64, buffer: &mut [u8; 4096]) -> Result<(), DiskFault> {
-        let offset = number * 4096;
-        if let Some(bytes) = self.unflushed.newest(offset) {
-            *buffer = *bytes;
-            return Ok(());
-        }
-        let answer = self.file.read_exact_at(buffer, offset);
+        let answer = self.read_newest(number, buffer);
         counted(&mut self.failures, answer)
     }
 

@@ -2,6 +2,7 @@
 //! fails.
 #![tactic(auto)]
 
+mod ahead;
 mod contents;
 mod disk;
 mod fail_at;

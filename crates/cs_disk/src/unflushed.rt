@@ -1,70 +1,60 @@
 // The page writes of a file that wait for the next flush.
-ghost use Rattle.std.specs.Prelude.{◌≡◌, ◌++◌, ◌∷◌, [], None, OnErr, OnOk, length, option_map};
-ghost use Rattle.std.specs.List.Sorted.{IsPermutation};
-ghost use Rattle.cs_disk.specs.Unflushed.{bytes_at, newest_place};
+ghost use Rattle.std.specs.Prelude.{◌≡◌, ◌++◌, ◌∷◌, [], OnErr, OnOk, Some, length, option_map};
+ghost use Rattle.std.specs.BTreeMap.{IsEmpty, Updates, get};
+ghost use Rattle.std.specs.Ordering.{nat_cmp};
+ghost use Rattle.cs_disk.specs.Unflushed.{bytes_at};
 
 use std::alloc::{AllocError, Global};
+use std::collections::BTreeMap;
 use std::fs::File;
 use std::io;
 use std::io::ErrorKind;
 use std::os::unix::fs::FileExt;
 
 /// The page writes since the last flush that succeeded, with the bytes in the order in which they came. So many as there are
-/// between two flushes lie in memory, 4,112 bytes each.
+/// between two flushes lie in memory, 4,096 bytes each, and for each place that was written some 30 more.
 #[derive(Drop)]
 pub struct Unflushed {
     pages: Vec<[u8; 4096]>,
-    /// Where in the file each goes, in bytes, and where in `pages` it stands. Of two writes to one place the later one stands
-    /// behind.
-    places: Vec<(u64, usize)>,
+    /// For each place in the file, in bytes, that was written, where in `pages` the last write to it stands.
+    newest: BTreeMap<u64, usize>,
 }
 
 impl Unflushed {
     /// No writes.
     pub fn new(alloc: Global) -> Self
         ensures pages { result.pages.items ≡ [] }
-        ensures places { result.places.items ≡ [] }
+        ensures newest { IsEmpty result.newest }
     {
         Unflushed {
             pages: Vec::new(alloc),
-            places: Vec::new(alloc),
+            newest: BTreeMap::new(alloc),
         }
     }
 
     /// Keeps a write. Where memory for it is refused nothing has changed.
     pub fn keep(&mut self, offset: u64, bytes: &[u8; 4096]) -> Result<(), AllocError>
         ensures pages { OnOk result (self.new.pages.items ≡ self.old.pages.items ++ bytes.now ∷ []) }
-        ensures places { OnOk result (self.new.places.items ≡ self.old.places.items ++ (offset, length self.old.pages.items) ∷ []) }
+        ensures newest { OnOk result (Updates nat_cmp self.old.newest self.new.newest offset (Some (length self.old.pages.items))) }
         ensures same_pages { OnErr result (self.new.pages.items ≡ self.old.pages.items) }
-        ensures same_places { OnErr result (self.new.places.items ≡ self.old.places.items) }
+        ensures same_newest { OnErr result (self.new.newest.entries ≡ self.old.newest.entries) }
     {
-        self.places.reserve(1)?;
-        let place = (offset, self.pages.len());
-        self.pages.push(*bytes)?;
-        self.places.push_reserved(place);
+        self.pages.reserve(1)?;
+        self.newest.insert(offset, self.pages.len())?;
+        self.pages.push_reserved(*bytes);
         Ok(())
     }
 
-    /// The bytes of the last write to a place of the file. It goes through all of them.
+    /// The bytes of the last write to a place of the file.
     pub fn newest(&self, offset: u64) -> Option<&[u8; 4096]>
-        ensures { option_map (λ bytes. bytes.now) result ≡ bytes_at self.now.pages.items (newest_place self.now.places.items offset None) }
+        ensures { option_map (λ bytes. bytes.now) result ≡ bytes_at self.now.pages.items (get nat_cmp self.now.newest offset) }
     {
-        let mut newest = None;
-        for place in &self.places {
-            if place.0 == offset {
-                newest = Some(place.1);
-            }
-        }
-        self.pages.get(newest?)
+        self.pages.get(*self.newest.get(&offset)?)
     }
 
-    /// Writes them to the file in the order of their places: those that are side by side and came one after another go out in one
-    /// call. They are kept all the same.
-    pub fn write_to(&mut self, file: &File) -> io::Result<()>
-        ensures pages { self.new.pages.items ≡ self.old.pages.items }
-        ensures places { IsPermutation self.old.places.items self.new.places.items }
-    {
-        self.places.sort_unstable();
+    /// Writes the last of them to each place to the file, in the order of the places: those that are side by side and came one after
+    /// another go out in one call. They are kept all the same.
+    pub fn write_to(&self, file: &File) -> io::Result<()> {
         // The first group has no page, and writing it writes nothing.
         let mut group = Group {
             offset: 0,
@@ -72,17 +62,17 @@ impl Unflushed {
             start: 0,
             end: 0,
         };
-        for place in &self.places {
-            if place.0 == group.next && place.1 == group.end {
-                group.next = place.0.saturating_add(4096);
-                group.end = place.1.saturating_add(1);
+        for (offset, place) in &self.newest {
+            if *offset == group.next && *place == group.end {
+                group.next = offset.saturating_add(4096);
+                group.end = place.saturating_add(1);
             } else {
                 write_group(file, &self.pages, &group)?;
                 group = Group {
-                    offset: place.0,
-                    next: place.0.saturating_add(4096),
-                    start: place.1,
-                    end: place.1.saturating_add(1),
+                    offset: *offset,
+                    next: offset.saturating_add(4096),
+                    start: *place,
+                    end: place.saturating_add(1),
                 };
             }
         }
@@ -92,10 +82,10 @@ impl Unflushed {
     /// Forgets them.
     pub fn clear(&mut self)
         ensures pages { self.new.pages.items ≡ [] }
-        ensures places { self.new.places.items ≡ [] }
+        ensures newest { IsEmpty self.new.newest }
     {
         self.pages.clear();
-        self.places.clear();
+        self.newest.clear();
     }
 }
 
