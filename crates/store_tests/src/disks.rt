@@ -388,3 +388,64 @@ pages > 130
 file cs_disk_filled > (532480, [Some(0), Some(0), Some(0), Some(0)])
 close > true
 remove cs_disk_filled > true";
+
+/// What is written after it was read ahead is what is read, before a flush and after it. Pages that lie ready are read without the file,
+/// but only one behind the other: cut from outside, as no other program may, the file shows which those are.
+#[test]
+fn a_file_is_read_ahead(rt: HostRuntime) {
+    plays_files(&rt, AHEAD);
+}
+
+const AHEAD: &str = "create cs_disk_ahead 130 > \"open\"
+write 2 1 > Ok(())
+write 66 2 > Ok(())
+write 129 3 > Ok(())
+flush > Ok(())
+read 0 > (Ok(()), 0, 0)
+read 1 > (Ok(()), 0, 0)
+read 2 > (Ok(()), 1, 1)
+write 3 4 > Ok(())
+write 4 5 > Ok(())
+write 3 6 > Ok(())
+read 3 > (Ok(()), 6, 6)
+read 4 > (Ok(()), 5, 5)
+read 5 > (Ok(()), 0, 0)
+write 6 7 > Ok(())
+read 6 > (Ok(()), 7, 7)
+flush > Ok(())
+read 6 > (Ok(()), 7, 7)
+read 3 > (Ok(()), 6, 6)
+read 4 > (Ok(()), 5, 5)
+read 65 > (Ok(()), 0, 0)
+read 66 > (Ok(()), 2, 2)
+read 67 > (Ok(()), 0, 0)
+read 68 > (Ok(()), 0, 0)
+fill cs_disk_ahead cut > true
+read 69 > (Ok(()), 0, 0)
+read 69 > (Err(DeviceFault), 7, 7)
+failures > 1
+read 70 > (Ok(()), 0, 0)
+flush > Ok(())
+read 71 > (Err(DeviceFault), 7, 7)
+read 72 > (Err(DeviceFault), 7, 7)
+failures > 3
+close > true
+remove cs_disk_ahead > true";
+
+/// Behind the last page of a file there is none to be read ahead.
+#[test]
+fn a_file_is_read_ahead_to_its_end(rt: HostRuntime) {
+    plays_files(&rt, TO_ITS_END);
+}
+
+const TO_ITS_END: &str = "create cs_disk_to_its_end 3 > \"open\"
+write 2 1 > Ok(())
+flush > Ok(())
+read 0 > (Ok(()), 0, 0)
+read 1 > (Ok(()), 0, 0)
+read 2 > (Ok(()), 1, 1)
+read 0 > (Ok(()), 0, 0)
+read 2 > (Ok(()), 1, 1)
+failures > 0
+close > true
+remove cs_disk_to_its_end > true";
