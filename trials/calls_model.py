@@ -1,16 +1,7 @@
 """The typed store by the rules of docs/API.md, over the store of store_model.py: what its calls answer, with the count of its events, its device calls, of
 which one may fail, and its openings. It answers the lines of crates/calls_trial, and shares nothing with that program."""
-from store_model import ENTRY, NOT_SWEEPABLE, PAGE, Refused, Store, bytes_of
-
-DEVICE_FAULT = (1, "DeviceFault")
-BAD_GEOMETRY = (7, "BadGeometry")
-HALTED = (40, "Halted")
-HISTORY_FULL = (41, "HistoryFull")
-
-
-def frame_pages(payload):
-    """How many pages a frame has whose payload has so many bytes: 41 bytes stand ahead of it."""
-    return -(-(41 + payload) // PAGE)
+from rules import BAD_GEOMETRY, DEVICE_FAULT, ENTRY, HALTED, HISTORY_FULL, NOT_SWEEPABLE, RULES, Refused, frame_pages, most_names, run_pages
+from store_model import Store, bytes_of
 
 
 def truth(fact):
@@ -20,9 +11,9 @@ def truth(fact):
 class Calls(Store):
     """A typed store."""
 
-    def __init__(self, extents, pages, limit, sections=1):
+    def __init__(self, extents, pages, limit, sections=1, form=2):
         self.limit, self.fails = limit, 0
-        super().__init__(extents, pages, sections)
+        super().__init__(extents, pages, sections, form)
 
     # ---- the device
 
@@ -75,7 +66,7 @@ class Calls(Store):
         self.found = super().open()
         for entries, locator in self.runs:
             first = self.page_of(locator)
-            self.read_pages(first, frame_pages(4 + ENTRY * len(entries)))
+            self.read_pages(first, run_pages(len(entries)))
         return self.found
 
     # ---- events
@@ -87,7 +78,7 @@ class Calls(Store):
         self.events += 1
 
     def is_settled(self):
-        return not self.table and self.round is None and not any(not self.is_persistent(e) for e in self.elements)
+        return not self.table and not self.left_over() and self.round is None and not any(not self.is_persistent(e) for e in self.elements)
 
     def make_ready(self):
         """Takes a checkpoint where half of the limit is used and nothing waits; where all is used, syncs and takes one."""
@@ -102,9 +93,9 @@ class Calls(Store):
         if self.halted:
             raise Refused(*HALTED)
 
-    def append(self, payload_bytes, content, left):
+    def append(self, payload_bytes, content, purpose):
         count = len(self.elements)
-        locator = super().append(payload_bytes, content, left)
+        locator = super().append(payload_bytes, content, purpose)
         for element in self.elements[count:]:
             if element.family == "w":
                 self.newest[element.page] = element
@@ -206,7 +197,7 @@ class Calls(Store):
         live, unreadable = self.uses()
         lines = [f"{self.look(e)} live {live[e]} dead {self.pointer[e] - live[e]} unreadable {unreadable[e]}" for e in range(self.extents)]
         lines += [f"run extent {extent} page {page} entries {len(entries)}" for entries, (extent, page, _) in self.runs]
-        lines.append(f"empty {self.pointer.count(0)} named {len(self.named())} of {(PAGE * self.pages - 45) // ENTRY}"
+        lines.append(f"empty {self.pointer.count(0)} named {len(self.named())} of {most_names(self.pages)}"
                      f" shards {len(self.live())} chunks {len(self.chunks())}")
         lines.append(f"events {self.events} of {self.limit} accepted {self.accepted} persistent {self.frontier()}")
         return "\n".join(lines)
@@ -234,31 +225,23 @@ class Calls(Store):
         self.must_go_on()
         self.make_ready()
         self.ask(limited=True)
-        if extent >= self.extents or extent == self.open_extent or self.pointer[extent] == 0:
-            raise Refused(*NOT_SWEEPABLE)
+        self.begin_sweep(extent)
         try:
             moved = self.move_all(extent)
             self.ask()
-            root = self.stage_merged(0)
+            return moved, self.retire(extent)
         except Refused:
-            # the sweep is abandoned
             self.ask()
+            self.abandon(extent)
             raise
-        self.pointer[extent] = 0
-        self.generation[extent] += 1
-        self.reset_root[extent] = root
-        return moved, root
 
     def move_all(self, extent):
-        moved = [(name, number) for name, number, locator in self.chunks() if locator[0] == extent]
-        for name, number in moved:
+        live = self.lives_on(extent)
+        for name, number in live:
             self.ask(limited=True)
-            found = list(self.lookup(name))
-            data = self.read_chunk(found[number])
-            found[number] = self.append(len(data), ("chunk", data), 0)
-            self.table[name] = found
+            self.move(name, number)
         self.ask(limited=True)
-        return len(moved)
+        return len(live)
 
     def call_abandon(self, _extent):
         """A sweep that is refused is abandoned by itself, unless memory for that is refused: so no extent is marked."""
@@ -269,7 +252,7 @@ class Calls(Store):
     def call_reclaim(self):
         """Sweeps the extent with most pages that no shard has, the first of several, where they are more than the index takes."""
         self.must_go_on()
-        index_pages = frame_pages(4 + ENTRY * len(self.named()))
+        index_pages = run_pages(len(self.named()))
         live, _ = self.uses()
         garbage = [0 if e == self.open_extent else self.pointer[e] - live[e] for e in range(self.extents)]
         extent = garbage.index(max(garbage))
@@ -313,11 +296,11 @@ class Trial:
         except Refused as refused:
             return [str(refused)]
 
-    def make(self, extents, pages, limit):
+    def make(self, extents, pages, limit, form=2):
         self.store, self.is_open = None, False
-        if not 4 <= extents <= 2048 or not 2 <= pages <= 256:
+        if extents not in RULES[form].extents or pages not in RULES[form].pages:
             raise Refused(*BAD_GEOMETRY)
-        self.store, self.is_open = Calls(extents, pages, limit), True
+        self.store, self.is_open = Calls(extents, pages, limit, 1, form), True
         return ["made"]
 
     def reopen(self, words):

@@ -7,6 +7,11 @@ def identifier(n):
     return "00000000-0000-0000-0000-%012x" % n
 
 
+def format_words(form):
+    """The words that ask for a new store of a format: none for the one that the program takes by itself."""
+    return [] if form == 2 else ["--format", str(form)]
+
+
 def run(program, options, script):
     """The lines that a script prints, and the exit status."""
     done = subprocess.run([program, "run", *options], input=script, capture_output=True, text=True)

@@ -1,25 +1,12 @@
 """A second store, written from the rules in docs/ alone and sharing nothing with the first: it answers scripts line by line.
 
-It keeps sets where the program keeps levels, and counts everything anew at each plan, so it is slow and short."""
+It keeps sets where the program keeps levels, and counts everything anew at each plan, so it is slow and short. What differs by format stands in rules.py,
+and where frames go in places.py."""
 import bisect
 import json
 
-PAGE = 4096
-ENTRY = 81
-# The families by number: section 0 of the superblock, the root, and the sections behind the first one.
-LETTERS = "srabcdefghijklmn"
-
-
-class Refused(Exception):
-    def __init__(self, number, name):
-        super().__init__(f"refused {number} {name}")
-
-
-FULL = (30, "Full")
-TOO_LARGE = (31, "TooLarge")
-INDEX_FULL = (32, "IndexFull")
-NOT_SWEEPABLE = (33, "NotSweepable")
-IN_FLIGHT = (5, "InFlight")
+from places import PUT, RUN, MERGE, Places
+from rules import ENTRY, FULL, HEADER, IN_FLIGHT, INDEX_FULL, LETTERS, PAGE, RULES, TOO_LARGE, Refused, frame_pages, most_names
 
 
 class BadLine(Exception):
@@ -45,7 +32,8 @@ class Disk:
 
 
 class Element:
-    """A page write: a plain one (family "w") or a version; it needs the plain writes of its section through a number, and versions up to one each."""
+    """A page write: a plain one (family "w") or a version; it needs the plain writes of its section, or of all where it has none, through a number, and
+    versions up to one each."""
 
     def __init__(self, family, number, page, content, section=None, through=0, versions=()):
         self.family, self.number, self.page, self.content = family, number, page, content
@@ -54,13 +42,14 @@ class Element:
 
     def needs(self, other):
         if other.family == "w":
-            return other.section == self.section and other.number <= self.through
+            return self.section in (None, other.section) and other.number <= self.through
         return other.number <= self.versions[LETTERS.index(other.family)]
 
 
-class Store:
-    def __init__(self, extents, pages, sections=1):
+class Store(Places):
+    def __init__(self, extents, pages, sections=1, form=2):
         self.extents, self.pages, self.sections = extents, pages, sections
+        self.form, self.rules = form, RULES[form]
         self.families = LETTERS[:sections + 1]
         self.disk = Disk()
         self.disk.durable = {1: (1, 0, [])}
@@ -87,14 +76,13 @@ class Store:
     def open(self):
         root, count, locators = self.disk.durable[1]
         self.latest = [0, root] + [0] * (self.sections - 1)
-        self.pointer, self.generation = [], []
+        pointer, generation = [], []
         for section in range(self.sections):
             version, pointers, generations = self.disk.durable[self.section_page(section)]
             self.latest[self.family_of(section)] = version
-            self.pointer += pointers
-            self.generation += generations
-        self.reset_root = [0] * self.extents
-        self.open_extent, self.swept = None, set()
+            pointer += pointers
+            generation += generations
+        self.found_places(pointer, generation)
         self.persistent = list(self.latest)
         self.persistent_plain = set()
         self.written = 0
@@ -104,6 +92,9 @@ class Store:
         self.table = {}
         self.root_counts = {root: 0}
         self.round = None
+        if self.rules.apart:
+            self.of_runs = {locator[0] for locator in locators}
+            self.free_blank(root)
         return count, len(self.live())
 
     def read_run(self, locator):
@@ -131,7 +122,7 @@ class Store:
     # ---- staging
 
     def chunk_bytes(self):
-        return PAGE * self.pages - 41
+        return PAGE * self.pages - HEADER
 
     def stage(self, element):
         """Stages a version, which needs what the one before it needs too."""
@@ -142,38 +133,15 @@ class Store:
             element.versions = [max(a, b) for a, b in zip(element.versions, last.versions)]
         self.elements.append(element)
 
-    def room(self, sizes, left):
-        """The extents that frames of so many pages go to, or None where one is refused."""
-        pointer, extent, places = list(self.pointer), self.open_extent, []
-        for size in sizes:
-            if extent is None or pointer[extent] + size > self.pages:
-                empty = [e for e in range(self.extents) if pointer[e] == 0]
-                if len(empty) - 1 < left:
-                    return None
-                extent = empty[0]
-            places.append((extent, pointer[extent]))
-            pointer[extent] += size
-            if pointer[extent] == self.pages:
-                extent = None
-        return places
-
-    def append(self, payload_bytes, content, left):
-        size = -(-(41 + payload_bytes) // PAGE)
-        places = self.room([size], left)
-        if places is None:
-            raise Refused(*FULL)
-        extent, page = places[0]
-        locator = (extent, page, self.generation[extent])
+    def stage_pages(self, place, size, content):
+        """Stages the pages of a frame, the first with what it has. They need the root under which the extent was emptied."""
+        extent, page, _ = place
         for step in range(size):
             self.written += 1
             where = 2 + extent * self.pages + page + step
             needs = self.versions_with(1, self.reset_root[extent])
             section = self.section_of(extent)
             self.elements.append(Element("w", self.written, where, content if step == 0 else None, section, 0, needs))
-        self.pointer[extent] += size
-        self.open_extent = None if self.pointer[extent] == self.pages else extent
-        self.stage_section(self.section_of(extent))
-        return locator
 
     def versions_with(self, family, version):
         """Versions up to this one of a family, and none of the others."""
@@ -186,34 +154,72 @@ class Store:
         record = (self.latest[family], [self.pointer[e] for e in there], [self.generation[e] for e in there])
         needs = self.versions_with(1, max(self.reset_root[e] for e in there))
         page = self.section_page(section)
-        self.stage(Element(self.families[family], self.latest[family], page, record, section, self.written, needs))
+        through = self.written if self.rules.pages_first else 0
+        self.stage(Element(self.families[family], self.latest[family], page, record, section, through, needs))
 
     def stage_root(self):
         self.latest[1] += 1
         record = (self.latest[1], self.base + self.accepted, [locator for _, locator in self.runs])
         needs = [0 if number == 1 else latest for number, latest in enumerate(self.latest)]
-        self.stage(Element("r", self.latest[1], 1, record, None, 0, needs))
+        through = 0 if self.rules.pages_first else self.written
+        self.stage(Element("r", self.latest[1], 1, record, None, through, needs))
         self.root_counts[self.latest[1]] = self.accepted
         return self.latest[1]
 
-    def stage_merged(self, left):
-        entries = {name: list(found) for name, found in self.live().items()}
-        runs = []
+    def stage_takes(self):
+        """How many of the newest runs a Stage merges with the table. By size: those that have at most twice as many entries as what is merged so far, one
+        after another, and as many more as a root has no place for; all where a quarter of the names that there may be are of nothing that lives."""
+        if not self.rules.by_size:
+            return 0 if len(self.runs) < self.rules.most_runs else len(self.runs)
+        if 4 * (len(self.named()) - len(self.live())) >= most_names(self.pages):
+            return len(self.runs)
+        count, size = 0, len(self.table)
+        for left in range(len(self.runs), 0, -1):
+            entries = len(self.runs[left - 1][0])
+            if entries > 2 * size and left < self.rules.most_runs:
+                break
+            count, size = count + 1, size + entries
+        return count
+
+    def part(self, count):
+        """The entries of the table and of so many of the newest runs, without its deletions where all runs take part. By the older rule these stay where
+        there is no run."""
+        entries = {}
+        for run, _ in self.runs[len(self.runs) - count:]:
+            entries.update(run)
+        entries.update(self.table)
+        goes = count == len(self.runs) and (self.rules.by_size or count > 0)
+        return {name: list(found) for name, found in entries.items() if found or not goes}
+
+    def stage_run(self, entries, count, purpose):
+        """Stages a run of these entries in place of the table and of so many of the newest runs, or none where there is no entry."""
+        older = self.runs[:len(self.runs) - count]
         if entries:
-            runs = [(entries, self.append(4 + ENTRY * len(entries), ("run", dict(entries)), left))]
-        self.runs, self.table = runs, {}
+            older = older + [(entries, self.append(4 + ENTRY * len(entries), ("run", dict(entries)), purpose))]
+        self.runs, self.table = older, {}
+
+    def stage_merged(self, purpose):
+        """Stages one run of all that lives, and the root over it."""
+        self.stage_run({name: list(found) for name, found in self.live().items()}, len(self.runs), purpose)
         return self.stage_root()
 
+    def stage_newest(self):
+        """Stages the table with as many of the newest runs as a Stage takes, and the root. Where chunks and runs lie apart and that run goes nowhere, all
+        become one on an empty extent; and what the root leaves blank is freed."""
+        count = self.stage_takes() if self.table else 0
+        try:
+            self.stage_run(self.part(count), count, RUN)
+        except Refused:
+            if not self.rules.apart:
+                raise
+            self.stage_run(self.part(len(self.runs)), len(self.runs), MERGE)
+        root = self.stage_root()
+        if self.rules.apart:
+            self.free_blank(root)
+        return root
+
     def stage_table(self):
-        if not self.table:
-            return None
-        if len(self.runs) == 4:
-            return self.stage_merged(1)
-        entries = dict(self.table)
-        locator = self.append(4 + ENTRY * len(entries), ("run", entries), 1)
-        self.runs.append((entries, locator))
-        self.table = {}
-        return self.stage_root()
+        return self.stage_newest() if self.table or self.left_over() else None
 
     # ---- commands
 
@@ -222,11 +228,11 @@ class Store:
         chunks = [data[at:at + size] for at in range(0, len(data), size)] or [b""]
         if len(chunks) > 8:
             raise Refused(*TOO_LARGE)
-        if name not in self.named() and len(self.named()) >= (PAGE * self.pages - 45) // ENTRY:
+        if name not in self.named() and len(self.named()) >= most_names(self.pages):
             raise Refused(*INDEX_FULL)
-        if self.room([-(-(41 + len(chunk)) // PAGE) for chunk in chunks], 2) is None:
+        if self.room(PUT, [frame_pages(len(chunk)) for chunk in chunks]) is None:
             raise Refused(*FULL)
-        self.table[name] = [self.append(len(chunk), ("chunk", chunk), 2) for chunk in chunks]
+        self.table[name] = [self.append(len(chunk), ("chunk", chunk), PUT) for chunk in chunks]
         self.accepted += 1
         return self.accepted
 
@@ -304,9 +310,10 @@ class Store:
                 count = bisect.bisect_right(numbers, through)
                 greatest = max(greatest, tops[count - 1] if count else 0)
             level[element] = 1 + greatest
-            numbers, tops = seen.setdefault(("w", element.section) if element.family == "w" else element.family, ([], []))
-            numbers.append(element.number)
-            tops.append(max(level[element], tops[-1] if tops else 0))
+            for of in [("w", element.section), ("w", None)] if element.family == "w" else [element.family]:
+                numbers, tops = seen.setdefault(of, ([], []))
+                numbers.append(element.number)
+                tops.append(max(level[element], tops[-1] if tops else 0))
         return level
 
     # ---- writeback
@@ -337,23 +344,15 @@ class Store:
     # ---- sweeps
 
     def sweep(self, extent):
-        if extent >= self.extents or extent == self.open_extent or self.pointer[extent] == 0 or extent in self.swept:
-            raise Refused(*NOT_SWEEPABLE)
-        moved = 0
-        # What is moved doesn't go to the extent, so the order in which the chunks are found is that of the first look.
-        live = [(name, place) for name, found in sorted(self.live().items())
-                for place, locator in enumerate(found) if locator[0] == extent]
-        for name, place in live:
-            found = list(self.lookup(name))
-            data = self.read_chunk(found[place])
-            found[place] = self.append(len(data), ("chunk", data), 0)
-            self.table[name] = found
-            moved += 1
-        root = self.stage_merged(0)
-        self.pointer[extent] = 0
-        self.generation[extent] += 1
-        self.reset_root[extent] = root
-        return moved, root
+        self.begin_sweep(extent)
+        try:
+            live = self.lives_on(extent)
+            for name, number in live:
+                self.move(name, number)
+            return len(live), self.retire(extent)
+        except Refused:
+            self.abandon(extent)
+            raise
 
     # ---- lines
 
