@@ -3,9 +3,10 @@ use crate::texts::{is_said, prints};
 use cs_frame::{
     FormatFault, FrameKind, Locator, Root, Run, ShardId, decode_frame, decode_frame_header,
     decode_root, decode_run, decode_section, decode_superblock, encode_frame, encode_root,
-    encode_run, first_format_has_one_spelling, formats_are_apart, frame_has_one_spelling, frame_is_read_by_its_header,
-    frame_pages, page_zero_has_one_spelling, root_has_one_spelling, run_has_one_spelling,
-    sections_have_all_extents, superblock_has_one_spelling, these_formats_are_formats,
+    encode_run, first_format_has_one_spelling, formats_are_apart, frame_has_one_spelling,
+    frame_is_read_by_its_header, frame_pages, page_zero_has_one_spelling, root_has_one_spelling,
+    run_has_one_spelling, sections_have_all_extents, superblock_has_one_spelling,
+    these_formats_are_formats,
 };
 use std::process::Abort;
 

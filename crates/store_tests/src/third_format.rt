@@ -63,7 +63,13 @@ fn place(extent: u16, page: u16, generation: u32) -> Locator {
 /// Format 2 has no root over so many runs, and reads none of format 3.
 #[test]
 fn a_root_over_five_runs(rt: HostRuntime) {
-    let runs = vec![in rt.alloc(); place(0, 1, 0), place(0, 3, 0), place(5, 0, 1), place(5, 299, 1), place(4, 7, 0)];
+    let runs = vec![in rt.alloc();
+        place(0, 1, 0),
+        place(0, 3, 0),
+        place(5, 0, 1),
+        place(5, 299, 1),
+        place(4, 7, 0),
+    ];
     let root = Root {
         format: 3,
         version: 2,
