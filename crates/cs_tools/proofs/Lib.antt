@@ -1,5 +1,6 @@
 pub mod Appended
 pub mod Changing
+pub mod Continued
 pub mod Drawing
 pub mod Exported
 pub mod Exporting

@@ -1,12 +1,14 @@
--- What the commands `put` and `del` do.
+-- What the commands `put` and `del` do, and what a crash leaves of them and of `reclaim`.
 use Rattle.std.specs.Prelude.{◌≡◌, ◌≢◌, ◌⊎◌, ◌*◌, ◌<◌, ℕ, suc, List, None, Some, length}
 use Rattle.cs_core.specs.declared.events.Event.{Event}
 use Rattle.cs_core.specs.declared.events.Event.TheVariants.{Delete, Put}
 use Rattle.cs_core.specs.declared.events.Reply.TheVariants as reply
+use Rattle.cs_core.specs.Meanings.{commands_said}
 use Rattle.cs_core.specs.Views.{View}
 use Rattle.cs_deps.specs.declared.refusals.Refusal.{Refusal}
 use Rattle.cs_deps.specs.declared.refusals.Refusal.TheVariants.{TooLarge}
 use Rattle.cs_disk.specs.declared.disk.PageDisk.{Ghosts as PageDisk}
+use Rattle.cs_disk.specs.Disk.{Leaves, LeavesOnly, page}
 use Rattle.cs_drive.specs.Syncs.{StopsSync, Syncs}
 use Rattle.cs_extent.specs.State.{shape}
 use Rattle.cs_frame.specs.declared.identifiers.ShardId.{ShardId}
@@ -14,6 +16,7 @@ use Rattle.cs_index.specs.State.{id_number}
 use Rattle.cs_model.specs.Device.{Shape}
 use Rattle.cs_model.specs.Element.{Map}
 use Rattle.cs_model.specs.State.{changed}
+use Rattle.cs_refine.specs.Crashes.{IsPrefix}
 use Rattle.cs_store.specs.Events.{Declines, DeclinesCopy, Does, IsHalted}
 use Rattle.cs_store.specs.Maps.{HasMap}
 use Rattle.cs_tools.specs.declared.outcomes.Outcome.{Outcome}
@@ -41,6 +44,16 @@ module _ {D : Type 0} (disks : PageDisk D) where
   Commits old new Damaged = ⊥
   Commits old new (NoStore r) = ⊥
   Commits old new (Unread r) = ⊥
+
+  -- a crash at any moment of what led from one to the other leaves the map after some of the commands, none of those left out that were persistent before
+  abbrev pub LeavesPrefixBetween : (old new : View D) → Type 0
+  LeavesPrefixBetween old new = disks.honest old.disk → LeavesOnly disks.moment disks.left_since old.disk new.disk
+      (IsPrefix (shape old.store.extents) (page old.opened) (commands_said new.history) old.store.frontier new.store.accepted)
+
+  -- a crash now does so, none of those left out that are persistent now
+  abbrev pub LeavesPrefixAt : View D → Type 0
+  LeavesPrefixAt now = disks.honest now.disk → Leaves (disks.state now.disk)
+      (IsPrefix (shape now.store.extents) (page now.opened) (commands_said now.history) now.store.frontier now.store.accepted)
 
   -- the store accepts this event as a command, and the commit behind it ends so
   abbrev pub DoesAndCommits : Event → (old new : View D) → Outcome → Type 0

@@ -6,3 +6,4 @@ pub mod Outcomes
 pub mod Outputs
 pub mod Reclaims
 pub mod Scrubs
+pub mod Stats

@@ -1,12 +1,8 @@
 //! The command `del`.
 ghost use Rattle.std.specs.Prelude.{◌↔◌};
-ghost use Rattle.cs_core.specs.Meanings.{commands_said};
-ghost use Rattle.cs_disk.specs.Disk.{Leaves, LeavesOnly, page};
-ghost use Rattle.cs_extent.specs.State.{shape};
 ghost use Rattle.cs_model.specs.Element.{Map};
-ghost use Rattle.cs_refine.specs.Crashes.{IsPrefix};
 ghost use Rattle.cs_store.specs.Maps.{HasMap};
-ghost use Rattle.cs_tools.specs.Changes.{Deletes, DeletesFrom};
+ghost use Rattle.cs_tools.specs.Changes.{Deletes, DeletesFrom, LeavesPrefixAt, LeavesPrefixBetween};
 
 use crate::commits::commit;
 use crate::outcomes::Outcome;
@@ -22,9 +18,9 @@ pub fn delete<D: PageDisk>(store: &mut Store<D>, id: ShardId) -> Outcome
     ensures events { Deletes D.PageDisk id store.old store.new result }
     ensures map { (m : Map) → HasMap store.old m → D.honest store.old.disk → DeletesFrom D.PageDisk m id store.old store.new result }
     // A crash at any moment of it leaves the map after some of the commands, none of those left out that were persistent before.
-    ensures crash { D.honest store.old.disk → LeavesOnly D.moment D.left_since store.old.disk store.new.disk (IsPrefix (shape store.old.store.extents) (page store.old.opened) (commands_said store.new.history) store.old.store.frontier store.new.store.accepted) }
+    ensures crash { LeavesPrefixBetween D.PageDisk store.old store.new }
     // A crash after it does so for the commands and the frontier then.
-    ensures left { D.honest store.new.disk → Leaves (D.state store.new.disk) (IsPrefix (shape store.new.store.extents) (page store.new.opened) (commands_said store.new.history) store.new.store.frontier store.new.store.accepted) }
+    ensures left { LeavesPrefixAt D.PageDisk store.new }
     ensures honest { D.honest store.old.disk ↔ D.honest store.new.disk }
 {
     match store.delete(id) {

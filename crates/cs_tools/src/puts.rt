@@ -1,12 +1,9 @@
 //! The command `put`.
 ghost use Rattle.std.specs.Prelude.{◌≡◌, ◌⊎◌, ◌+◌, ◌^◌, ◌<◌, ◌↔◌, ℕ, List, IfOk, Some, length, take};
-ghost use Rattle.cs_core.specs.Meanings.{commands_said};
-ghost use Rattle.cs_disk.specs.Disk.{Leaves, LeavesOnly, page};
 ghost use Rattle.cs_extent.specs.State.{shape};
 ghost use Rattle.cs_model.specs.Element.{Map};
-ghost use Rattle.cs_refine.specs.Crashes.{IsPrefix};
 ghost use Rattle.cs_store.specs.Maps.{HasMap};
-ghost use Rattle.cs_tools.specs.Changes.{Puts, PutsInto, most_bytes};
+ghost use Rattle.cs_tools.specs.Changes.{LeavesPrefixAt, LeavesPrefixBetween, Puts, PutsInto, most_bytes};
 ghost use Rattle.cs_tools.specs.declared.outcomes.Outcome.TheVariants.{Failed, Refused};
 
 use crate::commits::commit;
@@ -50,9 +47,9 @@ pub fn put<D: PageDisk, R: Read + Drop>(
     // Whatever the reader gives, some bytes are put so, once.
     ensures once { (bytes : List ℕ) × Puts D.PageDisk id bytes store.old store.new result }
     // A crash at any moment of it leaves the map after some of the commands, none of those left out that were persistent before.
-    ensures crash { D.honest store.old.disk → LeavesOnly D.moment D.left_since store.old.disk store.new.disk (IsPrefix (shape store.old.store.extents) (page store.old.opened) (commands_said store.new.history) store.old.store.frontier store.new.store.accepted) }
+    ensures crash { LeavesPrefixBetween D.PageDisk store.old store.new }
     // A crash after it does so for the commands and the frontier then.
-    ensures left { D.honest store.new.disk → Leaves (D.state store.new.disk) (IsPrefix (shape store.new.store.extents) (page store.new.opened) (commands_said store.new.history) store.new.store.frontier store.new.store.accepted) }
+    ensures left { LeavesPrefixAt D.PageDisk store.new }
     ensures honest { D.honest store.old.disk ↔ D.honest store.new.disk }
 {
     // Called for its contract alone: what a crash leaves now.
@@ -78,8 +75,8 @@ fn put_bytes<D: PageDisk>(store: &mut Store<D>, id: ShardId, bytes: &[u8]) -> Ou
     ensures events { Puts D.PageDisk id bytes.now store.old store.new result }
     ensures map { (m : Map) → HasMap store.old m → D.honest store.old.disk → PutsInto D.PageDisk m id bytes.now store.old store.new result }
     ensures large { most_bytes (shape store.old.store.extents) < length bytes.now → (result ≡ Refused Refusal.TooLarge) × (store.new ≡ store.old) }
-    ensures crash { D.honest store.old.disk → LeavesOnly D.moment D.left_since store.old.disk store.new.disk (IsPrefix (shape store.old.store.extents) (page store.old.opened) (commands_said store.new.history) store.old.store.frontier store.new.store.accepted) }
-    ensures left { D.honest store.new.disk → Leaves (D.state store.new.disk) (IsPrefix (shape store.new.store.extents) (page store.new.opened) (commands_said store.new.history) store.new.store.frontier store.new.store.accepted) }
+    ensures crash { LeavesPrefixBetween D.PageDisk store.old store.new }
+    ensures left { LeavesPrefixAt D.PageDisk store.new }
     ensures honest { D.honest store.old.disk ↔ D.honest store.new.disk }
 {
     // Called for its contract alone: what a crash leaves now.

@@ -1,14 +1,11 @@
 //! The command `reclaim`.
 ghost use Rattle.std.specs.Prelude.{◌≡◌, ◌⊎◌, ◌<◌, ◌↔◌, IfOk, IfSome, IsOk, OnOk, Some, length};
-ghost use Rattle.cs_core.specs.Meanings.{commands_said};
 ghost use Rattle.cs_deps.specs.declared.refusals.Refusal.{Refusal as Why};
-ghost use Rattle.cs_disk.specs.Disk.{Leaves, LeavesOnly, page};
-ghost use Rattle.cs_extent.specs.State.{shape};
 ghost use Rattle.cs_index.specs.State.{id_number};
 ghost use Rattle.cs_model.specs.Element.{Bytes as Held, Map};
-ghost use Rattle.cs_refine.specs.Crashes.{IsPrefix};
 ghost use Rattle.cs_store.specs.Maps.{HasMap};
 ghost use Rattle.cs_store.specs.Reclaims.{ReadsOn};
+ghost use Rattle.cs_tools.specs.Changes.{LeavesPrefixAt, LeavesPrefixBetween};
 ghost use Rattle.cs_tools.specs.Reclaims.{IsPersistent, Tidies};
 ghost use Rattle.cs_tools.specs.declared.outcomes.Outcome.TheVariants.{Done, Failed, Refused};
 
@@ -57,9 +54,9 @@ pub fn reclaim<D: PageDisk, W: Write>(
     ensures map { D.honest core.old.disk → (m : Map) → HasMap core.old m → HasMap core.new m }
     ensures honest { D.honest core.old.disk ↔ D.honest core.new.disk }
     // A crash at any moment of it leaves the map after some of the commands, none of those left out that were persistent before.
-    ensures crash { D.honest core.old.disk → LeavesOnly D.moment D.left_since core.old.disk core.new.disk (IsPrefix (shape core.old.store.extents) (page core.old.opened) (commands_said core.new.history) core.old.store.frontier core.new.store.accepted) }
+    ensures crash { LeavesPrefixBetween D.PageDisk core.old core.new }
     // A crash after it does so for the commands and the frontier then.
-    ensures left { D.honest core.new.disk → Leaves (D.state core.new.disk) (IsPrefix (shape core.new.store.extents) (page core.new.opened) (commands_said core.new.history) core.new.store.frontier core.new.store.accepted) }
+    ensures left { LeavesPrefixAt D.PageDisk core.new }
 {
     // Called for its contract alone: which state of the machine the core is in.
     core.progress();

@@ -1,7 +1,12 @@
 //! The command `stat`.
-ghost use Rattle.std.specs.Prelude.{◌≡◌, ◌⊎◌, ◌↔◌, ◌<◌, IsTrue};
+ghost use Rattle.std.specs.Prelude.{◌≡◌, ◌⊎◌, ◌↔◌, ◌<◌, IsTrue, OnOk};
+ghost use Rattle.std.specs.Io.KnownBytes.{Appends};
 ghost use Rattle.cs_chunk.specs.Reads.{OnlyReads};
+ghost use Rattle.cs_extent.specs.State.{shape};
+ghost use Rattle.cs_model.specs.Device.{Shape};
+ghost use Rattle.cs_tools.specs.Stats.{BeginsWith, GoesOn, geometry_text, number_text};
 ghost use Rattle.cs_tools.specs.declared.outcomes.Outcome.TheVariants.{Done, Failed, Refused};
+ghost use Rattle.cs_tools.specs.declared.outputs.Style.TheVariants.{Json, Text};
 
 use crate::outcomes::Outcome;
 use crate::outputs::Style;
@@ -31,6 +36,9 @@ pub fn stat<D: PageDisk, W: Write>(
     ensures ends { (result ≡ Done) ⊎ (result ≡ Refused Refusal.OutOfMemory) ⊎ (result ≡ Failed) }
     ensures same { core.new ≡ record core.old { disk = core.new.disk } }
     ensures disk { OnlyReads D.PageDisk core.old.disk core.new.disk }
+    // What is printed begins with the dimensions of the store, its format among them.
+    ensures geometry { result ≡ Done → let S : Shape = shape core.old.store.extents in
+        BeginsWith (W.contents writer.old) (W.contents writer.new) (geometry_text style S.extents S.pages S.sections S.format) }
 {
     let geometry = core.extents().geometry();
     let kept = Kept {
@@ -51,15 +59,28 @@ fn report<W: Write>(
     style: Style,
     writer: &mut W,
 ) -> Outcome
-    ensures { (result ≡ Done) ⊎ (result ≡ Failed) }
+    ensures ends { (result ≡ Done) ⊎ (result ≡ Failed) }
+    ensures geometry { result ≡ Done → BeginsWith (W.contents writer.old) (W.contents writer.new) (geometry_text style geometry.extents geometry.pages geometry.sections geometry.format) }
 {
-    let printed = match style {
-        Style::Text => print_lines(writer, geometry, kept, stats),
-        Style::Json => print_object(writer, geometry, kept, stats),
-    };
-    match printed {
+    match print_all(geometry, kept, stats, style, writer) {
         Ok(()) => Outcome::Done,
         Err(_) => Outcome::Failed,
+    }
+}
+
+/// The same, with the writer's error.
+fn print_all<W: Write>(
+    geometry: Geometry,
+    kept: Kept,
+    stats: &Stats,
+    style: Style,
+    writer: &mut W,
+) -> io::Result<()>
+    ensures { OnOk result (BeginsWith (W.contents writer.old) (W.contents writer.new) (geometry_text style geometry.extents geometry.pages geometry.sections geometry.format)) }
+{
+    match style {
+        Style::Text => print_lines(writer, geometry, kept, stats),
+        Style::Json => print_object(writer, geometry, kept, stats),
     }
 }
 
@@ -69,33 +90,66 @@ fn print_lines<W: Write>(
     geometry: Geometry,
     kept: Kept,
     stats: &Stats,
-) -> io::Result<()> {
-    let extents = geometry.extents();
-    let pages = geometry.pages();
-    let sections = geometry.sections();
-    writeln!(
-        writer,
-        "geometry extents {extents} pages {pages} sections {sections}"
-    )?;
+) -> io::Result<()>
+    ensures { OnOk result (BeginsWith (W.contents writer.old) (W.contents writer.new) (geometry_text Text geometry.extents geometry.pages geometry.sections geometry.format)) }
+{
+    print_geometry(writer, geometry)?;
+    print_figures(writer, kept, stats)
+}
+
+/// The lines behind the first one.
+fn print_figures<W: Write>(writer: &mut W, kept: Kept, stats: &Stats) -> io::Result<()>
+    ensures { OnOk result (GoesOn (W.contents writer.old) (W.contents writer.new)) }
+{
     print_extents(writer, &stats.extents)?;
     print_empty(writer, stats.empty)?;
-    for run in &stats.runs {
-        print_run(writer, *run)?;
-    }
+    print_run_lines(writer, &stats.runs)?;
     print_counts(writer, kept, stats)?;
     writer.flush()
 }
 
-/// The line of how many extents are empty, and a warning where they are few.
-fn print_empty<W: Write>(writer: &mut W, empty: usize) -> io::Result<()> {
-    writeln!(writer, "empty {empty}")?;
-    if is_low(empty) {
-        writeln!(
-            writer,
-            "low on room: reclaim, or export into a larger store"
-        )?;
+/// The line of the geometry.
+fn print_geometry<W: Write>(writer: &mut W, geometry: Geometry) -> io::Result<()>
+    ensures { OnOk result (Appends (W.contents writer.old) (W.contents writer.new) (geometry_text Text geometry.extents geometry.pages geometry.sections geometry.format)) }
+{
+    let extents = u64::from(geometry.extents());
+    let pages = u64::from(geometry.pages());
+    let sections = u64::from(geometry.sections());
+    let format = u64::from(geometry.format());
+    print_number(writer, "geometry extents ", extents)?;
+    print_number(writer, " pages ", pages)?;
+    print_number(writer, " sections ", sections)?;
+    print_number(writer, " format ", format)?;
+    writeln!(writer)
+}
+
+/// A number behind this.
+fn print_number<W: Write>(writer: &mut W, before: &str, number: u64) -> io::Result<()>
+    ensures { OnOk result (Appends (W.contents writer.old) (W.contents writer.new) (number_text before.now number)) }
+{
+    write!(writer, "{before}{number}")
+}
+
+/// The lines of the runs.
+fn print_run_lines<W: Write>(writer: &mut W, runs: &[RunUse]) -> io::Result<()>
+    ensures { OnOk result (GoesOn (W.contents writer.old) (W.contents writer.new)) }
+{
+    for number in 0..runs.len() {
+        print_run(writer, runs[number])?;
     }
     Ok(())
+}
+
+/// The line of how many extents are empty, and a warning where they are few.
+fn print_empty<W: Write>(writer: &mut W, empty: usize) -> io::Result<()>
+    ensures { OnOk result (GoesOn (W.contents writer.old) (W.contents writer.new)) }
+{
+    let warning = if is_low(empty) {
+        "low on room: reclaim, or export into a larger store\n"
+    } else {
+        ""
+    };
+    write!(writer, "empty {empty}\n{warning}")
 }
 
 /// Whether so few extents are empty that a store may run out of room for good: a put leaves two of them empty, and a sweep may take two.
@@ -106,44 +160,64 @@ fn is_low(empty: usize) -> bool
 }
 
 /// The lines of the extents that aren't empty.
-fn print_extents<W: Write>(writer: &mut W, extents: &[ExtentUse]) -> io::Result<()> {
+fn print_extents<W: Write>(writer: &mut W, extents: &[ExtentUse]) -> io::Result<()>
+    ensures { OnOk result (GoesOn (W.contents writer.old) (W.contents writer.new)) }
+{
     for number in 0..extents.len() {
-        if extents[number].pointer > 0 {
-            print_extent(writer, number, extents[number])?;
-        }
+        print_extent(writer, number, extents[number])?;
     }
     Ok(())
 }
 
-/// The line of an extent.
-fn print_extent<W: Write>(writer: &mut W, number: usize, used: ExtentUse) -> io::Result<()> {
+/// The line of an extent that isn't empty.
+fn print_extent<W: Write>(writer: &mut W, number: usize, used: ExtentUse) -> io::Result<()>
+    ensures { OnOk result (GoesOn (W.contents writer.old) (W.contents writer.new)) }
+{
+    if used.pointer == 0 {
+        return Ok(());
+    }
+    print_pages(writer, number, used)?;
+    print_marks(writer, used)
+}
+
+/// Of an extent's line how many of its pages are given and live, and how often it was reset.
+fn print_pages<W: Write>(writer: &mut W, number: usize, used: ExtentUse) -> io::Result<()>
+    ensures { OnOk result (GoesOn (W.contents writer.old) (W.contents writer.new)) }
+{
     let dead = used.dead();
     let ExtentUse {
         pointer,
         generation,
-        is_open,
-        is_swept,
         live,
-        unreadable,
+        ..
     } = used;
     write!(
         writer,
         "extent {number} pointer {pointer} live {live} dead {dead} generation {generation}"
-    )?;
-    if is_open {
-        write!(writer, " open")?;
+    )
+}
+
+/// Of an extent's line whether it is open and swept, and how many headers can't be read.
+fn print_marks<W: Write>(writer: &mut W, used: ExtentUse) -> io::Result<()>
+    ensures { OnOk result (GoesOn (W.contents writer.old) (W.contents writer.new)) }
+{
+    let open = word_where(used.is_open, " open");
+    let swept = word_where(used.is_swept, " swept");
+    match used.unreadable {
+        0 => writeln!(writer, "{open}{swept}"),
+        unreadable => writeln!(writer, "{open}{swept} unreadable {unreadable}"),
     }
-    if is_swept {
-        write!(writer, " swept")?;
-    }
-    if unreadable > 0 {
-        write!(writer, " unreadable {unreadable}")?;
-    }
-    writeln!(writer)
+}
+
+/// This word where something is so, else none.
+fn word_where(is_so: bool, word: &str) -> &str {
+    if is_so { word } else { "" }
 }
 
 /// The line of a run.
-fn print_run<W: Write>(writer: &mut W, run: RunUse) -> io::Result<()> {
+fn print_run<W: Write>(writer: &mut W, run: RunUse) -> io::Result<()>
+    ensures { OnOk result (GoesOn (W.contents writer.old) (W.contents writer.new)) }
+{
     let extent = run.place.extent;
     let page = run.place.page;
     let entries = run.entries;
@@ -151,11 +225,14 @@ fn print_run<W: Write>(writer: &mut W, run: RunUse) -> io::Result<()> {
 }
 
 /// The lines of the counts.
-fn print_counts<W: Write>(writer: &mut W, kept: Kept, stats: &Stats) -> io::Result<()> {
-    writeln!(writer, "named {} of {}", stats.named, stats.named_limit)?;
-    writeln!(writer, "shards {}", stats.shards)?;
-    writeln!(writer, "chunks {}", stats.chunks)?;
-    writeln!(writer, "events {} of {}", kept.events, kept.limit)
+fn print_counts<W: Write>(writer: &mut W, kept: Kept, stats: &Stats) -> io::Result<()>
+    ensures { OnOk result (GoesOn (W.contents writer.old) (W.contents writer.new)) }
+{
+    writeln!(
+        writer,
+        "named {} of {}\nshards {}\nchunks {}\nevents {} of {}",
+        stats.named, stats.named_limit, stats.shards, stats.chunks, kept.events, kept.limit
+    )
 }
 
 /// All of it as one JSON object.
@@ -164,51 +241,55 @@ fn print_object<W: Write>(
     geometry: Geometry,
     kept: Kept,
     stats: &Stats,
-) -> io::Result<()> {
-    let extents = geometry.extents();
-    let pages = geometry.pages();
-    let sections = geometry.sections();
-    write!(
-        writer,
-        "{{\"extents\":{extents},\"pages\":{pages},\"sections\":{sections},\"uses\":["
-    )?;
+) -> io::Result<()>
+    ensures { OnOk result (BeginsWith (W.contents writer.old) (W.contents writer.new) (geometry_text Json geometry.extents geometry.pages geometry.sections geometry.format)) }
+{
+    print_geometry_members(writer, geometry)?;
+    print_figure_members(writer, kept, stats)
+}
+
+/// The members behind those of the geometry.
+fn print_figure_members<W: Write>(writer: &mut W, kept: Kept, stats: &Stats) -> io::Result<()>
+    ensures { OnOk result (GoesOn (W.contents writer.old) (W.contents writer.new)) }
+{
+    write!(writer, "\"uses\":[")?;
     print_uses(writer, &stats.extents)?;
-    let low = is_low(stats.empty);
-    write!(
-        writer,
-        "],\"empty\":{},\"low\":{low},\"runs\":[",
-        stats.empty
-    )?;
+    print_empty_members(writer, stats.empty)?;
     print_runs(writer, &stats.runs)?;
-    write!(
-        writer,
-        "],\"named\":{},\"limit\":{}",
-        stats.named, stats.named_limit
-    )?;
-    write!(
-        writer,
-        ",\"shards\":{},\"chunks\":{}",
-        stats.shards, stats.chunks
-    )?;
-    writeln!(
-        writer,
-        ",\"events\":{},\"events_limit\":{}}}",
-        kept.events, kept.limit
-    )?;
+    print_count_members(writer, kept, stats)?;
     writer.flush()
 }
 
+/// The members of the geometry.
+fn print_geometry_members<W: Write>(writer: &mut W, geometry: Geometry) -> io::Result<()>
+    ensures { OnOk result (Appends (W.contents writer.old) (W.contents writer.new) (geometry_text Json geometry.extents geometry.pages geometry.sections geometry.format)) }
+{
+    let extents = u64::from(geometry.extents());
+    let pages = u64::from(geometry.pages());
+    let sections = u64::from(geometry.sections());
+    let format = u64::from(geometry.format());
+    print_number(writer, "{\"extents\":", extents)?;
+    print_number(writer, ",\"pages\":", pages)?;
+    print_number(writer, ",\"sections\":", sections)?;
+    print_number(writer, ",\"format\":", format)?;
+    write!(writer, ",")
+}
+
 /// A JSON object for each extent.
-fn print_uses<W: Write>(writer: &mut W, extents: &[ExtentUse]) -> io::Result<()> {
+fn print_uses<W: Write>(writer: &mut W, extents: &[ExtentUse]) -> io::Result<()>
+    ensures { OnOk result (GoesOn (W.contents writer.old) (W.contents writer.new)) }
+{
     for number in 0..extents.len() {
-        print_comma(writer, number)?;
-        print_use(writer, extents[number])?;
+        print_use(writer, number, extents[number])?;
     }
     Ok(())
 }
 
-/// The JSON object of an extent.
-fn print_use<W: Write>(writer: &mut W, used: ExtentUse) -> io::Result<()> {
+/// The JSON object of an extent, behind a comma where it isn't the first one.
+fn print_use<W: Write>(writer: &mut W, number: usize, used: ExtentUse) -> io::Result<()>
+    ensures { OnOk result (GoesOn (W.contents writer.old) (W.contents writer.new)) }
+{
+    let comma = word_where(number > 0, ",");
     let dead = used.dead();
     let ExtentUse {
         pointer,
@@ -220,35 +301,49 @@ fn print_use<W: Write>(writer: &mut W, used: ExtentUse) -> io::Result<()> {
     } = used;
     write!(
         writer,
-        "{{\"pointer\":{pointer},\"live\":{live},\"dead\":{dead},\"unreadable\":{unreadable}"
-    )?;
-    write!(
-        writer,
-        ",\"generation\":{generation},\"open\":{is_open},\"swept\":{is_swept}}}"
+        "{comma}{{\"pointer\":{pointer},\"live\":{live},\"dead\":{dead},\"unreadable\":{unreadable},\"generation\":{generation},\"open\":{is_open},\"swept\":{is_swept}}}"
     )
 }
 
+/// The end of the extents, how many are empty and whether they are few, and the beginning of the runs.
+fn print_empty_members<W: Write>(writer: &mut W, empty: usize) -> io::Result<()>
+    ensures { OnOk result (GoesOn (W.contents writer.old) (W.contents writer.new)) }
+{
+    let low = is_low(empty);
+    write!(writer, "],\"empty\":{empty},\"low\":{low},\"runs\":[")
+}
+
 /// A JSON object for each run.
-fn print_runs<W: Write>(writer: &mut W, runs: &[RunUse]) -> io::Result<()> {
+fn print_runs<W: Write>(writer: &mut W, runs: &[RunUse]) -> io::Result<()>
+    ensures { OnOk result (GoesOn (W.contents writer.old) (W.contents writer.new)) }
+{
     for number in 0..runs.len() {
-        print_comma(writer, number)?;
-        let run = runs[number];
-        let extent = run.place.extent;
-        let page = run.place.page;
-        let entries = run.entries;
-        write!(
-            writer,
-            "{{\"extent\":{extent},\"page\":{page},\"entries\":{entries}}}"
-        )?;
+        print_run_object(writer, number, runs[number])?;
     }
     Ok(())
 }
 
-/// A comma ahead of all but the first one.
-fn print_comma<W: Write>(writer: &mut W, number: usize) -> io::Result<()> {
-    if number > 0 {
-        write!(writer, ",")
-    } else {
-        Ok(())
-    }
+/// The JSON object of a run, behind a comma where it isn't the first one.
+fn print_run_object<W: Write>(writer: &mut W, number: usize, run: RunUse) -> io::Result<()>
+    ensures { OnOk result (GoesOn (W.contents writer.old) (W.contents writer.new)) }
+{
+    let comma = word_where(number > 0, ",");
+    let extent = run.place.extent;
+    let page = run.place.page;
+    let entries = run.entries;
+    write!(
+        writer,
+        "{comma}{{\"extent\":{extent},\"page\":{page},\"entries\":{entries}}}"
+    )
+}
+
+/// The end of the runs, the counts, and the end of the object.
+fn print_count_members<W: Write>(writer: &mut W, kept: Kept, stats: &Stats) -> io::Result<()>
+    ensures { OnOk result (GoesOn (W.contents writer.old) (W.contents writer.new)) }
+{
+    writeln!(
+        writer,
+        "],\"named\":{},\"limit\":{},\"shards\":{},\"chunks\":{},\"events\":{},\"events_limit\":{}}}",
+        stats.named, stats.named_limit, stats.shards, stats.chunks, kept.events, kept.limit
+    )
 }

@@ -1,0 +1,15 @@
+use Rattle.cs_tools.proofs.Appended.{whatever}
+use Rattle.cs_tools.proofs.Continued.{goes_kept, goes_then}
+use Rattle.cs_tools.proofs.stats.print_figures.Goals as goal
+
+pub returns : goal.returns
+returns g c =
+    let contents = g.W.Write.contents in
+    let start = contents c.args.writer.now in
+    let extents = contents c.print_extents.new.writer in
+    let empty = contents c.print_empty.new.writer in
+    let runs = contents c.print_run_lines.new.writer in
+    let counts = contents c.print_counts.new.writer in
+    whatever c.flush.result (goes_kept start counts (contents c.flush.new.self)
+    (goes_then start runs counts (goes_then start empty runs (goes_then start extents empty c.in_ok-print_extents.ensures c.in_ok-print_empty.ensures) c.in_ok-print_run_lines.ensures) c.in_ok-print_counts.ensures)
+    c.flush.ensures.bytes)
