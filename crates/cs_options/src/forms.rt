@@ -257,14 +257,19 @@ pub const FORMS: &[Form] = &[
                 help: "How many bytes a shard has, 0 to 8,388,280",
             },
             Choice {
+                name: "format",
+                takes: Takes::Number("2"),
+                help: "Which format the store has: 2, or 3, which is not final",
+            },
+            Choice {
                 name: "extents",
                 takes: Takes::Number("64"),
-                help: "How many extents the store has, 4 to 2,048",
+                help: "How many extents the store has, 4 to 2,048; in format 3 from 5 to 7,680",
             },
             Choice {
                 name: "pages",
                 takes: Takes::Number("256"),
-                help: "How many pages of 4,096 bytes an extent has, 2 to 256",
+                help: "How many pages of 4,096 bytes an extent has, 2 to 256; in format 3 to 65,535",
             },
             JSON,
         ],
