@@ -18,13 +18,13 @@ fn read<'a>(
     }
 }
 
-/// The pages of the device that a `run` with these words asks for, or why there is no such geometry.
+/// The pages of the device that the command of these words asks for, or why there is no such geometry.
 fn device_pages(
     rt: &(impl Abort + AllocGlobal),
     words: &[&str],
 ) -> Result<Result<u64, Refusal>, Fail> {
     let matches = read(rt.alloc(), words)?.expect(rt, "read");
-    let options = matches.subcommand_matches("run").expect(rt, "a run");
+    let (_, options) = matches.subcommand().expect(rt, "a command");
     match geometry_of(options) {
         Ok(geometry) => Ok(Ok(geometry.device_pages())),
         Err(refusal) => Ok(Err(refusal)),
@@ -61,6 +61,8 @@ const GEOMETRIES: &[(&[&str], u64)] = &[
         ],
         503_308_832,
     ),
+    (&["cs_cli", "bench", "--file=f"], 16_386),
+    (&["cs_cli", "bench", "--file=f", "--format=3"], 16_388),
 ];
 
 /// Words that ask for one that there isn't.
@@ -82,7 +84,7 @@ const NO_GEOMETRIES: &[&[&str]] = &[
 ];
 
 #[test]
-fn the_geometry_of_a_run(rt: HostRuntime) -> Result<(), Fail> {
+fn the_geometry_of_a_new_store(rt: HostRuntime) -> Result<(), Fail> {
     for (words, pages) in GEOMETRIES {
         assert_eq!(&rt; device_pages(&rt, words)?, Ok(*pages));
     }
