@@ -1,7 +1,9 @@
 //! The worked rows of allocation, and each public function once.
 ghost use Rattle.std.specs.Prelude.{◌^◌, ◌<◌};
 
-use crate::stores::{Store, assert_families, geometry, new_extents, plays, plays_divided};
+use crate::stores::{
+    Store, assert_families, geometry, new_extents, plays, plays_divided, plays_third,
+};
 use crate::texts::{byte, text_of, words_of};
 use cs_deps::{Dependency, Element, Graph, Refusal};
 use cs_extent::{
@@ -120,6 +122,12 @@ fn spelled(rt: &(impl Abort + AllocGlobal), graph: &Graph, section: u8, version:
     text_of(rt, &(spelled.version, spelled.section, &spelled.extents))
 }
 
+/// Stages the next version of the root by the rule of the store's format.
+fn stage_own_root(rt: &impl Abort, alloc: Global, store: &mut Store) -> Result<u64, Refusal> {
+    let pages_first = store.extents.pages_first();
+    stage_root(rt, alloc, store, pages_first)
+}
+
 /// How many extents there are, of how many pages, and of how many sections.
 fn dimensions(extents: &Extents) -> (u16, u16, u8) {
     let geometry = extents.geometry();
@@ -138,6 +146,7 @@ pub fn said(rt: &(impl Abort + AllocGlobal), store: &mut Store, line: &str) -> S
         "state" => text_of(rt, &state(rt, store, extent)),
         "fits" => text_of(rt, &fits(rt, store)),
         "root" => text_of(rt, &stage_root(rt, rt.alloc(), store, true)),
+        "own" => text_of(rt, &stage_own_root(rt, rt.alloc(), store)),
         "whole" => text_of(rt, &stage_root(rt, rt.alloc(), store, false)),
         "two" => text_of(rt, &names_superblock(rt, store)),
         "reserve" => text_of(rt, &reserve(store)),
@@ -246,6 +255,46 @@ names 1.3 3.2 > true
 names 1.3 1 > true
 names 1.3 9 > true
 names 1.3 10 > false";
+
+/// In format 3 the superblock doesn't need the pages that it shows, and each root needs all that were staged before it.
+#[test]
+fn in_format_3_the_root_needs_the_pages(rt: HostRuntime) {
+    plays_third(&rt, 1, THIRD);
+}
+
+const THIRD: &str = "extent two > true
+names 0.2 1 > false
+names 0.2 2 > false
+extent own > Ok(2)
+names 1.2 0.2 > true
+names 1.2 1 > true
+names 1.2 2 > true
+extent put > Ok(((1, 0, 0), Some(4)))
+names 0.3 3 > false
+names 1.2 3 > false
+extent own > Ok(3)
+names 1.3 0.3 > true
+names 1.3 3 > true";
+
+/// So it is of several sections: a root needs the pages of all of them.
+#[test]
+fn in_format_3_the_root_needs_all_sections_pages(rt: HostRuntime) {
+    plays_third(&rt, 3, THIRD_DIVIDED);
+}
+
+const THIRD_DIVIDED: &str = "extent put > Ok(((0, 0, 0), Some(2)))
+extent put > Ok(((0, 1, 0), Some(3)))
+extent put > Ok(((1, 0, 0), Some(4)))
+extent put > Ok(((1, 1, 0), Some(5)))
+extent put > Ok(((2, 0, 0), Some(6)))
+names 0.5 1 > false
+names 0.5 4 > false
+names 2.2 5 > false
+extent own > Ok(2)
+names 1.2 0.5 > true
+names 1.2 2.2 > true
+names 1.2 1 > true
+names 1.2 5 > true";
 
 /// The section of an extent that was emptied says so with its next version, and no version of another section needs the root that emptied it.
 #[test]

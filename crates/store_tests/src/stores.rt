@@ -177,6 +177,12 @@ pub fn plays_large(rt: &(impl Abort + AllocGlobal), script: &str) {
     plays_on(rt, geometry(rt, 12, 1), 100, 0, script);
 }
 
+/// Does what a script says on an empty store of format 3, of 6 extents of 2 pages and of so many sections.
+pub fn plays_third(rt: &(impl Abort + AllocGlobal), sections: u64, script: &str) {
+    let third = Geometry::of_format(3, 6, 2, Some(sections)).expect(rt, "a geometry");
+    plays_on(rt, third, 100, 0, script);
+}
+
 /// Does what a script says on an empty store of 6 extents, of which each of three sections has two.
 pub fn plays_divided(rt: &(impl Abort + AllocGlobal), script: &str) {
     plays_on(rt, geometry(rt, 6, 3), 100, 0, script);
