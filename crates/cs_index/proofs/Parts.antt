@@ -68,12 +68,6 @@ module _ (runs : List StoredRun) (n k : ℕ) (split : n + k ≡ length runs) whe
       let same : length (newest_first (take n runs)) ≡ length (drop k (newest_first runs)) = ap length newest_left in
       omega (arith, e, same, few)
 
-  pub few_left_below : {most : ℕ} → length (drop k (newest_first runs)) < most → length (take n runs) < most
-  few_left_below few =
-      let e : length (newest_first (take n runs)) ≡ length (take n runs) = length-newest (take n runs) in
-      let same : length (newest_first (take n runs)) ≡ length (drop k (newest_first runs)) = ap length newest_left in
-      omega arith
-
   pub stored_newest : AllByRecursion IsStored (newest_first runs) → AllByRecursion IsStored (newest_first (drop n runs))
   stored_newest all = all_newest IsStored (drop n runs) (all_drop (λ (r : StoredRun). IsStored (run_of r)) n runs (all_oldest IsStored runs all))
 

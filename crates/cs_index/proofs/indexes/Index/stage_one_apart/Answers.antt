@@ -9,7 +9,7 @@ use Rattle.cs_model.specs.Element.{Run}
 use Rattle.cs_index.specs.Staged.{IsRunStagedBy}
 use Rattle.cs_index.specs.State.{index_of, named_entry, newest_first, state_of}
 use Rattle.cs_index.proofs.Living.{none_at_first}
-use Rattle.cs_index.proofs.Parts.{few_left_below, newest_left, parted_live, parted_names, parted_state, parted_whole}
+use Rattle.cs_index.proofs.Parts.{few_left, newest_left, parted_live, parted_names, parted_state, parted_whole}
 use Rattle.cs_index.proofs.Shards.{shards_same}
 use Rattle.cs_index.proofs.Staging.{is_run}
 use Rattle.cs_index.proofs.Tallies.{counts_as}
@@ -37,7 +37,7 @@ stage_run_apart-requires-clause-few c =
     let left = rw (← c.self.view_is) at c.requires.left in
     let n : ℕ = c.len.result - c.args.chosen.portion.newest in
     subst (λ (rs : List StoredRun). length (take n rs) < greatest_runs c.args.extents.now.format) (sym (c.deref.ensures.value ∙ c.in_ok-reserve.ensures.items))
-    (few_left_below c.self.inside.runs.items n c.args.chosen.portion.newest (split (goal.at.stage_run_apart-requires-clause-few c).After-named_after-named) left)
+    (few_left c.self.inside.runs.items n c.args.chosen.portion.newest (split (goal.at.stage_run_apart-requires-clause-few c).After-named_after-named) (greatest_runs c.args.extents.now.format) left)
 
 pub invariant_of-self-in-Ok : goal.invariant_of-self-in-Ok
 invariant_of-self-in-Ok c =
