@@ -87,23 +87,23 @@ exact_unwritten Writes x reason s none r h =
 
 -- ---- what was chosen
 
+-- a run that goes somewhere, or has no entry, isn't full
+not_full : (s : State) (x : ExtentsState) (k : ℕ) (reason : Reason) (E : List Entry) → IsRunOf (deletions_go (shape x) s k) (part s k) E → (E ≡ []) ⊎ ((e : ℕ) × GoesApart (shape x) (extents_of x) reason (length (run_frame x E)) e)
+    → IsFullApart (WritesNewest (shape x) s k) x reason → ⊥
+not_full s x k reason E run placed full =
+    let same : full.0 ≡ E = part_writes (deletions_go (shape x) s k) s k E full.0 run full.1 in
+    ⊎_elim
+    (λ (none : E ≡ []). full.1.1 (same ∙ none))
+    (λ (goes : (e : ℕ) × GoesApart (shape x) (extents_of x) reason (length (run_frame x E)) e).
+    full.2 goes.0 (subst (λ (es : List Entry). GoesApart (shape x) (extents_of x) reason (length (run_frame x es)) goes.0) (sym same) goes.1))
+    placed
+
 module _ (s : State) (x : ExtentsState) (g : Staging) where
   abbrev Takes : ℕ
   Takes = takes_apart (shape x) s
 
   abbrev All : ℕ
   All = length s.runs
-
-  -- a run that goes somewhere, or has no entry, isn't full
-  not_full : (k : ℕ) (reason : Reason) (E : List Entry) → IsRunOf (deletions_go (shape x) s k) (part s k) E → (E ≡ []) ⊎ ((e : ℕ) × GoesApart (shape x) (extents_of x) reason (length (run_frame x E)) e)
-      → IsFullApart (WritesNewest (shape x) s k) x reason → ⊥
-  not_full k reason E run placed full =
-      let same : full.0 ≡ E = part_writes (deletions_go (shape x) s k) s k E full.0 run full.1 in
-      ⊎_elim
-      (λ (none : E ≡ []). full.1.1 (same ∙ none))
-      (λ (goes : (e : ℕ) × GoesApart (shape x) (extents_of x) reason (length (run_frame x E)) e).
-      full.2 goes.0 (subst (λ (es : List Entry). GoesApart (shape x) (extents_of x) reason (length (run_frame x es)) goes.0) (sym same) goes.1))
-      placed
 
   -- a run that is full goes nowhere, so no number of its frame would pass the greatest
   not_worn : (k : ℕ) (reason : Reason) → IsFullApart (WritesNewest (shape x) s k) x reason → IsRunWornApart (WritesNewest (shape x) s k) x reason g → ⊥
@@ -120,12 +120,12 @@ module _ (s : State) (x : ExtentsState) (g : Staging) where
     why_taken run placed h =
         exact_same r ⊥ (IsStageFullApart s x) (IsRootWorn g ⊎ IsRunWornApart (WritesNewest (shape x) s Takes) x ForRun g) (IsStageWornApart s x g)
         (λ n. absurd n)
-        (λ full. not_full Takes ForRun E run placed full.0)
+        (λ full. not_full s x Takes ForRun E run placed full.0)
         (λ worn. ⊎_elim (λ (root : IsRootWorn g). inl root) (λ (w : IsRunWornApart (WritesNewest (shape x) s Takes) x ForRun g). inr (inl w)) worn)
         (λ worn. ⊎_elim (λ (root : IsRootWorn g). inl root)
         (λ (rest : IsRunWornApart (WritesNewest (shape x) s Takes) x ForRun g ⊎ (IsFullApart (WritesNewest (shape x) s Takes) x ForRun × IsRunWornApart (WritesNewest (shape x) s All) x ForMerge g)). ⊎_elim
         (λ (w : IsRunWornApart (WritesNewest (shape x) s Takes) x ForRun g). inr w)
-        (λ (w : IsFullApart (WritesNewest (shape x) s Takes) x ForRun × IsRunWornApart (WritesNewest (shape x) s All) x ForMerge g). absurd (not_full Takes ForRun E run placed w.0))
+        (λ (w : IsFullApart (WritesNewest (shape x) s Takes) x ForRun × IsRunWornApart (WritesNewest (shape x) s All) x ForMerge g). absurd (not_full s x Takes ForRun E run placed w.0))
         rest)
         worn)
         h
@@ -134,7 +134,7 @@ module _ (s : State) (x : ExtentsState) (g : Staging) where
     why_all full run placed h =
         exact_same r ⊥ (IsStageFullApart s x) (IsRootWorn g ⊎ IsRunWornApart (WritesNewest (shape x) s All) x ForMerge g) (IsStageWornApart s x g)
         (λ n. absurd n)
-        (λ both. not_full All ForMerge E run placed both.1)
+        (λ both. not_full s x All ForMerge E run placed both.1)
         (λ worn. ⊎_elim (λ (root : IsRootWorn g). inl root) (λ (w : IsRunWornApart (WritesNewest (shape x) s All) x ForMerge g). inr (inr (full, w))) worn)
         (λ worn. ⊎_elim (λ (root : IsRootWorn g). inl root)
         (λ (rest : IsRunWornApart (WritesNewest (shape x) s Takes) x ForRun g ⊎ (IsFullApart (WritesNewest (shape x) s Takes) x ForRun × IsRunWornApart (WritesNewest (shape x) s All) x ForMerge g)). ⊎_elim
@@ -179,6 +179,34 @@ chosen_keeps s x k go reason chosen goes keeps not = ⊎_elim
     (λ (c : (reason ≡ ForMerge) × (k ≡ length s.runs) × IsFullApart (WritesNewest (shape x) s (takes_apart (shape x) s)) x ForRun). absurd (not c.2))
     chosen
 
+-- where a run was chosen not both are full
+pub chosen_fits : (s : State) (x : ExtentsState) (E : List Entry) (k : ℕ) (go : Bool) (reason : Reason) → IsChosen s x reason k → go ≡ deletions_go (shape x) s k
+    → IsRunOf go (part s k) E → (E ≡ []) ⊎ ((e : ℕ) × GoesApart (shape x) (extents_of x) reason (length (run_frame x E)) e) → IsStageFullApart s x → ⊥
+chosen_fits s x E k go reason chosen goes run placed full =
+    let so : IsRunOf (deletions_go (shape x) s k) (part s k) E = subst (λ (b : Bool). IsRunOf b (part s k) E) goes run in
+    let not : IsFullApart (WritesNewest (shape x) s k) x reason → ⊥ = not_full s x k reason E so placed in
+    ⊎_elim
+    (λ (c : (reason ≡ ForRun) × (k ≡ takes_apart (shape x) s)).
+    not (subst (λ (p : Reason). IsFullApart (WritesNewest (shape x) s k) x p) (sym c.0) (subst (λ (n : ℕ). IsFullApart (WritesNewest (shape x) s n) x ForRun) (sym c.1) full.0)))
+    (λ (c : (reason ≡ ForMerge) × (k ≡ length s.runs) × IsFullApart (WritesNewest (shape x) s (takes_apart (shape x) s)) x ForRun).
+    not (subst (λ (p : Reason). IsFullApart (WritesNewest (shape x) s k) x p) (sym c.0) (subst (λ (n : ℕ). IsFullApart (WritesNewest (shape x) s n) x ForMerge) (sym c.1) full.1)))
+    chosen
+
+-- ---- refused though there is a place
+
+module _ (F W L : Type 0) where
+  pub why_too : (f : Refusal) → L → ((f ≡ WornOut) × (F → ⊥)) ⊎ ((f ≡ Full) × F) ⊎ (f ≡ OutOfMemory) → IsWhy f F (W ⊎ L)
+  why_too f last why = ⊎_elim
+      (λ (worn : (f ≡ WornOut) × (F → ⊥)). subst (λ (g : Refusal). IsWhy g F (W ⊎ L)) (sym worn.0) (worn.1, inr last))
+      (λ (rest : ((f ≡ Full) × F) ⊎ (f ≡ OutOfMemory)). ⊎_elim
+      (λ (full : (f ≡ Full) × F). subst (λ (g : Refusal). IsWhy g F (W ⊎ L)) (sym full.0) full.1)
+      (λ (memory : f ≡ OutOfMemory). subst (λ (g : Refusal). IsWhy g F (W ⊎ L)) (sym memory) tt)
+      rest)
+      why
+
+  pub exact_too : {T : Type 0} (r : Result T Refusal) → (L → ⊥) → IsExact r F W → IsExact r F (W ⊎ L)
+  exact_too r not h = exact_same r F F W (W ⊎ L) (λ full. full) (λ full. full) (λ worn. inl worn) (λ worn. ⊎_elim (λ (w : W). w) (λ (last : L). absurd (not last)) worn) h
+
 -- ---- the run that goes nowhere
 
 pub full_run : (s : State) (x : ExtentsState) (k : ℕ) (go : Bool) (reason : Reason) (E : List Entry) → go ≡ deletions_go (shape x) s k → IsRunOf go (part s k) E → E ≢ []
@@ -202,6 +230,9 @@ nothing_in go s es none writes = by es writes.1 refl
 module _ (s : State) (x : ExtentsState) (none : s.table ≡ []) where
   unwritten : (es : List Entry) → WritesNewest (shape x) s (takes_apart (shape x) s) es → ⊥
   unwritten es writes = nothing_in (deletions_go (shape x) s 0) s es none (subst (λ (k : ℕ). WritesNewest (shape x) s k es) (takes_none (shape x) s none) writes)
+
+  pub nowhere_none : IsStageFullApart s x → ⊥
+  nowhere_none full = unwritten full.0.0 full.0.1
 
   pub same_why : {T : Type 0} (g : Staging) (r : Result T Refusal) → IsExact r ⊥ (IsRootWorn g) → IsExact r (IsStageFullApart s x) (IsStageWornApart s x g)
   same_why g r h =

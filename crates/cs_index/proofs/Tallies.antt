@@ -142,10 +142,10 @@ short_run : (index xs ys : List Entry) → IsShortIndex index → IsMergedRun in
 short_run index xs [] short run among = tt
 short_run index xs (y ∷ ys) short run among = (
   (let is : live_at xs y.id ≡ y.locators = ap live (ascending_lookup xs y run.0 (among y (inl refl))) in
-  let same : live_at xs y.id ≡ live_at index y.id = merged_live index xs run y.id in
-  let e : length y.locators ≡ length (live_at index y.id) = ap length (sym is ∙ same) in
-  let le : length (live_at index y.id) ≤ 8 = short y.id in
-  omega arith),
+      let same : live_at xs y.id ≡ live_at index y.id = merged_live index xs run y.id in
+      let e : length y.locators ≡ length (live_at index y.id) = ap length (sym is ∙ same) in
+      let le : length (live_at index y.id) ≤ 8 = short y.id in
+      omega arith),
   short_run index xs ys short run (λ z has. among z (inr has)),
 )
 
@@ -173,9 +173,9 @@ pub counts_with : (before on : List ℕ) (index : List Entry) (x : Entry) → le
 counts_with before on index x size each was many = (
   (let a : length on ≡ 7680 = size ∙ many in a),
   λ e lt. (let a : get_or on e 0 ≡ get_or before e 0 + places_on e x.locators = each e (omega (arith, lt, many)) in
-  let b : get_or before e 0 ≡ lives_on e index - places_on e (live_at index x.id) = was e lt in
-  let c : lives_on e (x ∷ index) ≡ (lives_on e index - places_on e (live_at index x.id)) + places_on e x.locators = refl in
-  omega arith),
+      let b : get_or before e 0 ≡ lives_on e index - places_on e (live_at index x.id) = was e lt in
+      let c : lives_on e (x ∷ index) ≡ (lives_on e index - places_on e (live_at index x.id)) + places_on e x.locators = refl in
+      omega arith),
 )
 
 pub lives_at_least : (e : ℕ) (index : List Entry) (id : ℕ) → places_on e (live_at index id) ≤ lives_on e index
@@ -210,9 +210,9 @@ pub counts_more : (before on : List ℕ) (index xs : List Entry) (after : Option
 counts_more before on index xs after id ls was next counted size each = (
   size ∙ counted.0,
   λ e lt. (let a : get_or on e 0 ≡ get_or before e 0 + places_on e ls = each e (omega (arith, lt, counted.0)) in
-  let b : get_or before e 0 ≡ lives_on e xs = counted.1 e lt in
-  let c : lives_on e (xs ++ live_entry id ls) ≡ lives_on e xs + places_on e ls = counted_behind e xs id ls (merged_step index xs after id ls was next).ascending in
-  omega arith),
+      let b : get_or before e 0 ≡ lives_on e xs = counted.1 e lt in
+      let c : lives_on e (xs ++ live_entry id ls) ≡ lives_on e xs + places_on e ls = counted_behind e xs id ls (merged_step index xs after id ls was next).ascending in
+      omega arith),
 )
 
 zeros : (n k : ℕ) → get_or {A = ℕ} (replicate n 0) k 0 ≡ 0

@@ -81,6 +81,49 @@ impl Index {
         }
     }
 
+    /// The same, but where a number of the caller's would pass its greatest nothing is staged: 30 `Full` comes before 35 `WornOut` then too.
+    pub(crate) fn stage_unless(
+        &mut self,
+        extents: &mut Extents,
+        graph: &mut Graph,
+        commands: u64,
+        last: bool,
+    ) -> Result<u64, Refusal>
+        requires limit { self.old.limit ≡ (shape extents.old).most_names }
+        requires runs { length self.old.runs ≤ (shape extents.old).most_runs }
+        requires families { length graph.old.staging.latest ≡ 1 + (shape extents.old).sections }
+        requires resets { AreResetsStaged (extents_of extents.old) graph.old.staging }
+        requires commands { commands < 2 ^ 63 }
+        ensures staged { IfOk result (λ v. IsStagedApart self.old extents.old graph.old v commands self.new extents.new graph.new) }
+        ensures map { (id : ℕ) → live_at (index_of self.new) id ≡ live_at (index_of self.old) id }
+        ensures resets { AreResetsStaged (extents_of extents.new) graph.new.staging }
+        ensures families { length graph.new.staging.latest ≡ length graph.old.staging.latest }
+        ensures why { IsExact result (IsStageFullApart self.old extents.old) (IsStageWornApart self.old extents.old graph.old.staging ⊎ (last ≡ true)) }
+        ensures refused { OnErr result (self.new ≡ self.old) }
+        ensures unwritten { OnErr result (extents.new ≡ extents.old) }
+        ensures unstaged { OnErr result (graph.new ≡ record graph.old { room = graph.new.room }) }
+    {
+        if last {
+            return Err(self.why_not(extents));
+        }
+        self.stage_apart(extents, graph, commands)
+    }
+
+    /// Why a Stage is refused that a number of the caller's forbids.
+    fn why_not(&self, extents: &Extents) -> Refusal
+        requires { self.now.limit ≡ (shape extents.now).most_names }
+        ensures { ((result ≡ Refusal.WornOut) × ¬ IsStageFullApart self.now extents.now) ⊎ ((result ≡ Refusal.Full) × IsStageFullApart self.now extents.now) ⊎ (result ≡ Refusal.OutOfMemory) }
+    {
+        if self.is_table_empty() {
+            return Refusal::WornOut;
+        }
+        match self.choose(extents) {
+            Ok(_) => {}
+            Err(refusal) => return refusal,
+        }
+        Refusal::WornOut
+    }
+
     /// Stages the root over the runs as they are, where the table is empty.
     fn stage_same(
         &self,

@@ -1,5 +1,5 @@
 //! Copies that a sweep wrote of chunks, and an index once they count.
-ghost use Rattle.std.specs.Prelude.{◌≡◌, ℕ, ◌+◌, ◌∷◌, ◌<◌, ◌≤◌, ◌^◌, [], IfOk, MatchOption, OnErr, OnOk, false, length, map, true};
+ghost use Rattle.std.specs.Prelude.{◌≡◌, ◌⊎◌, ℕ, ◌+◌, ◌∷◌, ◌<◌, ◌≤◌, ◌^◌, [], IfOk, MatchOption, OnErr, OnOk, false, length, map, true};
 ghost use Rattle.cs_extent.specs.Frames.{AreResetsStaged};
 ghost use Rattle.cs_extent.specs.State.{extents_of, shape};
 ghost use Rattle.cs_frame.specs.Formats.{place_of};
@@ -68,9 +68,10 @@ const TABLE_ALONE: Portion = Portion {
 
 impl Index {
     /// As `stage_apart`, but first each of these copies, oldest first, counts: where its chunk still lies where it was copied from, it lies
-    /// where the copy is. Answers the version of the root.
+    /// where the copy is. Answers the version of the root. Where `last` says that a number of the caller's would pass its greatest, nothing
+    /// is staged.
     ///
-    /// 30 `Full` and 35 `WornOut` as `stage_apart` once the copies count; 9 `OutOfMemory` may come instead of either. After a refusal
+    /// 30 `Full` and 35 `WornOut` as `stage_apart` once the copies count, and 35 where `last` holds; 9 `OutOfMemory` may come instead of either. After a refusal
     /// nothing has changed but the graph's room, and no copy counts. Takes memory for the table and the run, and time for its entries.
     pub fn stage_settled(
         &mut self,
@@ -78,6 +79,7 @@ impl Index {
         graph: &mut Graph,
         commands: u64,
         copies: &[ChunkCopy],
+        last: bool,
     ) -> Result<u64, Refusal>
         requires limit { self.old.limit ≡ (shape extents.old).most_names }
         requires runs { length self.old.runs ≤ (shape extents.old).most_runs }
@@ -88,7 +90,7 @@ impl Index {
         // What is staged, and when it is refused, of the index once the copies count.
         ensures settled { (mid : State) × IsSettled self.old (newest_copies copies.now) mid
             × IfOk result (λ v. IsStagedApart mid extents.old graph.old v commands self.new extents.new graph.new × ((id : ℕ) → live_at (index_of self.new) id ≡ live_at (index_of mid) id))
-            × IsExact result (IsStageFullApart mid extents.old) (IsStageWornApart mid extents.old graph.old.staging) }
+            × IsExact result (IsStageFullApart mid extents.old) (IsStageWornApart mid extents.old graph.old.staging ⊎ (last ≡ true)) }
 
         // Whatever the answer, the next append may be made.
         ensures resets { AreResetsStaged (extents_of extents.new) graph.new.staging }
@@ -99,7 +101,7 @@ impl Index {
         ensures unstaged { OnErr result (graph.new ≡ record graph.old { room = graph.new.room }) }
     {
         match self.copied() {
-            Ok((table, on)) => self.stage_copied(extents, graph, commands, copies, table, on),
+            Ok((table, on)) => self.stage_copied(extents, graph, commands, copies, table, on, last),
             Err(_) => Err(Refusal::OutOfMemory),
         }
     }
@@ -125,6 +127,7 @@ impl Index {
         copies: &[ChunkCopy],
         table: Run,
         on: Vec<u32>,
+        last: bool,
     ) -> Result<u64, Refusal>
         requires counts { AreCounts on.items (index_of self.old) }
         requires copy { IsRunOf false (part self.old 0) (map named_entry table.entries.items) }
@@ -136,7 +139,7 @@ impl Index {
         requires commands { commands < 2 ^ 63 }
         ensures settled { (mid : State) × IsSettled self.old (newest_copies copies.now) mid
             × IfOk result (λ v. IsStagedApart mid extents.old graph.old v commands self.new extents.new graph.new × ((id : ℕ) → live_at (index_of self.new) id ≡ live_at (index_of mid) id))
-            × IsExact result (IsStageFullApart mid extents.old) (IsStageWornApart mid extents.old graph.old.staging) }
+            × IsExact result (IsStageFullApart mid extents.old) (IsStageWornApart mid extents.old graph.old.staging ⊎ (last ≡ true)) }
         ensures resets { AreResetsStaged (extents_of extents.new) graph.new.staging }
         ensures families { length graph.new.staging.latest ≡ length graph.old.staging.latest }
         ensures refused { OnErr result (self.new ≡ self.old) }
@@ -155,7 +158,7 @@ impl Index {
             room: 0,
             cleared: NONE_KNOWN,
         };
-        match settled.settle_and_stage(extents, graph, commands, copies) {
+        match settled.settle_and_stage(extents, graph, commands, copies, last) {
             Ok(version) => {
                 *self = settled;
                 Ok(version)
@@ -181,6 +184,7 @@ impl Index {
         graph: &mut Graph,
         commands: u64,
         copies: &[ChunkCopy],
+        last: bool,
     ) -> Result<u64, Refusal>
         requires limit { self.old.limit ≡ (shape extents.old).most_names }
         requires runs { length self.old.runs ≤ (shape extents.old).most_runs }
@@ -189,7 +193,7 @@ impl Index {
         requires commands { commands < 2 ^ 63 }
         ensures settled { (mid : State) × IsSettled self.old (newest_copies copies.now) mid
             × IfOk result (λ v. IsStagedApart mid extents.old graph.old v commands self.new extents.new graph.new × ((id : ℕ) → live_at (index_of self.new) id ≡ live_at (index_of mid) id))
-            × IsExact result (IsStageFullApart mid extents.old) (IsStageWornApart mid extents.old graph.old.staging) }
+            × IsExact result (IsStageFullApart mid extents.old) (IsStageWornApart mid extents.old graph.old.staging ⊎ (last ≡ true)) }
         ensures resets { AreResetsStaged (extents_of extents.new) graph.new.staging }
         ensures families { length graph.new.staging.latest ≡ length graph.old.staging.latest }
         ensures runs { OnErr result (self.new.runs ≡ self.old.runs) }
@@ -197,7 +201,7 @@ impl Index {
         ensures unstaged { OnErr result (graph.new ≡ record graph.old { room = graph.new.room }) }
     {
         match self.settle(copies) {
-            Ok(()) => self.stage_apart(extents, graph, commands),
+            Ok(()) => self.stage_unless(extents, graph, commands, last),
             Err(_) => Err(Refusal::OutOfMemory),
         }
     }
