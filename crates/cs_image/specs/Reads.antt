@@ -50,7 +50,8 @@ pub record AreSectionsRead (view : ℕ → List ℕ) (format : ℕ) (versions : 
       → SpellsAt j (view ((shape (extents_at format pages (length versions) written)).section_page j)) format (slice_index versions j)
       (length written) pages (length versions) (section_rows (extents_at format pages (length versions) written) j)
 
--- how many pages the device has: the root's, those of the extents, and one for each section of the superblock
+-- how many pages the device has: the root's, those of the extents, and one for each section of the superblock; in format 3 the pages
+-- that are kept count too
 abbrev pub page_total : Shape → ℕ
 page_total S = device_pages S.format S.extents S.pages S.sections
 
