@@ -32,13 +32,13 @@ use Rattle.cs_index.proofs.Sorted.{all_append, take_at_get}
 use Rattle.cs_index.specs.declared.runs.StoredRun.{StoredRun}
 use Rattle.cs_index.specs.State.{State as IndexState, index_of, named_entry, newest_first, run_of}
 use Rattle.cs_model.specs.Device.{Inside}
-use Rattle.cs_model.specs.Element.{Entry, Locator as Place, Run as IndexRun}
+use Rattle.cs_model.specs.Element.{Copy, Entry, Locator as Place, Run as IndexRun}
 use Rattle.cs_model.specs.Formats.{RunFrame}
 use Rattle.cs_model.specs.Index.{entries_of, live, live_at}
 use Rattle.cs_model.specs.Lists.{◌∈◌}
 use Rattle.cs_core.specs.declared.roots.Root.{Root as Noted}
 use Rattle.cs_core.specs.Openings.{IsWhyNoRuns, IsWhyNotRead, opened_stored}
-use Rattle.cs_core.specs.Stored.{IsKept}
+use Rattle.cs_core.specs.Stored.{IsKept, Stored}
 use Rattle.cs_core.proofs.Noted.{noted_alone}
 
 -- ---- refusals
@@ -140,15 +140,16 @@ no_runs x view places runs k place r older many at why =
 -- ---- the store
 
 -- a store that is made of its parts
-pub opened_is : (format : ℕ) (versions : List ℕ) (pages sections : ℕ) (written : List (ℕ × ℕ)) (root commands limit : ℕ) (runs : List StoredRun) (g : GraphState) (x : ExtentsState) (i : IndexState) (roots : List Noted)
-    → g ≡ graph_at versions root → length versions ≡ sections → x ≡ extents_at format pages sections written → limit ≡ named_limit pages → i ≡ index_at (newest_first runs) limit → roots ≡ record { version = root; commands = 0 } ∷ []
-    → record { graph = g; extents = x; index = i; roots = roots; out = g.round; issued = 0; base = commands; accepted = 0; frontier = 0; halted = false } ≡ opened_stored format versions pages written root commands runs
-opened_is format versions pages sections written root commands limit runs g x i roots graph many extents most index noted =
-    ap (λ (k : GraphState). record { graph = k; extents = x; index = i; roots = roots; out = k.round; issued = 0; base = commands; accepted = 0; frontier = 0; halted = false }) graph
-    ∙ ap (λ (k : ExtentsState). record { graph = graph_at versions root; extents = k; index = i; roots = roots; out = None; issued = 0; base = commands; accepted = 0; frontier = 0; halted = false })
-    (extents ∙ ap (λ (n : ℕ). extents_at format pages n written) (sym many))
-    ∙ ap (λ (k : IndexState). record { graph = graph_at versions root; extents = extents_at format pages (length versions) written; index = k; roots = roots; out = None; issued = 0; base = commands; accepted = 0; frontier = 0; halted = false }) (index ∙ ap (λ (n : ℕ). index_at (newest_first runs) n) most)
-    ∙ ap (λ (rs : List Noted). record { graph = graph_at versions root; extents = extents_at format pages (length versions) written; index = index_at (newest_first runs) (named_limit pages); roots = rs; out = None; issued = 0; base = commands; accepted = 0; frontier = 0; halted = false }) noted
+pub opened_is : (format : ℕ) (versions : List ℕ) (pages sections : ℕ) (written : List (ℕ × ℕ)) (root commands limit : ℕ) (runs : List StoredRun) (g : GraphState) (x : ExtentsState) (i : IndexState) (copies : List Copy) (roots : List Noted)
+    → g ≡ graph_at versions root → length versions ≡ sections → x ≡ extents_at format pages sections written → limit ≡ named_limit pages → i ≡ index_at (newest_first runs) limit → copies ≡ [] → roots ≡ record { version = root; commands = 0 } ∷ []
+    → record { graph = g; extents = x; index = i; copies = copies; roots = roots; out = g.round; issued = 0; base = commands; accepted = 0; frontier = 0; halted = false } ≡ opened_stored format versions pages written root commands runs
+opened_is format versions pages sections written root commands limit runs g x i copies roots graph many extents most index none noted =
+    let made : Stored = opened_stored format versions pages written root commands runs in
+    ap (λ (k : GraphState). record { graph = k; extents = x; index = i; copies = copies; roots = roots; out = k.round; issued = 0; base = commands; accepted = 0; frontier = 0; halted = false }) graph
+    ∙ ap (λ (k : ExtentsState). record made { extents = k; index = i; copies = copies; roots = roots }) (extents ∙ ap (λ (n : ℕ). extents_at format pages n written) (sym many))
+    ∙ ap (λ (k : IndexState). record made { index = k; copies = copies; roots = roots }) (index ∙ ap (λ (n : ℕ). index_at (newest_first runs) n) most)
+    ∙ ap (λ (cs : List Copy). record made { copies = cs; roots = roots }) none
+    ∙ ap (λ (rs : List Noted). record made { roots = rs }) noted
 
 -- how many are live in its index
 pub live_in : (i : IndexState) (runs : List StoredRun) (limit count : ℕ) → i ≡ index_at (newest_first runs) limit → HasCount (λ id. live_at (index_of i) id ≢ []) count → HasCount (λ id. live_at (entries_of (newest_first runs)) id ≢ []) count

@@ -181,7 +181,7 @@ module _ (v : Stored) (whole : IsWhole v.extents) (graph : IsWholeGraph v.graph)
           (append_stays (shape v.extents) s.world does.8.0 ForMove ((formats_of (shape v.extents)).frame ChunkFrame does.2) does.1 does.8.1) in (
             t,
             step,
-            goes_on v (record v { extents = y; graph = h; index = j }) s t (MoveOne e) (Moved id k) whole is step same parts beside refl refl refl refl (ap (λ (z : State). length z.commands) tis ∙ is.accepted)
+            goes_on v (record v { extents = y; graph = h; index = j }) s t (MoveOne e) (Moved id k) whole is step same parts (ap (λ (z : State). z.copies) tis ∙ is.copies) beside refl refl refl refl (ap (λ (z : State). length z.commands) tis ∙ is.accepted)
                 (frontier_same (shape v.extents) (formats_of (shape v.extents)) s t v.frontier is.frontier roots beside.count)
                 (roots_same v.roots s t is.roots roots beside.count),
           )

@@ -47,6 +47,7 @@ module _ (image : Image) (format : ℕ) (versions : List ℕ) (pages : ℕ) (wri
         s,
         record {
           parts = start.2.parts;
+          copies = refl;
           sound = start.2.sound;
           bounded = start.2.bounded;
           round_out = refl;

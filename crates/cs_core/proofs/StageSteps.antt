@@ -39,6 +39,7 @@ use Rattle.cs_core.proofs.RootsStay.{SameRoots, append_stays, merge_stays, same_
 -- what a state has after a root was staged
 record IsRooted (s t : State) (v : ℕ) : Type 0 where
   pub beside : Beside s t
+  pub copies : t.copies ≡ s.copies
   pub commands : t.commands ≡ s.commands
   pub root : Root
   pub roots : roots_of t.world.elements ≡ root ∷ roots_of s.world.elements
@@ -50,6 +51,7 @@ module _ (S : Shape) (F : Formats) (s : State) where
   rooted_so : (w : World) (runs : List Run) (pointers : ℕ → ℕ) (v : ℕ) → SameRoots s.world w → v ≡ suc s.world.root → IsRooted s (rooted S F (record s { world = w }) runs pointers) v
   rooted_so w runs pointers v same number = record {
     beside = record { round_out = refl; left = refl; issued = refl; halted = refl; count = refl };
+    copies = refl;
     commands = refl;
     root = root_now S w (s.count + length s.commands) runs (map_now s) pointers;
     roots = ap (λ (rs : List Root). root_now S w (s.count + length s.commands) runs (map_now s) pointers ∷ rs) same.roots;
@@ -67,6 +69,7 @@ module _ (S : Shape) (F : Formats) (s : State) where
       let one = rooted_so w runs (with w.extents.pointer e 0) v same number in
       subst (λ (z : State). IsRooted s z v) (sym (tis ∙ ap (λ (m : State). retired S F m runs e) mid_is)) (record {
         beside = record { round_out = refl; left = refl; issued = refl; halted = refl; count = refl };
+        copies = refl;
         commands = refl;
         root = one.root;
         roots = one.roots;
@@ -128,10 +131,10 @@ module _ (v : Stored) (s : State) (whole : IsWhole v.extents) (is : IsStateOf v 
 
   -- a root was staged, and noted
   noted : (t : State) (n : ℕ) (w : Stored) → (event : Event) (reply : Reply) → IsRooted s t n → Step (shape v.extents) (formats_of (shape v.extents)) s event reply t → shape w.extents ≡ shape v.extents → ArePartsOf w.extents w.graph w.index t
-      → w.out ≡ v.out → w.issued ≡ v.issued → w.halted ≡ v.halted → w.base ≡ v.base → w.accepted ≡ v.accepted → w.frontier ≡ v.frontier → w.roots ≡ v.roots ++ record { version = n; commands = v.accepted } ∷ []
+      → w.copies ≡ v.copies → w.out ≡ v.out → w.issued ≡ v.issued → w.halted ≡ v.halted → w.base ≡ v.base → w.accepted ≡ v.accepted → w.frontier ≡ v.frontier → w.roots ≡ v.roots ++ record { version = n; commands = v.accepted } ∷ []
       → IsStateOf w t
-  noted t n w event reply so step same parts out issued halted base accepted frontier roots =
-      goes_on v w s t event reply whole is step same parts so.beside out issued halted base (ap length so.commands ∙ is.accepted ∙ sym accepted)
+  noted t n w event reply so step same parts copies out issued halted base accepted frontier roots =
+      goes_on v w s t event reply whole is step same parts (so.copies ∙ is.copies ∙ sym copies) so.beside out issued halted base (ap length so.commands ∙ is.accepted ∙ sym accepted)
       (subst (λ (k : ℕ). IsFrontier (shape v.extents) (formats_of (shape v.extents)) t k) (sym frontier) (frontier_stays (shape v.extents) (formats_of (shape v.extents)) s t v.frontier is.frontier (λ r has. subst (λ (rs : List Root). r ∈ rs) (sym so.roots) (inr has)) so.persistent so.beside.count))
       (subst (λ (qs : List Noted). AreRootsOf qs t) (sym roots)
       (roots_more v.roots s t so.root (record { version = n; commands = v.accepted }) is.roots so.roots so.version (ap (λ (k : ℕ). s.count + k) (sym is.accepted) ∙ sym so.counts) so.persistent so.beside.count))
@@ -153,7 +156,7 @@ module _ (v : Stored) (s : State) (whole : IsWhole v.extents) (is : IsStateOf v 
             t,
             step,
             noted t n (record v { graph = h; extents = y; index = j; roots = v.roots ++ record { version = n; commands = v.accepted } ∷ [] }) Stage (Staged n)
-                (stage_rooted (shape v.extents) (formats_of (shape v.extents)) s refl t n does) step same parts refl refl refl refl refl refl refl,
+                (stage_rooted (shape v.extents) (formats_of (shape v.extents)) s refl t n does) step same parts refl refl refl refl refl refl refl refl,
           )
 
   -- ---- Retire
@@ -199,7 +202,7 @@ module _ (v : Stored) (s : State) (whole : IsWhole v.extents) (is : IsStateOf v 
             law.0,
             step,
             noted law.0 n (record v { graph = h; extents = y; index = j; roots = v.roots ++ record { version = n; commands = v.accepted } ∷ [] }) (Retire e) (Retired n)
-                (retire_rooted (shape v.extents) (formats_of (shape v.extents)) s refl law.0 e n law.1) step same law.2 refl refl refl refl refl refl refl,
+                (retire_rooted (shape v.extents) (formats_of (shape v.extents)) s refl law.0 e n law.1) step same law.2 refl refl refl refl refl refl refl refl,
           )
 
 -- ---- the answers of the calls

@@ -22,7 +22,7 @@ use Rattle.cs_image.specs.Reads.{extents_at, page_total}
 use Rattle.cs_index.proofs.Sorted.{some_at}
 use Rattle.cs_index.specs.declared.runs.StoredRun.{StoredRun}
 use Rattle.cs_index.specs.State.{State as IndexState, newest_first}
-use Rattle.cs_model.specs.Element.{Map}
+use Rattle.cs_model.specs.Element.{Copy, Map}
 use Rattle.cs_model.specs.Open.{opened_state, root_read}
 use Rattle.cs_model.specs.Recovery.{Recovers}
 use Rattle.cs_model.specs.State.{State}
@@ -79,6 +79,7 @@ module _ (format extents pages sections : ℕ) (is : IsGeometry format extents p
         s,
         record {
           parts = start.1.parts;
+          copies = refl;
           sound = start.1.sound;
           bounded = start.1.bounded;
           round_out = refl;
@@ -237,14 +238,15 @@ new_index_is format extents pages sections limit runs i same none is = is
     ∙ ap (λ (rs : List StoredRun). record { table = []; runs = newest_first rs; limit = named_limit pages; room = 0 }) none
 
 -- a new store, from its parts
-pub new_is : (format extents pages sections : ℕ) (g : GraphState) (x : ExtentsState) (i : IndexState) (roots : List Noted) → g ≡ (new_stored format extents pages sections).graph → x ≡ (new_stored format extents pages sections).extents
-    → i ≡ (new_stored format extents pages sections).index → roots ≡ record { version = 1; commands = 0 } ∷ []
-    → record { graph = g; extents = x; index = i; roots = roots; out = g.round; issued = 0; base = 0; accepted = 0; frontier = 0; halted = false } ≡ new_stored format extents pages sections
-new_is format extents pages sections g x i roots graph extents_are index noted =
-    ap (λ (k : GraphState). record { graph = k; extents = x; index = i; roots = roots; out = k.round; issued = 0; base = 0; accepted = 0; frontier = 0; halted = false }) graph
-    ∙ ap (λ (k : ExtentsState). record { graph = (new_stored format extents pages sections).graph; extents = k; index = i; roots = roots; out = None; issued = 0; base = 0; accepted = 0; frontier = 0; halted = false }) extents_are
-    ∙ ap (λ (k : IndexState). record { graph = (new_stored format extents pages sections).graph; extents = (new_stored format extents pages sections).extents; index = k; roots = roots; out = None; issued = 0; base = 0; accepted = 0; frontier = 0; halted = false }) index
-    ∙ ap (λ (rs : List Noted). record { graph = (new_stored format extents pages sections).graph; extents = (new_stored format extents pages sections).extents; index = (new_stored format extents pages sections).index; roots = rs; out = None; issued = 0; base = 0; accepted = 0; frontier = 0; halted = false }) noted
+pub new_is : (format extents pages sections : ℕ) (g : GraphState) (x : ExtentsState) (i : IndexState) (copies : List Copy) (roots : List Noted) → g ≡ (new_stored format extents pages sections).graph → x ≡ (new_stored format extents pages sections).extents
+    → i ≡ (new_stored format extents pages sections).index → copies ≡ [] → roots ≡ record { version = 1; commands = 0 } ∷ []
+    → record { graph = g; extents = x; index = i; copies = copies; roots = roots; out = g.round; issued = 0; base = 0; accepted = 0; frontier = 0; halted = false } ≡ new_stored format extents pages sections
+new_is format extents pages sections g x i copies roots graph extents_are index none noted =
+    ap (λ (k : GraphState). record { graph = k; extents = x; index = i; copies = copies; roots = roots; out = k.round; issued = 0; base = 0; accepted = 0; frontier = 0; halted = false }) graph
+    ∙ ap (λ (k : ExtentsState). record (new_stored format extents pages sections) { extents = k; index = i; copies = copies; roots = roots }) extents_are
+    ∙ ap (λ (k : IndexState). record (new_stored format extents pages sections) { index = k; copies = copies; roots = roots }) index
+    ∙ ap (λ (cs : List Copy). record (new_stored format extents pages sections) { copies = cs; roots = roots }) none
+    ∙ ap (λ (rs : List Noted). record (new_stored format extents pages sections) { roots = rs }) noted
 
 -- a pair of the same numbers
 pub pair_is : (p : ℕ × ℕ) → (p.0 ≡ 0) × (p.1 ≡ 0) → p ≡ (0, 0)

@@ -43,7 +43,7 @@ module _ (v : Stored) (whole : IsWhole v.extents) (runs : v.halted ≡ false) (e
       let step : Step (shape v.extents) (formats_of (shape v.extents)) s (BeginSweep e) Sweeping (mark s e true) = (none, done.0) in (
         mark s e true,
         step,
-        goes_on v (record v { extents = y }) s (mark s e true) (BeginSweep e) Sweeping whole is step same done.1 (record { round_out = refl; left = refl; issued = refl; halted = refl; count = refl }) refl refl refl refl is.accepted
+        goes_on v (record v { extents = y }) s (mark s e true) (BeginSweep e) Sweeping whole is step same done.1 is.copies (record { round_out = refl; left = refl; issued = refl; halted = refl; count = refl }) refl refl refl refl is.accepted
             (frontier_same (shape v.extents) (formats_of (shape v.extents)) s (mark s e true) v.frontier is.frontier (record { roots = refl; persistent = refl; root = refl }) refl)
             (roots_same v.roots s (mark s e true) is.roots (record { roots = refl; persistent = refl; root = refl }) refl),
       )
@@ -73,7 +73,7 @@ module _ (v : Stored) (whole : IsWhole v.extents) (runs : v.halted ≡ false) (e
         let step : Step (shape v.extents) (formats_of (shape v.extents)) s (Abandon e) Abandoned (mark s e false) = (none, done.0) in (
           mark s e false,
           step,
-          goes_on v (record v { extents = y }) s (mark s e false) (Abandon e) Abandoned whole is step same done.1 (record { round_out = refl; left = refl; issued = refl; halted = refl; count = refl }) refl refl refl refl is.accepted
+          goes_on v (record v { extents = y }) s (mark s e false) (Abandon e) Abandoned whole is step same done.1 is.copies (record { round_out = refl; left = refl; issued = refl; halted = refl; count = refl }) refl refl refl refl is.accepted
               (frontier_same (shape v.extents) (formats_of (shape v.extents)) s (mark s e false) v.frontier is.frontier (record { roots = refl; persistent = refl; root = refl }) refl)
               (roots_same v.roots s (mark s e false) is.roots (record { roots = refl; persistent = refl; root = refl }) refl),
         )

@@ -31,6 +31,7 @@ opened_stored format versions pages written root commands runs = record {
   graph = graph_at versions root;
   extents = extents_at format pages (length versions) written;
   index = index_at (newest_first runs) (named_limit pages);
+  copies = [];
   roots = record { version = root; commands = 0 } ∷ [];
   out = None;
   issued = 0;

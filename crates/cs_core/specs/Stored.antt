@@ -8,7 +8,7 @@ use Rattle.cs_extent.specs.Frames.{AreResetsStaged, root_family}
 use Rattle.cs_extent.specs.State.{State as ExtentsState, extents_of, shape}
 use Rattle.cs_index.specs.State.{State as IndexState, index_of}
 use Rattle.cs_model.specs.Device.{Inside, Shape}
-use Rattle.cs_model.specs.Element.{Locator as Place}
+use Rattle.cs_model.specs.Element.{Copy, Locator as Place}
 use Rattle.cs_model.specs.Index.{live_at}
 use Rattle.cs_model.specs.Lists.{◌∈◌}
 use Rattle.cs_deps.specs.declared.refusals.Refusal.{Refusal}
@@ -28,6 +28,8 @@ pub record Stored : Type 0 where
   pub graph : GraphState
   pub extents : ExtentsState
   pub index : IndexState
+  -- what a sweep copied, newest first, where copies count once it ends
+  pub copies : List Copy
   -- the newest root that is persistent, and those that were staged since and wait
   pub roots : List Root
   -- the members of the round that is out, and how many of them were written

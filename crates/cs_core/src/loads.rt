@@ -19,6 +19,7 @@ use cs_deps::{Graph, Refusal};
 use cs_extent::Extents;
 use cs_frame::{Locator, Root};
 use cs_index::{Index, StoredRun};
+use cs_reclaim::Copies;
 use std::alloc::Global;
 use std::collections::VecDeque;
 
@@ -51,15 +52,15 @@ fn live_count(index: &Index) -> usize
     count
 }
 
-/// The index of runs whose places are located. Refused 43 NotAStore where they aren't, or name too many identifiers.
+/// The index of runs whose places are located. Refused 43 NotAStore where they aren't, or name too many identifiers, and 9 OutOfMemory.
 fn load_index(alloc: Global, extents: &Extents, runs: Vec<StoredRun>) -> Result<Index, Refusal>
     requires few { length runs.items ≤ 24 }
     requires runs { AllByRecursion (λ run. IsRun (record { entries = run.entries })) runs.items }
     ensures loaded { IfOk result (λ index. index ≡ index_at (newest_first runs.items) (shape extents.now).most_names) }
     ensures located { OnOk result (AreLocated extents.now runs.items) }
     ensures named { OnOk result (names (entries_of (newest_first runs.items)) ≤ (shape extents.now).most_names) }
-    ensures refusals { IfErr result (λ r. r ≡ Refusal.NotAStore) }
-    ensures why { OnErr result ((¬ AreLocated extents.now runs.items) ⊎ ((shape extents.now).most_names < names (entries_of (newest_first runs.items)))) }
+    ensures number { IfErr result IsOpeningRefusal }
+    ensures why { IfErr result (λ r. (r ≡ Refusal.OutOfMemory) ⊎ ((r ≡ Refusal.NotAStore) × ((¬ AreLocated extents.now runs.items) ⊎ ((shape extents.now).most_names < names (entries_of (newest_first runs.items)))))) }
 {
     if !are_located(extents, &runs) {
         return Err(Refusal::NotAStore);
@@ -128,12 +129,14 @@ pub fn load_store(
         Err(refusal) => return Err(refusal),
     };
     let live = live_count(&index);
+    let copies = Copies::none(alloc);
     Ok(OpenedStore {
         store: Store {
             alloc,
             graph,
             extents,
             index,
+            copies,
             roots,
             issued: 0,
             base: root.commands,
