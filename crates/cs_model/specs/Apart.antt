@@ -55,22 +55,32 @@ abbrev pub is_place : Option Locator → Locator → Bool
 is_place None l = false
 is_place (Some k) l = same_place k l
 
--- this chunk was copied from l
-abbrev pub IsCopied : State → (id chunk : ℕ) → Locator → Type 0
-IsCopied s id chunk l = (c : Copy) × (c ∈ s.copies) × (c.id ≡ id) × (c.chunk ≡ chunk) × (c.from ≡ l)
+-- this chunk is one of those that were copied, from l
+abbrev pub IsCopyOf : List Copy → (id chunk : ℕ) → Locator → Type 0
+IsCopyOf copies id chunk l = (c : Copy) × (c ∈ copies) × (c.id ≡ id) × (c.chunk ≡ chunk) × (c.from ≡ l)
 
--- each chunk that lives on the extent is copied
-abbrev pub NothingLeft : State → ℕ → Type 0
-NothingLeft s e = (id chunk : ℕ) (l : Locator) → nth (live_at (index_now s) id) chunk ≡ Some l → l.extent ≡ e
-    → IsCopied s id chunk l
+-- of an index each chunk that lives on the extent is copied
+abbrev pub AllCopied : (index : List Entry) → List Copy → ℕ → Type 0
+AllCopied index copies e = (id chunk : ℕ) (l : Locator) → nth (live_at index id) chunk ≡ Some l → l.extent ≡ e
+    → IsCopyOf copies id chunk l
 
--- the first chunk that lives on the extent and isn't copied, by identifier and chunk
-pub record FirstLeft (s : State) (e id chunk : ℕ) (l : Locator) : Type 0 where
-  pub there : nth (live_at (index_now s) id) chunk ≡ Some l
+-- the first chunk of an index that lives on the extent and isn't copied, by identifier and chunk
+pub record FirstUncopied (index : List Entry) (copies : List Copy) (e id chunk : ℕ) (l : Locator) : Type 0 where
+  pub there : nth (live_at index id) chunk ≡ Some l
   pub on_it : l.extent ≡ e
-  pub left : IsCopied s id chunk l → ⊥
-  pub first : (d k : ℕ) (x : Locator) → nth (live_at (index_now s) d) k ≡ Some x → x.extent ≡ e
-      → IsCopied s d k x ⊎ ((id < d) ⊎ ((id ≡ d) × (chunk ≤ k)))
+  pub left : IsCopyOf copies id chunk l → ⊥
+  pub first : (d k : ℕ) (x : Locator) → nth (live_at index d) k ≡ Some x → x.extent ≡ e
+      → IsCopyOf copies d k x ⊎ ((id < d) ⊎ ((id ≡ d) × (chunk ≤ k)))
+
+-- in a state: this chunk was copied from l; each chunk that lives on the extent is copied; the first one that isn't
+abbrev pub IsCopied : State → (id chunk : ℕ) → Locator → Type 0
+IsCopied s id chunk l = IsCopyOf s.copies id chunk l
+
+abbrev pub NothingLeft : State → ℕ → Type 0
+NothingLeft s e = AllCopied (index_now s) s.copies e
+
+abbrev pub FirstLeft : State → (e id chunk : ℕ) → Locator → Type 0
+FirstLeft s e id chunk l = FirstUncopied (index_now s) s.copies e id chunk l
 
 -- the chunk counts where its copy is, if it still lies where it was copied from
 abbrev pub settle : State → Copy → State
@@ -104,17 +114,27 @@ pub record IsFreed (s t : State) (e : ℕ) : Type 0 where
 
 module _ (S : Shape) where
   -- an extent is being swept
-  abbrev pub any_swept : State → Bool
-  any_swept s = any_below s.world.extents.swept S.extents
+  abbrev pub is_any_swept : Extents → Bool
+  is_any_swept x = any_below x.swept S.extents
 
   -- the unfinished sweep goes on there, or has written a copy there
-  abbrev pub is_held : State → ℕ → Bool
-  is_held s e = any_swept s && (s.world.extents.swept e || any_copy_on s.copies e)
+  abbrev pub is_held_by : Extents → List Copy → ℕ → Bool
+  is_held_by x copies e = is_any_swept x && (x.swept e || any_copy_on copies e)
 
   -- frames lie on the extent, but none that lives and no run, the unfinished sweep doesn't hold it, and its generation may rise
+  abbrev pub is_blank_by : Extents → (index : List Entry) → List Run → List Copy → ℕ → Bool
+  is_blank_by x index runs copies e = (nat_lt 0 (x.pointer e) && nat_le (lives_on e index) 0)
+      && (not (any_run_on runs e || is_held_by x copies e) && nat_lt (x.generation e) S.greatest_generation)
+
+  -- so in a state
+  abbrev pub any_swept : State → Bool
+  any_swept s = is_any_swept s.world.extents
+
+  abbrev pub is_held : State → ℕ → Bool
+  is_held s e = is_held_by s.world.extents s.copies e
+
   abbrev pub is_blank : State → ℕ → Bool
-  is_blank s e = (nat_lt 0 (s.world.extents.pointer e) && nat_le (lives_on e (index_now s)) 0)
-      && (not (any_run_on s.runs e || is_held s e) && nat_lt (s.world.extents.generation e) S.greatest_generation)
+  is_blank s e = is_blank_by s.world.extents (index_now s) s.runs s.copies e
 
   -- the extents below n that pass the test are reset under this root, one after another
   abbrev pub reset_all : Extents → (root : ℕ) → (ℕ → Bool) → ℕ → Extents
@@ -150,16 +170,15 @@ module _ (S : Shape) where
   takes s = if is_none s.table then 0 else stage_takes S s
 
   -- the extent is being swept, and is neither the open one nor the last one of a sweep any more
-  abbrev pub sweeping : State → ℕ → State
-  sweeping s e = record s {
-    world = record s.world {
-      extents = record s.world.extents {
-        swept = λ d. if d == e then true else s.world.extents.swept d;
-        open_extent = other_than e s.world.extents.open_extent;
-        last = other_than e s.world.extents.last;
-      };
-    };
+  abbrev pub swept_aside : Extents → ℕ → Extents
+  swept_aside x e = record x {
+    swept = λ d. if d == e then true else x.swept d;
+    open_extent = other_than e x.open_extent;
+    last = other_than e x.last;
   }
+
+  abbrev pub sweeping : State → ℕ → State
+  sweeping s e = record s { world = record s.world { extents = swept_aside s.world.extents e } }
 
   -- one sweep goes on at a time, of an extent of chunks
   abbrev pub BeginsApart : State → ℕ → State → Type 0
@@ -167,9 +186,11 @@ module _ (S : Shape) where
       × (s.world.extents.of_runs e ≡ false) × (t ≡ sweeping s e)
 
   -- the extent can't be swept
+  abbrev pub MayNotBegin : Extents → List Copy → ℕ → Type 0
+  MayNotBegin x copies e = (is_any_swept x ≡ true) ⊎ (copies ≢ []) ⊎ (S.extents ≤ e) ⊎ (x.pointer e ≡ 0) ⊎ (x.of_runs e ≡ true)
+
   abbrev pub NotSweepableApart : State → ℕ → Type 0
-  NotSweepableApart s e = (any_swept s ≡ true) ⊎ (s.copies ≢ []) ⊎ (S.extents ≤ e) ⊎ (s.world.extents.pointer e ≡ 0)
-      ⊎ (s.world.extents.of_runs e ≡ true)
+  NotSweepableApart s e = MayNotBegin s.world.extents s.copies e
 
 module _ (S : Shape) (F : Formats) where
   -- the root of these runs is staged, which names nothing on blank extents, and they are reset under it
