@@ -5,6 +5,7 @@
 //! all are read in order, table and runs side by side.
 #![tactic(auto)]
 
+mod copies;
 mod counts;
 mod entries;
 mod indexes;
@@ -17,6 +18,7 @@ mod stages;
 mod stagings;
 mod tables;
 
+pub use copies::ChunkCopy;
 pub use entries::Entries;
 pub use indexes::Index;
 pub use laws::stages_without_sizes;
