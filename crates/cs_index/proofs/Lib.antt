@@ -14,3 +14,4 @@ pub mod Parts
 pub mod Exact
 pub mod Cases
 pub mod Sizes
+pub mod Next

@@ -5,6 +5,7 @@
 //! all are read in order, table and runs side by side.
 #![tactic(auto)]
 
+mod behind;
 mod copies;
 mod counts;
 mod entries;
