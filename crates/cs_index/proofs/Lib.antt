@@ -15,3 +15,4 @@ pub mod Exact
 pub mod Cases
 pub mod Sizes
 pub mod Next
+pub mod Chosen

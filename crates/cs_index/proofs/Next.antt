@@ -1,5 +1,5 @@
 -- What lives on an extent behind a chunk.
-use Rattle.std.proofs.Common.{◌≡◌, ◌≢◌, ◌⊎◌, ◌∙◌, inl, inr, ⊎_elim, ℕ, zero, suc, ◌+◌, ◌<◌, ◌≤◌, Bool, false, ◌==◌, ◌||◌, List, [], ◌∷◌, Option, Some, None, get_or, length, map, take, refl, sym, ap, subst, arith}
+use Rattle.std.proofs.Common.{◌≡◌, ◌≢◌, ◌∙◌, inl, inr, ⊎_elim, ℕ, suc, ◌+◌, ◌<◌, ◌≤◌, Bool, ◌==◌, ◌||◌, List, Option, Some, None, get_or, length, map, take, refl, sym, ap, subst, arith}
 use Rattle.std.specs.Prelude.{MatchOption}
 use Rattle.std.proofs.lemmas.Bool.{cases_eq, cases_lt}
 use Rattle.std.proofs.lemmas.List.{length-map}
@@ -7,9 +7,9 @@ use Rattle.std.proofs.lemmas.Option.{same_Some}
 use Rattle.cs_frame.specs.declared.locators.Locator.{Locator}
 use Rattle.cs_frame.specs.Formats.{place_of}
 use Rattle.cs_index.specs.declared.runs.StoredRun.{StoredRun}
-use Rattle.cs_index.specs.Copies.{FirstBehind, IsBehind, NoneBehind}
+use Rattle.cs_index.specs.Copies.{FirstBehind, NoneBehind}
 use Rattle.cs_index.specs.Live.{FirstAfter, IsFirstOn, IsFirstOnBehind, NoneAfter, NoneOn, NoneOnBehind}
-use Rattle.cs_index.specs.State.{IsAfter, IsNext, newest_first, run_of}
+use Rattle.cs_index.specs.State.{IsAfter, IsNext, newest_first}
 use Rattle.cs_index.proofs.Living.{no_places, nth_inside, nth_map}
 use Rattle.cs_index.proofs.Merging.{after_or_not, later_still}
 use Rattle.cs_index.proofs.Newest.{newest_more}

@@ -15,7 +15,7 @@ use Rattle.cs_model.specs.Extents.{Purpose as Reason}
 use Rattle.cs_model.specs.Index.{Ascending, entries_of, if_live, live, live_at, lookup, names}
 use Rattle.cs_model.specs.Merges.{IsRunOf}
 use Rattle.cs_index.specs.Merges.{part}
-use Rattle.cs_index.specs.Staged.{IsPartAppended, IsPartStaged}
+use Rattle.cs_index.specs.Staged.{IsPartAppendedBy, IsPartStagedBy}
 use Rattle.cs_index.specs.State.{IsShort, IsStored, IsWhole, State, index_of, named_entry, newest_first, run_of, state_of}
 use Rattle.cs_index.proofs.Merged.{left, live_left, run_few, some_left}
 use Rattle.cs_index.proofs.Names.{names_of_lookups}
@@ -64,6 +64,12 @@ module _ (runs : List StoredRun) (n k : ℕ) (split : n + k ≡ length runs) whe
 
   pub few_left : length (drop k (newest_first runs)) < 4 → length (take n runs) < 4
   few_left few =
+      let e : length (newest_first (take n runs)) ≡ length (take n runs) = length-newest (take n runs) in
+      let same : length (newest_first (take n runs)) ≡ length (drop k (newest_first runs)) = ap length newest_left in
+      omega arith
+
+  pub few_left_below : {most : ℕ} → length (drop k (newest_first runs)) < most → length (take n runs) < most
+  few_left_below few =
       let e : length (newest_first (take n runs)) ≡ length (take n runs) = length-newest (take n runs) in
       let same : length (newest_first (take n runs)) ≡ length (drop k (newest_first runs)) = ap length newest_left in
       omega arith
@@ -127,20 +133,20 @@ goes_where_none false s k xs none run some = ⊎_elim (λ (is : false ≡ true).
 
 -- ---- an index in which a part is one run
 
-module _ (go : Bool) (k : ℕ) (s : State) (x : ExtentsState) (g : GraphState) (reason : Reason) (v commands : ℕ) (t : State) (y : ExtentsState) (h : GraphState)
-    (staged : IsPartStaged go k s x g reason v commands t y h) (all : go ≡ true → drop k s.runs ≡ []) where
+module _ {apart : Bool} (go : Bool) (k : ℕ) (s : State) (x : ExtentsState) (g : GraphState) (reason : Reason) (v commands : ℕ) (t : State) (y : ExtentsState) (h : GraphState)
+    (staged : IsPartStagedBy apart go k s x g reason v commands t y h) (all : go ≡ true → drop k s.runs ≡ []) where
   pub part_left : (id : ℕ) → lookup id (index_of t) ≡ left go (lookup id (index_of s))
   part_left id = ap (λ (es : List Entry). lookup id (es ++ entries_of t.runs)) staged.table ∙ by staged.appended
     where
-      by : IsPartAppended go s k x g reason t.runs y staged.between → lookup id (entries_of t.runs) ≡ left go (lookup id (index_of s))
+      by : IsPartAppendedBy apart go s k x g reason t.runs y staged.between → lookup id (entries_of t.runs) ≡ left go (lookup id (index_of s))
       by (inl m) = ap (λ (rs : List Run). lookup id (entries_of rs)) m.5 ∙ part_lookup go s k m.0 all m.3 id
       by (inr m) = ap (λ (rs : List Run). lookup id (entries_of rs)) m.3 ∙ part_lookup go s k [] all m.0 id
 
   pub part_live : (id : ℕ) → live_at (index_of t) id ≡ live_at (index_of s) id
   part_live id = ap live (part_left id) ∙ live_left go (lookup id (index_of s))
 
-pub part_stays : (go : Bool) (k : ℕ) (s : State) (x : ExtentsState) (g : GraphState) (reason : Reason) (v commands : ℕ) (t : State) (y : ExtentsState) (h : GraphState)
-    → IsPartStaged go k s x g reason v commands t y h → go ≡ false → (id : ℕ) → lookup id (index_of t) ≡ lookup id (index_of s)
+pub part_stays : {apart : Bool} (go : Bool) (k : ℕ) (s : State) (x : ExtentsState) (g : GraphState) (reason : Reason) (v commands : ℕ) (t : State) (y : ExtentsState) (h : GraphState)
+    → IsPartStagedBy apart go k s x g reason v commands t y h → go ≡ false → (id : ℕ) → lookup id (index_of t) ≡ lookup id (index_of s)
 part_stays true k s x g reason v commands t y h staged stay id = absurd (let e : true ≡ false = stay in cc)
 part_stays false k s x g reason v commands t y h staged stay id = part_left false k s x g reason v commands t y h staged (λ e. absurd (let wrong : false ≡ true = e in cc)) id
 
@@ -179,7 +185,7 @@ module _ (xs empty : Entries) (runs kept news : List StoredRun) (r : StoredRun) 
         count_then go (map named_entry r.entries.items) (index_of (state_of xs runs limit room)) (index_of (state_of empty news limit 0)) (drop k (newest_first runs)) named before
         (parted_index limit) all run.0 parted_lookup was (count ∙ ap (λ (m : ℕ). if go then m else before) (sym (length-map r.entries.items named_entry)))
 
-    pub parted_whole : map named_entry r.entries.items ≢ [] → AllByRecursion IsShort (map named_entry r.entries.items) → length (drop k (newest_first runs)) < 4
+    pub parted_whole : map named_entry r.entries.items ≢ [] → AllByRecursion IsShort (map named_entry r.entries.items) → length (drop k (newest_first runs)) < 24
         → IsWhole (state_of xs runs limit room) → IsWhole (state_of empty news limit 0)
     parted_whole some short few whole = record {
       ascending = subst (λ (es : Entries). Ascending (map named_entry es)) (sym none) tt;

@@ -1,5 +1,5 @@
 -- What staging an index does where chunks and runs lie apart.
-use Rattle.std.specs.Prelude.{◌≡◌, ◌⊎◌, ℕ, Bool, true, List, length, if◌then◌else◌}
+use Rattle.std.specs.Prelude.{◌⊎◌, ℕ, true, List, length, if◌then◌else◌}
 use Rattle.cs_deps.specs.Staging.{Staging}
 use Rattle.cs_deps.specs.State.{State as GraphState}
 use Rattle.cs_extent.specs.State.{State as ExtentsState, extents_of, shape}

@@ -5,6 +5,7 @@
 //! all are read in order, table and runs side by side.
 #![tactic(auto)]
 
+mod apart;
 mod behind;
 mod copies;
 mod counts;
@@ -13,8 +14,10 @@ mod indexes;
 mod laws;
 mod live;
 mod mergers;
+mod places;
 mod reach;
 mod runs;
+mod runs_apart;
 mod stages;
 mod stagings;
 mod tables;

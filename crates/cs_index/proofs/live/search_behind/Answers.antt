@@ -1,4 +1,4 @@
-use Rattle.std.proofs.Common.{◌<◌, List, None, Some, Option, ℕ, arith, length, map, refl, slice_index_or, subst, sym}
+use Rattle.std.proofs.Common.{◌<◌, List, None, Some, Option, ℕ, arith, length, map, refl, subst, sym}
 use Rattle.std.specs.Prelude.{option_map}
 use Rattle.cs_frame.specs.Formats.{place_of}
 use Rattle.cs_model.specs.Element.{Entry}

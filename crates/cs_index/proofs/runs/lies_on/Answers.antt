@@ -1,4 +1,4 @@
-use Rattle.std.proofs.Common.{◌≡◌, ◌∙◌, ◌||◌, ap, nat_eq, ℕ}
+use Rattle.std.proofs.Common.{◌∙◌, ◌||◌, ap, nat_eq, ℕ}
 use Rattle.cs_index.specs.declared.runs.StoredRun.{StoredRun}
 use Rattle.cs_index.proofs.Next.{on_more}
 use Rattle.cs_index.proofs.runs.lies_on.Goals as goal

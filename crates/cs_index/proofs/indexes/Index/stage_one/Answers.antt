@@ -49,7 +49,7 @@ invariant_of-self-in-Ok c =
     let kept : c.truncate.new.self.items ≡ take n i.runs.items = c.truncate.ensures.items ∙ ap (take n) c.in_ok-reserve.ensures.items in
     record {
       whole = parted_whole i.table.entries.items c.new.result.items i.runs.items c.truncate.new.self.items c.push_reserved.new.self.items r n k (split at) c.push_reserved.ensures.items kept c.new.ensures.items
-          i.limit i.room c.args.portion.without_deletions run alone c.requires.some c.requires.short left c.self.invariant.whole;
+          i.limit i.room c.args.portion.without_deletions run alone c.requires.some c.requires.short (omega (arith, left)) c.self.invariant.whole;
       ids = no_ids c.new.result.items c.new.ensures.items;
       count = parted_names i.table.entries.items c.new.result.items i.runs.items c.truncate.new.self.items c.push_reserved.new.self.items r n k (split at) c.push_reserved.ensures.items kept c.new.ensures.items
           i.limit i.room c.args.portion.without_deletions run alone c.named_after-named.result i.named c.self.invariant.count c.named_after-named.ensures;
