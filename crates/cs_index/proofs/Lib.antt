@@ -16,3 +16,4 @@ pub mod Cases
 pub mod Sizes
 pub mod Next
 pub mod Chosen
+pub mod Settled

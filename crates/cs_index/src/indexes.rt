@@ -200,7 +200,7 @@ impl Index {
     }
 
     /// Gives an identifier other locators in the table.
-    fn enter(&mut self, id: ShardId, locators: Vec<Locator>) -> Result<(), AllocError>
+    pub(crate) fn enter(&mut self, id: ShardId, locators: Vec<Locator>) -> Result<(), AllocError>
         requires short { length locators.items ≤ 8 }
         requires limit { lookup (id_number id) (index_of self.old) ≡ None → names (index_of self.old) < self.old.limit }
         ensures entered { OnOk result (IsSet self.old (id_number id) (map place_of locators.items) self.new) }
