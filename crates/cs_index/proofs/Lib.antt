@@ -16,4 +16,5 @@ pub mod Cases
 pub mod Sizes
 pub mod Next
 pub mod Chosen
+pub mod Tallies
 pub mod Settled

@@ -9,6 +9,7 @@ ghost use Rattle.cs_model.specs.Lists.{nth, replaced};
 ghost use Rattle.cs_index.specs.Apart.{IsStageFullApart, IsStageWornApart, IsStagedApart};
 ghost use Rattle.cs_index.specs.Copies.{IsSettled, copy_of, newest_copies};
 ghost use Rattle.cs_index.specs.Staged.{IsExact};
+ghost use Rattle.cs_index.specs.Held.{AreCounts};
 ghost use Rattle.cs_index.specs.Merges.{part};
 ghost use Rattle.cs_index.specs.State.{IsId, State, id_number, index_of, named_entry, newest_first};
 ghost use Rattle.cs_model.specs.Merges.{IsRunOf};
@@ -97,11 +98,22 @@ impl Index {
         ensures unwritten { OnErr result (extents.new ≡ extents.old) }
         ensures unstaged { OnErr result (graph.new ≡ record graph.old { room = graph.new.room }) }
     {
-        let alloc = *self.table.entries.allocator();
-        match self.merged_newest(alloc, TABLE_ALONE) {
-            Ok(table) => self.stage_copied(extents, graph, commands, copies, table),
+        match self.copied() {
+            Ok((table, on)) => self.stage_copied(extents, graph, commands, copies, table, on),
             Err(_) => Err(Refusal::OutOfMemory),
         }
+    }
+
+    /// Copies of the table and of the counts by extent.
+    fn copied(&self) -> Result<(Run, Vec<u32>), AllocError>
+        ensures copy { IfOk result (λ made. IsRunOf false (part self.now 0) (map named_entry made.0.entries.items)) }
+        ensures ids { IfOk result (λ made. AllByRecursion (λ entry. IsId entry.0) made.0.entries.items) }
+        ensures counts { IfOk result (λ made. AreCounts made.1.items (index_of self.now)) }
+    {
+        let alloc = *self.table.entries.allocator();
+        let table = self.merged_newest(alloc, TABLE_ALONE)?;
+        let on = Vec::from_slice(alloc, &self.on)?;
+        Ok((table, on))
     }
 
     /// The same with a copy of the table, in which the copies count: it takes the table's place only once a root was staged.
@@ -112,7 +124,9 @@ impl Index {
         commands: u64,
         copies: &[ChunkCopy],
         table: Run,
+        on: Vec<u32>,
     ) -> Result<u64, Refusal>
+        requires counts { AreCounts on.items (index_of self.old) }
         requires copy { IsRunOf false (part self.old 0) (map named_entry table.entries.items) }
         requires ids { AllByRecursion (λ entry. IsId entry.0) table.entries.items }
         requires limit { self.old.limit ≡ (shape extents.old).most_names }
@@ -136,6 +150,7 @@ impl Index {
             runs,
             named: self.named,
             living: self.living,
+            on,
             limit: self.limit,
             room: 0,
             cleared: NONE_KNOWN,

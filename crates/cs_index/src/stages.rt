@@ -381,8 +381,9 @@ impl Index {
         }
     }
 
-    /// Lets all entries go.
+    /// Lets all entries go, of which none lives.
     pub(crate) fn become_empty(&mut self, alloc: Global)
+        requires { (id : ℕ) → live_at (index_of self.old) id ≡ [] }
         ensures { self.new ≡ record { table = []; runs = []; limit = self.old.limit; room = 0 } }
     {
         self.table = Run {

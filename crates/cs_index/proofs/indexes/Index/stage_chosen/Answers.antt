@@ -12,6 +12,7 @@ use Rattle.cs_index.specs.State.{named_entry}
 use Rattle.cs_index.proofs.Chosen.{alone, exact_unwritten, exact_written, none_staged, one_staged}
 use Rattle.cs_index.proofs.Exact.{none_of, part_none, part_writes, some_of}
 use Rattle.cs_index.proofs.Parts.{goes_where_none}
+use Rattle.cs_index.proofs.Tallies.{none_lives}
 use Rattle.cs_index.proofs.indexes.Index.stage_chosen.Goals as goal
 use Rattle.cs_index.proofs.indexes.Index.stage_chosen.Goals.{Then-is_empty, Else-is_empty}
 
@@ -74,3 +75,8 @@ returns-clause-why c =
     (c.requires.run, some_left (goal.at.returns-clause-why c).Else-is_empty)
     (λ es writes. part_writes c.args.chosen.portion.without_deletions c.args.self.now c.args.chosen.portion.newest (map named_entry c.args.chosen.run.entries.items) es c.requires.run writes)
     c.stage_one_apart.result c.stage_one_apart.ensures.why
+
+pub become_empty-requires : goal.become_empty-requires
+become_empty-requires c =
+    let at = (goal.at.become_empty-requires c).Then-is_empty in
+    none_lives c.args.chosen.portion.without_deletions c.args.self.now c.args.chosen.portion.newest (map named_entry c.args.chosen.run.entries.items) (none_left at) (goes at) (alone c.args.self.now c.args.extents.now c.args.chosen.portion.newest c.args.chosen.portion.without_deletions c.requires.deletions (goes at)) c.requires.run

@@ -13,6 +13,7 @@ use Rattle.cs_index.proofs.Exact.{table_run}
 use Rattle.cs_index.proofs.Living.{none_at_first}
 use Rattle.cs_index.proofs.Merged.{run_one}
 use Rattle.cs_index.proofs.Settled.{settled_from, table_is, whole_again}
+use Rattle.cs_index.proofs.Tallies.{counts_as}
 use Rattle.cs_index.proofs.indexes.Index.stage_copied.Goals as goal
 use Rattle.cs_index.proofs.indexes.Index.stage_copied.Goals.{After-replace-runs}
 
@@ -35,6 +36,8 @@ invariant_of-settled c =
       ids = c.requires.ids;
       count = c.self.invariant.count ∙ ap (λ (es : List Entry). names es) (sym is);
       lives = c.self.invariant.lives ∙ ap (λ (es : List Entry). shards es) (sym is);
+      counts = (let counts = rw (← c.self.view_is) at c.requires.counts in counts_as c.args.on.items (index_of (the_view c.self.inside)) (index_of (state_of c.args.table.entries.items c.replace-runs.result.items i.limit 0)) (λ id. ap (λ (es : List Entry). live_at es id) is) counts);
+      small = c.self.invariant.small;
       fits = omega (arith, c.args.table.entries.ok.1);
       clear = none_at_first (index_of (state_of c.args.table.entries.items c.replace-runs.result.items i.limit 0)) 0;
     }
