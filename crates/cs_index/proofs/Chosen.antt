@@ -87,13 +87,7 @@ exact_unwritten Writes x reason s none r h =
 
 -- ---- what was chosen
 
-module _ (s : State) (x : ExtentsState) (g : Staging) where
-  abbrev Takes : ℕ
-  Takes = takes_apart (shape x) s
-
-  abbrev All : ℕ
-  All = length s.runs
-
+module _ (s : State) (x : ExtentsState) where
   -- a run that goes somewhere, or has no entry, isn't full
   not_full : (k : ℕ) (reason : Reason) (E : List Entry) → IsRunOf (deletions_go (shape x) s k) (part s k) E → (E ≡ []) ⊎ ((e : ℕ) × GoesApart (shape x) (extents_of x) reason (length (run_frame x E)) e)
       → IsFullApart (WritesNewest (shape x) s k) x reason → ⊥
@@ -104,6 +98,13 @@ module _ (s : State) (x : ExtentsState) (g : Staging) where
       (λ (goes : (e : ℕ) × GoesApart (shape x) (extents_of x) reason (length (run_frame x E)) e).
       full.2 goes.0 (subst (λ (es : List Entry). GoesApart (shape x) (extents_of x) reason (length (run_frame x es)) goes.0) (sym same) goes.1))
       placed
+
+module _ (s : State) (x : ExtentsState) (g : Staging) where
+  abbrev Takes : ℕ
+  Takes = takes_apart (shape x) s
+
+  abbrev All : ℕ
+  All = length s.runs
 
   -- a run that is full goes nowhere, so no number of its frame would pass the greatest
   not_worn : (k : ℕ) (reason : Reason) → IsFullApart (WritesNewest (shape x) s k) x reason → IsRunWornApart (WritesNewest (shape x) s k) x reason g → ⊥
@@ -120,12 +121,12 @@ module _ (s : State) (x : ExtentsState) (g : Staging) where
     why_taken run placed h =
         exact_same r ⊥ (IsStageFullApart s x) (IsRootWorn g ⊎ IsRunWornApart (WritesNewest (shape x) s Takes) x ForRun g) (IsStageWornApart s x g)
         (λ n. absurd n)
-        (λ full. not_full Takes ForRun E run placed full.0)
+        (λ full. not_full s x Takes ForRun E run placed full.0)
         (λ worn. ⊎_elim (λ (root : IsRootWorn g). inl root) (λ (w : IsRunWornApart (WritesNewest (shape x) s Takes) x ForRun g). inr (inl w)) worn)
         (λ worn. ⊎_elim (λ (root : IsRootWorn g). inl root)
         (λ (rest : IsRunWornApart (WritesNewest (shape x) s Takes) x ForRun g ⊎ (IsFullApart (WritesNewest (shape x) s Takes) x ForRun × IsRunWornApart (WritesNewest (shape x) s All) x ForMerge g)). ⊎_elim
         (λ (w : IsRunWornApart (WritesNewest (shape x) s Takes) x ForRun g). inr w)
-        (λ (w : IsFullApart (WritesNewest (shape x) s Takes) x ForRun × IsRunWornApart (WritesNewest (shape x) s All) x ForMerge g). absurd (not_full Takes ForRun E run placed w.0))
+        (λ (w : IsFullApart (WritesNewest (shape x) s Takes) x ForRun × IsRunWornApart (WritesNewest (shape x) s All) x ForMerge g). absurd (not_full s x Takes ForRun E run placed w.0))
         rest)
         worn)
         h
@@ -134,7 +135,7 @@ module _ (s : State) (x : ExtentsState) (g : Staging) where
     why_all full run placed h =
         exact_same r ⊥ (IsStageFullApart s x) (IsRootWorn g ⊎ IsRunWornApart (WritesNewest (shape x) s All) x ForMerge g) (IsStageWornApart s x g)
         (λ n. absurd n)
-        (λ both. not_full All ForMerge E run placed both.1)
+        (λ both. not_full s x All ForMerge E run placed both.1)
         (λ worn. ⊎_elim (λ (root : IsRootWorn g). inl root) (λ (w : IsRunWornApart (WritesNewest (shape x) s All) x ForMerge g). inr (inr (full, w))) worn)
         (λ worn. ⊎_elim (λ (root : IsRootWorn g). inl root)
         (λ (rest : IsRunWornApart (WritesNewest (shape x) s Takes) x ForRun g ⊎ (IsFullApart (WritesNewest (shape x) s Takes) x ForRun × IsRunWornApart (WritesNewest (shape x) s All) x ForMerge g)). ⊎_elim
@@ -148,6 +149,20 @@ module _ (s : State) (x : ExtentsState) (g : Staging) where
 abbrev pub IsChosen : State → ExtentsState → Reason → ℕ → Type 0
 IsChosen s x reason k = ((reason ≡ ForRun) × (k ≡ takes_apart (shape x) s))
     ⊎ ((reason ≡ ForMerge) × (k ≡ length s.runs) × IsFullApart (WritesNewest (shape x) s (takes_apart (shape x) s)) x ForRun)
+
+-- what was chosen goes somewhere, or has no entry: so a stage isn't full
+pub chosen_fits : (s : State) (x : ExtentsState) (E : List Entry) (k : ℕ) (go : Bool) (reason : Reason) → IsChosen s x reason k → go ≡ deletions_go (shape x) s k
+    → IsRunOf go (part s k) E → (E ≡ []) ⊎ ((e : ℕ) × GoesApart (shape x) (extents_of x) reason (length (run_frame x E)) e) → IsStageFullApart s x → ⊥
+chosen_fits s x E k go reason chosen goes run placed full =
+    let ran : IsRunOf (deletions_go (shape x) s k) (part s k) E = subst (λ (b : Bool). IsRunOf b (part s k) E) goes run in
+    ⊎_elim
+    (λ (c : (reason ≡ ForRun) × (k ≡ takes_apart (shape x) s)).
+    not_full s x k ForRun E ran (subst (λ (p : Reason). (E ≡ []) ⊎ ((e : ℕ) × GoesApart (shape x) (extents_of x) p (length (run_frame x E)) e)) c.0 placed)
+    (subst (λ (n : ℕ). IsFullApart (WritesNewest (shape x) s n) x ForRun) (sym c.1) full.0))
+    (λ (c : (reason ≡ ForMerge) × (k ≡ length s.runs) × IsFullApart (WritesNewest (shape x) s (takes_apart (shape x) s)) x ForRun).
+    not_full s x k ForMerge E ran (subst (λ (p : Reason). (E ≡ []) ⊎ ((e : ℕ) × GoesApart (shape x) (extents_of x) p (length (run_frame x E)) e)) c.0 placed)
+    (subst (λ (n : ℕ). IsFullApart (WritesNewest (shape x) s n) x ForMerge) (sym c.1) full.1))
+    chosen
 
 -- so it is refused exactly where neither run goes anywhere, and where a number would pass its greatest
 pub chosen_why : {T : Type 0} (s : State) (x : ExtentsState) (g : Staging) (r : Result T Refusal) (E : List Entry) (k : ℕ) (go : Bool) (reason : Reason) → IsChosen s x reason k → go ≡ deletions_go (shape x) s k
@@ -213,6 +228,10 @@ module _ (s : State) (x : ExtentsState) (none : s.table ≡ []) where
       rest)
       worn)
       h
+
+  -- so a stage isn't full
+  pub same_fits : IsStageFullApart s x → ⊥
+  same_fits full = unwritten full.0.0 full.0.1
 
   pub same_staged : (g : GraphState) (v commands : ℕ) (t : State) (y : ExtentsState) (h : GraphState) → IsPartStagedBy true (deletions_go (shape x) s 0) 0 s x g ForRun v commands t y h → IsStagedApart s x g v commands t y h
   same_staged g v commands t y h staged = inl (subst (λ (k : ℕ). IsNewestStagedApart k s x g ForRun v commands t y h) (sym (takes_none (shape x) s none)) staged)

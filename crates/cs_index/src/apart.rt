@@ -30,7 +30,7 @@ use std::alloc::Global;
 
 /// The run that a Stage writes, for which purpose, and what it takes the place of with the table.
 #[derive(Drop)]
-struct Chosen {
+pub(crate) struct Chosen {
     run: Run,
     purpose: Purpose,
     portion: Portion,
@@ -122,7 +122,7 @@ impl Index {
     /// extent takes it that of all.
     ///
     /// 30 `Full` where no extent takes either; 9 `OutOfMemory` may come instead.
-    fn choose(&self, extents: &Extents) -> Result<Chosen, Refusal>
+    pub(crate) fn choose(&self, extents: &Extents) -> Result<Chosen, Refusal>
         requires some { self.now.table ≢ [] }
         requires limit { self.now.limit ≡ (shape extents.now).most_names }
         ensures inside { IfOk result (λ x. x.portion.newest ≤ length self.now.runs) }

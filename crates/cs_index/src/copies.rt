@@ -105,7 +105,7 @@ impl Index {
     }
 
     /// Copies of the table and of the counts by extent.
-    fn copied(&self) -> Result<(Run, Vec<u32>), AllocError>
+    pub(crate) fn copied(&self) -> Result<(Run, Vec<u32>), AllocError>
         ensures copy { IfOk result (λ made. IsRunOf false (part self.now 0) (map named_entry made.0.entries.items)) }
         ensures ids { IfOk result (λ made. AllByRecursion (λ entry. IsId entry.0) made.0.entries.items) }
         ensures counts { IfOk result (λ made. AreCounts made.1.items (index_of self.now)) }
@@ -168,7 +168,7 @@ impl Index {
     }
 
     /// The runs, oldest first.
-    fn into_runs(self) -> Vec<StoredRun>
+    pub(crate) fn into_runs(self) -> Vec<StoredRun>
         ensures { newest_first result.items ≡ self.runs }
     {
         self.runs
@@ -203,7 +203,7 @@ impl Index {
     }
 
     /// Lets these copies count, the oldest first. Where memory is refused some count.
-    fn settle(&mut self, copies: &[ChunkCopy]) -> Result<(), AllocError>
+    pub(crate) fn settle(&mut self, copies: &[ChunkCopy]) -> Result<(), AllocError>
         ensures settled { OnOk result (IsSettled self.old (newest_copies copies.now) self.new) }
         ensures runs { self.new.runs ≡ self.old.runs }
     {

@@ -10,6 +10,7 @@ mod behind;
 mod copies;
 mod counts;
 mod entries;
+mod fits;
 mod indexes;
 mod laws;
 mod live;
