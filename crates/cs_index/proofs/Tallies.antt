@@ -1,9 +1,9 @@
 -- How many chunks live on each extent, counted.
-use Rattle.std.proofs.Common.{◌≡◌, ◌≢◌, ◌⊎◌, ◌∙◌, ◌==◌, inl, inr, ⊎_elim, ℕ, zero, suc, ◌+◌, ◌-◌, ◌*◌, ◌<◌, ◌≤◌, Bool, true, false, List, [], ◌∷◌, ◌++◌, Option, Some, None, get_or, set, length, ◌^◌, map, take, drop, take-append-drop, nat_le, refl, sym, ap, subst, arith, eq-eqb, ne_eqb, if◌then◌else◌, get_or-set_same, get_or-set_other}
+use Rattle.std.proofs.Common.{◌≡◌, ◌∙◌, ◌==◌, inl, inr, ℕ, zero, suc, ◌+◌, ◌-◌, ◌*◌, ◌<◌, ◌≤◌, Bool, true, false, List, [], ◌∷◌, ◌++◌, Option, Some, None, get_or, set, length, ◌^◌, map, take, drop, take-append-drop, refl, sym, ap, subst, arith, eq-eqb, ne_eqb, if◌then◌else◌, get_or-set_same, get_or-set_other}
 use Rattle.std.specs.List.{AllByRecursion}
 use Rattle.std.specs.Prelude.{is_some, replicate}
 use Rattle.std.proofs.lemmas.Bool.{cases_eq}
-use Rattle.std.proofs.lemmas.List.{length-map, length-replicate, map-append}
+use Rattle.std.proofs.lemmas.List.{length-replicate, map-append}
 use Rattle.std.proofs.lemmas.Option.{slice_get-get_or}
 use Rattle.cs_frame.specs.declared.locators.Locator.{Locator}
 use Rattle.cs_frame.specs.Formats.{place_of}
@@ -24,7 +24,7 @@ use Rattle.cs_model.specs.Element.{Entry, Locator as Place, Run}
 use Rattle.cs_model.specs.Index.{Ascending, IsMergedRun, entries_of, live, live_at, lookup, names}
 use Rattle.cs_model.specs.Merges.{IsRunOf}
 use Rattle.cs_model.specs.Lists.{◌∈◌}
-use Rattle.cs_model.specs.Tally.{lives_on, places_on, tally}
+use Rattle.cs_model.specs.Tally.{lives_on, places_on}
 
 -- ---- places of a list
 
@@ -142,10 +142,10 @@ short_run : (index xs ys : List Entry) → IsShortIndex index → IsMergedRun in
 short_run index xs [] short run among = tt
 short_run index xs (y ∷ ys) short run among = (
   (let is : live_at xs y.id ≡ y.locators = ap live (ascending_lookup xs y run.0 (among y (inl refl))) in
-  let same : live_at xs y.id ≡ live_at index y.id = merged_live index xs run y.id in
-  let e : length y.locators ≡ length (live_at index y.id) = ap length (sym is ∙ same) in
-  let le : length (live_at index y.id) ≤ 8 = short y.id in
-  omega arith),
+      let same : live_at xs y.id ≡ live_at index y.id = merged_live index xs run y.id in
+      let e : length y.locators ≡ length (live_at index y.id) = ap length (sym is ∙ same) in
+      let le : length (live_at index y.id) ≤ 8 = short y.id in
+      omega arith),
   short_run index xs ys short run (λ z has. among z (inr has)),
 )
 
@@ -173,9 +173,9 @@ pub counts_with : (before on : List ℕ) (index : List Entry) (x : Entry) → le
 counts_with before on index x size each was many = (
   (let a : length on ≡ 7680 = size ∙ many in a),
   λ e lt. (let a : get_or on e 0 ≡ get_or before e 0 + places_on e x.locators = each e (omega (arith, lt, many)) in
-  let b : get_or before e 0 ≡ lives_on e index - places_on e (live_at index x.id) = was e lt in
-  let c : lives_on e (x ∷ index) ≡ (lives_on e index - places_on e (live_at index x.id)) + places_on e x.locators = refl in
-  omega arith),
+      let b : get_or before e 0 ≡ lives_on e index - places_on e (live_at index x.id) = was e lt in
+      let c : lives_on e (x ∷ index) ≡ (lives_on e index - places_on e (live_at index x.id)) + places_on e x.locators = refl in
+      omega arith),
 )
 
 pub lives_at_least : (e : ℕ) (index : List Entry) (id : ℕ) → places_on e (live_at index id) ≤ lives_on e index
@@ -210,9 +210,9 @@ pub counts_more : (before on : List ℕ) (index xs : List Entry) (after : Option
 counts_more before on index xs after id ls was next counted size each = (
   size ∙ counted.0,
   λ e lt. (let a : get_or on e 0 ≡ get_or before e 0 + places_on e ls = each e (omega (arith, lt, counted.0)) in
-  let b : get_or before e 0 ≡ lives_on e xs = counted.1 e lt in
-  let c : lives_on e (xs ++ live_entry id ls) ≡ lives_on e xs + places_on e ls = counted_behind e xs id ls (merged_step index xs after id ls was next).ascending in
-  omega arith),
+      let b : get_or before e 0 ≡ lives_on e xs = counted.1 e lt in
+      let c : lives_on e (xs ++ live_entry id ls) ≡ lives_on e xs + places_on e ls = counted_behind e xs id ls (merged_step index xs after id ls was next).ascending in
+      omega arith),
 )
 
 zeros : (n k : ℕ) → get_or {A = ℕ} (replicate n 0) k 0 ≡ 0

@@ -17,7 +17,7 @@ use cs_frame::{Locator, Run, ShardId};
 use std::alloc::{AllocError, Global};
 use std::marker::Model;
 
-/// Which locators each shard has: a table in memory over at most four runs.
+/// Which locators each shard has: a table in memory over the runs of its root, at most four, in format 3 at most 24.
 #[derive(Drop)]
 pub struct Index {
     /// The entries that no run has yet, by rising identifiers.

@@ -1,4 +1,5 @@
-//! The index of a store: which locators each shard has, as a table in memory over at most four runs on the device.
+//! The index of a store: which locators each shard has, as a table in memory over the runs on the device: at most four, in
+//! format 3 at most 24.
 //!
 //! A later entry of an identifier wins over an earlier one: a newer run over an older one, the table over all runs.
 //! An entry without locators is a deletion, which hides what earlier runs have. An identifier is found by binary search;

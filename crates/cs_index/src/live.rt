@@ -151,11 +151,7 @@ fn is_on_behind(place: Locator, number: usize, last: usize, extent: usize) -> bo
 }
 
 /// The first of these places behind number `last` that is on the extent, with its number.
-pub fn first_on_behind(
-    places: &[Locator],
-    last: usize,
-    extent: usize,
-) -> Option<(usize, Locator)>
+pub fn first_on_behind(places: &[Locator], last: usize, extent: usize) -> Option<(usize, Locator)>
     ensures { MatchOption result (NoneOnBehind (map place_of places.now) last extent) (λ found. IsFirstOnBehind (map place_of places.now) last extent found.0 (place_of found.1)) }
 {
     for k in 0..places.len() {

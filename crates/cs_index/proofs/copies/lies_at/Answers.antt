@@ -1,4 +1,4 @@
-use Rattle.std.proofs.Common.{◌∙◌, ap, map, sym, Option, length}
+use Rattle.std.proofs.Common.{◌∙◌, ap, sym, Option}
 use Rattle.cs_frame.specs.declared.locators.Locator.{Locator}
 use Rattle.cs_frame.specs.Formats.{place_of}
 use Rattle.cs_model.specs.Apart.{is_place}

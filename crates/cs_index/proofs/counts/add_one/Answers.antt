@@ -1,4 +1,4 @@
-use Rattle.std.proofs.Common.{◌≡◌, arith}
+use Rattle.std.proofs.Common.{arith}
 use Rattle.cs_index.proofs.Tallies.{one_outside, set_more}
 use Rattle.cs_index.proofs.counts.add_one.Goals as goal
 

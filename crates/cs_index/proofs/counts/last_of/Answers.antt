@@ -1,7 +1,7 @@
-use Rattle.std.proofs.Common.{◌∙◌, ap, sym}
+use Rattle.std.proofs.Common.{◌∙◌, sym}
 use Rattle.cs_model.specs.Index.{entries_of}
 use Rattle.cs_index.specs.State.{id_number, named_entry, newest_first}
-use Rattle.std.proofs.Common.{map, Some, None}
+use Rattle.std.proofs.Common.{map}
 use Rattle.cs_frame.specs.Formats.{place_of}
 use Rattle.cs_index.proofs.Newest.{lookup_first, lookup_second}
 use Rattle.cs_index.proofs.counts.last_of.Goals as goal

@@ -1,6 +1,6 @@
-use Rattle.std.proofs.Common.{◌≡◌, ◌∙◌, ◌++◌, [], ap, arith, map, sym, ℕ, List}
+use Rattle.std.proofs.Common.{◌≡◌, ◌++◌, [], ap, arith, map, sym, List}
 use Rattle.cs_frame.specs.Formats.{place_of}
-use Rattle.cs_model.specs.Element.{Entry, Locator as Place}
+use Rattle.cs_model.specs.Element.{Entry}
 use Rattle.cs_model.specs.Index.{entries_of, live, live_at}
 use Rattle.cs_model.specs.Tally.{places_on}
 use Rattle.cs_index.specs.State.{id_number, named_entry, newest_first}

@@ -18,10 +18,13 @@ returns-then-run_goes-clause-left c =
 
 pub returns-then-merge_goes-clause-chosen : goal.returns-then-merge_goes-clause-chosen
 returns-then-merge_goes-clause-chosen c =
-    inr (refl, c.whole_portion-whole.ensures.newest,
-    subst (λ (n : ℕ). IsFullApart (WritesNewest (shape c.args.extents.now) c.args.self.now n) c.args.extents.now ForRun) (c.newest_portion-portion.ensures.newest ∙ sym (takes_some (shape c.args.extents.now) c.args.self.now c.requires.some))
-    (full_run c.args.self.now c.args.extents.now c.newest_portion-portion.result.newest c.newest_portion-portion.result.without_deletions ForRun (map named_entry c.in_ok-run.run'.entries.items) c.newest_portion-portion.ensures.deletions
-    c.in_ok-run.ensures.merged c.if-run_goes.ensures.0 c.if-run_goes.ensures.1))
+    inr (
+      refl,
+      c.whole_portion-whole.ensures.newest,
+      subst (λ (n : ℕ). IsFullApart (WritesNewest (shape c.args.extents.now) c.args.self.now n) c.args.extents.now ForRun) (c.newest_portion-portion.ensures.newest ∙ sym (takes_some (shape c.args.extents.now) c.args.self.now c.requires.some))
+          (full_run c.args.self.now c.args.extents.now c.newest_portion-portion.result.newest c.newest_portion-portion.result.without_deletions ForRun (map named_entry c.in_ok-run.run'.entries.items) c.newest_portion-portion.ensures.deletions
+          c.in_ok-run.ensures.merged c.if-run_goes.ensures.0 c.if-run_goes.ensures.1),
+    )
 
 pub returns-then-merge_goes-clause-left : goal.returns-then-merge_goes-clause-left
 returns-then-merge_goes-clause-left c =
@@ -30,11 +33,14 @@ returns-then-merge_goes-clause-left c =
     (omega (arith, none, fewest_runs c.args.extents.now.format))
 
 pub returns-clause-refused : goal.returns-clause-refused
-returns-clause-refused c = inl (refl, (
-  subst (λ (n : ℕ). IsFullApart (WritesNewest (shape c.args.extents.now) c.args.self.now n) c.args.extents.now ForRun) (c.newest_portion-portion.ensures.newest ∙ sym (takes_some (shape c.args.extents.now) c.args.self.now c.requires.some))
-      (full_run c.args.self.now c.args.extents.now c.newest_portion-portion.result.newest c.newest_portion-portion.result.without_deletions ForRun (map named_entry c.in_ok-run.run'.entries.items) c.newest_portion-portion.ensures.deletions
-      c.in_ok-run.ensures.merged c.if-run_goes.ensures.0 c.if-run_goes.ensures.1),
-  subst (λ (n : ℕ). IsFullApart (WritesNewest (shape c.args.extents.now) c.args.self.now n) c.args.extents.now ForMerge) c.whole_portion-whole.ensures.newest
-      (full_run c.args.self.now c.args.extents.now c.whole_portion-whole.result.newest c.whole_portion-whole.result.without_deletions ForMerge (map named_entry c.in_ok-all.all.entries.items) c.whole_portion-whole.ensures.deletions
-      c.in_ok-all.ensures.merged c.if-merge_goes.ensures.0 c.if-merge_goes.ensures.1),
-))
+returns-clause-refused c = inl (
+  refl,
+  (
+    subst (λ (n : ℕ). IsFullApart (WritesNewest (shape c.args.extents.now) c.args.self.now n) c.args.extents.now ForRun) (c.newest_portion-portion.ensures.newest ∙ sym (takes_some (shape c.args.extents.now) c.args.self.now c.requires.some))
+        (full_run c.args.self.now c.args.extents.now c.newest_portion-portion.result.newest c.newest_portion-portion.result.without_deletions ForRun (map named_entry c.in_ok-run.run'.entries.items) c.newest_portion-portion.ensures.deletions
+        c.in_ok-run.ensures.merged c.if-run_goes.ensures.0 c.if-run_goes.ensures.1),
+    subst (λ (n : ℕ). IsFullApart (WritesNewest (shape c.args.extents.now) c.args.self.now n) c.args.extents.now ForMerge) c.whole_portion-whole.ensures.newest
+        (full_run c.args.self.now c.args.extents.now c.whole_portion-whole.result.newest c.whole_portion-whole.result.without_deletions ForMerge (map named_entry c.in_ok-all.all.entries.items) c.whole_portion-whole.ensures.deletions
+        c.in_ok-all.ensures.merged c.if-merge_goes.ensures.0 c.if-merge_goes.ensures.1),
+  ),
+)

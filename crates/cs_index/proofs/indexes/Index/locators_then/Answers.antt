@@ -1,4 +1,4 @@
-use Rattle.std.proofs.Common.{◌≡◌, ◌∙◌, ap, arith, length, map, sym, List, Option}
+use Rattle.std.proofs.Common.{◌≡◌, ◌∙◌, ap, arith, map, sym, List, Option}
 use Rattle.std.proofs.lemmas.List.{length-map}
 use Rattle.cs_frame.specs.Formats.{place_of}
 use Rattle.cs_model.specs.Apart.{is_place}

@@ -1,8 +1,7 @@
-use Rattle.std.proofs.Common.{◌∙◌, ap, subst, sym, take, take_all, List, length}
-use Rattle.cs_frame.specs.declared.locators.Locator.{Locator}
+use Rattle.std.proofs.Common.{subst, sym, take, take_all, List}
 use Rattle.cs_model.specs.Element.{Copy}
 use Rattle.cs_index.specs.declared.copies.ChunkCopy.{ChunkCopy}
-use Rattle.cs_index.specs.Copies.{IsSettled, newest_copies, copy_of}
+use Rattle.cs_index.specs.Copies.{IsSettled, newest_copies}
 use Rattle.cs_index.proofs.Settled.{copies_more, settled_more, settled_none}
 use Rattle.cs_index.proofs.indexes.Index.settle.Goals as goal
 

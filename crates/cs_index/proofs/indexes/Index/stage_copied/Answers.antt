@@ -46,9 +46,13 @@ pub returns-in-Ok-clause-settled : goal.returns-in-Ok-clause-settled
 returns-in-Ok-clause-settled c =
     let at = (goal.at.returns-in-Ok-clause-settled c).After-replace-runs in
     let done = c.in-Ok.ensures.settled in
-    rw (← c.self.view_is) (done.0, settled_from (the_view c.self.inside) _ done.0 (newest_copies c.args.copies.now) (same at) (ap newest_first (taken at)) refl done.1,
-    subst (λ (t : State). IsStagedApart c.in-Ok.ensures.settled.0 c.args.extents.now c.args.graph.now c.in-Ok.version c.args.commands t c.settle_and_stage.new.extents c.settle_and_stage.new.graph × ((id : ℕ) → live_at (index_of t) id ≡ live_at (index_of c.in-Ok.ensures.settled.0) id))
-    (sym c.settled.view_is) done.2, done.3)
+    rw (← c.self.view_is) (
+      done.0,
+      settled_from (the_view c.self.inside) _ done.0 (newest_copies c.args.copies.now) (same at) (ap newest_first (taken at)) refl done.1,
+      subst (λ (t : State). IsStagedApart c.in-Ok.ensures.settled.0 c.args.extents.now c.args.graph.now c.in-Ok.version c.args.commands t c.settle_and_stage.new.extents c.settle_and_stage.new.graph × ((id : ℕ) → live_at (index_of t) id ≡ live_at (index_of c.in-Ok.ensures.settled.0) id))
+          (sym c.settled.view_is) done.2,
+      done.3,
+    )
 
 pub returns-in-Err-clause-settled : goal.returns-in-Err-clause-settled
 returns-in-Err-clause-settled c =
