@@ -51,11 +51,10 @@ fn new_sections(alloc: Global, geometry: Geometry) -> Result<Vec<Superblock>, Al
     Ok(sections)
 }
 
-/// An index that names nothing.
+/// An index that names nothing. Refused for memory alone: without runs no identifier is named.
 fn new_index(alloc: Global, geometry: Geometry) -> Result<Index, AllocError>
     ensures { IfOk result (λ index. index ≡ (new_stored geometry.format geometry.extents geometry.pages geometry.sections).index) }
 {
-    // Never refused: without runs no identifier is named.
     match Index::load(alloc, geometry.named_limit(), Vec::new(alloc)) {
         Ok(index) => Ok(index),
         Err(_) => Err(AllocError),

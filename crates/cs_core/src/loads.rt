@@ -51,15 +51,16 @@ fn live_count(index: &Index) -> usize
     count
 }
 
-/// The index of runs whose places are located. Refused 43 NotAStore where they aren't, or name too many identifiers.
+/// The index of runs whose places are located. Refused 43 NotAStore where they aren't, or name too many identifiers, and 9
+/// OutOfMemory.
 fn load_index(alloc: Global, extents: &Extents, runs: Vec<StoredRun>) -> Result<Index, Refusal>
     requires few { length runs.items ≤ 24 }
     requires runs { AllByRecursion (λ run. IsRun (record { entries = run.entries })) runs.items }
     ensures loaded { IfOk result (λ index. index ≡ index_at (newest_first runs.items) (shape extents.now).most_names) }
     ensures located { OnOk result (AreLocated extents.now runs.items) }
     ensures named { OnOk result (names (entries_of (newest_first runs.items)) ≤ (shape extents.now).most_names) }
-    ensures refusals { IfErr result (λ r. r ≡ Refusal.NotAStore) }
-    ensures why { OnErr result ((¬ AreLocated extents.now runs.items) ⊎ ((shape extents.now).most_names < names (entries_of (newest_first runs.items)))) }
+    ensures number { IfErr result IsOpeningRefusal }
+    ensures why { IfErr result (λ r. (r ≡ Refusal.OutOfMemory) ⊎ ((r ≡ Refusal.NotAStore) × ((¬ AreLocated extents.now runs.items) ⊎ ((shape extents.now).most_names < names (entries_of (newest_first runs.items)))))) }
 {
     if !are_located(extents, &runs) {
         return Err(Refusal::NotAStore);

@@ -1,12 +1,26 @@
-use Rattle.std.proofs.Common.{◌∙◌, ◌-◌, ◌*◌, ◌/◌, ℕ, List, ap, subst}
+use Rattle.std.proofs.Common.{◌≡◌, ◌∙◌, ◌-◌, ◌*◌, ◌/◌, ◌<◌, ℕ, List, Err, ap, arith, inl, inr, subst, ⊎_elim}
+use Rattle.cs_extent.specs.State.{shape}
+use Rattle.cs_frame.proofs.GeometryLaws.{bounds}
 use Rattle.cs_image.specs.Openings.{index_at}
 use Rattle.cs_image.specs.Reads.{AreLocated}
 use Rattle.cs_index.specs.declared.runs.StoredRun.{StoredRun}
 use Rattle.cs_index.specs.State.{newest_first}
+use Rattle.cs_model.specs.Index.{entries_of, names}
 use Rattle.cs_core.proofs.loads.load_index.Goals as goal
+
+pub load-requires-clause-limit : goal.load-requires-clause-limit
+load-requires-clause-limit c = omega (arith, c.named_limit-limit.ensures, c.geometry.ensures.pages, (bounds _ _ _ _ c.geometry.ensures.whole.geometry).most_pages)
 
 pub returns-in-Ok-clause-loaded : goal.returns-in-Ok-clause-loaded
 returns-in-Ok-clause-loaded c = c.in-Ok.ensures.loaded ∙ ap (λ (n : ℕ). index_at (newest_first c.args.runs.items) n) (c.named_limit-limit.ensures ∙ ap (λ (p : ℕ). (4096 * p - 45) / 81) c.geometry.ensures.pages)
 
 pub returns-in-Ok-clause-located : goal.returns-in-Ok-clause-located
 returns-in-Ok-clause-located c = subst (λ (rs : List StoredRun). AreLocated c.args.extents.now rs) c.deref.ensures.value c.if-not-are_located.ensures
+
+pub returns-in-Err-clause-number : goal.returns-in-Err-clause-number
+returns-in-Err-clause-number c = ⊎_elim (λ is. inr (inr is)) (λ is. inl (inr is)) c.in-Err.ensures.refusals
+
+pub returns-in-Err-clause-why : goal.returns-in-Err-clause-why
+returns-in-Err-clause-why c =
+    let same = c.named_limit-limit.ensures ∙ ap (λ (p : ℕ). (4096 * p - 45) / 81) c.geometry.ensures.pages in
+    ⊎_elim (λ is. inr (is, inr (subst (λ (n : ℕ). n < names (entries_of (newest_first c.args.runs.items))) same (c.in-Err.ensures.full.0 (ap Err is))))) inl c.in-Err.ensures.refusals
