@@ -1,5 +1,5 @@
 -- What an image recovers can be read.
-use Rattle.std.proofs.Common.{◌≡◌, inl, inr, ℕ, zero, suc, ◌+◌, ◌/◌, ◌<◌, ◌≤◌, List, [], ◌∷◌, ◌++◌, length, map, take, drop, Vec, refl, sym, ap, ◌∙◌, subst, arith}
+use Rattle.std.proofs.Common.{◌≡◌, inl, inr, ℕ, zero, suc, ◌+◌, ◌/◌, ◌<◌, ◌≤◌, List, [], ◌∷◌, ◌++◌, length, map, take, drop, Option, Some, None, Vec, refl, sym, ap, ◌∙◌, subst, arith}
 use Rattle.std.specs.Prelude.{reverse, slice_index, slice_index_or}
 use Rattle.std.specs.List.{AllByRecursion, flat_map}
 use Rattle.std.specs.declared.alloc.Global.{Global}
@@ -34,10 +34,10 @@ use Rattle.cs_model.specs.Device.{Page, Shape}
 use Rattle.cs_model.specs.Element.{Entry, Locator as Place, Map, Run}
 use Rattle.cs_model.specs.Formats.{Stand, places}
 use Rattle.cs_model.specs.Geometry.{shape_of}
-use Rattle.cs_model.specs.Index.{AllPass, Passes, entries_of, names}
+use Rattle.cs_model.specs.Index.{AllPass, Passes, entries_of, live, live_at, lookup, names}
 use Rattle.cs_model.specs.Lists.{◌∈◌}
 use Rattle.cs_model.specs.Recovery.{Recovers}
-use Rattle.cs_image.specs.Reads.{AreLocated, ArePages, AreSectionsRead, HasRunAt, IsLocated, IsReadable, IsRunRead, IsStoreRead, SpellsAt, extents_at}
+use Rattle.cs_image.specs.Reads.{AreLocated, ArePages, AreSectionsRead, HasRunAt, IsLocated, IsReadable, IsRunRead, IsStoreRead, IsVisibleStoreRead, SpellsAt, extents_at}
 use Rattle.cs_image.proofs.Entries.{named_fit, tests_of}
 use Rattle.cs_image.proofs.Listed.{bytes_back, bytes_joined, to_all}
 use Rattle.cs_image.proofs.Runs.{StandsAt, all_stand, same_listed, same_runs}
@@ -226,8 +226,7 @@ module _ (view : ℕ → List ℕ) (format : ℕ) (versions : List ℕ) (pages :
         spelled = record {
           fits = named_fit run.entries (tests_of run.entries (r.runs_fit run has))
               (bytes_back (big_bytes 4 (length (map as_entry run.entries))) (flat_map spelled_entry (map as_entry run.entries))
-              (payload_bytes run.place.extent run.place.page (spelled_run (map as_entry run.entries)) reads.passes.inside.0 reads.inside reads.stand))
-              (λ e there l at. fits_located format (length written) pages (length versions) sizes view n m r l (entry_located run has e there l at));
+              (payload_bytes run.place.extent run.place.page (spelled_run (map as_entry run.entries)) reads.passes.inside.0 reads.inside reads.stand));
           spelled = refl;
         };
       }
@@ -254,6 +253,21 @@ module _ (view : ℕ → List ℕ) (format : ℕ) (versions : List ℕ) (pages :
         (same_listed r.runs runs (same_places root commands (map (λ run. run.place) runs) root_page))
         (all_stand x view runs read)
         (to_all (StandsAt (shape x) view) r.runs (λ run has. record { fits = r.runs_fit run has; inside = (r.gives.runs_read run has).inside; stand = (r.gives.runs_read run has).stand }))
+
+    -- what an entry has passes where the entry does
+    each_passes : (o : Option (List Place)) → AllPass (shape x) (formats_of (shape x)) view r.pointers r.generations o → (l : Place) → l ∈ live o → Located l
+    each_passes None pass l none = absurd none
+    each_passes (Some ls) pass l has = pass l has
+
+    pub visible_store_read : IsVisibleStoreRead view format versions pages written root commands runs
+    visible_store_read = record {
+      sections = superblock;
+      root_page = root_page;
+      runs_read = read;
+      located = λ id l has. located l (each_passes (lookup id (entries_of r.runs)) (r.gives.visible_pass id) l
+          (subst (λ (rs : List Run). l ∈ live_at (entries_of rs) id) runs_are has));
+      named = subst (λ (rs : List Run). names (entries_of rs) ≤ (shape x).most_names) (sym runs_are) r.bounds.named;
+    }
 
     abbrev EntryLocated : Entry → Type 0
     EntryLocated e = (l : Place) → l ∈ e.locators → Located l

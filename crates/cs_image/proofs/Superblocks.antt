@@ -4,7 +4,7 @@ use Rattle.std.specs.Prelude.{◌↔◌, slice_index, slice_index_or}
 use Rattle.std.specs.List.{AllByRecursion}
 use Rattle.std.proofs.lemmas.Bool.{and_from, and_parts, and_right, cases_lt, eqb-true, lt-ltb}
 use Rattle.std.proofs.lemmas.List.{get_or-drop, get_or-take, get_or_past, length-replicate}
-use Rattle.cs_extent.specs.State.{IsWhole, State as ExtentsState, extents_of, section_rows, shape}
+use Rattle.cs_extent.specs.State.{IsWhole, State as ExtentsState, extents_of, found_at, section_rows, shape}
 use Rattle.cs_frame.proofs.FirstFormatLaws.{apart, one_of_first_format, page_zero_fits, spelled_has_none as first_has_none}
 use Rattle.cs_frame.proofs.FormatLaws.{is_format}
 use Rattle.cs_frame.proofs.GeometryLaws.{for_known, lies_in_device, model_geometry, section_holds, section_inside, section_length-le}
@@ -342,3 +342,34 @@ extents_are format pages sections written = λ i. record {
   fresh = None;
   last = None;
 }
+
+-- the same, with what is noted where chunks and runs lie apart
+pub extents_with : (format pages sections : ℕ) (written : List (ℕ × ℕ)) (of_runs : ℕ → Bool) (found : ℕ → ℕ)
+    → record (extents_of (extents_at format pages sections written)) { of_runs = of_runs; found = found } ≡ record {
+      pointer = (extents_of (extents_at format pages sections written)).pointer;
+      generation = (extents_of (extents_at format pages sections written)).generation;
+      reset = λ e. 0;
+      open_extent = None;
+      swept = λ e. false;
+      of_runs = of_runs;
+      found = found;
+      fresh = None;
+      last = None;
+    }
+extents_with format pages sections written of_runs found = λ i. record {
+  pointer = (extents_of (extents_at format pages sections written)).pointer;
+  generation = (extents_of (extents_at format pages sections written)).generation;
+  reset = λ e. all_default (length written) e 0 i;
+  open_extent = None;
+  swept = λ e. all_default (length written) e false i;
+  of_runs = of_runs;
+  found = found;
+  fresh = None;
+  last = None;
+}
+
+-- all pages of an extent count as found where so many are given at open
+pub found_all : (written : List (ℕ × ℕ)) (e : ℕ) → slice_index (found_at true written) e ≡ (slice_index_or written e (0, 0)).0
+found_all [] e = refl
+found_all (row ∷ written) zero = refl
+found_all (row ∷ written) (suc e) = found_all written e
