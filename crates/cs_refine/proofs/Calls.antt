@@ -1,30 +1,25 @@
 -- What the calls of a store's parts do is what the machine's events do.
 use Rattle.std.proofs.Common.{◌≡◌, ◌≢◌, inl, inr, ℕ, suc, ◌+◌, ◌<◌, ◌≤◌, Bool, List, [], ◌∷◌, Some, None, drop, length, map, false, true, refl, sym, ap, ◌∙◌, subst, arith}
-use Rattle.std.specs.Prelude.{reverse}
 use Rattle.std.proofs.lemmas.Bool.{cases_lt, false_from_ne_true}
-use Rattle.cs_deps.specs.declared.elements.Element.TheVariants.{Version}
-use Rattle.cs_deps.specs.State.{State as GraphState, write_of}
+use Rattle.cs_deps.specs.State.{State as GraphState}
 use Rattle.cs_extent.specs.Appended.{AreAppended}
-use Rattle.cs_extent.specs.Frames.{root_family}
-use Rattle.cs_extent.specs.State.{IsWhole, State as ExtentsState, extents_of, need_of, shape}
+use Rattle.cs_extent.specs.State.{IsWhole, State as ExtentsState, extents_of, shape}
 use Rattle.cs_frame.specs.declared.locators.Locator.{Locator}
 use Rattle.cs_frame.specs.Formats.{as_locator, formats_of, place_of}
-use Rattle.cs_frame.specs.Roots.{spelled_root}
 use Rattle.cs_index.proofs.Cases.{merged_exactly, table_exactly}
 use Rattle.cs_index.specs.Merges.{deletions_go as index_deletions_go, stage_takes as index_takes}
 use Rattle.cs_index.specs.Staged.{IsMergeAppended, IsMergeStaged, IsNewestStaged, IsPartAppended, IsRootStaged, IsRunAppended, IsTableStaged, run_frame}
 use Rattle.cs_index.specs.State.{IsSet, State as IndexState, index_of}
 use Rattle.cs_model.specs.Append.{Append, MergesTo, chunk_frames}
 use Rattle.cs_model.specs.Device.{Shape}
-use Rattle.cs_model.specs.Disk.{page_write}
-use Rattle.cs_model.specs.Element.{A_root, Entry, Locator as Place, Map, Run}
+use Rattle.cs_model.specs.Element.{Entry, Locator as Place, Run}
 use Rattle.cs_model.specs.Events.{Chunked, Does, ReadsNow, mark, retired, rooted}
 use Rattle.cs_model.specs.Extents.{Extents, ForMove, ForPut, ForRun, Purpose as Reason, emptied, marked}
-use Rattle.cs_model.specs.Formats.{ChunkFrame, RunFrame, places}
+use Rattle.cs_model.specs.Formats.{ChunkFrame, RunFrame}
 use Rattle.cs_model.specs.Index.{NothingLive, live_at, lookup}
 use Rattle.cs_model.specs.Lists.{replaced, with}
 use Rattle.cs_model.specs.Merges.{MergesPart}
-use Rattle.cs_model.specs.Machine.{StageRoot, World, happens, root_now}
+use Rattle.cs_model.specs.Machine.{StageRoot, World, happens}
 use Rattle.cs_model.specs.State.{Abandon, Abandoned, Accepted, BeginSweep, Delete, MoveOne, Moved, Put, Retire, Retired, Stage, Staged, State, Sweeping, index_now, map_now}
 use Rattle.cs_reclaim.specs.Moves.{IsMoved}
 use Rattle.cs_reclaim.specs.Retired.{IsRetired}
@@ -37,7 +32,7 @@ use Rattle.cs_refine.proofs.Keeping.{after_appends, after_mark}
 use Rattle.cs_refine.proofs.Merges.{merges_there, run_there, stages_so}
 use Rattle.cs_refine.proofs.Numbers.{append_numbers}
 use Rattle.cs_refine.proofs.Resetting.{after_reset}
-use Rattle.cs_refine.proofs.Rooting.{after_root, next_version}
+use Rattle.cs_refine.proofs.RootsOver.{of_same_shape, root_staged_as, root_version}
 use Rattle.cs_refine.proofs.Shapes.{some_sections, store_shape}
 
 -- ---- puts and deletes
@@ -74,27 +69,6 @@ run_append : (x y : ExtentsState) (g h : GraphState) (w : World) (reason : Reaso
 unfolding run_frame
 run_append x y g h w reason entries place whole is a =
     after_append x g w whole.geometry is reason (run_frame x entries) (as_locator place) y h a
-
--- the root over these runs is the machine's next, whatever it remembers
-module _ (x : ExtentsState) (g h : GraphState) (w : World) (v commands : ℕ) (runs : List Run) (some : 0 < (shape x).sections) (is : IsWorldOf x g w) (root : IsRootStaged x.format g h v commands runs) where
-  pub root_version : v ≡ suc w.root
-  root_version = next_version (shape x) some (need_of x) w g.staging is.staging v root.needs h.staging root.version root.names
-
-  root_staged : (m : Map) (pointers : ℕ → ℕ) → IsWorldOf x h (happens (shape x) w (StageRoot commands runs m pointers))
-  root_staged m pointers =
-      let oldest : List Locator = map as_locator (reverse (places runs)) in
-      let kept : write_of h (Version root_family v) ≡ Some (page_write (shape x) (formats_of (shape x)) (A_root (root_now (shape x) w commands runs m pointers))) =
-      root.page.1 ∙ ap (λ (b : List ℕ). Some (1, b)) (root.page.2.spelled ∙ ap (λ (k : ℕ). spelled_root x.format k commands oldest) root_version) in
-      after_root x g h w some is v root.needs root.version root.names commands runs m pointers kept root.others
-
-  -- the same of the shape by another name
-  pub root_staged_as : (S : Shape) → shape x ≡ S → (m : Map) (pointers : ℕ → ℕ) → IsWorldOf x h (happens S w (StageRoot commands runs m pointers))
-  root_staged_as S same m pointers = subst (λ (T : Shape). IsWorldOf x h (happens T w (StageRoot commands runs m pointers))) same (root_staged m pointers)
-
--- extents of the same shape have the same format
-of_same_shape : (x y : ExtentsState) (g h : GraphState) (v commands : ℕ) (runs : List Run) → shape y ≡ shape x
-    → IsRootStaged x.format g h v commands runs → IsRootStaged y.format g h v commands runs
-of_same_shape x y g h v commands runs same = subst (λ (S : Shape). IsRootStaged S.format g h v commands runs) (sym same)
 
 -- ---- stages
 
