@@ -3,7 +3,7 @@ use Rattle.cs_refine.proofs.Calls.{merge_staged, newest_staged, table_staged}
 
 pub returns : goal.returns
 returns c = record {
-  newest = λ x y g h i j s v whole are some done. newest_staged x g i s whole are y h j v some done;
-  table = λ x y g h i j s v whole are some few done. table_staged x g i s whole are y h j v some few done;
-  merged = λ x y g h i j s v whole are some many done. merge_staged x g i s whole are y h j v some many done;
+  newest = λ x y g h i j s v together whole are some done. newest_staged x g i s whole are y h j v together some done;
+  table = λ x y g h i j s v together whole are some few done. table_staged x g i s whole are y h j v together some few done;
+  merged = λ x y g h i j s v together whole are some many done. merge_staged x g i s whole are y h j v together some many done;
 }
