@@ -11,9 +11,9 @@ pages_first_in format = nat_le format 2
 abbrev pub hidden_stand_in : (format : ℕ) → Bool
 hidden_stand_in format = true
 
--- a Stage merges the newest runs by their sizes
+-- in format 3 a Stage merges the newest runs by their sizes
 abbrev pub by_size_in : (format : ℕ) → Bool
-by_size_in format = false
+by_size_in format = nat_lt 2 format
 
 -- chunks and runs lie apart
 abbrev pub apart_in : (format : ℕ) → Bool
