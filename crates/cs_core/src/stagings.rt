@@ -14,7 +14,8 @@ use cs_deps::Refusal;
 
 impl Store {
     /// Stages the index's changes as a run, and the next root over all runs, and gives that root's version; None where nothing
-    /// has changed. Where there are four runs already, one run of all that is live takes the place of all.
+    /// has changed. Up to format 2, where there are four runs already, one run of all that is live takes the place of all; in format 3 the
+    /// run takes the place of as many of the newest runs as their sizes ask for.
     ///
     /// Refused 30 Full where no extent takes the run (opening one has to leave another empty), 35 WornOut, and 9 OutOfMemory.
     pub fn stage(&mut self) -> Result<Option<u64>, Refusal>

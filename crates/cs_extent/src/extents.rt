@@ -96,12 +96,12 @@ impl Extents {
         self.geometry
     }
 
-    /// Whether a section's version needs the plain writes that it counts. Where not, a root needs all plain writes that were staged
-    /// before it.
+    /// Whether a section's version needs the plain writes that it counts, as it does up to format 2. Where not, a root needs all plain
+    /// writes that were staged before it.
     pub fn pages_first(&self) -> bool
         ensures { result ≡ (shape self.now).pages_first }
     {
-        true
+        self.geometry.format() <= 2
     }
 
     /// How many extents there are.
@@ -479,7 +479,8 @@ impl Extents {
     /// records them. Each page needs the root of its extent's last reset since open, if there is one; the section's version needs, beside
     /// what the one before it needs, the greatest such root of the section's extents. Where page writes come first it needs the frame's
     /// pages too, and where there is one section alone, all plain writes so far. Answers where the frame begins, and a dependency that
-    /// names this version of the section and all before it.
+    /// names this version of the section and all before it. Where page writes come first, as they do up to format 2, the frame's pages are
+    /// persistent once that is. In format 3 they need not be, but every root that is staged later needs them.
     ///
     /// 30 `Full` where no extent takes the frame, then 35 `WornOut` where a number of these would pass 2^63 - 1, then 9
     /// `OutOfMemory`: memory is asked for as room in the graph alone. Costs a pass over the extents, the frame's pages and one

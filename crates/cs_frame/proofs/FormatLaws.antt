@@ -1,5 +1,5 @@
 -- What the machine's model asks of its formats, of these.
-use Rattle.std.proofs.Common.{◌≡◌, ◌≢◌, inl, inr, ℕ, zero, suc, ◌+◌, ◌-◌, ◌*◌, ◌/◌, ◌%◌, ◌≤◌, ◌<◌, ◌^◌, ◌==◌, ◌&&◌, true, false, Bool, List, [], ◌∷◌, ◌++◌, length, take, drop, map, None, refl, sym, subst, ap, ap₂, ◌∙◌, arith, append_assoc, append-nil, length-append, nat_le, nat_lt, if◌then◌else◌}
+use Rattle.std.proofs.Common.{◌≡◌, ◌≢◌, inl, inr, ℕ, zero, suc, ◌+◌, ◌-◌, ◌*◌, ◌/◌, ◌%◌, ◌≤◌, ◌<◌, ◌^◌, ◌==◌, ◌&&◌, true, false, Bool, List, [], ◌∷◌, ◌++◌, length, take, drop, map, None, refl, sym, subst, ap, ap₂, ◌∙◌, arith, append_assoc, append-nil, length-append, le_refl, le_trans, nat_le, nat_lt, if◌then◌else◌}
 use Rattle.std.specs.Prelude.{option_map, reverse}
 use Rattle.std.specs.List.{AllByRecursion, list_all, flat_map}
 use Rattle.std.specs.Int.{bytes_high_first}
@@ -14,7 +14,7 @@ use Rattle.byteorder.specs.Numbers.{big_from-bytes, big_from-cons, big_from-lt, 
 use Rattle.cs_model.specs.Device.{Page, Shape}
 use Rattle.cs_model.specs.Element.{Entry as NamedEntry, Locator as Place}
 use Rattle.cs_model.specs.Formats.{Formats, Stand, pages_from}
-use Rattle.cs_model.specs.Frames.{IsFormat}
+use Rattle.cs_model.specs.Frames.{IsFormat, most_staged}
 use Rattle.cs_model.specs.Geometry.{shape_of}
 use Rattle.cs_model.specs.Index.{Ascending, InRange, IsRunList}
 use Rattle.cs_model.specs.Lists.{◌∈◌}
@@ -377,12 +377,20 @@ module _ (f extents pages sections format : ℕ) (is : IsGeometry f extents page
   fits : (l : Place) → InRange S l → fits_locator l ≡ true
   fits l r = in_range extents pages 4294967295 l limits.most_extents limits.most_pages (omega arith) r.0.0 r.0.1 r.1
 
+  -- no more runs are staged than a root may have
+  staged_few : most_staged S ≤ greatest_runs format
+  staged_few = go (nat_lt 2 format)
+    where
+      go : (b : Bool) → (if b then greatest_runs format else 4) ≤ greatest_runs format
+      go true = le_refl _
+      go false = fewest_runs format
+
   root_fits : (v n : ℕ) (ls : List Place) → 1 ≤ v → v ≤ 9223372036854775807 → n ≤ 9223372036854775807
-      → length ls ≤ 4 → ((l : Place) → l ∈ ls → InRange S l) → fits_root format v n ls ≡ true
+      → length ls ≤ most_staged S → ((l : Place) → l ∈ ls → InRange S l) → fits_root format v n ls ≡ true
   root_fits v n ls some high last count each = and_from _ _
       (and_from _ _
       (and_from _ _ (and_from _ _ (le-leb _ _ some) (lt-ltb _ _ (omega (arith, high)))) (lt-ltb _ _ (omega (arith, last))))
-      (le-leb _ _ (omega (arith, count, fewest_runs format))))
+      (le-leb _ _ (le_trans count staged_few)))
       (all_of fits_locator ls (λ l there. fits l (each l there)))
 
   run_fits : (entries : List NamedEntry) → IsRunList S entries → fits_run entries ≡ true

@@ -1,5 +1,5 @@
--- Stages that merge no run, and stages that merge all.
-use Rattle.std.proofs.Common.{◌≡◌, ◌≢◌, ◌⊎◌, ◌↔◌, inl, inr, ⊎_elim, ℕ, ◌<◌, ◌≤◌, Bool, true, false, ◌&&◌, List, [], ◌∷◌, ◌++◌, length, take, drop, Option, Some, None, nat_le, nat_lt, le_refl, le-leb, append-nil, refl, sym, ap, subst, ◌∙◌, arith}
+-- Stages that merge no run, stages that merge all, and stages that merge by size.
+use Rattle.std.proofs.Common.{◌≡◌, ◌≢◌, ◌⊎◌, ◌↔◌, inl, inr, ⊎_elim, ℕ, ◌<◌, ◌≤◌, Bool, true, false, ◌&&◌, ◌||◌, List, [], ◌∷◌, ◌++◌, length, take, drop, Option, Some, None, nat_le, nat_lt, le_refl, le-leb, append-nil, refl, sym, ap, subst, ◌∙◌, arith}
 use Rattle.std.proofs.Math.Seq.{drop-length, take-length}
 use Rattle.std.proofs.lemmas.Bool.{cases_lt}
 use Rattle.std.proofs.lemmas.Bool.Decides.{nat_tests}
@@ -12,10 +12,11 @@ use Rattle.cs_model.specs.Element.{Entry, Locator as Place, Run}
 use Rattle.cs_model.specs.Extents.{ForRun, Purpose as Reason}
 use Rattle.cs_model.specs.Index.{IsMergedRun, IsTableRun, entries_of, if_live, live, lookup}
 use Rattle.cs_model.specs.Merges.{IsRunOf}
-use Rattle.cs_index.specs.Merges.{deletions_go, part, stage_takes}
+use Rattle.cs_index.specs.Merges.{deletions_go, part, reached, stage_takes}
 use Rattle.cs_index.specs.Staged.{IsMergeAppended, IsMergeStaged, IsNewestStaged, IsPartAppended, IsPartStaged, IsRootStaged, IsTableStaged, WritesMerged, WritesPart, WritesRun}
 use Rattle.cs_index.specs.State.{State, index_of}
 use Rattle.cs_index.proofs.Parts.{goes_where_none}
+use Rattle.cs_index.proofs.Sizes.{takes_reached}
 
 -- ---- all runs
 
@@ -184,4 +185,35 @@ module _ (s : State) (x : ExtentsState) (g : GraphState) (v commands : ℕ) (t :
   merged_exactly many = (
     (λ staged. all_merged s x g ForRun v commands t y h (length s.runs) refl (newest_all many staged)),
     (λ staged. all_newest many (merged_all s x g ForRun v commands t y h (length s.runs) refl staged)),
+  )
+
+-- ---- where a Stage merges by size
+
+module _ (S : Shape) (s : State) (sized : S.by_size ≡ true) where
+  pub goes_with_all : (k : ℕ) → deletions_go S s k ≡ nat_le (length s.runs) k
+  goes_with_all k = ap (λ (b : Bool). nat_le (length s.runs) k && (b || nat_lt 0 k)) sized ∙ with_true (nat_le (length s.runs) k)
+    where
+      with_true : (b : Bool) → (b && true) ≡ b
+      with_true true = refl
+      with_true false = refl
+
+  abbrev on_reached : List Entry → Type 0
+  on_reached es = (s.table ≢ []) × WritesPart (nat_le (length s.runs) (reached S s)) s (reached S s) es
+
+  pub writes_reached : (es : List Entry) → WritesRun S s es ↔ on_reached es
+  writes_reached es = (
+    (λ writes. (writes.0, subst (λ (b : Bool). WritesPart b s (reached S s) es) (goes_with_all (reached S s)) (subst (λ (n : ℕ). WritesPart (deletions_go S s n) s n es) (takes_reached S s sized) writes.1))),
+    (λ writes. (writes.0, subst (λ (n : ℕ). WritesPart (deletions_go S s n) s n es) (sym (takes_reached S s sized)) (subst (λ (b : Bool). WritesPart b s (reached S s) es) (sym (goes_with_all (reached S s))) writes.1))),
+  )
+
+module _ (s : State) (x : ExtentsState) (g : GraphState) (v commands : ℕ) (t : State) (y : ExtentsState) (h : GraphState) (sized : (shape x).by_size ≡ true) where
+  abbrev k : ℕ
+  k = reached (shape x) s
+
+  pub reached_exactly : IsNewestStaged (stage_takes (shape x) s) s x g v commands t y h ↔ IsPartStaged (nat_le (length s.runs) k) k s x g ForRun v commands t y h
+  reached_exactly = (
+    (λ staged. subst (λ (b : Bool). IsPartStaged b k s x g ForRun v commands t y h) (goes_with_all (shape x) s sized k)
+        (subst (λ (n : ℕ). IsNewestStaged n s x g v commands t y h) (takes_reached (shape x) s sized) staged)),
+    (λ staged. subst (λ (n : ℕ). IsNewestStaged n s x g v commands t y h) (sym (takes_reached (shape x) s sized))
+        (subst (λ (b : Bool). IsPartStaged b k s x g ForRun v commands t y h) (sym (goes_with_all (shape x) s sized k)) staged)),
   )

@@ -62,11 +62,11 @@ module _ (runs : List StoredRun) (n k : ℕ) (split : n + k ≡ length runs) whe
   pub newest_left : newest_first (take n runs) ≡ drop k (newest_first runs)
   newest_left = sym (ap (drop k) joined ∙ ap (λ (m : ℕ). drop m (newer ++ older)) (sym as_many) ∙ drop_front newer older)
 
-  pub few_left : length (drop k (newest_first runs)) < 4 → length (take n runs) < 4
-  few_left few =
+  pub few_left : (most : ℕ) → length (drop k (newest_first runs)) < most → length (take n runs) < most
+  few_left most few =
       let e : length (newest_first (take n runs)) ≡ length (take n runs) = length-newest (take n runs) in
       let same : length (newest_first (take n runs)) ≡ length (drop k (newest_first runs)) = ap length newest_left in
-      omega arith
+      omega (arith, e, same, few)
 
   pub stored_newest : AllByRecursion IsStored (newest_first runs) → AllByRecursion IsStored (newest_first (drop n runs))
   stored_newest all = all_newest IsStored (drop n runs) (all_drop (λ (r : StoredRun). IsStored (run_of r)) n runs (all_oldest IsStored runs all))
@@ -179,7 +179,7 @@ module _ (xs empty : Entries) (runs kept news : List StoredRun) (r : StoredRun) 
         count_then go (map named_entry r.entries.items) (index_of (state_of xs runs limit room)) (index_of (state_of empty news limit 0)) (drop k (newest_first runs)) named before
         (parted_index limit) all run.0 parted_lookup was (count ∙ ap (λ (m : ℕ). if go then m else before) (sym (length-map r.entries.items named_entry)))
 
-    pub parted_whole : map named_entry r.entries.items ≢ [] → AllByRecursion IsShort (map named_entry r.entries.items) → length (drop k (newest_first runs)) < 4
+    pub parted_whole : map named_entry r.entries.items ≢ [] → AllByRecursion IsShort (map named_entry r.entries.items) → length (drop k (newest_first runs)) < 24
         → IsWhole (state_of xs runs limit room) → IsWhole (state_of empty news limit 0)
     parted_whole some short few whole = record {
       ascending = subst (λ (es : Entries). Ascending (map named_entry es)) (sym none) tt;

@@ -167,22 +167,22 @@ module _ (S : Shape) (s : State) where
   none_left : length (drop (length s.runs) s.runs) ≡ 0
   none_left = ap length (drop-length s.runs)
 
-  -- most: where a Stage merges by size no root has more than four runs
-  pub takes_left : (S.by_size ≡ true → S.most_runs ≡ 4) → length (drop (stage_takes S s) s.runs) < 4
-  takes_left most = by_size S.by_size refl
+  -- most: a root may have so many runs, at least four, and where a Stage merges by size just as many as the shape says
+  pub takes_left : (most : ℕ) → 4 ≤ most → (S.by_size ≡ true → S.most_runs ≡ most) → length (drop (stage_takes S s) s.runs) < most
+  takes_left most four same = by_size S.by_size refl
     where
-      by_quarter : S.most_runs ≡ 4 → (b : Bool) → length (drop (if b then length s.runs else reaching S (sizes s.runs) (names s.table)) s.runs) < 4
-      by_quarter four true = let none : length (drop (length s.runs) s.runs) ≡ 0 = none_left in omega arith
-      by_quarter four false =
-          let left : length (drop (reaching S (sizes s.runs) (names s.table)) s.runs) < S.most_runs = reaching_left S s.runs (names s.table) (omega (arith, four)) in
-          omega (arith, four)
+      by_quarter : S.most_runs ≡ most → (b : Bool) → length (drop (if b then length s.runs else reaching S (sizes s.runs) (names s.table)) s.runs) < most
+      by_quarter is true = let none : length (drop (length s.runs) s.runs) ≡ 0 = none_left in omega (arith, none, four)
+      by_quarter is false =
+          let left : length (drop (reaching S (sizes s.runs) (names s.table)) s.runs) < S.most_runs = reaching_left S s.runs (names s.table) (omega (arith, is, four)) in
+          omega (arith, left, is)
 
-      by_number : (b : Bool) → nat_lt (length s.runs) 4 ≡ b → length (drop (if b then 0 else length s.runs) s.runs) < 4
-      by_number true few = grind (arith, nat_tests)
-      by_number false many = let none : length (drop (length s.runs) s.runs) ≡ 0 = none_left in omega arith
+      by_number : (b : Bool) → nat_lt (length s.runs) 4 ≡ b → length (drop (if b then 0 else length s.runs) s.runs) < most
+      by_number true few = let lt : length s.runs < 4 = grind (arith, nat_tests) in omega (arith, lt, four)
+      by_number false many = let none : length (drop (length s.runs) s.runs) ≡ 0 = none_left in omega (arith, none, four)
 
-      by_size : (b : Bool) → S.by_size ≡ b → length (drop (if b then reached S s else (if nat_lt (length s.runs) 4 then 0 else length s.runs)) s.runs) < 4
-      by_size true is = by_quarter (most is) (nat_le S.most_names (4 * (names (index_of s) - shards (index_of s))))
+      by_size : (b : Bool) → S.by_size ≡ b → length (drop (if b then reached S s else (if nat_lt (length s.runs) 4 then 0 else length s.runs)) s.runs) < most
+      by_size true is = by_quarter (same is) (nat_le S.most_names (4 * (names (index_of s) - shards (index_of s))))
       by_size false is = by_number (nat_lt (length s.runs) 4) refl
 
 -- where deletions go no run is left

@@ -72,7 +72,7 @@ module _ (xs empty : Entries) (runs before news : List StoredRun) (r : StoredRun
   pushed_index limit room =
       ap (λ (es : Entries). map named_entry es ++ entries_of (newest_first news)) none ∙ ap entries_of pushed_runs
 
-  pub pushed_whole : (limit room : ℕ) → map named_entry xs ≢ [] → length (newest_first runs) < 4 → IsWhole (state_of xs runs limit room) → IsWhole (state_of empty news limit 0)
+  pub pushed_whole : (limit room : ℕ) → map named_entry xs ≢ [] → length (newest_first runs) < 24 → IsWhole (state_of xs runs limit room) → IsWhole (state_of empty news limit 0)
   pushed_whole limit room some few whole = record {
     ascending = subst (λ (es : Entries). Ascending (map named_entry es)) (sym none) tt;
     short = subst (λ (es : Entries). AllByRecursion IsShort (map named_entry es)) (sym none) tt;

@@ -17,7 +17,7 @@ use cs_frame::{Locator, Run, ShardId};
 use std::alloc::{AllocError, Global};
 use std::marker::Model;
 
-/// Which locators each shard has: a table in memory over at most four runs.
+/// Which locators each shard has: a table in memory over at most four runs, and 24 in format 3.
 #[derive(Drop)]
 pub struct Index {
     /// The entries that no run has yet, by rising identifiers.

@@ -1,4 +1,4 @@
-//! The index of a store: which locators each shard has, as a table in memory over at most four runs on the device.
+//! The index of a store: which locators each shard has, as a table in memory over runs on the device, at most four, and 24 in format 3.
 //!
 //! A later entry of an identifier wins over an earlier one: a newer run over an older one, the table over all runs.
 //! An entry without locators is a deletion, which hides what earlier runs have. An identifier is found by binary search;
@@ -22,6 +22,6 @@ mod tables;
 pub use copies::ChunkCopy;
 pub use entries::Entries;
 pub use indexes::Index;
-pub use laws::stages_without_sizes;
+pub use laws::{stages_by_sizes, stages_without_sizes};
 pub use live::LiveChunk;
 pub use runs::StoredRun;

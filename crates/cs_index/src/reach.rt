@@ -9,10 +9,10 @@ ghost use Rattle.cs_model.specs.Merges.{reaching, sizes};
 use crate::runs::StoredRun;
 
 /// Whether a Stage merges by size in a store of this format.
-pub fn merges_by_size(_format: u8) -> bool
-    ensures { result ≡ by_size_in _format }
+pub fn merges_by_size(format: u8) -> bool
+    ensures { result ≡ by_size_in format }
 {
-    false
+    2 < format
 }
 
 /// How many runs a root has at most in a store of this format.

@@ -5,6 +5,7 @@ ghost use Rattle.cs_extent.specs.Frames.{AreResetsStaged};
 ghost use Rattle.cs_extent.specs.Purposes.{reason_of};
 ghost use Rattle.cs_extent.specs.State.{extents_of, shape};
 ghost use Rattle.cs_extent.specs.Worn.{IsFrameWorn};
+ghost use Rattle.cs_frame.specs.Roots.{greatest_runs};
 ghost use Rattle.cs_model.specs.Device.{Shape};
 ghost use Rattle.cs_model.specs.Element.{Locator as Place};
 ghost use Rattle.cs_model.specs.Extents.{ForRun, NoPlace};
@@ -67,7 +68,7 @@ impl Index {
         ensures newest { result.newest ≡ stage_takes (shape extents.now) self.now }
         ensures deletions { result.without_deletions ≡ deletions_go (shape extents.now) self.now result.newest }
         ensures inside { result.newest ≤ length self.now.runs }
-        ensures left { length (drop result.newest self.now.runs) < 4 }
+        ensures left { length (drop result.newest self.now.runs) < greatest_runs extents.now.format }
         ensures alone { result.without_deletions ≡ true → drop result.newest self.now.runs ≡ [] }
     {
         let format = extents.geometry().format();
@@ -135,7 +136,7 @@ impl Index {
     ) -> Result<u64, Refusal>
         requires some { self.old.table ≢ [] }
         requires inside { portion.newest ≤ length self.old.runs }
-        requires left { length (drop portion.newest self.old.runs) < 4 }
+        requires left { length (drop portion.newest self.old.runs) < greatest_runs extents.old.format }
         requires alone { portion.without_deletions ≡ true → drop portion.newest self.old.runs ≡ [] }
         requires limit { self.old.limit ≡ (shape extents.old).most_names }
         requires families { length graph.old.staging.latest ≡ 1 + (shape extents.old).sections }
@@ -164,7 +165,7 @@ impl Index {
         commands: u64,
     ) -> Result<u64, Refusal>
         requires some { self.old.table ≢ [] }
-        requires few { length self.old.runs < 4 }
+        requires few { length self.old.runs < greatest_runs extents.old.format }
         requires limit { self.old.limit ≡ (shape extents.old).most_names }
         requires families { length graph.old.staging.latest ≡ 1 + (shape extents.old).sections }
         requires resets { AreResetsStaged (extents_of extents.old) graph.old.staging }
@@ -249,7 +250,7 @@ impl Index {
     ) -> Result<u64, Refusal>
         requires some { (portion.without_deletions ≡ true) ⊎ (self.old.table ≢ []) }
         requires inside { portion.newest ≤ length self.old.runs }
-        requires left { length (drop portion.newest self.old.runs) < 4 }
+        requires left { length (drop portion.newest self.old.runs) < greatest_runs extents.old.format }
         requires alone { portion.without_deletions ≡ true → drop portion.newest self.old.runs ≡ [] }
         requires limit { self.old.limit ≡ (shape extents.old).most_names }
         requires families { length graph.old.staging.latest ≡ 1 + (shape extents.old).sections }
@@ -328,7 +329,7 @@ impl Index {
         portion: Portion,
     ) -> Result<u64, Refusal>
         requires inside { portion.newest ≤ length self.old.runs }
-        requires left { length (drop portion.newest self.old.runs) < 4 }
+        requires left { length (drop portion.newest self.old.runs) < greatest_runs extents.old.format }
         requires alone { portion.without_deletions ≡ true → drop portion.newest self.old.runs ≡ [] }
         requires run { IsRunOf portion.without_deletions (part self.old portion.newest) (map named_entry run.entries.items) }
         requires some { map named_entry run.entries.items ≢ [] }

@@ -82,7 +82,7 @@ fn frame_of(alloc: Global, run: &Run) -> Result<Vec<[u8; 4096]>, AllocError>
 
 /// Where the frames of these runs begin, with room for one more.
 fn places_of(alloc: Global, runs: &[StoredRun]) -> Result<Vec<Locator>, AllocError>
-    requires { length runs.now < 4 }
+    requires { length runs.now < 24 }
     ensures places { IfOk result (λ places. places.items ≡ map (λ run. run.place) runs.now) }
     ensures room { IfOk result (λ places. vec_len places < vec_capacity places) }
 {
@@ -127,7 +127,7 @@ fn prepare(
 ) -> Result<(Vec<[u8; 4096]>, Vec<Locator>), Refusal>
     requires run { IsRun run.now }
     requires most { length run.now.entries.items ≤ (shape extents.now).most_names }
-    requires few { length older.now < 4 }
+    requires few { length older.now < greatest_runs extents.now.format }
     requires families { root_family < length graph.old.staging.latest }
     ensures frame { IfOk result (λ made. made.0.items ≡ run_frame extents.now (map named_entry run.now.entries.items)) }
     ensures pages { IfOk result (λ made. (1 ≤ length made.0.items) × (length made.0.items ≤ (shape extents.now).pages)) }
@@ -169,7 +169,7 @@ fn write_run(
     requires number { ¬ IsRootWorn graph.old.staging }
     requires room { length frame.now + 2 ≤ graph.old.room }
     requires commands { commands < 2 ^ 63 }
-    requires few { length places.items < 4 }
+    requires few { length places.items < greatest_runs extents.old.format }
     requires spare { vec_len places < vec_capacity places }
     ensures staged { IfOk result (λ made. (between : GraphState)
         × IsAppended extents.old graph.old (reason_of purpose) frame.now made.0 extents.new between
@@ -208,7 +208,7 @@ pub fn stage_run(
 ) -> Result<(Locator, u64), Refusal>
     requires run { IsRun run.now }
     requires most { length run.now.entries.items ≤ (shape extents.old).most_names }
-    requires few { length older.now < 4 }
+    requires few { length older.now < greatest_runs extents.old.format }
     requires families { length graph.old.staging.latest ≡ 1 + (shape extents.old).sections }
     requires resets { AreResetsStaged (extents_of extents.old) graph.old.staging }
     requires commands { commands < 2 ^ 63 }

@@ -2,18 +2,18 @@
 use Rattle.std.specs.Prelude.{◌+◌, ◌*◌, ◌-◌, ◌/◌, ◌%◌, ◌<◌, ◌≤◌, ◌==◌, ℕ, Bool, true, false, nat_le, nat_lt, if◌then◌else◌}
 use Rattle.cs_model.specs.Device.{FramePage, RootPage, SectionPage, Shape}
 
--- The rules that a format goes by. Each is the same for all formats until code goes by the other rule:
--- a version of the superblock needs the page writes that it counts
+-- The rules that a format goes by. Where all formats go by the same one, no code goes by the other yet:
+-- up to format 2 a version of the superblock needs the page writes that it counts; in format 3 a root needs all page writes
 abbrev pub pages_first_in : (format : ℕ) → Bool
-pages_first_in format = true
+pages_first_in format = nat_le format 2
 
 -- an entry of a run that a newer one hides names what is there
 abbrev pub hidden_stand_in : (format : ℕ) → Bool
 hidden_stand_in format = true
 
--- a Stage merges the newest runs by their sizes
+-- in format 3 a Stage merges the newest runs by their sizes
 abbrev pub by_size_in : (format : ℕ) → Bool
-by_size_in format = false
+by_size_in format = nat_lt 2 format
 
 -- chunks and runs lie apart
 abbrev pub apart_in : (format : ℕ) → Bool

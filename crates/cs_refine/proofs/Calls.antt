@@ -1,14 +1,14 @@
 -- What the calls of a store's parts do is what the machine's events do.
-use Rattle.std.proofs.Common.{◌≡◌, ◌≢◌, inl, inr, ℕ, suc, ◌+◌, ◌<◌, ◌≤◌, Bool, List, [], ◌∷◌, Some, None, drop, length, map, false, true, refl, sym, ap, ◌∙◌, subst, arith}
+use Rattle.std.proofs.Common.{◌≡◌, ◌≢◌, inl, inr, ℕ, suc, ◌+◌, ◌<◌, ◌≤◌, Bool, List, [], ◌∷◌, Some, None, drop, length, map, nat_le, false, true, refl, sym, ap, ◌∙◌, subst, arith}
 use Rattle.std.proofs.lemmas.Bool.{cases_lt, false_from_ne_true}
 use Rattle.cs_deps.specs.State.{State as GraphState}
 use Rattle.cs_extent.specs.Appended.{AreAppended}
 use Rattle.cs_extent.specs.State.{IsWhole, State as ExtentsState, extents_of, shape}
 use Rattle.cs_frame.specs.declared.locators.Locator.{Locator}
 use Rattle.cs_frame.specs.Formats.{as_locator, formats_of, place_of}
-use Rattle.cs_index.proofs.Cases.{merged_exactly, table_exactly}
-use Rattle.cs_index.specs.Merges.{deletions_go as index_deletions_go, stage_takes as index_takes}
-use Rattle.cs_index.specs.Staged.{IsMergeAppended, IsMergeStaged, IsNewestStaged, IsPartAppended, IsRootStaged, IsRunAppended, IsTableStaged, run_frame}
+use Rattle.cs_index.proofs.Cases.{merged_exactly, reached_exactly, table_exactly}
+use Rattle.cs_index.specs.Merges.{deletions_go as index_deletions_go, reached, stage_takes as index_takes}
+use Rattle.cs_index.specs.Staged.{IsMergeAppended, IsMergeStaged, IsNewestStaged, IsPartAppended, IsPartStaged, IsRootStaged, IsRunAppended, IsTableStaged, run_frame}
 use Rattle.cs_index.specs.State.{IsSet, State as IndexState, index_of}
 use Rattle.cs_model.specs.Append.{Append, MergesTo, chunk_frames}
 use Rattle.cs_model.specs.Device.{Shape}
@@ -150,16 +150,22 @@ module _ (x : ExtentsState) (g : GraphState) (i : IndexState) (s : State) (whole
         },
       )
 
-  -- up to format 2 that is the table's run where there are fewer than four, else the one of all that is live
-  pub table_staged : (y : ExtentsState) (h : GraphState) (j : IndexState) (v : ℕ) → i.table ≢ [] → length i.runs < 4
+  -- where a Stage merges by size, as much is merged as is reached
+  pub sized_staged : (y : ExtentsState) (h : GraphState) (j : IndexState) (v : ℕ) → (shape x).by_size ≡ true → i.table ≢ []
+      → IsPartStaged (nat_le (length i.runs) (reached (shape x) i)) (reached (shape x) i) i x g ForRun v commands j y h
+      → (t : State) × Does (shape x) (formats_of (shape x)) s Stage (Staged v) t × ArePartsOf y h j t
+  sized_staged y h j v sized some done = newest_staged y h j v some ((reached_exactly i x g v commands j y h sized).1 done)
+
+  -- where it doesn't, that is the table's run where there are fewer than four, else the one of all that is live
+  pub table_staged : (y : ExtentsState) (h : GraphState) (j : IndexState) (v : ℕ) → (shape x).by_size ≡ false → i.table ≢ [] → length i.runs < 4
       → IsTableStaged i x g v commands j y h
       → (t : State) × Does (shape x) (formats_of (shape x)) s Stage (Staged v) t × ArePartsOf y h j t
-  table_staged y h j v some few done = newest_staged y h j v some ((table_exactly i x g v commands j y h refl some few).1 done)
+  table_staged y h j v before some few done = newest_staged y h j v some ((table_exactly i x g v commands j y h before some few).1 done)
 
-  pub merge_staged : (y : ExtentsState) (h : GraphState) (j : IndexState) (v : ℕ) → i.table ≢ [] → 4 ≤ length i.runs
+  pub merge_staged : (y : ExtentsState) (h : GraphState) (j : IndexState) (v : ℕ) → (shape x).by_size ≡ false → i.table ≢ [] → 4 ≤ length i.runs
       → IsMergeStaged i x g ForRun v commands j y h
       → (t : State) × Does (shape x) (formats_of (shape x)) s Stage (Staged v) t × ArePartsOf y h j t
-  merge_staged y h j v some many done = newest_staged y h j v some ((merged_exactly i x g v commands j y h refl many).1 done)
+  merge_staged y h j v before some many done = newest_staged y h j v some ((merged_exactly i x g v commands j y h before many).1 done)
 
   -- ---- sweeps
 

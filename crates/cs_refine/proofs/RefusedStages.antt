@@ -148,11 +148,11 @@ module _ (x : ExtentsState) (g : GraphState) (i : IndexState) (s : State) (whole
   pub no_room_to_stage : ((s.table ≢ []) × NoRoomToStage (shape x) (formats_of (shape x)) s) ↔ IsFull (WritesRun (shape x) i) x ForRun
   no_room_to_stage = (no_room_to, no_room_from)
 
-  -- up to format 2 in two branches
-  pub stage_full : IsStageFull ↔ IsFull (WritesRun (shape x) i) x ForRun
-  stage_full = (
-    (λ full. no_room_to (full.0, (full_as_before (shape x) (formats_of (shape x)) s refl refl full.0).1 full.1)),
-    (λ full. let none = no_room_from full in (none.0, (full_as_before (shape x) (formats_of (shape x)) s refl refl none.0).0 none.1)),
+  -- where a Stage doesn't merge by size in two branches
+  pub stage_full : (shape x).by_size ≡ false → IsStageFull ↔ IsFull (WritesRun (shape x) i) x ForRun
+  stage_full before = (
+    (λ full. no_room_to (full.0, (full_as_before (shape x) (formats_of (shape x)) s before refl full.0).1 full.1)),
+    (λ full. let none = no_room_from full in (none.0, (full_as_before (shape x) (formats_of (shape x)) s before refl none.0).0 none.1)),
   )
 
   -- ---- numbers

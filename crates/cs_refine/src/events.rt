@@ -1,12 +1,12 @@
 //! What the calls of a store's parts do, as what the machine's events do.
-ghost use Rattle.std.specs.Prelude.{◌≡◌, ◌≢◌, ◌↔◌, ◌+◌, ◌<◌, ◌≤◌, ◌++◌, ℕ, suc, true, false, List, [], None, length, map};
+ghost use Rattle.std.specs.Prelude.{◌≡◌, ◌≢◌, ◌↔◌, ◌+◌, ◌<◌, ◌≤◌, ◌++◌, ℕ, suc, true, false, List, [], None, length, map, nat_le};
 ghost use Rattle.cs_deps.specs.State.{State as GraphState};
 ghost use Rattle.cs_extent.specs.Appended.{AreAppended};
 ghost use Rattle.cs_extent.specs.State.{IsWhole, State as ExtentsState, extents_of, shape};
 ghost use Rattle.cs_frame.specs.declared.locators.Locator.{Locator};
 ghost use Rattle.cs_frame.specs.Formats.{formats_of, place_of};
-ghost use Rattle.cs_index.specs.Merges.{stage_takes};
-ghost use Rattle.cs_index.specs.Staged.{IsMergeStaged, IsNewestStaged, IsTableStaged};
+ghost use Rattle.cs_index.specs.Merges.{reached, stage_takes};
+ghost use Rattle.cs_index.specs.Staged.{IsMergeStaged, IsNewestStaged, IsPartStaged, IsTableStaged};
 ghost use Rattle.cs_index.specs.State.{IsSet, State as IndexState, index_of};
 ghost use Rattle.cs_model.specs.Append.{chunk_frames};
 ghost use Rattle.cs_model.specs.Device.{Shape};
@@ -75,14 +75,19 @@ pub fn stage_refines_stage()
         → IsWhole x → ArePartsOf x g i s → i.table ≢ []
         → IsNewestStaged (stage_takes (shape x) i) i x g v (s.count + length s.commands) j y h
         → (t : State) × Does (shape x) (formats_of (shape x)) s Stage (Staged v) t × ArePartsOf y h j t }
-    // Where there are fewer than four runs, the table becomes one.
+    // Where a Stage merges by size, these are as many as are reached, and deletions go where that is all.
+    ensures sized { (x y : ExtentsState) (g h : GraphState) (i j : IndexState) (s : State) (v : ℕ)
+        → IsWhole x → ArePartsOf x g i s → (shape x).by_size ≡ true → i.table ≢ []
+        → IsPartStaged (nat_le (length i.runs) (reached (shape x) i)) (reached (shape x) i) i x g ForRun v (s.count + length s.commands) j y h
+        → (t : State) × Does (shape x) (formats_of (shape x)) s Stage (Staged v) t × ArePartsOf y h j t }
+    // Where it doesn't and there are fewer than four runs, the table becomes one.
     ensures table { (x y : ExtentsState) (g h : GraphState) (i j : IndexState) (s : State) (v : ℕ)
-        → IsWhole x → ArePartsOf x g i s → i.table ≢ [] → length i.runs < 4
+        → IsWhole x → ArePartsOf x g i s → (shape x).by_size ≡ false → i.table ≢ [] → length i.runs < 4
         → IsTableStaged i x g v (s.count + length s.commands) j y h
         → (t : State) × Does (shape x) (formats_of (shape x)) s Stage (Staged v) t × ArePartsOf y h j t }
-    // Where there are four or more, one run of all that is live takes the place of everything, or none where nothing is live.
+    // Where there are four or more then, one run of all that is live takes the place of everything, or none where nothing is live.
     ensures merged { (x y : ExtentsState) (g h : GraphState) (i j : IndexState) (s : State) (v : ℕ)
-        → IsWhole x → ArePartsOf x g i s → i.table ≢ [] → 4 ≤ length i.runs
+        → IsWhole x → ArePartsOf x g i s → (shape x).by_size ≡ false → i.table ≢ [] → 4 ≤ length i.runs
         → IsMergeStaged i x g ForRun v (s.count + length s.commands) j y h
         → (t : State) × Does (shape x) (formats_of (shape x)) s Stage (Staged v) t × ArePartsOf y h j t }
 {}

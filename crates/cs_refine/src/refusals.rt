@@ -59,12 +59,14 @@ pub fn delete_refusals_agree()
 /// There is no room for a Stage where there is no place for the run that it writes. Where there is room, it would take a
 /// number past its greatest where the root would, or what is staged with the run.
 pub fn stage_refusals_agree()
-    // The machine has no room for the run that a Stage writes exactly where no extent takes that of the index.
+    // Where a Stage doesn't merge by size, the machine has no room for the run that it writes exactly where no extent takes that of the
+    // index.
     ensures full { (x : ExtentsState) (g : GraphState) (i : IndexState) (s : State) → IsWhole x → ArePartsOf x g i s
+        → (shape x).by_size ≡ false
         → ((s.table ≢ []) × (((length s.runs < 4) × NoRoomForTable (shape x) (formats_of (shape x)) s)
         ⊎ ((4 ≤ length s.runs) × NoRoomForRun (shape x) (formats_of (shape x)) s ForRun)))
         ↔ IsFull (WritesRun (shape x) i) x ForRun }
-    // That is the machine's ground: where the table isn't empty, what a Stage merges doesn't fit as a run.
+    // By either rule that is the machine's ground: where the table isn't empty, what a Stage merges doesn't fit as a run.
     ensures no_room { (x : ExtentsState) (g : GraphState) (i : IndexState) (s : State) → IsWhole x → ArePartsOf x g i s
         → ((s.table ≢ []) × NoRoomToStage (shape x) (formats_of (shape x)) s) ↔ IsFull (WritesRun (shape x) i) x ForRun }
     // Where there is room, a number would pass its greatest exactly where the table isn't empty and one that is staged would.

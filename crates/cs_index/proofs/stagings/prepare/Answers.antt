@@ -2,6 +2,7 @@ use Rattle.std.proofs.Common.{◌≡◌, ap, arith, length, map, subst, ℕ}
 use Rattle.std.proofs.lemmas.Bool.{false≢true}
 use Rattle.cs_extent.specs.Purposes.{reason_of}
 use Rattle.cs_extent.specs.State.{extents_of, shape}
+use Rattle.cs_frame.proofs.RootLaws.{most_runs}
 use Rattle.cs_model.specs.Extents.{NoPlace, Placed}
 use Rattle.cs_index.specs.Staged.{run_frame}
 use Rattle.cs_index.specs.State.{named_entry}
@@ -11,6 +12,9 @@ use Rattle.cs_index.proofs.stagings.prepare.Goals.{After-has_place}
 -- the number of pages is that of the run's frame
 pages_are : (c : After-has_place) → c.len.result ≡ length (run_frame c.args.extents.now (map named_entry c.args.run.now.entries.items))
 pages_are c = omega (arith, c.len.ensures, c.in_ok-frame.frame.ok.0, ap length (c.in_ok-frame.ensures.frame c.args.extents.now))
+
+pub places_of-requires : goal.places_of-requires
+places_of-requires c = omega (arith, c.requires.few, most_runs c.args.extents.now.format)
 
 pub returns-then-not-has_place-clause-why : goal.returns-then-not-has_place-clause-why
 returns-then-not-has_place-clause-why c =

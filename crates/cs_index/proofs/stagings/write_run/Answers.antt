@@ -1,10 +1,10 @@
-use Rattle.std.proofs.Common.{arith, length, subst, sym, ℕ}
+use Rattle.std.proofs.Common.{◌≡◌, ◌∙◌, ap, arith, length, subst, sym, ℕ}
 use Rattle.cs_extent.specs.Purposes.{reason_of}
 use Rattle.cs_extent.specs.State.{extents_of, shape}
 use Rattle.cs_extent.specs.Worn.{IsFrameWorn}
 use Rattle.cs_model.specs.Extents.{Placed}
-use Rattle.cs_frame.proofs.RootLaws.{fewest_runs}
 use Rattle.cs_frame.specs.Geometries.{IsKnown}
+use Rattle.cs_frame.specs.Roots.{greatest_runs}
 use Rattle.cs_index.proofs.Exact.{append_worn}
 use Rattle.cs_index.proofs.Rooted.{frame_below}
 use Rattle.cs_index.proofs.stagings.write_run.Goals as goal
@@ -28,4 +28,5 @@ stage_root-version-requires-clause-format c = subst (λ (f : ℕ). IsKnown f) (s
 
 pub stage_root-version-requires-clause-places : goal.stage_root-version-requires-clause-places
 stage_root-version-requires-clause-places c =
-    omega (arith, c.requires.few, c.push_reserved.ensures.len, c.push_reserved.new.self.ok.0, c.args.places.ok.0, fewest_runs c.format-format.result)
+    let same : greatest_runs c.format-format.result ≡ greatest_runs c.args.extents.now.format = ap (λ (f : ℕ). greatest_runs f) (c.format-format.ensures.format ∙ c.geometry.ensures.format) in
+    omega (arith, c.requires.few, c.push_reserved.ensures.len, c.push_reserved.new.self.ok.0, c.args.places.ok.0, same)

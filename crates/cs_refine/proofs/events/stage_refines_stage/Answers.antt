@@ -1,9 +1,10 @@
 use Rattle.cs_refine.proofs.events.stage_refines_stage.Goals as goal
-use Rattle.cs_refine.proofs.Calls.{merge_staged, newest_staged, table_staged}
+use Rattle.cs_refine.proofs.Calls.{merge_staged, newest_staged, sized_staged, table_staged}
 
 pub returns : goal.returns
 returns c = record {
   newest = λ x y g h i j s v whole are some done. newest_staged x g i s whole are y h j v some done;
-  table = λ x y g h i j s v whole are some few done. table_staged x g i s whole are y h j v some few done;
-  merged = λ x y g h i j s v whole are some many done. merge_staged x g i s whole are y h j v some many done;
+  sized = λ x y g h i j s v whole are sized some done. sized_staged x g i s whole are y h j v sized some done;
+  table = λ x y g h i j s v whole are before some few done. table_staged x g i s whole are y h j v before some few done;
+  merged = λ x y g h i j s v whole are before some many done. merge_staged x g i s whole are y h j v before some many done;
 }

@@ -1,7 +1,8 @@
-use Rattle.std.proofs.Common.{◌≡◌, ◌≤◌, ◌<◌, ◌∙◌, ◌&&◌, ◌||◌, Bool, ap, arith, drop, length, nat_le, nat_lt, subst, sym, ℕ, if◌then◌else◌}
-use Rattle.std.proofs.lemmas.Bool.{false≢true}
+use Rattle.std.proofs.Common.{◌≡◌, ◌≤◌, ◌<◌, ◌∙◌, ◌&&◌, ◌||◌, Bool, ap, arith, drop, length, nat_le, nat_lt, refl, subst, sym, ℕ, if◌then◌else◌}
 use Rattle.cs_extent.specs.State.{shape}
 use Rattle.cs_frame.proofs.GeometryLaws.{bounds}
+use Rattle.cs_frame.proofs.RootLaws.{fewest_runs}
+use Rattle.cs_frame.specs.Roots.{greatest_runs}
 use Rattle.cs_model.specs.Geometry.{by_size_in}
 use Rattle.cs_index.specs.Merges.{deletions_go, stage_takes}
 use Rattle.cs_index.proofs.Sizes.{goes_all, takes_inside, takes_left}
@@ -39,7 +40,9 @@ returns-clause-inside c =
 pub returns-clause-left : goal.returns-clause-left
 returns-clause-left c =
     let at = (goal.at.returns-clause-left c).After-lets_deletions_go in
-    subst (λ (n : ℕ). length (drop n c.args.self.now.runs) < 4) (sym (is_newest at)) (takes_left (shape c.args.extents.now) c.args.self.now (λ by. absurd (false≢true by)))
+    let format : ℕ = c.args.extents.now.format in
+    subst (λ (n : ℕ). length (drop n c.args.self.now.runs) < greatest_runs format) (sym (is_newest at))
+    (takes_left (shape c.args.extents.now) c.args.self.now (greatest_runs format) (fewest_runs format) (λ by. refl))
 
 pub returns-clause-alone : goal.returns-clause-alone
 returns-clause-alone c = λ go.

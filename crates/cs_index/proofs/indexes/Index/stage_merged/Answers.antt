@@ -1,6 +1,7 @@
 use Rattle.std.proofs.Common.{◌≡◌, arith, ap, drop, length}
 use Rattle.std.proofs.lemmas.Result.{IfOk-weaker}
 use Rattle.cs_extent.specs.Purposes.{reason_of}
+use Rattle.cs_frame.proofs.RootLaws.{fewest_runs}
 use Rattle.cs_index.specs.Staged.{WritesMerged, WritesPart}
 use Rattle.std.specs.Prelude.{true}
 use Rattle.cs_index.proofs.Cases.{all_merged, all_writes, none_behind, writes_all}
@@ -9,7 +10,8 @@ use Rattle.cs_index.proofs.indexes.Index.stage_merged.Goals as goal
 
 pub stage_newest-requires-clause-left : goal.stage_newest-requires-clause-left
 stage_newest-requires-clause-left c =
-    let none : length (drop c.run_count.result c.args.self.now.runs) ≡ 0 = ap length (none_behind c.args.self.now c.run_count.result c.run_count.ensures.count) in omega arith
+    let none : length (drop c.run_count.result c.args.self.now.runs) ≡ 0 = ap length (none_behind c.args.self.now c.run_count.result c.run_count.ensures.count) in
+    omega (arith, none, fewest_runs c.args.extents.now.format)
 
 pub stage_newest-requires-clause-alone : goal.stage_newest-requires-clause-alone
 stage_newest-requires-clause-alone c = λ go. none_behind c.args.self.now c.run_count.result c.run_count.ensures.count

@@ -2,6 +2,8 @@ use Rattle.std.proofs.Common.{◌≡◌, ◌+◌, ◌-◌, ◌<◌, ◌∙◌, a
 use Rattle.cs_extent.specs.Purposes.{reason_of}
 use Rattle.cs_frame.specs.Formats.{place_of}
 use Rattle.cs_frame.proofs.GeometryLaws.{bounds}
+use Rattle.cs_frame.proofs.RootLaws.{most_runs}
+use Rattle.cs_frame.specs.Roots.{greatest_runs}
 use Rattle.cs_index.specs.declared.runs.StoredRun.{StoredRun}
 use Rattle.cs_model.specs.Element.{Run}
 use Rattle.cs_index.specs.Staged.{IsRunStaged}
@@ -33,14 +35,16 @@ pub stage_run-requires-clause-few : goal.stage_run-requires-clause-few
 stage_run-requires-clause-few c =
     let left = rw (← c.self.view_is) at c.requires.left in
     let n : ℕ = c.len.result - c.args.portion.newest in
-    subst (λ (rs : List StoredRun). length (take n rs) < 4) (sym (c.deref.ensures.value ∙ c.in_ok-reserve.ensures.items))
-    (few_left c.self.inside.runs.items n c.args.portion.newest (split (goal.at.stage_run-requires-clause-few c).After-named_after-named) left)
+    let most : ℕ = greatest_runs c.args.extents.now.format in
+    subst (λ (rs : List StoredRun). length (take n rs) < most) (sym (c.deref.ensures.value ∙ c.in_ok-reserve.ensures.items))
+    (few_left c.self.inside.runs.items n c.args.portion.newest (split (goal.at.stage_run-requires-clause-few c).After-named_after-named) most left)
 
 pub invariant_of-self-in-Ok : goal.invariant_of-self-in-Ok
 invariant_of-self-in-Ok c =
     let i = c.self.inside in
     let at = (goal.at.invariant_of-self-in-Ok c).After-named_after-named in
-    let left = rw (← c.self.view_is) at c.requires.left in
+    let left : length (drop c.args.portion.newest (newest_first i.runs.items)) < greatest_runs c.args.extents.now.format = rw (← c.self.view_is) at c.requires.left in
+    let few : length (drop c.args.portion.newest (newest_first i.runs.items)) < 24 = omega (arith, left, most_runs c.args.extents.now.format) in
     let alone = rw (← c.self.view_is) at c.requires.alone in
     let run = rw (← c.self.view_is) at c.requires.run in
     let n : ℕ = c.len.result - c.args.portion.newest in
@@ -49,7 +53,7 @@ invariant_of-self-in-Ok c =
     let kept : c.truncate.new.self.items ≡ take n i.runs.items = c.truncate.ensures.items ∙ ap (take n) c.in_ok-reserve.ensures.items in
     record {
       whole = parted_whole i.table.entries.items c.new.result.items i.runs.items c.truncate.new.self.items c.push_reserved.new.self.items r n k (split at) c.push_reserved.ensures.items kept c.new.ensures.items
-          i.limit i.room c.args.portion.without_deletions run alone c.requires.some c.requires.short left c.self.invariant.whole;
+          i.limit i.room c.args.portion.without_deletions run alone c.requires.some c.requires.short few c.self.invariant.whole;
       ids = no_ids c.new.result.items c.new.ensures.items;
       count = parted_names i.table.entries.items c.new.result.items i.runs.items c.truncate.new.self.items c.push_reserved.new.self.items r n k (split at) c.push_reserved.ensures.items kept c.new.ensures.items
           i.limit i.room c.args.portion.without_deletions run alone c.named_after-named.result i.named c.self.invariant.count c.named_after-named.ensures;

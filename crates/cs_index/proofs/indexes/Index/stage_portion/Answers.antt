@@ -1,10 +1,11 @@
 use Rattle.std.proofs.Common.{◌≡◌, ◌<◌, Bool, false, inr, length, drop, rules, subst, sym, ℕ}
+use Rattle.cs_frame.specs.Roots.{greatest_runs}
 use Rattle.cs_model.specs.Extents.{ForRun}
 use Rattle.cs_index.specs.Staged.{IsExact, IsFull, IsStageWorn, WritesPart}
 use Rattle.cs_index.proofs.indexes.Index.stage_portion.Goals as goal
 
 pub stage_table-requires-clause-few : goal.stage_table-requires-clause-few
-stage_table-requires-clause-few c = subst (λ (n : ℕ). length (drop n c.args.self.now.runs) < 4) c.if-portion-eq0.true c.requires.left
+stage_table-requires-clause-few c = subst (λ (n : ℕ). length (drop n c.args.self.now.runs) < greatest_runs c.args.extents.now.format) c.if-portion-eq0.true c.requires.left
 
 pub stage_newest-requires-clause-some : goal.stage_newest-requires-clause-some
 stage_newest-requires-clause-some c = inr c.requires.some

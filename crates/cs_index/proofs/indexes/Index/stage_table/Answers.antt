@@ -6,6 +6,8 @@ use Rattle.cs_model.specs.Element.{Entry, Run}
 use Rattle.cs_model.specs.Extents.{ForRun}
 use Rattle.cs_model.specs.Index.{names}
 use Rattle.cs_frame.proofs.GeometryLaws.{bounds}
+use Rattle.cs_frame.proofs.RootLaws.{most_runs}
+use Rattle.cs_frame.specs.Roots.{greatest_runs}
 use Rattle.cs_model.specs.Tally.{shards}
 use Rattle.cs_index.specs.contracts.indexes.Index.{the_view}
 use Rattle.cs_frame.specs.Formats.{place_of}
@@ -18,7 +20,7 @@ use Rattle.cs_index.proofs.Whole.{length-newest, no_ids}
 use Rattle.cs_index.proofs.indexes.Index.stage_table.Goals as goal
 use Rattle.cs_index.proofs.indexes.Index.stage_table.Goals.{After-deref, After-push_reserved}
 
-few_runs : (c : After-deref) → length (newest_first c.self.inside.runs.items) < 4
+few_runs : (c : After-deref) → length (newest_first c.self.inside.runs.items) < greatest_runs c.args.extents.now.format
 few_runs c = rw (← c.self.view_is) at c.requires.few
 
 some_entries : (c : After-deref) → map named_entry c.self.inside.table.entries.items ≢ []
@@ -74,7 +76,7 @@ invariant_of-self-in-Ok c =
     let i = c.self.inside in
     let at = (goal.at.invariant_of-self-in-Ok c).After-push_reserved in
     let some = rw (← c.self.view_is) at c.requires.some in
-    let few = rw (← c.self.view_is) at c.requires.few in
+    let few : length (newest_first i.runs.items) < 24 = omega (arith, few_runs (goal.at.invariant_of-self-in-Ok c).After-deref, most_runs c.args.extents.now.format) in
     record {
       whole = pushed_whole i.table.entries.items c.replace-entries.new.dest.items i.runs.items c.reserve.new.self.items c.push_reserved.new.self.items (record { place = c.in-Ok.place; entries = c.replace-entries.result })
           c.push_reserved.ensures.items c.in_ok-reserve.ensures.items (taken at) (none_left at) i.limit i.room some few c.self.invariant.whole;
