@@ -185,10 +185,10 @@ fn unless_equal(extent: usize, other: usize) -> Option<usize>
 }
 
 /// Whether chunks and runs lie apart in stores of this format.
-pub fn lies_apart(_format: u8) -> bool
-    ensures { result ≡ apart_in _format }
+pub fn lies_apart(format: u8) -> bool
+    ensures { result ≡ apart_in format }
 {
-    false
+    2 < format
 }
 
 /// How many pages of each extent count as found as a store is opened: all that are given where chunks and runs lie apart, else none.

@@ -9,7 +9,7 @@ pages_first_in format = nat_le format 2
 
 -- an entry of a run that a newer one hides names what is there
 abbrev pub hidden_stand_in : (format : ℕ) → Bool
-hidden_stand_in format = true
+hidden_stand_in format = nat_le format 2
 
 -- in format 3 a Stage merges the newest runs by their sizes
 abbrev pub by_size_in : (format : ℕ) → Bool
@@ -17,7 +17,7 @@ by_size_in format = nat_lt 2 format
 
 -- chunks and runs lie apart
 abbrev pub apart_in : (format : ℕ) → Bool
-apart_in format = false
+apart_in format = nat_lt 2 format
 
 -- how many extents may hold runs where they do
 abbrev pub most_run_extents : (extents : ℕ) → ℕ
