@@ -1,5 +1,5 @@
 -- What an image recovers is opened: none of the tests fails there.
-use Rattle.std.proofs.Common.{◌≡◌, inl, inr, ⊎_elim, ◌∙◌, ℕ, zero, suc, ◌+◌, ◌*◌, ◌<◌, ◌≤◌, List, Some, None, length, sym, ap, subst, arith}
+use Rattle.std.proofs.Common.{◌≡◌, inl, inr, ⊎_elim, ◌∙◌, ℕ, zero, suc, ◌+◌, ◌*◌, ◌<◌, ◌≤◌, List, Some, None, length, sym, ap, subst, refl, arith}
 use Rattle.std.proofs.Math.Nat.{mul-le-mul_left}
 use Rattle.std.specs.Prelude.{Option, slice_index}
 use Rattle.cs_chunk.proofs.Framed.{no_fault_there, one_frame}
@@ -141,7 +141,7 @@ module _ (count : ℕ) (view : ℕ → List ℕ) (format extents pages sections 
       let sections_read = w.root.extents.sections in
       let same = same_numbers w.format w.versions w.pages w.written sections_read in
       let read : IsStoreRead view w.format w.versions w.pages w.written w.root.version w.root.commands w.runs = store_read view w.format w.versions w.pages w.written sections_read
-      (pages_there w.format (length w.versions) w.pages w.written w.root.extents.sized) n m (recovers_here w.format (length w.versions) w.pages w.written same.0 same.1 same.2 same.3) w.root.version w.root.commands w.runs w.root.root w.runs_read in
+      (pages_there w.format (length w.versions) w.pages w.written w.root.extents.sized) n m (recovers_here w.format (length w.versions) w.pages w.written same.0 same.1 same.2 same.3) w.root.version w.root.commands w.runs w.root.root w.runs_read refl in
       ⊎_elim (λ away. away read.located)
       (λ (many : (shape (extents_at w.format w.pages (length w.versions) w.written)).most_names < names (entries_of (newest_first w.runs))).
       let few : names (entries_of (newest_first w.runs)) ≤ (shape (extents_at w.format w.pages (length w.versions) w.written)).most_names = read.named in omega (arith, few, many))

@@ -168,7 +168,7 @@ module _ (v : Stored) (whole : IsWhole v.extents) (graph : IsWholeGraph v.graph)
       refuses : (f : Ground) → Refuses (shape v.extents) (formats_of (shape v.extents)) s (MoveOne e) f → ⊥
       refuses = pass Halted (runs_on s is) (pass NotSweepable (marked_not s is) (pass_found (undamaged s is id k moved.from (there s is id k moved.from moved.first) whole_chunk)
           (pass Full (λ full. reasons.0 ((move_full v.extents v.graph v.index s whole is.parts e id k moved.from payload moved.first reads_it).0 full.1))
-          (pass WornOut (λ w. reasons.1 ((move_worn v.extents v.graph v.index s whole is.parts e id k moved.from payload moved.first reads_it is.sound is.bounded (marked_there s is) whole_chunk reasons.0).0 w)) no_more))))
+          (pass WornOut (λ w. reasons.1 ((move_worn v.extents v.graph v.index s whole is.parts e id k moved.from payload moved.first reads_it is.sound is.bounded refl (marked_there s is) whole_chunk reasons.0).0 w)) no_more))))
 
       at : (t : State) → Does (shape v.extents) (formats_of (shape v.extents)) s (MoveOne e) (Moved id k) t → ArePartsOf y h j t
           → (z : State) × Step (shape v.extents) (formats_of (shape v.extents)) s (MoveOne e) (Moved id k) z × IsStateOf (record v { extents = y; graph = h; index = j }) z
@@ -187,7 +187,7 @@ module _ (v : Stored) (whole : IsWhole v.extents) (graph : IsWholeGraph v.graph)
           )
 
       steps : (z : State) × Step (shape v.extents) (formats_of (shape v.extents)) s (MoveOne e) (Moved id k) z × IsStateOf (record v { extents = y; graph = h; index = j }) z
-      steps = let done = move v.extents v.graph v.index s whole is.parts y h j e id k payload (marked_there s is) moved whole_chunk reads_it in at done.0 done.1 done.2
+      steps = let done = move v.extents v.graph v.index s whole is.parts y h j e id k payload refl (marked_there s is) moved whole_chunk reads_it in at done.0 done.1 done.2
 
     pub move_steps : StepsOn v disk (MoveOne e) (Moved id k) (record v { extents = y; graph = h; index = j })
     move_steps s is on = steps s is on
@@ -277,7 +277,7 @@ module _ (v : Stored) (whole : IsWhole v.extents) (graph : IsWholeGraph v.graph)
             let both : (NoPlace (shape v.extents) (extents_of v.extents) ForMove (length (chunk_frame v.extents payload_there.0)) → ⊥) × IsFrameWorn v.extents ForMove v.graph.staging (length (chunk_frame v.extents payload_there.0))
             = subst (λ (q : Code). IsWhy q (NoPlace (shape v.extents) (extents_of v.extents) ForMove (length (chunk_frame v.extents payload_there.0))) (IsFrameWorn v.extents ForMove v.graph.staging (length (chunk_frame v.extents payload_there.0)))) worn reason in
             let would_pass : WouldPass (shape v.extents) (formats_of (shape v.extents)) s (MoveOne e)
-            = (move_worn v.extents v.graph v.index s whole is.parts e first.0 first.1 first.2 payload_there.0 found payload_there.1 is.sound is.bounded (marked_there s is) chunk_whole both.0).1 both.1 in (
+            = (move_worn v.extents v.graph v.index s whole is.parts e first.0 first.1 first.2 payload_there.0 found payload_there.1 is.sound is.bounded refl (marked_there s is) chunk_whole both.0).1 both.1 in (
               inl (inr (
                 runs_on s is,
                 inr (

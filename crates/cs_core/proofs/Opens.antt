@@ -42,7 +42,7 @@ module _ (image : Image) (format : ℕ) (versions : List ℕ) (pages : ℕ) (wri
   pub begins : (s : State) × IsStateOf (opened_stored format versions pages written root commands runs) s
       × IsDiskOf (shape x) (formats_of (shape x)) s (record { durable = image; volatile = [] }) × IsReached (shape x) (formats_of (shape x)) image [] s
   begins =
-      let start = read_started image format versions pages written root commands ((opened_stored format versions pages written root commands runs).index.limit) runs are read in
+      let start = read_started image format versions pages written root commands ((opened_stored format versions pages written root commands runs).index.limit) runs are read refl in
       let s : State = opened_state (shape x) (formats_of (shape x)) (page image) commands start.0 start.1 in (
         s,
         record {
@@ -68,7 +68,7 @@ module _ (image : Image) (format : ℕ) (versions : List ℕ) (pages : ℕ) (wri
   module _ (live : ℕ) (counted : HasCount (λ id. live_at (entries_of (newest_first runs)) id ≢ []) live) where
     pub found_there : IsFound (shape x) image (commands, live)
     found_there =
-        let f = read_recovers (page image) format versions pages written root commands runs read are in (
+        let f = read_recovers (page image) format versions pages written root commands runs read refl are in (
           f.0,
           f.1,
           (live_count (shape x) (formats_of (shape x)) (page image) commands f.0 f.1 live).0

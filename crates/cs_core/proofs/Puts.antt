@@ -89,20 +89,20 @@ module _ (v : Stored) (s : State) (whole : IsWhole v.extents) (is : IsStateOf v 
       unfull h = named ((full_index limit).0 h)
 
       pub put_no_room : Fitting → Step (shape v.extents) (formats_of (shape v.extents)) s (Put id bytes) (Refused Full) s
-      put_no_room none = (inl (inr (runs_on, inr (small, inr (unfull, inl ((put_full v.extents v.graph v.index s whole is.parts bytes).1 none, refl))))), refl)
+      put_no_room none = (inl (inr (runs_on, inr (small, inr (unfull, inl ((put_full v.extents v.graph v.index s whole is.parts refl bytes).1 none, refl))))), refl)
 
       room : (Fitting → ⊥) → NoRoomToPut (shape v.extents) (formats_of (shape v.extents)) s bytes → ⊥
-      room fits none = fits ((put_full v.extents v.graph v.index s whole is.parts bytes).0 none)
+      room fits none = fits ((put_full v.extents v.graph v.index s whole is.parts refl bytes).0 none)
 
       numbers_worn : WouldPass (shape v.extents) (formats_of (shape v.extents)) s (Put id bytes) → Worn ⊎ (2 ^ 63 ≤ v.base + v.accepted + 1)
-      numbers_worn would = let w = (put_worn v.extents v.graph v.index s whole is.parts is.sound is.bounded id bytes).0 would in ⊎_elim
+      numbers_worn would = let w = (put_worn v.extents v.graph v.index s whole is.parts refl is.sound is.bounded id bytes).0 would in ⊎_elim
           (λ (worn : AreWorn v.extents v.graph.staging ForPut (counts w.0)). inl (w.0, w.1, w.2, worn))
           (λ (last : 2 ^ 63 ≤ s.count + length s.commands + 1). inr (omega (arith, is.base, is.accepted)))
           w.3
 
       pub put_worn_out : (Fitting → ⊥) → Worn → Step (shape v.extents) (formats_of (shape v.extents)) s (Put id bytes) (Refused WornOut) s
       put_worn_out fits w =
-          (inl (inr (runs_on, inr (small, inr (unfull, inr (room fits, inl ((put_worn v.extents v.graph v.index s whole is.parts is.sound is.bounded id bytes).1 (w.0, w.1, w.2, inl w.3), refl)))))), refl)
+          (inl (inr (runs_on, inr (small, inr (unfull, inr (room fits, inl ((put_worn v.extents v.graph v.index s whole is.parts refl is.sound is.bounded id bytes).1 (w.0, w.1, w.2, inl w.3), refl)))))), refl)
 
       -- the number of commands is the greatest
       pub put_last : (2 ^ 63 ≤ v.base + v.accepted + 1) → (cs : List (List ℕ)) × Chunked (shape v.extents).chunk_bytes bytes cs × Fits (shape v.extents) (extents_of v.extents) ForPut (counts cs)
@@ -117,7 +117,7 @@ module _ (v : Stored) (s : State) (whole : IsWhole v.extents) (is : IsStateOf v 
                   unfull,
                   inr (
                     room (λ none. none f.0 f.1 f.2),
-                    inl ((put_worn v.extents v.graph v.index s whole is.parts is.sound is.bounded id bytes).1 (f.0, f.1, f.2, inr past), refl),
+                    inl ((put_worn v.extents v.graph v.index s whole is.parts refl is.sound is.bounded id bytes).1 (f.0, f.1, f.2, inr past), refl),
                   ),
                 ),
               ),
@@ -134,7 +134,7 @@ module _ (v : Stored) (s : State) (whole : IsWhole v.extents) (is : IsStateOf v 
       put_done fits fresh young y h j cs ls cut all set same =
           let none : (f : Refusal) → Refuses (shape v.extents) (formats_of (shape v.extents)) s (Put id bytes) f → ⊥
           = pass Halted runs_on (pass TooLarge small (pass IndexFull unfull (pass Full (room fits) (pass WornOut (λ would. ⊎_elim fresh young (numbers_worn would)) no_more)))) in
-          let done = put v.extents v.graph v.index s is.parts y h j id bytes cs ls whole cut all set in
+          let done = put v.extents v.graph v.index s is.parts y h j id bytes cs ls refl whole cut all set in
           at done.0 none done.1 done.2
         where
           at : (t : State) → ((f : Refusal) → Refuses (shape v.extents) (formats_of (shape v.extents)) s (Put id bytes) f → ⊥)

@@ -114,7 +114,7 @@ module _ (v : Stored) (s : State) (whole : IsWhole v.extents) (is : IsStateOf v 
 
   stages : (NoStage → ⊥) → (WornStage → ⊥) → (f : Refusal) → Refuses (shape v.extents) (formats_of (shape v.extents)) s Stage f → ⊥
   stages room young = pass Halted runs_on (pass Full (λ full. room ((no_room_to_stage v.extents v.graph v.index s whole is.parts).0 full))
-      (pass WornOut (λ would. young ((stage_worn v.extents v.graph v.index s whole is.parts is.sound is.bounded room).0 would)) no_more))
+      (pass WornOut (λ would. young ((stage_worn v.extents v.graph v.index s whole is.parts is.sound is.bounded refl room).0 would)) no_more))
 
   pub stage_nothing : v.index.table ≡ [] → Step (shape v.extents) (formats_of (shape v.extents)) s Stage Unchanged s
   stage_nothing none = (stages (λ full. full.1.0 none) (λ worn. worn.0 none), (no_table none, refl))
@@ -124,7 +124,7 @@ module _ (v : Stored) (s : State) (whole : IsWhole v.extents) (is : IsStateOf v 
 
   pub stage_worn_out : (NoStage → ⊥) → WornStage → Step (shape v.extents) (formats_of (shape v.extents)) s Stage (Refused WornOut) s
   stage_worn_out room worn =
-      (inl (inr (runs_on, inr ((λ full. room ((no_room_to_stage v.extents v.graph v.index s whole is.parts).0 full)), inl ((stage_worn v.extents v.graph v.index s whole is.parts is.sound is.bounded room).1 worn, refl)))), refl)
+      (inl (inr (runs_on, inr ((λ full. room ((no_room_to_stage v.extents v.graph v.index s whole is.parts).0 full)), inl ((stage_worn v.extents v.graph v.index s whole is.parts is.sound is.bounded refl room).1 worn, refl)))), refl)
 
   -- a root was staged, and noted
   noted : (t : State) (n : ℕ) (w : Stored) → (event : Event) (reply : Reply) → IsRooted s t n → Step (shape v.extents) (formats_of (shape v.extents)) s event reply t → shape w.extents ≡ shape v.extents → ArePartsOf w.extents w.graph w.index t
@@ -141,7 +141,7 @@ module _ (v : Stored) (s : State) (whole : IsWhole v.extents) (is : IsStateOf v 
       → (t : State) × Step (shape v.extents) (formats_of (shape v.extents)) s Stage (Staged n) t
       × IsStateOf (record v { graph = h; extents = y; index = j; roots = v.roots ++ record { version = n; commands = v.accepted } ∷ [] }) t
   stage_done n y h j room young some staged same =
-      let law = newest_staged v.extents v.graph v.index s whole is.parts y h j n some
+      let law = newest_staged v.extents v.graph v.index s whole is.parts y h j n refl some
       (subst (λ (k : ℕ). IsNewestStaged (stage_takes_of (shape v.extents) v.index) v.index v.extents v.graph n k j y h) said staged) in
       at law.0 law.1 law.2
     where
@@ -179,7 +179,7 @@ module _ (v : Stored) (s : State) (whole : IsWhole v.extents) (is : IsStateOf v 
       full_is = retire_full v.extents v.graph v.index s whole is.parts
 
       worn_is : (IsRetireFull v.index v.extents → ⊥) → WouldPass (shape v.extents) (formats_of (shape v.extents)) s (Retire e) ↔ IsRetireWorn v.index v.extents v.graph.staging e
-      worn_is room = retire_worn v.extents v.graph v.index s whole is.parts is.sound is.bounded e swept none room
+      worn_is room = retire_worn v.extents v.graph v.index s whole is.parts is.sound is.bounded refl e swept none room
 
       pub retire_no_room : IsRetireFull v.index v.extents → Step (shape v.extents) (formats_of (shape v.extents)) s (Retire e) (Refused Full) s
       retire_no_room full = (inl (inr (runs_on, inr (marked_there, inr (still, inl (full_is.1 full, refl))))), refl)
@@ -194,7 +194,7 @@ module _ (v : Stored) (s : State) (whole : IsWhole v.extents) (is : IsStateOf v 
       retire_done n y h j room young inside done same =
           let refuses : (f : Refusal) → Refuses (shape v.extents) (formats_of (shape v.extents)) s (Retire e) f → ⊥
           = pass Halted runs_on (pass NotSweepable marked_there (pass StillLive still (pass Full (λ full. room (full_is.0 full)) (pass WornOut (λ would. young ((worn_is room).0 would)) no_more)))) in
-          let law = retire v.extents v.graph v.index s whole is.parts y h j e n swept inside same none (subst (λ (k : ℕ). IsRetired v.index v.extents v.graph e n k j y h) said done) in
+          let law = retire v.extents v.graph v.index s whole is.parts y h j e n refl swept inside same none (subst (λ (k : ℕ). IsRetired v.index v.extents v.graph e n k j y h) said done) in
           let step : Step (shape v.extents) (formats_of (shape v.extents)) s (Retire e) (Retired n) law.0 = (refuses, law.1) in (
             law.0,
             step,

@@ -26,7 +26,7 @@ use Rattle.cs_model.specs.Element.{Map}
 use Rattle.cs_model.specs.Open.{opened_state, root_read}
 use Rattle.cs_model.specs.Recovery.{Recovers}
 use Rattle.cs_model.specs.State.{State}
-use Rattle.cs_refine.proofs.Started.{new_started}
+use Rattle.cs_refine.proofs.StartedNew.{new_started}
 use Rattle.cs_refine.specs.Devices.{IsDiskOf}
 use Rattle.cs_core.specs.declared.events.Event.{Event}
 use Rattle.cs_core.specs.declared.events.Reply.{Reply}

@@ -37,7 +37,7 @@ module _ (v : Stored) (whole : IsWhole v.extents) (runs : v.halted ≡ false) (e
   pub begin_steps : (y : ExtentsState) → (IsNotSweepable (shape v.extents) (extents_of v.extents) e → ⊥) → shape y ≡ shape v.extents → extents_of y ≡ marked (extents_of v.extents) e true
       → Steps v (BeginSweep e) Sweeping (record v { extents = y })
   begin_steps y may same extents s is =
-      let done = sweep v.extents y v.graph v.index s e is.parts same may extents in
+      let done = sweep v.extents y v.graph v.index s e is.parts same refl may extents in
       let none : (f : Refusal) → Refuses (shape v.extents) (formats_of (shape v.extents)) s (BeginSweep e) f → ⊥
       = pass Halted (going s.halted (is.halted ∙ runs)) (pass NotSweepable (λ not. may (subst (λ (x : Extents). IsNotSweepable (shape v.extents) x e) is.parts.world.extents not)) no_more) in
       let step : Step (shape v.extents) (formats_of (shape v.extents)) s (BeginSweep e) Sweeping (mark s e true) = (none, done.0) in (

@@ -28,7 +28,7 @@ use Rattle.cs_image.specs.Reads.{AreExtentsNoted, AreLocated, ArePages, AreVisib
 use Rattle.cs_image.proofs.Chunks.{chunk_or_fault}
 use Rattle.cs_image.proofs.Listed.{found_in, in_all, in_entries, oldest_places}
 use Rattle.cs_image.proofs.Runs.{Stored, stands_read, stored_read}
-use Rattle.cs_image.proofs.Superblocks.{extents_are, extents_fit, extents_with, read_below, read_fits, read_listed, section_formats, zero_formats}
+use Rattle.cs_image.proofs.Superblocks.{extents_are, extents_fit, extents_with, read_as, read_below, read_fits, read_listed, section_formats, zero_formats}
 
 module _ (view : ℕ → List ℕ) (format : ℕ) (versions : List ℕ) (pages : ℕ) (written : List (ℕ × ℕ)) (root commands : ℕ) (runs : List StoredRun)
     (read : IsVisibleStoreRead view format versions pages written root commands runs)
@@ -169,17 +169,7 @@ module _ (view : ℕ → List ℕ) (format : ℕ) (versions : List ℕ) (pages :
 
   -- the extents as they are read
   abbrev pub as_read : Extents
-  as_read = record {
-    pointer = p;
-    generation = g;
-    reset = λ e. 0;
-    open_extent = None;
-    swept = λ e. false;
-    of_runs = if (shape x).apart then any_run_on (newest_first runs) else λ e. false;
-    found = if (shape x).apart then p else λ e. 0;
-    fresh = None;
-    last = None;
-  }
+  as_read = read_as (shape x).apart x (newest_first runs)
 
   module _ (m : Map) (gives : Gives (shape x) (formats_of (shape x)) opening view p g [] (newest_first runs) m) where
     abbrev found : Recovers (shape x) (formats_of (shape x)) view commands m
@@ -314,14 +304,14 @@ module _ (view : ℕ → List ℕ) (format : ℕ) (versions : List ℕ) (pages :
     named = read.named;
   }
 
-  pub found_as : (m : Map) → Gives (shape there) (formats_of (shape there))
+  pub found_as : extents_of there ≡ read_as (shape there).apart there (newest_first runs) → (m : Map) → Gives (shape there) (formats_of (shape there))
       (opening_in (shape there) (formats_of (shape there)) view (extents_of there).pointer (extents_of there).generation) view (extents_of there).pointer (extents_of there).generation [] (newest_first runs) m
       → (found : Recovers (shape there) (formats_of (shape there)) view commands m)
       × IsFoundAs (shape there) (formats_of (shape there)) view commands m found there versions root (newest_first runs)
-  found_as m gives = found_by view format versions pages written root commands runs visible_read (λ stand. read.located) m gives there
-      (extents_are format pages (length versions) written)
+  found_as extents m gives = found_by view format versions pages written root commands runs visible_read (λ stand. read.located) m gives there extents
 
-  pub read_recovers : ArePages (device_pages format (length written) pages (length versions)) view → (m : Map) × (found : Recovers (shape there) (formats_of (shape there)) view commands m)
+  -- where chunks and runs may lie on one extent
+  pub read_recovers : (shape there).apart ≡ false → ArePages (device_pages format (length written) pages (length versions)) view → (m : Map) × (found : Recovers (shape there) (formats_of (shape there)) view commands m)
       × IsFoundAs (shape there) (formats_of (shape there)) view commands m found there versions root (newest_first runs)
-  read_recovers are = recovers_by view format versions pages written root commands runs visible_read (λ stand. read.located) are there
-      (extents_are format pages (length versions) written)
+  read_recovers not are = recovers_by view format versions pages written root commands runs visible_read (λ stand. read.located) are there
+      (extents_are format pages (length versions) written (newest_first runs) not)

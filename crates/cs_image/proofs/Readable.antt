@@ -1,5 +1,5 @@
 -- What an image recovers can be read.
-use Rattle.std.proofs.Common.{◌≡◌, inl, inr, ℕ, zero, suc, ◌+◌, ◌/◌, ◌<◌, ◌≤◌, List, [], ◌∷◌, ◌++◌, length, map, take, drop, Option, Some, None, Vec, refl, sym, ap, ◌∙◌, subst, arith}
+use Rattle.std.proofs.Common.{◌≡◌, inl, inr, ℕ, zero, suc, ◌+◌, ◌/◌, ◌<◌, ◌≤◌, List, [], ◌∷◌, ◌++◌, length, map, take, drop, Option, Some, None, Vec, true, refl, sym, ap, ◌∙◌, subst, arith}
 use Rattle.std.specs.Prelude.{reverse, slice_index, slice_index_or}
 use Rattle.std.specs.List.{AllByRecursion, flat_map}
 use Rattle.std.specs.declared.alloc.Global.{Global}
@@ -212,9 +212,9 @@ module _ (view : ℕ → List ℕ) (format : ℕ) (versions : List ℕ) (pages :
       subst IsBytes (payload_is_read 1 (spelled_frame 1 payload ++ []) payload (stands 1 payload [] (omega (arith, few))))
       (IsBytes-field (bytes_in (spelled_frame 1 payload ++ [])) 41 (41 + payload_length (first_page (spelled_frame 1 payload ++ []))) whole)
 
-  entry_located : (run : Run) → run ∈ r.runs → (e : Entry) → e ∈ run.entries → (l : Place) → l ∈ e.locators → Located l
-  entry_located run has e there = subst (AllPass (shape x) (formats_of (shape x)) view r.pointers r.generations)
-      (ascending_lookup run.entries e (tests_of run.entries (r.runs_fit run has)).ascending there) (r.gives.runs_pass refl run has e.id)
+  entry_located : (shape x).hidden_stand ≡ true → (run : Run) → run ∈ r.runs → (e : Entry) → e ∈ run.entries → (l : Place) → l ∈ e.locators → Located l
+  entry_located stand run has e there = subst (AllPass (shape x) (formats_of (shape x)) view r.pointers r.generations)
+      (ascending_lookup run.entries e (tests_of run.entries (r.runs_fit run has)).ascending there) (r.gives.runs_pass stand run has e.id)
 
   pub has_run : (run : Run) → run ∈ r.runs → HasRunAt x view (as_locator run.place) (map as_entry run.entries)
   has_run run has =
@@ -272,9 +272,9 @@ module _ (view : ℕ → List ℕ) (format : ℕ) (versions : List ℕ) (pages :
     abbrev EntryLocated : Entry → Type 0
     EntryLocated e = (l : Place) → l ∈ e.locators → Located l
 
-    entries_located : AllByRecursion (λ run. AllByRecursion EntryLocated run.entries) (newest_first runs)
-    entries_located = subst (AllByRecursion (λ (run : Run). AllByRecursion EntryLocated run.entries)) (sym runs_are)
-        (to_all (λ (run : Run). AllByRecursion EntryLocated run.entries) r.runs (λ run has. to_all EntryLocated run.entries (entry_located run has)))
+    entries_located : (shape x).hidden_stand ≡ true → AllByRecursion (λ run. AllByRecursion EntryLocated run.entries) (newest_first runs)
+    entries_located stand = subst (AllByRecursion (λ (run : Run). AllByRecursion EntryLocated run.entries)) (sym runs_are)
+        (to_all (λ (run : Run). AllByRecursion EntryLocated run.entries) r.runs (λ run has. to_all EntryLocated run.entries (entry_located stand run has)))
 
     from_places : (ls : List Locator) → ((l : Place) → l ∈ map place_of ls → Located l) → AllByRecursion (IsLocated x) ls
     from_places [] each = tt
@@ -284,12 +284,13 @@ module _ (view : ℕ → List ℕ) (format : ℕ) (versions : List ℕ) (pages :
     from_entries [] all = tt
     from_entries (e ∷ xs) all = (from_places e.1.items all.0, from_entries xs all.1)
 
-    pub store_read : IsStoreRead view format versions pages written root commands runs
-    store_read = record {
+    -- where hidden entries stand
+    pub store_read : (shape x).hidden_stand ≡ true → IsStoreRead view format versions pages written root commands runs
+    store_read stand = record {
       sections = superblock;
       root_page = root_page;
       runs_read = read;
-      located = go runs (all_oldest (λ (run : Run). AllByRecursion EntryLocated run.entries) runs entries_located);
+      located = go runs (all_oldest (λ (run : Run). AllByRecursion EntryLocated run.entries) runs (entries_located stand));
       named = subst (λ (rs : List Run). names (entries_of rs) ≤ (shape x).most_names) (sym runs_are) r.bounds.named;
     }
       where

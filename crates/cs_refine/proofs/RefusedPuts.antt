@@ -212,13 +212,13 @@ module _ (x : ExtentsState) (g : GraphState) (i : IndexState) (s : State) (whole
     )
 
 -- where chunks and runs may lie on one extent
-module _ (x : ExtentsState) (g : GraphState) (i : IndexState) (s : State) (whole : IsWhole x) (are : ArePartsOf x g i s) where
+module _ (x : ExtentsState) (g : GraphState) (i : IndexState) (s : State) (whole : IsWhole x) (are : ArePartsOf x g i s) (together : (shape x).apart ≡ false) where
   pub put_full : (bytes : List ℕ) → NoRoomToPut (shape x) (formats_of (shape x)) s bytes
       ↔ ((cs : List (List ℕ)) → Chunked (shape x).chunk_bytes bytes cs → Fits (shape x) (extents_of x) ForPut (page_counts (chunk_frames (shape x) (formats_of (shape x)) cs)) → ⊥)
-  put_full bytes = put_full_by x g i s whole are false refl bytes
+  put_full bytes = put_full_by x g i s whole are false together bytes
 
   pub put_worn : Sound (shape x) (formats_of (shape x)) s → Bounded (shape x) (formats_of (shape x)) s → (id : ℕ) (bytes : List ℕ)
       → WouldPass (shape x) (formats_of (shape x)) s (Put id bytes)
       ↔ ((cs : List (List ℕ)) × Chunked (shape x).chunk_bytes bytes cs × Fits (shape x) (extents_of x) ForPut (page_counts (chunk_frames (shape x) (formats_of (shape x)) cs))
       × (AreWorn x g.staging ForPut (page_counts (chunk_frames (shape x) (formats_of (shape x)) cs)) ⊎ (2 ^ 63 ≤ s.count + length s.commands + 1)))
-  put_worn sound bounded id bytes = put_worn_by x g i s whole are false refl sound bounded id bytes
+  put_worn sound bounded id bytes = put_worn_by x g i s whole are false together sound bounded id bytes
