@@ -29,7 +29,9 @@ pub fn bench_in_file<R: AllocGlobal + Clock + Files<File = File> + Print + Eprin
         return statuses::COMMAND_LINE;
     };
     let Ok(geometry) = geometry_of(options) else {
-        let _ = eprintln!(rt; "error: extents are 4 to 2,048, and pages 2 to 256");
+        let _ = eprintln!(rt;
+            "error: a store has 4 to 2,048 extents of 2 to 256 pages, or in format 3 5 to 7,680 of 2 to 65,535"
+        );
         return statuses::COMMAND_LINE;
     };
     match fs::exists(rt, path) {
