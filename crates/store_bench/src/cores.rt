@@ -1,6 +1,6 @@
 //! Times a core, with no text around it, beside the digests alone of what it writes or reads. The second argument says what is
 //! timed, the third how often it is done, the fourth how many bytes a shard has, the fifth how many puts a batch has, the sixth
-//! how many extents of 256 pages the store has, whose superblock is one section but for `sections`:
+//! how many extents of 256 pages the store has, whose superblock is one section but for `sections`, the seventh its format, 2 or 3:
 //!
 //! - `puts`: each batch is put, staged and written back, round by round;
 //! - `gets`: so many puts are written back, and so many gets are timed;
@@ -26,7 +26,7 @@ use timings::{print_puts, time_beside, time_gets, time_puts, time_sections};
 /// How many pages an extent has.
 const PAGES: u64 = 256;
 
-/// How often it is done, with how many bytes a shard, how many puts a batch, how many extents, and how many sections.
+/// How often it is done, with how many bytes a shard, how many puts a batch, how many extents, how many sections, and in which format.
 #[derive(Clone, Copy)]
 pub struct Task {
     pub count: u64,
@@ -34,6 +34,7 @@ pub struct Task {
     pub batch: u64,
     pub extents: u64,
     pub sections: u64,
+    pub form: u64,
 }
 
 /// Does what the command line asks for.
@@ -57,7 +58,7 @@ fn time_store<R: Print + Clock>(
     work: Work,
     task: Task,
 ) -> Result<(), Fault> {
-    let mut core = new_core(alloc, task.extents, PAGES, task.sections)?;
+    let mut core = new_core(alloc, task.form, task.extents, PAGES, task.sections)?;
     run(rt, alloc, &mut core, work, task)
 }
 
@@ -69,6 +70,7 @@ fn task_of(asked: Asked) -> Task {
         batch: asked.third.unwrap_or(2),
         extents: asked.fourth.unwrap_or(64),
         sections: 1,
+        form: asked.fifth.unwrap_or(2),
     }
 }
 

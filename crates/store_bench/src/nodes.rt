@@ -68,7 +68,7 @@ pub fn time_node<R: Threads + Wait + Sync + Clock + Print>(
     };
     let board = Board::new(alloc)?;
     let extents = if task.is_endless() { 256 } else { 512 };
-    let core = new_core(alloc, extents, 64, 1)?;
+    let core = new_core(alloc, 2, extents, 64, 1)?;
     let (done, persistent) = run::<Brand, R>(rt, alloc, board, core, task);
     print_done(rt, done?, persistent)
 }

@@ -11,16 +11,18 @@ use std::alloc::Global;
 /// How many events the core may record.
 const HISTORY: usize = 65_536;
 
-/// A core that did nothing yet, over a new store in memory of so many extents of so many pages, and of so many sections of its superblock.
+/// A core that did nothing yet, over a new store in memory of this format, of so many extents of so many pages, and of so many sections of
+/// its superblock.
 pub fn new_core(
     alloc: Global,
+    form: u64,
     extents: u64,
     pages: u64,
     sections: u64,
 ) -> Result<Core<MemoryDisk>, Fault>
     ensures { IfOk result (λ core. (core.history ≡ []) × (core.store.accepted ≡ 0)) }
 {
-    let geometry = Geometry::with_sections(extents, pages, sections)?;
+    let geometry = Geometry::of_format(form, extents, pages, Some(sections))?;
     let disk = MemoryDisk::new(alloc, geometry.device_pages())?;
     match format(alloc, disk, geometry) {
         Ok(core) => Ok(core),

@@ -30,7 +30,7 @@ pub enum Work {
     Other,
 }
 
-/// What the command line asks for: a part, what is done there, and up to four numbers.
+/// What the command line asks for: a part, what is done there, and up to five numbers.
 #[derive(Clone, Copy)]
 pub struct Asked {
     pub part: Part,
@@ -39,6 +39,7 @@ pub struct Asked {
     pub second: Option<u64>,
     pub third: Option<u64>,
     pub fourth: Option<u64>,
+    pub fifth: Option<u64>,
 }
 
 /// What the command line asks for.
@@ -50,6 +51,7 @@ pub fn read_command(rt: &(impl Env + AllocGlobal)) -> Result<Asked, Fault> {
         second: number_at(rt, 4)?,
         third: number_at(rt, 5)?,
         fourth: number_at(rt, 6)?,
+        fifth: number_at(rt, 7)?,
     })
 }
 

@@ -1,10 +1,6 @@
 //! How much was written.
 
-use super::loads::SHARDS;
 use cs_deps::Element;
-
-/// How many runs stand at most; with one more all are merged.
-const RUNS: u64 = 4;
 
 /// What was put and written so far.
 #[derive(Clone, Copy)]
@@ -48,14 +44,10 @@ impl Counts {
         *counted = counted.saturating_add(1);
     }
 
-    /// Counts a batch of puts that was staged: its run has what the batch put, or all that was put so far where it is merged of all
-    /// that stand.
-    pub fn add_batch(&mut self, puts: u64) {
-        let all = self.puts.saturating_add(puts);
-        let is_merged = self.runs > 0 && self.runs % RUNS == 0;
-        let entries = if is_merged { all } else { puts };
-        self.puts = all;
+    /// Counts a batch of puts that was staged as a run of so many entries.
+    pub fn add_batch(&mut self, puts: u64, entries: usize) {
+        self.puts = self.puts.saturating_add(puts);
         self.runs = self.runs.saturating_add(1);
-        self.entries = self.entries.saturating_add(entries.min(SHARDS));
+        self.entries = self.entries.saturating_add(entries as u64);
     }
 }

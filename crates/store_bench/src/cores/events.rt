@@ -73,14 +73,22 @@ fn end(core: &mut Core<MemoryDisk>, members: u64) -> Result<(), Fault> {
     done(core, Event::End)
 }
 
+/// How many entries the newest run has, none where there is no run.
+fn newest_entries(core: &Core<MemoryDisk>) -> usize {
+    match core.index().runs().last() {
+        Some(run) => run.entries.len(),
+        None => 0,
+    }
+}
+
 /// Stages a batch of so many puts, and writes back all that waits.
 pub fn write_back(
     core: &mut Core<MemoryDisk>,
     puts: u64,
     counts: &mut Counts,
 ) -> Result<(), Fault> {
-    counts.add_batch(puts);
     done(core, Event::Stage)?;
+    counts.add_batch(puts, newest_entries(core));
     for _ in 0..ROUNDS {
         let members = begin(core, counts)?;
         if members == 0 {

@@ -142,6 +142,7 @@ pub fn time_beside<R: Print + Clock>(
         batch: task.batch,
         extents: task.extents,
         sections: task.sections,
+        form: task.form,
     };
     put_all(alloc, core, written)?;
     put_waiting(alloc, core, task)?;
