@@ -1,4 +1,4 @@
-//! Lines of the input: a word, and up to three more. Identifiers are UUIDs, bytes are hex digits, a dash for none, and so are masks binary digits.
+//! Lines of the input: a word, and up to four more. Identifiers are UUIDs, bytes are hex digits, a dash for none, and so are masks binary digits.
 
 use crate::calls::Call;
 use cs_store::ShardId;
@@ -8,8 +8,9 @@ use std::alloc::{AllocError, Global};
 /// What a line asks for.
 #[derive(Drop)]
 pub enum Line {
-    /// A new store, in place of the one that is there.
+    /// A new store of this format, in place of the one that is there.
     Make {
+        format: u64,
         extents: u64,
         pages: u64,
         limit: usize,
@@ -40,17 +41,19 @@ struct Words<'a> {
     first: Option<&'a str>,
     second: Option<&'a str>,
     third: Option<&'a str>,
+    fourth: Option<&'a str>,
 }
 
 impl<'a> Words<'a> {
-    /// The words of this text. What follows the third one belongs to it.
+    /// The words of this text. What follows the fourth one belongs to it.
     fn of(text: &'a str) -> Self {
-        let mut words = text.splitn(4, ' ');
+        let mut words = text.splitn(5, ' ');
         Words {
             word: words.next().unwrap_or(""),
             first: words.next(),
             second: words.next(),
             third: words.next(),
+            fourth: words.next(),
         }
     }
 
@@ -153,8 +156,10 @@ fn read_word(word: &str) -> Option<Call> {
     }
 }
 
+/// The format is 2 where none is named.
 fn read_make(words: Words) -> Option<Line> {
     Some(Line::Make {
+        format: number(words.fourth.unwrap_or("2"))?,
         extents: number(words.first?)?,
         pages: number(words.second?)?,
         limit: place(words.third?)?,

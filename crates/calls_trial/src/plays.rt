@@ -87,10 +87,14 @@ fn play<D: TrialDisk, R: AllocGlobal + Print>(
 ) -> io::Result<()> {
     match line {
         Line::Make {
+            format,
             extents,
             pages,
             limit,
-        } => make(rt, held, extents, pages, Limits { history: limit }),
+        } => {
+            let geometry = Geometry::of_format(format, extents, pages, None).ok();
+            make(rt, held, geometry, Limits { history: limit })
+        }
         Line::Reopen { between, fails } => reopen(rt, held, between, fails),
         Line::Ask(call) => ask(rt, held, call),
     }
@@ -112,18 +116,17 @@ fn ask<D: TrialDisk, R: AllocGlobal + Print>(
 fn make<D: TrialDisk, R: AllocGlobal + Print>(
     rt: &R,
     held: &mut Held<D>,
-    extents: u64,
-    pages: u64,
+    geometry: Option<Geometry>,
     limits: Limits,
 ) -> io::Result<()> {
-    match Geometry::new(extents, pages) {
-        Ok(geometry) => {
+    match geometry {
+        Some(geometry) => {
             let disk = D::of_zeros(rt.alloc(), geometry.device_pages())?;
             let answer = Store::make(rt.alloc(), disk, geometry, limits);
             hold(held, what_is_held(answer, limits));
             print_made(rt, held)
         }
-        Err(_) => {
+        None => {
             hold(held, Held::Nothing);
             print_refusal(rt, Refusal::BadGeometry)
         }
