@@ -4,8 +4,9 @@ use Rattle.std.specs.Prelude.{◌↔◌}
 use Rattle.std.proofs.Math.Nat.{mod-lt, mul_comm}
 use Rattle.std.proofs.lemmas.Nat.{div-add-mod', div-mul-add, div_below}
 use Rattle.cs_model.proofs.LocalRecovery.{lies_below}
-use Rattle.cs_model.specs.Geometry.{IsGeometry as IsModelGeometry, shape_of}
+use Rattle.cs_model.specs.Geometry.{HasExtentsApart, IsGeometry as IsModelGeometry, most_run_extents, shape_of}
 use Rattle.cs_model.specs.Local.{LiesBelow}
+use Rattle.std.proofs.lemmas.Bool.Decides.{nat_tests}
 use Rattle.std.proofs.lemmas.Bool.{and_parts, and_from, leb-true, ltb-true, le-leb, lt-ltb}
 use Rattle.cs_frame.specs.Geometries.{IsGeometry, IsKnown, device_pages, greatest_extents, greatest_pages, greatest_section_extents, greatest_sections, in_bounds, is_divided, least_extents, least_pages, lengths_below, section_length, section_size, section_start}
 
@@ -162,6 +163,15 @@ module _ (format extents pages sections : ℕ) (g : IsGeometry format extents pa
     some_extent = some_in_each;
     all = all_covered;
   }
+
+-- four extents are two beside those that may hold runs, and so are sixteen
+extents_left : (extents : ℕ) → 4 ≤ extents → most_run_extents extents + 2 ≤ extents
+extents_left extents many = grind (arith, nat_tests)
+
+-- where chunks and runs lie apart there are extents enough
+pub geometry_apart : (format extents pages sections : ℕ) → IsGeometry format extents pages sections → HasExtentsApart extents format
+geometry_apart format extents pages sections g on = extents_left extents
+    (let four = for_known (λ f. 4 ≤ least_extents f) (omega arith) (omega arith) format g.known in omega (arith, four, g.fewest_extents))
 
 -- all that a store looks at lies on its device
 pub lies_in_device : (format extents pages sections : ℕ) → IsGeometry format extents pages sections

@@ -6,7 +6,7 @@ ghost use Rattle.byteorder.specs.Endian.{big_bytes, big_number};
 ghost use Rattle.cs_model.specs.Element.{Entry as NamedEntry};
 ghost use Rattle.cs_model.specs.Formats.{ChunkFrame, RunFrame};
 ghost use Rattle.cs_model.specs.Frames.{IsFormat};
-ghost use Rattle.cs_model.specs.Geometry.{IsGeometry as IsModelGeometry, shape_of};
+ghost use Rattle.cs_model.specs.Geometry.{HasExtentsApart, IsGeometry as IsModelGeometry, shape_of};
 ghost use Rattle.cs_model.specs.Index.{IsRunList};
 ghost use Rattle.cs_model.specs.Safe.{FitsExtent};
 ghost use Rattle.cs_frame.specs.declared.faults.FormatFault.{FormatFault as Fault};
@@ -162,4 +162,5 @@ pub fn sections_have_all_extents()
     // The same in the words of the machine's model.
     ensures model { (format extents pages sections : ℕ) → IsGeometry format extents pages sections
         → IsModelGeometry extents pages sections (section_size extents sections) }
+    ensures apart { (format extents pages sections : ℕ) → IsGeometry format extents pages sections → HasExtentsApart extents format }
 {}

@@ -322,7 +322,7 @@ shape = let base = is_shape 6 2 1 8 1 (record {
   some_section = omega arith;
   some_extent = omega arith;
   all = omega arith;
-}) in record {
+}) (λ on. omega arith) in record {
   root_kind = base.root_kind;
   section_kind = base.section_kind;
   root_only = base.root_only;

@@ -3,9 +3,15 @@ use Rattle.std.proofs.Common.{◌≡◌, ◌≢◌, inl, inr, ℕ, suc, ◌+◌,
 use Rattle.std.proofs.lemmas.Bool.{cases_Bool, cases_eq, cases_lt}
 use Rattle.std.proofs.lemmas.Bool.Decides.{nat_tests}
 use Rattle.std.proofs.lemmas.Nat.{div-mul-add, mod-mul-add, div_below}
-use Rattle.cs_model.proofs.Parts.{not_apart}
 use Rattle.cs_model.specs.Device.{FramePage, IsShape, RootPage, SectionPage, Shape}
-use Rattle.cs_model.specs.Geometry.{IsGeometry, shape_of}
+use Rattle.cs_model.specs.Geometry.{HasExtentsApart, IsGeometry, apart_in, by_size_in, hidden_stand_in, most_run_extents, shape_of}
+
+-- in a format in which chunks and runs lie apart hidden entries don't stand, and merges go by size
+rules_apart : (f : ℕ) → apart_in f ≡ true → (hidden_stand_in f ≡ false) × (by_size_in f ≡ true)
+rules_apart f on = (grind (arith, nat_tests), grind (arith, nat_tests))
+
+some_run_extents : (E : ℕ) → 1 ≤ most_run_extents E
+some_run_extents E = grind (arith, nat_tests)
 
 module _ (E P N Q f : ℕ) (g : IsGeometry E P N Q) where
   S : Shape
@@ -61,8 +67,8 @@ module _ (E P N Q f : ℕ) (g : IsGeometry E P N Q) where
     ]
   ]
 
-  pub is_shape : IsShape (shape_of E P N Q f)
-  is_shape = record {
+  pub is_shape : HasExtentsApart E f → IsShape (shape_of E P N Q f)
+  is_shape wide = record {
     root_kind = at_one 1 refl;
     section_kind = λ j lt. elim (cases_eq j 0) [
       | inl z ↦ (let t : (j == 0) ≡ true = eq-eqb j 0 z in rw t (at_zero 0 refl ∙ ap SectionPage (sym z)))
@@ -75,7 +81,7 @@ module _ (E P N Q f : ℕ) (g : IsGeometry E P N Q) where
       | inl few ↦ rw few (le_refl _)
       | inr many ↦ rw many (omega arith)
     ];
-    apart = λ on. not_apart on;
+    apart = λ on. ((rules_apart f on).0, (rules_apart f on).1, some_run_extents E, wide on);
     some_byte = (let p : 0 < P = g.some_page in omega arith);
     section_only = only_section;
     frame_kind = λ e i inside. at_frames (2 + (e * P + i)) (omega arith) (inside_below e i inside.0 inside.1);

@@ -1,5 +1,5 @@
 -- Where everything lies on the device, for a superblock of any number of sections.
-use Rattle.std.specs.Prelude.{◌+◌, ◌*◌, ◌-◌, ◌/◌, ◌%◌, ◌<◌, ◌≤◌, ◌==◌, ℕ, Bool, true, false, nat_le, nat_lt, if◌then◌else◌}
+use Rattle.std.specs.Prelude.{◌≡◌, ◌+◌, ◌*◌, ◌-◌, ◌/◌, ◌%◌, ◌<◌, ◌≤◌, ◌==◌, ℕ, Bool, true, false, nat_le, nat_lt, if◌then◌else◌}
 use Rattle.cs_model.specs.Device.{FramePage, RootPage, SectionPage, Shape}
 
 -- The rules that a format goes by. Where all formats go by the same one, no code goes by the other yet:
@@ -9,7 +9,7 @@ pages_first_in format = nat_le format 2
 
 -- an entry of a run that a newer one hides names what is there
 abbrev pub hidden_stand_in : (format : ℕ) → Bool
-hidden_stand_in format = true
+hidden_stand_in format = nat_le format 2
 
 -- in format 3 a Stage merges the newest runs by their sizes
 abbrev pub by_size_in : (format : ℕ) → Bool
@@ -17,11 +17,15 @@ by_size_in format = nat_lt 2 format
 
 -- chunks and runs lie apart
 abbrev pub apart_in : (format : ℕ) → Bool
-apart_in format = false
+apart_in format = nat_lt 2 format
 
 -- how many extents may hold runs where they do
 abbrev pub most_run_extents : (extents : ℕ) → ℕ
 most_run_extents extents = if nat_le 16 extents then 2 else 1
+
+-- where chunks and runs lie apart there are two extents beside those that may hold runs
+abbrev pub HasExtentsApart : (extents format : ℕ) → Type 0
+HasExtentsApart extents format = apart_in format ≡ true → most_run_extents extents + 2 ≤ extents
 
 -- section 0 is on page 0, the root on page 1, the extents begin at page 2, and behind them are the other sections.
 -- Up to format 2 a root has few runs

@@ -3,17 +3,17 @@ ghost use Rattle.cs_model.specs.ApartExample.{example_abandoned, example_apart, 
 ghost use Rattle.cs_model.specs.Device.{IsShape, Shape};
 ghost use Rattle.cs_model.specs.Example.{example_format};
 ghost use Rattle.cs_model.specs.Frames.{IsFormat};
-ghost use Rattle.cs_model.specs.Geometry.{IsGeometry, shape_of};
+ghost use Rattle.cs_model.specs.Geometry.{HasExtentsApart, IsGeometry, shape_of};
 ghost use Rattle.cs_model.specs.Open.{opened_state};
 ghost use Rattle.cs_model.specs.Recovery.{IsNew, Recovers};
 ghost use Rattle.cs_model.specs.State.{State};
 ghost use Rattle.cs_model.specs.Step.{History};
 ghost use Rattle.std.specs.Prelude.{◌≡◌, ℕ, None};
 
-/// Pages of the device are apart, for any number of sections.
+/// Pages of the device are apart, for any number of sections, and each format goes by rules that fit one another.
 pub fn geometries_are_shapes()
     ensures { (extents pages sections per_section format : ℕ) → IsGeometry extents pages sections per_section
-        → IsShape (shape_of extents pages sections per_section format) }
+        → HasExtentsApart extents format → IsShape (shape_of extents pages sections per_section format) }
 {}
 
 /// The laws that are asked of a format hold together.

@@ -1,4 +1,4 @@
-use Rattle.cs_frame.proofs.GeometryLaws.{lengths_sum, model_geometry, section_holds, section_inside}
+use Rattle.cs_frame.proofs.GeometryLaws.{geometry_apart, lengths_sum, model_geometry, section_holds, section_inside}
 use Rattle.cs_frame.proofs.laws.sections_have_all_extents.Goals as goal
 
 pub returns-clause-holds : goal.returns-clause-holds
@@ -12,3 +12,6 @@ returns-clause-lengths c = lengths_sum
 
 pub returns-clause-model : goal.returns-clause-model
 returns-clause-model c = model_geometry
+
+pub returns-clause-apart : goal.returns-clause-apart
+returns-clause-apart c = geometry_apart
