@@ -12,6 +12,13 @@ use cs_deps::Refusal;
 use std::alloc::{AllocError, Global};
 
 impl Extents {
+    /// Whether chunks and runs lie apart: an extent holds the one or the other, never both.
+    pub fn is_apart(&self) -> bool
+        ensures { result ≡ (shape self.now).apart }
+    {
+        lies_apart(self.geometry().format())
+    }
+
     /// Whether an extent holds runs.
     pub fn holds_runs(&self, extent: usize) -> bool
         requires { extent < (shape self.now).extents }
@@ -185,10 +192,10 @@ fn unless_equal(extent: usize, other: usize) -> Option<usize>
 }
 
 /// Whether chunks and runs lie apart in stores of this format.
-pub fn lies_apart(_format: u8) -> bool
-    ensures { result ≡ apart_in _format }
+pub fn lies_apart(format: u8) -> bool
+    ensures { result ≡ apart_in format }
 {
-    false
+    2 < format
 }
 
 /// How many pages of each extent count as found as a store is opened: all that are given where chunks and runs lie apart, else none.
