@@ -14,3 +14,7 @@ pub mod Parts
 pub mod Exact
 pub mod Cases
 pub mod Sizes
+pub mod Next
+pub mod Chosen
+pub mod Tallies
+pub mod Settled

@@ -15,7 +15,7 @@ use Rattle.cs_model.specs.Extents.{Purpose as Reason}
 use Rattle.cs_model.specs.Index.{Ascending, entries_of, if_live, live, live_at, lookup, names}
 use Rattle.cs_model.specs.Merges.{IsRunOf}
 use Rattle.cs_index.specs.Merges.{part}
-use Rattle.cs_index.specs.Staged.{IsPartAppended, IsPartStaged}
+use Rattle.cs_index.specs.Staged.{IsPartAppendedBy, IsPartStagedBy}
 use Rattle.cs_index.specs.State.{IsShort, IsStored, IsWhole, State, index_of, named_entry, newest_first, run_of, state_of}
 use Rattle.cs_index.proofs.Merged.{left, live_left, run_few, some_left}
 use Rattle.cs_index.proofs.Names.{names_of_lookups}
@@ -127,20 +127,20 @@ goes_where_none false s k xs none run some = ⊎_elim (λ (is : false ≡ true).
 
 -- ---- an index in which a part is one run
 
-module _ (go : Bool) (k : ℕ) (s : State) (x : ExtentsState) (g : GraphState) (reason : Reason) (v commands : ℕ) (t : State) (y : ExtentsState) (h : GraphState)
-    (staged : IsPartStaged go k s x g reason v commands t y h) (all : go ≡ true → drop k s.runs ≡ []) where
+module _ {apart : Bool} (go : Bool) (k : ℕ) (s : State) (x : ExtentsState) (g : GraphState) (reason : Reason) (v commands : ℕ) (t : State) (y : ExtentsState) (h : GraphState)
+    (staged : IsPartStagedBy apart go k s x g reason v commands t y h) (all : go ≡ true → drop k s.runs ≡ []) where
   pub part_left : (id : ℕ) → lookup id (index_of t) ≡ left go (lookup id (index_of s))
   part_left id = ap (λ (es : List Entry). lookup id (es ++ entries_of t.runs)) staged.table ∙ by staged.appended
     where
-      by : IsPartAppended go s k x g reason t.runs y staged.between → lookup id (entries_of t.runs) ≡ left go (lookup id (index_of s))
+      by : IsPartAppendedBy apart go s k x g reason t.runs y staged.between → lookup id (entries_of t.runs) ≡ left go (lookup id (index_of s))
       by (inl m) = ap (λ (rs : List Run). lookup id (entries_of rs)) m.5 ∙ part_lookup go s k m.0 all m.3 id
       by (inr m) = ap (λ (rs : List Run). lookup id (entries_of rs)) m.3 ∙ part_lookup go s k [] all m.0 id
 
   pub part_live : (id : ℕ) → live_at (index_of t) id ≡ live_at (index_of s) id
   part_live id = ap live (part_left id) ∙ live_left go (lookup id (index_of s))
 
-pub part_stays : (go : Bool) (k : ℕ) (s : State) (x : ExtentsState) (g : GraphState) (reason : Reason) (v commands : ℕ) (t : State) (y : ExtentsState) (h : GraphState)
-    → IsPartStaged go k s x g reason v commands t y h → go ≡ false → (id : ℕ) → lookup id (index_of t) ≡ lookup id (index_of s)
+pub part_stays : {apart : Bool} (go : Bool) (k : ℕ) (s : State) (x : ExtentsState) (g : GraphState) (reason : Reason) (v commands : ℕ) (t : State) (y : ExtentsState) (h : GraphState)
+    → IsPartStagedBy apart go k s x g reason v commands t y h → go ≡ false → (id : ℕ) → lookup id (index_of t) ≡ lookup id (index_of s)
 part_stays true k s x g reason v commands t y h staged stay id = absurd (let e : true ≡ false = stay in cc)
 part_stays false k s x g reason v commands t y h staged stay id = part_left false k s x g reason v commands t y h staged (λ e. absurd (let wrong : false ≡ true = e in cc)) id
 

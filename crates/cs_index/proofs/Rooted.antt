@@ -9,7 +9,7 @@ use Rattle.cs_deps.specs.Staging.{IsVersionStaged, Staging}
 use Rattle.cs_deps.specs.State.{State as GraphState}
 use Rattle.cs_extent.proofs.Appending.{whatever_room}
 use Rattle.cs_extent.proofs.Staged.{frame_root}
-use Rattle.cs_extent.specs.Appended.{IsAppended}
+use Rattle.cs_extent.specs.Appended.{IsAppended, IsAppendedBy}
 use Rattle.cs_extent.specs.Frames.{IsFrameStaged, IsRootNeed, root_family, root_pages}
 use Rattle.cs_extent.specs.State.{State as ExtentsState}
 use Rattle.cs_frame.specs.Formats.{as_locator, place_of}
@@ -19,7 +19,7 @@ use Rattle.cs_model.specs.Element.{Entry, Locator as Place, Run}
 use Rattle.cs_model.specs.Extents.{Purpose as Reason}
 use Rattle.cs_model.specs.Formats.{places}
 use Rattle.cs_model.specs.Geometry.{pages_first_in}
-use Rattle.cs_index.specs.Staged.{IsRootOver, IsRootWorn, IsRunStaged, run_frame}
+use Rattle.cs_index.specs.Staged.{IsRootOver, IsRootWorn, IsRunStaged, IsRunStagedBy, run_frame}
 use Rattle.cs_index.specs.State.{newest_first, run_of}
 
 within_pages : (pages_first : Bool) (staged : ℕ) → root_pages pages_first staged ≤ staged
@@ -74,15 +74,21 @@ newer_place older place =
     ∙ ap (λ ls. ls ++ as_locator place ∷ []) (oldest_places older)
 
 -- a frame was appended and a root staged over the places of runs: a run was staged over them
+pub run_staged_by : (apart : Bool) (x : ExtentsState) (g k : GraphState) (reason : Reason) (entries : List Entry) (older : List StoredRun) (place : Locator) (v commands : ℕ) (y : ExtentsState) (h : GraphState)
+    (frame : List (List ℕ)) (oldest : List Locator) → k ≡ record g { room = k.room } → frame ≡ run_frame x entries → oldest ≡ map (λ run. run.place) older
+    → (between : GraphState) × IsAppendedBy apart x k reason frame place y between × IsRootOver x.format (pages_first_in x.format) between h v commands (oldest ++ place ∷ [])
+    → IsRunStagedBy apart x g reason entries (newest_first older) (place_of place) v commands y h
+run_staged_by apart x g k reason entries older place v commands y h frame oldest same is are done = (
+  done.0,
+  subst (λ (f : List (List ℕ)). IsAppendedBy apart x g reason f place y done.0) is (whatever_room x g k reason frame place y done.0 same done.1),
+  subst (λ (ls : List Locator). IsRootOver x.format (pages_first_in x.format) done.0 h v commands ls) (ap (λ (ls : List Locator). ls ++ place ∷ []) are ∙ sym (newer_place older (place_of place))) done.2,
+)
+
 pub run_staged : (x : ExtentsState) (g k : GraphState) (reason : Reason) (entries : List Entry) (older : List StoredRun) (place : Locator) (v commands : ℕ) (y : ExtentsState) (h : GraphState)
     (frame : List (List ℕ)) (oldest : List Locator) → k ≡ record g { room = k.room } → frame ≡ run_frame x entries → oldest ≡ map (λ run. run.place) older
     → (between : GraphState) × IsAppended x k reason frame place y between × IsRootOver x.format (pages_first_in x.format) between h v commands (oldest ++ place ∷ [])
     → IsRunStaged x g reason entries (newest_first older) (place_of place) v commands y h
-run_staged x g k reason entries older place v commands y h frame oldest same is are done = (
-  done.0,
-  subst (λ (f : List (List ℕ)). IsAppended x g reason f place y done.0) is (whatever_room x g k reason frame place y done.0 same done.1),
-  subst (λ (ls : List Locator). IsRootOver x.format (pages_first_in x.format) done.0 h v commands ls) (ap (λ (ls : List Locator). ls ++ place ∷ []) are ∙ sym (newer_place older (place_of place))) done.2,
-)
+run_staged = run_staged_by false
 
 -- a root over a graph that differs in room alone
 root_room : (format : ℕ) (first : Bool) (g h : GraphState) (room v commands : ℕ) (ls : List Locator) → IsRootOver format first (record g { room = room }) h v commands ls → IsRootOver format first g h v commands ls
@@ -97,3 +103,10 @@ root_room format first g h room v commands ls root = record {
 
 pub root_over : (format : ℕ) (first : Bool) (g k h : GraphState) (v commands : ℕ) (ls : List Locator) → k ≡ record g { room = k.room } → IsRootOver format first k h v commands ls → IsRootOver format first g h v commands ls
 root_over format first g k h v commands ls same root = root_room format first g h k.room v commands ls (subst (λ (s : GraphState). IsRootOver format first s h v commands ls) same root)
+
+-- the root over the runs as they are
+pub root_same : (format : ℕ) (first : Bool) (g k h : GraphState) (v commands : ℕ) (runs : List StoredRun) (rs : List Run) (ls : List Locator) → k ≡ record g { room = k.room } → ls ≡ map (λ run. run.place) runs → newest_first runs ≡ rs
+    → IsRootOver format first k h v commands ls → IsRootOver format first g h v commands (map as_locator (reverse (places rs)))
+root_same format first g k h v commands runs rs ls same are is root =
+    subst (λ (ms : List Locator). IsRootOver format first g h v commands ms) (are ∙ sym (oldest_places runs) ∙ ap (λ (ms : List Run). map as_locator (reverse (places ms))) is)
+    (root_over format first g k h v commands ls same root)

@@ -59,7 +59,7 @@ module _ (old new : List Entry) (id : ℕ) (ls : List Place) (entered : (d : ℕ
 
 -- ---- counted one after another
 
-one_more : (id : ℕ) (ls : List Place) → length (live_entry id ls) ≡ one_if_some ls
+pub one_more : (id : ℕ) (ls : List Place) → length (live_entry id ls) ≡ one_if_some ls
 one_more id [] = refl
 one_more id (l ∷ ls) = refl
 

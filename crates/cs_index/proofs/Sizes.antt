@@ -144,7 +144,7 @@ left_step S run runs size false is rest =
     second true b is = absurd (true≢false is)
     second false b is = is
 
-reaching_left : (S : Shape) (runs : List Run) (size : ℕ) → 0 < S.most_runs → length (drop (reaching S (sizes runs) size) runs) < S.most_runs
+pub reaching_left : (S : Shape) (runs : List Run) (size : ℕ) → 0 < S.most_runs → length (drop (reaching S (sizes runs) size) runs) < S.most_runs
 reaching_left S [] size some = some
 reaching_left S (run ∷ runs) size some = left_step S run runs size _ refl (reaching_left S runs (size + length run.entries) some)
 
@@ -164,7 +164,7 @@ module _ (S : Shape) (s : State) where
       by_size true = by_quarter (nat_le S.most_names (4 * (names (index_of s) - shards (index_of s))))
       by_size false = by_number (nat_lt (length s.runs) 4)
 
-  none_left : length (drop (length s.runs) s.runs) ≡ 0
+  pub none_left : length (drop (length s.runs) s.runs) ≡ 0
   none_left = ap length (drop-length s.runs)
 
   -- most: a root may have so many runs, at least four, and where a Stage merges by size just as many as the shape says

@@ -31,11 +31,11 @@ length-newest (x ∷ xs) = let e : length (newest_first xs) ≡ length xs = leng
 
 -- ---- short entries
 
-short_runs : (runs : List Run) → AllByRecursion IsStored runs → AllByRecursion IsShort (entries_of runs)
+pub short_runs : (runs : List Run) → AllByRecursion IsStored runs → AllByRecursion IsShort (entries_of runs)
 short_runs [] all = tt
 short_runs (run ∷ runs) all = all_append IsShort run.entries (entries_of runs) all.0.2 (short_runs runs all.1)
 
-short_in : (xs : List Entry) (id : ℕ) (ls : List Place) → AllByRecursion IsShort xs → lookup id xs ≡ Some ls → length ls ≤ 8
+pub short_in : (xs : List Entry) (id : ℕ) (ls : List Place) → AllByRecursion IsShort xs → lookup id xs ≡ Some ls → length ls ≤ 8
 short_in [] id ls all is = absurd (let e : None ≡ Some ls = is in cc)
 short_in (x ∷ xs) id ls all is = elim (cases_eq x.id id) [
   | inl here ↦ (let e : Some x.locators ≡ Some ls = sym (lookup_here x xs id here) ∙ is in let same : x.locators ≡ ls = cc in subst (λ (k : List Place). length k ≤ 8) same all.0)

@@ -1,3 +1,5 @@
+pub mod Apart
+pub mod Copies
 pub mod Held
 pub mod Live
 pub mod Merges

@@ -1,5 +1,5 @@
 -- What staging an index does to the extents and to the graph.
-use Rattle.std.specs.Prelude.{◌≡◌, ◌≢◌, ◌⊎◌, ◌↔◌, ◌+◌, ◌^◌, ◌≤◌, ◌∷◌, ℕ, Bool, List, [], Some, Result, Ok, Err, drop, length, map, reverse, slice_index}
+use Rattle.std.specs.Prelude.{◌≡◌, ◌≢◌, ◌⊎◌, ◌↔◌, ◌+◌, ◌^◌, ◌≤◌, ◌∷◌, ℕ, Bool, false, List, [], Some, Result, Ok, Err, drop, length, map, reverse, slice_index}
 use Rattle.cs_deps.specs.declared.elements.Element.{Element}
 use Rattle.cs_deps.specs.declared.elements.Element.TheVariants.{Version}
 use Rattle.cs_deps.specs.declared.refusals.Refusal.{Refusal}
@@ -7,7 +7,7 @@ use Rattle.cs_deps.specs.declared.refusals.Refusal.TheVariants.{Full, OutOfMemor
 use Rattle.cs_deps.specs.Named.{Named, Names}
 use Rattle.cs_deps.specs.Staging.{IsVersionStaged, Staging}
 use Rattle.cs_deps.specs.State.{AddsOnly, State as GraphState, write_of}
-use Rattle.cs_extent.specs.Appended.{IsAppended}
+use Rattle.cs_extent.specs.Appended.{IsAppendedBy}
 use Rattle.cs_extent.specs.Frames.{IsRootNeed, root_family, root_pages}
 use Rattle.cs_extent.specs.State.{State as ExtentsState, extents_of, shape}
 use Rattle.cs_extent.specs.Worn.{IsFrameWorn}
@@ -28,9 +28,12 @@ use Rattle.cs_index.specs.State.{State, index_of}
 unfoldable pub run_frame : ExtentsState → List Entry → List (List ℕ)
 run_frame x entries = (formats_of (shape x)).frame RunFrame ((formats_of (shape x)).run entries)
 
--- the frame of a run was appended at a place
+-- the frame of a run was appended at a place, where chunks and runs lie apart or not
+abbrev pub IsRunAppendedBy : (apart : Bool) → ExtentsState → GraphState → Reason → List Entry → Place → ExtentsState → GraphState → Type 0
+IsRunAppendedBy apart x g reason entries place y h = IsAppendedBy apart x g reason (run_frame x entries) (as_locator place) y h
+
 abbrev pub IsRunAppended : ExtentsState → GraphState → Reason → List Entry → Place → ExtentsState → GraphState → Type 0
-IsRunAppended x g reason entries place y h = IsAppended x g reason (run_frame x entries) (as_locator place) y h
+IsRunAppended x g reason entries place y h = IsRunAppendedBy false x g reason entries place y h
 
 -- The next version of the root was staged to page 1: its page spells, in this format, so many commands and the runs at
 -- these places, oldest first. It needs all versions of each section so far, where page writes don't come first all plain writes so far,
@@ -48,9 +51,12 @@ abbrev pub IsRootStaged : (format : ℕ) → GraphState → GraphState → (v co
 IsRootStaged format g h v commands runs = IsRootOver format (pages_first_in format) g h v commands (map as_locator (reverse (places runs)))
 
 -- the frame of a run was appended, and the root over it and over the older runs was staged
+abbrev pub IsRunStagedBy : (apart : Bool) → ExtentsState → GraphState → Reason → List Entry → (older : List Run) → Place → (v commands : ℕ) → ExtentsState → GraphState → Type 0
+IsRunStagedBy apart x g reason entries older place v commands y h = (between : GraphState)
+    × IsRunAppendedBy apart x g reason entries place y between × IsRootStaged x.format between h v commands (record { place = place; entries = entries } ∷ older)
+
 abbrev pub IsRunStaged : ExtentsState → GraphState → Reason → List Entry → (older : List Run) → Place → (v commands : ℕ) → ExtentsState → GraphState → Type 0
-IsRunStaged x g reason entries older place v commands y h = (between : GraphState)
-    × IsRunAppended x g reason entries place y between × IsRootStaged x.format between h v commands (record { place = place; entries = entries } ∷ older)
+IsRunStaged x g reason entries older place v commands y h = IsRunStagedBy false x g reason entries older place v commands y h
 
 -- The table became a run over those before, and the root over all of them was staged.
 pub record IsTableStaged (s : State) (x : ExtentsState) (g : GraphState) (v commands : ℕ) (t : State) (y : ExtentsState) (h : GraphState) : Type 0 where
@@ -78,20 +84,26 @@ pub record IsMergeStaged (s : State) (x : ExtentsState) (g : GraphState) (reason
   pub limit : t.limit ≡ s.limit
 
 -- the run of the table and of the newest k runs was appended in front of the others, or none where it would have no entry
-abbrev pub IsPartAppended : (go : Bool) → State → ℕ → ExtentsState → GraphState → Reason → List Run → ExtentsState → GraphState → Type 0
-IsPartAppended go s k x g reason runs y h =
-    ((entries : List Entry) × (place : Place) × (entries ≢ []) × IsRunOf go (part s k) entries × IsRunAppended x g reason entries place y h
+abbrev pub IsPartAppendedBy : (apart go : Bool) → State → ℕ → ExtentsState → GraphState → Reason → List Run → ExtentsState → GraphState → Type 0
+IsPartAppendedBy apart go s k x g reason runs y h =
+    ((entries : List Entry) × (place : Place) × (entries ≢ []) × IsRunOf go (part s k) entries × IsRunAppendedBy apart x g reason entries place y h
     × (runs ≡ record { place = place; entries = entries } ∷ drop k s.runs))
     ⊎ (IsRunOf go (part s k) [] × (y ≡ x) × (h ≡ g) × (runs ≡ drop k s.runs))
 
+abbrev pub IsPartAppended : (go : Bool) → State → ℕ → ExtentsState → GraphState → Reason → List Run → ExtentsState → GraphState → Type 0
+IsPartAppended go s k x g reason runs y h = IsPartAppendedBy false go s k x g reason runs y h
+
 -- The table and the newest k runs became one run in front of the others, with their deletions or without them, or none where it
--- would have no entry, and the root over all that stand then was staged.
-pub record IsPartStaged (go : Bool) (k : ℕ) (s : State) (x : ExtentsState) (g : GraphState) (reason : Reason) (v commands : ℕ) (t : State) (y : ExtentsState) (h : GraphState) : Type 0 where
+-- would have no entry, and the root over all that stand then was staged. Chunks and runs lie apart or not.
+pub record IsPartStagedBy (apart go : Bool) (k : ℕ) (s : State) (x : ExtentsState) (g : GraphState) (reason : Reason) (v commands : ℕ) (t : State) (y : ExtentsState) (h : GraphState) : Type 0 where
   pub between : GraphState
-  pub appended : IsPartAppended go s k x g reason t.runs y between
+  pub appended : IsPartAppendedBy apart go s k x g reason t.runs y between
   pub root : IsRootStaged x.format between h v commands t.runs
   pub table : t.table ≡ []
   pub limit : t.limit ≡ s.limit
+
+abbrev pub IsPartStaged : (go : Bool) → (k : ℕ) → State → ExtentsState → GraphState → Reason → (v commands : ℕ) → State → ExtentsState → GraphState → Type 0
+IsPartStaged go k s x g reason v commands t y h = IsPartStagedBy false go k s x g reason v commands t y h
 
 -- a Stage merged the table and the newest k runs
 abbrev pub IsNewestStaged : (k : ℕ) → State → ExtentsState → GraphState → (v commands : ℕ) → State → ExtentsState → GraphState → Type 0

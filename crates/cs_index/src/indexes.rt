@@ -1,13 +1,13 @@
 //! The index of a store.
-ghost use Rattle.std.specs.Prelude.{◌≡◌, ◌≢◌, ℕ, ◌+◌, ◌<◌, ◌≤◌, ◌⊎◌, ◌↔◌, ◌==◌, [], IfErr, IfOk, IfSome, IsOk, IsTrue, MatchOption, OnErr, OnOk, None, Some, MatchBool, length, map, option_copied, option_map, true, false};
+ghost use Rattle.std.specs.Prelude.{◌≡◌, ◌≢◌, ℕ, ◌+◌, ◌<◌, ◌≤◌, ◌^◌, ◌⊎◌, ◌↔◌, ◌==◌, [], IfErr, IfOk, IfSome, IsOk, IsTrue, MatchOption, OnErr, OnOk, None, Some, MatchBool, length, map, option_copied, option_map, true, false};
 ghost use Rattle.std.specs.List.{AllByRecursion};
 ghost use Rattle.cs_frame.specs.Runs.{IsRun};
 ghost use Rattle.cs_model.specs.Index.{FirstLive, NothingLive, entries_of, live_at, lookup, names};
-ghost use Rattle.cs_model.specs.Tally.{one_if_some};
+ghost use Rattle.cs_model.specs.Tally.{lives_on, one_if_some};
 ghost use Rattle.cs_frame.specs.Formats.{place_of};
 ghost use Rattle.cs_index.specs.State.{IsSet, IsWhole, id_number, index_of, newest_first};
 
-use crate::counts::{count_living, living_after, one_if_living};
+use crate::counts::{MOST_EXTENTS, count_living, living_after, one_if_living, recount};
 use crate::entries::{Entries, entries_after, entries_from};
 use crate::live::{Cleared, LiveChunk, NONE_KNOWN, known_up_to, search, still_cleared};
 use crate::runs::{StoredRun, are_ids, count_after, count_names, find_in_runs};
@@ -17,7 +17,7 @@ use cs_frame::{Locator, Run, ShardId};
 use std::alloc::{AllocError, Global};
 use std::marker::Model;
 
-/// Which locators each shard has: a table in memory over at most four runs, and 24 in format 3.
+/// Which locators each shard has: a table in memory over the runs of its root, at most four, in format 3 at most 24.
 #[derive(Drop)]
 pub struct Index {
     /// The entries that no run has yet, by rising identifiers.
@@ -28,6 +28,8 @@ pub struct Index {
     pub(crate) named: usize,
     /// How many of them have locators.
     pub(crate) living: usize,
+    /// How many chunks live on each extent that a store can have.
+    pub(crate) on: Vec<u32>,
     /// How many may have one.
     pub(crate) limit: usize,
     /// So many more entries of the table have their place already.
@@ -45,27 +47,30 @@ impl Model for Index {
 
     ghost view = { λ x. state_of x.table.entries.items x.runs.items x.limit x.room };
 
-    ghost invariant = { λ x. IsHeld (state_of x.table.entries.items x.runs.items x.limit x.room) x.table.entries.items x.named x.living (vec_len x.table.entries) (vec_capacity x.table.entries) x.cleared };
+    ghost invariant = { λ x. IsHeld (state_of x.table.entries.items x.runs.items x.limit x.room) x.table.entries.items x.named x.living x.on.items (vec_len x.table.entries) (vec_capacity x.table.entries) x.cleared };
 }
 
 impl Index {
     /// The index of these runs, oldest first, with an empty table. `limit` is how many identifiers may have an entry:
     /// as many as one run in one extent can have.
     ///
-    /// 43 `NotAStore` where the runs name more. Asks for no memory. Seeks each entry among the older runs, and then reads all in order.
+    /// 43 `NotAStore` where the runs name more, then 9 `OutOfMemory`. Asks for the memory of a number for each extent that a store can
+    /// have. Seeks each entry among the older runs, and then reads all in order.
     pub fn load(alloc: Global, limit: usize, runs: Vec<StoredRun>) -> Result<Index, Refusal>
         requires few { length runs.items ≤ 24 }
         requires runs { AllByRecursion (λ run. IsRun (record { entries = run.entries })) runs.items }
+        requires limit { limit < 2 ^ 29 }
         ensures loaded { IfOk result (λ x. x ≡ record { table = []; runs = newest_first runs.items; limit = limit; room = 0 }) }
         ensures full { (result ≡ Err Refusal.NotAStore) ↔ (limit < names (entries_of (newest_first runs.items))) }
-        ensures refusals { IfErr result (λ r. r ≡ Refusal.NotAStore) }
+        ensures refusals { IfErr result (λ r. (r ≡ Refusal.NotAStore) ⊎ (r ≡ Refusal.OutOfMemory)) }
     {
         are_ids(&runs);
         let named = count_names(&runs);
         if limit < named {
             return Err(Refusal::NotAStore);
         }
-        let living = count_living(&[], &runs);
+        let mut on = vec![in alloc; 0; MOST_EXTENTS]?;
+        let living = count_living(&[], &runs, &mut on);
         Ok(Index {
             table: Run {
                 entries: Vec::new(alloc),
@@ -73,6 +78,7 @@ impl Index {
             runs,
             named,
             living,
+            on,
             limit,
             room: 0,
             cleared: NONE_KNOWN,
@@ -151,6 +157,14 @@ impl Index {
         self.runs.len()
     }
 
+    /// How many chunks live on an extent. It costs no search.
+    pub fn lives_on(&self, extent: usize) -> usize
+        requires { extent < 7680 }
+        ensures { result ≡ lives_on extent (index_of self.now) }
+    {
+        self.on[extent] as usize
+    }
+
     /// Whether all entries are in runs.
     pub fn is_table_empty(&self) -> bool
         ensures { IsTrue result ↔ (self.now.table ≡ []) }
@@ -200,7 +214,7 @@ impl Index {
     }
 
     /// Gives an identifier other locators in the table.
-    fn enter(&mut self, id: ShardId, locators: Vec<Locator>) -> Result<(), AllocError>
+    pub(crate) fn enter(&mut self, id: ShardId, locators: Vec<Locator>) -> Result<(), AllocError>
         requires short { length locators.items ≤ 8 }
         requires limit { lookup (id_number id) (index_of self.old) ≡ None → names (index_of self.old) < self.old.limit }
         ensures entered { OnOk result (IsSet self.old (id_number id) (map place_of locators.items) self.new) }
@@ -211,12 +225,18 @@ impl Index {
         let standing = self.standing(id);
         let lives = one_if_living(&locators);
         let cleared = still_cleared(self.cleared, id, &locators);
-        let left = put(&mut self.table.entries, self.room, id, locators)?;
-        self.room = left;
-        self.cleared = cleared;
-        self.named = count_after(self.named, standing.0);
-        self.living = living_after(self.living, standing.1, lives);
-        Ok(())
+        self.table.entries.reserve(1)?;
+        recount(&mut self.on, &self.table.entries, &self.runs, id, &locators);
+        match put(&mut self.table.entries, self.room.max(1), id, locators) {
+            Ok(left) => {
+                self.room = left;
+                self.cleared = cleared;
+                self.named = count_after(self.named, standing.0);
+                self.living = living_after(self.living, standing.1, lives);
+                Ok(())
+            }
+            Err(_) => unreachable!(),
+        }
     }
 
     /// Gives an identifier these locators, whatever it had before.

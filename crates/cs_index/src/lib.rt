@@ -1,24 +1,31 @@
-//! The index of a store: which locators each shard has, as a table in memory over runs on the device, at most four, and 24 in format 3.
+//! The index of a store: which locators each shard has, as a table in memory over the runs on the device: at most four, in
+//! format 3 at most 24.
 //!
 //! A later entry of an identifier wins over an earlier one: a newer run over an older one, the table over all runs.
 //! An entry without locators is a deletion, which hides what earlier runs have. An identifier is found by binary search;
 //! all are read in order, table and runs side by side.
 #![tactic(auto)]
 
+mod apart;
+mod behind;
+mod copies;
 mod counts;
 mod entries;
 mod indexes;
 mod laws;
 mod live;
 mod mergers;
+mod places;
 mod reach;
 mod runs;
+mod runs_apart;
 mod stages;
 mod stagings;
 mod tables;
 
+pub use copies::ChunkCopy;
 pub use entries::Entries;
 pub use indexes::Index;
-pub use laws::{stages_by_sizes, stages_without_sizes};
+pub use laws::stages_without_sizes;
 pub use live::LiveChunk;
 pub use runs::StoredRun;

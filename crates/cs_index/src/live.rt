@@ -1,7 +1,7 @@
 //! What lives on an extent.
-ghost use Rattle.std.specs.Prelude.{◌≡◌, ◌⊎◌, IfSome, MatchBool, MatchOption, None, map, option_map};
+ghost use Rattle.std.specs.Prelude.{◌≡◌, ◌⊎◌, ◌<◌, ◌↔◌, IfSome, IsTrue, MatchBool, MatchOption, None, map, option_map};
 ghost use Rattle.cs_frame.specs.Formats.{place_of};
-ghost use Rattle.cs_index.specs.Live.{IsFirstOn, NoneOn, NoneUpTo};
+ghost use Rattle.cs_index.specs.Live.{FirstAfter, IsFirstOn, IsFirstOnBehind, NoneAfter, NoneOn, NoneOnBehind, NoneUpTo};
 ghost use Rattle.cs_index.specs.State.{IsAfter, IsId, id_number};
 ghost use Rattle.cs_model.specs.Index.{FirstLive, NothingLive};
 
@@ -116,4 +116,49 @@ pub fn search(
         last = Some(id);
     }
     (None, last)
+}
+
+/// Of the chunks that live on the extent and belong to the shards behind this one, all where there is none, the one that comes first, by
+/// identifier and then by chunk. The entries are those behind it.
+pub fn search_behind(
+    entries: Entries<'_>,
+    after: Option<ShardId>,
+    extent: usize,
+) -> Option<LiveChunk>
+    requires { entries.after ≡ option_map id_number after }
+    ensures { MatchOption result (NoneAfter entries.entry.index (option_map id_number after) extent) (λ found. FirstAfter entries.entry.index (option_map id_number after) extent (id_number found.id) found.chunk (place_of found.place)) }
+{
+    is_id(after);
+    let mut read = entries;
+    while let Some((id, places)) = read.next_entry() {
+        let _bytes = id.bytes();
+        if let Some(chunk) = first_on(places, extent) {
+            return Some(LiveChunk {
+                id,
+                chunk,
+                place: places[chunk],
+            });
+        }
+    }
+    None
+}
+
+/// Whether a place of this number is on the extent and comes behind number `last`.
+fn is_on_behind(place: Locator, number: usize, last: usize, extent: usize) -> bool
+    ensures { IsTrue result ↔ ((last < number) × ((place_of place).extent ≡ extent)) }
+{
+    last < number && usize::from(place.extent) == extent
+}
+
+/// The first of these places behind number `last` that is on the extent, with its number.
+pub fn first_on_behind(places: &[Locator], last: usize, extent: usize) -> Option<(usize, Locator)>
+    ensures { MatchOption result (NoneOnBehind (map place_of places.now) last extent) (λ found. IsFirstOnBehind (map place_of places.now) last extent found.0 (place_of found.1)) }
+{
+    for k in 0..places.len() {
+        let place = places[k];
+        if is_on_behind(place, k, last, extent) {
+            return Some((k, place));
+        }
+    }
+    None
 }

@@ -1,6 +1,7 @@
 //! Runs of the index.
-ghost use Rattle.std.specs.Prelude.{◌≡◌, ◌+◌, ◌<◌, ◌≤◌, ◌^◌, ◌++◌, false, if◌then◌else◌, is_some, length, map, option_copied, option_map};
+ghost use Rattle.std.specs.Prelude.{◌≡◌, ◌+◌, ◌<◌, ◌≤◌, ◌^◌, ◌++◌, ◌||◌, false, if◌then◌else◌, is_some, length, map, option_copied, option_map};
 ghost use Rattle.std.specs.List.{AllByRecursion};
+ghost use Rattle.cs_model.specs.Apart.{any_run_on};
 ghost use Rattle.cs_model.specs.Index.{Ascending, entries_of, lookup, names};
 ghost use Rattle.cs_frame.specs.Formats.{place_of};
 ghost use Rattle.cs_index.specs.State.{IsId, IsStored, id_number, named_entry, newest_first};
@@ -97,4 +98,23 @@ pub fn are_ids(runs: &[StoredRun])
     for run in runs {
         are_entry_ids(&run.entries);
     }
+}
+
+/// Whether one of the runs lies on an extent.
+pub fn lies_on(runs: &[StoredRun], extent: usize) -> bool
+    ensures { result ≡ any_run_on (newest_first runs.now) extent }
+{
+    let mut found = false;
+    for k in 0..runs.len() {
+        let run = &runs[k];
+        found = either(usize::from(run.place.extent) == extent, found);
+    }
+    found
+}
+
+/// Whether one of two things is so.
+fn either(a: bool, b: bool) -> bool
+    ensures { result ≡ (a || b) }
+{
+    a || b
 }

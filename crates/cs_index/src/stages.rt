@@ -30,9 +30,9 @@ use std::mem::replace;
 
 /// What is merged with the table: so many of the newest runs, with their deletions or without them.
 #[derive(Clone, Copy, Debug)]
-struct Portion {
-    newest: usize,
-    without_deletions: bool,
+pub struct Portion {
+    pub newest: usize,
+    pub without_deletions: bool,
 }
 
 impl Index {
@@ -63,7 +63,7 @@ impl Index {
     }
 
     /// What a Stage merges.
-    fn newest_portion(&self, extents: &Extents) -> Portion
+    pub(crate) fn newest_portion(&self, extents: &Extents) -> Portion
         requires { self.now.limit ≡ (shape extents.now).most_names }
         ensures newest { result.newest ≡ stage_takes (shape extents.now) self.now }
         ensures deletions { result.without_deletions ≡ deletions_go (shape extents.now) self.now result.newest }
@@ -282,7 +282,7 @@ impl Index {
     }
 
     /// The table and so much more as one run. Takes memory for it, and time for these entries.
-    fn merged_newest(&self, alloc: Global, portion: Portion) -> Result<Run, AllocError>
+    pub(crate) fn merged_newest(&self, alloc: Global, portion: Portion) -> Result<Run, AllocError>
         requires { portion.newest ≤ length self.now.runs }
         ensures merged { IfOk result (λ run. IsRunOf portion.without_deletions (part self.now portion.newest) (map named_entry run.entries.items)) }
         ensures ids { IfOk result (λ run. AllByRecursion (λ entry. IsId entry.0) run.entries.items) }
@@ -382,8 +382,9 @@ impl Index {
         }
     }
 
-    /// Lets all entries go.
-    fn become_empty(&mut self, alloc: Global)
+    /// Lets all entries go, of which none lives.
+    pub(crate) fn become_empty(&mut self, alloc: Global)
+        requires { (id : ℕ) → live_at (index_of self.old) id ≡ [] }
         ensures { self.new ≡ record { table = []; runs = []; limit = self.old.limit; room = 0 } }
     {
         self.table = Run {
@@ -399,7 +400,7 @@ impl Index {
 
 /// How many identifiers are named once a run took the place of others: where it is without deletions it is the only one, and
 /// names them all, and else as many as before.
-fn named_after(named: usize, run: &Run, without_deletions: bool) -> usize
+pub fn named_after(named: usize, run: &Run, without_deletions: bool) -> usize
     ensures { result ≡ (if without_deletions then length run.now.entries.items else named) }
 {
     if without_deletions {

@@ -26,7 +26,7 @@ use cs_frame::{
 use std::alloc::{AllocError, Global};
 
 /// Whether the last number of a root is given.
-fn is_last_root(graph: &Graph) -> bool
+pub fn is_last_root(graph: &Graph) -> bool
     requires { root_family < length graph.now.staging.latest }
     ensures { IsTrue result ↔ IsRootWorn graph.now.staging }
 {
@@ -35,7 +35,7 @@ fn is_last_root(graph: &Graph) -> bool
 
 /// Stages the next version of the root, in this format, over runs whose frames begin at these places, oldest first. It needs all plain
 /// writes that were staged where those don't come first.
-fn stage_root(
+pub fn stage_root(
     alloc: Global,
     graph: &mut Graph,
     format: u8,
@@ -70,7 +70,7 @@ fn stage_root(
 }
 
 /// The pages that spell a run.
-fn frame_of(alloc: Global, run: &Run) -> Result<Vec<[u8; 4096]>, AllocError>
+pub fn frame_of(alloc: Global, run: &Run) -> Result<Vec<[u8; 4096]>, AllocError>
     requires run { IsRun run.now }
     requires most { run_bytes (length run.now.entries.items) < 2 ^ 32 }
     ensures frame { IfOk result (λ frame. (x : _) → frame.items ≡ run_frame x (map named_entry run.now.entries.items)) }

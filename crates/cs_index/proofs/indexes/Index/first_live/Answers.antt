@@ -39,6 +39,8 @@ invariant_of-self c =
       ids = was.ids;
       count = was.count;
       lives = was.lives;
+      counts = was.counts;
+      small = was.small;
       fits = was.fits;
       clear = subst (λ (es : List Entry). NoneUpTo es (option_map id_number c.search-found.result.1) c.args.extent) (index_is (goal.at.invariant_of-self c).After-entries_after-entries) c.search-found.ensures.none;
     }

@@ -3,8 +3,10 @@ use Rattle.std.specs.List.{AllByRecursion}
 use Rattle.cs_index.specs.declared.runs.StoredRun.{StoredRun}
 use Rattle.cs_model.specs.Index.{entries_of, names}
 use Rattle.cs_model.specs.Tally.{shards}
+use Rattle.cs_index.specs.Held.{AreCounts}
 use Rattle.cs_index.specs.State.{IsId, IsStored, index_of, named_entry, newest_first, state_of}
 use Rattle.cs_index.proofs.Living.{none_at_first}
+use Rattle.cs_index.proofs.Tallies.{counts_back}
 use Rattle.cs_index.proofs.Whole.{Entries, empty_whole, lengths_of, no_ids, stored_runs}
 use Rattle.cs_index.proofs.indexes.Index.load.Goals as goal
 use Rattle.cs_index.proofs.indexes.Index.load.Goals.{After-deref-2}
@@ -32,7 +34,7 @@ count_living-living-requires-clause-readable c = rw (c.deref-3.ensures.value) (r
 pub count_living-living-requires-clause-few : goal.count_living-living-requires-clause-few
 count_living-living-requires-clause-few c =
     let same = ap (λ (runs : List StoredRun). names (entries_of (newest_first runs))) (c.deref-2.ensures.value ∙ sym c.deref-3.ensures.value) in
-    omega (arith, c.count_names-named.ensures, same)
+    omega (arith, c.count_names-named.ensures, same, c.requires.limit, c.if-limit-named.false)
 
 pub invariant_of-result : goal.invariant_of-result
 invariant_of-result c =
@@ -42,9 +44,13 @@ invariant_of-result c =
       whole = all.0;
       ids = no_ids c.new.result.items c.new.ensures.items;
       count = all.1;
-      lives = c.count_living-living.ensures
+      lives = c.count_living-living.ensures.living
           ∙ ap (λ (runs : List StoredRun). shards (map named_entry [] ++ entries_of (newest_first runs))) c.deref-3.ensures.value
           ∙ ap (λ (xs : Entries). shards (map named_entry xs ++ entries_of (newest_first c.args.runs.items))) (sym c.new.ensures.items);
+      counts = counts_back c.in_ok-on.on.len c.count_living-living.new.on _ (index_of (state_of c.new.result.items c.args.runs.items c.args.limit 0)) (omega (arith, c.count_living-living.ensures.counts.0, c.in_ok-on.ensures.len))
+          (subst (λ (xs : Entries). AreCounts c.count_living-living.new.on (map named_entry xs ++ entries_of (newest_first c.args.runs.items))) (sym c.new.ensures.items)
+          (subst (λ (runs : List StoredRun). AreCounts c.count_living-living.new.on (map named_entry [] ++ entries_of (newest_first runs))) c.deref-3.ensures.value c.count_living-living.ensures.counts));
+      small = c.requires.limit;
       fits = omega (arith, c.new.ensures.len);
       clear = none_at_first (index_of (state_of c.new.result.items c.args.runs.items c.args.limit 0)) 0;
     }

@@ -8,6 +8,7 @@ use Rattle.cs_index.specs.Staged.{IsRootOver, WritesPart}
 use Rattle.cs_index.specs.State.{named_entry}
 use Rattle.cs_index.proofs.Exact.{exact_one, none_of, not_full, part_empty, part_none, part_one, part_writes, some_of, why_none, worn_root}
 use Rattle.cs_index.proofs.Parts.{goes_where_none}
+use Rattle.cs_index.proofs.Tallies.{none_lives}
 use Rattle.cs_index.proofs.indexes.Index.stage_newest.Goals as goal
 use Rattle.cs_index.proofs.indexes.Index.stage_newest.Goals.{Then-is_empty, Else-is_empty}
 
@@ -64,3 +65,8 @@ returns-clause-why c =
     (c.in_ok-run.ensures.merged, some_left (goal.at.returns-clause-why c).Else-is_empty)
     (λ es writes. part_writes c.args.portion.without_deletions c.args.self.now c.args.portion.newest (map named_entry c.in_ok-run.run'.entries.items) es c.in_ok-run.ensures.merged writes)
     c.stage_one.result c.stage_one.ensures.why
+
+pub become_empty-requires : goal.become_empty-requires
+become_empty-requires c =
+    let at = (goal.at.become_empty-requires c).Then-is_empty in
+    none_lives c.args.portion.without_deletions c.args.self.now c.args.portion.newest (map named_entry c.in_ok-run.run'.entries.items) (none_left at) (goes at) (c.requires.alone (goes at)) c.in_ok-run.ensures.merged

@@ -12,6 +12,7 @@ use Rattle.cs_index.proofs.Living.{none_at_first}
 use Rattle.cs_index.proofs.Parts.{few_left, newest_left, parted_live, parted_names, parted_state, parted_whole}
 use Rattle.cs_index.proofs.Shards.{shards_same}
 use Rattle.cs_index.proofs.Staging.{is_run}
+use Rattle.cs_index.proofs.Tallies.{counts_as}
 use Rattle.cs_index.proofs.Whole.{length-newest, no_ids}
 use Rattle.cs_index.proofs.indexes.Index.stage_one.Goals as goal
 use Rattle.cs_index.proofs.indexes.Index.stage_one.Goals.{After-named_after-named}
@@ -61,6 +62,11 @@ invariant_of-self-in-Ok c =
           ∙ sym (shards_same (index_of (state_of c.new.result.items c.push_reserved.new.self.items i.limit 0)) (index_of (state_of i.table.entries.items i.runs.items i.limit i.room))
           (parted_live i.table.entries.items c.new.result.items i.runs.items c.truncate.new.self.items c.push_reserved.new.self.items r n k (split at) c.push_reserved.ensures.items kept c.new.ensures.items
           i.limit i.room c.args.portion.without_deletions run alone));
+      counts = counts_as i.on.items (index_of (state_of i.table.entries.items i.runs.items i.limit i.room)) (index_of (state_of c.new.result.items c.push_reserved.new.self.items i.limit 0))
+          (parted_live i.table.entries.items c.new.result.items i.runs.items c.truncate.new.self.items c.push_reserved.new.self.items r n k (split at) c.push_reserved.ensures.items kept c.new.ensures.items
+          i.limit i.room c.args.portion.without_deletions run alone)
+          c.self.invariant.counts;
+      small = c.self.invariant.small;
       fits = omega (arith, c.new.ensures.len);
       clear = none_at_first (index_of (state_of c.new.result.items c.push_reserved.new.self.items i.limit 0)) 0;
     }

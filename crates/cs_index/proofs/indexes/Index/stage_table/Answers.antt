@@ -11,6 +11,7 @@ use Rattle.cs_frame.specs.Roots.{greatest_runs}
 use Rattle.cs_model.specs.Tally.{shards}
 use Rattle.cs_index.specs.contracts.indexes.Index.{the_view}
 use Rattle.cs_frame.specs.Formats.{place_of}
+use Rattle.cs_index.specs.Held.{AreCounts}
 use Rattle.cs_index.specs.Live.{IsClear}
 use Rattle.cs_index.specs.Staged.{IsRunStaged}
 use Rattle.cs_index.specs.State.{index_of, named_entry, newest_first, state_of}
@@ -83,6 +84,8 @@ invariant_of-self-in-Ok c =
       ids = no_ids c.replace-entries.new.dest.items (none_left at);
       count = c.self.invariant.count ∙ ap (λ (es : List Entry). names es) (sym (index_is at));
       lives = c.self.invariant.lives ∙ ap (λ (es : List Entry). shards es) (sym (index_is at));
+      counts = subst (λ (es : List Entry). AreCounts i.on.items es) (sym (index_is at)) c.self.invariant.counts;
+      small = c.self.invariant.small;
       fits = (let e : vec_len c.replace-entries.new.dest ≡ 0 = ap (λ (v : Vec (ShardId × Vec Locator Global) Global). vec_len v) c.replace-entries.ensures.after ∙ c.new.ensures.len in omega (arith, e));
       clear = subst (λ (es : List Entry). IsClear es i.cleared) (sym (index_is at)) c.self.invariant.clear;
     }

@@ -1,0 +1,87 @@
+use Rattle.std.proofs.Common.{◌≡◌, ◌+◌, ◌-◌, ◌<◌, ◌∙◌, ap, arith, length, map, subst, sym, take, drop, true, ℕ, List}
+use Rattle.cs_extent.specs.Purposes.{reason_of}
+use Rattle.cs_frame.specs.Formats.{place_of}
+use Rattle.cs_frame.proofs.GeometryLaws.{bounds}
+use Rattle.cs_frame.proofs.RootLaws.{most_runs}
+use Rattle.cs_frame.specs.Roots.{greatest_runs}
+use Rattle.cs_index.specs.declared.runs.StoredRun.{StoredRun}
+use Rattle.cs_model.specs.Element.{Run}
+use Rattle.cs_index.specs.Staged.{IsRunStagedBy}
+use Rattle.cs_index.specs.State.{index_of, named_entry, newest_first, state_of}
+use Rattle.cs_index.proofs.Living.{none_at_first}
+use Rattle.cs_index.proofs.Parts.{few_left, newest_left, parted_live, parted_names, parted_state, parted_whole}
+use Rattle.cs_index.proofs.Shards.{shards_same}
+use Rattle.cs_index.proofs.Staging.{is_run}
+use Rattle.cs_index.proofs.Tallies.{counts_as}
+use Rattle.cs_index.proofs.Whole.{length-newest, no_ids}
+use Rattle.cs_index.proofs.indexes.Index.stage_one_apart.Goals as goal
+use Rattle.cs_index.proofs.indexes.Index.stage_one_apart.Goals.{After-named_after-named}
+
+pub overflow_sub-left : goal.overflow_sub-left
+overflow_sub-left c =
+    let inside = rw (← c.self.view_is) at c.requires.inside in
+    omega (arith, inside, c.len.ensures, c.self.inside.runs.ok.0, length-newest c.self.inside.runs.items)
+
+-- so many runs stay and so many don't
+split : (c : After-named_after-named) → (c.len.result - c.args.chosen.portion.newest) + c.args.chosen.portion.newest ≡ length c.self.inside.runs.items
+split c =
+    let inside = rw (← c.self.view_is) at c.requires.inside in
+    omega (arith, inside, c.len.ensures, c.self.inside.runs.ok.0, length-newest c.self.inside.runs.items)
+
+pub stage_run_apart-requires-clause-run : goal.stage_run_apart-requires-clause-run
+stage_run_apart-requires-clause-run c =
+    is_run c.args.chosen.run c.args.extents.now.pages c.requires.ids c.requires.run.0 c.requires.short c.requires.some (bounds _ _ _ _ c.extent_count-extents.ensures.whole.geometry).most_pages (omega (arith, c.requires.few, c.requires.limit))
+
+pub stage_run_apart-requires-clause-few : goal.stage_run_apart-requires-clause-few
+stage_run_apart-requires-clause-few c =
+    let left = rw (← c.self.view_is) at c.requires.left in
+    let n : ℕ = c.len.result - c.args.chosen.portion.newest in
+    subst (λ (rs : List StoredRun). length (take n rs) < greatest_runs c.args.extents.now.format) (sym (c.deref.ensures.value ∙ c.in_ok-reserve.ensures.items))
+    (few_left c.self.inside.runs.items n c.args.chosen.portion.newest (split (goal.at.stage_run_apart-requires-clause-few c).After-named_after-named) (greatest_runs c.args.extents.now.format) left)
+
+pub invariant_of-self-in-Ok : goal.invariant_of-self-in-Ok
+invariant_of-self-in-Ok c =
+    let i = c.self.inside in
+    let at = (goal.at.invariant_of-self-in-Ok c).After-named_after-named in
+    let left = rw (← c.self.view_is) at c.requires.left in
+    let alone = rw (← c.self.view_is) at c.requires.alone in
+    let run = rw (← c.self.view_is) at c.requires.run in
+    let n : ℕ = c.len.result - c.args.chosen.portion.newest in
+    let k : ℕ = c.args.chosen.portion.newest in
+    let r : StoredRun = record { place = c.in-Ok.place; entries = c.args.chosen.run.entries } in
+    let kept : c.truncate.new.self.items ≡ take n i.runs.items = c.truncate.ensures.items ∙ ap (take n) c.in_ok-reserve.ensures.items in
+    record {
+      whole = parted_whole i.table.entries.items c.new.result.items i.runs.items c.truncate.new.self.items c.push_reserved.new.self.items r n k (split at) c.push_reserved.ensures.items kept c.new.ensures.items
+          i.limit i.room c.args.chosen.portion.without_deletions run alone c.requires.some c.requires.short (omega (arith, left, most_runs c.args.extents.now.format)) c.self.invariant.whole;
+      ids = no_ids c.new.result.items c.new.ensures.items;
+      count = parted_names i.table.entries.items c.new.result.items i.runs.items c.truncate.new.self.items c.push_reserved.new.self.items r n k (split at) c.push_reserved.ensures.items kept c.new.ensures.items
+          i.limit i.room c.args.chosen.portion.without_deletions run alone c.named_after-named.result i.named c.self.invariant.count c.named_after-named.ensures;
+      lives = c.self.invariant.lives
+          ∙ sym (shards_same (index_of (state_of c.new.result.items c.push_reserved.new.self.items i.limit 0)) (index_of (state_of i.table.entries.items i.runs.items i.limit i.room))
+          (parted_live i.table.entries.items c.new.result.items i.runs.items c.truncate.new.self.items c.push_reserved.new.self.items r n k (split at) c.push_reserved.ensures.items kept c.new.ensures.items
+          i.limit i.room c.args.chosen.portion.without_deletions run alone));
+      counts = counts_as i.on.items (index_of (state_of i.table.entries.items i.runs.items i.limit i.room)) (index_of (state_of c.new.result.items c.push_reserved.new.self.items i.limit 0))
+          (parted_live i.table.entries.items c.new.result.items i.runs.items c.truncate.new.self.items c.push_reserved.new.self.items r n k (split at) c.push_reserved.ensures.items kept c.new.ensures.items
+          i.limit i.room c.args.chosen.portion.without_deletions run alone)
+          c.self.invariant.counts;
+      small = c.self.invariant.small;
+      fits = omega (arith, c.new.ensures.len);
+      clear = none_at_first (index_of (state_of c.new.result.items c.push_reserved.new.self.items i.limit 0)) 0;
+    }
+
+pub returns-in-Ok-clause-staged : goal.returns-in-Ok-clause-staged
+returns-in-Ok-clause-staged c =
+    let i = c.self.inside in
+    let at = (goal.at.returns-in-Ok-clause-staged c).After-named_after-named in
+    let n : ℕ = c.len.result - c.args.chosen.portion.newest in
+    let k : ℕ = c.args.chosen.portion.newest in
+    let r : StoredRun = record { place = c.in-Ok.place; entries = c.args.chosen.run.entries } in
+    let kept : c.truncate.new.self.items ≡ take n i.runs.items = c.truncate.ensures.items ∙ ap (take n) c.in_ok-reserve.ensures.items in
+    let older : newest_first (take n c.deref.result.now) ≡ drop k (newest_first i.runs.items)
+    = ap (λ (rs : List StoredRun). newest_first (take n rs)) (c.deref.ensures.value ∙ c.in_ok-reserve.ensures.items) ∙ newest_left i.runs.items n k (split at) in
+    rw (← c.self.view_is) (
+      place_of c.in-Ok.place,
+      subst (λ (rs : List Run). IsRunStagedBy true c.args.extents.now c.args.graph.now (reason_of c.args.chosen.purpose) (map named_entry c.args.chosen.run.entries.items) rs (place_of c.in-Ok.place) c.in-Ok.version c.args.commands c.stage_run_apart.new.extents c.stage_run_apart.new.graph)
+          older c.in-Ok.ensures.staged,
+      parted_state i.table.entries.items c.new.result.items i.runs.items c.truncate.new.self.items c.push_reserved.new.self.items r n k (split at) c.push_reserved.ensures.items kept c.new.ensures.items i.limit,
+    )
