@@ -12,13 +12,13 @@ use Rattle.cs_chunk.specs.Newest.{AreNewest}
 use Rattle.cs_chunk.specs.Stays.{IsBelow}
 use Rattle.cs_deps.specs.State.{IsWhole, State as Graph}
 use Rattle.cs_disk.specs.Disk.{Image}
-use Rattle.cs_extent.proofs.Fitting.{placed_inside}
-use Rattle.cs_extent.specs.Appended.{IsAppended}
+use Rattle.cs_extent.specs.Appended.{IsAppendedBy}
 use Rattle.cs_extent.specs.State.{IsWhole as IsWholeExtents, State as ExtentsState, extents_of, shape}
 use Rattle.cs_frame.specs.declared.frames.FrameKind.TheVariants.{Chunk}
 use Rattle.cs_frame.specs.declared.locators.Locator.{Locator}
 use Rattle.cs_frame.specs.Formats.{as_locator, formats_of, place_of}
 use Rattle.cs_index.specs.State.{State, index_of}
+use Rattle.cs_model.proofs.Places.{goes_inside}
 use Rattle.cs_model.specs.Element.{Locator as Place}
 use Rattle.cs_model.specs.Extents.{Extents, ForMove}
 use Rattle.cs_model.specs.Formats.{ChunkFrame, Stand}
@@ -27,7 +27,7 @@ use Rattle.cs_model.specs.Lists.{nth, replaced}
 use Rattle.cs_reclaim.specs.Keeps.{AreBelow, places_at}
 use Rattle.cs_reclaim.specs.Moves.{IsMoved, chunk_frame}
 
-module _ (x y : ExtentsState) (g h : Graph) (frame : List (List ℕ)) (to : Locator) (image : Image) (view now : ℕ → List ℕ) (whole : IsWholeExtents x) (a : IsAppended x g ForMove frame to y h)
+module _ {apart_by : Bool} (x y : ExtentsState) (g h : Graph) (frame : List (List ℕ)) (to : Locator) (image : Image) (view now : ℕ → List ℕ) (whole : IsWholeExtents x) (a : IsAppendedBy apart_by x g ForMove frame to y h)
     (kept : IsWhole h) (before : AreNewest g image view) (after : AreNewest h image now) where
   -- this chunk is at a place, as a view has it, and below the pointer
   abbrev Was : Locator → List ℕ → Type 0
@@ -36,7 +36,7 @@ module _ (x y : ExtentsState) (g h : Graph) (frame : List (List ℕ)) (to : Loca
   abbrev Is : Locator → List ℕ → Type 0
   Is l c = IsFrameAt (shape x) now ChunkFrame l c × IsBelow (extents_of y) l (chunk_frame x c)
 
-  stays : (l : Locator) (c : List ℕ) → Was l c → Is l c
+  pub stays : (l : Locator) (c : List ℕ) → Was l c → Is l c
   stays l c was =
       let s = stays_appended x y g h ForMove frame (chunk_frame x c) to l image view now whole a kept before after was.1 was.0.1 in
       ((was.0.0, s.0), s.1)
@@ -46,16 +46,16 @@ module _ (x y : ExtentsState) (g h : Graph) (frame : List (List ℕ)) (to : Loca
   Stands f = Stand (shape x) (formats_of (shape x)) now to.extent to.page f
 
   -- what was appended is there
-  begins : (c : List ℕ) → frame ≡ chunk_frame x c → Is to c
+  pub begins : (c : List ℕ) → frame ≡ chunk_frame x c → Is to c
   begins c is = subst (λ (f : List (List ℕ)). ((to.page + length f ≤ x.pages) × Stands f) × IsBelow (extents_of y) to f) is (
-    (omega (arith, (placed_inside (shape x) (extents_of x) ForMove (length frame) to.extent a.placed).1, ap (λ (l : Locator). l.page) a.place), stand),
+    (omega (arith, (goes_inside (shape x) apart_by (extents_of x) ForMove (length frame) to.extent a.placed).1, ap (λ (l : Locator). l.page) a.place), stand),
     (ap (λ (l : Locator). l.generation) a.place ∙ sym (ap (λ (z : Extents). z.generation to.extent) a.extents), (frame_begins x g ForMove frame to y h a (has_writes h kept)).given),
   )
     where
       stand : Stands frame
       stand = stand_of (shape x) (formats_of (shape x)) now to.extent to.page frame (λ i lt. reads_newest h image now ((shape x).address to.extent (to.page + i)) (get_or frame i []) after (newest_begins x g ForMove frame to y h a (has_writes h kept) i lt))
 
-  all_stay : (ls : List Place) (cs : List (List ℕ)) → AreChunksAt (shape x) view (map as_locator ls) cs → AreBelow (shape x) (extents_of x) (map as_locator ls) cs
+  pub all_stay : (ls : List Place) (cs : List (List ℕ)) → AreChunksAt (shape x) view (map as_locator ls) cs → AreBelow (shape x) (extents_of x) (map as_locator ls) cs
       → AreChunksAt (shape x) now (map as_locator ls) cs × AreBelow (shape x) (extents_of y) (map as_locator ls) cs
   all_stay [] [] at below = (tt, tt)
   all_stay [] (c ∷ cs) at below = absurd at

@@ -1,5 +1,5 @@
 -- A chunk that is moved, and why it isn't.
-use Rattle.std.proofs.Common.{◌≡◌, ◌⊎◌, ◌↔◌, refl, sym, inl, inr, ⊎_elim, ℕ, ◌+◌, ◌^◌, ◌<◌, ◌≤◌, List, Option, None, Some, Result, Ok, Err, IfErr, IfOk, OnOk, length, ap, subst, arith}
+use Rattle.std.proofs.Common.{◌≡◌, ◌⊎◌, ◌↔◌, refl, sym, inl, inr, ⊎_elim, ℕ, ◌+◌, ◌^◌, ◌<◌, ◌≤◌, Bool, List, Option, None, Some, Result, Ok, Err, IfErr, IfOk, OnOk, length, ap, subst, arith}
 use Rattle.std.proofs.lemmas.Option.{same_Some}
 use Rattle.cs_chunk.proofs.Chunkings.{length-spelled}
 use Rattle.cs_chunk.specs.Reads.{IsCaused, IsReadRefusal}
@@ -8,8 +8,8 @@ use Rattle.cs_deps.specs.declared.refusals.Refusal.TheVariants.{DeviceFault, Ful
 use Rattle.cs_deps.specs.Staging.{Staging}
 use Rattle.cs_deps.specs.State.{State as GraphState}
 use Rattle.cs_extent.specs.Appended.{IsAppended}
-use Rattle.cs_extent.specs.State.{State as ExtentsState, extents_of, shape}
-use Rattle.cs_extent.specs.Worn.{IsFrameWorn}
+use Rattle.cs_extent.specs.State.{State as ExtentsState}
+use Rattle.cs_extent.specs.Worn.{IsFrameWornBy}
 use Rattle.cs_frame.specs.declared.faults.FormatFault.{FormatFault}
 use Rattle.cs_frame.specs.declared.identifiers.ShardId.{ShardId}
 use Rattle.cs_frame.specs.declared.locators.Locator.{Locator}
@@ -18,11 +18,11 @@ use Rattle.cs_frame.specs.Frames.{spelled_frame}
 use Rattle.cs_index.specs.Staged.{IsExact, IsWhy}
 use Rattle.cs_index.specs.State.{IsSet, State, id_number, index_of}
 use Rattle.cs_model.specs.Element.{Entry}
-use Rattle.cs_model.specs.Extents.{ForMove, NoPlace}
+use Rattle.cs_model.specs.Extents.{ForMove}
 use Rattle.cs_model.specs.Index.{FirstLive, live_at}
 use Rattle.cs_model.specs.Lists.{replaced}
 use Rattle.cs_index.specs.declared.live.LiveChunk.{LiveChunk}
-use Rattle.cs_reclaim.specs.Moves.{AnswersMove, AnswersPlace, IsMoveFull, IsMoveWorn, IsMoved, chunk_frame}
+use Rattle.cs_reclaim.specs.Moves.{AnswersMove, AnswersPlaceBy, IsMoveFullBy, IsMoveWornBy, IsMoved, NowhereBy, chunk_frame}
 
 -- what lies in an extent is short
 pub small_payload : (page pages : ℕ) (payload : List ℕ) → pages ≤ 65535 → page + length (spelled_frame 0 payload) ≤ pages → length payload < 2 ^ 32
@@ -34,28 +34,28 @@ on_ok (Err e) A B to a = tt
 
 -- ---- where a frame goes
 
-module _ (x : ExtentsState) (s : Staging) where
+module _ (apart : Bool) (x : ExtentsState) (s : Staging) where
   abbrev No : List (List ℕ) → Type 0
-  No frame = NoPlace (shape x) (extents_of x) ForMove (length frame)
+  No frame = NowhereBy apart x (length frame)
 
   abbrev Worn : List (List ℕ) → Type 0
-  Worn frame = IsFrameWorn x ForMove s (length frame)
+  Worn frame = IsFrameWornBy apart x ForMove s (length frame)
 
-  place_of_exact : {T : Type 0} (r : Result T Refusal) (payload : List ℕ) → IsExact r (No (chunk_frame x payload)) (Worn (chunk_frame x payload)) → AnswersPlace x s payload r
+  place_of_exact : {T : Type 0} (r : Result T Refusal) (payload : List ℕ) → IsExact r (No (chunk_frame x payload)) (Worn (chunk_frame x payload)) → AnswersPlaceBy apart x s payload r
   place_of_exact (Ok t) payload exact = exact
   place_of_exact (Err r) payload exact = inr exact
 
-  pub exact_place : {T : Type 0} (r : Result T Refusal) (frame : List (List ℕ)) (payload : List ℕ) → frame ≡ chunk_frame x payload → IsExact r (No frame) (Worn frame) → AnswersPlace x s payload r
+  pub exact_place : {T : Type 0} (r : Result T Refusal) (frame : List (List ℕ)) (payload : List ℕ) → frame ≡ chunk_frame x payload → IsExact r (No frame) (Worn frame) → AnswersPlaceBy apart x s payload r
   exact_place r frame payload is exact = place_of_exact r payload (subst (λ (f : List (List ℕ)). IsExact r (No f) (Worn f)) is exact)
 
   -- what there is no place or no number for is the frame of a payload, whatever was read
   pub full_move : {T : Type 0} (r : Result T Refusal) (frame : List (List ℕ)) (payload : List ℕ) → frame ≡ chunk_frame x payload → length (chunk_frame x payload) ≤ x.pages
-      → IsExact r (No frame) (Worn frame) → IfErr r (λ e. e ≡ Full → IsMoveFull x)
+      → IsExact r (No frame) (Worn frame) → IfErr r (λ e. e ≡ Full → IsMoveFullBy apart x)
   full_move (Ok t) frame payload is fits exact = tt
   full_move (Err e) frame payload is fits exact = λ same. (payload, fits, subst No is (subst (λ f. IsWhy f (No frame) (Worn frame)) same exact))
 
   pub worn_move : {T : Type 0} (r : Result T Refusal) (frame : List (List ℕ)) (payload : List ℕ) → frame ≡ chunk_frame x payload → length (chunk_frame x payload) ≤ x.pages
-      → IsExact r (No frame) (Worn frame) → IfErr r (λ e. e ≡ WornOut → IsMoveWorn x s)
+      → IsExact r (No frame) (Worn frame) → IfErr r (λ e. e ≡ WornOut → IsMoveWornBy apart x s)
   worn_move (Ok t) frame payload is fits exact = tt
   worn_move (Err e) frame payload is fits exact = λ same.
       let why = subst (λ f. IsWhy f (No frame) (Worn frame)) same exact in (payload, fits, subst Worn is why.1)
@@ -124,6 +124,12 @@ module _ (Placed : ℕ → Type 0) (Worn : Type 0) (has_place : Worn → (e : �
       (λ (is : f ≡ OutOfMemory). subst (λ g. IsWhy g Nowhere Worn) (sym is) tt)
       rest)
       refusals
+
+-- the same, where what was given says where
+pub append_why_of : {T : Type 0} (Placed : ℕ → Type 0) (Worn : Type 0) → (Worn → (e : ℕ) × Placed e) → (r : Result T Refusal) (place : T → ℕ) (Given : T → Type 0) → ((t : T) → Given t → Placed (place t))
+    → (r ≡ Err Full) ↔ ((e : ℕ) → Placed e → ⊥) → (r ≡ Err WornOut) ↔ Worn → IfErr r (λ f. (f ≡ Full) ⊎ (f ≡ WornOut) ⊎ (f ≡ OutOfMemory)) → IfOk r Given → IsExact r ((e : ℕ) → Placed e → ⊥) Worn
+append_why_of Placed Worn has_place (Ok t) place Given there full worn refusals given = append_why Placed Worn has_place (Ok t) place full worn refusals (there t given)
+append_why_of Placed Worn has_place (Err f) place Given there full worn refusals given = append_why Placed Worn has_place (Err f) place full worn refusals tt
 
 module _ (No Worn : Type 0) where
   why_refusal : (f : Refusal) → IsWhy f No Worn → (f ≡ Full) ⊎ (f ≡ WornOut) ⊎ (f ≡ OutOfMemory)

@@ -74,13 +74,13 @@ module _ (format : ℕ) (first : Bool) (b h : Graph) (v commands : ℕ) (runs : 
       let same : u.0 ≡ w = same_Some u.0 w (sym (kept_write n u.0 u.1) ∙ is) in
       u.1 ∙ ap (λ z. Some z) same
 
-  has_before : HasWrites b
+  pub has_before : HasWrites b
   has_before = record {
     in_order = λ j k m n d e first second lt. has.in_order j k m n d e (at_front j (Plain m, d) first) (at_front k (Plain n, e) second) lt;
     writes = λ n waits. let w = has.writes n (waits_then n waits) in (w.0, kept_write n w.0 w.1);
   }
 
-  under_root : (image : Image) (view : ℕ → List ℕ) → AreNewest h image view → AreNewest b image view
+  pub under_root : (image : Image) (view : ℕ → List ℕ) → AreNewest h image view → AreNewest b image view
   under_root image view are p = ⊎_elim
       (λ (n : IsNewestOn h p (view p)). inl (record {
         number = n.number;

@@ -1,4 +1,6 @@
+pub mod Copied
 pub mod Keeps
 pub mod Moves
 pub mod Retired
+pub mod Rooted
 pub mod Sweeps

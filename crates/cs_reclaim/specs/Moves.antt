@@ -1,5 +1,5 @@
 -- What moving a chunk does, and why it is refused.
-use Rattle.std.specs.Prelude.{◌≡◌, ◌⊎◌, ◌≤◌, ℕ, List, Option, None, Result, MatchResult, length}
+use Rattle.std.specs.Prelude.{◌≡◌, ◌⊎◌, ◌≤◌, ℕ, Bool, false, List, Option, None, Result, MatchResult, length}
 use Rattle.cs_chunk.specs.Reads.{IsNoAnswer, IsOfFault}
 use Rattle.cs_deps.specs.declared.refusals.Refusal.{Refusal}
 use Rattle.cs_deps.specs.declared.refusals.Refusal.TheVariants.{Full, WornOut}
@@ -7,14 +7,14 @@ use Rattle.cs_deps.specs.Staging.{Staging}
 use Rattle.cs_deps.specs.State.{State as GraphState}
 use Rattle.cs_extent.specs.Appended.{IsAppended}
 use Rattle.cs_extent.specs.State.{State as ExtentsState, extents_of, shape}
-use Rattle.cs_extent.specs.Worn.{IsFrameWorn}
+use Rattle.cs_extent.specs.Worn.{IsFrameWornBy}
 use Rattle.cs_frame.specs.declared.faults.FormatFault.{FormatFault}
 use Rattle.cs_frame.specs.declared.locators.Locator.{Locator}
 use Rattle.cs_frame.specs.Formats.{formats_of, place_of}
 use Rattle.cs_index.specs.Staged.{IsWhy}
 use Rattle.cs_index.specs.State.{IsSet, State, index_of}
 use Rattle.cs_model.specs.Element.{Locator as Place}
-use Rattle.cs_model.specs.Extents.{ForMove, NoPlace}
+use Rattle.cs_model.specs.Extents.{ForMove, Goes}
 use Rattle.cs_model.specs.Formats.{ChunkFrame}
 use Rattle.cs_model.specs.Index.{FirstLive, live_at}
 use Rattle.cs_model.specs.Lists.{replaced}
@@ -38,17 +38,30 @@ abbrev pub AnswersMove : {T : Type 0} → Option FormatFault → Result T Refusa
 AnswersMove found result = MatchResult result (λ _. found ≡ None)
     (λ r. IsNoAnswer r ⊎ IsOfFault found r ⊎ ((found ≡ None) × ((r ≡ Full) ⊎ (r ≡ WornOut))))
 
+-- no extent takes a frame of so many pages for a move, where chunks and runs lie apart or not
+abbrev pub NowhereBy : (apart : Bool) → ExtentsState → (pages : ℕ) → Type 0
+NowhereBy apart x pages = (e : ℕ) → Goes (shape x) apart (extents_of x) ForMove pages e → ⊥
+
 -- no extent takes the frame of some payload, for whose pages an extent has enough
+abbrev pub IsMoveFullBy : (apart : Bool) → ExtentsState → Type 0
+IsMoveFullBy apart x = (payload : List ℕ) × (length (chunk_frame x payload) ≤ x.pages) × NowhereBy apart x (length (chunk_frame x payload))
+
 abbrev pub IsMoveFull : ExtentsState → Type 0
-IsMoveFull x = (payload : List ℕ) × (length (chunk_frame x payload) ≤ x.pages) × NoPlace (shape x) (extents_of x) ForMove (length (chunk_frame x payload))
+IsMoveFull x = IsMoveFullBy false x
 
 -- an extent takes the frame of some payload, and a number would pass its greatest
+abbrev pub IsMoveWornBy : (apart : Bool) → ExtentsState → Staging → Type 0
+IsMoveWornBy apart x s = (payload : List ℕ) × (length (chunk_frame x payload) ≤ x.pages) × IsFrameWornBy apart x ForMove s (length (chunk_frame x payload))
+
 abbrev pub IsMoveWorn : ExtentsState → Staging → Type 0
-IsMoveWorn x s = (payload : List ℕ) × (length (chunk_frame x payload) ≤ x.pages) × IsFrameWorn x ForMove s (length (chunk_frame x payload))
+IsMoveWorn x s = IsMoveWornBy false x s
 
 -- a chunk of this payload is moved exactly where there is a place and there are numbers for its frame, unless the device
 -- or memory refuses
+abbrev pub AnswersPlaceBy : {T : Type 0} → (apart : Bool) → ExtentsState → Staging → (payload : List ℕ) → Result T Refusal → Type 0
+AnswersPlaceBy apart x s payload result =
+    MatchResult result (λ _. (NowhereBy apart x (length (chunk_frame x payload)) → ⊥) × (IsFrameWornBy apart x ForMove s (length (chunk_frame x payload)) → ⊥))
+    (λ r. IsNoAnswer r ⊎ IsWhy r (NowhereBy apart x (length (chunk_frame x payload))) (IsFrameWornBy apart x ForMove s (length (chunk_frame x payload))))
+
 abbrev pub AnswersPlace : {T : Type 0} → ExtentsState → Staging → (payload : List ℕ) → Result T Refusal → Type 0
-AnswersPlace x s payload result =
-    MatchResult result (λ _. (NoPlace (shape x) (extents_of x) ForMove (length (chunk_frame x payload)) → ⊥) × (IsFrameWorn x ForMove s (length (chunk_frame x payload)) → ⊥))
-    (λ r. IsNoAnswer r ⊎ IsWhy r (NoPlace (shape x) (extents_of x) ForMove (length (chunk_frame x payload))) (IsFrameWorn x ForMove s (length (chunk_frame x payload))))
+AnswersPlace x s payload result = AnswersPlaceBy false x s payload result

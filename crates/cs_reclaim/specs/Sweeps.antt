@@ -1,5 +1,5 @@
 -- Sweeps: which extents may be swept, and what a sweep does to them.
-use Rattle.std.specs.Prelude.{◌≡◌, ◌⊎◌, ◌≤◌, ◌<◌, ℕ, true, Some}
+use Rattle.std.specs.Prelude.{◌≡◌, ◌⊎◌, ◌≤◌, ◌<◌, ℕ, true, false, Some}
 use Rattle.cs_model.specs.Device.{Shape}
 use Rattle.cs_model.specs.Extents.{Extents}
 
@@ -13,3 +13,10 @@ pub record IsSwept (S : Shape) (x : Extents) (e : ℕ) : Type 0 where
   pub marked : x.swept e ≡ true
   pub closed : ¬ (x.open_extent ≡ Some e)
   pub written : 0 < x.pointer e
+
+-- where chunks and runs lie apart, an extent that is being swept: it is there and marked, and chunks lie on it
+pub record IsSweptApart (S : Shape) (x : Extents) (e : ℕ) : Type 0 where
+  pub inside : e < S.extents
+  pub marked : x.swept e ≡ true
+  pub written : 0 < x.pointer e
+  pub of_chunks : x.of_runs e ≡ false

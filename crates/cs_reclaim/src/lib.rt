@@ -2,10 +2,19 @@
 //!
 //! The map from identifiers to bytes stays as it is through every call. The merged run and the root that no longer name
 //! the extent are staged before it is emptied, so that what is written there later waits for them.
+//!
+//! Where chunks and runs lie apart a sweep copies what lives on its extent, and the chunks count where they lay until it is retired.
 #![tactic(auto)]
 
+mod apart;
+mod blanks;
+mod copies;
 mod laws;
+mod roots;
 mod sweeps;
 
+pub use apart::{a_sweep_apart_keeps_every_shard, a_swept_extent_stays_apart, copies_stay};
+pub use blanks::{free_blank, is_any_swept};
+pub use copies::Copies;
 pub use laws::{a_sweep_keeps_every_shard, a_swept_extent_stays};
 pub use sweeps::{Sweep, is_sweepable};

@@ -1,4 +1,4 @@
-use Rattle.std.proofs.Common.{◌≡◌, ◌∙◌, ◌<◌, ◌^◌, inl, inr, ⊎_elim, List, ℕ, ap, arith, length, subst}
+use Rattle.std.proofs.Common.{◌≡◌, ◌∙◌, ◌<◌, ◌^◌, false, inl, inr, ⊎_elim, List, ℕ, ap, arith, length, subst}
 use Rattle.cs_chunk.specs.Reads.{IsNoAnswer, IsOfFault, fault_at}
 use Rattle.cs_extent.specs.Appended.{IsAppended}
 use Rattle.cs_extent.specs.State.{shape}
@@ -50,17 +50,17 @@ returns-in-Ok-encode_frame-clause-moved g c =
 
 pub returns-in-Ok-encode_frame-clause-full : goal.returns-in-Ok-encode_frame-clause-full
 returns-in-Ok-encode_frame-clause-full g c =
-    full_move c.args.extents.now c.args.graph.now.staging c.move_to.result c.deref-in-Ok-encode_frame.result.now c.in-Ok.payload.items
+    full_move false c.args.extents.now c.args.graph.now.staging c.move_to.result c.deref-in-Ok-encode_frame.result.now c.in-Ok.payload.items
     (frame_is g (goal.at.returns-in-Ok-encode_frame-clause-full g c).After-drop-payload) (omega (arith, c.in-Ok.ensures.size)) c.move_to.ensures.why
 
 pub returns-in-Ok-encode_frame-clause-worn : goal.returns-in-Ok-encode_frame-clause-worn
 returns-in-Ok-encode_frame-clause-worn g c =
-    worn_move c.args.extents.now c.args.graph.now.staging c.move_to.result c.deref-in-Ok-encode_frame.result.now c.in-Ok.payload.items
+    worn_move false c.args.extents.now c.args.graph.now.staging c.move_to.result c.deref-in-Ok-encode_frame.result.now c.in-Ok.payload.items
     (frame_is g (goal.at.returns-in-Ok-encode_frame-clause-worn g c).After-drop-payload) (omega (arith, c.in-Ok.ensures.size)) c.move_to.ensures.why
 
 pub returns-in-Ok-encode_frame-clause-why : goal.returns-in-Ok-encode_frame-clause-why
 returns-in-Ok-encode_frame-clause-why g c = λ h view payload are there.
-    exact_place c.args.extents.now c.args.graph.now.staging c.move_to.result c.deref-in-Ok-encode_frame.result.now payload
+    exact_place false c.args.extents.now c.args.graph.now.staging c.move_to.result c.deref-in-Ok-encode_frame.result.now payload
     (frame_is g (goal.at.returns-in-Ok-encode_frame-clause-why g c).After-drop-payload ∙ ap (chunk_frame c.args.extents.now) (c.in-Ok.ensures.read h view payload are there)) c.move_to.ensures.why
 
 pub returns-in-Ok-encode_frame-clause-damaged : goal.returns-in-Ok-encode_frame-clause-damaged

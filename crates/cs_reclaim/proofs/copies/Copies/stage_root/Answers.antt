@@ -1,0 +1,32 @@
+use Rattle.std.proofs.Common.{◌∙◌, ap, arith}
+use Rattle.std.specs.Prelude.{slice_index}
+use Rattle.cs_extent.specs.Frames.{root_family}
+use Rattle.cs_model.specs.Device.{Shape}
+use Rattle.cs_reclaim.proofs.Resting.{staged_limit, staged_root, staged_shape, staged_small}
+use Rattle.cs_reclaim.proofs.copies.Copies.stage_root.Goals as goal
+
+pub returns-clause-staged : goal.returns-clause-staged
+returns-clause-staged c = record {
+  mid = c.stage_apart.new.extents;
+  staged = c.in-Ok.ensures.staged;
+  same_shape = staged_shape c.args.index.now c.stage_apart.new.self c.args.extents.now c.stage_apart.new.extents c.args.graph.now c.stage_apart.new.graph c.in-Ok.root c.args.commands c.in-Ok.ensures.staged;
+  whole = c.end_root.ensures.whole;
+  rooted = c.end_root.ensures.rooted;
+}
+
+pub returns-clause-shape : goal.returns-clause-shape
+returns-clause-shape c =
+    c.end_root.ensures.rooted.same_shape ∙ staged_shape c.args.index.now c.stage_apart.new.self c.args.extents.now c.stage_apart.new.extents c.args.graph.now c.stage_apart.new.graph c.in-Ok.root c.args.commands c.in-Ok.ensures.staged
+
+pub returns-clause-limit : goal.returns-clause-limit
+returns-clause-limit c = staged_limit c.args.index.now c.stage_apart.new.self c.args.extents.now c.stage_apart.new.extents c.args.graph.now c.stage_apart.new.graph c.in-Ok.root c.args.commands c.in-Ok.ensures.staged
+
+pub returns-clause-resets : goal.returns-clause-resets
+returns-clause-resets c =
+    let same = staged_shape c.args.index.now c.stage_apart.new.self c.args.extents.now c.stage_apart.new.extents c.args.graph.now c.stage_apart.new.graph c.in-Ok.root c.args.commands c.in-Ok.ensures.staged in
+    let root = staged_root c.args.index.now c.stage_apart.new.self c.args.extents.now c.stage_apart.new.extents c.args.graph.now c.stage_apart.new.graph c.in-Ok.root c.args.commands c.in-Ok.ensures.staged
+    (omega (arith, c.in-Ok.ensures.families, c.requires.families, c.end_root.ensures.whole.geometry.fewest_sections, ap (λ (S : Shape). S.sections) same)) in
+    c.end_root.ensures.resets (slice_index c.stage_apart.new.graph.staging.latest root_family) c.in-Ok.ensures.resets (omega (arith, root))
+
+pub end_root-requires : goal.end_root-requires
+end_root-requires c = staged_small c.args.index.now c.stage_apart.new.self c.args.extents.now c.stage_apart.new.extents c.args.graph.now c.stage_apart.new.graph c.in-Ok.root c.args.commands c.in-Ok.ensures.staged
