@@ -68,11 +68,18 @@ all_true test [] all x none = absurd none
 all_true test (y ∷ xs) all x (inl is) = ap test is ∙ (and_parts (test y) (list_all test xs) all).0
 all_true test (y ∷ xs) all x (inr has) = all_true test xs (and_parts (test y) (list_all test xs) all).1 x has
 
+place_fits : (l : Place) → fits_locator l ≡ true → FitsLocator (as_locator l)
+place_fits l fits =
+    let both = and_parts _ (nat_lt l.generation (2 ^ 32)) fits in
+    let place = and_parts (nat_lt l.extent (2 ^ 16)) (nat_lt l.page (2 ^ 16)) both.0 in
+    record { extent = ltb-true _ _ place.0; page = ltb-true _ _ place.1; generation = ltb-true _ _ both.1 }
+
 pub record FitsTests (entries : List Entry) : Type 0 where
   pub some : 1 ≤ length entries
   pub most : length entries < 2 ^ 32
   pub ascending : Ascending entries
   pub short : (e : Entry) → e ∈ entries → length e.locators ≤ 8
+  pub fit : (e : Entry) → e ∈ entries → (l : Place) → l ∈ e.locators → FitsLocator (as_locator l)
 
 pub tests_of : (entries : List Entry) → fits_run entries ≡ true → FitsTests entries
 tests_of entries fits =
@@ -84,6 +91,8 @@ tests_of entries fits =
       most = ltb-true _ _ c.1;
       ascending = rises_ascending entries a.1;
       short = λ e has. leb-true _ _ (and_parts (nat_le (length e.locators) 8) (list_all fits_locator e.locators) (all_true fits_entry entries b.1 e has)).0;
+      fit = λ e has l at. place_fits l (all_true fits_locator e.locators
+          (and_parts (nat_le (length e.locators) 8) (list_all fits_locator e.locators) (all_true fits_entry entries b.1 e has)).1 l at);
     }
 
 -- an identifier whose first byte is one is a number of 128 bits
@@ -132,13 +141,12 @@ entries_fit (x ∷ xs) ids short fit = (
 )
 
 -- entries of the machine that fit a run have a spelling, where the bytes of the payload are bytes
-pub named_fit : (xs : List Entry) → FitsTests xs → IsBytes (flat_map spelled_entry (map as_entry xs))
-    → ((e : Entry) → e ∈ xs → (l : Place) → l ∈ e.locators → FitsLocator (as_locator l)) → FitsRun (map as_entry xs)
-named_fit xs tests are fit =
+pub named_fit : (xs : List Entry) → FitsTests xs → IsBytes (flat_map spelled_entry (map as_entry xs)) → FitsRun (map as_entry xs)
+named_fit xs tests are =
     let same : length (map as_entry xs) ≡ length xs = length-map xs as_entry in
     record {
       some = (let some = tests.some in omega (arith, some, same));
       most = (let most = tests.most in omega (arith, most, same));
-      each = entries_fit xs (ids_of xs are) tests.short fit;
+      each = entries_fit xs (ids_of xs are) tests.short tests.fit;
       rising = rising xs tests.ascending (ids_of xs are);
     }

@@ -1,5 +1,5 @@
 -- What is read of an image is what it recovers.
-use Rattle.std.proofs.Common.{◌≡◌, ◌⊎◌, inl, inr, ⊎_elim, ℕ, zero, suc, ◌+◌, ◌-◌, ◌<◌, ◌≤◌, Bool, true, nat_lt, ◌&&◌, ◌==◌, List, [], ◌∷◌, length, map, Option, Some, None, if◌then◌else◌, eq-eqb, refl, sym, ap, ◌∙◌, subst, arith}
+use Rattle.std.proofs.Common.{◌≡◌, ◌⊎◌, inl, inr, ⊎_elim, ℕ, zero, suc, ◌+◌, ◌-◌, ◌<◌, ◌≤◌, Bool, true, false, nat_lt, ◌&&◌, ◌==◌, List, [], ◌∷◌, length, map, Option, Some, None, if◌then◌else◌, eq-eqb, refl, sym, ap, ◌∙◌, subst, arith}
 use Rattle.std.specs.Prelude.{slice_index}
 use Rattle.std.specs.List.{AllByRecursion}
 use Rattle.std.proofs.lemmas.Bool.{lt-ltb}
@@ -7,29 +7,32 @@ use Rattle.std.proofs.lemmas.List.{length-map}
 use Rattle.cs_extent.specs.State.{State as ExtentsState, extents_of, section_rows, shape}
 use Rattle.cs_frame.specs.declared.locators.Locator.{Locator}
 use Rattle.cs_frame.proofs.FormatLaws.{root_fits_from}
-use Rattle.cs_frame.specs.Formats.{formats_of, place_of}
+use Rattle.cs_frame.specs.Formats.{as_locator, formats_of, place_of}
 use Rattle.cs_frame.specs.Geometries.{device_pages}
 use Rattle.cs_frame.specs.Roots.{FitsRoot, greatest_runs, spelled_root}
 use Rattle.cs_index.proofs.Newest.{all_newest, all_oldest}
 use Rattle.cs_index.proofs.Whole.{length-newest}
 use Rattle.cs_index.specs.declared.runs.StoredRun.{StoredRun}
-use Rattle.cs_index.specs.State.{IsShort, IsStored, named_entry, newest_first, run_of}
+use Rattle.cs_index.specs.State.{IsStored, named_entry, newest_first, run_of}
 use Rattle.cs_model.proofs.Carries.{and_true}
+use Rattle.cs_model.specs.Apart.{any_run_on}
 use Rattle.cs_model.specs.Element.{Bytes, Content, Damaged, Entry, Locator as Place, Map, Opening, Run}
+use Rattle.cs_model.specs.Extents.{Extents}
 use Rattle.cs_model.specs.Formats.{ChunkFrame, RunFrame, Stand, opening_in, pages_from, places}
 use Rattle.cs_model.specs.Index.{AllPass, Gives, Holds, InBounds, Passes, Reads, ReadsAs, Value, after, entries_of, live, lookup}
 use Rattle.cs_model.specs.Lists.{◌∈◌}
 use Rattle.cs_model.specs.Recovery.{Recovers}
 use Rattle.cs_model.specs.Refusal.{Refusal}
 use Rattle.cs_image.specs.Openings.{IsFoundAs}
-use Rattle.cs_image.specs.Reads.{AreLocated, ArePages, IsLocated, IsRunRead, IsStoreRead, extents_at}
+use Rattle.cs_image.specs.Reads.{AreExtentsNoted, AreLocated, ArePages, AreVisibleLocated, IsLocated, IsRunRead, IsStoreRead, IsVisibleStoreRead, extents_at}
 use Rattle.cs_image.proofs.Chunks.{chunk_or_fault}
 use Rattle.cs_image.proofs.Listed.{found_in, in_all, in_entries, oldest_places}
 use Rattle.cs_image.proofs.Runs.{Stored, stands_read, stored_read}
-use Rattle.cs_image.proofs.Superblocks.{extents_are, extents_fit, read_below, read_fits, read_listed, section_formats, zero_formats}
+use Rattle.cs_image.proofs.Superblocks.{extents_are, extents_fit, extents_with, read_as, read_below, read_fits, read_listed, section_formats, zero_formats}
 
 module _ (view : ℕ → List ℕ) (format : ℕ) (versions : List ℕ) (pages : ℕ) (written : List (ℕ × ℕ)) (root commands : ℕ) (runs : List StoredRun)
-    (read : IsStoreRead view format versions pages written root commands runs) where
+    (read : IsVisibleStoreRead view format versions pages written root commands runs)
+    (hidden : (shape (extents_at format pages (length versions) written)).hidden_stand ≡ true → AreLocated (extents_at format pages (length versions) written) runs) where
   abbrev x : ExtentsState
   x = extents_at format pages (length versions) written
 
@@ -61,27 +64,16 @@ module _ (view : ℕ → List ℕ) (format : ℕ) (versions : List ℕ) (pages :
 
   -- ---- runs
 
-  abbrev EntryIn : Entry → Type 0
-  EntryIn e = (length e.locators ≤ 8) × ((l : Place) → l ∈ e.locators → Located l)
+  abbrev EntryShort : Entry → Type 0
+  EntryShort e = length e.locators ≤ 8
 
   record RunIn (run : Run) : Type 0 where
     reads : Reads (shape x) (formats_of (shape x)) opening view p g run.place ((formats_of (shape x)).frame RunFrame ((formats_of (shape x)).run run.entries))
     fits : (formats_of (shape x)).fits_run run.entries ≡ true
-    entries : AllByRecursion EntryIn run.entries
+    short : AllByRecursion EntryShort run.entries
 
-  located_in : (ls : List Locator) → AllByRecursion (IsLocated x) ls → (l : Place) → l ∈ map place_of ls → Located l
-  located_in [] all l none = absurd none
-  located_in (k ∷ ls) all l (inl is) = subst Located (sym is) (passes k all.0)
-  located_in (k ∷ ls) all l (inr has) = located_in ls all.1 l has
-
-  entries_in : (xs : Stored) → AllByRecursion (λ entry. AllByRecursion (IsLocated x) entry.1.items) xs → AllByRecursion IsShort (map named_entry xs)
-      → AllByRecursion EntryIn (map named_entry xs)
-  entries_in [] all short = tt
-  entries_in (e ∷ xs) all short = ((short.0, located_in e.1.items all.0), entries_in xs all.1 short.1)
-
-  run_in : (run : StoredRun) → IsRunRead x view run → AllByRecursion (λ entry. AllByRecursion (IsLocated x) entry.1.items) run.entries.items
-      → IsStored (run_of run) → RunIn (run_of run)
-  run_in run is located stored =
+  run_in : (run : StoredRun) → IsRunRead x view run → IsStored (run_of run) → RunIn (run_of run)
+  run_in run is stored =
       let stands = stands_read x view run is stored in
       record {
         reads = record {
@@ -91,32 +83,61 @@ module _ (view : ℕ → List ℕ) (format : ℕ) (versions : List ℕ) (pages :
           stand = stands.stand;
         };
         fits = stands.fits;
-        entries = entries_in run.entries.items located stored.2;
+        short = stored.2;
       }
 
   runs_in : AllByRecursion RunIn (newest_first runs)
-  runs_in = all_newest RunIn runs (go runs read.runs_read read.located (all_oldest IsStored runs (stored_read x view runs read.runs_read)))
+  runs_in = all_newest RunIn runs (go runs read.runs_read (all_oldest IsStored runs (stored_read x view runs read.runs_read)))
     where
-      go : (xs : List StoredRun) → AllByRecursion (IsRunRead x view) xs → AreLocated x xs → AllByRecursion (λ run. IsStored (run_of run)) xs → AllByRecursion (λ run. RunIn (run_of run)) xs
-      go [] a b c = tt
-      go (run ∷ xs) a b c = (run_in run a.0 b.0 c.0, go xs a.1 b.1 c.1)
+      go : (xs : List StoredRun) → AllByRecursion (IsRunRead x view) xs → AllByRecursion (λ run. IsStored (run_of run)) xs → AllByRecursion (λ run. RunIn (run_of run)) xs
+      go [] a b = tt
+      go (run ∷ xs) a b = (run_in run a.0 b.0, go xs a.1 b.1)
 
-  all_entries : AllByRecursion EntryIn (entries_of (newest_first runs))
-  all_entries = in_entries EntryIn (newest_first runs) (go (newest_first runs) runs_in)
+  all_short : AllByRecursion EntryShort (entries_of (newest_first runs))
+  all_short = in_entries EntryShort (newest_first runs) (go (newest_first runs) runs_in)
     where
-      go : (rs : List Run) → AllByRecursion RunIn rs → AllByRecursion (λ run. AllByRecursion EntryIn run.entries) rs
+      go : (rs : List Run) → AllByRecursion RunIn rs → AllByRecursion (λ run. AllByRecursion EntryShort run.entries) rs
       go [] all = tt
-      go (run ∷ rs) all = (all.0.entries, go rs all.1)
-
-  all_pass : (xs : List Entry) → AllByRecursion EntryIn xs → (id : ℕ) → AllPass (shape x) (formats_of (shape x)) view p g (lookup id xs)
-  all_pass = found_in EntryIn (AllPass (shape x) (formats_of (shape x)) view p g) tt (λ e is. is.1)
-
-  live_pass : (id : ℕ) (l : Place) → l ∈ live (lookup id (entries_of (newest_first runs))) → Located l
-  live_pass id = found_in EntryIn (λ (o : Option (List Place)). (l : Place) → l ∈ live o → Located l) (λ l none. absurd none) (λ e is. is.1)
-      (entries_of (newest_first runs)) all_entries id
+      go (run ∷ rs) all = (all.0.short, go rs all.1)
 
   few_chunks : (id : ℕ) → length (live (lookup id (entries_of (newest_first runs)))) ≤ 8
-  few_chunks = found_in EntryIn (λ (o : Option (List Place)). length (live o) ≤ 8) (omega arith) (λ e is. is.0) (entries_of (newest_first runs)) all_entries
+  few_chunks = found_in EntryShort (λ (o : Option (List Place)). length (live o) ≤ 8) (omega arith) (λ e is. is) (entries_of (newest_first runs)) all_short
+
+  -- ---- what is located
+
+  live_pass : (id : ℕ) (l : Place) → l ∈ live (lookup id (entries_of (newest_first runs))) → Located l
+  live_pass id l has = passes (as_locator l) (read.located id l has)
+
+  visible : (id : ℕ) → AllPass (shape x) (formats_of (shape x)) view p g (lookup id (entries_of (newest_first runs)))
+  visible id = go (lookup id (entries_of (newest_first runs))) (live_pass id)
+    where
+      go : (o : Option (List Place)) → ((l : Place) → l ∈ live o → Located l) → AllPass (shape x) (formats_of (shape x)) view p g o
+      go None pass = tt
+      go (Some ls) pass = pass
+
+  -- where each entry is to name what is there
+  abbrev EntryLocated : Entry → Type 0
+  EntryLocated e = (l : Place) → l ∈ e.locators → Located l
+
+  located_in : (ls : List Locator) → AllByRecursion (IsLocated x) ls → (l : Place) → l ∈ map place_of ls → Located l
+  located_in [] all l none = absurd none
+  located_in (k ∷ ls) all l (inl is) = subst Located (sym is) (passes k all.0)
+  located_in (k ∷ ls) all l (inr has) = located_in ls all.1 l has
+
+  entries_in : (xs : Stored) → AllByRecursion (λ entry. AllByRecursion (IsLocated x) entry.1.items) xs → AllByRecursion EntryLocated (map named_entry xs)
+  entries_in [] all = tt
+  entries_in (e ∷ xs) all = (located_in e.1.items all.0, entries_in xs all.1)
+
+  located_runs : AreLocated x runs → AllByRecursion (λ run. AllByRecursion EntryLocated run.entries) (newest_first runs)
+  located_runs located = all_newest (λ run. AllByRecursion EntryLocated run.entries) runs (go runs located)
+    where
+      go : (xs : List StoredRun) → AreLocated x xs → AllByRecursion (λ run. AllByRecursion EntryLocated (run_of run).entries) xs
+      go [] all = tt
+      go (run ∷ xs) all = (entries_in run.entries.items all.0, go xs all.1)
+
+  hidden_pass : (shape x).hidden_stand ≡ true → (run : Run) → run ∈ newest_first runs → (id : ℕ) → AllPass (shape x) (formats_of (shape x)) view p g (lookup id run.entries)
+  hidden_pass stand run has id = found_in EntryLocated (AllPass (shape x) (formats_of (shape x)) view p g) tt (λ e is. is) run.entries
+      (in_all (λ (run : Run). AllByRecursion EntryLocated run.entries) (newest_first runs) (located_runs (hidden stand)) run has) id
 
   -- ---- what is found
 
@@ -146,6 +167,10 @@ module _ (view : ℕ → List ℕ) (format : ℕ) (versions : List ℕ) (pages :
   section_there (suc j) lt = section_formats (shape x) p g first_written j (slice_index versions (suc j)) (view ((shape x).section_page (suc j))) (section_rows x (suc j))
       (read_listed view format versions pages written read.sections (suc j)) lt (read.sections.each (suc j) lt)
 
+  -- the extents as they are read
+  abbrev pub as_read : Extents
+  as_read = read_as (shape x).apart x (newest_first runs)
+
   module _ (m : Map) (gives : Gives (shape x) (formats_of (shape x)) opening view p g [] (newest_first runs) m) where
     abbrev found : Recovers (shape x) (formats_of (shape x)) view commands m
     found = record {
@@ -166,9 +191,11 @@ module _ (view : ℕ → List ℕ) (format : ℕ) (versions : List ℕ) (pages :
       gives = gives;
     }
 
-    pub found_as : (found : Recovers (shape x) (formats_of (shape x)) view commands m)
-        × IsFoundAs (shape x) (formats_of (shape x)) view commands m found x versions root (newest_first runs)
-    found_as = (found, record { extents = extents_are format pages (length versions) written; all_sections = refl; versions = λ j lt. refl; root_version = refl; same_runs = refl })
+    -- the extents as they were read, or by another value
+    pub found_by : (noted : ExtentsState) → extents_of noted ≡ as_read
+        → (found : Recovers (shape x) (formats_of (shape x)) view commands m)
+        × IsFoundAs (shape x) (formats_of (shape x)) view commands m found noted versions root (newest_first runs)
+    found_by noted extents = (found, record { extents = extents; all_sections = refl; versions = λ j lt. refl; root_version = refl; same_runs = refl })
 
   -- ---- what the entries give
 
@@ -208,15 +235,83 @@ module _ (view : ℕ → List ℕ) (format : ℕ) (versions : List ℕ) (pages :
     holds : (l : Place) → Located l → Holds (shape x) (formats_of (shape x)) opening view p g l
     holds l is = ⊎_elim (λ c. inr c) (λ b. inl b) (chunk l is)
 
-    pub read_recovers : (m : Map) × (found : Recovers (shape x) (formats_of (shape x)) view commands m)
-        × IsFoundAs (shape x) (formats_of (shape x)) view commands m found x versions root (newest_first runs)
-    read_recovers =
-        let m : Map = λ id. (value (lookup id (entries_of (newest_first runs))) (live_pass id)).0 in
-        let f = found_as m (record {
-          runs_read = λ run has. (in_all RunIn (newest_first runs) runs_in run has).reads;
-          table_passes = λ id. tt;
-          visible_pass = all_pass (entries_of (newest_first runs)) all_entries;
-          runs_pass = λ stand run has id. all_pass run.entries (in_all RunIn (newest_first runs) runs_in run has).entries id;
-          holds = λ id l has. holds l (live_pass id l has);
-          values = λ id. (value (lookup id (entries_of (newest_first runs))) (live_pass id)).1;
-        }) in (m, f.0, f.1)
+    abbrev map_read : Map
+    map_read = λ id. (value (lookup id (entries_of (newest_first runs))) (live_pass id)).0
+
+    gives : Gives (shape x) (formats_of (shape x)) opening view p g [] (newest_first runs) map_read
+    gives = record {
+      runs_read = λ run has. (in_all RunIn (newest_first runs) runs_in run has).reads;
+      table_passes = λ id. tt;
+      visible_pass = visible;
+      runs_pass = hidden_pass;
+      holds = λ id l has. holds l (live_pass id l has);
+      values = λ id. (value (lookup id (entries_of (newest_first runs))) (live_pass id)).1;
+    }
+
+    pub recovers_by : (noted : ExtentsState) → extents_of noted ≡ as_read
+        → (m : Map) × (found : Recovers (shape x) (formats_of (shape x)) view commands m)
+        × IsFoundAs (shape x) (formats_of (shape x)) view commands m found noted versions root (newest_first runs)
+    recovers_by noted extents = let f = found_by map_read gives noted extents in (map_read, f.0, f.1)
+
+    -- where chunks and runs lie apart it is noted on which extents the runs lie
+    noted_so : (noted : ExtentsState) → (shape x).apart ≡ true → AreExtentsNoted x (newest_first runs) noted → extents_of noted ≡ as_read
+    noted_so noted on is = is.extents
+        ∙ ap (λ (b : Bool). record (extents_of x) { of_runs = if b then any_run_on (newest_first runs) else λ e. false; found = if b then p else λ e. 0 }) (sym on)
+        ∙ extents_with format pages (length versions) written
+        (if (shape x).apart then any_run_on (newest_first runs) else λ e. false) (if (shape x).apart then p else λ e. 0)
+
+    pub noted_recovers : (noted : ExtentsState) → (shape x).apart ≡ true → AreExtentsNoted x (newest_first runs) noted
+        → (m : Map) × (found : Recovers (shape x) (formats_of (shape x)) view commands m)
+        × IsFoundAs (shape x) (formats_of (shape x)) view commands m found noted versions root (newest_first runs)
+    noted_recovers noted on is = recovers_by noted (noted_so noted on is)
+
+-- ---- where each entry names what is there
+
+-- each locator of an entry is located
+abbrev IsEntryLocated : ExtentsState → Entry → Type 0
+IsEntryLocated x e = (k : Place) → k ∈ e.locators → IsLocated x (as_locator k)
+
+places_located : (x : ExtentsState) (ls : List Locator) → AllByRecursion (IsLocated x) ls → (k : Place) → k ∈ map place_of ls → IsLocated x (as_locator k)
+places_located x [] each k none = absurd none
+places_located x (j ∷ ls) each k (inl is) = subst (λ (q : Place). IsLocated x (as_locator q)) (sym is) each.0
+places_located x (j ∷ ls) each k (inr has) = places_located x ls each.1 k has
+
+entries_located : (x : ExtentsState) (xs : Stored) → AllByRecursion (λ entry. AllByRecursion (IsLocated x) entry.1.items) xs → AllByRecursion (IsEntryLocated x) (map named_entry xs)
+entries_located x [] each = tt
+entries_located x (e ∷ xs) each = (places_located x e.1.items each.0, entries_located x xs each.1)
+
+runs_located : (x : ExtentsState) (xs : List StoredRun) → AreLocated x xs → AllByRecursion (λ run. AllByRecursion (IsEntryLocated x) (run_of run).entries) xs
+runs_located x [] each = tt
+runs_located x (run ∷ xs) each = (entries_located x run.entries.items each.0, runs_located x xs each.1)
+
+-- what is located of all entries is of those that are visible
+pub visible_of : (x : ExtentsState) (runs : List StoredRun) → AreLocated x runs → AreVisibleLocated x runs
+visible_of x runs all id = found_in (IsEntryLocated x) (λ (o : Option (List Place)). (k : Place) → k ∈ live o → IsLocated x (as_locator k)) (λ k none. absurd none) (λ e is. is)
+    (entries_of (newest_first runs))
+    (in_entries (IsEntryLocated x) (newest_first runs) (all_newest (λ run. AllByRecursion (IsEntryLocated x) run.entries) runs (runs_located x runs all))) id
+
+module _ (view : ℕ → List ℕ) (format : ℕ) (versions : List ℕ) (pages : ℕ) (written : List (ℕ × ℕ)) (root commands : ℕ) (runs : List StoredRun)
+    (read : IsStoreRead view format versions pages written root commands runs) where
+  abbrev there : ExtentsState
+  there = extents_at format pages (length versions) written
+
+  pub visible_read : IsVisibleStoreRead view format versions pages written root commands runs
+  visible_read = record {
+    sections = read.sections;
+    root_page = read.root_page;
+    runs_read = read.runs_read;
+    located = visible_of there runs read.located;
+    named = read.named;
+  }
+
+  pub found_as : extents_of there ≡ read_as (shape there).apart there (newest_first runs) → (m : Map) → Gives (shape there) (formats_of (shape there))
+      (opening_in (shape there) (formats_of (shape there)) view (extents_of there).pointer (extents_of there).generation) view (extents_of there).pointer (extents_of there).generation [] (newest_first runs) m
+      → (found : Recovers (shape there) (formats_of (shape there)) view commands m)
+      × IsFoundAs (shape there) (formats_of (shape there)) view commands m found there versions root (newest_first runs)
+  found_as extents m gives = found_by view format versions pages written root commands runs visible_read (λ stand. read.located) m gives there extents
+
+  -- where chunks and runs may lie on one extent
+  pub read_recovers : (shape there).apart ≡ false → ArePages (device_pages format (length written) pages (length versions)) view → (m : Map) × (found : Recovers (shape there) (formats_of (shape there)) view commands m)
+      × IsFoundAs (shape there) (formats_of (shape there)) view commands m found there versions root (newest_first runs)
+  read_recovers not are = recovers_by view format versions pages written root commands runs visible_read (λ stand. read.located) are there
+      (extents_are format pages (length versions) written (newest_first runs) not)

@@ -14,7 +14,7 @@ use Rattle.cs_image.specs.Openings.{AreNewSections, IsFoundAs}
 use Rattle.cs_image.specs.Reads.{AreSectionsRead, IsStoreRead, SpellsAt, extents_at}
 use Rattle.cs_image.proofs.Found.{found_as}
 use Rattle.cs_image.proofs.Listed.{all_default}
-use Rattle.cs_image.proofs.Superblocks.{not_first, of_section, own_format, read_whole, section_listed}
+use Rattle.cs_image.proofs.Superblocks.{empty_extents_are, not_first, of_section, own_format, read_whole, section_listed}
 
 module _ (view : ℕ → List ℕ) (format extents pages sections : ℕ) (is : IsGeometry format extents pages sections) (pages_are : AreNewSections view format extents pages sections)
     (root : SpellsRoot (view 1) format 1 0 []) where
@@ -74,7 +74,7 @@ module _ (view : ℕ → List ℕ) (format extents pages sections : ℕ) (is : I
 
     found_read : (found : Recovers (shape read_extents) (formats_of (shape read_extents)) view 0 (λ id. None))
         × IsFoundAs (shape read_extents) (formats_of (shape read_extents)) view 0 (λ id. None) found read_extents versions 1 []
-    found_read = found_as view format versions pages (replicate extents (0, 0)) 1 0 [] read (λ id. None) (record {
+    found_read = found_as view format versions pages (replicate extents (0, 0)) 1 0 [] read (empty_extents_are format pages (length versions) extents) (λ id. None) (record {
       runs_read = λ run none. absurd none;
       table_passes = λ id. tt;
       visible_pass = λ id. tt;

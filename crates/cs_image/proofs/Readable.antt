@@ -1,5 +1,5 @@
 -- What an image recovers can be read.
-use Rattle.std.proofs.Common.{◌≡◌, inl, inr, ℕ, zero, suc, ◌+◌, ◌/◌, ◌<◌, ◌≤◌, List, [], ◌∷◌, ◌++◌, length, map, take, drop, Vec, refl, sym, ap, ◌∙◌, subst, arith}
+use Rattle.std.proofs.Common.{◌≡◌, inl, inr, ℕ, zero, suc, ◌+◌, ◌/◌, ◌<◌, ◌≤◌, List, [], ◌∷◌, ◌++◌, length, map, take, drop, Option, Some, None, Vec, true, refl, sym, ap, ◌∙◌, subst, arith}
 use Rattle.std.specs.Prelude.{reverse, slice_index, slice_index_or}
 use Rattle.std.specs.List.{AllByRecursion, flat_map}
 use Rattle.std.specs.declared.alloc.Global.{Global}
@@ -34,10 +34,10 @@ use Rattle.cs_model.specs.Device.{Page, Shape}
 use Rattle.cs_model.specs.Element.{Entry, Locator as Place, Map, Run}
 use Rattle.cs_model.specs.Formats.{Stand, places}
 use Rattle.cs_model.specs.Geometry.{shape_of}
-use Rattle.cs_model.specs.Index.{AllPass, Passes, entries_of, names}
+use Rattle.cs_model.specs.Index.{AllPass, Passes, entries_of, live, live_at, lookup, names}
 use Rattle.cs_model.specs.Lists.{◌∈◌}
 use Rattle.cs_model.specs.Recovery.{Recovers}
-use Rattle.cs_image.specs.Reads.{AreLocated, ArePages, AreSectionsRead, HasRunAt, IsLocated, IsReadable, IsRunRead, IsStoreRead, SpellsAt, extents_at}
+use Rattle.cs_image.specs.Reads.{AreLocated, ArePages, AreSectionsRead, HasRunAt, IsLocated, IsReadable, IsRunRead, IsStoreRead, IsVisibleStoreRead, SpellsAt, extents_at}
 use Rattle.cs_image.proofs.Entries.{named_fit, tests_of}
 use Rattle.cs_image.proofs.Listed.{bytes_back, bytes_joined, to_all}
 use Rattle.cs_image.proofs.Runs.{StandsAt, all_stand, same_listed, same_runs}
@@ -212,9 +212,9 @@ module _ (view : ℕ → List ℕ) (format : ℕ) (versions : List ℕ) (pages :
       subst IsBytes (payload_is_read 1 (spelled_frame 1 payload ++ []) payload (stands 1 payload [] (omega (arith, few))))
       (IsBytes-field (bytes_in (spelled_frame 1 payload ++ [])) 41 (41 + payload_length (first_page (spelled_frame 1 payload ++ []))) whole)
 
-  entry_located : (run : Run) → run ∈ r.runs → (e : Entry) → e ∈ run.entries → (l : Place) → l ∈ e.locators → Located l
-  entry_located run has e there = subst (AllPass (shape x) (formats_of (shape x)) view r.pointers r.generations)
-      (ascending_lookup run.entries e (tests_of run.entries (r.runs_fit run has)).ascending there) (r.gives.runs_pass refl run has e.id)
+  entry_located : (shape x).hidden_stand ≡ true → (run : Run) → run ∈ r.runs → (e : Entry) → e ∈ run.entries → (l : Place) → l ∈ e.locators → Located l
+  entry_located stand run has e there = subst (AllPass (shape x) (formats_of (shape x)) view r.pointers r.generations)
+      (ascending_lookup run.entries e (tests_of run.entries (r.runs_fit run has)).ascending there) (r.gives.runs_pass stand run has e.id)
 
   pub has_run : (run : Run) → run ∈ r.runs → HasRunAt x view (as_locator run.place) (map as_entry run.entries)
   has_run run has =
@@ -226,8 +226,7 @@ module _ (view : ℕ → List ℕ) (format : ℕ) (versions : List ℕ) (pages :
         spelled = record {
           fits = named_fit run.entries (tests_of run.entries (r.runs_fit run has))
               (bytes_back (big_bytes 4 (length (map as_entry run.entries))) (flat_map spelled_entry (map as_entry run.entries))
-              (payload_bytes run.place.extent run.place.page (spelled_run (map as_entry run.entries)) reads.passes.inside.0 reads.inside reads.stand))
-              (λ e there l at. fits_located format (length written) pages (length versions) sizes view n m r l (entry_located run has e there l at));
+              (payload_bytes run.place.extent run.place.page (spelled_run (map as_entry run.entries)) reads.passes.inside.0 reads.inside reads.stand));
           spelled = refl;
         };
       }
@@ -255,12 +254,27 @@ module _ (view : ℕ → List ℕ) (format : ℕ) (versions : List ℕ) (pages :
         (all_stand x view runs read)
         (to_all (StandsAt (shape x) view) r.runs (λ run has. record { fits = r.runs_fit run has; inside = (r.gives.runs_read run has).inside; stand = (r.gives.runs_read run has).stand }))
 
+    -- what an entry has passes where the entry does
+    each_passes : (o : Option (List Place)) → AllPass (shape x) (formats_of (shape x)) view r.pointers r.generations o → (l : Place) → l ∈ live o → Located l
+    each_passes None pass l none = absurd none
+    each_passes (Some ls) pass l has = pass l has
+
+    pub visible_store_read : IsVisibleStoreRead view format versions pages written root commands runs
+    visible_store_read = record {
+      sections = superblock;
+      root_page = root_page;
+      runs_read = read;
+      located = λ id l has. located l (each_passes (lookup id (entries_of r.runs)) (r.gives.visible_pass id) l
+          (subst (λ (rs : List Run). l ∈ live_at (entries_of rs) id) runs_are has));
+      named = subst (λ (rs : List Run). names (entries_of rs) ≤ (shape x).most_names) (sym runs_are) r.bounds.named;
+    }
+
     abbrev EntryLocated : Entry → Type 0
     EntryLocated e = (l : Place) → l ∈ e.locators → Located l
 
-    entries_located : AllByRecursion (λ run. AllByRecursion EntryLocated run.entries) (newest_first runs)
-    entries_located = subst (AllByRecursion (λ (run : Run). AllByRecursion EntryLocated run.entries)) (sym runs_are)
-        (to_all (λ (run : Run). AllByRecursion EntryLocated run.entries) r.runs (λ run has. to_all EntryLocated run.entries (entry_located run has)))
+    entries_located : (shape x).hidden_stand ≡ true → AllByRecursion (λ run. AllByRecursion EntryLocated run.entries) (newest_first runs)
+    entries_located stand = subst (AllByRecursion (λ (run : Run). AllByRecursion EntryLocated run.entries)) (sym runs_are)
+        (to_all (λ (run : Run). AllByRecursion EntryLocated run.entries) r.runs (λ run has. to_all EntryLocated run.entries (entry_located stand run has)))
 
     from_places : (ls : List Locator) → ((l : Place) → l ∈ map place_of ls → Located l) → AllByRecursion (IsLocated x) ls
     from_places [] each = tt
@@ -270,12 +284,13 @@ module _ (view : ℕ → List ℕ) (format : ℕ) (versions : List ℕ) (pages :
     from_entries [] all = tt
     from_entries (e ∷ xs) all = (from_places e.1.items all.0, from_entries xs all.1)
 
-    pub store_read : IsStoreRead view format versions pages written root commands runs
-    store_read = record {
+    -- where hidden entries stand
+    pub store_read : (shape x).hidden_stand ≡ true → IsStoreRead view format versions pages written root commands runs
+    store_read stand = record {
       sections = superblock;
       root_page = root_page;
       runs_read = read;
-      located = go runs (all_oldest (λ (run : Run). AllByRecursion EntryLocated run.entries) runs entries_located);
+      located = go runs (all_oldest (λ (run : Run). AllByRecursion EntryLocated run.entries) runs (entries_located stand));
       named = subst (λ (rs : List Run). names (entries_of rs) ≤ (shape x).most_names) (sym runs_are) r.bounds.named;
     }
       where

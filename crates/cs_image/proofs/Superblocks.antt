@@ -1,13 +1,14 @@
 -- The extents that the sections of a superblock record.
-use Rattle.std.proofs.Common.{◌≡◌, inl, inr, ⊎_elim, ℕ, zero, suc, ◌+◌, ◌-◌, ◌/◌, ◌<◌, ◌≤◌, ◌^◌, Bool, true, false, List, [], ◌∷◌, length, take, drop, Some, None, nat_lt, ◌==◌, ◌&&◌, if◌then◌else◌, eq-eqb, ne_eqb, refl, sym, ap, ◌∙◌, subst, arith}
-use Rattle.std.specs.Prelude.{◌↔◌, slice_index, slice_index_or}
+use Rattle.std.proofs.Common.{◌≡◌, inl, inr, ⊎_elim, ℕ, zero, suc, ◌+◌, ◌-◌, ◌/◌, ◌<◌, ◌≤◌, ◌^◌, Bool, true, false, List, [], ◌∷◌, length, take, drop, Some, None, nat_lt, ◌==◌, ◌&&◌, if◌then◌else◌, eq-eqb, ne_eqb, true≢false, refl, sym, ap, ◌∙◌, subst, arith}
+use Rattle.std.specs.Prelude.{◌↔◌, replicate, slice_index, slice_index_or}
 use Rattle.std.specs.List.{AllByRecursion}
 use Rattle.std.proofs.lemmas.Bool.{and_from, and_parts, and_right, cases_lt, eqb-true, lt-ltb}
 use Rattle.std.proofs.lemmas.List.{get_or-drop, get_or-take, get_or_past, length-replicate}
-use Rattle.cs_extent.specs.State.{IsWhole, State as ExtentsState, extents_of, section_rows, shape}
+use Rattle.cs_extent.proofs.Changes.{found_length}
+use Rattle.cs_extent.specs.State.{IsWhole, State as ExtentsState, extents_of, found_at, section_rows, shape}
 use Rattle.cs_frame.proofs.FirstFormatLaws.{apart, one_of_first_format, page_zero_fits, spelled_has_none as first_has_none}
 use Rattle.cs_frame.proofs.FormatLaws.{is_format}
-use Rattle.cs_frame.proofs.GeometryLaws.{for_known, lies_in_device, model_geometry, section_holds, section_inside, section_length-le}
+use Rattle.cs_frame.proofs.GeometryLaws.{for_known, geometry_apart, lies_in_device, model_geometry, section_holds, section_inside, section_length-le}
 use Rattle.cs_frame.proofs.SuperblockLaws.{one_section as section_of_page, spelled_has_none}
 use Rattle.cs_frame.specs.FirstFormat.{IsOfFirstFormat, SpellsPageZero, spelled_first_format}
 use Rattle.cs_frame.specs.Formats.{extents_of as listed_extents, formats_of}
@@ -15,9 +16,12 @@ use Rattle.cs_frame.specs.Geometries.{IsGeometry, device_pages, section_length, 
 use Rattle.cs_frame.specs.Pointers.{FitsExtent as FitsPair}
 use Rattle.cs_frame.specs.Superblocks.{FitsSuperblock, SpellsSuperblock, spelled_superblock}
 use Rattle.cs_model.proofs.Shapes.{is_shape}
+use Rattle.cs_model.specs.Apart.{any_run_on}
 use Rattle.cs_model.specs.Device.{IsShape, Shape}
+use Rattle.cs_model.specs.Element.{Run}
+use Rattle.cs_model.specs.Extents.{Extents}
 use Rattle.cs_model.specs.Frames.{IsFormat}
-use Rattle.cs_model.specs.Geometry.{shape_of}
+use Rattle.cs_model.specs.Geometry.{apart_in, shape_of}
 use Rattle.cs_model.specs.Local.{LiesBelow}
 use Rattle.cs_model.specs.Safe.{FitsExtent}
 use Rattle.cs_image.specs.Reads.{AreSectionsRead, SpellsAt, extents_at}
@@ -277,6 +281,7 @@ module _ (view : ℕ → List ℕ) (format : ℕ) (versions : List ℕ) (pages :
 
   pub read_shape : IsShape (shape x)
   read_shape = is_shape (length written) pages (length versions) (section_size (length written) (length versions)) format (model_geometry format (length written) pages (length versions) is.geometry)
+      (geometry_apart format (length written) pages (length versions) is.geometry)
 
   pub read_format : IsFormat (shape x) (formats_of (shape x))
   read_format = is_format format (length written) pages (length versions) is.geometry
@@ -312,33 +317,107 @@ module _ (view : ℕ → List ℕ) (format : ℕ) (versions : List ℕ) (pages :
     all_resets = length-replicate (length written) 0;
     all_swept = length-replicate (length written) false;
     all_kinds = length-replicate (length written) false;
-    all_found = length-replicate (length written) 0;
+    all_found = found_length (apart_in format) written;
     pointers = λ e. (extents_fit e).0;
     roots = λ e. subst (λ (k : ℕ). k < 2 ^ 63) (sym (all_default (length written) e 0)) (omega arith);
     open_inside = λ e none. absurd (let wrong : None ≡ Some e = none in cc);
     open_begun = λ e none. absurd (let wrong : None ≡ Some e = none in cc);
   }
 
--- nothing is open, reset or being swept
-pub extents_are : (format pages sections : ℕ) (written : List (ℕ × ℕ)) → extents_of (extents_at format pages sections written) ≡ record {
-  pointer = (extents_of (extents_at format pages sections written)).pointer;
-  generation = (extents_of (extents_at format pages sections written)).generation;
+-- Extents that are read: nothing is open, reset or being swept. Where chunks and runs lie apart those of runs are the ones on which a run
+-- lies, and all pages that are given count as found
+abbrev pub read_as : (lying : Bool) → ExtentsState → List Run → Extents
+read_as lying x runs = record {
+  pointer = (extents_of x).pointer;
+  generation = (extents_of x).generation;
   reset = λ e. 0;
   open_extent = None;
   swept = λ e. false;
-  of_runs = λ e. false;
-  found = λ e. 0;
+  of_runs = if lying then any_run_on runs else λ e. false;
+  found = if lying then (extents_of x).pointer else λ e. 0;
   fresh = None;
   last = None;
 }
-extents_are format pages sections written = λ i. record {
+
+none_found : (lying : Bool) → lying ≡ false → (written : List (ℕ × ℕ)) (e : ℕ) → slice_index (found_at lying written) e ≡ 0
+none_found true not written e = absurd (true≢false not)
+none_found false not written e = all_default (length written) e 0
+
+-- where chunks and runs may lie on one extent nothing is noted of them
+pub extents_are : (format pages sections : ℕ) (written : List (ℕ × ℕ)) (runs : List Run) → apart_in format ≡ false
+    → extents_of (extents_at format pages sections written) ≡ read_as (apart_in format) (extents_at format pages sections written) runs
+extents_are format pages sections written runs not = bare
+    ∙ ap (λ (b : Bool). read_as b (extents_at format pages sections written) runs) (sym not)
+  where
+    bare : extents_of (extents_at format pages sections written) ≡ read_as false (extents_at format pages sections written) runs
+    bare = λ i. record {
+      pointer = (extents_of (extents_at format pages sections written)).pointer;
+      generation = (extents_of (extents_at format pages sections written)).generation;
+      reset = λ e. all_default (length written) e 0 i;
+      open_extent = None;
+      swept = λ e. all_default (length written) e false i;
+      of_runs = λ e. all_default (length written) e false i;
+      found = λ e. none_found (apart_in format) not written e i;
+      fresh = None;
+      last = None;
+    }
+
+-- the same, with what is noted where chunks and runs lie apart
+pub extents_with : (format pages sections : ℕ) (written : List (ℕ × ℕ)) (of_runs : ℕ → Bool) (found : ℕ → ℕ)
+    → record (extents_of (extents_at format pages sections written)) { of_runs = of_runs; found = found } ≡ record {
+      pointer = (extents_of (extents_at format pages sections written)).pointer;
+      generation = (extents_of (extents_at format pages sections written)).generation;
+      reset = λ e. 0;
+      open_extent = None;
+      swept = λ e. false;
+      of_runs = of_runs;
+      found = found;
+      fresh = None;
+      last = None;
+    }
+extents_with format pages sections written of_runs found = λ i. record {
   pointer = (extents_of (extents_at format pages sections written)).pointer;
   generation = (extents_of (extents_at format pages sections written)).generation;
   reset = λ e. all_default (length written) e 0 i;
   open_extent = None;
   swept = λ e. all_default (length written) e false i;
-  of_runs = λ e. all_default (length written) e false i;
-  found = λ e. all_default (length written) e 0 i;
+  of_runs = of_runs;
+  found = found;
   fresh = None;
   last = None;
 }
+
+-- all pages of an extent count as found where so many are given at open
+pub found_all : (written : List (ℕ × ℕ)) (e : ℕ) → slice_index (found_at true written) e ≡ (slice_index_or written e (0, 0)).0
+found_all [] e = refl
+found_all (row ∷ written) zero = refl
+found_all (row ∷ written) (suc e) = found_all written e
+
+-- where all are empty and there are no runs, by either rule
+module _ (format pages sections extents : ℕ) where
+  abbrev none_given : List (ℕ × ℕ)
+  none_given = replicate extents (0, 0)
+
+  abbrev empty_ones : ExtentsState
+  empty_ones = extents_at format pages sections (replicate extents (0, 0))
+
+  runs_noted : (b : Bool) → (extents_of empty_ones).of_runs ≡ (if b then any_run_on [] else λ e. false)
+  runs_noted true = λ i. λ e. all_default (length none_given) e false i
+  runs_noted false = λ i. λ e. all_default (length none_given) e false i
+
+  pages_noted : (b : Bool) → (λ e. slice_index (found_at b none_given) e) ≡ (if b then (extents_of empty_ones).pointer else λ e. 0)
+  pages_noted true = λ i. λ e. found_all none_given e i
+  pages_noted false = λ i. λ e. all_default (length none_given) e 0 i
+
+  pub empty_extents_are : extents_of empty_ones ≡ read_as (apart_in format) empty_ones []
+  empty_extents_are = λ i. record {
+    pointer = (extents_of empty_ones).pointer;
+    generation = (extents_of empty_ones).generation;
+    reset = λ e. all_default (length none_given) e 0 i;
+    open_extent = None;
+    swept = λ e. all_default (length none_given) e false i;
+    of_runs = (runs_noted (apart_in format)) i;
+    found = (pages_noted (apart_in format)) i;
+    fresh = None;
+    last = None;
+  }

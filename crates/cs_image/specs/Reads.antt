@@ -6,16 +6,20 @@ use Rattle.cs_extent.specs.State.{State as ExtentsState, extents_of, found_at, s
 use Rattle.cs_frame.specs.declared.locators.Locator.{Locator}
 use Rattle.cs_frame.specs.Bytes.{IsPage}
 use Rattle.cs_frame.specs.FirstFormat.{SpellsPageZero}
+use Rattle.cs_frame.specs.Formats.{as_locator}
 use Rattle.cs_frame.specs.Geometries.{IsGeometry, device_pages}
 use Rattle.cs_frame.specs.Roots.{SpellsRoot}
 use Rattle.cs_frame.specs.Runs.{Entry, SpellsRun, entries_of as spelled_entries}
 use Rattle.cs_frame.specs.Superblocks.{SpellsSuperblock}
 use Rattle.cs_index.specs.declared.runs.StoredRun.{StoredRun}
 use Rattle.cs_index.specs.State.{newest_first}
+use Rattle.cs_model.specs.Apart.{any_run_on}
 use Rattle.cs_model.specs.Device.{Shape}
+use Rattle.cs_model.specs.Element.{Locator as Place, Run}
 use Rattle.cs_model.specs.Formats.{RunFrame}
 use Rattle.cs_model.specs.Geometry.{apart_in}
-use Rattle.cs_model.specs.Index.{entries_of, names}
+use Rattle.cs_model.specs.Index.{entries_of, live_at, names}
+use Rattle.cs_model.specs.Lists.{◌∈◌}
 
 -- the extents that so many sections of this format record, one behind the other: none is open, none was reset, none is being swept,
 -- and it isn't noted yet which hold runs
@@ -46,7 +50,8 @@ pub record AreSectionsRead (view : ℕ → List ℕ) (format : ℕ) (versions : 
       → SpellsAt j (view ((shape (extents_at format pages (length versions) written)).section_page j)) format (slice_index versions j)
       (length written) pages (length versions) (section_rows (extents_at format pages (length versions) written) j)
 
--- how many pages the device has: the root's, those of the extents, and one for each section of the superblock
+-- how many pages the device has: the root's, those of the extents, and one for each section of the superblock; in format 3 the pages
+-- that are kept count too
 abbrev pub page_total : Shape → ℕ
 page_total S = device_pages S.format S.extents S.pages S.sections
 
@@ -84,6 +89,10 @@ pub record AreRunsRead (x : ExtentsState) (view : ℕ → List ℕ) (places : Li
 abbrev pub AreLocated : ExtentsState → List StoredRun → Type 0
 AreLocated x runs = AllByRecursion (λ run. AllByRecursion (λ entry. AllByRecursion (IsLocated x) entry.1.items) run.entries.items) runs
 
+-- each locator of the newest entry of each identifier is located; an entry that a newer one hides may name what is gone
+abbrev pub AreVisibleLocated : ExtentsState → List StoredRun → Type 0
+AreVisibleLocated x runs = (id : ℕ) (l : Place) → l ∈ live_at (entries_of (newest_first runs)) id → IsLocated x (as_locator l)
+
 -- A whole store of this format was read: sections of a superblock with these versions and extents, a root over runs, which are all read, whose
 -- entries are all located, and which name no more identifiers than one run may.
 pub record IsStoreRead (view : ℕ → List ℕ) (format : ℕ) (versions : List ℕ) (pages : ℕ) (written : List (ℕ × ℕ)) (root commands : ℕ)
@@ -93,3 +102,17 @@ pub record IsStoreRead (view : ℕ → List ℕ) (format : ℕ) (versions : List
   pub runs_read : AllByRecursion (IsRunRead (extents_at format pages (length versions) written) view) runs
   pub located : AreLocated (extents_at format pages (length versions) written) runs
   pub named : names (entries_of (newest_first runs)) ≤ (shape (extents_at format pages (length versions) written)).most_names
+
+-- The same, where an entry that a newer one hides may name what is gone.
+pub record IsVisibleStoreRead (view : ℕ → List ℕ) (format : ℕ) (versions : List ℕ) (pages : ℕ) (written : List (ℕ × ℕ)) (root commands : ℕ)
+    (runs : List StoredRun) : Type 0 where
+  pub sections : AreSectionsRead view format versions pages written
+  pub root_page : SpellsRoot (view 1) format root commands (map (λ run. run.place) runs)
+  pub runs_read : AllByRecursion (IsRunRead (extents_at format pages (length versions) written) view) runs
+  pub located : AreVisibleLocated (extents_at format pages (length versions) written) runs
+  pub named : names (entries_of (newest_first runs)) ≤ (shape (extents_at format pages (length versions) written)).most_names
+
+-- The extents that were read of a store of this shape, where it is noted on which of them the runs lie and that all their pages were found.
+pub record AreExtentsNoted (x : ExtentsState) (runs : List Run) (noted : ExtentsState) : Type 0 where
+  pub same_shape : shape noted ≡ shape x
+  pub extents : extents_of noted ≡ record (extents_of x) { of_runs = any_run_on runs; found = (extents_of x).pointer }

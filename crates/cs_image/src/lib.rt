@@ -7,6 +7,8 @@
 
 mod openings;
 mod steps;
+mod visible;
 
 pub use openings::{new_stores_are_new, what_is_read_recovers, what_is_recovered_can_be_read};
 pub use steps::{live_identifiers_are_those_of_the_map, runs_are_read_one_by_one};
+pub use visible::visible_stores_recover;

@@ -1,5 +1,5 @@
 //! New stores, and stores that are opened.
-ghost use Rattle.std.specs.Prelude.{◌≡◌, ◌<◌, ℕ, List, [], None, length, map, replicate};
+ghost use Rattle.std.specs.Prelude.{◌≡◌, ◌<◌, ℕ, true, false, List, [], None, length, map, replicate};
 ghost use Rattle.std.specs.List.{AllByRecursion};
 ghost use Rattle.cs_extent.specs.State.{shape};
 ghost use Rattle.cs_frame.specs.declared.locators.Locator.{Locator};
@@ -30,18 +30,20 @@ pub fn new_stores_are_new()
         × IsFoundAs (shape x) (formats_of (shape x)) view 0 (λ id. None) found x (replicate sections 1) 1 []) }
 {}
 
-/// A store that was read is recovered, as what was read.
+/// Where chunks and runs may lie on one extent, a store that was read is recovered, as what was read. Where they lie apart
+/// `visible_stores_recover` says the same, with what is noted of the extents then.
 pub fn what_is_read_recovers()
     ensures { (view : ℕ → List ℕ) (format : ℕ) (versions : List ℕ) (pages : ℕ) (written : List (ℕ × ℕ)) (root commands : ℕ)
         (runs : List StoredRun)
-        → ArePages (device_pages format (length written) pages (length versions)) view
+        → (shape (extents_at format pages (length versions) written)).apart ≡ false → ArePages (device_pages format (length written) pages (length versions)) view
         → IsStoreRead view format versions pages written root commands runs
         → (let x = extents_at format pages (length versions) written in
         (m : Map) × (found : Recovers (shape x) (formats_of (shape x)) view commands m)
         × IsFoundAs (shape x) (formats_of (shape x)) view commands m found x versions root (newest_first runs)) }
 {}
 
-/// What is recovered of an image can be read: no decoder refuses it, and each locator passes its tests.
+/// What is recovered of an image can be read: no decoder refuses it, and each locator passes its tests, also of hidden entries where
+/// they stand. Where they don't, `visible_stores_recover` says it of the visible ones.
 pub fn what_is_recovered_can_be_read()
     // Each section's page spells that section, with the geometry's format and numbers of extents, pages and sections.
     ensures superblock { (view : ℕ → List ℕ) (format extents pages sections n : ℕ) (m : Map) → IsGeometry format extents pages sections
@@ -71,9 +73,11 @@ pub fn what_is_recovered_can_be_read()
         → SpellsRoot (view 1) format root commands places
         → (let x = extents_at format pages (length versions) written in Recovers (shape x) (formats_of (shape x)) view n m
         → (commands ≡ n) × AllByRecursion (λ place. IsReadable x view place) places) }
-    // Where page 1 spells a root over these runs, each of which was read where its place says, the whole store was read.
+    // Where hidden entries stand, page 1 spells a root over these runs, and each of them was read where its place says, the whole store
+    // was read.
     ensures store { (view : ℕ → List ℕ) (format : ℕ) (versions : List ℕ) (pages : ℕ) (written : List (ℕ × ℕ)) (root commands : ℕ)
         (runs : List StoredRun) (n : ℕ) (m : Map)
+        → (shape (extents_at format pages (length versions) written)).hidden_stand ≡ true
         → AreSectionsRead view format versions pages written → ArePages (device_pages format (length written) pages (length versions)) view
         → SpellsRoot (view 1) format root commands (map (λ run. run.place) runs)
         → (let x = extents_at format pages (length versions) written in AllByRecursion (IsRunRead x view) runs

@@ -13,5 +13,5 @@ returns c = record {
   root = λ view format extents pages sections n m is r. (r.version, map as_locator (reverse (places r.runs)), root_spelled format extents pages sections is view n m r);
   runs = λ view format versions pages written root commands listed n m superblock are root_page r.
       (same_commands view format versions pages written superblock are n m r root commands listed root_page, all_readable view format versions pages written superblock are n m r root commands listed root_page);
-  store = λ view format versions pages written root commands runs n m superblock are root_page read r. store_read view format versions pages written superblock are n m r root commands runs root_page read;
+  store = λ view format versions pages written root commands runs n m stand superblock are root_page read r. store_read view format versions pages written superblock are n m r root commands runs root_page read stand;
 }
