@@ -3,22 +3,22 @@ use Rattle.std.proofs.Common.{◌≡◌, ◌≢◌, ◌⊎◌, inl, inr, ⊎_eli
 use Rattle.std.proofs.lemmas.Bool.{cases_eq}
 use Rattle.cs_deps.specs.Staging.{Staging}
 use Rattle.cs_deps.specs.State.{State as GraphState}
-use Rattle.cs_model.specs.Append.{Append, IsNeed, appended, stage_pages}
+use Rattle.cs_model.specs.Append.{Append, AppendBy, IsNeed, appended_by, stage_pages}
 use Rattle.cs_model.specs.Cut.{section_of}
 use Rattle.cs_model.specs.Device.{IsShape, Page, Shape}
 use Rattle.cs_model.specs.Element.{A_write, Superblock, Write, superblocks_of, writes_of}
-use Rattle.cs_model.specs.Extents.{Extents, Placed, Purpose as Reason, taken}
+use Rattle.cs_model.specs.Extents.{Extents, Goes, Purpose as Reason, taken_by}
 use Rattle.cs_model.specs.Lists.{◌∈◌}
 use Rattle.cs_model.specs.Machine.{StagePage, StageSuperblock, World, happens, superblock_now}
 use Rattle.cs_model.proofs.Appends.{pages_superblocks}
-use Rattle.cs_model.proofs.Needs.{appended_extents, appended_numbers}
+use Rattle.cs_model.proofs.Needs.{appended_by_extents, appended_numbers}
 use Rattle.cs_model.proofs.Parts.{with_other, with_same}
-use Rattle.cs_model.proofs.Places.{placed_inside}
+use Rattle.cs_model.proofs.Places.{goes_inside}
 use Rattle.cs_model.proofs.Waiting.{listed, write_in}
 use Rattle.cs_frame.specs.declared.locators.Locator.{Locator}
 use Rattle.cs_frame.specs.Formats.{place_of}
 use Rattle.cs_frame.specs.Geometries.{IsGeometry}
-use Rattle.cs_extent.specs.Appended.{IsAppended}
+use Rattle.cs_extent.specs.Appended.{IsAppended, IsAppendedBy}
 use Rattle.cs_extent.specs.Frames.{next_place, own_first}
 use Rattle.cs_extent.specs.State.{State, extents_of, need_of, shape}
 use Rattle.cs_refine.specs.Stores.{AreWritesOf, IsRecorded, IsStagingOf, IsWorldOf}
@@ -52,7 +52,8 @@ module _ (x : State) (g : GraphState) (w : World) (geometry : IsGeometry x.forma
     least = λ q resets last. need_least x geometry ((shape x).section e) q (store.section e) (λ d lt at. subst (λ (z : Extents). z.reset d ≤ q) is.extents (resets d lt at));
   }
 
-  module _ (reason : Reason) (frame : List (List ℕ)) (l : Locator) (y : State) (h : GraphState) (a : IsAppended x g reason frame l y h) where
+  -- chunks and runs lie apart or not
+  module _ (apart : Bool) (reason : Reason) (frame : List (List ℕ)) (l : Locator) (y : State) (h : GraphState) (a : IsAppendedBy apart x g reason frame l y h) where
     -- the section of the frame's extent
     abbrev j : ℕ
     j = (shape x).section l.extent
@@ -60,11 +61,11 @@ module _ (x : State) (g : GraphState) (w : World) (geometry : IsGeometry x.forma
     there : (shape x).section l.extent < (shape x).sections
     there = store.section l.extent
 
-    placed : Placed (shape x) w.extents reason (length frame) l.extent
-    placed = subst (λ (z : Extents). Placed (shape x) z reason (length frame) l.extent) (sym is.extents) a.placed
+    placed : Goes (shape x) apart w.extents reason (length frame) l.extent
+    placed = subst (λ (z : Extents). Goes (shape x) apart z reason (length frame) l.extent) (sym is.extents) a.placed
 
     inside : (l.extent < (shape x).extents) × (w.extents.pointer l.extent + length frame ≤ (shape x).pages)
-    inside = placed_inside (shape x) w.extents reason (length frame) l.extent placed
+    inside = goes_inside (shape x) apart w.extents reason (length frame) l.extent placed
 
     abbrev after_pages : World
     after_pages = stage_pages (shape x) w l.extent (w.extents.pointer l.extent) frame
@@ -165,7 +166,7 @@ module _ (x : State) (g : GraphState) (w : World) (geometry : IsGeometry x.forma
         let count : a.staged.between.staged ≡ g.staging.staged + length frame = a.staged.pages.staged in omega arith
 
     abbrev next : World
-    next = appended (shape x) w l.extent (need_of x j) frame
+    next = appended_by (shape x) apart reason w l.extent (need_of x j) frame
 
     all_staged : IsStagingOf (shape x) (need_of x) next h.staging
     all_staged = moved (shape x) (need_of x) (happens (shape x) after_pages (StageSuperblock j (need_of x j))) h.staging next.extents next.round
@@ -175,7 +176,8 @@ module _ (x : State) (g : GraphState) (w : World) (geometry : IsGeometry x.forma
         none_own h.staging a.staged.section)
 
     same_extents : next.extents ≡ extents_of y
-    same_extents = appended_extents (shape x) store w l.extent (need_of x j) frame inside.0 inside.1 ∙ ap (λ (z : Extents). taken (shape x) z l.extent (length frame)) is.extents ∙ sym a.extents
+    same_extents = appended_by_extents (shape x) store apart reason w l.extent (need_of x j) frame inside.0 inside.1
+        ∙ ap (λ (z : Extents). taken_by (shape x) apart reason z l.extent (length frame)) is.extents ∙ sym a.extents
 
     same_need : need_of y ≡ need_of x
     same_need = need_same x y a.same_shape (λ e. ap (λ (z : Extents). z.reset e) a.extents)
@@ -215,8 +217,8 @@ module _ (x : State) (g : GraphState) (w : World) (geometry : IsGeometry x.forma
           (either v has)
     ]
 
-    pub after_append : (v : World) × Append (shape x) w reason frame (place_of l) v × IsWorldOf y h v
-    after_append = (
+    pub after_append_by : (v : World) × AppendBy (shape x) apart w reason frame (place_of l) v × IsWorldOf y h v
+    after_append_by = (
       next,
       record {
         extent = l.extent;
@@ -232,8 +234,14 @@ module _ (x : State) (g : GraphState) (w : World) (geometry : IsGeometry x.forma
             (subst (λ (f : ℕ → ℕ). IsStagingOf (shape x) f next h.staging) (sym same_need) all_staged);
         recorded = subst (λ (S : Shape). (v : Write) → v ∈ writes_of next.elements → IsRecorded S next v) (sym a.same_shape) all_recorded;
         resets = λ e. subst (λ (n : ℕ). next.extents.reset e ≤ n) (sym (appended_numbers (shape x) store w l.extent (need_of x j) frame).2)
-            (subst (λ (n : ℕ). n ≤ w.root) (ap (λ (z : Extents). z.reset e) (sym (appended_extents (shape x) store w l.extent (need_of x j) frame inside.0 inside.1))) (is.resets e));
+            (subst (λ (n : ℕ). n ≤ w.root) (ap (λ (z : Extents). z.reset e) (sym (appended_by_extents (shape x) store apart reason w l.extent (need_of x j) frame inside.0 inside.1))) (is.resets e));
         writes = subst (λ (S : Shape). AreWritesOf S next h) (sym a.same_shape)
-            (append_writes x g w geometry is reason frame l y h a there same_extents (appended_numbers (shape x) store w l.extent (need_of x j) frame).3);
+            (append_writes x g w geometry is apart reason frame l y h a there same_extents (appended_numbers (shape x) store w l.extent (need_of x j) frame).3);
       },
     )
+
+-- without the rule that keeps chunks and runs apart
+pub after_append : (x : State) (g : GraphState) (w : World) → IsGeometry x.format (length x.written) x.pages x.sections → IsWorldOf x g w
+    → (reason : Reason) (frame : List (List ℕ)) (l : Locator) (y : State) (h : GraphState) → IsAppended x g reason frame l y h
+    → (v : World) × Append (shape x) w reason frame (place_of l) v × IsWorldOf y h v
+after_append x g w geometry is reason frame l y h a = after_append_by x g w geometry is false reason frame l y h a

@@ -1,11 +1,11 @@
 -- What is kept for a frame's elements is what the machine writes for them.
-use Rattle.std.proofs.Common.{◌≡◌, inl, inr, ⊎_elim, ◌⊎◌, ℕ, suc, ◌+◌, ◌<◌, ◌≤◌, List, [], ◌∷◌, length, Some, get_or, false, refl, sym, ap, ap₂, ◌∙◌, subst, arith}
+use Rattle.std.proofs.Common.{◌≡◌, inl, inr, ⊎_elim, ◌⊎◌, ℕ, suc, ◌+◌, ◌<◌, ◌≤◌, List, [], ◌∷◌, length, Some, get_or, Bool, false, refl, sym, ap, ap₂, ◌∙◌, subst, arith}
 use Rattle.std.specs.Prelude.{slice_index_or}
 use Rattle.std.proofs.lemmas.Option.{same_Some}
 use Rattle.cs_deps.specs.declared.elements.Element.TheVariants.{Plain, Version}
 use Rattle.cs_deps.specs.Staging.{Staging}
 use Rattle.cs_deps.specs.State.{State as GraphState, Write as PageWrite, write_of}
-use Rattle.cs_model.specs.Append.{appended, stage_pages}
+use Rattle.cs_model.specs.Append.{appended_by, stage_pages}
 use Rattle.cs_model.specs.Cut.{Cut, satisfied}
 use Rattle.cs_model.specs.Device.{Page, Shape}
 use Rattle.cs_model.specs.Disk.{page_write}
@@ -19,7 +19,7 @@ use Rattle.cs_frame.specs.Formats.{extents_of as listed_extents, formats_of}
 use Rattle.cs_frame.specs.Geometries.{IsGeometry}
 use Rattle.cs_frame.specs.Superblocks.{spelled_superblock}
 use Rattle.cs_frame.specs.declared.locators.Locator.{Locator}
-use Rattle.cs_extent.specs.Appended.{IsAppended}
+use Rattle.cs_extent.specs.Appended.{IsAppendedBy}
 use Rattle.cs_extent.specs.Frames.{IsOfFrame, family_of, next_section}
 use Rattle.cs_extent.specs.State.{State, extents_of, need_of, section_rows, shape}
 use Rattle.cs_image.proofs.Superblocks.{not_first, own_format, section_listed}
@@ -73,7 +73,7 @@ not_of_frame S need w s j count (A_superblock u) there is has of =
 not_of_frame S need w s j count (A_root r) there is has of = absurd (not_one j (sym of.0))
 
 module _ (x : State) (g : GraphState) (w : World) (geometry : IsGeometry x.format (length x.written) x.pages x.sections) (is : IsWorldOf x g w)
-    (reason : Reason) (frame : List (List ℕ)) (l : Locator) (y : State) (h : GraphState) (a : IsAppended x g reason frame l y h)
+    (apart : Bool) (reason : Reason) (frame : List (List ℕ)) (l : Locator) (y : State) (h : GraphState) (a : IsAppendedBy apart x g reason frame l y h)
     (there : (shape x).section l.extent < (shape x).sections) where
   -- the section of the frame's extent
   abbrev j : ℕ
@@ -83,7 +83,7 @@ module _ (x : State) (g : GraphState) (w : World) (geometry : IsGeometry x.forma
   after_pages = stage_pages (shape x) w l.extent (w.extents.pointer l.extent) frame
 
   abbrev next : World
-  next = appended (shape x) w l.extent (need_of x j) frame
+  next = appended_by (shape x) apart reason w l.extent (need_of x j) frame
 
   module _ (same_extents : next.extents ≡ extents_of y) (persistent : next.persistent ≡ w.persistent) where
     version : suc (after_pages.superblocks j) ≡ get_or g.staging.latest (family_of j) 0 + 1

@@ -1,30 +1,25 @@
 -- What the calls of a store's parts do is what the machine's events do.
 use Rattle.std.proofs.Common.{◌≡◌, ◌≢◌, inl, inr, ℕ, suc, ◌+◌, ◌<◌, ◌≤◌, Bool, List, [], ◌∷◌, Some, None, drop, length, map, nat_le, false, true, refl, sym, ap, ◌∙◌, subst, arith}
-use Rattle.std.specs.Prelude.{reverse}
 use Rattle.std.proofs.lemmas.Bool.{cases_lt, false_from_ne_true}
-use Rattle.cs_deps.specs.declared.elements.Element.TheVariants.{Version}
-use Rattle.cs_deps.specs.State.{State as GraphState, write_of}
+use Rattle.cs_deps.specs.State.{State as GraphState}
 use Rattle.cs_extent.specs.Appended.{AreAppended}
-use Rattle.cs_extent.specs.Frames.{root_family}
-use Rattle.cs_extent.specs.State.{IsWhole, State as ExtentsState, extents_of, need_of, shape}
+use Rattle.cs_extent.specs.State.{IsWhole, State as ExtentsState, extents_of, shape}
 use Rattle.cs_frame.specs.declared.locators.Locator.{Locator}
 use Rattle.cs_frame.specs.Formats.{as_locator, formats_of, place_of}
-use Rattle.cs_frame.specs.Roots.{spelled_root}
 use Rattle.cs_index.proofs.Cases.{merged_exactly, reached_exactly, table_exactly}
 use Rattle.cs_index.specs.Merges.{deletions_go as index_deletions_go, reached, stage_takes as index_takes}
 use Rattle.cs_index.specs.Staged.{IsMergeAppended, IsMergeStaged, IsNewestStaged, IsPartAppended, IsPartStaged, IsRootStaged, IsRunAppended, IsTableStaged, run_frame}
 use Rattle.cs_index.specs.State.{IsSet, State as IndexState, index_of}
-use Rattle.cs_model.specs.Append.{Append, MergesTo, chunk_frames}
+use Rattle.cs_model.specs.Append.{Append, AppendsChunksBy, MergesTo, chunk_frames}
 use Rattle.cs_model.specs.Device.{Shape}
-use Rattle.cs_model.specs.Disk.{page_write}
-use Rattle.cs_model.specs.Element.{A_root, Entry, Locator as Place, Map, Run}
+use Rattle.cs_model.specs.Element.{Entry, Locator as Place, Run}
 use Rattle.cs_model.specs.Events.{Chunked, Does, ReadsNow, mark, retired, rooted}
-use Rattle.cs_model.specs.Extents.{Extents, ForMove, ForPut, ForRun, Purpose as Reason, emptied, marked}
-use Rattle.cs_model.specs.Formats.{ChunkFrame, RunFrame, places}
+use Rattle.cs_model.specs.Extents.{Extents, ForMove, ForPut, ForRun, Purpose as Reason, emptied, forgotten, marked}
+use Rattle.cs_model.specs.Formats.{ChunkFrame, RunFrame}
 use Rattle.cs_model.specs.Index.{NothingLive, live_at, lookup}
 use Rattle.cs_model.specs.Lists.{replaced, with}
 use Rattle.cs_model.specs.Merges.{MergesPart}
-use Rattle.cs_model.specs.Machine.{StageRoot, World, happens, root_now}
+use Rattle.cs_model.specs.Machine.{StageRoot, World, happens}
 use Rattle.cs_model.specs.State.{Abandon, Abandoned, Accepted, BeginSweep, Delete, MoveOne, Moved, Put, Retire, Retired, Stage, Staged, State, Sweeping, index_now, map_now}
 use Rattle.cs_reclaim.specs.Moves.{IsMoved}
 use Rattle.cs_reclaim.specs.Retired.{IsRetired}
@@ -32,29 +27,30 @@ use Rattle.cs_reclaim.specs.Sweeps.{IsNotSweepable}
 use Rattle.cs_refine.specs.Parts.{ArePartsOf, IsIndexOf}
 use Rattle.cs_refine.specs.Stores.{IsWorldOf}
 use Rattle.cs_refine.proofs.Appending.{after_append}
+use Rattle.cs_refine.proofs.DoesBefore.{begins_so, moves_so, retires_so, stages_so}
 use Rattle.cs_refine.proofs.Indexes.{after_set, first_live, live_same, looked_up, merged_run, nothing_live, some_table}
 use Rattle.cs_refine.proofs.Keeping.{after_appends, after_mark}
-use Rattle.cs_refine.proofs.Merges.{merges_there, run_there, stages_so}
+use Rattle.cs_refine.proofs.Merges.{merges_there, run_there}
 use Rattle.cs_refine.proofs.Numbers.{append_numbers}
 use Rattle.cs_refine.proofs.Resetting.{after_reset}
-use Rattle.cs_refine.proofs.Rooting.{after_root, next_version}
+use Rattle.cs_refine.proofs.RootsOver.{of_same_shape, root_staged_as, root_version}
 use Rattle.cs_refine.proofs.Shapes.{some_sections, store_shape}
 
 -- ---- puts and deletes
 
 module _ (x : ExtentsState) (g : GraphState) (i : IndexState) (s : State) (are : ArePartsOf x g i s) where
   pub put : (y : ExtentsState) (h : GraphState) (j : IndexState) (id : ℕ) (bytes : List ℕ) (cs : List (List ℕ)) (ls : List Locator)
-      → IsWhole x → Chunked (shape x).chunk_bytes bytes cs
+      → (shape x).apart ≡ false → IsWhole x → Chunked (shape x).chunk_bytes bytes cs
       → AreAppended x g ForPut (chunk_frames (shape x) (formats_of (shape x)) cs) ls y h → IsSet i id (map place_of ls) j
       → (t : State) × Does (shape x) (formats_of (shape x)) s (Put id bytes) (Accepted (suc (length s.commands))) t × ArePartsOf y h j t
-  put y h j id bytes cs ls whole cut all set =
+  put y h j id bytes cs ls together whole cut all set =
       let done = after_appends x y g h s.world ForPut (chunk_frames (shape x) (formats_of (shape x)) cs) ls whole.geometry are.world all in (
         record s {
           world = done.0;
           table = record { id = id; locators = map place_of ls } ∷ s.table;
           commands = (id, Some bytes) ∷ s.commands;
         },
-        (cs, map place_of ls, record s { world = done.0 }, cut, (done.0, done.1, refl), refl, refl),
+        (cs, map place_of ls, record s { world = done.0 }, cut, subst (λ (b : Bool). AppendsChunksBy (shape x) (formats_of (shape x)) b s cs (map place_of ls) (record s { world = done.0 })) (sym together) (done.0, done.1, refl), refl, refl),
         record { world = done.2; index = after_set i s.table s.runs are.index id (map place_of ls) j set },
       )
 
@@ -74,27 +70,6 @@ run_append : (x y : ExtentsState) (g h : GraphState) (w : World) (reason : Reaso
 unfolding run_frame
 run_append x y g h w reason entries place whole is a =
     after_append x g w whole.geometry is reason (run_frame x entries) (as_locator place) y h a
-
--- the root over these runs is the machine's next, whatever it remembers
-module _ (x : ExtentsState) (g h : GraphState) (w : World) (v commands : ℕ) (runs : List Run) (some : 0 < (shape x).sections) (is : IsWorldOf x g w) (root : IsRootStaged x.format g h v commands runs) where
-  pub root_version : v ≡ suc w.root
-  root_version = next_version (shape x) some (need_of x) w g.staging is.staging v root.needs h.staging root.version root.names
-
-  root_staged : (m : Map) (pointers : ℕ → ℕ) → IsWorldOf x h (happens (shape x) w (StageRoot commands runs m pointers))
-  root_staged m pointers =
-      let oldest : List Locator = map as_locator (reverse (places runs)) in
-      let kept : write_of h (Version root_family v) ≡ Some (page_write (shape x) (formats_of (shape x)) (A_root (root_now (shape x) w commands runs m pointers))) =
-      root.page.1 ∙ ap (λ (b : List ℕ). Some (1, b)) (root.page.2.spelled ∙ ap (λ (k : ℕ). spelled_root x.format k commands oldest) root_version) in
-      after_root x g h w some is v root.needs root.version root.names commands runs m pointers kept root.others
-
-  -- the same of the shape by another name
-  pub root_staged_as : (S : Shape) → shape x ≡ S → (m : Map) (pointers : ℕ → ℕ) → IsWorldOf x h (happens S w (StageRoot commands runs m pointers))
-  root_staged_as S same m pointers = subst (λ (T : Shape). IsWorldOf x h (happens T w (StageRoot commands runs m pointers))) same (root_staged m pointers)
-
--- extents of the same shape have the same format
-of_same_shape : (x y : ExtentsState) (g h : GraphState) (v commands : ℕ) (runs : List Run) → shape y ≡ shape x
-    → IsRootStaged x.format g h v commands runs → IsRootStaged y.format g h v commands runs
-of_same_shape x y g h v commands runs same = subst (λ (S : Shape). IsRootStaged S.format g h v commands runs) (sym same)
 
 -- ---- stages
 
@@ -154,15 +129,15 @@ module _ (x : ExtentsState) (g : GraphState) (i : IndexState) (s : State) (whole
       ap shape same,
     )
 
-  pub newest_staged : (y : ExtentsState) (h : GraphState) (j : IndexState) (v : ℕ) → i.table ≢ [] → IsNewestStaged (index_takes (shape x) i) i x g v commands j y h
+  pub newest_staged : (y : ExtentsState) (h : GraphState) (j : IndexState) (v : ℕ) → (shape x).apart ≡ false → i.table ≢ [] → IsNewestStaged (index_takes (shape x) i) i x g v commands j y h
       → (t : State) × Does (shape x) (formats_of (shape x)) s Stage (Staged v) t × ArePartsOf y h j t
-  newest_staged y h j v some done =
+  newest_staged y h j v together some done =
       let merged = part_merges (index_deletions_go (shape x) i (index_takes (shape x) i)) (index_takes (shape x) i) j.runs y done.between done.appended in
       let root : IsRootStaged y.format done.between h v commands j.runs = of_same_shape x y done.between h v commands j.runs merged.4 done.root in
       let some_here : 0 < (shape y).sections = some_there y merged.4 in
       let mid : State = record s { world = merged.0 } in (
         rooted (shape x) (formats_of (shape x)) mid j.runs merged.0.extents.pointer,
-        stages_so (shape x) (formats_of (shape x)) s (rooted (shape x) (formats_of (shape x)) mid j.runs merged.0.extents.pointer) v refl (
+        stages_so (shape x) (formats_of (shape x)) together s (rooted (shape x) (formats_of (shape x)) mid j.runs merged.0.extents.pointer) v (
           some_table i s.table s.runs are.index some,
           root_version y done.between h merged.0 v commands j.runs some_here merged.2 root ∙ ap suc merged.3,
           mid,
@@ -177,35 +152,35 @@ module _ (x : ExtentsState) (g : GraphState) (i : IndexState) (s : State) (whole
       )
 
   -- where a Stage merges by size, as much is merged as is reached
-  pub sized_staged : (y : ExtentsState) (h : GraphState) (j : IndexState) (v : ℕ) → (shape x).by_size ≡ true → i.table ≢ []
+  pub sized_staged : (y : ExtentsState) (h : GraphState) (j : IndexState) (v : ℕ) → (shape x).apart ≡ false → (shape x).by_size ≡ true → i.table ≢ []
       → IsPartStaged (nat_le (length i.runs) (reached (shape x) i)) (reached (shape x) i) i x g ForRun v commands j y h
       → (t : State) × Does (shape x) (formats_of (shape x)) s Stage (Staged v) t × ArePartsOf y h j t
-  sized_staged y h j v sized some done = newest_staged y h j v some ((reached_exactly i x g v commands j y h sized).1 done)
+  sized_staged y h j v together sized some done = newest_staged y h j v together some ((reached_exactly i x g v commands j y h sized).1 done)
 
   -- where it doesn't, that is the table's run where there are fewer than four, else the one of all that is live
-  pub table_staged : (y : ExtentsState) (h : GraphState) (j : IndexState) (v : ℕ) → (shape x).by_size ≡ false → i.table ≢ [] → length i.runs < 4
+  pub table_staged : (y : ExtentsState) (h : GraphState) (j : IndexState) (v : ℕ) → (shape x).apart ≡ false → (shape x).by_size ≡ false → i.table ≢ [] → length i.runs < 4
       → IsTableStaged i x g v commands j y h
       → (t : State) × Does (shape x) (formats_of (shape x)) s Stage (Staged v) t × ArePartsOf y h j t
-  table_staged y h j v before some few done = newest_staged y h j v some ((table_exactly i x g v commands j y h before some few).1 done)
+  table_staged y h j v together before some few done = newest_staged y h j v together some ((table_exactly i x g v commands j y h before some few).1 done)
 
-  pub merge_staged : (y : ExtentsState) (h : GraphState) (j : IndexState) (v : ℕ) → (shape x).by_size ≡ false → i.table ≢ [] → 4 ≤ length i.runs
+  pub merge_staged : (y : ExtentsState) (h : GraphState) (j : IndexState) (v : ℕ) → (shape x).apart ≡ false → (shape x).by_size ≡ false → i.table ≢ [] → 4 ≤ length i.runs
       → IsMergeStaged i x g ForRun v commands j y h
       → (t : State) × Does (shape x) (formats_of (shape x)) s Stage (Staged v) t × ArePartsOf y h j t
-  merge_staged y h j v before some many done = newest_staged y h j v some ((merged_exactly i x g v commands j y h before many).1 done)
+  merge_staged y h j v together before some many done = newest_staged y h j v together some ((merged_exactly i x g v commands j y h before many).1 done)
 
   -- ---- sweeps
 
-  pub move : (y : ExtentsState) (h : GraphState) (j : IndexState) (e id chunk : ℕ) (payload : List ℕ) → s.world.extents.swept e ≡ true
+  pub move : (y : ExtentsState) (h : GraphState) (j : IndexState) (e id chunk : ℕ) (payload : List ℕ) → (shape x).apart ≡ false → s.world.extents.swept e ≡ true
       → (moved : IsMoved i x g e id chunk payload j y h) → s.opening.damage moved.from ≡ None
       → ReadsNow (shape x) (formats_of (shape x)) s moved.from ChunkFrame payload
       → (t : State) × Does (shape x) (formats_of (shape x)) s (MoveOne e) (Moved id chunk) t × ArePartsOf y h j t
-  move y h j e id chunk payload swept moved whole_chunk reads =
+  move y h j e id chunk payload together swept moved whole_chunk reads =
       let done = after_append x g s.world whole.geometry are.world ForMove ((formats_of (shape x)).frame ChunkFrame payload) moved.to y h moved.appended in
       let here : List Place = replaced (live_at (index_now s) id) chunk (place_of moved.to) in
       let set : IsSet i id here j =
       subst (λ (ls : List Place). IsSet i id (replaced ls chunk (place_of moved.to)) j) (live_same (index_of i) (index_now s) (looked_up i s.table s.runs are.index) id) moved.entry in (
         record s { world = done.0; table = record { id = id; locators = here } ∷ s.table },
-        (
+        moves_so (shape x) (formats_of (shape x)) together s (record s { world = done.0; table = record { id = id; locators = here } ∷ s.table }) e id chunk (
           moved.from,
           place_of moved.to,
           payload,
@@ -220,10 +195,10 @@ module _ (x : ExtentsState) (g : GraphState) (i : IndexState) (s : State) (whole
         record { world = done.2; index = after_set i s.table s.runs are.index id here j set },
       )
 
-  pub retire : (y : ExtentsState) (h : GraphState) (j : IndexState) (e v : ℕ) → s.world.extents.swept e ≡ true → e < (shape x).extents → shape y ≡ shape x
+  pub retire : (y : ExtentsState) (h : GraphState) (j : IndexState) (e v : ℕ) → (shape x).apart ≡ false → s.world.extents.swept e ≡ true → e < (shape x).extents → shape y ≡ shape x
       → NothingLive (index_of i) e → IsRetired i x g e v commands j y h
       → (t : State) × Does (shape x) (formats_of (shape x)) s (Retire e) (Retired v) t × ArePartsOf y h j t
-  retire y h j e v swept inside same nothing (mid, done, extents) =
+  retire y h j e v together swept inside same nothing (mid, done, extents) =
       let merged = merges ForMove j.runs mid done.between done.appended in
       let root : IsRootStaged mid.format done.between h v commands j.runs = of_same_shape x mid done.between h v commands j.runs merged.4 done.root in
       let before : State = record s { world = merged.0 } in
@@ -232,11 +207,12 @@ module _ (x : ExtentsState) (g : GraphState) (i : IndexState) (s : State) (whole
       let version : v ≡ suc merged.0.root = root_version mid done.between h merged.0 v commands j.runs some_here merged.2 root in
       let staged = root_staged_as mid done.between h merged.0 v commands j.runs some_here merged.2 root (shape x) merged.4 (map_now s) pointers in
       let rooted_world : World = happens (shape x) merged.0 (StageRoot commands j.runs (map_now s) pointers) in
-      let emptied_now : Extents = marked (emptied merged.0.extents e (suc merged.0.root)) e false in
+      let emptied_now : Extents = marked (forgotten (shape x).apart (emptied merged.0.extents e (suc merged.0.root)) e) e false in
       let is : extents_of y ≡ emptied_now = extents ∙ ap (λ (z : Extents). marked (emptied z e v) e false) (sym merged.2.extents)
-      ∙ ap (λ (k : ℕ). marked (emptied merged.0.extents e k) e false) version in (
+      ∙ ap (λ (k : ℕ). marked (emptied merged.0.extents e k) e false) version
+      ∙ ap (λ (b : Bool). marked (forgotten b (emptied merged.0.extents e (suc merged.0.root)) e) e false) (sym together) in (
         retired (shape x) (formats_of (shape x)) before j.runs e,
-        (
+        retires_so (shape x) (formats_of (shape x)) together s (retired (shape x) (formats_of (shape x)) before j.runs e) e v (
           swept,
           nothing_live (index_of i) (index_now s) (looked_up i s.table s.runs are.index) e nothing,
           version ∙ ap suc merged.3,
@@ -254,11 +230,11 @@ module _ (x : ExtentsState) (g : GraphState) (i : IndexState) (s : State) (whole
 -- ---- marks
 
 module _ (x y : ExtentsState) (g : GraphState) (i : IndexState) (s : State) (e : ℕ) (are : ArePartsOf x g i s) (same : shape y ≡ shape x) where
-  pub sweep : ¬ IsNotSweepable (shape x) (extents_of x) e → extents_of y ≡ marked (extents_of x) e true
+  pub sweep : (shape x).apart ≡ false → ¬ IsNotSweepable (shape x) (extents_of x) e → extents_of y ≡ marked (extents_of x) e true
       → Does (shape x) (formats_of (shape x)) s (BeginSweep e) Sweeping (mark s e true) × ArePartsOf y g i (mark s e true)
-  sweep may extents =
+  sweep together may extents =
       let not : ¬ IsNotSweepable (shape x) s.world.extents e = (λ is. may (subst (λ (z : Extents). IsNotSweepable (shape x) z e) are.world.extents is)) in (
-        (
+        begins_so (shape x) (formats_of (shape x)) together s (mark s e true) e (
           false_from_ne_true (s.world.extents.swept e) (λ is. not (inr (inr (inr is)))),
           (λ is. not (inl is)),
           elim (cases_lt e (shape x).extents) [ inl lt ↦ lt | inr ge ↦ absurd (not (inr (inl ge))) ],

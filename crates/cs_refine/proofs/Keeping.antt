@@ -5,7 +5,7 @@ use Rattle.cs_deps.specs.declared.elements.Element.{Element as Name}
 use Rattle.cs_deps.specs.Pending.{Waits}
 use Rattle.cs_deps.specs.Staging.{Staging, settled}
 use Rattle.cs_deps.specs.State.{AddsNone, KeepsBytes, State as GraphState, Write as PageWrite, IsWhole as IsWholeGraph, write_of}
-use Rattle.cs_model.specs.Append.{AppendAll}
+use Rattle.cs_model.specs.Append.{AppendAll, AppendAllBy}
 use Rattle.cs_model.specs.Cut.{Closed, Cut, Within, satisfied}
 use Rattle.cs_model.specs.Device.{Shape}
 use Rattle.cs_model.specs.Disk.{page_write}
@@ -20,11 +20,11 @@ use Rattle.cs_model.specs.State.{State}
 use Rattle.cs_frame.specs.Formats.{formats_of, place_of}
 use Rattle.cs_frame.specs.Geometries.{IsGeometry}
 use Rattle.cs_frame.specs.declared.locators.Locator.{Locator}
-use Rattle.cs_extent.specs.Appended.{AreAppended}
+use Rattle.cs_extent.specs.Appended.{AreAppended, AreAppendedBy}
 use Rattle.cs_extent.specs.State.{State as ExtentsState, extents_of, need_of, shape}
 use Rattle.cs_refine.specs.Bridge.{AreNames, IsWaiting, name, waiting_in}
 use Rattle.cs_refine.specs.Stores.{AreMemberNames, AreWritesOf, IsRecorded, IsStagingOf, IsWorldOf}
-use Rattle.cs_refine.proofs.Appending.{after_append}
+use Rattle.cs_refine.proofs.Appending.{after_append_by}
 use Rattle.cs_refine.proofs.Places.{match_in, to_waiting}
 use Rattle.cs_refine.proofs.Settling.{round_settled, some_section, still}
 use Rattle.cs_refine.proofs.Shapes.{need_same}
@@ -141,22 +141,27 @@ after_mark x y g w e b is same extents =
       writes = subst (λ (S : Shape). AreWritesOf S next g) (sym same) (λ m p waits kept. is.writes m p waits kept);
     }
 
-pub after_appends : (x y : ExtentsState) (g h : GraphState) (w : World) (reason : Reason) (frames : List (List (List ℕ))) (ls : List Locator)
-    → IsGeometry (shape x).format (shape x).extents (shape x).pages (shape x).sections → IsWorldOf x g w → AreAppended x g reason frames ls y h
-    → (v : World) × AppendAll (shape x) w reason frames (map place_of ls) v × IsWorldOf y h v
-after_appends x y g h w reason [] [] geometry is all = (
+pub after_appends_by : (apart : Bool) (x y : ExtentsState) (g h : GraphState) (w : World) (reason : Reason) (frames : List (List (List ℕ))) (ls : List Locator)
+    → IsGeometry (shape x).format (shape x).extents (shape x).pages (shape x).sections → IsWorldOf x g w → AreAppendedBy apart x g reason frames ls y h
+    → (v : World) × AppendAllBy (shape x) apart w reason frames (map place_of ls) v × IsWorldOf y h v
+after_appends_by apart x y g h w reason [] [] geometry is all = (
   w,
   refl,
   subst (λ (z : ExtentsState). IsWorldOf z h w) (sym all.0)
       (subst (λ (k : GraphState). IsWorldOf x k w) (sym all.1) (record { extents = is.extents; staging = is.staging; recorded = is.recorded; resets = is.resets; writes = is.writes })),
 )
-after_appends x y g h w reason [] (l ∷ ls) geometry is all = absurd all
-after_appends x y g h w reason (frame ∷ frames) [] geometry is all = absurd all
-after_appends x y g h w reason (frame ∷ frames) (l ∷ ls) geometry is all =
-    let one = after_append x g w geometry is reason frame l all.0 all.1 all.2 in
+after_appends_by apart x y g h w reason [] (l ∷ ls) geometry is all = absurd all
+after_appends_by apart x y g h w reason (frame ∷ frames) [] geometry is all = absurd all
+after_appends_by apart x y g h w reason (frame ∷ frames) (l ∷ ls) geometry is all =
+    let one = after_append_by x g w geometry is apart reason frame l all.0 all.1 all.2 in
     let same : shape all.0 ≡ shape x = all.2.same_shape in
-    let rest = after_appends all.0 y all.1 h one.0 reason frames ls (subst (λ (S : Shape). IsGeometry S.format S.extents S.pages S.sections) (sym same) geometry) one.2 all.3 in
-    (rest.0, (one.0, one.1, subst (λ (S : Shape). AppendAll S one.0 reason frames (map place_of ls) rest.0) same rest.1), rest.2)
+    let rest = after_appends_by apart all.0 y all.1 h one.0 reason frames ls (subst (λ (S : Shape). IsGeometry S.format S.extents S.pages S.sections) (sym same) geometry) one.2 all.3 in
+    (rest.0, (one.0, one.1, subst (λ (S : Shape). AppendAllBy S apart one.0 reason frames (map place_of ls) rest.0) same rest.1), rest.2)
+
+pub after_appends : (x y : ExtentsState) (g h : GraphState) (w : World) (reason : Reason) (frames : List (List (List ℕ))) (ls : List Locator)
+    → IsGeometry (shape x).format (shape x).extents (shape x).pages (shape x).sections → IsWorldOf x g w → AreAppended x g reason frames ls y h
+    → (v : World) × AppendAll (shape x) w reason frames (map place_of ls) v × IsWorldOf y h v
+after_appends x y g h w reason frames ls geometry is all = after_appends_by false x y g h w reason frames ls geometry is all
 
 -- what waits in the world waits in its graph
 pub waits_in : (x : ExtentsState) (g : GraphState) (w : World) (m : Element) → IsWorldOf x g w → IsWaiting w m → Waits g.staging.pending (name m)

@@ -1,20 +1,18 @@
 -- A Stage merges as much of an index as of the machine's.
-use Rattle.std.proofs.Common.{◌≡◌, ◌≢◌, ℕ, suc, ◌-◌, ◌*◌, ◌&&◌, ◌||◌, ◌++◌, Bool, false, List, [], length, take, Option, nat_le, nat_lt, if◌then◌else◌, refl, sym, ap, ◌∙◌, subst}
+use Rattle.std.proofs.Common.{◌≡◌, ℕ, ◌-◌, ◌*◌, ◌&&◌, ◌||◌, ◌++◌, Bool, false, List, length, take, Option, nat_le, nat_lt, if◌then◌else◌, refl, sym, ap, ◌∙◌, subst}
 use Rattle.cs_index.proofs.Names.{names_of_lookups}
 use Rattle.cs_index.specs.Merges.{deletions_go as index_deletions_go, part as index_part, stage_takes as index_takes}
 use Rattle.cs_index.specs.State.{State as IndexState, index_of}
 use Rattle.cs_model.proofs.Gives.{lookup_append}
-use Rattle.cs_model.proofs.Rules.{rule_before}
 use Rattle.cs_model.proofs.Sorted.{one_sorted}
 use Rattle.cs_model.proofs.Tallies.{counts_alike}
 use Rattle.cs_model.specs.Device.{Shape}
 use Rattle.cs_model.specs.Element.{Entry, Locator, Run}
-use Rattle.cs_model.specs.Events.{Does, rooted}
 use Rattle.cs_model.specs.Extents.{ForRun}
 use Rattle.cs_model.specs.Formats.{Formats}
 use Rattle.cs_model.specs.Index.{entries_of, if_live, lookup, names}
 use Rattle.cs_model.specs.Merges.{IsRunOf, MergesNewest, MergesPart, deletions_go, part, reaching, sizes, stage_takes}
-use Rattle.cs_model.specs.State.{Stage, Staged, State, index_now}
+use Rattle.cs_model.specs.State.{State, index_now}
 use Rattle.cs_model.specs.Tally.{one_if_some, shards}
 use Rattle.cs_refine.specs.Parts.{IsIndexOf}
 use Rattle.cs_refine.proofs.Indexes.{as_many_named, live_same, looked_up}
@@ -66,9 +64,3 @@ module _ (S : Shape) (i : IndexState) (s : State) (is : IsIndexOf i s.table s.ru
     pub merges_here : MergesNewest S F s ForRun (stage_takes S s) mid runs → MergesPart S F false (index_deletions_go S i (index_takes S i)) s ForRun (index_takes S i) mid runs
     merges_here m = subst (λ (b : Bool). MergesPart S F false b s ForRun (index_takes S i) mid runs) (sym (same_goes (index_takes S i)))
         (subst (λ (n : ℕ). MergesNewest S F s ForRun n mid runs) (sym same_takes) m)
-
--- what a Stage does where chunks and runs may lie on one extent
-pub stages_so : (S : Shape) (F : Formats) (s t : State) (v : ℕ) → S.apart ≡ false
-    → (s.table ≢ []) × (v ≡ suc s.world.root) × (mid : State) × (runs : List Run) × MergesNewest S F s ForRun (stage_takes S s) mid runs × (t ≡ rooted S F mid runs mid.world.extents.pointer)
-    → Does S F s Stage (Staged v) t
-stages_so S F s t v before so = rule_before _ _ S.apart before so

@@ -1,11 +1,11 @@
 -- What appends do to the numbers, and when one of them is past its greatest.
-use Rattle.std.proofs.Common.{◌≡◌, ◌⊎◌, inl, inr, ℕ, suc, ◌+◌, ◌^◌, ◌<◌, ◌≤◌, ◌==◌, cond, List, [], ◌∷◌, length, sym, ap, ◌∙◌, subst, arith}
+use Rattle.std.proofs.Common.{◌≡◌, ◌⊎◌, inl, inr, ℕ, suc, ◌+◌, ◌^◌, ◌<◌, ◌≤◌, ◌==◌, cond, Bool, false, List, [], ◌∷◌, length, sym, ap, ◌∙◌, subst, arith}
 use Rattle.std.specs.Prelude.{sum}
 use Rattle.std.proofs.lemmas.Bool.{cases_eq}
 use Rattle.std.proofs.lemmas.List.Sums.{sum_by-cons}
-use Rattle.cs_model.proofs.Needs.{after_extents, appended_numbers}
+use Rattle.cs_model.proofs.Needs.{after_extents_by, appended_numbers}
 use Rattle.cs_model.proofs.Parts.{with_other, with_same}
-use Rattle.cs_model.specs.Append.{Append, AppendAll, page_counts}
+use Rattle.cs_model.specs.Append.{Append, AppendAll, AppendAllBy, AppendBy, page_counts}
 use Rattle.cs_model.specs.Device.{IsShape, Page, Shape}
 use Rattle.cs_model.specs.Element.{Locator}
 use Rattle.cs_model.specs.Extents.{Extents, Purpose}
@@ -16,7 +16,7 @@ use Rattle.cs_model.specs.Machine.{World}
 use Rattle.cs_model.specs.State.{State}
 use Rattle.cs_extent.proofs.Worn.{in_section_here, in_section_other}
 use Rattle.cs_extent.specs.State.{State as ExtentsState, shape}
-use Rattle.cs_extent.specs.Worn.{ArePlaced, in_section}
+use Rattle.cs_extent.specs.Worn.{ArePlaced, ArePlacedBy, in_section}
 
 module _ (S : Shape) where
   -- of the places of frames, those in a section are counted one by one
@@ -47,9 +47,9 @@ module _ (S : Shape) where
       same a n none = omega arith
 
   module _ (store : IsShape S) where
-    pub append_numbers : (w v : World) (purpose : Purpose) (bs : List Page) (l : Locator) → (a : Append S w purpose bs l v)
+    pub append_numbers_by : (apart : Bool) (w v : World) (purpose : Purpose) (bs : List Page) (l : Locator) → (a : AppendBy S apart w purpose bs l v)
         → (v.written ≡ w.written + length bs) × ((j : ℕ) → v.superblocks j ≡ w.superblocks j + in_section S j (a.extent ∷ [])) × (v.root ≡ w.root)
-    append_numbers w v purpose bs l a =
+    append_numbers_by apart w v purpose bs l a =
         let n = appended_numbers S store w a.extent a.need bs in (
           ap (λ (u : World). u.written) a.after ∙ n.0,
           (λ j. ap (λ (u : World). u.superblocks j) a.after ∙ ap (λ (f : ℕ → ℕ). f j) n.1 ∙ one_version w.superblocks a.extent j),
@@ -57,26 +57,26 @@ module _ (S : Shape) where
         )
 
     -- frames that are appended one after another go to these extents
-    pub all_numbers : (w v : World) (purpose : Purpose) (frames : List (List Page)) (ls : List Locator) → AppendAll S w purpose frames ls v
-        → (places : List ℕ) × ArePlaced S w.extents purpose (page_counts frames) places × (v.written ≡ w.written + sum (page_counts frames))
+    pub all_numbers_by : (apart : Bool) (w v : World) (purpose : Purpose) (frames : List (List Page)) (ls : List Locator) → AppendAllBy S apart w purpose frames ls v
+        → (places : List ℕ) × ArePlacedBy S apart w.extents purpose (page_counts frames) places × (v.written ≡ w.written + sum (page_counts frames))
         × ((j : ℕ) → v.superblocks j ≡ w.superblocks j + in_section S j places) × (v.root ≡ w.root)
-    all_numbers w v purpose [] [] is = (
+    all_numbers_by apart w v purpose [] [] is = (
       [],
       tt,
       ap (λ (u : World). u.written) is ∙ (let n : w.written ≡ w.written + 0 = omega arith in n),
       (λ j. ap (λ (u : World). u.superblocks j) is ∙ (let n : w.superblocks j ≡ w.superblocks j + 0 = omega arith in n)),
       ap (λ (u : World). u.root) is,
     )
-    all_numbers w v purpose [] (l ∷ ls) is = absurd is
-    all_numbers w v purpose (bs ∷ frames) [] is = absurd is
-    all_numbers w v purpose (bs ∷ frames) (l ∷ ls) (mid, a, rest) =
-        let first = append_numbers w mid purpose bs l a in
-        let others = all_numbers mid v purpose frames ls rest in
+    all_numbers_by apart w v purpose [] (l ∷ ls) is = absurd is
+    all_numbers_by apart w v purpose (bs ∷ frames) [] is = absurd is
+    all_numbers_by apart w v purpose (bs ∷ frames) (l ∷ ls) (mid, a, rest) =
+        let first = append_numbers_by apart w mid purpose bs l a in
+        let others = all_numbers_by apart mid v purpose frames ls rest in
         let pages : mid.written ≡ w.written + length bs = first.0 in (
           a.extent ∷ others.0,
           (
             a.placed,
-            subst (λ (z : Extents). ArePlaced S z purpose (page_counts frames) others.0) (after_extents S store w mid purpose bs l a) others.1,
+            subst (λ (z : Extents). ArePlacedBy S apart z purpose (page_counts frames) others.0) (after_extents_by S store apart w mid purpose bs l a) others.1,
           ),
           others.2 ∙ (let more : sum (length bs ∷ page_counts frames) ≡ length bs + sum (page_counts frames) = sum_by-cons (λ k. k) (length bs) (page_counts frames) in omega arith),
           (λ j. others.3 j ∙ summed (w.superblocks j) (mid.superblocks j) (in_section S j (a.extent ∷ [])) (in_section S j others.0) (in_section S j (a.extent ∷ others.0))
@@ -86,6 +86,16 @@ module _ (S : Shape) where
       where
         summed : (a b m n k : ℕ) → b ≡ a + m → k ≡ m + n → b + n ≡ a + k
         summed a b m n k one all = omega arith
+
+    -- without the rule that keeps chunks and runs apart
+    pub append_numbers : (w v : World) (purpose : Purpose) (bs : List Page) (l : Locator) → (a : Append S w purpose bs l v)
+        → (v.written ≡ w.written + length bs) × ((j : ℕ) → v.superblocks j ≡ w.superblocks j + in_section S j (a.extent ∷ [])) × (v.root ≡ w.root)
+    append_numbers w v purpose bs l a = append_numbers_by false w v purpose bs l a
+
+    pub all_numbers : (w v : World) (purpose : Purpose) (frames : List (List Page)) (ls : List Locator) → AppendAll S w purpose frames ls v
+        → (places : List ℕ) × ArePlaced S w.extents purpose (page_counts frames) places × (v.written ≡ w.written + sum (page_counts frames))
+        × ((j : ℕ) → v.superblocks j ≡ w.superblocks j + in_section S j places) × (v.root ≡ w.root)
+    all_numbers w v purpose frames ls all = all_numbers_by false w v purpose frames ls all
 
 -- after so many more writes, versions of each section, versions of the root and commands a number is past its greatest
 abbrev pub IsPast : Shape → State → (writes : ℕ) → (versions : ℕ → ℕ) → (roots commands : ℕ) → Type 0

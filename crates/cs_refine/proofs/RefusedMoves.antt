@@ -1,5 +1,5 @@
 -- Why a MoveOne is refused.
-use Rattle.std.proofs.Common.{◌≡◌, ◌↔◌, inl, inr, ⊎_elim, ℕ, ◌+◌, ◌≤◌, true, List, [], ◌∷◌, None, length, refl, sym, ap, ◌∙◌, subst, le_of_eq, le_trans, arith}
+use Rattle.std.proofs.Common.{◌≡◌, ◌↔◌, inl, inr, ⊎_elim, ℕ, ◌+◌, ◌≤◌, true, List, [], ◌∷◌, None, false, length, refl, sym, ap, ◌∙◌, subst, le_of_eq, le_trans, arith}
 use Rattle.cs_deps.specs.State.{State as GraphState}
 use Rattle.cs_extent.specs.Frames.{IsWorn}
 use Rattle.cs_extent.specs.State.{IsWhole, State as ExtentsState, extents_of, shape}
@@ -21,6 +21,7 @@ use Rattle.cs_model.specs.Machine.{World}
 use Rattle.cs_model.specs.Sound.{Bounded, Sound}
 use Rattle.cs_model.specs.State.{MoveOne, Moved, NoneLive, Reply, State, index_now}
 use Rattle.cs_reclaim.specs.Moves.{chunk_frame}
+use Rattle.cs_refine.proofs.DoesBefore.{Moves, moved, moves_so, none_moved}
 use Rattle.cs_refine.proofs.Indexes.{first_live, looked_up}
 use Rattle.cs_refine.proofs.Numbers.{append_numbers, past, past_too}
 use Rattle.cs_refine.proofs.RefusedPuts.{IsOver, no_command, no_root, of_frame, to_frame, young}
@@ -102,9 +103,9 @@ module _ (x : ExtentsState) (g : GraphState) (i : IndexState) (s : State) (whole
           (to_frame x g i s whole are sound bounded a.extent (length (chunk_frame x payload)) 0 0 (inl (worn_here over)))
 
     -- the numbers of a state don't hang on its table
-    would : (reply : Reply) (t : State) → Does (shape x) (formats_of (shape x)) s (MoveOne e) reply t → PastLimit (shape x) (formats_of (shape x)) t → IsFrameWorn x ForMove g.staging (length (chunk_frame x payload))
-    would NoneLive t (swept, nothing, same) over = absurd (not_nothing (shape x) (formats_of (shape x)) (store_shape x whole) (store_format x whole) s e id chunk l first nothing)
-    would (Moved d k) t (m, new, bytes, mid, swept, other, undamaged, there, (v, a, same), is) over =
+    moved_past : (d k : ℕ) (t : State) → Moves (shape x) (formats_of (shape x)) s t e d k → PastLimit (shape x) (formats_of (shape x)) t
+        → IsFrameWorn x ForMove g.staging (length (chunk_frame x payload))
+    moved_past d k t (m, new, bytes, mid, swept, other, undamaged, there, (v, a, same), is) over =
         move_past new v (subst (λ (b : List ℕ). Append (shape x) s.world ForMove (chunk_frame x b) new v) (same_payload d k m bytes other there) a)
         (of_table (subst (λ (u : State). PastLimit (shape x) (formats_of (shape x)) u)
         (is ∙ ap (λ (u : State). record u { table = record { id = d; locators = replaced (live_at (index_now s) d) k new } ∷ u.table }) same) over))
@@ -112,18 +113,24 @@ module _ (x : ExtentsState) (g : GraphState) (i : IndexState) (s : State) (whole
         of_table : PastLimit (shape x) (formats_of (shape x)) (record s { world = v; table = record { id = d; locators = replaced (live_at (index_now s) d) k new } ∷ s.table })
             → PastLimit (shape x) (formats_of (shape x)) (after_move new v)
         of_table over = over
-    would reply t d over = absurd d
 
-    pub move_worn : s.world.extents.swept e ≡ true → s.opening.damage l ≡ None → ¬ NoPlace (shape x) (extents_of x) ForMove (length (chunk_frame x payload))
+    would : (shape x).apart ≡ false → (reply : Reply) (t : State) → Does (shape x) (formats_of (shape x)) s (MoveOne e) reply t → PastLimit (shape x) (formats_of (shape x)) t
+        → IsFrameWorn x ForMove g.staging (length (chunk_frame x payload))
+    would together NoneLive t does over = absurd (not_nothing (shape x) (formats_of (shape x)) (store_shape x whole) (store_format x whole) s e id chunk l first
+        (none_moved (shape x) (formats_of (shape x)) together s t e does).1)
+    would together (Moved d k) t does over = moved_past d k t (moved (shape x) (formats_of (shape x)) together s t e d k does) over
+    would together reply t d over = absurd d
+
+    pub move_worn : (shape x).apart ≡ false → s.world.extents.swept e ≡ true → s.opening.damage l ≡ None → ¬ NoPlace (shape x) (extents_of x) ForMove (length (chunk_frame x payload))
         → WouldPass (shape x) (formats_of (shape x)) s (MoveOne e) ↔ IsFrameWorn x ForMove g.staging (length (chunk_frame x payload))
-    move_worn swept undamaged room = (
-      (λ passes. would passes.0 passes.1 passes.2 passes.3),
+    move_worn together swept undamaged room = (
+      (λ passes. would together passes.0 passes.1 passes.2 passes.3),
       (λ over. ⊎_elim
           (λ (at : (d : ℕ) × Placed (shape x) (extents_of x) ForMove (length (chunk_frame x payload)) d).
           let a = append_there (shape x) s.world ForMove (chunk_frame x payload) at.0 (placed_there at.0 at.1) in (
             Moved id chunk,
             after_move a.0 a.1,
-            (l, a.0, payload, record s { world = a.1 }, swept, first, undamaged, reads, (a.1, a.2, refl), refl),
+            moves_so (shape x) (formats_of (shape x)) together s (after_move a.0 a.1) e id chunk (l, a.0, payload, record s { world = a.1 }, swept, first, undamaged, reads, (a.1, a.2, refl), refl),
             move_past_back a.0 a.1 a.2 over,
           ))
           (λ (none : NoPlace (shape x) (extents_of x) ForMove (length (chunk_frame x payload))). absurd (room none))

@@ -1,42 +1,44 @@
 -- Why a put and a delete are refused.
-use Rattle.std.proofs.Common.{◌≡◌, ◌≢◌, ◌⊎◌, ◌↔◌, inl, inr, ℕ, suc, ◌+◌, ◌^◌, ◌<◌, ◌≤◌, List, [], ◌∷◌, Some, None, length, refl, sym, ap, ◌∙◌, subst, le_of_eq, le_trans, arith}
-use Rattle.std.proofs.lemmas.Bool.{cases_eq}
-use Rattle.std.specs.Prelude.{slice_index, sum}
+use Rattle.std.proofs.Common.{◌≡◌, ◌≢◌, ◌⊎◌, ◌↔◌, inl, inr, ℕ, suc, ◌+◌, ◌^◌, ◌<◌, ◌≤◌, Bool, false, List, [], ◌∷◌, Some, None, length, refl, sym, ap, ◌∙◌, subst, le_of_eq, le_trans, arith}
+use Rattle.std.specs.Prelude.{sum}
 use Rattle.cs_deps.specs.State.{State as GraphState}
-use Rattle.cs_extent.proofs.Worn.{in_section_here, in_section_other, places_once}
-use Rattle.cs_extent.specs.Frames.{IsWorn, family_of}
+use Rattle.cs_extent.proofs.Worn.{places_once_by}
 use Rattle.cs_extent.specs.State.{IsWhole, State as ExtentsState, extents_of, shape}
-use Rattle.cs_extent.specs.Worn.{ArePlaced, AreWorn, in_section}
+use Rattle.cs_extent.specs.Worn.{ArePlacedBy, AreWorn, AreWornBy, in_section}
 use Rattle.cs_frame.specs.Formats.{formats_of}
 use Rattle.cs_index.specs.State.{State as IndexState}
 use Rattle.cs_model.proofs.Limits.{not_past}
-use Rattle.cs_model.proofs.Needs.{appends_fit, fits_appends}
-use Rattle.cs_model.proofs.Outcomes.{all_generations}
-use Rattle.cs_model.specs.Append.{AppendAll, chunk_frames, page_counts}
+use Rattle.cs_model.proofs.Needs.{appends_fit_by, fits_appends_by}
+use Rattle.cs_model.proofs.Outcomes.{all_generations_by}
+use Rattle.cs_model.specs.Append.{AppendAllBy, AppendsChunksBy, chunk_frames, page_counts}
 use Rattle.cs_model.specs.Element.{Locator}
 use Rattle.cs_model.specs.Events.{Chunked, Does}
-use Rattle.cs_model.specs.Extents.{Extents, Fits, ForPut}
+use Rattle.cs_model.specs.Extents.{Extents, Fits, FitsBy, ForPut}
 use Rattle.cs_model.specs.Grounds.{NoRoomToPut, PastLimit, WouldPass}
 use Rattle.cs_model.specs.Machine.{World}
 use Rattle.cs_model.specs.Sound.{Bounded, Sound}
 use Rattle.cs_model.specs.State.{Absent, Accepted, Delete, Put, Reply, State, map_now}
-use Rattle.cs_refine.proofs.Numbers.{IsPast, all_numbers, past, past_too}
+use Rattle.cs_refine.proofs.Fitting as fitting
+use Rattle.cs_refine.proofs.Numbers.{IsPast, all_numbers_by, past, past_too}
 use Rattle.cs_refine.proofs.Shapes.{store_format, store_shape}
 use Rattle.cs_refine.specs.Parts.{ArePartsOf}
 
 module _ (x : ExtentsState) (s : State) (sound : Sound (shape x) (formats_of (shape x)) s) (bounded : Bounded (shape x) (formats_of (shape x)) s) where
   -- a sound state has passed none, so what is past its greatest is one that grew
+  pub fits : PastLimit (shape x) (formats_of (shape x)) s → ⊥
+  fits over = not_past (shape x) (formats_of (shape x)) s sound bounded over
+
   pub no_command : 2 ^ 63 ≤ s.count + length s.commands + 0 → ⊥
-  no_command over = let le : s.count + length s.commands ≤ 9223372036854775807 = bounded.bounds.commands_fit in omega arith
+  no_command over = fitting.no_command x s fits over
 
   pub no_root : 2 ^ 63 ≤ s.world.root + 0 → ⊥
-  no_root over = let le : s.world.root ≤ 9223372036854775807 = bounded.bounds.version_fits in omega arith
+  no_root over = fitting.no_root x s fits over
 
   pub no_write : 2 ^ 63 ≤ s.world.written + 0 → ⊥
-  no_write over = let le : s.world.written ≤ 9223372036854775807 = bounded.written_fits in omega arith
+  no_write over = fitting.no_write x s fits over
 
   pub no_section : (j : ℕ) → j < (shape x).sections → 2 ^ 63 ≤ s.world.superblocks j + 0 → ⊥
-  no_section j there over = not_past (shape x) (formats_of (shape x)) s sound bounded (inl (inr (inl (j, there, (let high : 2 ^ 63 ≤ s.world.superblocks j + 0 = over in omega arith)))))
+  no_section j there over = fitting.no_section x s fits j there over
 
   -- ---- deletes
 
@@ -81,67 +83,48 @@ module _ (x : ExtentsState) (s : State) (sound : Sound (shape x) (formats_of (sh
 
 -- ---- frames
 
--- numbers by other names
-past_by : (a b m n : ℕ) → a ≡ b → m ≡ n → 2 ^ 63 ≤ a + m → 2 ^ 63 ≤ b + n
-past_by a b m n same as_many over = omega arith
-
 module _ (x : ExtentsState) (g : GraphState) (i : IndexState) (s : State) (whole : IsWhole x) (are : ArePartsOf x g i s)
     (sound : Sound (shape x) (formats_of (shape x)) s) (bounded : Bounded (shape x) (formats_of (shape x)) s) (e n r c : ℕ) where
   -- a number of the frame's, or that of the root or of the commands
   abbrev pub IsOver : Type 0
-  IsOver = IsWorn g.staging ((shape x).section e) n ⊎ (2 ^ 63 ≤ s.world.root + r) ⊎ (2 ^ 63 ≤ s.count + length s.commands + c)
-
-  section_alone : (j : ℕ) → j < (shape x).sections → 2 ^ 63 ≤ s.world.superblocks j + in_section (shape x) j (e ∷ [])
-      → 2 ^ 63 ≤ slice_index g.staging.latest (family_of ((shape x).section e)) + 1
-  section_alone j there over = elim (cases_eq j ((shape x).section e)) [
-    | inl here ↦
-        let one : in_section (shape x) j (e ∷ []) ≡ 1 = in_section_here (shape x) j e [] (sym here) in
-        subst (λ (k : ℕ). 2 ^ 63 ≤ slice_index g.staging.latest (family_of k) + 1) here
-        (past_by (s.world.superblocks j) (slice_index g.staging.latest (family_of j)) (in_section (shape x) j (e ∷ [])) 1 (are.world.staging.sections j there) one over)
-    | inr other ↦
-        let none : in_section (shape x) j (e ∷ []) ≡ 0 = in_section_other (shape x) j e [] (λ is. other (sym is)) in
-        absurd (no_section x s sound bounded j there (past_by (s.world.superblocks j) (s.world.superblocks j) (in_section (shape x) j (e ∷ [])) 0 refl none over))
-  ]
+  IsOver = fitting.IsOver x s (fits x s sound bounded) g are.world e n r c
 
   -- what a frame that goes to e takes past the greatest
   pub of_frame : IsPast (shape x) s n (λ j. in_section (shape x) j (e ∷ [])) r c → IsOver
-  of_frame (inl over) = inl (inl (let same : s.world.written ≡ g.staging.staged = are.world.staging.written in omega arith))
-  of_frame (inr (inl (j, there, over))) = inl (inr (section_alone j there over))
-  of_frame (inr (inr (inl over))) = inr (inl over)
-  of_frame (inr (inr (inr over))) = inr (inr over)
+  of_frame over = fitting.of_frame x s (fits x s sound bounded) g are.world e n r c over
 
   pub to_frame : IsOver → IsPast (shape x) s n (λ j. in_section (shape x) j (e ∷ [])) r c
-  to_frame (inl (inl over)) = inl (let same : s.world.written ≡ g.staging.staged = are.world.staging.written in omega arith)
-  to_frame (inl (inr over)) =
-      let there : (shape x).section e < (shape x).sections = (store_shape x whole).section e in
-      let one : in_section (shape x) ((shape x).section e) (e ∷ []) ≡ 1 = in_section_here (shape x) ((shape x).section e) e [] refl in
-      inr (inl (
-        (shape x).section e,
-        there,
-        past_by (slice_index g.staging.latest (family_of ((shape x).section e))) (s.world.superblocks ((shape x).section e)) 1 (in_section (shape x) ((shape x).section e) (e ∷ []))
-            (sym (are.world.staging.sections ((shape x).section e) there)) (sym one) over,
-      ))
-  to_frame (inr (inl over)) = inr (inr (inl over))
-  to_frame (inr (inr over)) = inr (inr (inr over))
+  to_frame over = fitting.to_frame x s (fits x s sound bounded) g are.world e n r c whole.geometry over
 
 -- ---- puts
 
-module _ (x : ExtentsState) (g : GraphState) (i : IndexState) (s : State) (whole : IsWhole x) (are : ArePartsOf x g i s) where
+-- chunks and runs lie apart or not
+module _ (x : ExtentsState) (g : GraphState) (i : IndexState) (s : State) (whole : IsWhole x) (are : ArePartsOf x g i s) (apart : Bool) (rule : (shape x).apart ≡ apart) where
   abbrev frames : List (List ℕ) → List (List (List ℕ))
   frames cs = chunk_frames (shape x) (formats_of (shape x)) cs
 
-  here : (cs : List (List ℕ)) → Fits (shape x) s.world.extents ForPut (page_counts (frames cs)) → Fits (shape x) (extents_of x) ForPut (page_counts (frames cs))
-  here cs fits = subst (λ (z : Extents). Fits (shape x) z ForPut (page_counts (frames cs))) are.world.extents fits
+  here : (cs : List (List ℕ)) → FitsBy (shape x) apart s.world.extents ForPut (page_counts (frames cs)) → FitsBy (shape x) apart (extents_of x) ForPut (page_counts (frames cs))
+  here cs fits = subst (λ (z : Extents). FitsBy (shape x) apart z ForPut (page_counts (frames cs))) are.world.extents fits
 
-  there : (cs : List (List ℕ)) → Fits (shape x) (extents_of x) ForPut (page_counts (frames cs)) → Fits (shape x) s.world.extents ForPut (page_counts (frames cs))
-  there cs fits = subst (λ (z : Extents). Fits (shape x) z ForPut (page_counts (frames cs))) (sym are.world.extents) fits
+  there : (cs : List (List ℕ)) → FitsBy (shape x) apart (extents_of x) ForPut (page_counts (frames cs)) → FitsBy (shape x) apart s.world.extents ForPut (page_counts (frames cs))
+  there cs fits = subst (λ (z : Extents). FitsBy (shape x) apart z ForPut (page_counts (frames cs))) (sym are.world.extents) fits
 
-  pub put_full : (bytes : List ℕ) → NoRoomToPut (shape x) (formats_of (shape x)) s bytes
-      ↔ ((cs : List (List ℕ)) → Chunked (shape x).chunk_bytes bytes cs → Fits (shape x) (extents_of x) ForPut (page_counts (frames cs)) → ⊥)
-  put_full bytes = (
-    (λ none cs cut fits. let all = fits_appends (shape x) (store_shape x whole) s.world ForPut (frames cs) (there cs fits) in
-        none cs all.0 (record s { world = all.1 }) cut (all.1, all.2, refl)),
-    (λ none cs ls mid cut appends. none cs cut (here cs (appends_fit (shape x) (store_shape x whole) s.world appends.0 ForPut (frames cs) ls appends.1))),
+  -- the shape's rule is this one
+  by_rule : (cs : List (List ℕ)) (ls : List Locator) (mid : State) → AppendsChunksBy (shape x) (formats_of (shape x)) (shape x).apart s cs ls mid
+      → AppendsChunksBy (shape x) (formats_of (shape x)) apart s cs ls mid
+  by_rule cs ls mid = subst (λ (b : Bool). AppendsChunksBy (shape x) (formats_of (shape x)) b s cs ls mid) rule
+
+  by_shape : (cs : List (List ℕ)) (ls : List Locator) (mid : State) → AppendsChunksBy (shape x) (formats_of (shape x)) apart s cs ls mid
+      → AppendsChunksBy (shape x) (formats_of (shape x)) (shape x).apart s cs ls mid
+  by_shape cs ls mid = subst (λ (b : Bool). AppendsChunksBy (shape x) (formats_of (shape x)) b s cs ls mid) (sym rule)
+
+  pub put_full_by : (bytes : List ℕ) → NoRoomToPut (shape x) (formats_of (shape x)) s bytes
+      ↔ ((cs : List (List ℕ)) → Chunked (shape x).chunk_bytes bytes cs → FitsBy (shape x) apart (extents_of x) ForPut (page_counts (frames cs)) → ⊥)
+  put_full_by bytes = (
+    (λ none cs cut fits. let all = fits_appends_by (shape x) (store_shape x whole) apart s.world ForPut (frames cs) (there cs fits) in
+        none cs all.0 (record s { world = all.1 }) cut (by_shape cs all.0 (record s { world = all.1 }) (all.1, all.2, refl))),
+    (λ none cs ls mid cut appends. let as_ruled = by_rule cs ls mid appends in
+        none cs cut (here cs (appends_fit_by (shape x) (store_shape x whole) apart s.world as_ruled.0 ForPut (frames cs) ls as_ruled.1))),
   )
 
   module _ (sound : Sound (shape x) (formats_of (shape x)) s) (bounded : Bounded (shape x) (formats_of (shape x)) s) where
@@ -149,10 +132,10 @@ module _ (x : ExtentsState) (g : GraphState) (i : IndexState) (s : State) (whole
     after_put id bytes ls v = record s { world = v; table = record { id = id; locators = ls } ∷ s.table; commands = (id, Some bytes) ∷ s.commands }
 
     abbrev Over : List (List ℕ) → Type 0
-    Over cs = AreWorn x g.staging ForPut (page_counts (frames cs)) ⊎ (2 ^ 63 ≤ s.count + length s.commands + 1)
+    Over cs = AreWornBy apart x g.staging ForPut (page_counts (frames cs)) ⊎ (2 ^ 63 ≤ s.count + length s.commands + 1)
 
     -- the frames go to these extents
-    module _ (cs : List (List ℕ)) (places : List ℕ) (placed : ArePlaced (shape x) (extents_of x) ForPut (page_counts (frames cs)) places) where
+    module _ (cs : List (List ℕ)) (places : List ℕ) (placed : ArePlacedBy (shape x) apart (extents_of x) ForPut (page_counts (frames cs)) places) where
       is_over : IsPast (shape x) s (sum (page_counts (frames cs))) (λ j. in_section (shape x) j places) 0 1 → Over cs
       is_over (inl over) = inl (inl (let same : s.world.written ≡ g.staging.staged = are.world.staging.written in omega arith))
       is_over (inr (inl (j, there, over))) = inl (inr (
@@ -171,18 +154,18 @@ module _ (x : ExtentsState) (g : GraphState) (i : IndexState) (s : State) (whole
         j,
         there,
         subst (λ (ps : List ℕ). 2 ^ 63 ≤ s.world.superblocks j + in_section (shape x) j ps)
-            (places_once (shape x) (extents_of x) ForPut (page_counts (frames cs)) others places put placed)
+            (places_once_by (shape x) apart (extents_of x) ForPut (page_counts (frames cs)) others places put placed)
             (subst (λ (k : ℕ). 2 ^ 63 ≤ k + in_section (shape x) j others) (sym (are.world.staging.sections j there)) over),
       ))
       over_too (inr over) = inr (inr (inr over))
 
-    module _ (id : ℕ) (bytes : List ℕ) (cs : List (List ℕ)) (ls : List Locator) (v : World) (all : AppendAll (shape x) s.world ForPut (frames cs) ls v) where
-      numbers : (places : List ℕ) × ArePlaced (shape x) s.world.extents ForPut (page_counts (frames cs)) places × (v.written ≡ s.world.written + sum (page_counts (frames cs)))
+    module _ (id : ℕ) (bytes : List ℕ) (cs : List (List ℕ)) (ls : List Locator) (v : World) (all : AppendAllBy (shape x) apart s.world ForPut (frames cs) ls v) where
+      numbers : (places : List ℕ) × ArePlacedBy (shape x) apart s.world.extents ForPut (page_counts (frames cs)) places × (v.written ≡ s.world.written + sum (page_counts (frames cs)))
           × ((j : ℕ) → v.superblocks j ≡ s.world.superblocks j + in_section (shape x) j places) × (v.root ≡ s.world.root)
-      numbers = all_numbers (shape x) (store_shape x whole) s.world v ForPut (frames cs) ls all
+      numbers = all_numbers_by (shape x) (store_shape x whole) apart s.world v ForPut (frames cs) ls all
 
-      placed_here : ArePlaced (shape x) (extents_of x) ForPut (page_counts (frames cs)) numbers.0
-      placed_here = subst (λ (z : Extents). ArePlaced (shape x) z ForPut (page_counts (frames cs)) numbers.0) are.world.extents numbers.1
+      placed_here : ArePlacedBy (shape x) apart (extents_of x) ForPut (page_counts (frames cs)) numbers.0
+      placed_here = subst (λ (z : Extents). ArePlacedBy (shape x) apart z ForPut (page_counts (frames cs)) numbers.0) are.world.extents numbers.1
 
       root_stays : v.root ≡ s.world.root + 0
       root_stays = let same : v.root ≡ s.world.root = numbers.4 in omega arith
@@ -192,7 +175,7 @@ module _ (x : ExtentsState) (g : GraphState) (i : IndexState) (s : State) (whole
 
       put_young : (e : ℕ) → v.extents.generation e ≤ (shape x).greatest_generation
       put_young e = le_trans
-          (le_of_eq (ap (λ (f : ℕ → ℕ). f e) (all_generations (shape x) (formats_of (shape x)) (store_shape x whole) (store_format x whole) s.world v ForPut (frames cs) ls all)))
+          (le_of_eq (ap (λ (f : ℕ → ℕ). f e) (all_generations_by (shape x) (formats_of (shape x)) (store_shape x whole) (store_format x whole) apart s.world v ForPut (frames cs) ls all)))
           (sound.safe.extents_fit e).1
 
       put_over : PastLimit (shape x) (formats_of (shape x)) (after_put id bytes ls v) → Over cs
@@ -205,24 +188,37 @@ module _ (x : ExtentsState) (g : GraphState) (i : IndexState) (s : State) (whole
 
     put_past : (id : ℕ) (bytes : List ℕ) (reply : Reply) (t : State) → Does (shape x) (formats_of (shape x)) s (Put id bytes) reply t
         → PastLimit (shape x) (formats_of (shape x)) t
-        → (cs : List (List ℕ)) × Chunked (shape x).chunk_bytes bytes cs × Fits (shape x) (extents_of x) ForPut (page_counts (frames cs)) × Over cs
-    put_past id bytes (Accepted n) t (cs, ls, mid, cut, (v, all, same), number, is) over = (
-      cs,
-      cut,
-      here cs (appends_fit (shape x) (store_shape x whole) s.world v ForPut (frames cs) ls all),
-      put_over id bytes cs ls v all (subst (λ (u : State). PastLimit (shape x) (formats_of (shape x)) u)
-          (is ∙ ap (λ (m : State). record m { table = record { id = id; locators = ls } ∷ m.table; commands = (id, Some bytes) ∷ m.commands }) same) over),
-    )
+        → (cs : List (List ℕ)) × Chunked (shape x).chunk_bytes bytes cs × FitsBy (shape x) apart (extents_of x) ForPut (page_counts (frames cs)) × Over cs
+    put_past id bytes (Accepted n) t (cs, ls, mid, cut, appends, number, is) over =
+        let as_ruled = by_rule cs ls mid appends in (
+          cs,
+          cut,
+          here cs (appends_fit_by (shape x) (store_shape x whole) apart s.world as_ruled.0 ForPut (frames cs) ls as_ruled.1),
+          put_over id bytes cs ls as_ruled.0 as_ruled.1 (subst (λ (u : State). PastLimit (shape x) (formats_of (shape x)) u)
+              (is ∙ ap (λ (m : State). record m { table = record { id = id; locators = ls } ∷ m.table; commands = (id, Some bytes) ∷ m.commands }) as_ruled.2) over),
+        )
     put_past id bytes reply t d over = absurd d
 
-    pub put_worn : (id : ℕ) (bytes : List ℕ) → WouldPass (shape x) (formats_of (shape x)) s (Put id bytes)
-        ↔ ((cs : List (List ℕ)) × Chunked (shape x).chunk_bytes bytes cs × Fits (shape x) (extents_of x) ForPut (page_counts (frames cs)) × Over cs)
-    put_worn id bytes = (
+    pub put_worn_by : (id : ℕ) (bytes : List ℕ) → WouldPass (shape x) (formats_of (shape x)) s (Put id bytes)
+        ↔ ((cs : List (List ℕ)) × Chunked (shape x).chunk_bytes bytes cs × FitsBy (shape x) apart (extents_of x) ForPut (page_counts (frames cs)) × Over cs)
+    put_worn_by id bytes = (
       (λ would. put_past id bytes would.0 would.1 would.2 would.3),
-      (λ found. let all = fits_appends (shape x) (store_shape x whole) s.world ForPut (frames found.0) (there found.0 found.2) in (
+      (λ found. let all = fits_appends_by (shape x) (store_shape x whole) apart s.world ForPut (frames found.0) (there found.0 found.2) in (
         Accepted (suc (length s.commands)),
         after_put id bytes all.0 all.1,
-        (found.0, all.0, record s { world = all.1 }, found.1, (all.1, all.2, refl), refl, refl),
+        (found.0, all.0, record s { world = all.1 }, found.1, by_shape found.0 all.0 (record s { world = all.1 }) (all.1, all.2, refl), refl, refl),
         put_over_too id bytes found.0 all.0 all.1 all.2 found.3,
       )),
     )
+
+-- where chunks and runs may lie on one extent
+module _ (x : ExtentsState) (g : GraphState) (i : IndexState) (s : State) (whole : IsWhole x) (are : ArePartsOf x g i s) (together : (shape x).apart ≡ false) where
+  pub put_full : (bytes : List ℕ) → NoRoomToPut (shape x) (formats_of (shape x)) s bytes
+      ↔ ((cs : List (List ℕ)) → Chunked (shape x).chunk_bytes bytes cs → Fits (shape x) (extents_of x) ForPut (page_counts (chunk_frames (shape x) (formats_of (shape x)) cs)) → ⊥)
+  put_full bytes = put_full_by x g i s whole are false together bytes
+
+  pub put_worn : Sound (shape x) (formats_of (shape x)) s → Bounded (shape x) (formats_of (shape x)) s → (id : ℕ) (bytes : List ℕ)
+      → WouldPass (shape x) (formats_of (shape x)) s (Put id bytes)
+      ↔ ((cs : List (List ℕ)) × Chunked (shape x).chunk_bytes bytes cs × Fits (shape x) (extents_of x) ForPut (page_counts (chunk_frames (shape x) (formats_of (shape x)) cs))
+      × (AreWorn x g.staging ForPut (page_counts (chunk_frames (shape x) (formats_of (shape x)) cs)) ⊎ (2 ^ 63 ≤ s.count + length s.commands + 1)))
+  put_worn sound bounded id bytes = put_worn_by x g i s whole are false together sound bounded id bytes

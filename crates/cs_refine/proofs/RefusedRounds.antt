@@ -15,6 +15,7 @@ use Rattle.cs_model.specs.Recovery.{Recovers}
 use Rattle.cs_model.specs.Refusal.{Halted, InFlight, NoRound, NotSweepable, Refusal}
 use Rattle.cs_model.specs.State.{Abandon, Begin, BeginSweep, Delete, End, Event, Get, Issue, MoveOne, Put, Reply, Retire, Settle, Stage, State}
 use Rattle.cs_model.specs.Step.{Step}
+use Rattle.cs_model.proofs.Rules.{before_rule, rule_before}
 use Rattle.cs_model.proofs.Staying.{step_round}
 use Rattle.cs_reclaim.specs.Sweeps.{IsNotSweepable}
 use Rattle.cs_refine.specs.Bridge.{name}
@@ -125,9 +126,15 @@ round_opened S F g img n m found none = record {
 
 -- ---- sweeps
 
+-- where chunks and runs may lie on one extent
+begin_sweep_ground : (S : Shape) (F : Formats) → S.apart ≡ false → (s : State) (e : ℕ) (f : Refusal) → s.halted ≡ false
+    → Refuses S F s (BeginSweep e) f ↔ (IsNotSweepable S s.world.extents e × (f ≡ NotSweepable))
+begin_sweep_ground S F together s e f runs = alike (f ≡ NotSweepable) (one_ground Halted NotSweepable f (not_both s.halted runs))
+    (before_rule _ _ S.apart together) (rule_before _ _ S.apart together)
+
 module _ (F : Formats) (x : ExtentsState) (g : GraphState) (i : IndexState) (s : State) (e : ℕ) (f : Refusal) (are : ArePartsOf x g i s) (runs : s.halted ≡ false) where
-  pub begin_sweep_refused : Refuses (shape x) F s (BeginSweep e) f ↔ (IsNotSweepable (shape x) (extents_of x) e × (f ≡ NotSweepable))
-  begin_sweep_refused = alike (f ≡ NotSweepable) (one_ground Halted NotSweepable f (not_both s.halted runs))
+  pub begin_sweep_refused : (shape x).apart ≡ false → Refuses (shape x) F s (BeginSweep e) f ↔ (IsNotSweepable (shape x) (extents_of x) e × (f ≡ NotSweepable))
+  begin_sweep_refused together = alike (f ≡ NotSweepable) (begin_sweep_ground (shape x) F together s e f runs)
       (λ ground. subst (λ (z : Extents). IsNotSweepable (shape x) z e) are.world.extents ground)
       (λ ground. subst (λ (z : Extents). IsNotSweepable (shape x) z e) (sym are.world.extents) ground)
 

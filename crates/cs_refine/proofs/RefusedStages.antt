@@ -30,7 +30,8 @@ use Rattle.cs_model.specs.Sound.{Bounded, Sound}
 use Rattle.cs_model.specs.State.{Reply, Retire, Retired, Stage, Staged, State, Unchanged, index_now}
 use Rattle.cs_reclaim.specs.Retired.{IsRetireFull, IsRetireWorn}
 use Rattle.cs_refine.proofs.Indexes.{looked_up, merged_run, nothing_live, some_table, some_table_here}
-use Rattle.cs_refine.proofs.Merges.{merges_here, merges_there, run_here, run_there, same_run, stages_so}
+use Rattle.cs_refine.proofs.DoesBefore.{Retires, Stages, retired as retired_by, retires_so, staged, stages_so, unchanged}
+use Rattle.cs_refine.proofs.Merges.{merges_here, merges_there, run_here, run_there, same_run}
 use Rattle.cs_refine.proofs.Numbers.{IsPast, append_numbers, past, past_too}
 use Rattle.cs_refine.proofs.RefusedPuts.{IsOver, no_command, no_section, no_write, of_frame, to_frame, young}
 use Rattle.cs_refine.proofs.Shapes.{store_format, store_shape}
@@ -149,10 +150,10 @@ module _ (x : ExtentsState) (g : GraphState) (i : IndexState) (s : State) (whole
   no_room_to_stage = (no_room_to, no_room_from)
 
   -- where a Stage doesn't merge by size in two branches
-  pub stage_full : (shape x).by_size ≡ false → IsStageFull ↔ IsFull (WritesRun (shape x) i) x ForRun
-  stage_full before = (
-    (λ full. no_room_to (full.0, (full_as_before (shape x) (formats_of (shape x)) s before refl full.0).1 full.1)),
-    (λ full. let none = no_room_from full in (none.0, (full_as_before (shape x) (formats_of (shape x)) s before refl none.0).0 none.1)),
+  pub stage_full : (shape x).apart ≡ false → (shape x).by_size ≡ false → IsStageFull ↔ IsFull (WritesRun (shape x) i) x ForRun
+  stage_full together before = (
+    (λ full. no_room_to (full.0, (full_as_before (shape x) (formats_of (shape x)) s before together full.0).1 full.1)),
+    (λ full. let none = no_room_from full in (none.0, (full_as_before (shape x) (formats_of (shape x)) s before together none.0).0 none.1)),
   )
 
   -- ---- numbers
@@ -295,32 +296,37 @@ module _ (x : ExtentsState) (g : GraphState) (i : IndexState) (s : State) (whole
     worn_from (inl root) = inl root
     worn_from (inr (entries, (some, writes), over)) = inr (entries, writes, over)
 
-    stage_past : (reply : Reply) (t : State) → Does (shape x) (formats_of (shape x)) s Stage reply t → PastLimit (shape x) (formats_of (shape x)) t
+    staged_past : (t : State) (v : ℕ) → Stages (shape x) (formats_of (shape x)) s t v → PastLimit (shape x) (formats_of (shape x)) t
         → (i.table ≢ []) × IsStageWorn (WritesRun (shape x) i) x ForRun g.staging
-    stage_past Unchanged t (none, same) over =
-        absurd (not_past (shape x) (formats_of (shape x)) s sound bounded (subst (λ (u : State). PastLimit (shape x) (formats_of (shape x)) u) same over))
-    stage_past (Staged v) t (some, version, mid, runs, merges, is) over =
+    staged_past t v (some, version, mid, runs, merges, is) over =
         let some_here : i.table ≢ [] = some_table_here i s.table s.runs are.index some in (
           some_here,
           worn_to some_here (part_past goes takes mid runs (merges_here (shape x) i s are.index (formats_of (shape x)) mid runs merges)
               (subst (λ (u : State). PastLimit (shape x) (formats_of (shape x)) u) is over)),
         )
-    stage_past reply t d over = absurd d
 
-    stage_past_back : ¬ IsFull (WritesRun (shape x) i) x ForRun → i.table ≢ [] → IsStageWorn (WritesRun (shape x) i) x ForRun g.staging → WouldPass (shape x) (formats_of (shape x)) s Stage
-    stage_past_back room some worn = ⊎_elim
+    stage_past : (shape x).apart ≡ false → (reply : Reply) (t : State) → Does (shape x) (formats_of (shape x)) s Stage reply t → PastLimit (shape x) (formats_of (shape x)) t
+        → (i.table ≢ []) × IsStageWorn (WritesRun (shape x) i) x ForRun g.staging
+    stage_past together Unchanged t does over =
+        absurd (not_past (shape x) (formats_of (shape x)) s sound bounded
+        (subst (λ (u : State). PastLimit (shape x) (formats_of (shape x)) u) (unchanged (shape x) (formats_of (shape x)) together s t does).1 over))
+    stage_past together (Staged v) t does over = staged_past t v (staged (shape x) (formats_of (shape x)) together s t v does) over
+    stage_past together reply t d over = absurd d
+
+    stage_past_back : (shape x).apart ≡ false → ¬ IsFull (WritesRun (shape x) i) x ForRun → i.table ≢ [] → IsStageWorn (WritesRun (shape x) i) x ForRun g.staging → WouldPass (shape x) (formats_of (shape x)) s Stage
+    stage_past_back together room some worn = ⊎_elim
         (λ (found : (t : State) × (runs : List Run) × MergesNewest (shape x) (formats_of (shape x)) s ForRun (stage_takes (shape x) s) t runs).
         let after : State = rooted (shape x) (formats_of (shape x)) found.0 found.1 found.0.world.extents.pointer in (
           Staged (suc s.world.root),
           after,
-          stages_so (shape x) (formats_of (shape x)) s after (suc s.world.root) refl (some_table i s.table s.runs are.index some, refl, found.0, found.1, found.2, refl),
+          stages_so (shape x) (formats_of (shape x)) together s after (suc s.world.root) (some_table i s.table s.runs are.index some, refl, found.0, found.1, found.2, refl),
           part_past_back goes takes found.0 found.1 (merges_here (shape x) i s are.index (formats_of (shape x)) found.0 found.1 found.2) (worn_from worn),
         ))
         (λ (none : NoRoomToStage (shape x) (formats_of (shape x)) s). absurd (room (no_room_to (some_table i s.table s.runs are.index some, none))))
         (part_or_full (shape x) (formats_of (shape x)) (store_shape x whole) (store_format x whole) false s ForRun (stage_takes (shape x) s) (deletions_go (shape x) s (stage_takes (shape x) s)))
 
-    pub stage_worn : ¬ IsFull (WritesRun (shape x) i) x ForRun → WouldPass (shape x) (formats_of (shape x)) s Stage ↔ ((i.table ≢ []) × IsStageWorn (WritesRun (shape x) i) x ForRun g.staging)
-    stage_worn room = ((λ would. stage_past would.0 would.1 would.2 would.3), (λ both. stage_past_back room both.0 both.1))
+    pub stage_worn : (shape x).apart ≡ false → ¬ IsFull (WritesRun (shape x) i) x ForRun → WouldPass (shape x) (formats_of (shape x)) s Stage ↔ ((i.table ≢ []) × IsStageWorn (WritesRun (shape x) i) x ForRun g.staging)
+    stage_worn together room = ((λ would. stage_past together would.0 would.1 would.2 would.3), (λ both. stage_past_back together room both.0 both.1))
 
     -- ---- retires
 
@@ -385,20 +391,24 @@ module _ (x : ExtentsState) (g : GraphState) (i : IndexState) (s : State) (whole
             ),
       ))))
 
-    retire_would : (e : ℕ) (reply : Reply) (t : State) → Does (shape x) (formats_of (shape x)) s (Retire e) reply t → PastLimit (shape x) (formats_of (shape x)) t → IsRetireWorn i x g.staging e
-    retire_would e (Retired v) t (swept, nothing, version, mid, runs, (w, merges, same), is) over = retire_past e w runs merges
+    retired_past : (e v : ℕ) (t : State) → Retires (shape x) (formats_of (shape x)) s t e v → PastLimit (shape x) (formats_of (shape x)) t → IsRetireWorn i x g.staging e
+    retired_past e v t (swept, nothing, version, mid, runs, (w, merges, same), is) over = retire_past e w runs merges
         (subst (λ (u : State). PastLimit (shape x) (formats_of (shape x)) u) (is ∙ ap (λ (m : State). retired (shape x) (formats_of (shape x)) m runs e) same) over)
-    retire_would e reply t d over = absurd d
 
-    pub retire_worn : (e : ℕ) → s.world.extents.swept e ≡ true → NothingLive (index_of i) e → ¬ IsRetireFull i x
+    retire_would : (shape x).apart ≡ false → (e : ℕ) (reply : Reply) (t : State) → Does (shape x) (formats_of (shape x)) s (Retire e) reply t → PastLimit (shape x) (formats_of (shape x)) t → IsRetireWorn i x g.staging e
+    retire_would together e (Retired v) t does over = retired_past e v t (retired_by (shape x) (formats_of (shape x)) together s t e v does) over
+    retire_would together e reply t d over = absurd d
+
+    pub retire_worn : (shape x).apart ≡ false → (e : ℕ) → s.world.extents.swept e ≡ true → NothingLive (index_of i) e → ¬ IsRetireFull i x
         → WouldPass (shape x) (formats_of (shape x)) s (Retire e) ↔ IsRetireWorn i x g.staging e
-    retire_worn e swept nothing room = (
-      (λ would. retire_would e would.0 would.1 would.2 would.3),
+    retire_worn together e swept nothing room = (
+      (λ would. retire_would together e would.0 would.1 would.2 would.3),
       (λ worn. ⊎_elim
           (λ (found : (t : State) × (runs : List Run) × Merged (shape x) (formats_of (shape x)) s ForMove t runs). (
             Retired (suc s.world.root),
             after_retire e found.2.0 found.1 found.2.1,
-            (swept, nothing_live (index_of i) (index_now s) asked e nothing, refl, record s { world = found.2.0 }, found.1, (found.2.0, found.2.1, refl), refl),
+            retires_so (shape x) (formats_of (shape x)) together s (after_retire e found.2.0 found.1 found.2.1) e (suc s.world.root)
+                (swept, nothing_live (index_of i) (index_now s) asked e nothing, refl, record s { world = found.2.0 }, found.1, (found.2.0, found.2.1, refl), refl),
             retire_past_back e found.2.0 found.1 found.2.1 worn,
           ))
           (λ (none : NoRoomForRun (shape x) (formats_of (shape x)) s ForMove). absurd (room (run_full_to ForMove none)))

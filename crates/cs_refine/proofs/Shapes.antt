@@ -4,7 +4,7 @@ use Rattle.cs_model.specs.Device.{IsShape, Shape}
 use Rattle.cs_model.specs.Frames.{IsFormat}
 use Rattle.cs_model.proofs.Shapes.{is_shape}
 use Rattle.cs_frame.proofs.FormatLaws.{is_format}
-use Rattle.cs_frame.proofs.GeometryLaws.{model_geometry, section_holds}
+use Rattle.cs_frame.proofs.GeometryLaws.{geometry_apart, model_geometry, section_holds}
 use Rattle.cs_frame.specs.Formats.{formats_of}
 use Rattle.cs_frame.specs.Geometries.{IsGeometry, section_length, section_size, section_start}
 use Rattle.cs_extent.specs.Frames.{greatest}
@@ -15,6 +15,7 @@ use Rattle.cs_extent.proofs.Sections.{end_inside, section_is}
 pub shape_of_store : (x : State) → IsGeometry x.format (length x.written) x.pages x.sections → IsShape (shape x)
 shape_of_store x geometry = is_shape (length x.written) x.pages x.sections (section_size (length x.written) x.sections) x.format
     (model_geometry x.format (length x.written) x.pages x.sections geometry)
+    (geometry_apart x.format (length x.written) x.pages x.sections geometry)
 
 pub store_shape : (x : State) → IsWhole x → IsShape (shape x)
 store_shape x whole = shape_of_store x whole.geometry

@@ -1,36 +1,32 @@
 -- The state in which a store starts.
-use Rattle.std.proofs.Common.{◌≡◌, inl, ℕ, zero, suc, ◌+◌, ◌<◌, ◌≤◌, Bool, true, false, nat_le, ◌==◌, ◌&&◌, if◌then◌else◌, List, [], ◌∷◌, ◌++◌, length, None, le_refl, le_trans, le-leb, eqb-true, refl, sym, ap, ◌∙◌, subst, arith}
-use Rattle.std.specs.Prelude.{replicate}
-use Rattle.cs_disk.proofs.Images.{length-applied, page-applied}
+use Rattle.std.proofs.Common.{◌≡◌, inl, ℕ, zero, suc, ◌+◌, ◌<◌, ◌≤◌, Bool, true, false, nat_le, ◌==◌, ◌&&◌, if◌then◌else◌, List, [], length, le_refl, le-leb, eqb-true, refl, sym, ap, ◌∙◌, subst, arith}
+use Rattle.cs_disk.proofs.Images.{length-applied}
 use Rattle.cs_disk.proofs.Whole.{BytePages, Pages, left_whole, seen_whole}
-use Rattle.cs_disk.specs.Disk.{Image, IsWhole as IsWholeDisk, MayLeave, State as DiskState, Write as PageWrite, flushed, latest, page, seen}
+use Rattle.cs_disk.specs.Disk.{Image, IsWhole as IsWholeDisk, MayLeave, State as DiskState, page, seen}
 use Rattle.cs_extent.specs.State.{IsWhole, State as ExtentsState, shape}
-use Rattle.cs_frame.proofs.GeometryLaws.{lies_in_device, model_geometry}
 use Rattle.cs_frame.specs.Formats.{formats_of}
-use Rattle.cs_frame.specs.Geometries.{IsGeometry, device_pages, section_length, section_size}
-use Rattle.cs_frame.specs.Roots.{SpellsRoot}
-use Rattle.cs_frame.specs.Superblocks.{SpellsSuperblock}
+use Rattle.cs_frame.specs.Geometries.{device_pages}
 use Rattle.cs_image.proofs.Found.{read_recovers}
-use Rattle.cs_image.proofs.New.{new_found, new_whole}
 use Rattle.cs_image.proofs.Superblocks.{read_whole}
-use Rattle.cs_image.specs.Openings.{AreNewSections, IsFoundAs, by_family, graph_at, index_at}
+use Rattle.cs_image.specs.Openings.{IsFoundAs, by_family, graph_at, index_at}
 use Rattle.cs_image.specs.Reads.{ArePages, IsStoreRead, extents_at}
 use Rattle.cs_index.specs.declared.runs.StoredRun.{StoredRun}
 use Rattle.cs_index.specs.State.{newest_first}
 use Rattle.cs_model.proofs.Opens.{opens_bounded, opens_sound}
+use Rattle.cs_model.specs.Apart.{freed}
 use Rattle.cs_model.specs.Cut.{page_in}
 use Rattle.cs_model.specs.Device.{FramePage, IsShape, Page, PageKind, RootPage, SectionPage}
 use Rattle.cs_model.specs.Element.{Map, Root, Run, Superblock, Write, log_of, roots_of, superblocks_of, writes_of}
 use Rattle.cs_model.specs.Formats.{Formats, image_at, places}
-use Rattle.cs_model.specs.Geometry.{shape_of}
 use Rattle.cs_model.specs.Lists.{latest as newest}
-use Rattle.cs_model.specs.Local.{LiesBelow}
-use Rattle.cs_model.specs.Open.{opened_state, superblocks_read}
+use Rattle.cs_model.specs.Machine.{World}
+use Rattle.cs_model.specs.Open.{extents_read, opened_state, opened_world, state_read, superblocks_read}
 use Rattle.cs_model.specs.Recovery.{Recovers}
 use Rattle.cs_model.proofs.Carries.{and_left}
 use Rattle.cs_model.specs.State.{State}
 use Rattle.cs_refine.specs.Devices.{persistent_image}
 use Rattle.cs_refine.specs.Openings.{IsStartOf}
+use Rattle.cs_refine.specs.Stores.{IsWorldOf}
 use Rattle.cs_refine.proofs.CrashesLeft.{same_size}
 use Rattle.cs_refine.proofs.Opening.{opened}
 use Rattle.cs_refine.proofs.Shapes.{some_sections, store_shape}
@@ -86,60 +82,27 @@ module _ (x : ExtentsState) (F : Formats) (img : ℕ → Page) (n : ℕ) (m : Ma
 
 module _ (x : ExtentsState) (image : Image) (versions : List ℕ) (root limit n : ℕ) (runs : List Run) (m : Map)
     (found : Recovers (shape x) (formats_of (shape x)) (page image) n m) (whole : IsWhole x)
-    (as_found : IsFoundAs (shape x) (formats_of (shape x)) (page image) n m found x versions root runs) where
+    (as_found : IsFoundAs (shape x) (formats_of (shape x)) (page image) n m found x versions root runs) (together : (shape x).apart ≡ false) where
+  -- nothing is reset as the store is opened
+  as_opened : opened_world (shape x) (formats_of (shape x)) (page image) n m found ≡ (opened_state (shape x) (formats_of (shape x)) (page image) n m found).world
+  as_opened = ap (λ (b : Bool). record (opened_world (shape x) (formats_of (shape x)) (page image) n m found) {
+    extents = if b then (freed (shape x) (state_read (shape x) (formats_of (shape x)) (page image) n m found)).world.extents
+        else extents_read (shape x) (formats_of (shape x)) (page image) n m found;
+  }) (sym together)
+
   pub started : IsStartOf x (graph_at versions root) (index_at runs limit) image (opened_state (shape x) (formats_of (shape x)) (page image) n m found)
   started = record {
     sound = opens_sound (shape x) (formats_of (shape x)) (store_shape x whole) (page image) n m found;
     bounded = opens_bounded (shape x) (formats_of (shape x)) (store_shape x whole) (page image) n m found;
     parts = record {
-      world = opened x (graph_at versions root) (formats_of (shape x)) (page image) n m found versions (some_sections x whole) as_found.all_sections as_found.versions as_found.extents
-          (ap (λ (v : ℕ). record { pending = record { persistent = by_family versions v; waiting = [] }; staged = 0; latest = by_family versions v }) (sym as_found.root_version));
+      world = subst (λ (w : World). IsWorldOf x (graph_at versions root) w) as_opened
+          (opened x (graph_at versions root) (formats_of (shape x)) (page image) n m found versions (some_sections x whole) as_found.all_sections as_found.versions as_found.extents
+          (ap (λ (v : ℕ). record { pending = record { persistent = by_family versions v; waiting = [] }; staged = 0; latest = by_family versions v }) (sym as_found.root_version)));
       index = record { lookups = λ id. refl; same_runs = sym as_found.same_runs };
     };
     disk = record { durable = λ p inside. sym (persistent_as_read x (formats_of (shape x)) (page image) n m found (store_shape x whole) p); volatile = refl };
     frontier = (_, inl refl, refl, (let same : n ≡ n + 0 = omega arith in same));
   }
-
--- what is written as a store is made
-module _ (image : Image) (format extents pages sections limit : ℕ) (geometry : IsGeometry format extents pages sections)
-    (superblocks : AreNewSections (page image) format extents pages sections) (root : SpellsRoot (page image 1) format 1 0 []) where
-  abbrev new_extents : ExtentsState
-  new_extents = extents_at format pages sections (replicate extents (0, 0))
-
-  pub new_started : (found : Recovers (shape new_extents) (formats_of (shape new_extents)) (page image) 0 (λ id. None))
-      × IsStartOf new_extents (graph_at (replicate sections 1) 1) (index_at [] limit) image (opened_state (shape new_extents) (formats_of (shape new_extents)) (page image) 0 (λ id. None) found)
-  new_started = let f = new_found (page image) format extents pages sections geometry superblocks root in
-      (f.0, started new_extents image (replicate sections 1) 1 limit 0 [] (λ id. None) f.0 (new_whole (page image) format extents pages sections geometry superblocks root) f.1)
-
-latest_append : (first more : List PageWrite) (p : ℕ) (bytes : List ℕ) → latest (first ++ more) p bytes ≡ latest more p (latest first p bytes)
-latest_append [] more p bytes = refl
-latest_append (w ∷ first) more p bytes = latest_append first more p (if w.0 == p then w.1 else bytes)
-
--- after these writes, and a flush
-module _ (old : DiskState) (writes : List PageWrite) (format extents pages sections limit : ℕ) (geometry : IsGeometry format extents pages sections)
-    (enough : device_pages format extents pages sections ≤ length old.durable) where
-  -- what each page reads as then
-  abbrev view : ℕ → Page
-  view p = latest writes p (page (seen old) p)
-
-  abbrev image : Image
-  image = (flushed (record { durable = old.durable; volatile = old.volatile ++ writes })).durable
-
-  as_viewed : (p : ℕ) → p < device_pages format extents pages sections → page image p ≡ view p
-  as_viewed p lt = page-applied old.durable (old.volatile ++ writes) p (le_trans lt enough) ∙ latest_append old.volatile writes p (page old.durable p)
-      ∙ ap (latest writes p) (sym (page-applied old.durable old.volatile p (le_trans lt enough)))
-
-  below : LiesBelow (shape_of extents pages sections (section_size extents sections) format) (device_pages format extents pages sections)
-  below = lies_in_device format extents pages sections geometry
-
-  pub written_started : AreNewSections view format extents pages sections → SpellsRoot (view 1) format 1 0 []
-      → (let x = extents_at format pages sections (replicate extents (0, 0)) in
-      (found : Recovers (shape x) (formats_of (shape x)) (page image) 0 (λ id. None))
-      × IsStartOf x (graph_at (replicate sections 1) 1) (index_at [] limit) image (opened_state (shape x) (formats_of (shape x)) (page image) 0 (λ id. None) found))
-  written_started superblocks root = new_started image format extents pages sections limit geometry
-      (λ j lt. subst (λ (b : Page). SpellsSuperblock b format 1 extents pages sections j (replicate (section_length extents sections j) (0, 0)))
-      (sym (as_viewed ((shape_of extents pages sections (section_size extents sections) format).section_page j) (below.sections j lt))) (superblocks j lt))
-      (subst (λ (b : Page). SpellsRoot b format 1 0 []) (sym (as_viewed 1 below.root)) root)
 
 -- what is read as a store is opened
 module _ (image : Image) (format : ℕ) (versions : List ℕ) (pages : ℕ) (written : List (ℕ × ℕ)) (root commands limit : ℕ) (runs : List StoredRun)
@@ -147,10 +110,10 @@ module _ (image : Image) (format : ℕ) (versions : List ℕ) (pages : ℕ) (wri
   abbrev read_extents : ExtentsState
   read_extents = extents_at format pages (length versions) written
 
-  pub read_started : (m : Map) × (found : Recovers (shape read_extents) (formats_of (shape read_extents)) (page image) commands m)
+  pub read_started : (shape read_extents).apart ≡ false → (m : Map) × (found : Recovers (shape read_extents) (formats_of (shape read_extents)) (page image) commands m)
       × IsStartOf read_extents (graph_at versions root) (index_at (newest_first runs) limit) image (opened_state (shape read_extents) (formats_of (shape read_extents)) (page image) commands m found)
-  read_started = let f = read_recovers (page image) format versions pages written root commands runs read are in
-      (f.0, f.1, started read_extents image versions root limit commands (newest_first runs) f.0 f.1 (read_whole (page image) format versions pages written read.sections) f.2)
+  read_started together = let f = read_recovers (page image) format versions pages written root commands runs read together are in
+      (f.0, f.1, started read_extents image versions root limit commands (newest_first runs) f.0 f.1 (read_whole (page image) format versions pages written read.sections) f.2 together)
 
 -- ---- the pages of a disk
 

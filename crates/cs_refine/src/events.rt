@@ -46,11 +46,11 @@ pub fn index_queries_agree()
         → NothingLive (index_of i) e ↔ NothingLive (table ++ entries_of runs) e }
 {}
 
-/// The frames of a put and its entry are the machine's Put.
+/// Where chunks and runs may lie on one extent the frames of a put and its entry are the machine's Put.
 pub fn put_refines_put()
     ensures { (x y : ExtentsState) (g h : GraphState) (i j : IndexState) (s : State) (id : ℕ) (bytes : List ℕ)
         (chunks : List (List ℕ)) (ls : List Locator)
-        → IsWhole x → ArePartsOf x g i s → Chunked (shape x).chunk_bytes bytes chunks
+        → (shape x).apart ≡ false → IsWhole x → ArePartsOf x g i s → Chunked (shape x).chunk_bytes bytes chunks
         → AreAppended x g ForPut (chunk_frames (shape x) (formats_of (shape x)) chunks) ls y h
         → IsSet i id (map place_of ls) j
         → (t : State) × Does (shape x) (formats_of (shape x)) s (Put id bytes) (Accepted (suc (length s.commands))) t
@@ -68,51 +68,52 @@ pub fn delete_refines_delete()
         → Sound S F s → IsIndexOf i s.table s.runs → (live_at (index_of i) id ≡ []) ↔ (map_now s id ≡ None) }
 {}
 
-/// The run and the root that an index stages are the machine's Stage.
+/// Where chunks and runs may lie on one extent the run and the root that an index stages are the machine's Stage.
 pub fn stage_refines_stage()
     // The table and as many of the newest runs as a Stage of the index merges become one run, or none where it would have no entry.
     ensures newest { (x y : ExtentsState) (g h : GraphState) (i j : IndexState) (s : State) (v : ℕ)
-        → IsWhole x → ArePartsOf x g i s → i.table ≢ []
+        → (shape x).apart ≡ false → IsWhole x → ArePartsOf x g i s → i.table ≢ []
         → IsNewestStaged (stage_takes (shape x) i) i x g v (s.count + length s.commands) j y h
         → (t : State) × Does (shape x) (formats_of (shape x)) s Stage (Staged v) t × ArePartsOf y h j t }
     // Where a Stage merges by size, these are as many as are reached, and deletions go where that is all.
     ensures sized { (x y : ExtentsState) (g h : GraphState) (i j : IndexState) (s : State) (v : ℕ)
-        → IsWhole x → ArePartsOf x g i s → (shape x).by_size ≡ true → i.table ≢ []
+        → (shape x).apart ≡ false → IsWhole x → ArePartsOf x g i s → (shape x).by_size ≡ true → i.table ≢ []
         → IsPartStaged (nat_le (length i.runs) (reached (shape x) i)) (reached (shape x) i) i x g ForRun v (s.count + length s.commands) j y h
         → (t : State) × Does (shape x) (formats_of (shape x)) s Stage (Staged v) t × ArePartsOf y h j t }
     // Where it doesn't and there are fewer than four runs, the table becomes one.
     ensures table { (x y : ExtentsState) (g h : GraphState) (i j : IndexState) (s : State) (v : ℕ)
-        → IsWhole x → ArePartsOf x g i s → (shape x).by_size ≡ false → i.table ≢ [] → length i.runs < 4
+        → (shape x).apart ≡ false → IsWhole x → ArePartsOf x g i s → (shape x).by_size ≡ false → i.table ≢ [] → length i.runs < 4
         → IsTableStaged i x g v (s.count + length s.commands) j y h
         → (t : State) × Does (shape x) (formats_of (shape x)) s Stage (Staged v) t × ArePartsOf y h j t }
     // Where there are four or more then, one run of all that is live takes the place of everything, or none where nothing is live.
     ensures merged { (x y : ExtentsState) (g h : GraphState) (i j : IndexState) (s : State) (v : ℕ)
-        → IsWhole x → ArePartsOf x g i s → (shape x).by_size ≡ false → i.table ≢ [] → 4 ≤ length i.runs
+        → (shape x).apart ≡ false → IsWhole x → ArePartsOf x g i s → (shape x).by_size ≡ false → i.table ≢ [] → 4 ≤ length i.runs
         → IsMergeStaged i x g ForRun v (s.count + length s.commands) j y h
         → (t : State) × Does (shape x) (formats_of (shape x)) s Stage (Staged v) t × ArePartsOf y h j t }
 {}
 
-/// A chunk that a sweep moves is the machine's MoveOne, where what lay there could be read.
+/// Where chunks and runs may lie on one extent a chunk that a sweep moves is the machine's MoveOne, where what lay there could be read.
 pub fn move_refines_move()
     ensures { (x y : ExtentsState) (g h : GraphState) (i j : IndexState) (s : State) (e id chunk : ℕ) (payload : List ℕ)
-        → IsWhole x → ArePartsOf x g i s → s.world.extents.swept e ≡ true
+        → (shape x).apart ≡ false → IsWhole x → ArePartsOf x g i s → s.world.extents.swept e ≡ true
         → (moved : IsMoved i x g e id chunk payload j y h)
         → s.opening.damage moved.from ≡ None → ReadsNow (shape x) (formats_of (shape x)) s moved.from ChunkFrame payload
         → (t : State) × Does (shape x) (formats_of (shape x)) s (MoveOne e) (Moved id chunk) t × ArePartsOf y h j t }
 {}
 
-/// A retired extent is the machine's Retire.
+/// Where chunks and runs may lie on one extent a retired extent is the machine's Retire.
 pub fn retire_refines_retire()
     ensures { (x y : ExtentsState) (g h : GraphState) (i j : IndexState) (s : State) (e v : ℕ)
-        → IsWhole x → ArePartsOf x g i s → s.world.extents.swept e ≡ true → e < (shape x).extents → shape y ≡ shape x
+        → (shape x).apart ≡ false → IsWhole x → ArePartsOf x g i s → s.world.extents.swept e ≡ true → e < (shape x).extents → shape y ≡ shape x
         → NothingLive (index_of i) e → IsRetired i x g e v (s.count + length s.commands) j y h
         → (t : State) × Does (shape x) (formats_of (shape x)) s (Retire e) (Retired v) t × ArePartsOf y h j t }
 {}
 
-/// A mark that is set where an extent may be swept is the machine's BeginSweep, and one that is taken off its Abandon.
+/// A mark that is set where an extent may be swept is the machine's BeginSweep where chunks and runs may lie on one extent, and one that is
+/// taken off its Abandon by either rule.
 pub fn marks_refine_sweeps()
     ensures begun { (x y : ExtentsState) (g : GraphState) (i : IndexState) (s : State) (e : ℕ)
-        → ArePartsOf x g i s → ¬ IsNotSweepable (shape x) (extents_of x) e → shape y ≡ shape x → extents_of y ≡ marked (extents_of x) e true
+        → (shape x).apart ≡ false → ArePartsOf x g i s → ¬ IsNotSweepable (shape x) (extents_of x) e → shape y ≡ shape x → extents_of y ≡ marked (extents_of x) e true
         → Does (shape x) (formats_of (shape x)) s (BeginSweep e) Sweeping (mark s e true) × ArePartsOf y g i (mark s e true) }
     ensures abandoned { (x y : ExtentsState) (g : GraphState) (i : IndexState) (s : State) (e : ℕ)
         → ArePartsOf x g i s → s.world.extents.swept e ≡ true → shape y ≡ shape x → extents_of y ≡ marked (extents_of x) e false

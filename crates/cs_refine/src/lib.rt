@@ -8,17 +8,25 @@
 //! the number of a version of the root. `n` is a number of commands, or that of one; `m` is a map, and `f` a refusal or a fault.
 #![tactic(auto)]
 
+mod apart;
 mod crashes;
 mod events;
 mod frontiers;
 mod graphs;
 mod moves;
 mod openings;
+mod openings_apart;
 mod reads;
 mod refusals;
+mod refusals_apart;
+mod retires_apart;
 mod rounds;
+mod sweeps_apart;
 mod writebacks;
 
+pub use apart::{
+    copies_stay, put_apart_refines_put, sweeps_apart_refine_sweeps, worlds_apart_agree,
+};
 pub use crashes::what_a_crash_leaves_recovers;
 pub use events::{
     delete_refines_delete, index_queries_agree, marks_refine_sweeps, move_refines_move,
@@ -36,12 +44,16 @@ pub use openings::{
     new_store_refines_start, read_store_refines_start, what_is_found_is_the_start,
     whole_disks_have_pages,
 };
+pub use openings_apart::stores_apart_refine_start;
 pub use reads::{get_refines_get, live_chunks_are_read, pages_are_read};
 pub use refusals::{
     delete_refusals_agree, move_refusals_agree, put_refusals_agree, refusals_keep_their_numbers,
     retire_refusals_agree, stage_refusals_agree, sweep_refusals_agree,
 };
+pub use refusals_apart::{put_apart_refusals_agree, sweep_apart_refusals_agree};
+pub use retires_apart::{retire_apart_refusals_agree, stage_apart_refusals_agree};
 pub use rounds::{round_refusals_agree, rounds_stay};
+pub use sweeps_apart::{copies_apart_refine_moves, stages_apart_refine_stages};
 pub use writebacks::{
     begin_refines_begin, disk_refines_device, end_refines_end, issue_refines_issue,
 };

@@ -13,7 +13,7 @@ ghost use Rattle.cs_model.specs.Cut.{Cut};
 ghost use Rattle.cs_model.specs.State.{State};
 ghost use Rattle.cs_model.specs.Sound.{Sound};
 ghost use Rattle.cs_model.specs.Append.{Append, AppendAll};
-ghost use Rattle.cs_model.specs.Extents.{Purpose as Reason, emptied, marked};
+ghost use Rattle.cs_model.specs.Extents.{Purpose as Reason, emptied, forgotten, marked};
 ghost use Rattle.cs_deps.specs.State.{AddsNone, IsWhole as IsWholeGraph, KeepsBytes, AddsOnly, State as GraphState, write_of};
 ghost use Rattle.cs_frame.specs.declared.locators.Locator.{Locator};
 ghost use Rattle.cs_extent.specs.Appended.{AreAppended, IsAppended};
@@ -34,9 +34,11 @@ pub fn append_refines_append()
         → (after : World) × Append (shape x) w reason frame (place_of l) after × IsWorldOf y h after }
 {}
 
-/// What a reset does to the extents of a store, under the last version of the root, the machine's reset does to its world.
+/// What a reset does to the extents of a store, under the last version of the root, the machine's reset does to its world; where chunks
+/// and runs lie apart nothing is noted of the extent then.
 pub fn reset_refines_reset()
-    ensures { (x y : ExtentsState) (g : GraphState) (w : World) (e : ℕ) → IsWorldOf x g w → shape y ≡ shape x → extents_of y ≡ emptied (extents_of x) e w.root
+    ensures { (x y : ExtentsState) (g : GraphState) (w : World) (e : ℕ) → IsWorldOf x g w → shape y ≡ shape x
+        → extents_of y ≡ forgotten (shape x).apart (emptied (extents_of x) e w.root) e
         → IsWorldOf y g (happens (shape x) w (ResetExtent e)) }
 {}
 

@@ -1,5 +1,5 @@
 //! A store as it is made, and as it is opened.
-ghost use Rattle.std.specs.Prelude.{◌++◌, ◌≤◌, ℕ, List, [], None, length, replicate};
+ghost use Rattle.std.specs.Prelude.{◌≡◌, ◌++◌, ◌≤◌, ℕ, false, List, [], None, length, replicate};
 ghost use Rattle.cs_refine.specs.Openings.{IsStartOf};
 ghost use Rattle.cs_disk.specs.Disk.{Image, IsWhole as IsWholeDisk, MayLeave, State as DiskState, Write, flushed, latest, page, seen};
 ghost use Rattle.cs_extent.specs.State.{IsWhole, State as ExtentsState, shape};
@@ -14,17 +14,17 @@ ghost use Rattle.cs_model.specs.Element.{Map, Run};
 ghost use Rattle.cs_model.specs.Open.{opened_state};
 ghost use Rattle.cs_model.specs.Recovery.{Recovers};
 
-/// What is found on an image is the start of the machine: the extents, a graph of the versions that were read, and an index
-/// of the runs are the parts of the state at open, the disk is its disk, and no command is counted.
+/// Where chunks and runs may lie on one extent what is found on an image is the start of the machine: the extents, a graph of the
+/// versions that were read, and an index of the runs are the parts of the state at open, the disk is its disk, and no command is counted.
 pub fn what_is_found_is_the_start()
     ensures { (x : ExtentsState) (image : Image) (versions : List ℕ) (root limit n : ℕ) (runs : List Run) (m : Map)
         (found : Recovers (shape x) (formats_of (shape x)) (page image) n m)
-        → IsWhole x → IsFoundAs (shape x) (formats_of (shape x)) (page image) n m found x versions root runs
+        → (shape x).apart ≡ false → IsWhole x → IsFoundAs (shape x) (formats_of (shape x)) (page image) n m found x versions root runs
         → IsStartOf x (graph_at versions root) (index_at runs limit) image
         (opened_state (shape x) (formats_of (shape x)) (page image) n m found) }
 {}
 
-/// A new store is a store of the machine with no command and no shard.
+/// A new store is a store of the machine with no command and no shard, by either rule.
 pub fn new_store_refines_start()
     // Of the pages of the sections and of the root that were written, in whatever order, and then flushed.
     ensures written { (old : DiskState) (writes : List Write) (format extents pages sections limit : ℕ)
@@ -45,11 +45,11 @@ pub fn new_store_refines_start()
         (opened_state (shape x) (formats_of (shape x)) (page image) 0 (λ id. None) found)) }
 {}
 
-/// A store that was read is a store of the machine, with as many commands as its root says.
+/// Where chunks and runs may lie on one extent a store that was read is a store of the machine, with as many commands as its root says.
 pub fn read_store_refines_start()
     ensures { (image : Image) (format : ℕ) (versions : List ℕ) (pages : ℕ) (written : List (ℕ × ℕ)) (root commands limit : ℕ)
         (runs : List StoredRun)
-        → ArePages (device_pages format (length written) pages (length versions)) (page image)
+        → (shape (extents_at format pages (length versions) written)).apart ≡ false → ArePages (device_pages format (length written) pages (length versions)) (page image)
         → IsStoreRead (page image) format versions pages written root commands runs
         → (let x = extents_at format pages (length versions) written in
         (m : Map) × (found : Recovers (shape x) (formats_of (shape x)) (page image) commands m)

@@ -29,18 +29,18 @@ ghost use Rattle.cs_reclaim.specs.Sweeps.{IsNotSweepable};
 ghost use Rattle.cs_refine.specs.Parts.{ArePartsOf};
 ghost use Rattle.cs_refine.specs.Refusals.{refusal_for};
 
-/// There is no room for a put where its chunks don't fit, and it would take a number past its greatest where its writes, its
-/// versions of a section or the commands would.
+/// Where chunks and runs may lie on one extent there is no room for a put where its chunks don't fit, and it would take a number past its
+/// greatest where its writes, its versions of a section or the commands would.
 pub fn put_refusals_agree()
     // The machine has no room exactly where, in whatever chunks the bytes are, their frames don't fit.
     ensures full { (x : ExtentsState) (g : GraphState) (i : IndexState) (s : State) (bytes : List ℕ)
-        → IsWhole x → ArePartsOf x g i s
+        → (shape x).apart ≡ false → IsWhole x → ArePartsOf x g i s
         → NoRoomToPut (shape x) (formats_of (shape x)) s bytes
         ↔ ((chunks : List (List ℕ)) → Chunked (shape x).chunk_bytes bytes chunks
         → ¬ Fits (shape x) (extents_of x) ForPut (page_counts (chunk_frames (shape x) (formats_of (shape x)) chunks))) }
     // A number would pass its greatest exactly where the frames fit, and one of theirs or that of the commands would.
     ensures worn { (x : ExtentsState) (g : GraphState) (i : IndexState) (s : State) (id : ℕ) (bytes : List ℕ)
-        → IsWhole x → ArePartsOf x g i s → Sound (shape x) (formats_of (shape x)) s → Bounded (shape x) (formats_of (shape x)) s
+        → (shape x).apart ≡ false → IsWhole x → ArePartsOf x g i s → Sound (shape x) (formats_of (shape x)) s → Bounded (shape x) (formats_of (shape x)) s
         → WouldPass (shape x) (formats_of (shape x)) s (Put id bytes)
         ↔ ((chunks : List (List ℕ)) × Chunked (shape x).chunk_bytes bytes chunks
         × Fits (shape x) (extents_of x) ForPut (page_counts (chunk_frames (shape x) (formats_of (shape x)) chunks))
@@ -56,12 +56,12 @@ pub fn delete_refusals_agree()
         ↔ ((map_now s id ≢ None) × (2 ^ 63 ≤ s.count + length s.commands + 1)) }
 {}
 
-/// There is no room for a Stage where there is no place for the run that it writes. Where there is room, it would take a
-/// number past its greatest where the root would, or what is staged with the run.
+/// There is no room for a Stage where there is no place for the run that it writes. Where there is room, and chunks and runs may lie on
+/// one extent, it would take a number past its greatest where the root would, or what is staged with the run.
 pub fn stage_refusals_agree()
     // Where a Stage doesn't merge by size, the machine has no room for the run that it writes exactly where no extent takes that of the
     // index.
-    ensures full { (x : ExtentsState) (g : GraphState) (i : IndexState) (s : State) → IsWhole x → ArePartsOf x g i s
+    ensures full { (x : ExtentsState) (g : GraphState) (i : IndexState) (s : State) → (shape x).apart ≡ false → IsWhole x → ArePartsOf x g i s
         → (shape x).by_size ≡ false
         → ((s.table ≢ []) × (((length s.runs < 4) × NoRoomForTable (shape x) (formats_of (shape x)) s)
         ⊎ ((4 ≤ length s.runs) × NoRoomForRun (shape x) (formats_of (shape x)) s ForRun)))
@@ -71,25 +71,27 @@ pub fn stage_refusals_agree()
         → ((s.table ≢ []) × NoRoomToStage (shape x) (formats_of (shape x)) s) ↔ IsFull (WritesRun (shape x) i) x ForRun }
     // Where there is room, a number would pass its greatest exactly where the table isn't empty and one that is staged would.
     ensures worn { (x : ExtentsState) (g : GraphState) (i : IndexState) (s : State)
-        → IsWhole x → ArePartsOf x g i s → Sound (shape x) (formats_of (shape x)) s → Bounded (shape x) (formats_of (shape x)) s
+        → (shape x).apart ≡ false → IsWhole x → ArePartsOf x g i s → Sound (shape x) (formats_of (shape x)) s → Bounded (shape x) (formats_of (shape x)) s
         → ¬ IsFull (WritesRun (shape x) i) x ForRun
         → WouldPass (shape x) (formats_of (shape x)) s Stage ↔ ((i.table ≢ []) × IsStageWorn (WritesRun (shape x) i) x ForRun g.staging) }
 {}
 
-/// There is no room for a Retire where there is no place for the run of all that is live. Where there is room, it would take
-/// a number past its greatest where the root would, what is staged with the run, or the generation of the extent.
+/// There is no room for a Retire where there is no place for the run of all that is live. Where there is room, and chunks and runs may lie
+/// on one extent, it would take a number past its greatest where the root would, what is staged with the run, or the generation of the
+/// extent.
 pub fn retire_refusals_agree()
     ensures full { (x : ExtentsState) (g : GraphState) (i : IndexState) (s : State) → IsWhole x → ArePartsOf x g i s
         → NoRoomForRun (shape x) (formats_of (shape x)) s ForMove ↔ IsRetireFull i x }
     // The extent is being swept, nothing is live on it, and there is room.
     ensures worn { (x : ExtentsState) (g : GraphState) (i : IndexState) (s : State) (e : ℕ)
-        → IsWhole x → ArePartsOf x g i s → Sound (shape x) (formats_of (shape x)) s → Bounded (shape x) (formats_of (shape x)) s
+        → (shape x).apart ≡ false → IsWhole x → ArePartsOf x g i s → Sound (shape x) (formats_of (shape x)) s → Bounded (shape x) (formats_of (shape x)) s
         → s.world.extents.swept e ≡ true → NothingLive (index_of i) e → ¬ IsRetireFull i x
         → WouldPass (shape x) (formats_of (shape x)) s (Retire e) ↔ IsRetireWorn i x g.staging e }
 {}
 
-/// There is no room for a MoveOne where there is no place for the frame of the chunk that is moved. Where there is room, it
-/// would take a number past its greatest where what is staged with the frame, by the section of the extent that it goes to, would.
+/// There is no room for a MoveOne where there is no place for the frame of the chunk that is moved. Where there is room, and chunks and
+/// runs may lie on one extent, it would take a number past its greatest where what is staged with the frame, by the section of the extent
+/// that it goes to, would.
 pub fn move_refusals_agree()
     // There is no room exactly where no extent takes the frame of the first live chunk, which can be read.
     ensures full { (x : ExtentsState) (g : GraphState) (i : IndexState) (s : State) (e id chunk : ℕ) (l : Place) (payload : List ℕ)
@@ -99,18 +101,18 @@ pub fn move_refusals_agree()
         ↔ NoPlace (shape x) (extents_of x) ForMove (length (chunk_frame x payload)) }
     // The extent is being swept, its first live chunk can be read and isn't damaged, and there is room.
     ensures worn { (x : ExtentsState) (g : GraphState) (i : IndexState) (s : State) (e id chunk : ℕ) (l : Place) (payload : List ℕ)
-        → IsWhole x → ArePartsOf x g i s → Sound (shape x) (formats_of (shape x)) s → Bounded (shape x) (formats_of (shape x)) s
+        → (shape x).apart ≡ false → IsWhole x → ArePartsOf x g i s → Sound (shape x) (formats_of (shape x)) s → Bounded (shape x) (formats_of (shape x)) s
         → FirstLive (index_of i) e id chunk l → ReadsNow (shape x) (formats_of (shape x)) s l ChunkFrame payload
         → s.world.extents.swept e ≡ true → s.opening.damage l ≡ None
         → ¬ NoPlace (shape x) (extents_of x) ForMove (length (chunk_frame x payload))
         → WouldPass (shape x) (formats_of (shape x)) s (MoveOne e) ↔ IsFrameWorn x ForMove g.staging (length (chunk_frame x payload)) }
 {}
 
-/// Where the store isn't halted: BeginSweep is refused exactly where the extent can't be swept; MoveOne, Retire and Abandon are refused 33
+/// Where the store isn't halted: BeginSweep is refused exactly where the extent can't be swept, where chunks and runs may lie on one extent; MoveOne, Retire and Abandon are refused 33
 /// where it isn't being swept, and Abandon for nothing else.
 pub fn sweep_refusals_agree()
     ensures begin_sweep { (F : Formats) (x : ExtentsState) (g : GraphState) (i : IndexState) (s : State) (e : ℕ) (f : Ground)
-        → ArePartsOf x g i s → s.halted ≡ false
+        → (shape x).apart ≡ false → ArePartsOf x g i s → s.halted ≡ false
         → Refuses (shape x) F s (BeginSweep e) f ↔ (IsNotSweepable (shape x) (extents_of x) e × (f ≡ NotSweepable)) }
     ensures move_one { (F : Formats) (x : ExtentsState) (g : GraphState) (i : IndexState) (s : State) (e : ℕ) (f : Ground)
         → ArePartsOf x g i s → s.halted ≡ false → (extents_of x).swept e ≡ false

@@ -1,5 +1,5 @@
 use Rattle.cs_refine.proofs.openings.new_store_refines_start.Goals as goal
-use Rattle.cs_refine.proofs.Started.{new_started, written_started}
+use Rattle.cs_refine.proofs.StartedNew.{new_started, written_started}
 
 pub returns : goal.returns
 returns c = record {
