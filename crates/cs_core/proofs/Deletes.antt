@@ -62,7 +62,7 @@ module _ (v : Stored) (s : State) (whole : IsWhole v.extents) (is : IsStateOf v 
           let many : length t.commands ≡ v.accepted + 1 = ap (λ (z : State). length z.commands) tis ∙ number in (
             t,
             step,
-            goes_on v (record v { index = j; accepted = v.accepted + 1 }) s t (Delete id) (Accepted (v.accepted + 1)) whole is step refl parts beside refl refl refl refl many
+            goes_on v (record v { index = j; accepted = v.accepted + 1 }) s t (Delete id) (Accepted (v.accepted + 1)) whole is step refl parts (ap (λ (z : State). z.copies) tis ∙ is.copies) beside refl refl refl refl many
                 (frontier_same (shape v.extents) (formats_of (shape v.extents)) s t v.frontier is.frontier roots beside.count)
                 (roots_same v.roots s t is.roots roots beside.count),
           )

@@ -21,9 +21,9 @@ use Rattle.cs_frame.specs.Roots.{root_fault}
 use Rattle.cs_frame.specs.Runs.{run_fault}
 use Rattle.cs_frame.specs.Superblocks.{SpellsSuperblock, superblock_fault}
 use Rattle.cs_image.proofs.OneByOne.{place_inside}
-use Rattle.cs_image.proofs.Readable.{all_readable, part, root_spelled, section_spelled, store_read, zero_same}
+use Rattle.cs_image.proofs.Readable.{all_readable, part, root_spelled, section_spelled, store_read, visible_store_read, zero_same}
 use Rattle.cs_image.proofs.Superblocks.{read_whole, section_one}
-use Rattle.cs_image.specs.Reads.{ArePages, AreSectionsRead, IsReadable, IsStoreRead, SpellsAt, extents_at}
+use Rattle.cs_image.specs.Reads.{ArePages, AreSectionsRead, IsReadable, IsVisibleStoreRead, SpellsAt, extents_at}
 use Rattle.cs_index.proofs.Sorted.{all_at}
 use Rattle.cs_index.specs.State.{newest_first}
 use Rattle.cs_model.specs.Device.{Shape}
@@ -140,9 +140,15 @@ module _ (count : ℕ) (view : ℕ → List ℕ) (format extents pages sections 
   index_there x w =
       let sections_read = w.root.extents.sections in
       let same = same_numbers w.format w.versions w.pages w.written sections_read in
-      let read : IsStoreRead view w.format w.versions w.pages w.written w.root.version w.root.commands w.runs = store_read view w.format w.versions w.pages w.written sections_read
-      (pages_there w.format (length w.versions) w.pages w.written w.root.extents.sized) n m (recovers_here w.format (length w.versions) w.pages w.written same.0 same.1 same.2 same.3) w.root.version w.root.commands w.runs w.root.root w.runs_read in
-      ⊎_elim (λ away. away read.located)
+      let there = pages_there w.format (length w.versions) w.pages w.written w.root.extents.sized in
+      let recovered = recovers_here w.format (length w.versions) w.pages w.written same.0 same.1 same.2 same.3 in
+      let read : IsVisibleStoreRead view w.format w.versions w.pages w.written w.root.version w.root.commands w.runs =
+      visible_store_read view w.format w.versions w.pages w.written sections_read there n m recovered w.root.version w.root.commands w.runs w.root.root w.runs_read in
+      ⊎_elim
+      (λ away. away (record {
+        whole = λ stand. (store_read view w.format w.versions w.pages w.written sections_read there n m recovered w.root.version w.root.commands w.runs w.root.root w.runs_read stand).located;
+        visible = λ gone. read.located;
+      }))
       (λ (many : (shape (extents_at w.format w.pages (length w.versions) w.written)).most_names < names (entries_of (newest_first w.runs))).
       let few : names (entries_of (newest_first w.runs)) ≤ (shape (extents_at w.format w.pages (length w.versions) w.written)).most_names = read.named in omega (arith, few, many))
       w.why

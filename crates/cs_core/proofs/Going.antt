@@ -93,12 +93,13 @@ roots_more roots s t r q are more version commands persistent count = record {
 -- after a step, where parts, commands, frontier and roots are those of the new state and the round is the same
 pub goes_on : (v w : Stored) (s t : State) (event : Event) (reply : Reply) → IsWhole v.extents → IsStateOf v s
     → Step (shape v.extents) (formats_of (shape v.extents)) s event reply t → shape w.extents ≡ shape v.extents
-    → ArePartsOf w.extents w.graph w.index t → Beside s t → w.out ≡ v.out → w.issued ≡ v.issued → w.halted ≡ v.halted → w.base ≡ v.base
+    → ArePartsOf w.extents w.graph w.index t → t.copies ≡ w.copies → Beside s t → w.out ≡ v.out → w.issued ≡ v.issued → w.halted ≡ v.halted → w.base ≡ v.base
     → length t.commands ≡ w.accepted → IsFrontier (shape v.extents) (formats_of (shape v.extents)) t w.frontier → AreRootsOf w.roots t → IsStateOf w t
-goes_on v w s t event reply whole is step same parts beside out issued halted base accepted frontier roots =
+goes_on v w s t event reply whole is step same parts copies beside out issued halted base accepted frontier roots =
     let kept = steps (shape v.extents) (formats_of (shape v.extents)) (store_shape v.extents whole) (store_format v.extents whole) s t event reply is.sound is.bounded step in
     record {
       parts = parts;
+      copies = copies;
       sound = subst (λ (S : Shape). Sound S (formats_of S) t) (sym same) kept.0;
       bounded = subst (λ (S : Shape). Bounded S (formats_of S) t) (sym same) kept.1;
       round_out = beside.round_out ∙ is.round_out ∙ ap (λ (o : _). is_some o) (sym out);
@@ -136,6 +137,7 @@ parts_roomed x g h i j s are graph index =
 state_roomed : (v : Stored) (h : GraphState) (j : IndexState) (s : State) → h ≡ record v.graph { room = h.room } → j ≡ record v.index { room = j.room } → IsStateOf v s → IsStateOf (record v { graph = h; index = j }) s
 state_roomed v h j s graph index is = record {
   parts = parts_roomed v.extents v.graph h v.index j s is.parts graph index;
+  copies = is.copies;
   sound = is.sound;
   bounded = is.bounded;
   round_out = is.round_out;

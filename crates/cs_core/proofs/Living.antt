@@ -1,16 +1,22 @@
--- How many shards have locators.
+-- How many shards have locators, and whether these are located.
 use Rattle.std.proofs.Common.{◌≡◌, ◌≢◌, ◌⊎◌, inl, inr, ⊎_elim, ◌∙◌, ℕ, zero, suc, ◌+◌, ◌<◌, ◌≤◌, true, false, List, [], ◌∷◌, ◌++◌, Some, None, length, map, length-append, refl, sym, ap, subst, arith}
 use Rattle.std.specs.Prelude.{◌↔◌, Contains, Option, is_some, slice_index_or}
 use Rattle.std.specs.List.{AllByRecursion}
 use Rattle.std.proofs.lemmas.Bool.{cases_eq, cases_lt}
 use Rattle.std.proofs.lemmas.List.{length-map}
+use Rattle.cs_extent.specs.State.{State as ExtentsState}
+use Rattle.cs_frame.specs.declared.locators.Locator.{Locator}
+use Rattle.cs_frame.specs.Formats.{as_locator, place_of}
 use Rattle.cs_image.specs.Counts.{HasCount}
+use Rattle.cs_image.specs.Reads.{IsLocated}
 use Rattle.cs_index.proofs.Merged.{merged_end, merged_step}
 use Rattle.cs_index.specs.Sorted.{IsMergedTo, live_entry}
 use Rattle.cs_index.specs.State.{IsAfter, IsNext}
 use Rattle.cs_model.proofs.Counting.{ascending_names, lookup_here, lookup_there, names_le}
 use Rattle.cs_model.specs.Element.{Entry, Locator as Place}
 use Rattle.cs_model.specs.Index.{Ascending, IsMergedRun, if_live, live, live_at, lookup, names}
+use Rattle.cs_model.specs.Lists.{◌∈◌}
+use Rattle.cs_core.specs.Openings.{AreLiveLocated}
 
 -- ---- no more are counted than are named
 
@@ -97,3 +103,39 @@ all_counted index xs merged = (
 
 pub all_read : (index xs : List Entry) (after : Option ℕ) (count : ℕ) → IsMergedTo index after xs → IsNext index after None → length xs ≡ count → HasCount (λ id. live_at index id ≢ []) count
 all_read index xs after count merged none is = subst (HasCount (λ id. live_at index id ≢ [])) is (all_counted index xs (merged_end index xs after merged none))
+
+-- ---- what is live is located
+
+-- what the identifiers up to one have is located
+abbrev pub AreLocatedTo : ExtentsState → List Entry → Option ℕ → Type 0
+AreLocatedTo x index after = (id : ℕ) → (IsAfter after id → ⊥) → (l : Place) → l ∈ live_at index id → IsLocated x (as_locator l)
+
+-- the entry that is read next has located places, or one that isn't
+module _ (x : ExtentsState) (index : List Entry) (after : Option ℕ) (id : ℕ) (ls : List Locator) (next : IsNext index after (Some (record { id = id; locators = map place_of ls }))) where
+  pub located_more : AreLocatedTo x index after → AllByRecursion (IsLocated x) ls → AreLocatedTo x index (Some id)
+  located_more was all d not l among = elim (cases_eq d id) [
+    | inl here ↦ located_places x ls all l (subst (λ (ps : List Place). l ∈ ps) (ap (λ (n : ℕ). live_at index n) here ∙ ap live next.1) among)
+    | inr other ↦ ⊎_elim
+        (λ (later : IsAfter after d). absurd (subst (λ (ps : List Place). l ∈ ps) (ap live (next.2 d later (let le : ¬ (id < d) = not in omega (arith, le, other)))) among))
+        (λ (earlier : IsAfter after d → ⊥). was d earlier l among)
+        (after_or_not after d)
+  ]
+    where
+      located_places : (x : ExtentsState) (ls : List Locator) → AllByRecursion (IsLocated x) ls → (l : Place) → l ∈ map place_of ls → IsLocated x (as_locator l)
+      located_places x [] all l none = absurd none
+      located_places x (k ∷ ls) all l (inl is) = subst (λ (p : Place). IsLocated x (as_locator p)) (sym is) all.0
+      located_places x (k ∷ ls) all l (inr has) = located_places x ls all.1 l has
+
+  pub located_less : ¬ AllByRecursion (IsLocated x) ls → AreLiveLocated x index → ⊥
+  located_less not all = not (each ls (λ l has. all id l (subst (λ (ps : List Place). l ∈ ps) (sym (ap live next.1)) has)))
+    where
+      each : (ls : List Locator) → ((l : Place) → l ∈ map place_of ls → IsLocated x (as_locator l)) → AllByRecursion (IsLocated x) ls
+      each [] all = tt
+      each (l ∷ ls) all = (all (place_of l) (inl refl), each ls (λ k has. all k (inr has)))
+
+-- nothing comes behind
+pub located_all : (x : ExtentsState) (index : List Entry) (after : Option ℕ) → AreLocatedTo x index after → IsNext index after None → AreLiveLocated x index
+located_all x index after was none id l among = ⊎_elim
+    (λ (later : IsAfter after id). absurd (subst (λ (ps : List Place). l ∈ ps) (ap live (none id later)) among))
+    (λ (earlier : IsAfter after id → ⊥). was id earlier l among)
+    (after_or_not after id)

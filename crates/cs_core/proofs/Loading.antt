@@ -1,8 +1,9 @@
 -- What is read as a store is opened, and the store that is made of it.
-use Rattle.std.proofs.Common.{◌≡◌, ◌≢◌, ◌⊎◌, inl, inr, ⊎_elim, ◌∙◌, ℕ, suc, ◌+◌, ◌<◌, ◌≤◌, ◌^◌, Bool, true, false, List, [], ◌∷◌, Some, None, Result, Ok, Err, IfOk, IfErr, Vec, length, map, take, replicate, refl, sym, ap, subst, arith}
+use Rattle.std.proofs.Common.{◌≡◌, ◌≢◌, ◌⊎◌, inl, inr, ⊎_elim, ◌∙◌, ℕ, suc, ◌+◌, ◌<◌, ◌≤◌, ◌^◌, Bool, true, false, List, [], ◌∷◌, Some, None, Result, Ok, Err, IfOk, IfErr, Vec, length, take, replicate, nat_le, true≢false, refl, sym, ap, subst, arith}
 use Rattle.std.specs.Prelude.{MatchBool, Option, slice_get, slice_index}
 use Rattle.std.specs.List.{AllByRecursion}
 use Rattle.std.specs.declared.alloc.Global.{Global}
+use Rattle.std.proofs.lemmas.Bool.{cond-false}
 use Rattle.std.proofs.lemmas.List.{length-map}
 use Rattle.cs_chunk.specs.Chunks.{IsFrameAt}
 use Rattle.cs_chunk.specs.Newest.{AreNewest}
@@ -12,34 +13,34 @@ use Rattle.cs_deps.specs.declared.refusals.Refusal.TheVariants.{DeviceFault, Out
 use Rattle.cs_deps.specs.State.{NoneOn, State as GraphState}
 use Rattle.cs_disk.specs.Disk.{Image, page}
 use Rattle.cs_extent.specs.Frames.{root_family}
-use Rattle.cs_extent.specs.State.{IsWhole, State as ExtentsState, shape}
+use Rattle.cs_extent.specs.State.{IsWhole, State as ExtentsState, extents_of, shape}
 use Rattle.cs_frame.specs.declared.faults.FormatFault.{FormatFault}
 use Rattle.cs_frame.specs.declared.faults.FormatFault.TheVariants.{BadGeometry, OutOfMemory, BadMagic, BadDigest, BadLength, BadPadding, BadVersion, OutOfOrder}
 use Rattle.cs_frame.specs.declared.frames.FrameKind.TheVariants.{Run}
 use Rattle.cs_frame.specs.declared.identifiers.ShardId.{ShardId}
 use Rattle.cs_frame.specs.declared.locators.Locator.{Locator}
-use Rattle.cs_frame.specs.Formats.{place_of}
+use Rattle.cs_frame.specs.Formats.{as_locator}
 use Rattle.cs_frame.specs.Geometries.{named_limit}
 use Rattle.cs_frame.specs.Runs.{FitsEntry, IsRun, SpellsRun, entries_of as spelled_entries, entry_of, run_fault}
 use Rattle.cs_image.proofs.Families.{length-by_family, root_in}
-use Rattle.cs_image.proofs.Listed.{all_default, found_in, in_entries}
+use Rattle.cs_image.proofs.Listed.{all_default}
 use Rattle.cs_image.proofs.OneByOne.{place_inside}
 use Rattle.cs_image.specs.Counts.{HasCount}
 use Rattle.cs_image.specs.Openings.{by_family, graph_at, index_at}
-use Rattle.cs_image.specs.Reads.{AreLocated, AreRunsRead, HasRunAt, IsLocated, IsRunRead, extents_at}
-use Rattle.cs_index.proofs.Newest.{all_newest}
+use Rattle.cs_image.specs.Reads.{AreRunsRead, HasRunAt, IsLocated, IsRunRead, extents_at}
+use Rattle.cs_index.proofs.Whole.{length-newest}
 use Rattle.cs_index.proofs.Sorted.{all_append, take_at_get}
 use Rattle.cs_index.specs.declared.runs.StoredRun.{StoredRun}
-use Rattle.cs_index.specs.State.{State as IndexState, index_of, named_entry, newest_first, run_of}
-use Rattle.cs_model.specs.Device.{Inside}
-use Rattle.cs_model.specs.Element.{Entry, Locator as Place, Run as IndexRun}
+use Rattle.cs_index.specs.State.{State as IndexState, index_of, newest_first}
+use Rattle.cs_model.specs.Device.{Inside, Shape}
+use Rattle.cs_model.specs.Element.{Copy}
 use Rattle.cs_model.specs.Formats.{RunFrame}
-use Rattle.cs_model.specs.Index.{entries_of, live, live_at}
-use Rattle.cs_model.specs.Lists.{◌∈◌}
+use Rattle.cs_model.specs.Index.{entries_of, live_at}
 use Rattle.cs_core.specs.declared.roots.Root.{Root as Noted}
-use Rattle.cs_core.specs.Openings.{IsWhyNoRuns, IsWhyNotRead, opened_stored}
-use Rattle.cs_core.specs.Stored.{IsKept}
+use Rattle.cs_core.specs.Openings.{AreExtentsOpened, AreLocatedBy, IsLoaded, IsWhyNoRuns, IsWhyNotRead, opened_stored}
+use Rattle.cs_core.specs.Stored.{AreInside, IsKept, Stored}
 use Rattle.cs_core.proofs.Noted.{noted_alone}
+use Rattle.cs_core.proofs.Readying.{hidden_gone, none_swept, resets_opened, visible_by}
 
 -- ---- refusals
 
@@ -130,6 +131,11 @@ module _ (x : ExtentsState) (view : ℕ → List ℕ) (place : Locator) (located
 pub frame_not_read : (x : ExtentsState) (view : ℕ → List ℕ) (place : Locator) (r : Refusal) → IsLocated x place → IsNoAnswer r ⊎ IsOfFault (fault_at (shape x) view Run place) r → IsNoAnswer r ⊎ IsWhyNotRead x view place r
 frame_not_read x view place r located why = ⊎_elim (λ n. inl n) (λ f. inr (inr (inl (located, f)))) why
 
+-- a run is where its place is
+pub located_run : (x : ExtentsState) (place : Locator) → IsLocated x place → (result : Result StoredRun Refusal) → IfOk result (λ run. run.place ≡ place) → IfOk result (λ run. IsLocated x run.place)
+located_run x place located (Ok run) at = subst (IsLocated x) (sym at) located
+located_run x place located (Err r) at = tt
+
 -- ---- one run after another
 
 pub no_runs : (x : ExtentsState) (view : ℕ → List ℕ) (places : List Locator) (runs : List StoredRun) (k : ℕ) (place : Locator) (r : Refusal)
@@ -140,58 +146,66 @@ no_runs x view places runs k place r older many at why =
 -- ---- the store
 
 -- a store that is made of its parts
-pub opened_is : (format : ℕ) (versions : List ℕ) (pages sections : ℕ) (written : List (ℕ × ℕ)) (root commands limit : ℕ) (runs : List StoredRun) (g : GraphState) (x : ExtentsState) (i : IndexState) (roots : List Noted)
-    → g ≡ graph_at versions root → length versions ≡ sections → x ≡ extents_at format pages sections written → limit ≡ named_limit pages → i ≡ index_at (newest_first runs) limit → roots ≡ record { version = root; commands = 0 } ∷ []
-    → record { graph = g; extents = x; index = i; roots = roots; out = g.round; issued = 0; base = commands; accepted = 0; frontier = 0; halted = false } ≡ opened_stored format versions pages written root commands runs
-opened_is format versions pages sections written root commands limit runs g x i roots graph many extents most index noted =
-    ap (λ (k : GraphState). record { graph = k; extents = x; index = i; roots = roots; out = k.round; issued = 0; base = commands; accepted = 0; frontier = 0; halted = false }) graph
-    ∙ ap (λ (k : ExtentsState). record { graph = graph_at versions root; extents = k; index = i; roots = roots; out = None; issued = 0; base = commands; accepted = 0; frontier = 0; halted = false })
-    (extents ∙ ap (λ (n : ℕ). extents_at format pages n written) (sym many))
-    ∙ ap (λ (k : IndexState). record { graph = graph_at versions root; extents = extents_at format pages (length versions) written; index = k; roots = roots; out = None; issued = 0; base = commands; accepted = 0; frontier = 0; halted = false }) (index ∙ ap (λ (n : ℕ). index_at (newest_first runs) n) most)
-    ∙ ap (λ (rs : List Noted). record { graph = graph_at versions root; extents = extents_at format pages (length versions) written; index = index_at (newest_first runs) (named_limit pages); roots = rs; out = None; issued = 0; base = commands; accepted = 0; frontier = 0; halted = false }) noted
+pub opened_is : (versions : List ℕ) (root commands limit : ℕ) (runs : List StoredRun) (g : GraphState) (x : ExtentsState) (i : IndexState) (copies : List Copy) (roots : List Noted)
+    → g ≡ graph_at versions root → limit ≡ named_limit x.pages → i ≡ index_at (newest_first runs) limit → copies ≡ [] → roots ≡ record { version = root; commands = 0 } ∷ []
+    → record { graph = g; extents = x; index = i; copies = copies; roots = roots; out = g.round; issued = 0; base = commands; accepted = 0; frontier = 0; halted = false } ≡ opened_stored x versions root commands runs
+opened_is versions root commands limit runs g x i copies roots graph most index none noted =
+    let made : Stored = opened_stored x versions root commands runs in
+    ap (λ (k : GraphState). record { graph = k; extents = x; index = i; copies = copies; roots = roots; out = k.round; issued = 0; base = commands; accepted = 0; frontier = 0; halted = false }) graph
+    ∙ ap (λ (k : IndexState). record made { index = k; copies = copies; roots = roots }) (index ∙ ap (λ (n : ℕ). index_at (newest_first runs) n) most)
+    ∙ ap (λ (cs : List Copy). record made { copies = cs; roots = roots }) none
+    ∙ ap (λ (rs : List Noted). record made { roots = rs }) noted
+
+-- of extents that are opened
+module _ (root commands limit : ℕ) (runs : List StoredRun) (g : GraphState) (x y : ExtentsState) (i : IndexState) (copies : List Copy) (roots : List Noted)
+    (most : limit ≡ named_limit x.pages) (index : i ≡ index_at (newest_first runs) limit) (none : copies ≡ []) (noted : roots ≡ record { version = root; commands = 0 } ∷ []) (opened : AreExtentsOpened x i root y) where
+  pub are_opened : AreExtentsOpened x (index_at (newest_first runs) (named_limit x.pages)) root y
+  are_opened = subst (λ (j : IndexState). AreExtentsOpened x j root y) (index ∙ ap (λ (n : ℕ). index_at (newest_first runs) n) most) opened
+
+  pub loaded_as : (versions : List ℕ) → g ≡ graph_at versions root
+      → record { graph = g; extents = y; index = i; copies = copies; roots = roots; out = g.round; issued = 0; base = commands; accepted = 0; frontier = 0; halted = false } ≡ opened_stored y versions root commands runs
+  loaded_as versions graph = opened_is versions root commands limit runs g y i copies roots graph (most ∙ ap (λ (S : Shape). S.most_names) (sym opened.same_shape)) index none noted
+
+  pub is_loaded : IsLoaded x g root commands runs (record { graph = g; extents = y; index = i; copies = copies; roots = roots; out = g.round; issued = 0; base = commands; accepted = 0; frontier = 0; halted = false })
+  is_loaded = record { extents = y; opened = are_opened; made = λ versions many graph. loaded_as versions graph }
 
 -- how many are live in its index
 pub live_in : (i : IndexState) (runs : List StoredRun) (limit count : ℕ) → i ≡ index_at (newest_first runs) limit → HasCount (λ id. live_at (index_of i) id ≢ []) count → HasCount (λ id. live_at (entries_of (newest_first runs)) id ≢ []) count
 live_in i runs limit count is has = subst (λ (k : IndexState). HasCount (λ id. live_at (index_of k) id ≢ []) count) is has
 
-module _ (format : ℕ) (versions : List ℕ) (pages : ℕ) (written : List (ℕ × ℕ)) (whole : IsWhole (extents_at format pages (length versions) written)) where
+-- a store that was opened keeps what every store keeps
+module _ (format : ℕ) (versions : List ℕ) (pages : ℕ) (written : List (ℕ × ℕ)) (root commands : ℕ) (runs : List StoredRun) (y : ExtentsState) (whole : IsWhole (extents_at format pages (length versions) written))
+    (opened : AreExtentsOpened (extents_at format pages (length versions) written) (index_at (newest_first runs) (named_limit pages)) root y) where
   abbrev x : ExtentsState
   x = extents_at format pages (length versions) written
 
-  abbrev IsInside : Place → Type 0
-  IsInside l = Inside (shape (extents_at format pages (length versions) written)) l.extent l.page
+  unmarked : (e : ℕ) → (extents_of y).swept e ≡ false
+  unmarked = none_swept x y (index_at (newest_first runs) (named_limit pages)) root opened (λ e. all_default (length written) e false)
 
-  places_in : (ls : List Locator) → AllByRecursion (IsLocated x) ls → (l : Place) → l ∈ map place_of ls → IsInside l
-  places_in [] all l none = absurd none
-  places_in (k ∷ ls) all l (inl is) = subst IsInside (sym is) (place_inside x k whole all.0)
-  places_in (k ∷ ls) all l (inr has) = places_in ls all.1 l has
+  inside : AreLocatedBy x runs → AreInside (shape y) (index_at (newest_first runs) (named_limit y.pages))
+  inside located id l among = subst (λ (S : Shape). Inside S l.extent l.page) (sym opened.same_shape) (place_inside x (as_locator l) whole (visible_by x runs located id l among))
 
-  abbrev EntryIn : Entry → Type 0
-  EntryIn e = (l : Place) → l ∈ e.locators → IsInside l
+  few_runs : length runs ≤ 24 → (shape y).apart ≡ true → length (newest_first runs) ≤ (shape y).most_runs
+  few_runs few rule = let most : (shape y).most_runs ≡ 24 = cond-false (nat_le y.format 2) 4 24 (hidden_gone y rule) in omega (arith, few, most, length-newest runs)
 
-  entries_in : (xs : List (ShardId × Vec Locator Global)) → AllByRecursion (λ entry. AllByRecursion (IsLocated x) entry.1.items) xs → AllByRecursion EntryIn (map named_entry xs)
-  entries_in [] all = tt
-  entries_in (e ∷ xs) all = (places_in e.1.items all.0, entries_in xs all.1)
-
-  runs_in : (runs : List StoredRun) → AreLocated x runs → AllByRecursion (λ run. AllByRecursion EntryIn (run_of run).entries) runs
-  runs_in [] all = tt
-  runs_in (run ∷ runs) all = (entries_in run.entries.items all.0, runs_in runs all.1)
-
-  inside : (runs : List StoredRun) → AreLocated x runs → (id : ℕ) (l : Place) → l ∈ live_at (entries_of (newest_first runs)) id → IsInside l
-  inside runs all id = found_in EntryIn (λ (o : Option (List Place)). (l : Place) → l ∈ live o → IsInside l) (λ l none. absurd none) (λ e is. is)
-      (entries_of (newest_first runs)) (in_entries EntryIn (newest_first runs) (all_newest (λ (run : IndexRun). AllByRecursion EntryIn run.entries) runs (runs_in runs all))) id
-
-  -- a store that was opened keeps what every store keeps
-  pub kept_opened : (root commands : ℕ) (runs : List StoredRun) → commands < 2 ^ 63 → AreLocated x runs → IsKept (opened_stored format versions pages written root commands runs)
-  kept_opened root commands runs few located = record {
-    families = omega (arith, length-by_family versions root);
-    resets = λ e. let none : slice_index (replicate (length written) 0) e ≡ 0 = all_default (length written) e 0 in omega (arith, none);
-    writes = λ y w kept. let clash : None ≡ Some w = kept in absurd (cc clash);
+  pub kept_opened : commands < 2 ^ 63 → length runs ≤ 24 → AreLocatedBy x runs → IsKept (opened_stored y versions root commands runs)
+  kept_opened low few located = record {
+    families = (let sections : y.sections ≡ length versions = ap (λ (S : Shape). S.sections) opened.same_shape in omega (arith, length-by_family versions root, sections));
+    resets = λ e. subst (λ (v : ℕ). (extents_of y).reset e ≤ v) (sym (root_in versions root whole.geometry.fewest_sections))
+        (resets_opened x y (index_at (newest_first runs) (named_limit pages)) root opened (λ d. let none : slice_index (replicate (length written) 0) d ≡ 0 = all_default (length written) d 0 in omega (arith, none)) e);
+    writes = λ z w kept. let clash : None ≡ Some w = kept in absurd (cc clash);
     limit = refl;
-    places = inside runs located;
+    places = inside located;
     round = refl;
     some = omega arith;
-    numbers = omega (arith, few);
-    swept = λ e is. let clash : false ≡ true = sym (all_default (length written) e false) ∙ is in absurd (cc clash);
+    numbers = omega (arith, low);
+    swept = λ e is. absurd (true≢false (sym is ∙ unmarked e));
+    apart = λ rule. record {
+      runs = few_runs few rule;
+      one = λ d e is at. absurd (true≢false (sym is ∙ unmarked d));
+      order = tt;
+      up_to = λ e is. absurd (true≢false (sym is ∙ unmarked e));
+      placed = λ c among. absurd among;
+    };
     noted = noted_alone root (slice_index (by_family versions root) root_family) (root_in versions root whole.geometry.fewest_sections);
   }

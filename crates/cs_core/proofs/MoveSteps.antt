@@ -26,10 +26,11 @@ use Rattle.cs_model.specs.Formats.{ChunkFrame, Stand}
 use Rattle.cs_model.specs.Grounds.{DamagedFirst, NoRoomToMove, PastLimit, Refuses, WouldPass}
 use Rattle.cs_model.specs.Index.{FirstLive, NothingLive, live_at}
 use Rattle.cs_model.specs.Lists.{replaced, ◌∈◌}
-use Rattle.cs_model.specs.Refusal.{DeviceFault, Full, Halted, NotSweepable, Refusal as Ground, WornOut}
+use Rattle.cs_model.specs.Refusal.{DeviceFault, Full, NotSweepable, Refusal as Ground, WornOut}
 use Rattle.cs_model.specs.State.{MoveOne, Moved, NoneLive, Refused, Reply, State, index_now}
 use Rattle.cs_model.specs.Step.{Step}
 use Rattle.cs_refine.proofs.Calls.{move}
+use Rattle.cs_refine.proofs.DoesBefore.{moved as did_move, none_moved, none_so}
 use Rattle.cs_refine.proofs.Indexes.{first_live, looked_up, nothing_live}
 use Rattle.cs_refine.proofs.RefusedMoves.{move_full, move_worn}
 use Rattle.cs_refine.proofs.ShardsRead.{live_damaged, live_payload, live_whole}
@@ -44,7 +45,8 @@ use Rattle.cs_core.specs.States.{IsStateOf}
 use Rattle.cs_core.specs.Stored.{Stored, but_for_room}
 use Rattle.cs_core.proofs.Damage.{IsDamage, read_refusal}
 use Rattle.cs_core.proofs.Gets.{newest_there}
-use Rattle.cs_core.proofs.Going.{Beside, beside_is, frontier_same, goes_on, going, no_more, pass, pass_found, roomed, roots_same, same_state}
+use Rattle.cs_core.proofs.Going.{Beside, beside_is, frontier_same, goes_on, going, roomed, roots_same, same_state}
+use Rattle.cs_core.proofs.MoveGrounds.{damaged_before, full_before, none_before, reads_before, worn_before}
 use Rattle.cs_core.proofs.RootsStay.{SameRoots, append_stays}
 use Rattle.cs_core.proofs.SweepSteps.{is_marked, move_unmarked}
 use Rattle.cs_image.specs.Reads.{page_total}
@@ -68,7 +70,7 @@ module _ (x : ExtentsState) (whole : IsWhole x) (s : State) (held : Image) where
   frame_read l payload reads = (reads.inside, read_back l.extent l.page ((formats_of (shape x)).frame ChunkFrame payload) reads.passes.inside.0 reads.inside reads.stand)
 
 -- neither 30 nor 35 is a fault's
-not_place : (r : Code) (f : FormatFault) → (r ≡ code.Full) ⊎ (r ≡ code.WornOut) → r ≡ code_of f → ⊥
+pub not_place : (r : Code) (f : FormatFault) → (r ≡ code.Full) ⊎ (r ≡ code.WornOut) → r ≡ code_of f → ⊥
 not_place r f (inl full) is = none f (sym full ∙ is)
   where
     none : (f : FormatFault) → code.Full ≡ code_of f → ⊥
@@ -80,14 +82,14 @@ not_place r f (inr worn) is = none f (sym worn ∙ is)
     none fault.BadMagic e = cc e
     none f e = cc e
 
-not_answer : (r : Code) → (r ≡ code.Full) ⊎ (r ≡ code.WornOut) → IsNoAnswer r → ⊥
+pub not_answer : (r : Code) → (r ≡ code.Full) ⊎ (r ≡ code.WornOut) → IsNoAnswer r → ⊥
 not_answer r (inl full) (inl device) = let e : code.Full ≡ code.DeviceFault = sym full ∙ device in cc e
 not_answer r (inl full) (inr memory) = let e : code.Full ≡ code.OutOfMemory = sym full ∙ memory in cc e
 not_answer r (inr worn) (inl device) = let e : code.WornOut ≡ code.DeviceFault = sym worn ∙ device in cc e
 not_answer r (inr worn) (inr memory) = let e : code.WornOut ≡ code.OutOfMemory = sym worn ∙ memory in cc e
 
 module _ (v : Stored) (whole : IsWhole v.extents) (graph : IsWholeGraph v.graph) (runs : v.halted ≡ false) (disk : DiskState) (size : page_total (shape v.extents) ≤ length disk.durable)
-    (e : ℕ) (yes : (extents_of v.extents).swept e ≡ true) where
+    (e : ℕ) (yes : (extents_of v.extents).swept e ≡ true) (together : (shape v.extents).apart ≡ false) where
   module _ (s : State) (is : IsStateOf v s) where
     runs_on : s.halted ≡ true → ⊥
     runs_on = going s.halted (is.halted ∙ runs)
@@ -116,13 +118,13 @@ module _ (v : Stored) (whole : IsWhole v.extents) (graph : IsWholeGraph v.graph)
       no_first id k l first = not_nothing (shape v.extents) (formats_of (shape v.extents)) (store_shape v.extents whole) (store_format v.extents whole) s e id k l first nothing
 
       would : (reply : Reply) (t : State) → Does (shape v.extents) (formats_of (shape v.extents)) s (MoveOne e) reply t → PastLimit (shape v.extents) (formats_of (shape v.extents)) t → ⊥
-      would NoneLive t (swept, none, same) over = not_past (shape v.extents) (formats_of (shape v.extents)) s is.sound is.bounded (subst (λ (u : State). PastLimit (shape v.extents) (formats_of (shape v.extents)) u) same over)
-      would (Moved id k) t d over = no_first id k d.0 d.5
+      would NoneLive t d over = not_past (shape v.extents) (formats_of (shape v.extents)) s is.sound is.bounded
+          (subst (λ (u : State). PastLimit (shape v.extents) (formats_of (shape v.extents)) u) (none_moved (shape v.extents) (formats_of (shape v.extents)) together s t e d).2 over)
+      would (Moved id k) t d over = let did = did_move (shape v.extents) (formats_of (shape v.extents)) together s t e id k d in no_first id k did.0 did.5
       would reply t d over = d
 
       none_refuses : (f : Ground) → Refuses (shape v.extents) (formats_of (shape v.extents)) s (MoveOne e) f → ⊥
-      none_refuses = pass Halted runs_on (pass NotSweepable marked_not (pass_found (λ f d. no_first d.0 d.1 d.2 d.3)
-          (pass Full (λ full. full.0 nothing) (pass WornOut (λ w. would w.0 w.1 w.2 w.3) no_more))))
+      none_refuses = none_before (shape v.extents) (formats_of (shape v.extents)) s e runs_on marked_not together (λ f d. no_first d.0 d.1 d.2 d.3) (λ full. full.0 nothing) (λ w. would w.0 w.1 w.2 w.3)
 
     -- the first live chunk on the extent
     module _ (id k : ℕ) (l : Place) (first : FirstLive (index_now s) e id k l) (whole_chunk : s.opening.damage l ≡ None) where
@@ -137,7 +139,7 @@ module _ (v : Stored) (whole : IsWhole v.extents) (graph : IsWholeGraph v.graph)
   unfolding MoveAnswers
   move_none w same none s is on =
       let nothing = none_there s is none in
-      (s, (none_refuses s is nothing, (marked_there s is, nothing, refl)), subst (λ (u : Stored). IsStateOf u s) (sym same) is)
+      (s, (none_refuses s is nothing, none_so (shape v.extents) (formats_of (shape v.extents)) together s s e (marked_there s is, nothing, refl)), subst (λ (u : Stored). IsStateOf u s) (sym same) is)
 
   -- ---- a chunk is moved
 
@@ -166,28 +168,29 @@ module _ (v : Stored) (whole : IsWhole v.extents) (graph : IsWholeGraph v.graph)
       reasons = why (pages_now (shape v.extents) s (seen disk)) newest id k moved.from payload moved.first (frame (pages_now (shape v.extents) s (seen disk)) newest)
 
       refuses : (f : Ground) → Refuses (shape v.extents) (formats_of (shape v.extents)) s (MoveOne e) f → ⊥
-      refuses = pass Halted (runs_on s is) (pass NotSweepable (marked_not s is) (pass_found (undamaged s is id k moved.from (there s is id k moved.from moved.first) whole_chunk)
-          (pass Full (λ full. reasons.0 ((move_full v.extents v.graph v.index s whole is.parts e id k moved.from payload moved.first reads_it).0 full.1))
-          (pass WornOut (λ w. reasons.1 ((move_worn v.extents v.graph v.index s whole is.parts e id k moved.from payload moved.first reads_it is.sound is.bounded (marked_there s is) whole_chunk reasons.0).0 w)) no_more))))
+      refuses = none_before (shape v.extents) (formats_of (shape v.extents)) s e (runs_on s is) (marked_not s is) together (undamaged s is id k moved.from (there s is id k moved.from moved.first) whole_chunk)
+          (λ full. reasons.0 ((move_full v.extents v.graph v.index s whole is.parts e id k moved.from payload moved.first reads_it).0 full.1))
+          (λ w. reasons.1 ((move_worn v.extents v.graph v.index s whole is.parts e id k moved.from payload moved.first reads_it is.sound is.bounded together (marked_there s is) whole_chunk reasons.0).0 w))
 
       at : (t : State) → Does (shape v.extents) (formats_of (shape v.extents)) s (MoveOne e) (Moved id k) t → ArePartsOf y h j t
           → (z : State) × Step (shape v.extents) (formats_of (shape v.extents)) s (MoveOne e) (Moved id k) z × IsStateOf (record v { extents = y; graph = h; index = j }) z
       at t does parts =
-          let u : State = record s { world = does.8.0; table = record { id = id; locators = replaced (live_at (index_now s) id) k does.1 } ∷ s.table } in
-          let tis : t ≡ u = does.9 ∙ ap (λ (m : State). record m { table = record { id = id; locators = replaced (live_at (index_now s) id) k does.1 } ∷ m.table }) does.8.2 in
+          let did = did_move (shape v.extents) (formats_of (shape v.extents)) together s t e id k does in
+          let u : State = record s { world = did.8.0; table = record { id = id; locators = replaced (live_at (index_now s) id) k did.1 } ∷ s.table } in
+          let tis : t ≡ u = did.9 ∙ ap (λ (m : State). record m { table = record { id = id; locators = replaced (live_at (index_now s) id) k did.1 } ∷ m.table }) did.8.2 in
           let step : Step (shape v.extents) (formats_of (shape v.extents)) s (MoveOne e) (Moved id k) t = (refuses, does) in
           let beside : Beside s t = beside_is s t u tis (record { round_out = refl; left = refl; issued = refl; halted = refl; count = refl }) in
           let roots : SameRoots s.world t.world = subst (λ (z : State). SameRoots s.world z.world) (sym tis)
-          (append_stays (shape v.extents) s.world does.8.0 ForMove ((formats_of (shape v.extents)).frame ChunkFrame does.2) does.1 does.8.1) in (
+          (append_stays (shape v.extents) s.world did.8.0 ForMove ((formats_of (shape v.extents)).frame ChunkFrame did.2) did.1 did.8.1) in (
             t,
             step,
-            goes_on v (record v { extents = y; graph = h; index = j }) s t (MoveOne e) (Moved id k) whole is step same parts beside refl refl refl refl (ap (λ (z : State). length z.commands) tis ∙ is.accepted)
+            goes_on v (record v { extents = y; graph = h; index = j }) s t (MoveOne e) (Moved id k) whole is step same parts (ap (λ (z : State). z.copies) tis ∙ is.copies) beside refl refl refl refl (ap (λ (z : State). length z.commands) tis ∙ is.accepted)
                 (frontier_same (shape v.extents) (formats_of (shape v.extents)) s t v.frontier is.frontier roots beside.count)
                 (roots_same v.roots s t is.roots roots beside.count),
           )
 
       steps : (z : State) × Step (shape v.extents) (formats_of (shape v.extents)) s (MoveOne e) (Moved id k) z × IsStateOf (record v { extents = y; graph = h; index = j }) z
-      steps = let done = move v.extents v.graph v.index s whole is.parts y h j e id k payload (marked_there s is) moved whole_chunk reads_it in at done.0 done.1 done.2
+      steps = let done = move v.extents v.graph v.index s whole is.parts y h j e id k payload together (marked_there s is) moved whole_chunk reads_it in at done.0 done.1 done.2
 
     pub move_steps : StepsOn v disk (MoveOne e) (Moved id k) (record v { extents = y; graph = h; index = j })
     move_steps s is on = steps s is on
@@ -231,10 +234,10 @@ module _ (v : Stored) (whole : IsWhole v.extents) (graph : IsWholeGraph v.graph)
           go (inr (inr (none, place))) = absurd (d.placed place)
 
       damage_step : (d : IsDamage r) → Step (shape v.extents) (formats_of (shape v.extents)) s (MoveOne e) (Refused d.ground) s
-      damage_step d = (inl (inr (runs_on s is, inr (marked_not s is, inl (first.0, first.1, first.2, first.3, damage_there d)))), refl)
+      damage_step d = (inl (damaged_before (shape v.extents) (formats_of (shape v.extents)) s e (runs_on s is) (marked_not s is) together d.ground (first.0, first.1, first.2, first.3, damage_there d)), refl)
 
       device_step : Step (shape v.extents) (formats_of (shape v.extents)) s (MoveOne e) (Refused DeviceFault) s
-      device_step = (inr ((is.halted ∙ runs, marked_there s is, λ none. some (none_here s is none)), refl), refl)
+      device_step = (inr (reads_before (shape v.extents) (formats_of (shape v.extents)) s e (runs_on s is) (marked_not s is) together (is.halted ∙ runs) (marked_there s is) (λ none. some (none_here s is none)), refl), refl)
 
       -- no place, or no number
       module _ (place : (r ≡ code.Full) ⊎ (r ≡ code.WornOut)) where
@@ -269,22 +272,20 @@ module _ (v : Stored) (whole : IsWhole v.extents) (graph : IsWholeGraph v.graph)
         full_step : r ≡ code.Full → Step (shape v.extents) (formats_of (shape v.extents)) s (MoveOne e) (Refused Full) s
         full_step full =
             let none : NoPlace (shape v.extents) (extents_of v.extents) ForMove (length (chunk_frame v.extents payload_there.0))
-            = subst (λ (q : Code). IsWhy q (NoPlace (shape v.extents) (extents_of v.extents) ForMove (length (chunk_frame v.extents payload_there.0))) (IsFrameWorn v.extents ForMove v.graph.staging (length (chunk_frame v.extents payload_there.0)))) full reason in
-            (inl (inr (runs_on s is, inr (marked_not s is, inr (undamaged s is first.0 first.1 first.2 first.3 chunk_whole, inl (((λ nothing. some (none_here s is nothing)), full_there.1 none), refl))))), refl)
+            = subst (λ (q : Code). IsWhy q (NoPlace (shape v.extents) (extents_of v.extents) ForMove (length (chunk_frame v.extents payload_there.0))) (IsFrameWorn v.extents ForMove v.graph.staging (length (chunk_frame v.extents payload_there.0)))) full reason in (
+              inl (full_before (shape v.extents) (formats_of (shape v.extents)) s e (runs_on s is) (marked_not s is) together (undamaged s is first.0 first.1 first.2 first.3 chunk_whole)
+                  (λ nothing. some (none_here s is nothing)) (full_there.1 none)),
+              refl,
+            )
 
         worn_step : r ≡ code.WornOut → Step (shape v.extents) (formats_of (shape v.extents)) s (MoveOne e) (Refused WornOut) s
         worn_step worn =
             let both : (NoPlace (shape v.extents) (extents_of v.extents) ForMove (length (chunk_frame v.extents payload_there.0)) → ⊥) × IsFrameWorn v.extents ForMove v.graph.staging (length (chunk_frame v.extents payload_there.0))
             = subst (λ (q : Code). IsWhy q (NoPlace (shape v.extents) (extents_of v.extents) ForMove (length (chunk_frame v.extents payload_there.0))) (IsFrameWorn v.extents ForMove v.graph.staging (length (chunk_frame v.extents payload_there.0)))) worn reason in
             let would_pass : WouldPass (shape v.extents) (formats_of (shape v.extents)) s (MoveOne e)
-            = (move_worn v.extents v.graph v.index s whole is.parts e first.0 first.1 first.2 payload_there.0 found payload_there.1 is.sound is.bounded (marked_there s is) chunk_whole both.0).1 both.1 in (
-              inl (inr (
-                runs_on s is,
-                inr (
-                  marked_not s is,
-                  inr (undamaged s is first.0 first.1 first.2 first.3 chunk_whole, inr ((λ full. both.0 (full_there.0 full.1)), inl (would_pass, refl))),
-                ),
-              )),
+            = (move_worn v.extents v.graph v.index s whole is.parts e first.0 first.1 first.2 payload_there.0 found payload_there.1 is.sound is.bounded together (marked_there s is) chunk_whole both.0).1 both.1 in (
+              inl (worn_before (shape v.extents) (formats_of (shape v.extents)) s e (runs_on s is) (marked_not s is) together (undamaged s is first.0 first.1 first.2 first.3 chunk_whole)
+                  (λ full. both.0 (full_there.0 full.1)) would_pass),
               refl,
             )
 

@@ -10,16 +10,17 @@ use Rattle.cs_disk.specs.Disk.{Elapses, Image, LeavesOnly, MayLeave, State as Di
 use Rattle.cs_extent.specs.State.{State as ExtentsState, shape}
 use Rattle.cs_frame.specs.declared.locators.Locator.{Locator}
 use Rattle.cs_frame.specs.FirstFormat.{SpellsPageZero, page_zero_fault}
-use Rattle.cs_frame.specs.Geometries.{IsGeometry, device_pages}
+use Rattle.cs_frame.specs.Geometries.{device_pages}
 use Rattle.cs_frame.specs.Roots.{SpellsRoot, root_fault}
 use Rattle.cs_image.specs.Counts.{HasCount}
 use Rattle.cs_image.specs.Openings.{graph_at}
-use Rattle.cs_image.specs.Reads.{AreLocated, AreSectionsRead, IsRunRead, IsStoreRead, extents_at}
+use Rattle.cs_image.specs.Reads.{AreSectionsRead, IsRunRead, extents_at}
 use Rattle.cs_index.specs.declared.runs.StoredRun.{StoredRun}
 use Rattle.cs_index.specs.State.{newest_first}
 use Rattle.cs_model.specs.Index.{entries_of, live_at, names}
 use Rattle.cs_core.specs.declared.loads.OpenedStore.{OpenedStore}
-use Rattle.cs_core.specs.Openings.{AreExtentsRead, IsOtherFirst, IsStoreMade, IsWhyNoRuns, IsWhyNoSections, IsWhyNotOpened, opened_stored}
+use Rattle.cs_core.specs.Openings.{AreExtentsRead, AreLocatedBy, IsLoaded, IsOtherFirst, IsStoreMade, IsStoreReadBy, IsWhyNoRuns, IsWhyNoSections, IsWhyNotOpened}
+use Rattle.cs_core.specs.Stored.{Stored}
 
 -- ---- the store that is made
 
@@ -36,25 +37,39 @@ module _ (honest : Type 0) (view : ℕ → List ℕ) (format : ℕ) (versions : 
     (x : ExtentsState) (is : x ≡ extents_at format pages (length versions) written) (graph : GraphState) (fresh : graph ≡ graph_at versions root)
     (sections_there : honest → AreSectionsRead view format versions pages written) (root_there : honest → SpellsRoot (view 1) format root commands places)
     (read : honest → (map (λ run. run.place) runs ≡ places) × AllByRecursion (IsRunRead x view) runs) where
+  -- the store is of the extents that were read
+  as_read : (store : Stored) → IsLoaded x graph root commands runs store → IsLoaded (extents_at format pages (length versions) written) graph root commands runs store
+  as_read store loaded = subst (λ (y : ExtentsState). IsLoaded y graph root commands runs store) is loaded
+
+  -- what was read, by the rule of the format
+  read_by : AreLocatedBy x runs → names (entries_of (newest_first runs)) ≤ (shape x).most_names → honest → IsStoreReadBy view format versions pages written root commands runs
+  read_by located named h =
+      let by = subst (λ (y : ExtentsState). AreLocatedBy y runs) is located in
+      let root_page = subst (λ (ps : List Locator). SpellsRoot (view 1) format root commands ps) (sym (read h).0) (root_there h) in
+      let runs_read = subst (λ (y : ExtentsState). AllByRecursion (IsRunRead y view) runs) is (read h).1 in
+      let few = subst (λ (y : ExtentsState). names (entries_of (newest_first runs)) ≤ (shape y).most_names) is named in
+      record {
+        whole = λ stand. record { sections = sections_there h; root_page = root_page; runs_read = runs_read; located = by.whole stand; named = few };
+        visible = λ gone. record { sections = sections_there h; root_page = root_page; runs_read = runs_read; located = by.visible gone; named = few };
+      }
+
   pub store_made : (result : Result OpenedStore Refusal)
-      → IfOk result (λ found. (vs : List ℕ) → length vs ≡ x.sections → graph ≡ graph_at vs root → found.store ≡ opened_stored x.format vs x.pages x.written root commands runs)
+      → IfOk result (λ found. IsLoaded x graph root commands runs found.store)
       → IfOk result (λ found. found.commands ≡ commands)
       → IfOk result (λ found. HasCount (λ id. live_at (entries_of (newest_first runs)) id ≢ []) found.live)
-      → OnOk result (AreLocated x runs) → OnOk result (names (entries_of (newest_first runs)) ≤ (shape x).most_names)
+      → OnOk result (AreLocatedBy x runs) → OnOk result (names (entries_of (newest_first runs)) ≤ (shape x).most_names)
       → IfOk result (λ found. IsStoreMade honest view format versions pages written found.commands found.live found.store)
-  store_made (Ok found) made same counted located named = subst (λ (n : ℕ). IsStoreMade honest view format versions pages written n found.live found.store) (sym same) (record {
-    root = root;
-    runs = runs;
-    made = made versions (ap (λ (y : ExtentsState). y.sections) (sym is)) fresh ∙ ap (λ (y : ExtentsState). opened_stored y.format versions y.pages y.written root commands runs) is;
-    counted = counted;
-    read = λ h. record {
-      sections = sections_there h;
-      root_page = subst (λ (ps : List Locator). SpellsRoot (view 1) format root commands ps) (sym (read h).0) (root_there h);
-      runs_read = subst (λ (y : ExtentsState). AllByRecursion (IsRunRead y view) runs) is (read h).1;
-      located = subst (λ (y : ExtentsState). AreLocated y runs) is located;
-      named = subst (λ (y : ExtentsState). names (entries_of (newest_first runs)) ≤ (shape y).most_names) is named;
-    };
-  })
+  store_made (Ok found) made same counted located named =
+      let loaded = as_read found.store made in
+      subst (λ (n : ℕ). IsStoreMade honest view format versions pages written n found.live found.store) (sym same) (record {
+        root = root;
+        runs = runs;
+        extents = loaded.extents;
+        opened = loaded.opened;
+        made = loaded.made versions refl fresh;
+        counted = counted;
+        read = read_by located named;
+      })
   store_made (Err r) made same counted located named = tt
 
   -- why none is made
@@ -63,12 +78,12 @@ module _ (honest : Type 0) (view : ℕ → List ℕ) (format : ℕ) (versions : 
     extents_there = record { sections = sections_there h; sized = sized }
 
     pub index_damaged : (result : Result OpenedStore Refusal)
-        → IfErr result (λ r. (r ≡ OutOfMemory) ⊎ ((r ≡ NotAStore) × ((¬ AreLocated x runs) ⊎ ((shape x).most_names < names (entries_of (newest_first runs))))))
+        → IfErr result (λ r. (r ≡ OutOfMemory) ⊎ ((r ≡ NotAStore) × ((¬ AreLocatedBy x runs) ⊎ ((shape x).most_names < names (entries_of (newest_first runs))))))
         → IfErr result (λ r. IsNoAnswer r ⊎ IsWhyNotOpened count view r)
     index_damaged (Ok found) why = tt
     index_damaged (Err r) why = ⊎_elim
         (λ (m : r ≡ OutOfMemory). inl (inr m))
-        (λ (w : (r ≡ NotAStore) × ((¬ AreLocated x runs) ⊎ ((shape x).most_names < names (entries_of (newest_first runs))))).
+        (λ (w : (r ≡ NotAStore) × ((¬ AreLocatedBy x runs) ⊎ ((shape x).most_names < names (entries_of (newest_first runs))))).
         inr (inr (inr (inr (inr (inr (inr (inr (record {
           format = format;
           versions = versions;
@@ -77,7 +92,7 @@ module _ (honest : Type 0) (view : ℕ → List ℕ) (format : ℕ) (versions : 
           runs = runs;
           root = record { extents = extents_there; version = root; commands = commands; root = subst (λ (ps : List Locator). SpellsRoot (view 1) format root commands ps) (sym (read h).0) (root_there h) };
           runs_read = subst (λ (y : ExtentsState). AllByRecursion (IsRunRead y view) runs) is (read h).1;
-          why = subst (λ (y : ExtentsState). (¬ AreLocated y runs) ⊎ ((shape y).most_names < names (entries_of (newest_first runs)))) is w.1;
+          why = subst (λ (y : ExtentsState). (¬ AreLocatedBy y runs) ⊎ ((shape y).most_names < names (entries_of (newest_first runs)))) is w.1;
           refusal = w.0;
         })))))))))
         why
@@ -159,9 +174,11 @@ module _ (old mid : DiskState) (before now : Type 0) (later : before → now) (s
   made_before format versions pages written (Ok found) made = record {
     root = made.root;
     runs = made.runs;
+    extents = made.extents;
+    opened = made.opened;
     made = made.made;
     counted = made.counted;
-    read = λ h. subst (λ (i : Image). IsStoreRead (page i) format versions pages written made.root found.commands made.runs) (same h) (made.read (later h));
+    read = λ h. subst (λ (i : Image). IsStoreReadBy (page i) format versions pages written made.root found.commands made.runs) (same h) (made.read (later h));
   }
   made_before format versions pages written (Err r) made = tt
 

@@ -1,23 +1,27 @@
 -- A core over what was opened.
 use Rattle.std.proofs.Common.{◌≡◌, ◌≢◌, ◌⊎◌, inl, inr, ◌∙◌, ℕ, List, [], None, length, le_of_eq, refl, sym, ap, subst, arith}
 use Rattle.cs_disk.specs.declared.disk.PageDisk.{Ghosts as PageDisk}
+use Rattle.std.proofs.lemmas.Bool.{cases_Bool}
 use Rattle.cs_refine.proofs.Started.{read_started, seen_pages}
+use Rattle.cs_refine.proofs.StartedApart.{read_started as read_apart}
 use Rattle.cs_refine.specs.Devices.{IsDiskOf}
+use Rattle.cs_refine.specs.Openings.{IsStartOf}
 use Rattle.cs_chunk.specs.Reads.{IsNoAnswer}
 use Rattle.cs_deps.specs.declared.refusals.Refusal.{Refusal}
 use Rattle.cs_disk.specs.Disk.{Image, IsWhole as IsWholeDisk, State as DiskState, flushed, page, seen}
 use Rattle.cs_extent.specs.State.{State as ExtentsState, shape}
 use Rattle.cs_frame.specs.Formats.{formats_of}
-use Rattle.cs_frame.specs.Geometries.{IsGeometry, device_pages, section_size}
+use Rattle.cs_frame.specs.Geometries.{IsGeometry, device_pages, named_limit, section_size}
 use Rattle.cs_image.proofs.Families.{root_in}
-use Rattle.cs_image.proofs.Found.{read_recovers}
 use Rattle.cs_image.proofs.OneByOne.{live_count}
 use Rattle.cs_image.proofs.Superblocks.{read_format}
 use Rattle.cs_image.specs.Counts.{AreThose, HasCount}
-use Rattle.cs_image.specs.Reads.{ArePages, IsStoreRead, extents_at, page_total}
+use Rattle.cs_image.specs.Openings.{graph_at, index_at}
+use Rattle.cs_image.specs.Reads.{ArePages, AreSectionsRead, extents_at, page_total}
 use Rattle.cs_index.specs.declared.runs.StoredRun.{StoredRun}
 use Rattle.cs_index.specs.State.{newest_first}
 use Rattle.cs_model.proofs.Unique.{one_recovery}
+use Rattle.cs_model.specs.Device.{Shape}
 use Rattle.cs_model.specs.Element.{Map, Run}
 use Rattle.cs_model.specs.Geometry.{shape_of}
 use Rattle.cs_model.specs.Index.{entries_of, live_at}
@@ -26,27 +30,50 @@ use Rattle.cs_model.specs.Recovery.{Recovers}
 use Rattle.cs_model.specs.State.{State}
 use Rattle.cs_core.specs.declared.events.Event.{Event}
 use Rattle.cs_core.specs.declared.events.Reply.{Reply}
-use Rattle.cs_core.specs.Openings.{IsOpened, IsStoreMade, IsWhyNotOpened, opened_stored}
+use Rattle.cs_core.specs.Openings.{AreExtentsOpened, IsOpened, IsStoreMade, IsStoreReadBy, IsWhyNotOpened, opened_stored}
 use Rattle.cs_core.specs.States.{IsStateOf}
 use Rattle.cs_core.specs.Stored.{Stored, but_for_room}
 use Rattle.cs_core.specs.Views.{IsCore, IsFound, IsReached}
 use Rattle.cs_core.proofs.Exactly.{none_fails, recovers_here, same_numbers}
+use Rattle.cs_core.proofs.Readying.{hidden_gone, hidden_stand}
 use Rattle.cs_core.proofs.RootsRead.{noted, read_alone}
 
-module _ (image : Image) (format : ℕ) (versions : List ℕ) (pages : ℕ) (written : List (ℕ × ℕ)) (root commands : ℕ) (runs : List StoredRun)
-    (are : ArePages (device_pages format (length written) pages (length versions)) (page image)) (read : IsStoreRead (page image) format versions pages written root commands runs) where
+module _ (image : Image) (format : ℕ) (versions : List ℕ) (pages : ℕ) (written : List (ℕ × ℕ)) (root commands : ℕ) (runs : List StoredRun) (y : ExtentsState)
+    (opened : AreExtentsOpened (extents_at format pages (length versions) written) (index_at (newest_first runs) (named_limit pages)) root y)
+    (are : ArePages (device_pages format (length written) pages (length versions)) (page image)) (read : IsStoreReadBy (page image) format versions pages written root commands runs) where
   abbrev x : ExtentsState
   x = extents_at format pages (length versions) written
 
+  -- the start of the machine, by extents and shape
+  abbrev Starts : ExtentsState → Shape → Type 0
+  Starts z T = (m : Map) × (found : Recovers T (formats_of T) (page image) commands m)
+      × IsStartOf z (graph_at versions root) (index_at (newest_first runs) (named_limit z.pages)) image (opened_state T (formats_of T) (page image) commands m found)
+
+  -- by either rule what was read is one
+  starts : Starts y (shape y)
+  starts = elim (cases_Bool (shape x).apart) [
+    | inl on ↦ (let noted = opened.apart on in
+        let s = read_apart image format versions pages written root commands (named_limit y.pages) runs are (read.visible (hidden_gone x on)) noted.0 y (hidden_gone x on) on noted.1 noted.2
+        (opened.same_shape ∙ sym noted.2.same_shape) noted.3 in
+        subst (λ (T : Shape). Starts y T) (sym opened.same_shape) (s.0, s.1, s.2))
+    | inr not ↦ subst (λ (z : ExtentsState). Starts z (shape z)) (sym (opened.together not))
+        (read_started image format versions pages written root commands (named_limit pages) runs are (read.whole (hidden_stand x not)) not)
+  ]
+
+  -- the sections of the superblock
+  pub sections_there : AreSectionsRead (page image) format versions pages written
+  sections_there = elim (cases_Bool (shape x).hidden_stand) [ inl stand ↦ (read.whole stand).sections | inr gone ↦ (read.visible gone).sections ]
+
   -- what was read is a state of the machine
-  pub begins : (s : State) × IsStateOf (opened_stored format versions pages written root commands runs) s
-      × IsDiskOf (shape x) (formats_of (shape x)) s (record { durable = image; volatile = [] }) × IsReached (shape x) (formats_of (shape x)) image [] s
+  pub begins : (s : State) × IsStateOf (opened_stored y versions root commands runs) s
+      × IsDiskOf (shape y) (formats_of (shape y)) s (record { durable = image; volatile = [] }) × IsReached (shape y) (formats_of (shape y)) image [] s
   begins =
-      let start = read_started image format versions pages written root commands ((opened_stored format versions pages written root commands runs).index.limit) runs are read in
-      let s : State = opened_state (shape x) (formats_of (shape x)) (page image) commands start.0 start.1 in (
+      let start = starts in
+      let s : State = opened_state (shape y) (formats_of (shape y)) (page image) commands start.0 start.1 in (
         s,
         record {
           parts = start.2.parts;
+          copies = refl;
           sound = start.2.sound;
           bounded = start.2.bounded;
           round_out = refl;
@@ -58,7 +85,8 @@ module _ (image : Image) (format : ℕ) (versions : List ℕ) (pages : ℕ) (wri
           base = refl;
           accepted = refl;
           frontier = start.2.frontier;
-          roots = noted s (root_read (shape x) (formats_of (shape x)) (page image) commands start.0 start.1) root (read_alone (shape x) (formats_of (shape x)) (page image) commands start.0 start.1) (start.2.parts.world.staging.root ∙ root_in versions root read.sections.geometry.fewest_sections) refl;
+          roots = noted s (root_read (shape y) (formats_of (shape y)) (page image) commands start.0 start.1) root (read_alone (shape y) (formats_of (shape y)) (page image) commands start.0 start.1)
+              (start.2.parts.world.staging.root ∙ root_in versions root sections_there.geometry.fewest_sections) refl;
         },
         start.2.disk,
         record { count = commands; start = start.0; gives = start.1; events = []; said = tt; legal = refl },
@@ -66,21 +94,22 @@ module _ (image : Image) (format : ℕ) (versions : List ℕ) (pages : ℕ) (wri
 
   -- with so many live shards
   module _ (live : ℕ) (counted : HasCount (λ id. live_at (entries_of (newest_first runs)) id ≢ []) live) where
-    pub found_there : IsFound (shape x) image (commands, live)
+    pub found_there : IsFound (shape y) image (commands, live)
     found_there =
-        let f = read_recovers (page image) format versions pages written root commands runs read are in (
+        let f = starts in (
           f.0,
           f.1,
-          (live_count (shape x) (formats_of (shape x)) (page image) commands f.0 f.1 live).0
-              (subst (λ (rs : List Run). HasCount (λ id. live_at (entries_of rs) id ≢ []) live) (sym f.2.same_runs) counted),
+          (live_count (shape y) (formats_of (shape y)) (page image) commands f.0 f.1 live).0
+              (subst (λ (rs : List Run). HasCount (λ id. live_at (entries_of rs) id ≢ []) live) f.2.parts.index.same_runs counted),
         )
 
     -- and it is what the image recovers
     pub one_map : (n : ℕ) (m : Map) → Recovers (shape x) (formats_of (shape x)) (page image) n m → (commands ≡ n) × HasCount (λ id. m id ≢ None) live
     one_map n m r =
-        let one = one_recovery (shape x) (formats_of (shape x)) (read_format (page image) format versions pages written read.sections) (page image) commands n found_there.0 m found_there.1 r in
-        let ids : List ℕ = found_there.2.0 in
-        let those : AreThose (λ id. found_there.0 id ≢ None) ids = found_there.2.1 in (
+        let found : IsFound (shape x) image (commands, live) = subst (λ (T : Shape). IsFound T image (commands, live)) opened.same_shape found_there in
+        let one = one_recovery (shape x) (formats_of (shape x)) (read_format (page image) format versions pages written sections_there) (page image) commands n found.0 m found.1 r in
+        let ids : List ℕ = found.2.0 in
+        let those : AreThose (λ id. found.0 id ≢ None) ids = found.2.1 in (
           one.0,
           (
             ids,
@@ -88,7 +117,7 @@ module _ (image : Image) (format : ℕ) (versions : List ℕ) (pages : ℕ) (wri
               rising = those.rising;
               exact = λ id. ((λ has none. (those.exact id).0 has (one.1 id ∙ none)), (λ some. (those.exact id).1 (λ none. some (sym (one.1 id) ∙ none))));
             },
-            found_there.2.2,
+            found.2.2,
           ),
         )
 
@@ -101,25 +130,25 @@ module _ {D : Type 0} (disks : PageDisk D) (disk : D) (old : DiskState) (before 
   are_pages h = subst (λ (d : DiskState). ArePages (device_pages format (length written) pages (length versions)) (page (seen d))) (now h)
       (seen_pages (disks.state disk) (device_pages format (length written) pages (length versions)) (whole h) (le_of_eq (sym (long h ∙ sized))))
 
-  total : page_total (shape store.extents) ≡ device_pages format (length written) pages (length versions)
-  total = ap (λ (u : Stored). page_total (shape u.extents)) made.made
+  total : device_pages format (length written) pages (length versions) ≡ page_total (shape made.extents)
+  total = ap page_total (sym made.opened.same_shape)
 
-  base : IsCore disks (record { disk = disk; opened = (disks.state disk).durable; found = (commands, live); store = opened_stored format versions pages written made.root commands made.runs; history = []; base = 0; limit = 0 })
+  base : IsCore disks (record { disk = disk; opened = (disks.state disk).durable; found = (commands, live); store = opened_stored made.extents versions made.root commands made.runs; history = []; base = 0; limit = 0 })
   base = record {
-    device = sized;
+    device = sized ∙ total;
     replaced = omega arith;
-    sized = λ h. long h ∙ sized;
+    sized = λ h. long h ∙ sized ∙ total;
     legal = λ h.
-        let b = begins (seen old) format versions pages written made.root commands made.runs (are_pages h) (made.read (was h)) in (
+        let b = begins (seen old) format versions pages written made.root commands made.runs made.extents made.opened (are_pages h) (made.read (was h)) in (
           b.0,
           record {
             store = b.1;
-            disk = subst (λ (d : DiskState). IsDiskOf (shape (extents_at format pages (length versions) written)) (formats_of (shape (extents_at format pages (length versions) written))) b.0 d) (sym (now h)) b.2;
-            reached = subst (λ (d : DiskState). IsReached (shape (extents_at format pages (length versions) written)) (formats_of (shape (extents_at format pages (length versions) written))) d.durable [] b.0) (sym (now h)) b.3;
+            disk = subst (λ (d : DiskState). IsDiskOf (shape made.extents) (formats_of (shape made.extents)) b.0 d) (sym (now h)) b.2;
+            reached = subst (λ (d : DiskState). IsReached (shape made.extents) (formats_of (shape made.extents)) d.durable [] b.0) (sym (now h)) b.3;
           },
         );
-    begun = λ h. subst (λ (d : DiskState). IsFound (shape (extents_at format pages (length versions) written)) d.durable (commands, live)) (sym (now h))
-        (found_there (seen old) format versions pages written made.root commands made.runs (are_pages h) (made.read (was h)) live made.counted);
+    begun = λ h. subst (λ (d : DiskState). IsFound (shape made.extents) d.durable (commands, live)) (sym (now h))
+        (found_there (seen old) format versions pages written made.root commands made.runs made.extents made.opened (are_pages h) (made.read (was h)) live made.counted);
   }
 
   pub opened_core : (opened : Image) (history : List (Event × Reply)) (first limit : ℕ) → opened ≡ (disks.state disk).durable → history ≡ [] → first ≡ 0
@@ -148,8 +177,10 @@ is_opened before old image format versions pages written commands live store mad
   written = written;
   root = made.root;
   runs = made.runs;
+  extents = made.extents;
+  opened = made.opened;
   made = ap but_for_room made.made;
-  read = λ h. subst (λ (i : Image). IsStoreRead (page i) format versions pages written made.root commands made.runs) (sym (same h)) (made.read h);
+  read = λ h. subst (λ (i : Image). IsStoreReadBy (page i) format versions pages written made.root commands made.runs) (sym (same h)) (made.read h);
 }
 
 module _ (before : Type 0) (old : DiskState) (count : ℕ) (h : before) (whole : IsWholeDisk old) (long : length old.durable ≡ count) (format extents pages sections : ℕ) (is : IsGeometry format extents pages sections) (sized : count ≡ device_pages format extents pages sections) (n : ℕ) (m : Map)
@@ -160,11 +191,13 @@ module _ (before : Type 0) (old : DiskState) (count : ℕ) (h : before) (whole :
   pub opened_as : (f : ℕ) (versions : List ℕ) (p : ℕ) (written : List (ℕ × ℕ)) (commands live : ℕ) (store : Stored) → count ≡ device_pages f (length written) p (length versions) → IsStoreMade before (page (seen old)) f versions p written commands live store
       → (shape store.extents ≡ shape_of extents pages sections (section_size extents sections) format) × (commands ≡ n) × HasCount (λ id. m id ≢ None) live
   opened_as f versions p written commands live store size made =
+      let here : ArePages (device_pages f (length written) p (length versions)) (page (seen old)) = subst (λ (k : ℕ). ArePages k (page (seen old))) size are in
       let read = made.read h in
-      let same = same_numbers count (page (seen old)) format extents pages sections is sized are n m r f versions p written read.sections in
-      let one = one_map (seen old) f versions p written made.root commands made.runs (subst (λ (k : ℕ). ArePages k (page (seen old))) size are) read live made.counted n m
+      let same = same_numbers count (page (seen old)) format extents pages sections is sized are n m r f versions p written
+      (sections_there (seen old) f versions p written made.root commands made.runs made.extents made.opened here read) in
+      let one = one_map (seen old) f versions p written made.root commands made.runs made.extents made.opened here read live made.counted n m
       (recovers_here count (page (seen old)) format extents pages sections is sized are n m r f (length versions) p written same.0 same.1 same.2 same.3) in (
-        ap (λ (u : Stored). shape u.extents) made.made
+        ap (λ (u : Stored). shape u.extents) made.made ∙ made.opened.same_shape
             ∙ ap (λ (k : ℕ). shape_of (length written) p (length versions) (section_size (length written) (length versions)) k) same.0
             ∙ ap (λ (k : ℕ). shape_of k p (length versions) (section_size k (length versions)) format) same.1
             ∙ ap (λ (q : ℕ). shape_of extents q (length versions) (section_size extents (length versions)) format) same.2

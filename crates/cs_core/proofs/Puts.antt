@@ -1,12 +1,12 @@
 -- A put is a step of the machine.
-use Rattle.std.proofs.Common.{◌≡◌, ◌⊎◌, inl, inr, ⊎_elim, ℕ, suc, ◌+◌, ◌*◌, ◌^◌, ◌<◌, ◌≤◌, true, false, List, ◌∷◌, Some, None, Ok, Err, length, map, refl, sym, ap, ◌∙◌, subst, arith}
+use Rattle.std.proofs.Common.{◌≡◌, ◌⊎◌, inl, inr, ⊎_elim, ℕ, suc, ◌+◌, ◌*◌, ◌^◌, ◌<◌, ◌≤◌, Bool, true, false, List, ◌∷◌, Some, None, Ok, Err, length, map, refl, sym, ap, ◌∙◌, subst, arith}
 use Rattle.std.specs.Prelude.{◌↔◌, Option, is_some}
 use Rattle.cs_deps.specs.declared.refusals.Refusal.{Refusal as Code}
 use Rattle.cs_deps.specs.declared.refusals.Refusal.TheVariants as code
 use Rattle.cs_deps.specs.State.{State as GraphState}
-use Rattle.cs_extent.specs.Appended.{AreAppended}
+use Rattle.cs_extent.specs.Appended.{AreAppendedBy}
 use Rattle.cs_extent.specs.State.{IsWhole, State as ExtentsState, extents_of, shape}
-use Rattle.cs_extent.specs.Worn.{AreWorn}
+use Rattle.cs_extent.specs.Worn.{AreWornBy}
 use Rattle.cs_frame.specs.declared.locators.Locator.{Locator as Spot}
 use Rattle.cs_frame.specs.Formats.{formats_of, place_of}
 use Rattle.cs_index.specs.State.{IsSet, State as IndexState, index_of}
@@ -14,15 +14,16 @@ use Rattle.cs_model.specs.Append.{chunk_frames, page_counts}
 use Rattle.cs_model.specs.Device.{Shape}
 use Rattle.cs_model.specs.Element.{Locator}
 use Rattle.cs_model.specs.Events.{Chunked, Does}
-use Rattle.cs_model.specs.Extents.{Fits, ForPut}
+use Rattle.cs_model.specs.Extents.{FitsBy, ForPut}
 use Rattle.cs_model.specs.Grounds.{NoRoomToPut, Refuses, WouldPass, is_named}
 use Rattle.cs_model.specs.Index.{lookup, names}
 use Rattle.cs_model.specs.Refusal.{Full, Halted, IndexFull, Refusal, TooLarge, WornOut}
 use Rattle.cs_model.specs.State.{Accepted, Put, Refused, State, index_now}
 use Rattle.cs_model.specs.Step.{Step}
 use Rattle.cs_refine.proofs.Calls.{put}
+use Rattle.cs_refine.proofs.CallsApart.{put as put_apart}
 use Rattle.cs_refine.proofs.Indexes.{as_many_named, looked_up}
-use Rattle.cs_refine.proofs.RefusedPuts.{put_full, put_worn}
+use Rattle.cs_refine.proofs.RefusedPuts.{put_full_by, put_worn_by}
 use Rattle.cs_refine.specs.Parts.{ArePartsOf}
 use Rattle.cs_core.specs.States.{IsStateOf}
 use Rattle.cs_core.specs.Stored.{IsWhyWorn, Stored, but_for_room}
@@ -42,7 +43,18 @@ pub named_not : (o : Option (List Locator)) → is_some o ≡ false → o ≡ No
 named_not None is = refl
 named_not (Some ls) is = absurd (let e : true ≡ false = is in cc)
 
-module _ (v : Stored) (s : State) (whole : IsWhole v.extents) (is : IsStateOf v s) (id : ℕ) (bytes : List ℕ) where
+-- the parts of a store after a put, by the rule of its shape
+put_by : (b : Bool) (v : Stored) (s : State) → (shape v.extents).apart ≡ b → IsWhole v.extents → IsStateOf v s
+    → (y : ExtentsState) (h : GraphState) (j : IndexState) (id : ℕ) (bytes : List ℕ) (cs : List (List ℕ)) (ls : List Spot) → Chunked (shape v.extents).chunk_bytes bytes cs
+    → AreAppendedBy b v.extents v.graph ForPut (chunk_frames (shape v.extents) (formats_of (shape v.extents)) cs) ls y h → IsSet v.index id (map place_of ls) j
+    → (t : State) × Does (shape v.extents) (formats_of (shape v.extents)) s (Put id bytes) (Accepted (suc (length s.commands))) t × ArePartsOf y h j t
+put_by false v s rule whole is y h j id bytes cs ls cut all set = put v.extents v.graph v.index s is.parts y h j id bytes cs ls rule whole cut all set
+put_by true v s rule whole is y h j id bytes cs ls cut all set =
+    let done = put_apart v.extents v.graph v.index v.copies s rule (record { parts = is.parts; same_copies = is.copies }) y h j id bytes cs ls whole cut all set in
+    (done.0, done.1, done.2.parts)
+
+-- chunks and runs lie apart or not
+module _ (v : Stored) (s : State) (whole : IsWhole v.extents) (is : IsStateOf v s) (b : Bool) (rule : (shape v.extents).apart ≡ b) (id : ℕ) (bytes : List ℕ) where
   S : Shape
   S = shape v.extents
 
@@ -68,10 +80,10 @@ module _ (v : Stored) (s : State) (whole : IsWhole v.extents) (is : IsStateOf v 
     runs_on = going s.halted (is.halted ∙ runs)
 
     abbrev Fitting : Type 0
-    Fitting = (cs : List (List ℕ)) → Chunked (shape v.extents).chunk_bytes bytes cs → Fits (shape v.extents) (extents_of v.extents) ForPut (counts cs) → ⊥
+    Fitting = (cs : List (List ℕ)) → Chunked (shape v.extents).chunk_bytes bytes cs → FitsBy (shape v.extents) b (extents_of v.extents) ForPut (counts cs) → ⊥
 
     abbrev Worn : Type 0
-    Worn = (cs : List (List ℕ)) × Chunked (shape v.extents).chunk_bytes bytes cs × Fits (shape v.extents) (extents_of v.extents) ForPut (counts cs) × AreWorn v.extents v.graph.staging ForPut (counts cs)
+    Worn = (cs : List (List ℕ)) × Chunked (shape v.extents).chunk_bytes bytes cs × FitsBy (shape v.extents) b (extents_of v.extents) ForPut (counts cs) × AreWornBy b v.extents v.graph.staging ForPut (counts cs)
 
     Last : Type 0
     Last = 2 ^ 63 ≤ v.base + v.accepted + 1
@@ -89,23 +101,23 @@ module _ (v : Stored) (s : State) (whole : IsWhole v.extents) (is : IsStateOf v 
       unfull h = named ((full_index limit).0 h)
 
       pub put_no_room : Fitting → Step (shape v.extents) (formats_of (shape v.extents)) s (Put id bytes) (Refused Full) s
-      put_no_room none = (inl (inr (runs_on, inr (small, inr (unfull, inl ((put_full v.extents v.graph v.index s whole is.parts bytes).1 none, refl))))), refl)
+      put_no_room none = (inl (inr (runs_on, inr (small, inr (unfull, inl ((put_full_by v.extents v.graph v.index s whole is.parts b rule bytes).1 none, refl))))), refl)
 
       room : (Fitting → ⊥) → NoRoomToPut (shape v.extents) (formats_of (shape v.extents)) s bytes → ⊥
-      room fits none = fits ((put_full v.extents v.graph v.index s whole is.parts bytes).0 none)
+      room fits none = fits ((put_full_by v.extents v.graph v.index s whole is.parts b rule bytes).0 none)
 
       numbers_worn : WouldPass (shape v.extents) (formats_of (shape v.extents)) s (Put id bytes) → Worn ⊎ (2 ^ 63 ≤ v.base + v.accepted + 1)
-      numbers_worn would = let w = (put_worn v.extents v.graph v.index s whole is.parts is.sound is.bounded id bytes).0 would in ⊎_elim
-          (λ (worn : AreWorn v.extents v.graph.staging ForPut (counts w.0)). inl (w.0, w.1, w.2, worn))
+      numbers_worn would = let w = (put_worn_by v.extents v.graph v.index s whole is.parts b rule is.sound is.bounded id bytes).0 would in ⊎_elim
+          (λ (worn : AreWornBy b v.extents v.graph.staging ForPut (counts w.0)). inl (w.0, w.1, w.2, worn))
           (λ (last : 2 ^ 63 ≤ s.count + length s.commands + 1). inr (omega (arith, is.base, is.accepted)))
           w.3
 
       pub put_worn_out : (Fitting → ⊥) → Worn → Step (shape v.extents) (formats_of (shape v.extents)) s (Put id bytes) (Refused WornOut) s
       put_worn_out fits w =
-          (inl (inr (runs_on, inr (small, inr (unfull, inr (room fits, inl ((put_worn v.extents v.graph v.index s whole is.parts is.sound is.bounded id bytes).1 (w.0, w.1, w.2, inl w.3), refl)))))), refl)
+          (inl (inr (runs_on, inr (small, inr (unfull, inr (room fits, inl ((put_worn_by v.extents v.graph v.index s whole is.parts b rule is.sound is.bounded id bytes).1 (w.0, w.1, w.2, inl w.3), refl)))))), refl)
 
       -- the number of commands is the greatest
-      pub put_last : (2 ^ 63 ≤ v.base + v.accepted + 1) → (cs : List (List ℕ)) × Chunked (shape v.extents).chunk_bytes bytes cs × Fits (shape v.extents) (extents_of v.extents) ForPut (counts cs)
+      pub put_last : (2 ^ 63 ≤ v.base + v.accepted + 1) → (cs : List (List ℕ)) × Chunked (shape v.extents).chunk_bytes bytes cs × FitsBy (shape v.extents) b (extents_of v.extents) ForPut (counts cs)
           → Step (shape v.extents) (formats_of (shape v.extents)) s (Put id bytes) (Refused WornOut) s
       put_last last f =
           let past : 2 ^ 63 ≤ s.count + length s.commands + 1 = omega (arith, is.base, is.accepted) in (
@@ -117,7 +129,7 @@ module _ (v : Stored) (s : State) (whole : IsWhole v.extents) (is : IsStateOf v 
                   unfull,
                   inr (
                     room (λ none. none f.0 f.1 f.2),
-                    inl ((put_worn v.extents v.graph v.index s whole is.parts is.sound is.bounded id bytes).1 (f.0, f.1, f.2, inr past), refl),
+                    inl ((put_worn_by v.extents v.graph v.index s whole is.parts b rule is.sound is.bounded id bytes).1 (f.0, f.1, f.2, inr past), refl),
                   ),
                 ),
               ),
@@ -128,13 +140,13 @@ module _ (v : Stored) (s : State) (whole : IsWhole v.extents) (is : IsStateOf v 
       -- it is done
       pub put_done : (Fitting → ⊥) → (Worn → ⊥) → (2 ^ 63 ≤ v.base + v.accepted + 1 → ⊥)
           → (y : ExtentsState) (h : GraphState) (j : IndexState) (cs : List (List ℕ)) (ls : List Spot) → Chunked (shape v.extents).chunk_bytes bytes cs
-          → AreAppended v.extents v.graph ForPut (chunk_frames (shape v.extents) (formats_of (shape v.extents)) cs) ls y h → IsSet v.index id (map place_of ls) j → shape y ≡ shape v.extents
+          → AreAppendedBy b v.extents v.graph ForPut (chunk_frames (shape v.extents) (formats_of (shape v.extents)) cs) ls y h → IsSet v.index id (map place_of ls) j → shape y ≡ shape v.extents
           → (t : State) × Step (shape v.extents) (formats_of (shape v.extents)) s (Put id bytes) (Accepted (v.accepted + 1)) t
           × IsStateOf (record v { graph = h; extents = y; index = j; accepted = v.accepted + 1 }) t
       put_done fits fresh young y h j cs ls cut all set same =
           let none : (f : Refusal) → Refuses (shape v.extents) (formats_of (shape v.extents)) s (Put id bytes) f → ⊥
           = pass Halted runs_on (pass TooLarge small (pass IndexFull unfull (pass Full (room fits) (pass WornOut (λ would. ⊎_elim fresh young (numbers_worn would)) no_more)))) in
-          let done = put v.extents v.graph v.index s is.parts y h j id bytes cs ls whole cut all set in
+          let done = put_by b v s rule whole is y h j id bytes cs ls cut all set in
           at done.0 none done.1 done.2
         where
           at : (t : State) → ((f : Refusal) → Refuses (shape v.extents) (formats_of (shape v.extents)) s (Put id bytes) f → ⊥)
@@ -149,11 +161,11 @@ module _ (v : Stored) (s : State) (whole : IsWhole v.extents) (is : IsStateOf v 
               = subst (λ (n : ℕ). Step (shape v.extents) (formats_of (shape v.extents)) s (Put id bytes) (Accepted n) t) number (none, does) in
               let beside : Beside s t = beside_is s t u tis (record { round_out = refl; left = refl; issued = refl; halted = refl; count = refl }) in
               let roots : SameRoots s.world t.world = subst (λ (z : State). SameRoots s.world z.world) (sym tis)
-              (appends_stay (shape v.extents) s.world does.4.0 ForPut (chunk_frames (shape v.extents) (formats_of (shape v.extents)) does.0) does.1 does.4.1) in
+              (appends_stay (shape v.extents).apart (shape v.extents) s.world does.4.0 ForPut (chunk_frames (shape v.extents) (formats_of (shape v.extents)) does.0) does.1 does.4.1) in
               let many : length t.commands ≡ v.accepted + 1 = ap (λ (z : State). length z.commands) tis ∙ number in (
                 t,
                 step,
-                goes_on v (record v { graph = h; extents = y; index = j; accepted = v.accepted + 1 }) s t (Put id bytes) (Accepted (v.accepted + 1)) whole is step same parts beside refl refl refl refl many
+                goes_on v (record v { graph = h; extents = y; index = j; accepted = v.accepted + 1 }) s t (Put id bytes) (Accepted (v.accepted + 1)) whole is step same parts (ap (λ (z : State). z.copies) tis ∙ is.copies) beside refl refl refl refl many
                     (frontier_same (shape v.extents) (formats_of (shape v.extents)) s t v.frontier is.frontier roots beside.count)
                     (roots_same v.roots s t is.roots roots beside.count),
               )
@@ -164,38 +176,38 @@ set_from id i k j ls e set = let there : IsSet (record i { room = k.room }) id l
     record { table = there.table; index = there.index; runs = there.runs; limit = there.limit }
 
 -- ---- refusals of the calls
-module _ (v w : Stored) (whole : IsWhole v.extents) (limit : v.index.limit ≡ (shape v.extents).most_names) (runs : v.halted ≡ false) (same : but_for_room w ≡ but_for_room v) (id : ℕ) (bytes : List ℕ) (r : Code) where
+module _ (v w : Stored) (whole : IsWhole v.extents) (b : Bool) (rule : (shape v.extents).apart ≡ b) (limit : v.index.limit ≡ (shape v.extents).most_names) (runs : v.halted ≡ false) (same : but_for_room w ≡ but_for_room v) (id : ℕ) (bytes : List ℕ) (r : Code) where
   abbrev pub IsLarge : Type 0
   IsLarge = (shape v.extents).most_chunks * (shape v.extents).chunk_bytes < length bytes
 
   abbrev pub NoneFits : Type 0
-  NoneFits = (cs : List (List ℕ)) → Chunked (shape v.extents).chunk_bytes bytes cs → Fits (shape v.extents) (extents_of v.extents) ForPut (page_counts (chunk_frames (shape v.extents) (formats_of (shape v.extents)) cs)) → ⊥
+  NoneFits = (cs : List (List ℕ)) → Chunked (shape v.extents).chunk_bytes bytes cs → FitsBy (shape v.extents) b (extents_of v.extents) ForPut (page_counts (chunk_frames (shape v.extents) (formats_of (shape v.extents)) cs)) → ⊥
 
   abbrev pub IsOut : Type 0
-  IsOut = (cs : List (List ℕ)) × Chunked (shape v.extents).chunk_bytes bytes cs × Fits (shape v.extents) (extents_of v.extents) ForPut (page_counts (chunk_frames (shape v.extents) (formats_of (shape v.extents)) cs))
-      × AreWorn v.extents v.graph.staging ForPut (page_counts (chunk_frames (shape v.extents) (formats_of (shape v.extents)) cs))
+  IsOut = (cs : List (List ℕ)) × Chunked (shape v.extents).chunk_bytes bytes cs × FitsBy (shape v.extents) b (extents_of v.extents) ForPut (page_counts (chunk_frames (shape v.extents) (formats_of (shape v.extents)) cs))
+      × AreWornBy b v.extents v.graph.staging ForPut (page_counts (chunk_frames (shape v.extents) (formats_of (shape v.extents)) cs))
 
   pub test_declines : (r ≡ code.TooLarge) ⊎ (r ≡ code.IndexFull) → (r ≡ code.TooLarge → IsLarge) → (r ≡ code.IndexFull → (IsLarge → ⊥) × (lookup id (index_of v.index) ≡ None) × (v.index.limit ≤ names (index_of v.index)))
       → Declines v (Put id bytes) r w
-  test_declines (inl e) large index = inr (TooLarge, e, λ s is. (s, put_large v s whole is id bytes limit runs (large e), same_state v w s is same))
+  test_declines (inl e) large index = inr (TooLarge, e, λ s is. (s, put_large v s whole is b rule id bytes limit runs (large e), same_state v w s is same))
   test_declines (inr e) large index =
       let i = index e in
-      inr (IndexFull, e, λ s is. (s, put_index v s whole is id bytes limit runs i.0 (i.1, i.2), same_state v w s is same))
+      inr (IndexFull, e, λ s is. (s, put_index v s whole is b rule id bytes limit runs i.0 (i.1, i.2), same_state v w s is same))
 
   module _ (small : IsLarge → ⊥) (named : (lookup id (index_of v.index) ≡ None) × (v.index.limit ≤ names (index_of v.index)) → ⊥) where
     pub chunks_decline : (r ≡ code.TooLarge) ⊎ (r ≡ code.Full) ⊎ (r ≡ code.WornOut) ⊎ (r ≡ code.OutOfMemory) → (r ≡ code.TooLarge → IsLarge) → (r ≡ code.Full → (IsLarge → ⊥) × NoneFits) → (r ≡ code.WornOut → (IsLarge → ⊥) × IsOut)
         → Declines v (Put id bytes) r w
     chunks_decline (inl e) large full worn = absurd (small (large e))
-    chunks_decline (inr (inl e)) large full worn = inr (Full, e, λ s is. (s, put_no_room v s whole is id bytes limit runs small named (full e).1, same_state v w s is same))
+    chunks_decline (inr (inl e)) large full worn = inr (Full, e, λ s is. (s, put_no_room v s whole is b rule id bytes limit runs small named (full e).1, same_state v w s is same))
     chunks_decline (inr (inr (inl e))) large full worn =
         let out = (worn e).1 in
-        inr (WornOut, e, λ s is. (s, put_worn_out v s whole is id bytes limit runs small named (λ none. none out.0 out.1 out.2) out, same_state v w s is same))
+        inr (WornOut, e, λ s is. (s, put_worn_out v s whole is b rule id bytes limit runs small named (λ none. none out.0 out.1 out.2) out, same_state v w s is same))
     chunks_decline (inr (inr (inr e))) large full worn = inl e
 
     pub last_declines : 2 ^ 63 ≤ v.base + v.accepted + 1 → IsWhyWorn v.extents bytes r → Declines v (Put id bytes) r w
     last_declines last why = go r refl why
       where
         go : (q : Code) → r ≡ q → IsWhyWorn v.extents bytes q → Declines v (Put id bytes) r w
-        go code.WornOut e f = inr (WornOut, e, λ s is. (s, put_last v s whole is id bytes limit runs small named last f, same_state v w s is same))
-        go code.Full e none = inr (Full, e, λ s is. (s, put_no_room v s whole is id bytes limit runs small named none, same_state v w s is same))
+        go code.WornOut e f = inr (WornOut, e, λ s is. (s, put_last v s whole is (shape v.extents).apart refl id bytes limit runs small named last f, same_state v w s is same))
+        go code.Full e none = inr (Full, e, λ s is. (s, put_no_room v s whole is (shape v.extents).apart refl id bytes limit runs small named none, same_state v w s is same))
         go q e no_why = absurd no_why

@@ -140,6 +140,7 @@ module _ (v : Stored) (s : State) (whole : IsWhole v.extents) (is : IsStateOf v 
             step_u,
             record {
               parts = record { world = there.world; index = there.index };
+              copies = is.copies;
               sound = kept.0;
               bounded = kept.1;
               round_out = refl;
@@ -173,6 +174,7 @@ module _ (v : Stored) (s : State) (whole : IsWhole v.extents) (is : IsStateOf v 
       let kept = steps (shape v.extents) (formats_of (shape v.extents)) (store_shape v.extents whole) (store_format v.extents whole) s (record s { halted = true }) event (Refused DeviceFault) is.sound is.bounded step in
       record {
         parts = record { world = is.parts.world; index = is.parts.index };
+        copies = is.copies;
         sound = kept.0;
         bounded = kept.1;
         round_out = is.round_out;
@@ -254,6 +256,7 @@ module _ (v : Stored) (s : State) (whole : IsWhole v.extents) (is : IsStateOf v 
           step,
           record {
             parts = record { world = is.parts.world; index = is.parts.index };
+            copies = is.copies;
             sound = kept.0;
             bounded = kept.1;
             round_out = is.round_out;
@@ -296,6 +299,7 @@ module _ (v : Stored) (s : State) (whole : IsWhole v.extents) (is : IsStateOf v 
               step,
               record {
                 parts = record { world = is.parts.world; index = is.parts.index };
+                copies = is.copies;
                 sound = kept.0;
                 bounded = kept.1;
                 round_out = is.round_out;
@@ -382,6 +386,7 @@ module _ (v : Stored) (s : State) (whole : IsWhole v.extents) (is : IsStateOf v 
               step,
               record {
                 parts = parts_u;
+                copies = is.copies;
                 sound = kept.0;
                 bounded = kept.1;
                 round_out = refl;

@@ -1,5 +1,5 @@
 -- What a new store keeps.
-use Rattle.std.proofs.Common.{◌≡◌, ◌≢◌, ◌∙◌, inl, ⊎_elim, rules, ℕ, zero, suc, ◌+◌, ◌<◌, ◌≤◌, true, false, List, [], ◌∷◌, ◌++◌, Some, None, length, length-append, map, replicate, refl, sym, ap, ap₂, subst, arith}
+use Rattle.std.proofs.Common.{◌≡◌, ◌≢◌, ◌∙◌, inl, ⊎_elim, rules, ℕ, zero, suc, ◌+◌, ◌<◌, ◌≤◌, true, false, List, [], ◌∷◌, ◌++◌, Some, None, length, length-append, map, replicate, true≢false, refl, sym, ap, ap₂, subst, arith}
 use Rattle.std.proofs.lemmas.List.{length-replicate, replicate-append-replicate}
 use Rattle.std.proofs.lemmas.Option.{same_Some}
 use Rattle.std.specs.List.{AllByRecursion}
@@ -10,7 +10,7 @@ use Rattle.cs_disk.specs.Disk.{Image, State as DiskState, page, written}
 use Rattle.cs_extent.proofs.Sections.{rows_are_all}
 use Rattle.cs_extent.specs.Sections.{AreSections, IsSectionAt, count_of, format_of, pages_of, rows_of}
 use Rattle.cs_extent.specs.Frames.{root_family}
-use Rattle.cs_extent.specs.State.{State as ExtentsState, shape}
+use Rattle.cs_extent.specs.State.{State as ExtentsState, extents_of, shape}
 use Rattle.cs_frame.specs.declared.superblocks.Superblock.{Superblock}
 use Rattle.cs_frame.specs.Formats.{formats_of}
 use Rattle.cs_frame.specs.Geometries.{IsGeometry, device_pages, named_limit, section_length}
@@ -22,11 +22,11 @@ use Rattle.cs_image.specs.Reads.{extents_at, page_total}
 use Rattle.cs_index.proofs.Sorted.{some_at}
 use Rattle.cs_index.specs.declared.runs.StoredRun.{StoredRun}
 use Rattle.cs_index.specs.State.{State as IndexState, newest_first}
-use Rattle.cs_model.specs.Element.{Map}
+use Rattle.cs_model.specs.Element.{Copy, Map}
 use Rattle.cs_model.specs.Open.{opened_state, root_read}
 use Rattle.cs_model.specs.Recovery.{Recovers}
 use Rattle.cs_model.specs.State.{State}
-use Rattle.cs_refine.proofs.Started.{new_started}
+use Rattle.cs_refine.proofs.StartedNew.{new_started}
 use Rattle.cs_refine.specs.Devices.{IsDiskOf}
 use Rattle.cs_core.specs.declared.events.Event.{Event}
 use Rattle.cs_core.specs.declared.events.Reply.{Reply}
@@ -56,9 +56,20 @@ kept_new format extents pages sections some = record {
   round = refl;
   some = omega arith;
   numbers = omega arith;
-  swept = λ e is. let clash : false ≡ true = sym (all_default (length (replicate {A = ℕ × ℕ} extents (0, 0))) e false) ∙ is in absurd (cc clash);
+  swept = λ e is. absurd (true≢false (sym is ∙ unmarked e));
+  apart = λ rule. record {
+    runs = omega arith;
+    one = λ d e is at. absurd (true≢false (sym is ∙ unmarked d));
+    order = tt;
+    up_to = λ e is. absurd (true≢false (sym is ∙ unmarked e));
+    placed = λ c among. absurd among;
+  };
   noted = noted_alone 1 (slice_index (by_family (replicate sections 1) 1) root_family) (root_in (replicate sections 1) 1 (omega (arith, length-replicate {A = ℕ} sections 1, some)));
 }
+  where
+    -- no extent is being swept
+    unmarked : (e : ℕ) → (extents_of (new_stored format extents pages sections).extents).swept e ≡ false
+    unmarked e = all_default (length (replicate {A = ℕ × ℕ} extents (0, 0))) e false
 
 -- a new store is of a state of the machine, and recovers no command and no shard
 module _ (format extents pages sections : ℕ) (is : IsGeometry format extents pages sections) (old now : DiskState) (on : IsNewOn format extents pages sections old now) where
@@ -79,6 +90,7 @@ module _ (format extents pages sections : ℕ) (is : IsGeometry format extents p
         s,
         record {
           parts = start.1.parts;
+          copies = refl;
           sound = start.1.sound;
           bounded = start.1.bounded;
           round_out = refl;
@@ -237,14 +249,15 @@ new_index_is format extents pages sections limit runs i same none is = is
     ∙ ap (λ (rs : List StoredRun). record { table = []; runs = newest_first rs; limit = named_limit pages; room = 0 }) none
 
 -- a new store, from its parts
-pub new_is : (format extents pages sections : ℕ) (g : GraphState) (x : ExtentsState) (i : IndexState) (roots : List Noted) → g ≡ (new_stored format extents pages sections).graph → x ≡ (new_stored format extents pages sections).extents
-    → i ≡ (new_stored format extents pages sections).index → roots ≡ record { version = 1; commands = 0 } ∷ []
-    → record { graph = g; extents = x; index = i; roots = roots; out = g.round; issued = 0; base = 0; accepted = 0; frontier = 0; halted = false } ≡ new_stored format extents pages sections
-new_is format extents pages sections g x i roots graph extents_are index noted =
-    ap (λ (k : GraphState). record { graph = k; extents = x; index = i; roots = roots; out = k.round; issued = 0; base = 0; accepted = 0; frontier = 0; halted = false }) graph
-    ∙ ap (λ (k : ExtentsState). record { graph = (new_stored format extents pages sections).graph; extents = k; index = i; roots = roots; out = None; issued = 0; base = 0; accepted = 0; frontier = 0; halted = false }) extents_are
-    ∙ ap (λ (k : IndexState). record { graph = (new_stored format extents pages sections).graph; extents = (new_stored format extents pages sections).extents; index = k; roots = roots; out = None; issued = 0; base = 0; accepted = 0; frontier = 0; halted = false }) index
-    ∙ ap (λ (rs : List Noted). record { graph = (new_stored format extents pages sections).graph; extents = (new_stored format extents pages sections).extents; index = (new_stored format extents pages sections).index; roots = rs; out = None; issued = 0; base = 0; accepted = 0; frontier = 0; halted = false }) noted
+pub new_is : (format extents pages sections : ℕ) (g : GraphState) (x : ExtentsState) (i : IndexState) (copies : List Copy) (roots : List Noted) → g ≡ (new_stored format extents pages sections).graph → x ≡ (new_stored format extents pages sections).extents
+    → i ≡ (new_stored format extents pages sections).index → copies ≡ [] → roots ≡ record { version = 1; commands = 0 } ∷ []
+    → record { graph = g; extents = x; index = i; copies = copies; roots = roots; out = g.round; issued = 0; base = 0; accepted = 0; frontier = 0; halted = false } ≡ new_stored format extents pages sections
+new_is format extents pages sections g x i copies roots graph extents_are index none noted =
+    ap (λ (k : GraphState). record { graph = k; extents = x; index = i; copies = copies; roots = roots; out = k.round; issued = 0; base = 0; accepted = 0; frontier = 0; halted = false }) graph
+    ∙ ap (λ (k : ExtentsState). record (new_stored format extents pages sections) { extents = k; index = i; copies = copies; roots = roots }) extents_are
+    ∙ ap (λ (k : IndexState). record (new_stored format extents pages sections) { index = k; copies = copies; roots = roots }) index
+    ∙ ap (λ (cs : List Copy). record (new_stored format extents pages sections) { copies = cs; roots = roots }) none
+    ∙ ap (λ (rs : List Noted). record (new_stored format extents pages sections) { roots = rs }) noted
 
 -- a pair of the same numbers
 pub pair_is : (p : ℕ × ℕ) → (p.0 ≡ 0) × (p.1 ≡ 0) → p ≡ (0, 0)

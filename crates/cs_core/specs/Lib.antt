@@ -16,5 +16,6 @@ pub mod Started
 pub mod States
 pub mod Steps
 pub mod Stored
+pub mod Sweepable
 pub mod Views
 pub mod Writebacks

@@ -1,36 +1,52 @@
 -- A store as it is opened, and why none is.
-use Rattle.std.specs.Prelude.{◌≡◌, ◌≢◌, ◌⊎◌, ◌+◌, ◌*◌, ◌<◌, ◌≤◌, ℕ, false, List, ◌∷◌, [], None, Some, length, map, slice_get}
+use Rattle.std.specs.Prelude.{◌≡◌, ◌≢◌, ◌⊎◌, ◌+◌, ◌*◌, ◌<◌, ◌≤◌, ℕ, true, false, List, ◌∷◌, [], None, Some, length, map, slice_get}
 use Rattle.std.specs.List.{AllByRecursion}
 use Rattle.cs_chunk.specs.Chunks.{IsFrameAt}
 use Rattle.cs_chunk.specs.Reads.{IsNoAnswer, IsOfFault, fault_at}
 use Rattle.cs_deps.specs.declared.refusals.Refusal.{Refusal}
 use Rattle.cs_deps.specs.declared.refusals.Refusal.TheVariants.{NotAStore}
 use Rattle.cs_deps.specs.Refusals.{number_of}
+use Rattle.cs_deps.specs.State.{State as GraphState}
 use Rattle.cs_disk.specs.Disk.{Image, page}
-use Rattle.cs_extent.specs.State.{State as ExtentsState, shape}
+use Rattle.cs_extent.specs.State.{IsWhole, State as ExtentsState, extents_of, shape}
 use Rattle.cs_frame.specs.declared.frames.FrameKind.TheVariants.{Run}
 use Rattle.cs_frame.specs.declared.locators.Locator.{Locator}
 use Rattle.cs_frame.specs.declared.superblocks.Superblock.{Superblock}
 use Rattle.cs_frame.specs.FirstFormat.{SpellsPageZero, page_zero_fault}
+use Rattle.cs_frame.specs.Formats.{as_locator}
 use Rattle.cs_frame.specs.Geometries.{device_pages, named_limit}
 use Rattle.cs_frame.specs.Roots.{SpellsRoot, root_fault}
 use Rattle.cs_frame.specs.Runs.{run_fault}
 use Rattle.cs_frame.specs.Superblocks.{SpellsSuperblock, superblock_fault}
 use Rattle.cs_image.specs.Counts.{HasCount}
 use Rattle.cs_image.specs.Openings.{graph_at, index_at}
-use Rattle.cs_image.specs.Reads.{AreLocated, AreRunsRead, AreSectionsRead, IsLocated, IsRunRead, IsStoreRead, extents_at}
+use Rattle.cs_image.specs.Reads.{AreExtentsNoted, AreLocated, AreRunsRead, AreSectionsRead, AreVisibleLocated, IsLocated, IsRunRead, IsStoreRead, IsVisibleStoreRead, extents_at}
 use Rattle.cs_index.specs.declared.runs.StoredRun.{StoredRun}
-use Rattle.cs_index.specs.State.{newest_first}
+use Rattle.cs_index.specs.State.{State as IndexState, newest_first}
+use Rattle.cs_model.specs.Element.{Entry, Locator as Place}
 use Rattle.cs_model.specs.Formats.{RunFrame}
 use Rattle.cs_model.specs.Index.{entries_of, live_at, names}
+use Rattle.cs_model.specs.Lists.{◌∈◌}
+use Rattle.cs_reclaim.specs.Rooted.{freed_under}
 use Rattle.cs_core.specs.Stored.{Stored}
 
--- the store of this format and of sections of a superblock, of a root and of its runs, oldest first, on which nothing was staged yet
-abbrev pub opened_stored : (format : ℕ) → (versions : List ℕ) → (pages : ℕ) → (written : List (ℕ × ℕ)) → (root commands : ℕ) → List StoredRun → Stored
-opened_stored format versions pages written root commands runs = record {
+-- The extents of a store as it is opened, from those that were read, an index of the runs that were read, and this version of the root:
+-- they are as they were read where chunks and runs may lie on one extent; where they lie apart it is noted on which of them runs lie, and
+-- those on which nothing lives and no run lies are emptied under the root.
+pub record AreExtentsOpened (x : ExtentsState) (i : IndexState) (root : ℕ) (y : ExtentsState) : Type 0 where
+  pub same_shape : shape y ≡ shape x
+  pub together : (shape x).apart ≡ false → y ≡ x
+  pub apart : (shape x).apart ≡ true
+      → (noted : ExtentsState) × IsWhole noted × AreExtentsNoted x i.runs noted × (extents_of y ≡ freed_under (shape noted) (extents_of noted) i [] root)
+
+-- the store of these extents, of sections of a superblock with these versions, of a root and of its runs, oldest first, on which nothing
+-- was staged yet
+abbrev pub opened_stored : ExtentsState → (versions : List ℕ) → (root commands : ℕ) → List StoredRun → Stored
+opened_stored x versions root commands runs = record {
   graph = graph_at versions root;
-  extents = extents_at format pages (length versions) written;
-  index = index_at (newest_first runs) (named_limit pages);
+  extents = x;
+  index = index_at (newest_first runs) (named_limit x.pages);
+  copies = [];
   roots = record { version = root; commands = 0 } ∷ [];
   out = None;
   issued = 0;
@@ -40,6 +56,18 @@ opened_stored format versions pages written root commands runs = record {
   halted = false;
 }
 
+-- Of extents as they were read, of runs, and of a graph a store is made: the extents are opened under the root.
+pub record IsLoaded (x : ExtentsState) (g : GraphState) (root commands : ℕ) (runs : List StoredRun) (store : Stored) : Type 0 where
+  pub extents : ExtentsState
+  pub opened : AreExtentsOpened x (index_at (newest_first runs) (named_limit x.pages)) root extents
+  pub made : (versions : List ℕ) → length versions ≡ x.sections → g ≡ graph_at versions root → store ≡ opened_stored extents versions root commands runs
+
+-- A whole store of this format was read: where hidden entries stand what all entries name is there, else what the newest entry of each
+-- identifier names.
+pub record IsStoreReadBy (view : ℕ → List ℕ) (format : ℕ) (versions : List ℕ) (pages : ℕ) (written : List (ℕ × ℕ)) (root commands : ℕ) (runs : List StoredRun) : Type 0 where
+  pub whole : (shape (extents_at format pages (length versions) written)).hidden_stand ≡ true → IsStoreRead view format versions pages written root commands runs
+  pub visible : (shape (extents_at format pages (length versions) written)).hidden_stand ≡ false → IsVisibleStoreRead view format versions pages written root commands runs
+
 -- A store is made of what was read, which an honest disk has: `found` tells the number of the root's commands.
 pub record IsOpened (honest : Type 0) (image : Image) (found : ℕ × ℕ) (store : Stored) : Type 0 where
   pub format : ℕ
@@ -48,8 +76,10 @@ pub record IsOpened (honest : Type 0) (image : Image) (found : ℕ × ℕ) (stor
   pub written : List (ℕ × ℕ)
   pub root : ℕ
   pub runs : List StoredRun
-  pub made : store ≡ opened_stored format versions pages written root found.0 runs
-  pub read : honest → IsStoreRead (page image) format versions pages written root found.0 runs
+  pub extents : ExtentsState
+  pub opened : AreExtentsOpened (extents_at format pages (length versions) written) (index_at (newest_first runs) (named_limit pages)) root extents
+  pub made : store ≡ opened_stored extents versions root found.0 runs
+  pub read : honest → IsStoreReadBy (page image) format versions pages written root found.0 runs
 
 -- Page 0 spells section 0 of a superblock of this format and of so many extents, pages and sections, with which the device has its pages.
 pub record IsFirstRead (count : ℕ) (view : ℕ → List ℕ) (format extents pages sections : ℕ) : Type 0 where
@@ -190,6 +220,16 @@ pub record IsRunDamaged (count : ℕ) (view : ℕ → List ℕ) (r : Refusal) : 
   pub next : slice_get places (length runs) ≡ Some place
   pub why : IsWhyNotRead (extents_at format pages (length versions) written) view place r
 
+-- each locator of the newest entry of each identifier of an index is located
+abbrev pub AreLiveLocated : ExtentsState → List Entry → Type 0
+AreLiveLocated x index = (id : ℕ) (l : Place) → l ∈ live_at index id → IsLocated x (as_locator l)
+
+-- The locators of entries are located, by the rule of the format: those of all entries where hidden ones stand, else those of the newest
+-- entry of each identifier.
+pub record AreLocatedBy (x : ExtentsState) (runs : List StoredRun) : Type 0 where
+  pub whole : (shape x).hidden_stand ≡ true → AreLocated x runs
+  pub visible : (shape x).hidden_stand ≡ false → AreVisibleLocated x runs
+
 -- All runs are read, and a locator of an entry isn't located, or they name more identifiers than one run may.
 pub record IsIndexDamaged (count : ℕ) (view : ℕ → List ℕ) (r : Refusal) : Type 0 where
   pub format : ℕ
@@ -199,7 +239,7 @@ pub record IsIndexDamaged (count : ℕ) (view : ℕ → List ℕ) (r : Refusal) 
   pub runs : List StoredRun
   pub root : IsRootRead count view format versions pages written (map (λ run. run.place) runs)
   pub runs_read : AllByRecursion (IsRunRead (extents_at format pages (length versions) written) view) runs
-  pub why : (¬ AreLocated (extents_at format pages (length versions) written) runs)
+  pub why : (¬ AreLocatedBy (extents_at format pages (length versions) written) runs)
       ⊎ ((shape (extents_at format pages (length versions) written)).most_names < names (entries_of (newest_first runs)))
   pub refusal : r ≡ NotAStore
 
@@ -227,6 +267,8 @@ pub record IsWhyNoRuns (x : ExtentsState) (view : ℕ → List ℕ) (places : Li
 pub record IsStoreMade (honest : Type 0) (view : ℕ → List ℕ) (format : ℕ) (versions : List ℕ) (pages : ℕ) (written : List (ℕ × ℕ)) (commands live : ℕ) (store : Stored) : Type 0 where
   pub root : ℕ
   pub runs : List StoredRun
-  pub made : store ≡ opened_stored format versions pages written root commands runs
+  pub extents : ExtentsState
+  pub opened : AreExtentsOpened (extents_at format pages (length versions) written) (index_at (newest_first runs) (named_limit pages)) root extents
+  pub made : store ≡ opened_stored extents versions root commands runs
   pub counted : HasCount (λ id. live_at (entries_of (newest_first runs)) id ≢ []) live
-  pub read : honest → IsStoreRead view format versions pages written root commands runs
+  pub read : honest → IsStoreReadBy view format versions pages written root commands runs

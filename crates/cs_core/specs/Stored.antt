@@ -1,5 +1,5 @@
 -- What a store has in memory, and what it keeps whatever its disk does.
-use Rattle.std.specs.Prelude.{◌≡◌, ◌+◌, ◌^◌, ◌<◌, ◌≤◌, ◌++◌, ℕ, Bool, true, List, Option, Some, length, slice_index}
+use Rattle.std.specs.Prelude.{◌≡◌, ◌+◌, ◌^◌, ◌<◌, ◌≤◌, ◌++◌, ℕ, Bool, true, false, List, Option, Some, length, slice_index}
 use Rattle.cs_deps.specs.declared.elements.Element.{Element as Name}
 use Rattle.cs_deps.specs.Named.{Named}
 use Rattle.cs_deps.specs.Pending.{Pending}
@@ -8,7 +8,7 @@ use Rattle.cs_extent.specs.Frames.{AreResetsStaged, root_family}
 use Rattle.cs_extent.specs.State.{State as ExtentsState, extents_of, shape}
 use Rattle.cs_index.specs.State.{State as IndexState, index_of}
 use Rattle.cs_model.specs.Device.{Inside, Shape}
-use Rattle.cs_model.specs.Element.{Locator as Place}
+use Rattle.cs_model.specs.Element.{Copy, Locator as Place}
 use Rattle.cs_model.specs.Index.{live_at}
 use Rattle.cs_model.specs.Lists.{◌∈◌}
 use Rattle.cs_deps.specs.declared.refusals.Refusal.{Refusal}
@@ -16,8 +16,9 @@ use Rattle.cs_deps.specs.declared.refusals.Refusal.TheVariants.{Full, WornOut}
 use Rattle.cs_frame.specs.Formats.{formats_of}
 use Rattle.cs_model.specs.Append.{chunk_frames, page_counts}
 use Rattle.cs_model.specs.Events.{Chunked}
-use Rattle.cs_model.specs.Extents.{Fits, ForPut}
-use Rattle.cs_reclaim.specs.Sweeps.{IsSwept}
+use Rattle.cs_model.specs.Extents.{FitsBy, ForPut}
+use Rattle.cs_reclaim.specs.Copied.{AllUpTo, AreInOrder}
+use Rattle.cs_reclaim.specs.Sweeps.{IsSwept, IsSweptApart}
 use Rattle.cs_refine.specs.Rounds.{members_of as members}
 use Rattle.cs_core.specs.declared.roots.Root.{Root}
 use Rattle.cs_core.specs.Frontiers.{AreNoted}
@@ -28,6 +29,8 @@ pub record Stored : Type 0 where
   pub graph : GraphState
   pub extents : ExtentsState
   pub index : IndexState
+  -- what a sweep copied, newest first, where copies count once it ends
+  pub copies : List Copy
   -- the newest root that is persistent, and those that were staged since and wait
   pub roots : List Root
   -- the members of the round that is out, and how many of them were written
@@ -62,9 +65,21 @@ pub record KeepsDevice (x : ExtentsState) (g : GraphState) (y : ExtentsState) (h
   pub round : h.round ≡ g.round
   pub behind : StagesBehind g.staging.pending h.staging.pending
 
--- each extent that is marked as being swept is there, and neither open nor empty
+-- each extent that is marked as being swept is there and isn't empty; where chunks and runs may lie on one extent it isn't open, and
+-- where they lie apart chunks lie on it
 abbrev pub AreSwept : ExtentsState → Type 0
-AreSwept x = (e : ℕ) → (extents_of x).swept e ≡ true → IsSwept (shape x) (extents_of x) e
+AreSwept x = (e : ℕ) → (extents_of x).swept e ≡ true
+    → ((shape x).apart ≡ false → IsSwept (shape x) (extents_of x) e) × ((shape x).apart ≡ true → IsSweptApart (shape x) (extents_of x) e)
+
+-- What every store keeps where chunks and runs lie apart: no more runs than a root may have, and of the sweep that goes on that one extent
+-- alone is marked, that each chunk that lives there is copied up to the last copy, by identifier and then by number, and that the copies
+-- lie on pages of extents that are there.
+pub record IsKeptApart (x : ExtentsState) (i : IndexState) (copies : List Copy) : Type 0 where
+  pub runs : length i.runs ≤ (shape x).most_runs
+  pub one : (d e : ℕ) → (extents_of x).swept d ≡ true → (extents_of x).swept e ≡ true → d ≡ e
+  pub order : AreInOrder copies
+  pub up_to : (e : ℕ) → (extents_of x).swept e ≡ true → AllUpTo (index_of i) copies e
+  pub placed : (c : Copy) → c ∈ copies → Inside (shape x) c.to.extent c.to.page
 
 -- the members of the round that is out, none without one
 abbrev pub members_of : Option (List Name) → List Name
@@ -81,6 +96,7 @@ pub record IsKept (s : Stored) : Type 0 where
   pub some : s.issued ≤ length (members_of s.out)
   pub numbers : s.base + s.accepted < 2 ^ 63
   pub swept : AreSwept s.extents
+  pub apart : (shape s.extents).apart ≡ true → IsKeptApart s.extents s.index s.copies
   pub noted : AreNoted (slice_index s.graph.staging.pending.persistent root_family) (slice_index s.graph.staging.latest root_family) s.roots s.frontier s.accepted
 
 -- the store with the rooms of graph and index as 0: clauses compare stores so, as how much memory is reserved doesn't matter
@@ -89,6 +105,6 @@ but_for_room s = record s { graph = record s.graph { room = 0 }; index = record 
 
 -- why a put is refused where the number of commands is the greatest: 30 where its chunks don't fit, else 35
 abbrev pub IsWhyWorn : ExtentsState → List ℕ → Refusal → Type 0
-IsWhyWorn x bytes WornOut = (cs : List (List ℕ)) × Chunked (shape x).chunk_bytes bytes cs × Fits (shape x) (extents_of x) ForPut (page_counts (chunk_frames (shape x) (formats_of (shape x)) cs))
-IsWhyWorn x bytes Full = (cs : List (List ℕ)) → Chunked (shape x).chunk_bytes bytes cs → Fits (shape x) (extents_of x) ForPut (page_counts (chunk_frames (shape x) (formats_of (shape x)) cs)) → ⊥
+IsWhyWorn x bytes WornOut = (cs : List (List ℕ)) × Chunked (shape x).chunk_bytes bytes cs × FitsBy (shape x) (shape x).apart (extents_of x) ForPut (page_counts (chunk_frames (shape x) (formats_of (shape x)) cs))
+IsWhyWorn x bytes Full = (cs : List (List ℕ)) → Chunked (shape x).chunk_bytes bytes cs → FitsBy (shape x) (shape x).apart (extents_of x) ForPut (page_counts (chunk_frames (shape x) (formats_of (shape x)) cs)) → ⊥
 IsWhyWorn x bytes _ = ⊥

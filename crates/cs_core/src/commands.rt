@@ -12,7 +12,7 @@ ghost use Rattle.cs_core.specs.Writebacks.{AddsCommand, KeepsRound, KeepsStaging
 
 use crate::events::Event;
 use crate::stores::Store;
-use cs_chunk::{put_chunks, put_fits, shard_bytes};
+use cs_chunk::{put_chunks_by, put_fits_by, shard_bytes};
 use cs_deps::Refusal;
 use cs_extent::Extents;
 use cs_frame::{Locator, ShardId};
@@ -42,7 +42,8 @@ impl Store {
             return Err(why_worn(&self.extents, bytes));
         }
         self.index.reserve(1)?;
-        match put_chunks(self.alloc, &mut self.extents, &mut self.graph, bytes) {
+        let apart = self.extents.is_apart();
+        match put_chunks_by(self.alloc, &mut self.extents, &mut self.graph, bytes, apart) {
             Ok(places) => {
                 enter(&mut self.index, id, places);
                 self.accepted += 1;
@@ -107,7 +108,7 @@ fn why_worn(extents: &Extents, bytes: &[u8]) -> Refusal
     requires { ¬ ((shape extents.now).most_chunks * (shape extents.now).chunk_bytes < length bytes.now) }
     ensures { IsWhyWorn extents.now bytes.now result }
 {
-    if put_fits(extents, bytes) {
+    if put_fits_by(extents, bytes, extents.is_apart()) {
         Refusal::WornOut
     } else {
         Refusal::Full

@@ -13,8 +13,8 @@ ghost use Rattle.cs_deps.specs.Named.{IsWithin};
 ghost use Rattle.cs_deps.specs.Staging.{IsKept};
 ghost use Rattle.cs_deps.specs.State.{AreCounted, everything};
 ghost use Rattle.cs_deps.specs.View.{pending_of, rounds_of};
-ghost use Rattle.cs_disk.specs.Disk.{Leaves, LeavesOnly, MayLeave, Rises, flushed, page, seen};
-ghost use Rattle.cs_extent.specs.State.{extents_of, shape};
+ghost use Rattle.cs_disk.specs.Disk.{GoesOn, Leaves, LeavesOnly, MayLeave, Rises, flushed, page, seen};
+ghost use Rattle.cs_extent.specs.State.{IsWhole, extents_of, shape};
 ghost use Rattle.cs_frame.specs.Formats.{formats_of};
 ghost use Rattle.cs_frame.specs.Geometries.{IsGeometry, device_pages, section_size};
 ghost use Rattle.cs_image.specs.Counts.{HasCount};
@@ -23,7 +23,7 @@ ghost use Rattle.cs_model.specs.Geometry.{shape_of};
 ghost use Rattle.cs_model.specs.Recovery.{Recovers};
 ghost use Rattle.cs_model.specs.State.{State};
 ghost use Rattle.cs_plan.specs.Best.{IsBestPlan};
-ghost use Rattle.cs_reclaim.specs.Sweeps.{IsNotSweepable};
+ghost use Rattle.cs_core.specs.Sweepable.{IsUnsweepable};
 ghost use Rattle.cs_core.specs.Checkpoints.{IsNotReplaced, IsSettled, Replaces};
 ghost use Rattle.cs_core.specs.Disks.{CountsCalls, IsDiskAfter};
 ghost use Rattle.cs_core.specs.Meanings.{commands_said};
@@ -44,7 +44,6 @@ use crate::stores::Store;
 use cs_deps::{Dependency, Element, GraphView, LAST_NUMBER, Plan, Refusal};
 use cs_disk::PageDisk;
 use cs_frame::{Geometry, ShardId};
-use cs_reclaim::is_sweepable;
 use std::alloc::{AllocError, Global};
 use std::marker::Model;
 use std::snapshot::Snapshot;
@@ -137,9 +136,10 @@ impl<D: PageDisk> Core<D> {
     /// pages, before the disk is asked for anything; 20 to 24 for page 0; 43 where it has another section than the first, then
     /// where the disk hasn't the superblock's pages; for each further section 20 to 24 for its page, and 43 where that has
     /// another section, or one of another superblock; 20 to 24 for page 1; for each run, the oldest first, 43 where its locator
-    /// is of no frame, and 20 to 25 for its pages; 43 where a locator of an entry is of no frame, or where more identifiers are
-    /// named than one run may name. 1 DeviceFault and 9 OutOfMemory may come in place of any but the first. Of what was read the
-    /// superblock's pointers, the root's numbers and the index are kept in memory.
+    /// is of no frame, and 20 to 25 for its pages; 43 where a locator of an entry is of no frame, in format 3 one of the newest entry
+    /// of an identifier, or where more identifiers are named than one run may name. 1 DeviceFault and 9 OutOfMemory may come in place
+    /// of any but the first. Of what was read the superblock's pointers, the root's numbers and the index are kept in memory; in format
+    /// 3 extents on which nothing that counts lies are emptied there.
     pub fn open(alloc: Global, disk: D, limits: Limits) -> Result<Self, (Refusal, D)>
         ensures new { IfOk result (λ core. (core.history ≡ []) × (core.base ≡ 0) × (core.limit ≡ limits.history)) }
         ensures image { IfOk result (λ core. D.honest disk → (core.opened ≡ seen (D.state disk)) × (D.state core.disk ≡ flushed (D.state disk))) }
@@ -199,6 +199,8 @@ impl<D: PageDisk> Core<D> {
         ensures crash { D.honest self.old.disk → LeavesOnly D.moment D.left_since self.old.disk self.new.disk (IsPrefix (shape self.old.store.extents) (page self.old.opened) (commands_said self.old.history) self.old.store.frontier self.old.store.accepted) }
         // A crash after it does so for the commands and the frontier then.
         ensures left { D.honest self.old.disk → Leaves (D.state self.new.disk) (IsPrefix (shape self.new.store.extents) (page self.new.opened) (commands_said self.new.history) self.new.store.frontier self.new.store.accepted) }
+        // Its calls of the disk come behind those before it, in time.
+        ensures time { GoesOn D.honest D.state D.moment D.left_since self.old.disk self.new.disk }
         ensures honest { D.honest self.old.disk ↔ D.honest self.new.disk }
         ensures pages { D.page_count self.new.disk ≡ D.page_count self.old.disk }
     {
@@ -393,6 +395,7 @@ impl<D: PageDisk> Core<D> {
         ensures within { result.1 ≤ result.0 }
         // What the laws of cores ask for.
         ensures core { IsCore D.PageDisk self.now }
+        ensures whole { IsWhole self.now.store.extents }
         // Where the disk is honest the history led to a state of the machine in which disk and store are.
         ensures legal { D.honest self.now.disk → (s : State) × IsIn D.state self.now s }
         // A crash now leaves the map after some of the commands, none of the persistent ones left out.
@@ -417,12 +420,13 @@ impl<D: PageDisk> Core<D> {
         self.store.extent_count()
     }
 
-    /// Whether an extent may be swept: it is there, and neither open, empty nor being swept.
+    /// Whether an extent may be swept: it is there, and neither open, empty nor being swept. Where chunks and runs lie apart it is there, isn't
+    /// empty and holds chunks, and no sweep goes on or left copies.
     pub fn is_sweepable(&self, extent: usize) -> bool
-        ensures may { IsTrue result → ¬ IsNotSweepable (shape self.now.store.extents) (extents_of self.now.store.extents) extent }
-        ensures not { ¬ (IsTrue result) → IsNotSweepable (shape self.now.store.extents) (extents_of self.now.store.extents) extent }
+        ensures may { IsTrue result → ¬ IsUnsweepable self.now.store extent }
+        ensures not { ¬ (IsTrue result) → IsUnsweepable self.now.store extent }
     {
-        is_sweepable(&self.store.extents, extent)
+        self.store.is_sweepable(extent)
     }
 
     /// How many page writes are kept in memory; where no round is out, one for each plain write that waits, and at each height

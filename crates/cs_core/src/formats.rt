@@ -13,6 +13,7 @@ use cs_disk::{DiskFault, PageDisk};
 use cs_extent::Extents;
 use cs_frame::{Geometry, Root, Superblock, encode_root, encode_superblock};
 use cs_index::Index;
+use cs_reclaim::Copies;
 use std::alloc::{AllocError, Global};
 
 /// A section of a new store's superblock.
@@ -51,11 +52,10 @@ fn new_sections(alloc: Global, geometry: Geometry) -> Result<Vec<Superblock>, Al
     Ok(sections)
 }
 
-/// An index that names nothing.
+/// An index that names nothing. Refused for memory alone: without runs no identifier is named.
 fn new_index(alloc: Global, geometry: Geometry) -> Result<Index, AllocError>
     ensures { IfOk result (λ index. index ≡ (new_stored geometry.format geometry.extents geometry.pages geometry.sections).index) }
 {
-    // Never refused: without runs no identifier is named.
     match Index::load(alloc, geometry.named_limit(), Vec::new(alloc)) {
         Ok(index) => Ok(index),
         Err(_) => Err(AllocError),
@@ -75,11 +75,13 @@ fn new_store(
     let index = new_index(alloc, geometry)?;
     let extents = Extents::of(alloc, sections)?;
     let graph = new_graph(alloc, sections, 1)?;
+    let copies = Copies::none(alloc);
     Ok(Store {
         alloc,
         graph,
         extents,
         index,
+        copies,
         roots,
         issued: 0,
         base: 0,

@@ -6,6 +6,7 @@
 //! and `loads` read one. What `lookups` asks is no event.
 #![tactic(auto)]
 
+mod chunk_moves;
 mod commands;
 mod contents;
 mod cores;
@@ -22,6 +23,7 @@ mod plans;
 mod reads;
 mod replays;
 mod replies;
+mod retires;
 mod roots;
 mod rounds;
 mod running;

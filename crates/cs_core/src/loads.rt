@@ -1,24 +1,26 @@
 //! Stores that are made of what was read.
-ghost use Rattle.std.specs.Prelude.{◌≡◌, ◌≢◌, ◌⊎◌, ◌+◌, ◌-◌, ◌^◌, ◌<◌, ◌≤◌, ℕ, List, [], ◌∷◌, IfErr, IfOk, OnErr, OnOk, length, map};
+ghost use Rattle.std.specs.Prelude.{◌≡◌, ◌≢◌, ◌⊎◌, ◌||◌, ◌+◌, ◌-◌, ◌^◌, ◌<◌, ◌≤◌, ℕ, List, [], ◌∷◌, IfErr, IfOk, MatchBool, OnErr, OnOk, length, map};
 ghost use Rattle.std.specs.List.{AllByRecursion};
-ghost use Rattle.cs_extent.specs.State.{shape};
+ghost use Rattle.cs_extent.specs.State.{extents_of, shape};
 ghost use Rattle.cs_frame.specs.Formats.{place_of};
 ghost use Rattle.cs_frame.specs.Runs.{IsRun};
 ghost use Rattle.cs_image.specs.Counts.{HasCount};
 ghost use Rattle.cs_image.specs.Openings.{graph_at, index_at};
-ghost use Rattle.cs_image.specs.Reads.{AreLocated, extents_at};
+ghost use Rattle.cs_image.specs.Reads.{AreLocated, AreVisibleLocated, IsLocated, extents_at};
 ghost use Rattle.cs_index.specs.Sorted.{live_entry};
 ghost use Rattle.cs_index.specs.State.{index_of, newest_first};
+ghost use Rattle.cs_model.specs.Apart.{any_run_on};
 ghost use Rattle.cs_model.specs.Index.{entries_of, live_at, names};
-ghost use Rattle.cs_core.specs.Openings.{IsOpeningRefusal, opened_stored};
+ghost use Rattle.cs_core.specs.Openings.{AreExtentsOpened, AreLiveLocated, AreLocatedBy, IsLoaded, IsOpeningRefusal};
 
 use crate::roots::{Root as Noted, first_root};
-use crate::runs::are_located;
+use crate::runs::{are_located, are_places_located};
 use crate::stores::Store;
 use cs_deps::{Graph, Refusal};
 use cs_extent::Extents;
 use cs_frame::{Locator, Root};
 use cs_index::{Index, StoredRun};
+use cs_reclaim::{Copies, free_blank};
 use std::alloc::Global;
 use std::collections::VecDeque;
 
@@ -51,24 +53,132 @@ fn live_count(index: &Index) -> usize
     count
 }
 
-/// The index of runs whose places are located. Refused 43 NotAStore where they aren't, or name too many identifiers.
-fn load_index(alloc: Global, extents: &Extents, runs: Vec<StoredRun>) -> Result<Index, Refusal>
+/// The index of runs. Refused 43 NotAStore where they name too many identifiers, and 9 OutOfMemory.
+fn load_runs(alloc: Global, extents: &Extents, runs: Vec<StoredRun>) -> Result<Index, Refusal>
     requires few { length runs.items ≤ 24 }
     requires runs { AllByRecursion (λ run. IsRun (record { entries = run.entries })) runs.items }
     ensures loaded { IfOk result (λ index. index ≡ index_at (newest_first runs.items) (shape extents.now).most_names) }
-    ensures located { OnOk result (AreLocated extents.now runs.items) }
     ensures named { OnOk result (names (entries_of (newest_first runs.items)) ≤ (shape extents.now).most_names) }
-    ensures refusals { IfErr result (λ r. r ≡ Refusal.NotAStore) }
-    ensures why { OnErr result ((¬ AreLocated extents.now runs.items) ⊎ ((shape extents.now).most_names < names (entries_of (newest_first runs.items)))) }
+    ensures number { IfErr result IsOpeningRefusal }
+    ensures why { IfErr result (λ r. (r ≡ Refusal.OutOfMemory) ⊎ ((r ≡ Refusal.NotAStore) × ((shape extents.now).most_names < names (entries_of (newest_first runs.items))))) }
 {
-    if !are_located(extents, &runs) {
-        return Err(Refusal::NotAStore);
-    }
     let limit = extents.geometry().named_limit();
     match Index::load(alloc, limit, runs) {
         Ok(index) => Ok(index),
         Err(refusal) => Err(refusal),
     }
+}
+
+/// The index of runs whose places are located, those of hidden entries too. Refused 43 NotAStore where they aren't, or name too many
+/// identifiers, and 9 OutOfMemory.
+fn load_whole(alloc: Global, extents: &Extents, runs: Vec<StoredRun>) -> Result<Index, Refusal>
+    requires few { length runs.items ≤ 24 }
+    requires runs { AllByRecursion (λ run. IsRun (record { entries = run.entries })) runs.items }
+    ensures loaded { IfOk result (λ index. index ≡ index_at (newest_first runs.items) (shape extents.now).most_names) }
+    ensures located { OnOk result (AreLocated extents.now runs.items) }
+    ensures named { OnOk result (names (entries_of (newest_first runs.items)) ≤ (shape extents.now).most_names) }
+    ensures number { IfErr result IsOpeningRefusal }
+    ensures why { IfErr result (λ r. (r ≡ Refusal.OutOfMemory) ⊎ ((r ≡ Refusal.NotAStore) × ((¬ AreLocated extents.now runs.items) ⊎ ((shape extents.now).most_names < names (entries_of (newest_first runs.items)))))) }
+{
+    if !are_located(extents, &runs) {
+        return Err(Refusal::NotAStore);
+    }
+    match load_runs(alloc, extents, runs) {
+        Ok(index) => Ok(index),
+        Err(refusal) => Err(refusal),
+    }
+}
+
+/// The index of runs where the places of the newest entry of each identifier are located. Refused 43 NotAStore where they aren't, or
+/// where the runs name too many identifiers, and 9 OutOfMemory.
+fn load_visible(alloc: Global, extents: &Extents, runs: Vec<StoredRun>) -> Result<Index, Refusal>
+    requires few { length runs.items ≤ 24 }
+    requires runs { AllByRecursion (λ run. IsRun (record { entries = run.entries })) runs.items }
+    ensures loaded { IfOk result (λ index. index ≡ index_at (newest_first runs.items) (shape extents.now).most_names) }
+    ensures located { OnOk result (AreVisibleLocated extents.now runs.items) }
+    ensures named { OnOk result (names (entries_of (newest_first runs.items)) ≤ (shape extents.now).most_names) }
+    ensures number { IfErr result IsOpeningRefusal }
+    ensures why { IfErr result (λ r. (r ≡ Refusal.OutOfMemory) ⊎ ((r ≡ Refusal.NotAStore) × ((¬ AreVisibleLocated extents.now runs.items) ⊎ ((shape extents.now).most_names < names (entries_of (newest_first runs.items)))))) }
+{
+    match load_runs(alloc, extents, runs) {
+        Ok(index) => located_or_none(extents, index),
+        Err(refusal) => Err(refusal),
+    }
+}
+
+/// The index where the places of the newest entry of each identifier are located. Refused 43 NotAStore where they aren't.
+fn located_or_none(extents: &Extents, index: Index) -> Result<Index, Refusal>
+    ensures same { IfOk result (λ it. it ≡ index) }
+    ensures located { OnOk result (AreLiveLocated extents.now (index_of index)) }
+    ensures why { IfErr result (λ r. (r ≡ Refusal.NotAStore) × (¬ AreLiveLocated extents.now (index_of index))) }
+{
+    if are_live_located(extents, &index) {
+        Ok(index)
+    } else {
+        Err(Refusal::NotAStore)
+    }
+}
+
+/// Whether the places of the newest entry of each identifier are located. It goes through the index.
+fn are_live_located(extents: &Extents, index: &Index) -> bool
+    ensures { MatchBool result (AreLiveLocated extents.now (index_of index.now)) (¬ AreLiveLocated extents.now (index_of index.now)) }
+{
+    let mut read = index.entries();
+    while let Some((id, locators)) = read.next_entry() {
+        let _bytes = id.bytes();
+        if !are_places_located(extents, locators) {
+            return false;
+        }
+    }
+    true
+}
+
+/// The index of runs whose places are located: those of all entries where chunks and runs may lie on one extent, else those of the newest
+/// entry of each identifier. Refused 43 NotAStore where they aren't, or name too many identifiers, and 9 OutOfMemory.
+fn load_index(alloc: Global, extents: &Extents, runs: Vec<StoredRun>) -> Result<Index, Refusal>
+    requires few { length runs.items ≤ 24 }
+    requires runs { AllByRecursion (λ run. IsRun (record { entries = run.entries })) runs.items }
+    ensures loaded { IfOk result (λ index. index ≡ index_at (newest_first runs.items) (shape extents.now).most_names) }
+    ensures located { OnOk result (AreLocatedBy extents.now runs.items) }
+    ensures named { OnOk result (names (entries_of (newest_first runs.items)) ≤ (shape extents.now).most_names) }
+    ensures number { IfErr result IsOpeningRefusal }
+    ensures why { IfErr result (λ r. (r ≡ Refusal.OutOfMemory) ⊎ ((r ≡ Refusal.NotAStore) × ((¬ AreLocatedBy extents.now runs.items) ⊎ ((shape extents.now).most_names < names (entries_of (newest_first runs.items)))))) }
+{
+    if extents.is_apart() {
+        load_visible(alloc, extents, runs)
+    } else {
+        load_whole(alloc, extents, runs)
+    }
+}
+
+/// Notes on which extents these runs lie.
+fn note_runs(runs: &[StoredRun], extents: &mut Extents)
+    requires { AllByRecursion (λ run. run.place.extent < (shape extents.old).extents) runs.now }
+    ensures extents { extents_of extents.new ≡ record (extents_of extents.old) { of_runs = λ e. any_run_on (newest_first runs.now) e || (extents_of extents.old).of_runs e } }
+    ensures shape { shape extents.new ≡ shape extents.old }
+{
+    for k in 0..runs.len() {
+        let run = &runs[k];
+        extents.set_kind(usize::from(run.place.extent), true);
+    }
+}
+
+/// Readies extents that were read: where chunks and runs lie apart it is noted on which of them runs lie, and the blank ones are emptied
+/// under the root, as no sweep is unfinished.
+fn ready(index: &Index, extents: &mut Extents, copies: &Copies, root: u64)
+    requires read { extents.old ≡ extents_at extents.old.format extents.old.pages extents.old.sections extents.old.written }
+    requires places { AllByRecursion (λ run. run.place.extent < (shape extents.old).extents) index.now.runs }
+    requires none { copies.now ≡ [] }
+    requires root { root < 2 ^ 63 }
+    ensures { AreExtentsOpened extents.old index.now root extents.new }
+{
+    if !extents.is_apart() {
+        return;
+    }
+    note_runs(index.runs(), extents);
+    // Called for its contract alone: what all extents keep.
+    extents.extent_count();
+    free_blank(index, extents, copies, root);
 }
 
 /// What a store has beside its extents and its graph: the index of these runs, and the root as it notes it.
@@ -82,10 +192,10 @@ fn load_parts(
     requires runs { AllByRecursion (λ run. IsRun (record { entries = run.entries })) runs.items }
     ensures loaded { IfOk result (λ made. made.0 ≡ index_at (newest_first runs.items) (shape extents.now).most_names) }
     ensures noted { IfOk result (λ made. made.1.items ≡ record { version = root.now.version; commands = 0 } ∷ []) }
-    ensures located { OnOk result (AreLocated extents.now runs.items) }
+    ensures located { OnOk result (AreLocatedBy extents.now runs.items) }
     ensures named { OnOk result (names (entries_of (newest_first runs.items)) ≤ (shape extents.now).most_names) }
     ensures number { IfErr result IsOpeningRefusal }
-    ensures why { IfErr result (λ r. (r ≡ Refusal.OutOfMemory) ⊎ ((r ≡ Refusal.NotAStore) × ((¬ AreLocated extents.now runs.items) ⊎ ((shape extents.now).most_names < names (entries_of (newest_first runs.items)))))) }
+    ensures why { IfErr result (λ r. (r ≡ Refusal.OutOfMemory) ⊎ ((r ≡ Refusal.NotAStore) × ((¬ AreLocatedBy extents.now runs.items) ⊎ ((shape extents.now).most_names < names (entries_of (newest_first runs.items)))))) }
 {
     let index = match load_index(alloc, extents, runs) {
         Ok(index) => index,
@@ -103,23 +213,25 @@ fn load_parts(
 /// OutOfMemory.
 pub fn load_store(
     alloc: Global,
-    extents: Extents,
+    mut extents: Extents,
     graph: Graph,
     root: &Root,
     runs: Vec<StoredRun>,
 ) -> Result<OpenedStore, Refusal>
     requires extents { extents ≡ extents_at extents.format extents.pages extents.sections extents.written }
     requires graph { (versions : List ℕ) × (length versions ≡ extents.sections) × (graph ≡ graph_at versions root.now.version) }
+    requires version { root.now.version < 2 ^ 63 }
     requires commands { root.now.commands < 2 ^ 63 }
     requires few { length runs.items ≤ 24 }
     requires runs { AllByRecursion (λ run. IsRun (record { entries = run.entries })) runs.items }
-    ensures made { IfOk result (λ found. (versions : List ℕ) → length versions ≡ extents.sections → graph ≡ graph_at versions root.now.version → found.store ≡ opened_stored extents.format versions extents.pages extents.written root.now.version root.now.commands runs.items) }
+    requires places { AllByRecursion (λ run. IsLocated extents run.place) runs.items }
+    ensures made { IfOk result (λ found. IsLoaded extents graph root.now.version root.now.commands runs.items found.store) }
     ensures commands { IfOk result (λ found. found.commands ≡ root.now.commands) }
     ensures live { IfOk result (λ found. HasCount (λ id. live_at (entries_of (newest_first runs.items)) id ≢ []) found.live) }
-    ensures located { OnOk result (AreLocated extents runs.items) }
+    ensures located { OnOk result (AreLocatedBy extents runs.items) }
     ensures named { OnOk result (names (entries_of (newest_first runs.items)) ≤ (shape extents).most_names) }
     ensures number { IfErr result IsOpeningRefusal }
-    ensures why { IfErr result (λ r. (r ≡ Refusal.OutOfMemory) ⊎ ((r ≡ Refusal.NotAStore) × ((¬ AreLocated extents runs.items) ⊎ ((shape extents).most_names < names (entries_of (newest_first runs.items)))))) }
+    ensures why { IfErr result (λ r. (r ≡ Refusal.OutOfMemory) ⊎ ((r ≡ Refusal.NotAStore) × ((¬ AreLocatedBy extents runs.items) ⊎ ((shape extents).most_names < names (entries_of (newest_first runs.items)))))) }
 {
     // Called for its contract alone: what all extents keep.
     extents.extent_count();
@@ -128,12 +240,15 @@ pub fn load_store(
         Err(refusal) => return Err(refusal),
     };
     let live = live_count(&index);
+    let copies = Copies::none(alloc);
+    ready(&index, &mut extents, &copies, root.version);
     Ok(OpenedStore {
         store: Store {
             alloc,
             graph,
             extents,
             index,
+            copies,
             roots,
             issued: 0,
             base: root.commands,

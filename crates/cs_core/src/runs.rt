@@ -29,7 +29,7 @@ fn is_located(extents: &Extents, place: Locator) -> bool
 }
 
 /// Whether all of these places are located.
-fn are_places_located(extents: &Extents, places: &[Locator]) -> bool
+pub fn are_places_located(extents: &Extents, places: &[Locator]) -> bool
     ensures { MatchBool result (AllByRecursion (IsLocated extents.now) places.now) (¬ AllByRecursion (IsLocated extents.now) places.now) }
 {
     for k in 0..places.len() {
@@ -95,6 +95,7 @@ fn read_run<D: PageDisk>(
     requires none { (p : ℕ) → NoneOn graph.now p }
     ensures read { D.honest disk.old → IfOk result (λ run. IsRunRead extents.now (page (seen (D.state disk.old))) run) }
     ensures place { IfOk result (λ run. run.place ≡ place) }
+    ensures located { IfOk result (λ run. IsLocated extents.now run.place) }
     ensures run { IfOk result (λ run. IsRun (record { entries = run.entries })) }
     ensures why { D.honest disk.old → IfErr result (λ r. IsNoAnswer r ⊎ IsWhyNotRead extents.now (page (seen (D.state disk.old))) place r) }
     ensures number { IfErr result IsOpeningRefusal }
@@ -123,6 +124,7 @@ pub fn read_runs<D: PageDisk>(
     requires device { 2 + (shape extents.now).extents * (shape extents.now).pages ≤ D.page_count disk.old }
     requires none { (p : ℕ) → NoneOn graph.now p }
     ensures read { D.honest disk.old → IfOk result (λ runs. (map (λ run. run.place) runs.items ≡ places.now) × AllByRecursion (IsRunRead extents.now (page (seen (D.state disk.old)))) runs.items) }
+    ensures places { IfOk result (λ runs. AllByRecursion (λ run. IsLocated extents.now run.place) runs.items) }
     ensures runs { IfOk result (λ runs. AllByRecursion (λ run. IsRun (record { entries = run.entries })) runs.items) }
     ensures count { IfOk result (λ runs. length runs.items ≡ length places.now) }
     ensures why { D.honest disk.old → IfErr result (λ r. IsNoAnswer r ⊎ IsWhyNoRuns extents.now (page (seen (D.state disk.old))) places.now r) }

@@ -1,5 +1,5 @@
 //! Runs and roots.
-ghost use Rattle.std.specs.Prelude.{◌≡◌, ◌≢◌, ◌+◌, ◌⊎◌, [], IfErr, IfOk, MatchOption, OnErr, OnOk, false};
+ghost use Rattle.std.specs.Prelude.{◌≡◌, ◌≢◌, ◌+◌, ◌⊎◌, [], IfErr, IfOk, MatchOption, OnErr, OnOk, false, true};
 ghost use Rattle.cs_extent.specs.State.{shape};
 ghost use Rattle.cs_model.specs.State.{Stage};
 ghost use Rattle.cs_core.specs.Replies.{MayRefuse};
@@ -15,10 +15,31 @@ use cs_deps::Refusal;
 impl Store {
     /// Stages the index's changes as a run, and the next root over all runs, and gives that root's version; None where nothing
     /// has changed. Up to format 2, where there are four runs already, one run of all that is live takes the place of all; in format 3 the
-    /// run takes the place of as many of the newest runs as their sizes ask for.
+    /// run takes the place of as many of the newest runs as their sizes ask for, or of all where that one goes nowhere, a root alone is
+    /// staged where a sweep that was given up left copies, and under each root the extents on which nothing lives are emptied.
     ///
-    /// Refused 30 Full where no extent takes the run (opening one has to leave another empty), 35 WornOut, and 9 OutOfMemory.
+    /// Refused 30 Full where no extent takes the run (up to format 2 opening one has to leave another empty), 35 WornOut, and 9 OutOfMemory.
     pub fn stage(&mut self) -> Result<Option<u64>, Refusal>
+        ensures step { self.old.halted ≡ false → Answers self.old Stage staged_or_not result self.new }
+        ensures staged { IfOk result (λ staged. MatchOption staged ((self.old.index.table ≡ []) × (but_for_room self.new ≡ but_for_room self.old)) (λ v. self.new.index.table ≡ [])) }
+        ensures round { KeepsRound self.old self.new }
+        ensures behind { OnOk result (Stages self.old self.new) }
+        ensures refused { OnErr result (but_for_room self.new ≡ but_for_room self.old) }
+        ensures refusals { IfErr result (λ r. (r ≡ Refusal.OutOfMemory) ⊎ MayRefuse Event.Stage r) }
+        ensures shape { shape self.new.extents ≡ shape self.old.extents }
+        ensures frontier { self.new.frontier ≡ self.old.frontier }
+        ensures no_fault { IfErr result (λ r. r ≢ Refusal.DeviceFault) }
+    {
+        if self.extents.is_apart() {
+            self.stage_apart()
+        } else {
+            self.stage_together()
+        }
+    }
+
+    /// Stages where chunks and runs may lie on one extent.
+    fn stage_together(&mut self) -> Result<Option<u64>, Refusal>
+        requires { (shape self.old.extents).apart ≡ false }
         ensures step { self.old.halted ≡ false → Answers self.old Stage staged_or_not result self.new }
         ensures staged { IfOk result (λ staged. MatchOption staged ((self.old.index.table ≡ []) × (but_for_room self.new ≡ but_for_room self.old)) (λ v. self.new.index.table ≡ [])) }
         ensures round { KeepsRound self.old self.new }
@@ -41,6 +62,45 @@ impl Store {
             .index
             .stage(&mut self.extents, &mut self.graph, commands)
         {
+            Ok(Some(version)) => {
+                self.roots.push_back_reserved(Root {
+                    version,
+                    commands: self.accepted,
+                });
+                Ok(Some(version))
+            }
+            Ok(None) => Ok(None),
+            Err(refusal) => Err(refusal),
+        }
+    }
+
+    /// Stages where chunks and runs lie apart.
+    fn stage_apart(&mut self) -> Result<Option<u64>, Refusal>
+        requires { (shape self.old.extents).apart ≡ true }
+        ensures step { self.old.halted ≡ false → Answers self.old Stage staged_or_not result self.new }
+        ensures staged { IfOk result (λ staged. MatchOption staged ((self.old.index.table ≡ []) × (but_for_room self.new ≡ but_for_room self.old)) (λ v. self.new.index.table ≡ [])) }
+        ensures round { KeepsRound self.old self.new }
+        ensures behind { OnOk result (Stages self.old self.new) }
+        ensures refused { OnErr result (but_for_room self.new ≡ but_for_room self.old) }
+        ensures refusals { IfErr result (λ r. (r ≡ Refusal.OutOfMemory) ⊎ MayRefuse Event.Stage r) }
+        ensures shape { shape self.new.extents ≡ shape self.old.extents }
+        ensures frontier { self.new.frontier ≡ self.old.frontier }
+        ensures no_fault { IfErr result (λ r. r ≢ Refusal.DeviceFault) }
+    {
+        // Called for their contracts alone: what all extents and every graph keep.
+        self.extents.extent_count();
+        self.graph.families();
+        if self.roots.reserve(1).is_err() {
+            return Err(Refusal::OutOfMemory);
+        }
+        // The root's page counts all commands; `roots` counts those since open.
+        let commands = self.base + self.accepted;
+        match self.copies.stage(
+            &mut self.index,
+            &mut self.extents,
+            &mut self.graph,
+            commands,
+        ) {
             Ok(Some(version)) => {
                 self.roots.push_back_reserved(Root {
                     version,

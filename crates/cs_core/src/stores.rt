@@ -8,6 +8,7 @@ use crate::roots::Root;
 use cs_deps::{Element, Graph, LAST_NUMBER};
 use cs_extent::Extents;
 use cs_index::Index;
+use cs_reclaim::Copies;
 use std::alloc::Global;
 use std::collections::VecDeque;
 use std::marker::Model;
@@ -19,6 +20,8 @@ pub struct Store {
     pub graph: Graph,
     pub extents: Extents,
     pub index: Index,
+    /// What a sweep copied that doesn't count yet; nothing where a chunk that is moved counts at once.
+    pub copies: Copies,
     /// The newest root that is persistent, and behind it those that were staged since and wait.
     pub roots: VecDeque<Root>,
     /// How many members of the round that is out were written.
@@ -38,9 +41,9 @@ impl Model for Store {
 
     ghost Value = { Stored };
 
-    ghost view = { λ s. record { graph = s.graph; extents = s.extents; index = s.index; roots = s.roots.items; out = s.graph.round; issued = s.issued; base = s.base; accepted = s.accepted; frontier = s.frontier; halted = s.halted } };
+    ghost view = { λ s. record { graph = s.graph; extents = s.extents; index = s.index; copies = s.copies; roots = s.roots.items; out = s.graph.round; issued = s.issued; base = s.base; accepted = s.accepted; frontier = s.frontier; halted = s.halted } };
 
-    ghost invariant = { λ s. IsKept (record { graph = s.graph; extents = s.extents; index = s.index; roots = s.roots.items; out = s.graph.round; issued = s.issued; base = s.base; accepted = s.accepted; frontier = s.frontier; halted = s.halted }) };
+    ghost invariant = { λ s. IsKept (record { graph = s.graph; extents = s.extents; index = s.index; copies = s.copies; roots = s.roots.items; out = s.graph.round; issued = s.issued; base = s.base; accepted = s.accepted; frontier = s.frontier; halted = s.halted }) };
 }
 
 impl Store {

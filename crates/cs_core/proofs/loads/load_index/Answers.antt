@@ -1,12 +1,30 @@
-use Rattle.std.proofs.Common.{◌∙◌, ◌-◌, ◌*◌, ◌/◌, ℕ, List, ap, subst}
-use Rattle.cs_image.specs.Openings.{index_at}
-use Rattle.cs_image.specs.Reads.{AreLocated}
-use Rattle.cs_index.specs.declared.runs.StoredRun.{StoredRun}
+use Rattle.std.proofs.Common.{◌∙◌, ◌<◌, sym}
+use Rattle.cs_extent.specs.State.{shape}
+use Rattle.cs_image.specs.Reads.{AreLocated, AreVisibleLocated}
 use Rattle.cs_index.specs.State.{newest_first}
+use Rattle.cs_model.specs.Index.{entries_of, names}
+use Rattle.cs_core.specs.Openings.{AreLocatedBy}
+use Rattle.cs_core.proofs.Readying.{hidden_gone, hidden_stand, located_visible, located_whole, ok_by, why_by}
 use Rattle.cs_core.proofs.loads.load_index.Goals as goal
 
-pub returns-in-Ok-clause-loaded : goal.returns-in-Ok-clause-loaded
-returns-in-Ok-clause-loaded c = c.in-Ok.ensures.loaded ∙ ap (λ (n : ℕ). index_at (newest_first c.args.runs.items) n) (c.named_limit-limit.ensures ∙ ap (λ (p : ℕ). (4096 * p - 45) / 81) c.geometry.ensures.pages)
+pub returns-then-is_apart-clause-located : goal.returns-then-is_apart-clause-located
+returns-then-is_apart-clause-located c =
+    let x = c.args.extents.now in
+    ok_by c.load_visible.result (AreVisibleLocated x c.args.runs.items) (AreLocatedBy x c.args.runs.items) (located_visible x c.args.runs.items (sym c.is_apart.ensures ∙ c.if-is_apart.true)) c.load_visible.ensures.located
 
-pub returns-in-Ok-clause-located : goal.returns-in-Ok-clause-located
-returns-in-Ok-clause-located c = subst (λ (rs : List StoredRun). AreLocated c.args.extents.now rs) c.deref.ensures.value c.if-not-are_located.ensures
+pub returns-then-is_apart-clause-why : goal.returns-then-is_apart-clause-why
+returns-then-is_apart-clause-why c =
+    let x = c.args.extents.now in
+    why_by c.load_visible.result (AreVisibleLocated x c.args.runs.items) (AreLocatedBy x c.args.runs.items) ((shape x).most_names < names (entries_of (newest_first c.args.runs.items)))
+    (λ by. by.visible (hidden_gone x (sym c.is_apart.ensures ∙ c.if-is_apart.true))) c.load_visible.ensures.why
+
+pub returns-else-is_apart-clause-located : goal.returns-else-is_apart-clause-located
+returns-else-is_apart-clause-located c =
+    let x = c.args.extents.now in
+    ok_by c.load_whole.result (AreLocated x c.args.runs.items) (AreLocatedBy x c.args.runs.items) (located_whole x c.args.runs.items (sym c.is_apart.ensures ∙ c.if-is_apart.false)) c.load_whole.ensures.located
+
+pub returns-else-is_apart-clause-why : goal.returns-else-is_apart-clause-why
+returns-else-is_apart-clause-why c =
+    let x = c.args.extents.now in
+    why_by c.load_whole.result (AreLocated x c.args.runs.items) (AreLocatedBy x c.args.runs.items) ((shape x).most_names < names (entries_of (newest_first c.args.runs.items)))
+    (λ by. by.whole (hidden_stand x (sym c.is_apart.ensures ∙ c.if-is_apart.false))) c.load_whole.ensures.why

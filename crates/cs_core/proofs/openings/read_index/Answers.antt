@@ -2,7 +2,7 @@ use Rattle.std.proofs.Common.{◌≡◌, ◌∙◌, ◌+◌, ◌*◌, ◌≤◌,
 use Rattle.std.proofs.lemmas.List.{length-map}
 use Rattle.cs_disk.specs.Disk.{page, seen}
 use Rattle.cs_extent.proofs.Sections.{geometry_is}
-use Rattle.cs_extent.specs.Sections.{AreSections, count_of, format_of, pages_of, rows_of}
+use Rattle.cs_extent.specs.Sections.{format_of, pages_of, rows_of}
 use Rattle.cs_extent.specs.State.{State as ExtentsState, shape}
 use Rattle.cs_frame.specs.Geometries.{device_pages}
 use Rattle.cs_frame.specs.declared.locators.Locator.{Locator}
@@ -61,6 +61,12 @@ load_store-requires-clause-few g c = omega (arith, c.in-Ok-read_runs.ensures.cou
 
 pub load_store-requires-clause-commands : goal.load_store-requires-clause-commands
 load_store-requires-clause-commands g c = c.requires.some_root.1.fits.last_command
+
+pub load_store-requires-clause-version : goal.load_store-requires-clause-version
+load_store-requires-clause-version g c = c.requires.some_root.1.fits.last_version
+
+pub load_store-requires-clause-places : goal.load_store-requires-clause-places
+load_store-requires-clause-places g c = c.in-Ok-read_runs.ensures.places
 
 pub returns-in-Ok-read_runs-clause-made : goal.returns-in-Ok-read_runs-clause-made
 returns-in-Ok-read_runs-clause-made g c =

@@ -1,6 +1,6 @@
 use Rattle.cs_disk.specs.Disk.{page, seen}
 use Rattle.cs_frame.specs.Runs.{run_fault}
-use Rattle.cs_core.proofs.Loading.{caused_no, frame_not_read, fresh_view, run_not_read, run_read}
+use Rattle.cs_core.proofs.Loading.{caused_no, frame_not_read, fresh_view, located_run, run_not_read, run_read}
 use Rattle.cs_core.proofs.runs.read_run.Goals as goal
 
 pub returns-in-Ok-clause-read : goal.returns-in-Ok-clause-read
@@ -23,3 +23,6 @@ returns-in-Err-clause-why g c = λ h.
     let image = seen (g.D.PageDisk.state c.args.disk.now) in
     frame_not_read c.args.extents.now (page image) c.args.place c.in-Err.refusal c.if-not-is_located.ensures
     (c.in-Err.ensures.fault h (page image) (fresh_view c.args.graph.now image c.requires.none))
+
+pub returns-in-Ok-clause-located : goal.returns-in-Ok-clause-located
+returns-in-Ok-clause-located g c = located_run c.args.extents.now c.args.place c.if-not-is_located.ensures c.decoded_run.result c.decoded_run.ensures.place

@@ -8,7 +8,7 @@ use Rattle.cs_disk.specs.Disk.{State, page, seen}
 use Rattle.cs_frame.specs.declared.locators.Locator.{Locator}
 use Rattle.cs_frame.specs.Runs.{IsRun}
 use Rattle.cs_image.proofs.OneByOne.{next_read}
-use Rattle.cs_image.specs.Reads.{AreRunsRead, IsRunRead}
+use Rattle.cs_image.specs.Reads.{AreRunsRead, IsLocated, IsRunRead}
 use Rattle.cs_index.proofs.Sorted.{all_append}
 use Rattle.cs_index.specs.declared.runs.StoredRun.{StoredRun}
 use Rattle.cs_core.proofs.Loading.{no_runs}
@@ -27,6 +27,8 @@ loop-k-preserved g c =
       disk = reads_on g.D.PageDisk c.args.disk.now c.loop-k.disk c.read_run.new.disk c.loop-k.invariant.disk c.read_run.ensures.disk;
       size = omega (arith, c.push_reserved.ensures.len, c.loop-k.invariant.size, c.push_reserved.new.self.ok.0, c.loop-k.runs.ok.0);
       room = omega (arith, c.loop-k.invariant.room, c.push_reserved.ensures.capacity);
+      places = subst (λ (rs : List StoredRun). AllByRecursion (λ run. IsLocated c.args.extents.now run.place) rs) (sym items)
+          (all_append (λ run. IsLocated c.args.extents.now run.place) c.loop-k.runs.items (c.in-Ok.run' ∷ []) c.loop-k.invariant.places (c.in-Ok.ensures.located, tt));
       runs = subst (λ (rs : List StoredRun). AllByRecursion (λ run. IsRun (record { entries = run.entries })) rs) (sym items)
           (all_append (λ run. IsRun (record { entries = run.entries })) c.loop-k.runs.items (c.in-Ok.run' ∷ []) c.loop-k.invariant.runs (c.in-Ok.ensures.run, tt));
       read = λ h.

@@ -3,7 +3,7 @@ use Rattle.std.specs.List.{AllByRecursion}
 use Rattle.cs_chunk.specs.Reads.{OnlyReads}
 use Rattle.cs_disk.specs.Disk.{page, seen}
 use Rattle.cs_frame.specs.Runs.{IsRun}
-use Rattle.cs_image.specs.Reads.{AreRunsRead}
+use Rattle.cs_image.specs.Reads.{AreRunsRead, IsLocated}
 use Rattle.cs_core.proofs.runs.read_runs.Given as goal
 
 abbrev pub invariant-loop-k : goal.invariant-loop-k
@@ -11,6 +11,7 @@ invariant-loop-k g l = record {
   disk : OnlyReads g.D.PageDisk l.fn.disk l.disk;
   size : length l.runs.items ≡ l.k;
   room : length l.places ≤ vec_capacity l.runs;
+  places : AllByRecursion (λ run. IsLocated l.extents run.place) l.runs.items;
   runs : AllByRecursion (λ run. IsRun (record { entries = run.entries })) l.runs.items;
   read : g.D.PageDisk.honest l.fn.disk → AreRunsRead l.extents (page (seen (g.D.PageDisk.state l.fn.disk))) l.places l.runs.items;
 }

@@ -6,6 +6,7 @@ use Rattle.cs_core.specs.contracts.stores.Store.{the_view}
 use Rattle.cs_core.specs.Stored.{Stored}
 use Rattle.cs_core.proofs.Deletes.{delete_absent, delete_done, delete_last}
 use Rattle.cs_core.proofs.Kept.{inside_set, kept_on, noted_on}
+use Rattle.cs_core.proofs.KeptPuts.{kept_apart_delete}
 use Rattle.cs_core.proofs.Moves.{moves_none}
 use Rattle.cs_core.proofs.stores.Store.delete.Goals as goal
 
@@ -27,6 +28,7 @@ invariant_of-self c =
     let young : s.base + (s.accepted + 1) < 2 ^ 63 = (let few : s.base + s.accepted + 1 < 2 ^ 63 = subst (λ (u : Stored). u.base + u.accepted + 1 < 2 ^ 63) (sym c.self.view_is) c.if-is_worn.ensures in omega arith) in
     kept_on s (record s { index = c.erase.new.self; accepted = s.accepted + 1 }) c.self.invariant (moves_none s.extents s.graph) c.self.invariant.resets refl set.limit
     (inside_set (shape s.extents) s.index (id_number c.args.id) [] c.erase.new.self c.self.invariant.places set (λ l among. absurd among)) refl refl young c.self.invariant.swept
+    (kept_apart_delete s.extents s.index c.erase.new.self s.copies (id_number c.args.id) set c.self.invariant.apart)
     (noted_on s c.self.invariant s.graph refl s.roots refl (s.accepted + 1) (omega arith))
 
 pub returns-in-Ok-true-clause-step : goal.returns-in-Ok-true-clause-step
