@@ -1,0 +1,10 @@
+pub mod CoreCrashes
+pub mod CoreLives
+pub mod CorePuts
+pub mod CoreRoom
+pub mod CoreSteps
+pub mod CoreSweeps
+pub mod CrashImages
+pub mod FewChunks
+pub mod HavingRoom
+pub mod Reached

@@ -1,0 +1,4 @@
+pub mod Cores
+pub mod Images
+pub mod Lives
+pub mod Sweeps
