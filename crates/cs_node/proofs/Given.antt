@@ -1,7 +1,7 @@
 -- Places of jobs, and what the jobs gave.
-use Rattle.std.proofs.Common.{◌≡◌, ◌<◌, ◌≤◌, ℕ, zero, suc, All, List, [], ◌∷◌, ◌++◌, ap, ◌∙◌, append_assoc, arith, drop, get_or, length, map, refl, subst, sym, take}
+use Rattle.std.proofs.Common.{◌≡◌, ◌<◌, ℕ, zero, suc, All, List, [], ◌∷◌, ◌++◌, ap, append_assoc, arith, drop, get_or, length, map, refl, subst, sym, take}
 use Rattle.std.proofs.lemmas.List.{append-nil, drop_all, length-map, map-append, take_all}
-use Rattle.std.proofs.lemmas.List.Elements.{All-cons, All-head, All-nil, All-tail}
+use Rattle.std.proofs.lemmas.List.Elements.{All-cons, All-nil}
 use Rattle.cs_node.specs.declared.jobs.Place.{Place}
 use Rattle.cs_node.specs.declared.jobs.Place.TheVariants.{Gave, Job}
 use Rattle.cs_node.specs.Jobs.{AllGive, Does, HasGiven}

@@ -1,14 +1,11 @@
 -- What an event leaves of a core.
-use Rattle.std.proofs.Common.{◌≡◌, ◌≢◌, ℕ, List, Err, IfErr, IfOk, IfSome, IsErrAnd, MatchOption, None, Ok, Option, Result, Some, ⊎_elim, refl, subst, sym}
+use Rattle.std.proofs.Common.{◌≡◌, ◌≢◌, ℕ, Err, IfErr, IfOk, IfSome, IsErrAnd, MatchOption, None, Ok, Option, Result, Some, ⊎_elim, refl, subst, sym}
 use Rattle.cs_deps.specs.declared.refusals.Refusal.{Refusal}
 use Rattle.cs_deps.specs.declared.refusals.Refusal.TheVariants.{HistoryFull}
 use Rattle.cs_disk.specs.declared.disk.PageDisk.{Ghosts as PageDisk}
-use Rattle.cs_disk.specs.Disk.{Leaves, page}
 use Rattle.cs_model.specs.Refusal as ground
 use Rattle.cs_model.specs.State.{State}
 use Rattle.cs_refine.specs.Refusals.{refusal_for}
-use Rattle.cs_refine.specs.Crashes.{IsPrefix}
-use Rattle.cs_core.specs.Meanings.{commands_said}
 use Rattle.cs_core.specs.Replies.{MayAnswer}
 use Rattle.cs_core.specs.declared.events.Event.{Event}
 use Rattle.cs_core.specs.declared.events.Event.TheVariants.{Abandon}
@@ -17,7 +14,7 @@ use Rattle.cs_core.specs.declared.events.Reply.TheVariants.{Abandoned, Refused}
 use Rattle.cs_core.specs.Views.{Applies, IsFull, IsIn, IsStep, View}
 use Rattle.cs_node.specs.Behind.{IsBehind}
 use Rattle.cs_node.specs.Locks.{Declines, IsDone}
-use Rattle.cs_node.specs.Starts.{Start, shape_at}
+use Rattle.cs_node.specs.Starts.{Start}
 use Rattle.cs_node.specs.Under.{Under}
 
 -- what a guard holds is behind the lock where what the lock gave is

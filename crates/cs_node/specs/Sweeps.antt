@@ -7,9 +7,9 @@ use Rattle.cs_core.specs.declared.events.Event.TheVariants as asked
 use Rattle.cs_core.specs.declared.events.Reply.{Reply}
 use Rattle.cs_core.specs.declared.events.Reply.TheVariants.{NoneLive}
 use Rattle.cs_core.specs.Stored.{Stored}
+use Rattle.cs_core.specs.Sweepable.{IsUnsweepable}
 use Rattle.cs_core.specs.Views.{IsStep, View}
-use Rattle.cs_extent.specs.State.{extents_of, shape as shape_of}
-use Rattle.cs_reclaim.specs.Sweeps.{IsNotSweepable}
+use Rattle.cs_extent.specs.State.{shape as shape_of}
 use Rattle.cs_node.specs.Dues.{step_of}
 use Rattle.cs_node.specs.Locks.{IsDone, IsRefused, WhileLocked}
 use Rattle.cs_node.specs.Starts.{Start}
@@ -22,12 +22,12 @@ use Rattle.cs_node.specs.declared.reclaimers.Next.TheVariants.{Abandon, Begin, B
 -- the least extent from this one on that may be swept
 pub record IsLeastFrom (s : Stored) (from e : ℕ) : Type 0 where
   pub from_there : from ≤ e
-  pub may : ¬ IsNotSweepable (shape_of s.extents) (extents_of s.extents) e
-  pub least : (k : ℕ) → from ≤ k → k < e → IsNotSweepable (shape_of s.extents) (extents_of s.extents) k
+  pub may : ¬ IsUnsweepable s e
+  pub least : (k : ℕ) → from ≤ k → k < e → IsUnsweepable s k
 
 -- none from this one on may be swept
 abbrev pub NoneFrom : Stored → ℕ → Type 0
-NoneFrom s from = (k : ℕ) → from ≤ k → k < (shape_of s.extents).extents → IsNotSweepable (shape_of s.extents) (extents_of s.extents) k
+NoneFrom s from = (k : ℕ) → from ≤ k → k < (shape_of s.extents).extents → IsUnsweepable s k
 
 -- the extent whose sweep begins next: the least above the one that was begun last that may be swept, else the least of all
 abbrev pub IsNextAfter : Stored → (last : Option ℕ) → ℕ → Type 0

@@ -1,14 +1,15 @@
 -- Which extent is chosen to be swept.
-use Rattle.std.proofs.Common.{◌≡◌, ◌-◌, ◌<◌, ◌≤◌, ℕ, List, Some, None, Bool, true, false, ⊎_elim, ◌∙◌, ap, arith, get_or, length, min, refl, inl, inr, sym, subst}
+use Rattle.std.proofs.Common.{◌≡◌, ◌-◌, ◌<◌, ◌≤◌, ℕ, List, Option, Some, None, Bool, true, false, ⊎_elim, ◌∙◌, ap, arith, get_or, min, refl, inl, inr, sym, subst}
 use Rattle.std.specs.Prelude.{if◌then◌else◌, slice_get}
 use Rattle.std.proofs.lemmas.Bool.{cases_lt}
-use Rattle.std.proofs.lemmas.Option.{same_Some, slice_get_read, slice_get_within}
+use Rattle.std.proofs.lemmas.Option.{get_or_from_slice_get}
 use Rattle.cs_extent.specs.State.{State as Extents, IsWhole, extents_of, shape}
 use Rattle.cs_frame.specs.Frames.{page_count}
 use Rattle.cs_frame.specs.Geometries.{named_limit, run_bytes}
 use Rattle.cs_survey.specs.declared.extent_uses.ExtentUse.{ExtentUse}
+use Rattle.cs_survey.specs.Fewest.{IsFewestLive}
 use Rattle.cs_survey.specs.Uses.{AreExtents, HasNoGarbage, IsMostGarbage, garbage}
-use Rattle.cs_store.specs.Reclaims.{Chooses, run_pages}
+use Rattle.cs_store.specs.Reclaims.{ChoosesApart, ChoosesBy, ChoosesTogether, run_pages}
 
 -- ---- the pages of a run
 
@@ -30,55 +31,73 @@ pages_fewer pages named limit dead is le lt = elim (cases_lt limit named) [
 
 -- what can be swept frees all pages that are dead
 all_dead : (used : ExtentUse) → 0 < garbage used → garbage used ≡ used.pointer - used.live
-all_dead used some = go used.is_open used.is_swept some
+all_dead used some = go used.is_open used.is_swept used.holds_runs some
   where
-    go : (is_open is_swept : Bool) → 0 < (if is_open then 0 else if is_swept then 0 else used.pointer - used.live) → (if is_open then 0 else if is_swept then 0 else used.pointer - used.live) ≡ used.pointer - used.live
-    go true swept none = absurd (let l : 0 < 0 = none in omega arith)
-    go false true none = absurd (let l : 0 < 0 = none in omega arith)
-    go false false most = refl
+    of_marks : (is_open is_swept holds_runs : Bool) → ℕ
+    of_marks is_open is_swept holds_runs = if is_open then 0 else if is_swept then 0 else if holds_runs then 0 else used.pointer - used.live
+
+    go : (is_open is_swept holds_runs : Bool) → 0 < of_marks is_open is_swept holds_runs → of_marks is_open is_swept holds_runs ≡ used.pointer - used.live
+    go true swept runs none = absurd (let l : 0 < 0 = none in omega arith)
+    go false true runs none = absurd (let l : 0 < 0 = none in omega arith)
+    go false false true none = absurd (let l : 0 < 0 = none in omega arith)
+    go false false false most = refl
 
 module _ (uses : List ExtentUse) where
-  pub none_chosen : (pages : ℕ) → HasNoGarbage uses → Chooses uses pages None
+  pub none_chosen : (pages : ℕ) → HasNoGarbage uses → ChoosesTogether uses pages None
   none_chosen pages none e used at = let zero : garbage used ≡ 0 = none e used at in omega (arith, zero)
 
-  module _ (extent dead : ℕ) (best : IsMostGarbage uses extent) (used : ExtentUse) (at : slice_get uses extent ≡ Some used) (is : dead ≡ used.pointer - used.live) where
-    its_dead : garbage best.its ≡ dead
-    its_dead = all_dead best.its best.some ∙ ap (λ (u : ExtentUse). u.pointer - u.live) (same_Some best.its used (sym best.there ∙ at)) ∙ sym is
+  module _ (extent dead : ℕ) (d : ExtentUse) (is : dead ≡ (get_or uses extent d).pointer - (get_or uses extent d).live) where
+    -- what is read of the extent is its use
+    dead_of : (used : ExtentUse) → slice_get uses extent ≡ Some used → used.pointer - used.live ≡ dead
+    dead_of used at = ap (λ (u : ExtentUse). u.pointer - u.live) (sym (get_or_from_slice_get uses extent used d at)) ∙ sym is
 
-    pub some_chosen : (pages : ℕ) → pages < dead → Chooses uses pages (Some (extent, dead))
-    some_chosen pages lt = (best, its_dead, lt)
+    pub fewest_chosen : (last : Option ℕ) (pages : ℕ) → IsFewestLive uses last pages extent → ChoosesApart uses last pages (Some (extent, dead))
+    fewest_chosen last pages chosen = (chosen, dead_of chosen.best.its chosen.best.there.0)
 
-    pub not_chosen : (pages : ℕ) → dead ≤ pages → Chooses uses pages None
-    not_chosen pages le e other there = ⊎_elim
-        (λ (less : garbage other < garbage best.its). omega (arith, less, its_dead, le))
-        (λ (same : (garbage other ≡ garbage best.its) × (extent ≤ e)). let equal : garbage other ≡ garbage best.its = same.0 in omega (arith, equal, its_dead, le))
-        (best.most e other there)
+    module _ (best : IsMostGarbage uses extent) where
+      its_dead : garbage best.its ≡ dead
+      its_dead = all_dead best.its best.some ∙ dead_of best.its best.there
 
-    -- no more pages are dead than an extent has
-    pub dead_within : (x : Extents) → IsWhole x → AreExtents (shape x).extents (extents_of x) uses → dead ≤ (shape x).pages
-    dead_within x whole are =
-        let given : used.pointer ≡ (extents_of x).pointer extent = (are.1 extent used at).pointer in
-        let within : (extents_of x).pointer extent ≤ x.pages = whole.pointers extent in
-        omega (arith, given, within, is)
+      pub some_chosen : (pages : ℕ) → pages < dead → ChoosesTogether uses pages (Some (extent, dead))
+      some_chosen pages lt = (best, its_dead, lt)
+
+      pub not_chosen : (pages : ℕ) → dead ≤ pages → ChoosesTogether uses pages None
+      not_chosen pages le e other there = ⊎_elim
+          (λ (less : garbage other < garbage best.its). omega (arith, less, its_dead, le))
+          (λ (same : (garbage other ≡ garbage best.its) × (extent ≤ e)). let equal : garbage other ≡ garbage best.its = same.0 in omega (arith, equal, its_dead, le))
+          (best.most e other there)
 
 -- ---- what was read of the extents x, and of the index
 
-module _ (x held : Extents) (uses listed : List ExtentUse) (extent dead named limit index_pages : ℕ) (used : ExtentUse) (whole : IsWhole x) (same : x ≡ held) (are : AreExtents (shape held).extents (extents_of held) uses)
-    (is_listed : listed ≡ uses) (best : IsMostGarbage listed extent) (at : used ≡ get_or uses extent used) (is : dead ≡ used.pointer - used.live) where
-  there : slice_get uses extent ≡ Some used
-  there = slice_get_read uses (length uses) extent used refl (subst (λ (us : List ExtentUse). extent < length us) is_listed (slice_get_within listed extent best.its best.there)) at
+module _ (x held : Extents) (uses listed : List ExtentUse) (b : Bool) (whole : IsWhole x) (same : x ≡ held) (are : AreExtents (shape held).extents (extents_of held) uses) (is_listed : listed ≡ uses)
+    (rule : b ≡ (shape x).apart) (chosen : Option (ℕ × ℕ)) where
+  rule_held : (is : Bool) → b ≡ is → (shape held).apart ≡ is
+  rule_held is now = sym (ap (λ (y : Extents). (shape y).apart) same) ∙ sym rule ∙ now
 
-  its : IsMostGarbage uses extent
-  its = subst (λ (us : List ExtentUse). IsMostGarbage us extent) is_listed best
+  pub by_apart : (last : Option ℕ) (pages index_pages : ℕ) → b ≡ true → last ≡ (extents_of x).last → pages ≡ (shape x).pages → ChoosesApart listed last pages chosen
+      → ChoosesBy (shape held).apart uses index_pages (extents_of held).last (shape held).pages chosen
+  by_apart last pages index_pages is lasts given goes =
+      subst (λ (a : Bool). ChoosesBy a uses index_pages (extents_of held).last (shape held).pages chosen) (sym (rule_held true is))
+      (subst (λ (us : List ExtentUse). ChoosesApart us (extents_of held).last (shape held).pages chosen) is_listed
+      (subst (λ (l : Option ℕ). ChoosesApart listed l (shape held).pages chosen) (lasts ∙ ap (λ (y : Extents). (extents_of y).last) same)
+      (subst (λ (n : ℕ). ChoosesApart listed last n chosen) (given ∙ ap (λ (y : Extents). (shape y).pages) same) goes)))
 
-  module _ (limited : limit ≡ named_limit x.pages) (pages : index_pages ≡ page_count (run_bytes (min named limit))) (entries : ℕ) (all : named ≡ entries) where
-    pub chooses_it : index_pages < dead → Chooses uses (run_pages entries) (Some (extent, dead))
-    chooses_it lt = subst (λ (n : ℕ). Chooses uses (run_pages n) (Some (extent, dead))) all
-        (some_chosen uses extent dead its used there is (run_pages named)
-        (pages_fewer x.pages named limit dead limited
-        (dead_within uses extent dead its used there is x whole (subst (λ (y : Extents). AreExtents (shape y).extents (extents_of y) uses) (sym same) are))
-        (subst (λ (n : ℕ). n < dead) pages lt)))
+  module _ (named limit index_pages entries : ℕ) (limited : limit ≡ named_limit x.pages) (pages : index_pages ≡ page_count (run_bytes (min named limit))) (all : named ≡ entries) where
+    -- no more pages are dead than an extent has
+    dead_within : (extent : ℕ) (used : ExtentUse) → slice_get uses extent ≡ Some used → used.pointer - used.live ≤ x.pages
+    dead_within extent used at =
+        let its : AreExtents (shape x).extents (extents_of x) uses = subst (λ (y : Extents). AreExtents (shape y).extents (extents_of y) uses) (sym same) are in
+        let given : used.pointer ≡ (extents_of x).pointer extent = (its.1 extent used at).pointer in
+        let within : (extents_of x).pointer extent ≤ x.pages = whole.pointers extent in
+        omega (arith, given, within)
 
-    pub chooses_none : dead ≤ index_pages → Chooses uses (run_pages entries) None
-    chooses_none le = subst (λ (n : ℕ). Chooses uses (run_pages n) None) all
-        (not_chosen uses extent dead its used there is (run_pages named) (pages_all named limit dead (subst (λ (n : ℕ). dead ≤ n) pages le)))
+    run_chosen : (found : Option (ℕ × ℕ)) → ChoosesTogether uses index_pages found → ChoosesTogether uses (run_pages named) found
+    run_chosen None goes = λ e used at. pages_all named limit (garbage used) (subst (λ (n : ℕ). garbage used ≤ n) pages (goes e used at))
+    run_chosen (Some (extent, dead)) (best, is, lt) =
+        let all_of : garbage best.its ≡ best.its.pointer - best.its.live = all_dead best.its best.some in
+        let within : best.its.pointer - best.its.live ≤ x.pages = dead_within extent best.its best.there in
+        (best, is, pages_fewer x.pages named limit dead limited (omega (arith, all_of, within, is)) (subst (λ (n : ℕ). n < dead) pages lt))
+
+    pub by_garbage : (last : Option ℕ) (each : ℕ) → b ≡ false → ChoosesTogether listed index_pages chosen → ChoosesBy (shape held).apart uses (run_pages entries) last each chosen
+    by_garbage last each is goes = subst (λ (a : Bool). ChoosesBy a uses (run_pages entries) last each chosen) (sym (rule_held false is))
+        (subst (λ (n : ℕ). ChoosesTogether uses (run_pages n) chosen) all (run_chosen chosen (subst (λ (us : List ExtentUse). ChoosesTogether us index_pages chosen) is_listed goes)))

@@ -15,7 +15,7 @@ ghost use Rattle.cs_drive.specs.Sweeps.{MayRefuseSweep};
 ghost use Rattle.cs_store.specs.Errors.{IsDeleteRefusal, sweep_refusal};
 ghost use Rattle.cs_store.specs.Events.{IsHalted};
 ghost use Rattle.cs_store.specs.Maps.{Accepts, HasMap};
-ghost use Rattle.cs_store.specs.Reclaims.{DeclinesChosen, GoesBy, ReadsOn, Reclaims, chosen_extent, reclaimed_extent};
+ghost use Rattle.cs_store.specs.Reclaims.{ChoosesApart, ChoosesTogether, DeclinesChosen, GoesBy, ReadsOn, Reclaims, chosen_extent, reclaimed_extent};
 ghost use Rattle.cs_store.specs.Sweeps.{DeclinesSweep, SweepsReady};
 ghost use Rattle.cs_survey.specs.Chunks.{AreLiveChunks, Chunk};
 ghost use Rattle.cs_survey.specs.Uses.{heads_of};
@@ -27,7 +27,7 @@ use cs_core::Core;
 use cs_deps::Refusal;
 use cs_disk::PageDisk;
 use cs_frame::{frame_pages, run_bytes};
-use cs_survey::{most_garbage, uses};
+use cs_survey::{ExtentUse, fewest_live, most_garbage, uses};
 use std::alloc::{AllocError, Global};
 
 /// An extent that was swept.
@@ -52,11 +52,17 @@ struct Found {
 }
 
 impl<D: PageDisk> Store<D> {
-    /// Sweeps the extent with most pages that no shard has, and says what it freed; None where no extent has more of them than the index takes that the
-    /// sweep writes anew. So each call that answers something frees pages, and a loop that ends at None ends. It sweeps as `sweep` does; a `sync` makes
-    /// it persistent. To choose, it reads the first page of each live chunk, and takes memory for a list of them.
+    /// Sweeps the extent that is worth it, and says what it freed; None where none is. It sweeps as `sweep` does; a `sync` makes it persistent. To
+    /// choose, it reads the first page of each live chunk, and takes memory for a list of them.
     ///
-    /// Refused as `sweep` is. 33 NotSweepable isn't to come, since only an extent is chosen that can be swept; the contracts leave it open.
+    /// In stores of formats 1 and 2 that is the extent with most pages that no shard has, where these are more than the index takes that the sweep writes
+    /// anew. So each call that answers something frees pages, and a loop that ends at None ends.
+    ///
+    /// In stores of format 3, where chunks and runs lie apart, it is the one with fewest live pages of those that hold chunks, where these and the live
+    /// pages of another one have room on one extent (`fewest_live` of cs_survey). Sweeps of such two give an extent, the first one or the second.
+    ///
+    /// Refused as `sweep` is. 33 NotSweepable isn't to come, since only an extent is chosen that can be swept; the contracts leave it open. In stores of
+    /// format 3 it comes while an extent is marked still (`abandon`), and after a sweep that was given up until a `sync`.
     pub fn reclaim(&mut self) -> Result<Option<Reclaimed>, SweepError>
         // What is chosen is chosen by the extents as they are and the headers of their chunks, which are read first, and then it is swept.
         ensures chosen { D.honest self.old.disk → (view : ℕ → List ℕ) (chunks : List Chunk) → AreNewest self.old.store.graph (seen (D.state self.old.disk)) view → AreLiveChunks (index_of self.old.store.index) chunks
@@ -138,18 +144,43 @@ fn worth_sweeping<D: PageDisk>(
         → IfOk result (λ found. GoesBy D.PageDisk (heads_of (shape core.old.store.extents) view chunks) (names (index_of core.old.store.index)) core.old core.new (chosen_extent found)) }
     ensures reads { ReadsOn D.PageDisk core.old core.new }
 {
+    let extents = core.extents();
+    let is_apart = extents.is_apart();
+    let last = extents.last_copied();
+    let pages = extents.extent_pages();
     // An index names no more than one run has room for, which takes all pages of an extent then: more of them can't be dead.
-    let limit = core.extents().geometry().named_limit();
+    let limit = extents.geometry().named_limit();
     let named = core.index().named_count().min(limit);
     let index_pages = frame_pages(run_bytes(named));
     let uses = uses(alloc, core)?;
-    let Some(extent) = most_garbage(&uses) else {
-        return Ok(None);
+    if is_apart {
+        return Ok(chosen_apart(&uses, last, pages));
+    }
+    Ok(chosen_together(&uses, index_pages))
+}
+
+/// The extent with most garbage, where that is more than so many pages.
+fn chosen_together(uses: &[ExtentUse], index_pages: usize) -> Option<Found>
+    ensures { ChoosesTogether uses.now index_pages (chosen_extent result) }
+{
+    let Some(extent) = most_garbage(uses) else {
+        return None;
     };
     let dead = uses[extent].dead();
     if dead > index_pages {
-        Ok(Some(Found { extent, dead }))
+        Some(Found { extent, dead })
     } else {
-        Ok(None)
+        None
     }
+}
+
+/// The extent with fewest live pages, where chunks and runs lie apart and these and those of another one have room on one of so many pages.
+fn chosen_apart(uses: &[ExtentUse], last: Option<usize>, pages: usize) -> Option<Found>
+    ensures { ChoosesApart uses.now last pages (chosen_extent result) }
+{
+    let Some(extent) = fewest_live(uses, last, pages) else {
+        return None;
+    };
+    let dead = uses[extent].dead();
+    Some(Found { extent, dead })
 }

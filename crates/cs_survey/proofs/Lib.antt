@@ -6,3 +6,4 @@ pub mod Inside
 pub mod Reading
 pub mod Risen
 pub mod Counted
+pub mod Seeking

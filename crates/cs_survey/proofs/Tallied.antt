@@ -8,7 +8,7 @@ use Rattle.std.proofs.lemmas.Option.{same_Some, slice_get_within}
 use Rattle.cs_disk.specs.Disk.{Rises}
 use Rattle.cs_model.specs.Extents.{Extents}
 use Rattle.cs_survey.specs.declared.extent_uses.ExtentUse.{ExtentUse}
-use Rattle.cs_survey.specs.Uses.{AreBounded, AreCounted, AreCountedAsRead, AreRead, AreReadAs, AreSums, AreTallied, AreUses, Head, IsExtent, lost_in, lost_one, missing_in, pages_in, sum_on}
+use Rattle.cs_survey.specs.Uses.{AreBounded, AreCounted, AreCountedAsRead, AreExtents, AreRead, AreReadAs, AreSums, AreTallied, AreUses, Head, IsExtent, lost_in, lost_one, missing_in, pages_in, sum_on}
 
 -- ---- sums
 
@@ -171,6 +171,10 @@ uses_more n x live unreadable uses new used was its is_live is_unreadable is = s
       (subst (λ (v : ExtentUse). IsExtent x n v × (v.live ≡ slice_index live n) × (v.unreadable ≡ slice_index unreadable n)) (sym b.1) (its, is_live, is_unreadable)))
       (get_last uses used u e at),
 )
+
+-- the uses are those of the extents
+pub extents_so : (n : ℕ) (x : Extents) (live unreadable : List ℕ) (uses : List ExtentUse) → AreUses n x live unreadable uses → AreExtents n x uses
+extents_so n x live unreadable uses are = (are.0, λ e used at. (are.1 e used at).0)
 
 -- what was read is what is counted
 pub counted_as_read : (n : ℕ) (x : Extents) (live unreadable : List ℕ) (uses : List ExtentUse) (before after : ℕ) (heads read : List Head) → AreUses n x live unreadable uses → length live ≡ n → length unreadable ≡ n

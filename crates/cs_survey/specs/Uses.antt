@@ -57,12 +57,13 @@ unreadable_on e heads = sum_on missing_in e heads
 
 -- ---- the use of an extent
 
--- pointer and generation are those of extent e, and so is whether it is open and swept
+-- pointer and generation are those of extent e, and so is whether it is open, swept and holds runs
 pub record IsExtent (x : Extents) (e : ℕ) (used : ExtentUse) : Type 0 where
   pub pointer : used.pointer ≡ x.pointer e
   pub generation : used.generation ≡ x.generation e
   pub is_open : IsTrue used.is_open ↔ (x.open_extent ≡ Some e)
   pub is_swept : used.is_swept ≡ x.swept e
+  pub of_runs : used.holds_runs ≡ x.of_runs e
 
 -- there is one for each of so many extents, in their order
 abbrev pub AreExtents : (extents : ℕ) → Extents → List ExtentUse → Type 0
@@ -121,9 +122,10 @@ AreCountedAsRead before after heads uses = (read : List Head) × AreRead before 
 
 -- ---- what to sweep
 
--- the pages that a sweep could free: those that are given and not live; none where frames are appended, and none where a sweep goes on
+-- the pages that a sweep could free: those that are given and not live; none where frames are appended, none where a sweep goes on, and none where
+-- runs lie apart from chunks
 abbrev pub garbage : ExtentUse → ℕ
-garbage used = if used.is_open then 0 else if used.is_swept then 0 else used.pointer - used.live
+garbage used = if used.is_open then 0 else if used.is_swept then 0 else if used.holds_runs then 0 else used.pointer - used.live
 
 -- no extent has any
 abbrev pub HasNoGarbage : List ExtentUse → Type 0

@@ -1,5 +1,6 @@
 //! How an extent is used.
-ghost use Rattle.std.specs.Prelude.{◌≡◌, ◌-◌, MatchOption};
+ghost use Rattle.std.specs.Prelude.{◌≡◌, ◌-◌, ◌↔◌, IsTrue, MatchOption};
+ghost use Rattle.cs_survey.specs.Fewest.{IsMovable};
 ghost use Rattle.cs_survey.specs.Uses.{HasNoGarbage, IsMostGarbage, garbage};
 
 /// How the pages of an extent are used, as the chunks say that are there.
@@ -13,6 +14,8 @@ pub struct ExtentUse {
     pub is_open: bool,
     /// Whether it is being swept.
     pub is_swept: bool,
+    /// Whether it holds runs of the index, and so no chunks; never in stores of formats 1 and 2, where an extent may hold both.
+    pub holds_runs: bool,
     /// How many pages the frames have together of the live chunks that begin there, by their headers; `usize::MAX` where there are more.
     pub live: usize,
     /// How many live chunks begin there whose header couldn't be read. Their pages don't count as live.
@@ -41,12 +44,22 @@ impl ExtentUse {
         if self.is_swept {
             return 0;
         }
+        if self.holds_runs {
+            return 0;
+        }
         self.dead()
+    }
+
+    /// Whether all that lives there may be moved off it: chunks lie there, none has an unreadable header, and no sweep goes on there.
+    pub(crate) fn is_movable(&self) -> bool
+        ensures { IsTrue result ↔ IsMovable self.now }
+    {
+        self.pointer > 0 && !self.holds_runs && !self.is_swept && self.unreadable == 0
     }
 }
 
 /// The extent with most dead pages of those that may be swept, the first of them where several have as many; None where none of them has a
-/// dead page. Where frames are appended, and where a sweep goes on, none is begun. Costs a pass over the extents.
+/// dead page. Where frames are appended, where a sweep goes on, and where runs lie apart from chunks, none is begun. Costs a pass over the extents.
 pub fn most_garbage(uses: &[ExtentUse]) -> Option<usize>
     ensures { MatchOption result (HasNoGarbage uses.now) (IsMostGarbage uses.now) }
 {

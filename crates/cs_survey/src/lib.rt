@@ -3,13 +3,17 @@
 
 mod chunks;
 mod extent_uses;
+mod fewest;
 mod figures;
 mod listings;
+mod quotas;
 mod surveys;
 mod tallies;
 
 pub use chunks::{first_on, live_chunks};
 pub use extent_uses::{ExtentUse, most_garbage};
+pub use fewest::fewest_live;
 pub use figures::{RunUse, Stats};
 pub use listings::{ids, ids_from};
+pub use quotas::Quota;
 pub use surveys::uses;

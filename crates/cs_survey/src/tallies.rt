@@ -45,6 +45,7 @@ pub fn uses_with(
             generation: extents.generation(extent),
             is_open: extents.is_open(extent),
             is_swept: extents.is_swept(extent),
+            holds_runs: extents.holds_runs(extent),
             live: live[extent],
             unreadable: unreadable[extent],
         };

@@ -1,5 +1,5 @@
 -- What a reclaim that ends well leaves.
-use Rattle.std.proofs.Common.{◌≡◌, ◌∙◌, ◌⊎◌, ℕ, ◌<◌, ◌≤◌, List, [], ◌∷◌, false, true, Ok, Err, sym, ap, subst, inl, inr, arith}
+use Rattle.std.proofs.Common.{◌≡◌, ◌≢◌, ◌∙◌, ◌⊎◌, ℕ, ◌<◌, ◌≤◌, List, [], ◌∷◌, false, true, Ok, Err, refl, sym, ap, subst, inl, inr, arith}
 use Rattle.std.specs.Prelude.{IsOk, OnOk, Result}
 use Rattle.cs_chunk.specs.Reads.{OnlyReads}
 use Rattle.cs_core.specs.declared.events.Event.{Event}
@@ -7,6 +7,7 @@ use Rattle.cs_core.specs.declared.events.Event.TheVariants.{Put}
 use Rattle.cs_core.specs.declared.events.Reply.{Reply}
 use Rattle.cs_core.specs.declared.events.Reply.TheVariants.{Refused}
 use Rattle.cs_core.specs.Stored.{Stored}
+use Rattle.cs_core.proofs.SectionReads.{reads_none}
 use Rattle.cs_core.specs.Views.{View}
 use Rattle.cs_deps.specs.declared.refusals.Refusal.{Refusal}
 use Rattle.cs_disk.specs.declared.disk.PageDisk.{Ghosts as PageDisk}
@@ -31,13 +32,25 @@ persists a b same is = subst (λ (v : Stored). v.frontier ≡ v.accepted) (sym s
 abbrev pub IsSoFar : {D : Type 0} → (old new : View D) → ℕ → Type 0
 IsSoFar old new count = ((count ≡ 0) × (new ≡ old)) ⊎ ((0 < count) × IsPersistent new)
 
-pub some_emptied : {D : Type 0} (old new : View D) (count : ℕ) → 0 < count → IsSoFar old new count → IsPersistent new
-some_emptied old new count some (inl none) = absurd (omega (arith, none.0, some))
+pub some_emptied : {D : Type 0} (old new : View D) (count : ℕ) → count ≢ 0 → IsSoFar old new count → IsPersistent new
+some_emptied old new count some (inl none) = absurd (some none.0)
 some_emptied old new count some (inr done) = done.1
 
-pub none_emptied : {D : Type 0} (disks : PageDisk D) (first old new : View D) (count : ℕ) → count ≤ 0 → old ≡ record first { disk = old.disk } → OnlyReads disks first.disk old.disk → IsSoFar old new count → ReadsOn disks first new
+pub none_emptied : {D : Type 0} (disks : PageDisk D) (first old new : View D) (count : ℕ) → count ≡ 0 → old ≡ record first { disk = old.disk } → OnlyReads disks first.disk old.disk → IsSoFar old new count → ReadsOn disks first new
 none_emptied {D} disks first old new count none same reads (inl is) = subst (λ (v : View D). ReadsOn disks first v) (sym is.1) (same, reads)
 none_emptied {D} disks first old new count none same reads (inr done) = absurd (omega (arith, done.0, none))
+
+-- nothing was done, or all is persistent
+abbrev pub IsAtRest : {D : Type 0} → (old new : View D) → Type 0
+IsAtRest old new = (new ≡ old) ⊎ IsPersistent new
+
+pub rest_then : {D : Type 0} (disks : PageDisk D) (first old new : View D) → ReadsOn disks old new → IsAtRest first old → IsPersistent new ⊎ ReadsOn disks first new
+rest_then {D} disks first old new reads (inl is) = inr (subst (λ (v : View D). ReadsOn disks v new) is reads)
+rest_then {D} disks first old new reads (inr done) = inl (persists old new (store_read old new reads.0) done)
+
+pub rest_at_last : {D : Type 0} (disks : PageDisk D) (first new : View D) → IsAtRest first new → IsPersistent new ⊎ ReadsOn disks first new
+rest_at_last {D} disks first new (inl is) = inr (subst (λ (v : View D). ReadsOn disks first v) (sym is) (refl, reads_none disks first.disk))
+rest_at_last {D} disks first new (inr done) = inl done
 
 module _ {D : Type 0} (disks : PageDisk D) where
   -- a put that is refused changes nothing of the store

@@ -1,5 +1,5 @@
 //! The command `reclaim`.
-ghost use Rattle.std.specs.Prelude.{◌≡◌, ◌⊎◌, ◌<◌, ◌↔◌, IfOk, IfSome, IsOk, OnOk, Some, length};
+ghost use Rattle.std.specs.Prelude.{◌≡◌, ◌⊎◌, ◌<◌, ◌↔◌, IfOk, IfSome, IsOk, MatchBool, OnOk, Some, length};
 ghost use Rattle.cs_deps.specs.declared.refusals.Refusal.{Refusal as Why};
 ghost use Rattle.cs_index.specs.State.{id_number};
 ghost use Rattle.cs_model.specs.Element.{Bytes as Held, Map};
@@ -17,7 +17,7 @@ use cs_disk::PageDisk;
 use cs_drive::{ask, make_room, sweep, sync};
 use cs_frame::ShardId;
 use cs_index::Index;
-use cs_survey::{ExtentUse, ids_from, most_garbage, uses};
+use cs_survey::{ExtentUse, fewest_live, ids_from, most_garbage, uses};
 use std::alloc::Global;
 use std::io;
 use std::io::Write;
@@ -39,9 +39,13 @@ enum Stop {
     Failed,
 }
 
-/// Empties all extents of which no shard has half of the pages or more, those with most garbage first, each with a sync behind it, and prints what
-/// it freed. Of a store that was just opened the rest of each extent behind its pointer isn't written any more, so it counts as garbage.
-/// What was emptied before a refusal stays emptied.
+/// Empties extents, each with a sync behind it, and prints what it freed. What was emptied before a refusal stays emptied.
+///
+/// In stores of formats 1 and 2 these are all extents of which no shard has half of the pages or more, those with most garbage first. Of a store that
+/// was just opened the rest of each extent behind its pointer isn't written any more, so it counts as garbage.
+///
+/// In stores of format 3, where chunks and runs lie apart, it goes on as long as the live pages of two extents with chunks have room on one, those with
+/// fewest first (`fewest_live` of cs_survey), and sweeps at most twice as often as there are extents.
 pub fn reclaim<D: PageDisk, W: Write>(
     alloc: Global,
     core: &mut Core<D>,
@@ -88,19 +92,122 @@ fn reclaim_and_print<D: PageDisk, W: Write>(
     ensures kept { D.honest core.old.disk → OnOk result (IsPersistent core.new ⊎ ReadsOn D.PageDisk core.old core.new) }
     ensures tidies { Tidies D.PageDisk core.old core.new }
 {
+    let before = core.extents().empty_count();
+    empty_by_rule(alloc, core, style, writer)?;
+    let after = core.extents().empty_count();
+    printed(print_empty(writer, before, after, style))
+}
+
+/// Empties what is worth it by the rule of the format.
+fn empty_by_rule<D: PageDisk, W: Write>(
+    alloc: Global,
+    core: &mut Core<D>,
+    style: Style,
+    writer: &mut W,
+) -> Result<(), Stop>
+    ensures kept { D.honest core.old.disk → OnOk result (IsPersistent core.new ⊎ ReadsOn D.PageDisk core.old core.new) }
+    ensures tidies { Tidies D.PageDisk core.old core.new }
+{
+    if core.extents().is_apart() {
+        return empty_apart(alloc, core, style, writer);
+    }
+    empty_together(alloc, core, style, writer)
+}
+
+/// Empties what is worth it where chunks and runs may lie on one extent.
+fn empty_together<D: PageDisk, W: Write>(
+    alloc: Global,
+    core: &mut Core<D>,
+    style: Style,
+    writer: &mut W,
+) -> Result<(), Stop>
+    ensures kept { D.honest core.old.disk → OnOk result (IsPersistent core.new ⊎ ReadsOn D.PageDisk core.old core.new) }
+    ensures tidies { Tidies D.PageDisk core.old core.new }
+{
     // Called for its contract alone: what a crash leaves now.
     core.progress();
-    let before = core.extents().empty_count();
     let pages = core.extents().extent_pages();
     let Ok(mut uses) = uses(alloc, core) else {
         return Err(Stop::Refused(Refusal::OutOfMemory));
     };
     give_up(&mut uses, pages);
-    if empty_all(core, &mut uses, pages, style, writer)? > 0 {
-        put_again(alloc, core)?;
+    let count = empty_all(core, &mut uses, pages, style, writer)?;
+    if count == 0 {
+        return Ok(());
     }
-    let after = core.extents().empty_count();
-    printed(print_empty(writer, before, after, style))
+    put_again(alloc, core)
+}
+
+/// Empties what is worth it where chunks and runs lie apart: extent after extent, at most twice as many as there are.
+fn empty_apart<D: PageDisk, W: Write>(
+    alloc: Global,
+    core: &mut Core<D>,
+    style: Style,
+    writer: &mut W,
+) -> Result<(), Stop>
+    ensures kept { D.honest core.old.disk → OnOk result (IsPersistent core.new ⊎ ReadsOn D.PageDisk core.old core.new) }
+    ensures tidies { Tidies D.PageDisk core.old core.new }
+{
+    let most = core.extents().extent_count().saturating_mul(2);
+    for _ in 0..most {
+        let more = empty_next(alloc, core, style, writer)?;
+        if !more {
+            return Ok(());
+        }
+    }
+    Ok(())
+}
+
+/// Empties the extent of chunks with fewest live pages, where these and those of another one have room on one, prints what it freed, and says whether
+/// there was one.
+fn empty_next<D: PageDisk, W: Write>(
+    alloc: Global,
+    core: &mut Core<D>,
+    style: Style,
+    writer: &mut W,
+) -> Result<bool, Stop>
+    ensures rests { D.honest core.old.disk → IfOk result (λ more. MatchBool more (IsPersistent core.new) (ReadsOn D.PageDisk core.old core.new)) }
+    ensures tidies { Tidies D.PageDisk core.old core.new }
+{
+    // Called for its contract alone: what a crash leaves now.
+    core.progress();
+    let last = core.extents().last_copied();
+    let pages = core.extents().extent_pages();
+    let Ok(uses) = uses(alloc, core) else {
+        return Err(Stop::Refused(Refusal::OutOfMemory));
+    };
+    let Some((extent, dead)) = worth_apart(&uses, last, pages) else {
+        return Ok(false);
+    };
+    empty_one(core, extent, dead, style, writer)?;
+    Ok(true)
+}
+
+/// The extent of chunks with fewest live pages, where these and those of another one have room on one, and how many of its pages no shard has.
+fn worth_apart(uses: &[ExtentUse], last: Option<usize>, pages: usize) -> Option<(usize, usize)> {
+    let extent = fewest_live(uses, last, pages)?;
+    let dead = uses[extent].dead();
+    Some((extent, dead))
+}
+
+/// Sweeps an extent, makes that persistent, and prints what it freed.
+fn empty_one<D: PageDisk, W: Write>(
+    core: &mut Core<D>,
+    extent: usize,
+    dead: usize,
+    style: Style,
+    writer: &mut W,
+) -> Result<(), Stop>
+    ensures rests { D.honest core.old.disk → OnOk result (IsPersistent core.new) }
+    ensures tidies { Tidies D.PageDisk core.old core.new }
+{
+    let moved = sweep_and_sync(core, extent)?;
+    let emptied = Emptied {
+        extent,
+        dead,
+        moved,
+    };
+    printed(print_emptied(writer, emptied, style))
 }
 
 /// Counts the rest of each extent that isn't empty as given.
@@ -129,13 +236,7 @@ fn empty_all<D: PageDisk, W: Write>(
             return Ok(count);
         };
         let dead = uses[extent].dead();
-        let moved = sweep_and_sync(core, extent)?;
-        let emptied = Emptied {
-            extent,
-            dead,
-            moved,
-        };
-        printed(print_emptied(writer, emptied, style))?;
+        empty_one(core, extent, dead, style, writer)?;
         uses[extent].pointer = 0;
         count = count.saturating_add(1);
     }

@@ -14,16 +14,17 @@ use cs_core::Core;
 use cs_deps::Refusal;
 use cs_disk::PageDisk;
 use cs_frame::Geometry;
-use cs_survey::{ExtentUse, RunUse, Stats};
+use cs_survey::{ExtentUse, Quota, RunUse, Stats};
 use std::alloc::Global;
 use std::io;
 use std::io::Write;
 
-/// What a core says of its history.
+/// What a core says of its history, and how many extents may hold what.
 #[derive(Clone, Copy)]
 struct Kept {
     events: usize,
     limit: usize,
+    quota: Option<Quota>,
 }
 
 /// Prints how a store lies on its disk and how full it is.
@@ -44,6 +45,7 @@ pub fn stat<D: PageDisk, W: Write>(
     let kept = Kept {
         events: core.history().len(),
         limit: core.limit(),
+        quota: Quota::of(core.extents()),
     };
     match Stats::of(alloc, core) {
         Ok(stats) => report(geometry, kept, &stats, style, writer),
@@ -84,7 +86,7 @@ fn print_all<W: Write>(
     }
 }
 
-/// A line each: the geometry, the extents that aren't empty, how many are, the runs, and the counts.
+/// A line each: the geometry, the extents that aren't empty, how many are, how many may hold what, the runs, and the counts.
 fn print_lines<W: Write>(
     writer: &mut W,
     geometry: Geometry,
@@ -103,6 +105,7 @@ fn print_figures<W: Write>(writer: &mut W, kept: Kept, stats: &Stats) -> io::Res
 {
     print_extents(writer, &stats.extents)?;
     print_empty(writer, stats.empty)?;
+    print_quota(writer, kept.quota)?;
     print_run_lines(writer, &stats.runs)?;
     print_counts(writer, kept, stats)?;
     writer.flush()
@@ -157,6 +160,25 @@ fn is_low(empty: usize) -> bool
     ensures { IsTrue result ↔ (empty < 4) }
 {
     empty < 4
+}
+
+/// The line of how many extents hold chunks and runs, and how many may, where these lie apart.
+fn print_quota<W: Write>(writer: &mut W, quota: Option<Quota>) -> io::Result<()>
+    ensures { OnOk result (GoesOn (W.contents writer.old) (W.contents writer.new)) }
+{
+    let Some(quota) = quota else {
+        return Ok(());
+    };
+    let Quota {
+        chunks,
+        most_chunks,
+        runs,
+        most_runs,
+    } = quota;
+    writeln!(
+        writer,
+        "quota: chunks {chunks} of {most_chunks}, runs {runs} of {most_runs}"
+    )
 }
 
 /// The lines of the extents that aren't empty.
@@ -254,7 +276,7 @@ fn print_figure_members<W: Write>(writer: &mut W, kept: Kept, stats: &Stats) -> 
 {
     write!(writer, "\"uses\":[")?;
     print_uses(writer, &stats.extents)?;
-    print_empty_members(writer, stats.empty)?;
+    print_empty_members(writer, stats.empty, kept.quota)?;
     print_runs(writer, &stats.runs)?;
     print_count_members(writer, kept, stats)?;
     writer.flush()
@@ -298,6 +320,7 @@ fn print_use<W: Write>(writer: &mut W, number: usize, used: ExtentUse) -> io::Re
         is_swept,
         live,
         unreadable,
+        ..
     } = used;
     write!(
         writer,
@@ -305,12 +328,37 @@ fn print_use<W: Write>(writer: &mut W, number: usize, used: ExtentUse) -> io::Re
     )
 }
 
-/// The end of the extents, how many are empty and whether they are few, and the beginning of the runs.
-fn print_empty_members<W: Write>(writer: &mut W, empty: usize) -> io::Result<()>
+/// The end of the extents, how many are empty and whether they are few, how many may hold what, and the beginning of the runs.
+fn print_empty_members<W: Write>(
+    writer: &mut W,
+    empty: usize,
+    quota: Option<Quota>,
+) -> io::Result<()>
     ensures { OnOk result (GoesOn (W.contents writer.old) (W.contents writer.new)) }
 {
     let low = is_low(empty);
-    write!(writer, "],\"empty\":{empty},\"low\":{low},\"runs\":[")
+    write!(writer, "],\"empty\":{empty},\"low\":{low},")?;
+    print_quota_member(writer, quota)?;
+    write!(writer, "\"runs\":[")
+}
+
+/// The member of how many extents hold chunks and runs, and how many may, where these lie apart.
+fn print_quota_member<W: Write>(writer: &mut W, quota: Option<Quota>) -> io::Result<()>
+    ensures { OnOk result (GoesOn (W.contents writer.old) (W.contents writer.new)) }
+{
+    let Some(quota) = quota else {
+        return Ok(());
+    };
+    let Quota {
+        chunks,
+        most_chunks,
+        runs,
+        most_runs,
+    } = quota;
+    write!(
+        writer,
+        "\"quota\":{{\"chunks\":{chunks},\"most_chunks\":{most_chunks},\"runs\":{runs},\"most_runs\":{most_runs}}},"
+    )
 }
 
 /// A JSON object for each run.

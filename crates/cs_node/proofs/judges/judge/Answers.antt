@@ -1,8 +1,6 @@
-use Rattle.std.proofs.Common.{◌≡◌, ◌≤◌, ◌+◌, ℕ, List, arith, drop, length, sym, ap, ◌∙◌, subst, eq-eqb}
+use Rattle.std.proofs.Common.{◌≡◌, ◌∙◌, eq-eqb}
 use Rattle.std.specs.Prelude.{◌↔◌, IsTrue}
 use borrow.Author.Tests.{eqb-true}
-use Rattle.cs_core.specs.declared.events.Event.{Event}
-use Rattle.cs_core.specs.declared.events.Reply.{Reply}
 use Rattle.cs_node.specs.Accounts.{AreCalls}
 use Rattle.cs_node.proofs.Sums.{accounted, lacks, passes}
 use Rattle.cs_node.proofs.judges.judge.Goals as goal

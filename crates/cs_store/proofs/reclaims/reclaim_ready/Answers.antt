@@ -1,4 +1,4 @@
-use Rattle.std.proofs.Common.{Option, refl, inl, inr, subst}
+use Rattle.std.proofs.Common.{[], Option, refl, inl, inr, subst}
 use Rattle.std.proofs.lemmas.Option.{same_Some}
 use Rattle.cs_drive.proofs.Runs.{ran_then}
 use Rattle.cs_extent.specs.State.{shape}
@@ -9,7 +9,8 @@ use Rattle.cs_store.specs.declared.reclaims.Found.{Found}
 use Rattle.cs_store.specs.declared.reclaims.Reclaimed.{Reclaimed}
 use Rattle.cs_store.specs.Reclaims.{GoesBy, chosen_extent}
 use Rattle.cs_store.specs.Sweeps.{SweepsReady}
-use Rattle.cs_store.proofs.Reclaiming.{read_ran}
+use Rattle.cs_store.proofs.Accepting.{accepts_later}
+use Rattle.cs_store.proofs.Reclaiming.{read_accepts, read_ran}
 use Rattle.cs_store.proofs.reclaims.reclaim_ready.Goals as goal
 
 pub returns-in_default-clause-refused : goal.returns-in_default-clause-refused
@@ -72,3 +73,8 @@ returns-in-Err-clause-declined g c = λ honest view chunks are live.
     let goes = subst (λ (o : Option Found). GoesBy g.D.PageDisk (heads_of (shape first.store.extents) view chunks) (names (index_of first.store.index)) first c.worth_sweeping.new.core (chosen_extent o)) c.in-Some.is
     (c.in-Ok.ensures.chosen honest view chunks are live) in
     (c.worth_sweeping.new.core, c.worth_sweeping.ensures.reads, inr (c.in-Some.field-0.extent, c.in-Some.field-0.dead, goes, c.in-Err.ensures.declined))
+
+pub returns-in-Ok-sweep_ready-clause-accepts : goal.returns-in-Ok-sweep_ready-clause-accepts
+returns-in-Ok-sweep_ready-clause-accepts g c = accepts_later g.D.PageDisk [] c.args.core.now c.worth_sweeping.new.core c.sweep_ready.new.core
+    (read_accepts g.D.PageDisk c.args.core.now c.worth_sweeping.new.core c.worth_sweeping.ensures.reads)
+    c.sweep_ready.ensures.accepts

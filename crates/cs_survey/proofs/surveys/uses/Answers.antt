@@ -2,15 +2,16 @@ use Rattle.std.proofs.Common.{◌≡◌, ◌∙◌, ℕ, IfOk, List, ap, length,
 use Rattle.std.specs.List.{AllByRecursion}
 use Rattle.std.proofs.lemmas.Result.{IfOk-weaker}
 use Rattle.cs_chunk.specs.Newest.{AreNewest}
+use Rattle.cs_core.specs.Views.{View}
 use Rattle.cs_disk.specs.Disk.{seen}
 use Rattle.cs_extent.specs.State.{State as Extents, extents_of, shape}
 use Rattle.cs_index.specs.declared.live.LiveChunk.{LiveChunk}
 use Rattle.cs_index.specs.State.{index_of}
 use Rattle.cs_survey.specs.Chunks.{AreLiveChunks, BeginsInside, Chunk, chunk_of}
-use Rattle.cs_survey.specs.Uses.{AreCountedAsRead, heads_of}
+use Rattle.cs_survey.specs.Uses.{AreCountedAsRead, AreExtents, heads_of}
 use Rattle.cs_survey.proofs.Inside.{begin_inside, read_of}
 use Rattle.cs_survey.proofs.Reading.{shape_there, tallied_so}
-use Rattle.cs_survey.proofs.Tallied.{bounded_then, counted_as_read, counted_then}
+use Rattle.cs_survey.proofs.Tallied.{bounded_then, counted_as_read, counted_then, extents_so}
 use Rattle.cs_survey.proofs.surveys.uses.Goals as goal
 use Rattle.cs_survey.proofs.surveys.uses.Goals.{After-uses_with}
 use Rattle.cs_survey.proofs.surveys.uses.Given.{Over}
@@ -58,3 +59,9 @@ pub returns-clause-bounded : goal.returns-clause-bounded
 returns-clause-bounded g c = λ honest view chunks are live.
     let end = (goal.at.returns-clause-bounded g c).After-uses_with in
     IfOk-weaker c.uses_with.result _ _ (λ uses read. bounded_then (count_before g end) (count_after g end) (heads_of (shape c.args.core.now.store.extents) view chunks) uses.items read) (counts g end honest view chunks are live)
+
+pub returns-clause-extents : goal.returns-clause-extents
+returns-clause-extents g c = IfOk-weaker c.uses_with.result _ _
+    (λ uses of. subst (λ (y : Extents). AreExtents (shape y).extents (extents_of y) uses.items) (c.extents.ensures ∙ ap (λ (v : View g.row.D.Denot). v.store.extents) c.tally_chunks.ensures.same)
+    (extents_so (shape c.extents.result.now).extents (extents_of c.extents.result.now) c.deref-2.result.now c.deref-3.result.now uses.items of))
+    c.uses_with.ensures

@@ -13,9 +13,10 @@ loop-extent-preserved c =
       generation = c.generation.result;
       is_open = c.is_open.result;
       is_swept = c.is_swept.result;
+      holds_runs = c.holds_runs.result;
       live = slice_index c.args.live.now e;
       unreadable = slice_index c.args.unreadable.now e;
     })
     c.loop-extent.invariant
-    (record { pointer = c.pointer.ensures; generation = c.generation.ensures; is_open = c.is_open.ensures; is_swept = c.is_swept.ensures })
+    (record { pointer = c.pointer.ensures; generation = c.generation.ensures; is_open = c.is_open.ensures; is_swept = c.is_swept.ensures; of_runs = c.holds_runs.ensures })
     refl refl c.in_ok-push.ensures.items

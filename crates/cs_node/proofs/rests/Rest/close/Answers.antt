@@ -1,6 +1,5 @@
-use Rattle.std.proofs.Common.{◌≡◌, ◌∙◌, ℕ, List, ap, sym, subst}
+use Rattle.std.proofs.Common.{◌≡◌, ◌∙◌, ℕ, ap, sym, subst}
 use Rattle.cs_numbers.specs.Numbers.{once_to}
-use Rattle.cs_numbers.specs.declared.stretches.Stretch.{Stretch}
 use Rattle.cs_disk.specs.declared.disk.PageDisk.{Ghosts as PageDisk}
 use Rattle.cs_disk.specs.Disk.{Leaves, page}
 use Rattle.cs_refine.specs.Crashes.{IsPrefix}

@@ -10,6 +10,9 @@ pub returns-in_err-space-clause-crash : goal.returns-in_err-space-clause-crash
 returns-in_err-space-clause-crash g c = rw (← c.self.view_is) (λ honest.
     crash_still g.D.PageDisk c.self.inside.core.disk c.of.new.core.disk _ c.of.ensures.disk honest (c.progress-accepted.ensures.left honest) (λ image since. g.met.D.PageDisk.only_now c.self.inside.core.disk image honest since))
 
+pub returns-clause-extents : goal.returns-clause-extents
+returns-clause-extents g c = rw (← c.self.view_is) c.in_ok-space.ensures.extents
+
 pub returns-clause-read : goal.returns-clause-read
 returns-clause-read g c = rw (← c.self.view_is) c.in_ok-space.ensures.read
 
