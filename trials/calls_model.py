@@ -63,11 +63,11 @@ class Calls(Store):
         for _ in range(self.sections + 1):
             self.device_call()
         self.newest, self.halted, self.events = {}, False, 0
-        self.found = super().open()
+        self.opened = super().open()
         for entries, locator in self.runs:
             first = self.page_of(locator)
             self.read_pages(first, run_pages(len(entries)))
-        return self.found
+        return self.opened
 
     # ---- events
 
@@ -78,7 +78,7 @@ class Calls(Store):
         self.events += 1
 
     def is_settled(self):
-        return not self.table and not self.left_over() and self.round is None and not any(not self.is_persistent(e) for e in self.elements)
+        return not self.table and self.round is None and not any(not self.is_persistent(e) for e in self.elements)
 
     def make_ready(self):
         """Takes a checkpoint where half of the limit is used and nothing waits; where all is used, syncs and takes one."""
@@ -250,20 +250,36 @@ class Calls(Store):
         raise Refused(*NOT_SWEEPABLE)
 
     def call_reclaim(self):
-        """Sweeps the extent with most pages that no shard has, the first of several, where they are more than the index takes."""
+        """Sweeps the extent that is worth it."""
         self.must_go_on()
-        index_pages = run_pages(len(self.named()))
+        extent, dead = self.worth_apart() if self.rules.apart else self.worth_beside()
+        if extent is None:
+            return "none"
+        moved, root = self.sweep(extent)
+        return f"extent {extent} dead {dead} moved {moved} root {root}"
+
+    def worth_beside(self):
+        """The extent with most pages that no shard has, the first of several, where they are more than the index takes; and how many they are."""
         live, _ = self.uses()
         garbage = [0 if e == self.open_extent else self.pointer[e] - live[e] for e in range(self.extents)]
         extent = garbage.index(max(garbage))
-        if garbage[extent] <= index_pages:
-            return "none"
-        moved, root = self.sweep(extent)
-        return f"extent {extent} dead {garbage[extent]} moved {moved} root {root}"
+        return (extent, garbage[extent]) if garbage[extent] > run_pages(len(self.named())) else (None, 0)
+
+    def worth_apart(self):
+        """The extent of chunks with fewest live pages, the first of several, but not the one to which the last copy of a sweep went, where these pages and
+        those of another one have room on one extent; and how many of its pages no shard has."""
+        live, unreadable = self.uses()
+        movable = sorted((live[e], e) for e in range(self.extents)
+                         if self.pointer[e] and e not in self.of_runs and e not in self.swept and not unreadable[e])
+        extent = next((e for _, e in movable if e != self.last), None)
+        other = next((e for _, e in movable if e != extent), None)
+        if extent is None or other is None or live[extent] + live[other] > self.pages:
+            return None, 0
+        return extent, self.pointer[extent] - live[extent]
 
     def call_numbers(self):
         return (f"accepted {self.accepted} persistent {self.frontier()} events {self.events} limit {self.limit} halted {truth(self.halted)}"
-                f" found {self.found[0]} {self.found[1]}")
+                f" found {self.opened[0]} {self.opened[1]}")
 
     def call_room(self):
         return f"extents {self.extents} pages {self.pages} sections {self.sections} empty {self.pointer.count(0)}"

@@ -111,12 +111,15 @@ class Store:
             must(shape == [self.form, self.extents, self.pages, self.sections] and found == number, 43)
             self.records += records
         self.commands, self.runs = root(self.page(1), self.form)
-        self.entries = {}
+        self.entries, held = {}, []
         for place in self.runs:
             must(self.is_there(place), 43)
-            self.entries.update(run(frame(self.rest(place), 1)))
+            held.append(run(frame(self.rest(place), 1)))
+            self.entries.update(held[-1])
         must(len(self.entries) <= (PAGE * self.pages - 45) // 81, 43)
-        must(all(self.is_there(place) for places in self.entries.values() for place in places), 43)
+        # In format 3 an entry that a newer run hides may name what isn't there any more.
+        asked = [self.entries] if self.form == 3 else held
+        must(all(self.is_there(place) for entries in asked for places in entries.values() for place in places), 43)
 
     def page(self, number):
         return self.image[PAGE * number:PAGE * (number + 1)]

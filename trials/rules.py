@@ -20,9 +20,10 @@ class Rules(NamedTuple):
     pages_first: bool
     # A Stage merges the newest runs by their sizes; else it merges none of up to three and all of four.
     by_size: bool
-    # Chunks and runs lie on extents of their own, what nothing names is freed at rest, and what a sweep moved counts from its end on.
+    # Chunks and runs lie on extents of their own, an extent that nothing names is emptied under each root and at opening, and what a sweep copied counts from
+    # its end on.
     apart: bool
-    # Where they lie apart: an extent that had room left as the store was opened is filled on.
+    # Where they lie apart: an extent that had room left as the store was opened is filled on. No program goes by it.
     fills: bool
 
 
@@ -30,7 +31,7 @@ RULES = {
     2: Rules(extents=range(4, 2049), pages=range(2, 257), sections=range(1, 9), most_runs=4,
              pages_first=True, by_size=False, apart=False, fills=False),
     3: Rules(extents=range(5, 7681), pages=range(2, 65536), sections=range(1, 16), most_runs=24,
-             pages_first=False, by_size=True, apart=False, fills=False),
+             pages_first=False, by_size=True, apart=True, fills=False),
 }
 
 

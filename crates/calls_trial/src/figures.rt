@@ -34,6 +34,7 @@ fn print_use<R: Print>(rt: &R, used: ExtentUse) -> io::Result<()> {
         is_swept,
         live,
         unreadable,
+        ..
     } = used;
     println!(rt;
         "pointer {pointer} generation {generation} open {is_open} swept {is_swept} live {live} dead {dead} unreadable {unreadable}"

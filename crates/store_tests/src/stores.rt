@@ -90,10 +90,10 @@ pub fn new_extents(rt: &impl Abort, alloc: Global, geometry: Geometry) -> Extent
 }
 
 /// An empty store of one section or of three for so many identifiers, with version 1 of each section and of the root persistent.
-fn new_store(rt: &impl Abort, alloc: Global, geometry: Geometry, limit: usize) -> Store {
+fn new_store(rt: &impl Abort, alloc: Global, geometry: Geometry, limit: u16) -> Store {
     let extents = new_extents(rt, alloc, geometry);
     let graph = new_graph(rt, alloc, geometry.sections());
-    let index = Index::load(alloc, limit, Vec::new(alloc)).expect(rt, "an index");
+    let index = Index::load(alloc, usize::from(limit), Vec::new(alloc)).expect(rt, "an index");
     Store {
         index,
         extents,
@@ -153,7 +153,7 @@ fn play<D: PageDisk>(
 fn plays_on(
     rt: &(impl Abort + AllocGlobal),
     geometry: Geometry,
-    limit: usize,
+    limit: u16,
     call: u64,
     script: &str,
 ) {
@@ -168,7 +168,7 @@ pub fn plays(rt: &(impl Abort + AllocGlobal), call: u64, script: &str) {
 }
 
 /// Does what a script says on an empty store whose index has at most so many identifiers.
-pub fn plays_small(rt: &(impl Abort + AllocGlobal), limit: usize, script: &str) {
+pub fn plays_small(rt: &(impl Abort + AllocGlobal), limit: u16, script: &str) {
     plays_on(rt, geometry(rt, 6, 1), limit, 0, script);
 }
 
