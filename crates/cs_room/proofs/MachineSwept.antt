@@ -14,20 +14,27 @@ use Rattle.cs_room.specs.Sweeps.{IsPairSwept, IsSwept, Moves, PairsSwept, Syncs}
 use Rattle.cs_room.specs.SweepsOfMachine.{IsCopying, IsPairSweptIn, IsSweptIn, IsSyncing, PairsSweptIn}
 
 module _ (S : Shape) (F : Formats) (shape : IsShape S) (format : IsFormat S F) (apart : S.apart ≡ true) where
-  copy_step : (e : ℕ) (event : Event) (reply : Reply) (r q : Room) → IsCopying e event reply → InRoom S F event reply r q
-      → RoomDoes S S.run_extents r MoveInRoom q
-  copy_step e (MoveOne d) (Moved id k) r q is does = does
+  copy_step : (e : ℕ) (event : Event) (reply : Reply) (r q : Room) → IsCopying e event → InRoom S F event reply r q
+      → (q ≡ r) ⊎ RoomDoes S S.run_extents r MoveInRoom q
+  copy_step e (MoveOne d) (Moved id k) r q is does = inr does
+  copy_step e (MoveOne d) reply r q is does = inl does
   copy_step e event reply r q none does = absurd none
 
   moves : (e : ℕ) (s t : State) (r : Room) (history : List (Event × Reply)) → HasRoomNow S F s r → History S F s history t
-      → NoneWorn S t → ((x : Event × Reply) → x ∈ history → IsCopying e x.0 x.1)
+      → NoneWorn S t → ((x : Event × Reply) → x ∈ history → IsCopying e x.0)
       → (n : ℕ) × (q : Room) × Moves S S.run_extents n r q × HasRoomNow S F t q
   moves e s t r [] has is young all = (0, r, refl, subst (λ (x : State). HasRoomNow S F x r) (sym is) has)
   moves e s t r (x ∷ xs) has (mid, step, rest) young all =
       let one = step_room S F shape format apart s mid r has (young_history S F shape format apart mid t xs rest young) x.0 x.1
       step in
       let others = moves e mid t one.0 xs one.2 rest young (λ y there. all y (inr there)) in
-      (suc others.0, others.1, (one.0, copy_step e x.0 x.1 r one.0 (all x (inl refl)) one.1, others.2), others.3)
+      go one.0 (copy_step e x.0 x.1 r one.0 (all x (inl refl)) one.1) others
+    where
+      go : (m : Room) → (m ≡ r) ⊎ RoomDoes S S.run_extents r MoveInRoom m
+          → ((n : ℕ) × (q : Room) × Moves S S.run_extents n m q × HasRoomNow S F t q)
+          → (n : ℕ) × (q : Room) × Moves S S.run_extents n r q × HasRoomNow S F t q
+      go m (inl same) (n, q, more, done) = (n, q, subst (λ (x : Room). Moves S S.run_extents n x q) same more, done)
+      go m (inr does) (n, q, more, done) = (suc n, q, (m, does, more), done)
 
   sync_step : (event : Event) (reply : Reply) (r q : Room) → IsSyncing event → InRoom S F event reply r q
       → (q ≡ r) ⊎ ((newest : ℕ) × (pages : ℕ) × (all : ℕ) × RoomDoes S S.run_extents r (StageInRoom newest pages all) q)

@@ -3,16 +3,16 @@ use Rattle.std.specs.Prelude.{◌≡◌, ◌⊎◌, ◌<◌, ◌≤◌, ℕ, zer
 use Rattle.cs_model.specs.Device.{Shape}
 use Rattle.cs_model.specs.Formats.{Formats}
 use Rattle.cs_model.specs.Lists.{◌∈◌}
-use Rattle.cs_model.specs.State.{Begin, BeginSweep, End, Event, Get, Issue, MoveOne, Moved, Reply, Retire, Retired, Settle, Stage, State, Sweeping}
+use Rattle.cs_model.specs.State.{Begin, BeginSweep, End, Event, Get, Issue, MoveOne, Reply, Retire, Retired, Settle, Stage, State, Sweeping}
 use Rattle.cs_model.specs.Step.{History, Step}
 use Rattle.cs_room.specs.OfMachine.{IsRoomOf}
 use Rattle.cs_room.specs.Rooms.{Room, chunk_extents}
 use Rattle.cs_room.specs.Sweeps.{IsLeastPair}
 
--- a chunk of e was copied
-abbrev pub IsCopying : ℕ → Event → Reply → Type 0
-IsCopying e (MoveOne d) (Moved id chunk) = d ≡ e
-IsCopying e event reply = ⊥
+-- a move of e: a chunk of it was copied, or none was left, or the move was refused
+abbrev pub IsCopying : ℕ → Event → Type 0
+IsCopying e (MoveOne d) = d ≡ e
+IsCopying e event = ⊥
 
 -- the events of a sync, and those that only read
 abbrev pub IsSyncing : Event → Type 0
@@ -34,7 +34,7 @@ pub record IsSweptIn (S : Shape) (F : Formats) (s : State) (e : ℕ) (t : State)
   pub syncs : List (Event × Reply)
   pub begins : Step S F s (BeginSweep e) Sweeping begun
   pub goes : History S F begun copies moved
-  pub copying : (x : Event × Reply) → x ∈ copies → IsCopying e x.0 x.1
+  pub copying : (x : Event × Reply) → x ∈ copies → IsCopying e x.0
   pub retires : Step S F moved (Retire e) (Retired version) retired
   pub follows : History S F retired syncs t
   pub syncing : (x : Event × Reply) → x ∈ syncs → IsSyncing x.0

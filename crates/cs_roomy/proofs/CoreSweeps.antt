@@ -16,7 +16,7 @@ use Rattle.cs_room.specs.Rooms.{Empty, Room, chunk_extents, how_many, is_of_chun
 use Rattle.cs_room.specs.Sweeps.{IsLeastPair}
 use Rattle.cs_room.specs.SweepsOfMachine.{HoldFewer, HoldNoFewer, IsCopying as CopyingInMachine, IsLeastPairIn, IsPairSweptIn, IsSweptIn, IsSyncing as SyncingInMachine, PairsSweptIn}
 use Rattle.cs_core.specs.declared.events.Event.TheVariants.{Begin, BeginSweep, End, Get, Issue, MoveOne, Retire, Settle, Stage}
-use Rattle.cs_core.specs.declared.events.Reply.TheVariants.{Moved, Refused, Retired, Sweeping}
+use Rattle.cs_core.specs.declared.events.Reply.TheVariants.{Refused, Retired, Sweeping}
 use Rattle.cs_core.specs.Views.{View}
 use Rattle.cs_roomy.proofs.CoreSteps.{IsAt, IsStepTo, Leads, Translates, answered, calls_lead, split}
 use Rattle.cs_roomy.specs.Cores.{IsRoomIn}
@@ -51,9 +51,8 @@ module _ {D : Type 0} (disks : PageDisk D) (S : Shape) where
       ∙ ap (λ (T : Shape). chunk_extents_in T (extents_of v.store.extents)) (sym at.same)
 
   copies_translate : (e : ℕ) (c : Call) → IsCopying e c
-      → Translates disks S c (λ (x : model.Event × model.Reply). CopyingInMachine e x.0 x.1)
-  copies_translate e (Asks (MoveOne d) (Moved id chunk)) is = λ m says.
-      subst (λ (k : model.Reply). CopyingInMachine e (model.MoveOne d) k) (sym says) is
+      → Translates disks S c (λ (x : model.Event × model.Reply). CopyingInMachine e x.0)
+  copies_translate e (Asks (MoveOne d) reply) is = λ m says. is
   copies_translate e (Asks event reply) none = absurd none
   copies_translate e Rests is = tt
 
@@ -78,12 +77,12 @@ module _ {D : Type 0} (disks : PageDisk D) (S : Shape) where
           let parts = split disks S swept.copies (Asks (Retire e) (Retired swept.version) ∷ swept.syncs) begun w more in
           let one = answered disks S v begun (BeginSweep e) Sweeping s at stays
           (λ wrong. let no : Sweeping ≡ Refused HistoryFull = wrong in cc) begins in
-          let two = calls_lead disks S (λ (x : model.Event × model.Reply). CopyingInMachine e x.0 x.1) swept.copies begun parts.0
+          let two = calls_lead disks S (λ (x : model.Event × model.Reply). CopyingInMachine e x.0) swept.copies begun parts.0
           one.then_in one.here (λ c there. copies_translate e c (swept.copying c there)) parts.1 in
           retire parts.0 one two parts.2
         where
           retire : (moved : View D) (one : IsStepTo disks S s (BeginSweep e) Sweeping begun)
-              (two : Leads disks S (λ (x : model.Event × model.Reply). CopyingInMachine e x.0 x.1) one.then_in moved)
+              (two : Leads disks S (λ (x : model.Event × model.Reply). CopyingInMachine e x.0) one.then_in moved)
               → AreMade disks moved (Asks (Retire e) (Retired swept.version) ∷ swept.syncs) w
               → (t : model.State) × IsAt disks S w t × IsSweptIn S F s e t
           retire moved one two (retired, retires, keeps, follows) =

@@ -13,7 +13,7 @@ use Rattle.cs_room.specs.Sweeps.{IsLeastPair}
 use Rattle.cs_core.specs.declared.events.Event.{Event}
 use Rattle.cs_core.specs.declared.events.Event.TheVariants.{Begin, BeginSweep, End, Get, Issue, MoveOne, Retire, Settle, Stage}
 use Rattle.cs_core.specs.declared.events.Reply.{Reply}
-use Rattle.cs_core.specs.declared.events.Reply.TheVariants.{Moved, Retired, Sweeping}
+use Rattle.cs_core.specs.declared.events.Reply.TheVariants.{Retired, Sweeping}
 use Rattle.cs_core.specs.Checkpoints.{Replaces}
 use Rattle.cs_core.specs.Views.{Applies, IsUntouched, View}
 use Rattle.cs_roomy.specs.Cores.{IsRoomIn}
@@ -23,9 +23,9 @@ pub data Call : Type 0 where
   Asks : (event : Event) (reply : Reply) → Call
   Rests : Call
 
--- a chunk of e was copied, or nothing was changed
+-- a move of e: a chunk of it was copied, or none was left, or the move was refused; or nothing was changed
 abbrev pub IsCopying : ℕ → Call → Type 0
-IsCopying e (Asks (MoveOne d) (Moved id chunk)) = d ≡ e
+IsCopying e (Asks (MoveOne d) reply) = d ≡ e
 IsCopying e (Asks event reply) = ⊥
 IsCopying e Rests = Unit {0}
 
