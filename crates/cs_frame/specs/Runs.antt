@@ -4,8 +4,6 @@ use Rattle.std.specs.List.{AllByRecursion}
 use Rattle.std.specs.Simd.{first_chunks}
 use Rattle.std.specs.Cmp.Lexicographic.{slice_cmp}
 use Rattle.std.specs.Ordering.{is_lt, nat_cmp}
-use Rattle.std.specs.Prelude.{Vec}
-use Rattle.std.specs.declared.alloc.Global.{Global}
 use Rattle.byteorder.specs.Endian.{big_bytes}
 use Rattle.cs_frame.specs.declared.faults.FormatFault.{FormatFault}
 use Rattle.cs_frame.specs.declared.faults.FormatFault.TheVariants.{BadLength, BadPadding, OutOfOrder}
@@ -16,6 +14,7 @@ use Rattle.cs_frame.specs.Bytes.{IsBytes, all_zero, field, number, zeros}
 use Rattle.cs_frame.specs.Faults.{first_fault, unless}
 use Rattle.cs_frame.specs.Geometries.{run_bytes}
 use Rattle.cs_frame.specs.Locators.{FitsLocator, locators_in, spelled_locators}
+use Rattle.cs_frame.specs.Places.{Listed}
 
 -- the greatest number of chunks of a shard
 abbrev pub greatest_chunks : ℕ
@@ -27,11 +26,11 @@ pub record Entry : Type 0 where
   pub locators : List Locator
 
 -- an entry as the code has it
-abbrev pub entry_of : ShardId × Vec Locator Global → Entry
+abbrev pub entry_of : ShardId × Listed → Entry
 entry_of entry = record { id = entry.0.0; locators = entry.1.items }
 
 -- the entries of a run that code holds
-abbrev pub entries_of : List (ShardId × Vec Locator Global) → List Entry
+abbrev pub entries_of : List (ShardId × Listed) → List Entry
 entries_of entries = map entry_of entries
 
 -- |  0         | 16         | identifier                             |

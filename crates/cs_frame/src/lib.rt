@@ -12,6 +12,7 @@ mod laws;
 mod locators;
 mod page_zero;
 mod pages;
+mod places;
 mod pointers;
 mod roots;
 mod runs;
@@ -34,6 +35,7 @@ pub use laws::{
 };
 pub use locators::Locator;
 pub use page_zero::decode_superblock;
+pub use places::Places;
 pub use roots::{Root, decode_root, encode_root, greatest_runs};
 pub use runs::{GREATEST_CHUNKS, Run, decode_run, encode_run, run_bytes};
 pub use superblocks::{Superblock, decode_section, encode_section, encode_superblock};

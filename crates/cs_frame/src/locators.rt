@@ -20,7 +20,7 @@ pub struct Locator {
     pub generation: u32,
 }
 
-fn locator_from(bytes: &[u8; 8]) -> Locator
+pub(crate) fn locator_from(bytes: &[u8; 8]) -> Locator
     ensures { result ≡ locator_in bytes.now }
 {
     Locator {

@@ -10,8 +10,9 @@ ghost use Rattle.cs_frame.specs.Runs.{Entry, FitsEntry, IsRun, SpellsRun, entrie
 
 use crate::faults::FormatFault;
 use crate::identifiers::ShardId;
-use crate::locators::{Locator, locators_from};
+use crate::locators::Locator;
 use crate::pages::is_zero;
+use crate::places::{Places, places_from};
 use byteorder::{BigEndian, ByteOrder};
 use std::alloc::{AllocError, Global};
 
@@ -23,7 +24,7 @@ pub const GREATEST_CHUNKS: usize = 8;
 pub struct Run {
     /// At least one entry, by rising identifiers. An entry has the locators of a shard's chunks in
     /// order, 1 to 8 of them, or none where the shard was deleted.
-    pub entries: Vec<(ShardId, Vec<Locator>)>,
+    pub entries: Vec<(ShardId, Places)>,
 }
 
 /// How many bytes a run of so many entries has.
@@ -122,25 +123,22 @@ fn check_run(payload: &[u8]) -> Result<(), FormatFault>
     check_entries(pieces_of(payload))
 }
 
-fn entry_from(alloc: Global, piece: &[u8; 81]) -> Result<(ShardId, Vec<Locator>), AllocError>
+fn entry_from(alloc: Global, piece: &[u8; 81]) -> Result<(ShardId, Places), AllocError>
     requires { slice_index piece.now 16 ≤ greatest_chunks }
     ensures { IfOk result (λ entry. entry_of entry ≡ entry_in piece.now) }
 {
     let end = 17 + 8 * usize::from(piece[16]);
-    let locators = locators_from(alloc, &piece[17..end])?;
-    Ok((id_from(piece), locators))
+    let places = places_from(alloc, &piece[17..end])?;
+    Ok((id_from(piece), places))
 }
 
-fn entries_from(
-    alloc: Global,
-    pieces: &[[u8; 81]],
-) -> Result<Vec<(ShardId, Vec<Locator>)>, AllocError>
+fn entries_from(alloc: Global, pieces: &[[u8; 81]]) -> Result<Vec<(ShardId, Places)>, AllocError>
     requires { (i : ℕ) → i < length pieces.now → slice_index (slice_index_or pieces.now i []) 16 ≤ greatest_chunks }
     ensures { IfOk result (λ v. entries_of v.items ≡ map entry_in pieces.now) }
 {
-    let mut entries = Vec::new(alloc);
+    let mut entries = Vec::with_capacity(alloc, pieces.len())?;
     for piece in pieces {
-        entries.push(entry_from(alloc, piece)?)?;
+        entries.push_reserved(entry_from(alloc, piece)?);
     }
     Ok(entries)
 }
@@ -155,12 +153,13 @@ fn append_locators(payload: &mut Vec<u8>, locators: &[Locator]) -> Result<(), Al
     Ok(())
 }
 
-fn append_entry(payload: &mut Vec<u8>, entry: &(ShardId, Vec<Locator>)) -> Result<(), AllocError>
+fn append_entry(payload: &mut Vec<u8>, entry: &(ShardId, Places)) -> Result<(), AllocError>
     requires { length entry.now.1.items ≤ greatest_chunks }
     ensures spelled { OnOk result (payload.new.items ≡ payload.old.items ++ spelled_entry (entry_of entry.now)) }
     ensures fits { OnOk result (FitsEntry (entry_of entry.now)) }
 {
-    let (id, locators) = entry;
+    let (id, places) = entry;
+    let locators = places.as_slice();
     payload.extend_from_slice(&id.bytes())?;
     payload.push(locators.len() as u8)?;
     append_locators(payload, locators)?;
