@@ -1,5 +1,5 @@
 //! Puts.
-ghost use Rattle.std.specs.Prelude.{◌≡◌, ◌↔◌, ◌⊎◌, ◌+◌, ◌*◌, ◌^◌, ◌<◌, ◌≤◌, ℕ, List, [], IfErr, IfOk, MatchBool, OnErr, OnOk, Err, length, map, sum, vec_capacity, vec_len};
+ghost use Rattle.std.specs.Prelude.{◌≡◌, ◌↔◌, ◌⊎◌, ◌+◌, ◌*◌, ◌^◌, ◌<◌, ◌≤◌, ℕ, List, [], IfErr, IfOk, MatchBool, OnErr, OnOk, Err, length, map, sum};
 ghost use Rattle.cs_chunk.specs.Chunks.{AreChunksAt};
 ghost use Rattle.cs_chunk.specs.Cuts.{IsCut, pages_of, pieces};
 ghost use Rattle.cs_chunk.specs.Newest.{AreNewest};
@@ -13,6 +13,7 @@ ghost use Rattle.cs_extent.specs.State.{IsWhole, extents_of, shape};
 ghost use Rattle.cs_extent.specs.Worn.{AreWorn, AreWornBy, IsFrameWornBy};
 ghost use Rattle.cs_frame.specs.Formats.{formats_of};
 ghost use Rattle.cs_frame.specs.Frames.{spelled_frame};
+ghost use Rattle.cs_frame.specs.Places.{HasPlaceFor};
 ghost use Rattle.cs_model.specs.Append.{chunk_frames, page_counts};
 ghost use Rattle.cs_model.specs.Events.{Chunked};
 ghost use Rattle.cs_model.specs.Extents.{Fits, FitsBy, ForPut, Goes};
@@ -21,7 +22,7 @@ use crate::chunks::encode_chunks;
 use crate::cuts::Cut;
 use cs_deps::{Dependency, Graph, Refusal};
 use cs_extent::{Extents, Purpose};
-use cs_frame::Locator;
+use cs_frame::{Locator, Places};
 use std::alloc::{AllocError, Global};
 
 /// How the bytes of a put are cut, where chunks and runs lie apart or not. Refused 31 `TooLarge`, then 30 `Full`, then 35 `WornOut`;
@@ -111,12 +112,12 @@ fn append_all(
     extents: &mut Extents,
     graph: &mut Graph,
     frames: &[Vec<[u8; 4096]>],
-    places: &mut Vec<Locator>,
+    places: &mut Places,
     apart: bool,
 )
     requires may { MayPut apart extents.old graph.old (map (λ f. f.items) frames.now) }
     requires none { places.old.items ≡ [] }
-    requires room { vec_len places.old + length frames.now ≤ vec_capacity places.old }
+    requires room { HasPlaceFor places.old (length frames.now) }
     ensures { IsPutSoFar apart extents.old graph.old (map (λ f. f.items) frames.now) [] places.new.items extents.new graph.new }
 {
     for k in 0..frames.len() {
@@ -132,17 +133,17 @@ fn prepare(
     graph: &mut Graph,
     bytes: &[u8],
     cut: Cut,
-) -> Result<(Vec<Vec<[u8; 4096]>>, Vec<Locator>), AllocError>
+) -> Result<(Vec<Vec<[u8; 4096]>>, Places), AllocError>
     requires { cut.size < 2 ^ 32 }
     ensures frames { IfOk result (λ made. map (λ f. f.items) made.0.items ≡ map (spelled_frame 0) (pieces cut.size cut.count bytes.now)) }
     ensures places { IfOk result (λ made. made.1.items ≡ []) }
-    ensures capacity { IfOk result (λ made. vec_len made.1 + cut.count ≤ vec_capacity made.1) }
+    ensures capacity { IfOk result (λ made. HasPlaceFor made.1 cut.count) }
     ensures room { OnOk result (cut.count + sum (pages_of cut) ≤ graph.new.room) }
     ensures kept { graph.old.room ≤ graph.new.room }
     ensures rest { graph.new ≡ record graph.old { room = graph.new.room } }
 {
     let frames = encode_chunks(alloc, bytes, cut.size, cut.count)?;
-    let places = Vec::with_capacity(alloc, cut.count)?;
+    let places = Places::with_room(alloc, cut.count)?;
     extents.reserve(graph, cut.count, cut.all_pages())?;
     Ok((frames, places))
 }
@@ -153,7 +154,7 @@ pub fn put_chunks(
     extents: &mut Extents,
     graph: &mut Graph,
     bytes: &[u8],
-) -> Result<Vec<Locator>, Refusal>
+) -> Result<Places, Refusal>
     requires families { length graph.old.staging.latest ≡ 1 + (shape extents.old).sections }
     requires resets { AreResetsStaged (extents_of extents.old) graph.old.staging }
 
@@ -200,7 +201,7 @@ pub fn put_chunks_by(
     graph: &mut Graph,
     bytes: &[u8],
     apart: bool,
-) -> Result<Vec<Locator>, Refusal>
+) -> Result<Places, Refusal>
     requires families { length graph.old.staging.latest ≡ 1 + (shape extents.old).sections }
     requires resets { AreResetsStaged (extents_of extents.old) graph.old.staging }
 

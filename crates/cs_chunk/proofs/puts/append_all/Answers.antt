@@ -1,4 +1,4 @@
-use Rattle.std.proofs.Common.{◌∷◌, ◌+◌, arith, drop}
+use Rattle.std.proofs.Common.{◌∷◌, ◌+◌, [], ap, arith, drop, length, length-append}
 use Rattle.std.specs.Prelude.{map}
 use Rattle.cs_chunk.specs.Puts.{MayPut}
 use Rattle.cs_chunk.proofs.Putting.{done_at, left_at, next_room, not_worn, so_far_at, so_far_done}
@@ -28,5 +28,5 @@ loop-k-preserved c = record {
       (left_at (λ f. f.items) c.args.frames.now c.loop-k.k c.index-frames-k.result c.deref.result.now c.loop-k-test.true c.index-frames-k.is c.deref.ensures.value)
       (done_at (λ f. f.items) c.args.frames.now c.loop-k.k c.index-frames-k.result c.deref.result.now c.loop-k-test.true c.index-frames-k.is c.deref.ensures.value)
       c.loop-k.invariant.so_far c.append_one-place.ensures.appended c.append_one-place.ensures.whole c.append_one-place.ensures.resets c.append_one-place.ensures.families c.append_one-place.ensures.room);
-  room = omega (arith, c.loop-k.invariant.room, c.push_reserved.ensures.len, c.push_reserved.ensures.capacity, c.loop-k-test.true);
+  room = omega (arith, c.loop-k.invariant.room, ap length c.push_reserved.ensures.items, length-append c.loop-k.places.items (c.append_one-place.result ∷ []), c.push_reserved.ensures.capacity, c.loop-k-test.true);
 }
