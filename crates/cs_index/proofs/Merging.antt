@@ -1,14 +1,13 @@
 -- The next entry, over several lists.
-use Rattle.std.proofs.Common.{◌≡◌, ◌≢◌, ◌⊎◌, inl, inr, ℕ, zero, suc, ◌+◌, add-one, ◌<◌, ◌≤◌, nat_lt, true, false, List, [], ◌∷◌, ◌++◌, length, take, drop, map, Option, Some, None, get_or, Vec, if◌then◌else◌, refl, sym, ap, subst, ◌∙◌, arith, append_assoc, take-append-drop}
+use Rattle.std.proofs.Common.{◌≡◌, ◌≢◌, ◌⊎◌, inl, inr, ℕ, zero, suc, ◌+◌, add-one, ◌<◌, ◌≤◌, nat_lt, true, false, List, [], ◌∷◌, ◌++◌, length, take, drop, map, Option, Some, None, get_or, if◌then◌else◌, refl, sym, ap, subst, ◌∙◌, arith, append_assoc, take-append-drop}
 use Rattle.std.specs.Prelude.{slice_get, slice_index, slice_set}
 use Rattle.std.specs.List.{AllByRecursion}
-use Rattle.std.specs.declared.alloc.Global.{Global}
 use Rattle.std.proofs.lemmas.Bool.{cases_lt, lt-ltb, le-ltb}
 use Rattle.std.proofs.lemmas.Grind.{get_or-set_at}
 use Rattle.std.proofs.lemmas.List.{get_or-set_other}
 use Rattle.std.proofs.lemmas.Option.{get_or_from_slice_get}
 use Rattle.cs_frame.specs.declared.identifiers.ShardId.{ShardId}
-use Rattle.cs_frame.specs.declared.locators.Locator.{Locator}
+use Rattle.cs_frame.specs.Places.{Listed}
 use Rattle.cs_index.specs.declared.runs.StoredRun.{StoredRun}
 use Rattle.cs_model.proofs.Counting.{lookup_here, lookup_there}
 use Rattle.cs_model.specs.Element.{Entry, Locator as Place, Run}
@@ -95,7 +94,7 @@ next_join xs ys after (Some m) (Some n) p q = elim (cases_lt n.id m.id) [
       (p.0, lookup_first m.id xs ys m.locators p.1, λ d later less. neither d xs ys (p.2 d later less) (q.2 d later (omega arith))))
 ]
 
-pub next_run : (runs : List StoredRun) (k : ℕ) (d : StoredRun) (entries : List (ShardId × Vec Locator Global)) (after : Option ℕ) (a b c : Option Entry) → k < length runs → entries ≡ (get_or runs k d).entries.items
+pub next_run : (runs : List StoredRun) (k : ℕ) (d : StoredRun) (entries : List (ShardId × Listed)) (after : Option ℕ) (a b c : Option Entry) → k < length runs → entries ≡ (get_or runs k d).entries.items
     → IsNext (entries_of (newest_first (take k runs))) after b → IsNext (map named_entry entries) after a → c ≡ first_of a b
     → IsNext (entries_of (newest_first (take (k + 1) runs))) after c
 next_run runs k d entries after a b c lt is was new first =
@@ -176,7 +175,7 @@ module _ (table : List Entry) (runs : List StoredRun) (after : Option ℕ) (x : 
 
 -- ---- the places in the runs, one after another
 
-module _ (runs : List StoredRun) (places : List ℕ) (k id v : ℕ) (d : StoredRun) (entries : List (ShardId × Vec Locator Global))
+module _ (runs : List StoredRun) (places : List ℕ) (k id v : ℕ) (d : StoredRun) (entries : List (ShardId × Listed))
     (lt : k < length runs) (inside : k < length places) (is : entries ≡ (get_or runs k d).entries.items) where
   pub moved_on : ((j : ℕ) (run : StoredRun) → slice_get runs j ≡ Some run → j < k → IsStart (Some id) (slice_index places j) (map named_entry run.entries.items))
       → IsStart (Some id) v (map named_entry entries)
@@ -186,7 +185,7 @@ module _ (runs : List StoredRun) (places : List ℕ) (k id v : ℕ) (d : StoredR
     | inr ge ↦ (let same : j ≡ k = omega arith in
         let here : get_or runs k d ≡ run = ap (λ (n : ℕ). get_or runs n d) (sym same) ∙ get_or_from_slice_get runs j run d at in
         subst (λ (n : ℕ). IsStart (Some id) n (map named_entry run.entries.items)) (sym (get_or-set_at places k j v 0 same inside))
-        (subst (λ (es : List (ShardId × Vec Locator Global)). IsStart (Some id) v (map named_entry es)) (is ∙ ap (λ (r : StoredRun). r.entries.items) here) now))
+        (subst (λ (es : List (ShardId × Listed)). IsStart (Some id) v (map named_entry es)) (is ∙ ap (λ (r : StoredRun). r.entries.items) here) now))
   ]
 
   pub still_there : ((j : ℕ) (run : StoredRun) → slice_get runs j ≡ Some run → k ≤ j → IsPlace id (slice_index places j) (map named_entry run.entries.items))

@@ -1,11 +1,10 @@
 -- Entries of runs, newest first.
-use Rattle.std.proofs.Common.{◌≡◌, ◌⊎◌, inl, inr, ℕ, zero, suc, ◌+◌, ◌-◌, add-one, ◌<◌, true, false, List, [], ◌∷◌, ◌++◌, length, take, drop, map, Bool, Option, Some, None, get_or, Vec, refl, sym, ap, subst, ◌∙◌, arith}
+use Rattle.std.proofs.Common.{◌≡◌, ◌⊎◌, inl, inr, ℕ, zero, suc, ◌+◌, ◌-◌, add-one, ◌<◌, true, false, List, [], ◌∷◌, ◌++◌, length, take, drop, map, Bool, Option, Some, None, get_or, refl, sym, ap, subst, ◌∙◌, arith}
 use Rattle.std.specs.Prelude.{is_some, slice_get}
 use Rattle.std.specs.List.{AllByRecursion}
-use Rattle.std.specs.declared.alloc.Global.{Global}
 use Rattle.std.proofs.lemmas.Bool.{cases_eq}
 use Rattle.cs_frame.specs.declared.identifiers.ShardId.{ShardId}
-use Rattle.cs_frame.specs.declared.locators.Locator.{Locator}
+use Rattle.cs_frame.specs.Places.{Listed}
 use Rattle.cs_index.specs.declared.runs.StoredRun.{StoredRun}
 use Rattle.cs_model.proofs.Counting.{lookup_here, lookup_there}
 use Rattle.cs_model.specs.Element.{Entry, Locator as Place, Run}
@@ -59,20 +58,20 @@ stored_take xs k all = all_newest IsStored (take k xs) (all_take (λ x. IsStored
 pub stored_at : (xs : List StoredRun) (k : ℕ) (d : StoredRun) → k < length xs → AllByRecursion IsStored (newest_first xs) → IsStored (run_of (get_or xs k d))
 stored_at xs k d lt all = all_get (λ x. IsStored (run_of x)) xs k d lt (all_oldest IsStored xs all)
 
-pub ascending_at : (xs : List StoredRun) (k : ℕ) (d : StoredRun) (entries : List (ShardId × Vec Locator Global)) → k < length xs → entries ≡ (get_or xs k d).entries.items
+pub ascending_at : (xs : List StoredRun) (k : ℕ) (d : StoredRun) (entries : List (ShardId × Listed)) → k < length xs → entries ≡ (get_or xs k d).entries.items
     → AllByRecursion IsStored (newest_first xs) → Ascending (map named_entry entries)
-ascending_at xs k d entries lt is all = subst (λ (es : List (ShardId × Vec Locator Global)). Ascending (map named_entry es)) (sym is) (stored_at xs k d lt all).0
+ascending_at xs k d entries lt is all = subst (λ (es : List (ShardId × Listed)). Ascending (map named_entry es)) (sym is) (stored_at xs k d lt all).0
 
 -- ---- a lookup goes from run to run
 
 -- what the runs up to one have, the newest first
-pub entries_up : (xs : List StoredRun) (k m : ℕ) (d : StoredRun) (entries : List (ShardId × Vec Locator Global)) → k < length xs → m ≡ suc k → entries ≡ (get_or xs k d).entries.items
+pub entries_up : (xs : List StoredRun) (k m : ℕ) (d : StoredRun) (entries : List (ShardId × Listed)) → k < length xs → m ≡ suc k → entries ≡ (get_or xs k d).entries.items
     → entries_of (newest_first (take m xs)) ≡ map named_entry entries ++ entries_of (newest_first (take k xs))
 entries_up xs k m d entries lt at is =
     ap (λ (n : ℕ). entries_of (newest_first (take n xs))) at ∙ ap entries_of (newest_more xs k d lt)
-    ∙ ap (λ (es : List (ShardId × Vec Locator Global)). map named_entry es ++ entries_of (newest_first (take k xs))) (sym is)
+    ∙ ap (λ (es : List (ShardId × Listed)). map named_entry es ++ entries_of (newest_first (take k xs))) (sym is)
 
-pub find_some : (xs : List StoredRun) (k : ℕ) (d : StoredRun) (id : ℕ) (entries : List (ShardId × Vec Locator Global)) (ls : List Place) → k < length xs
+pub find_some : (xs : List StoredRun) (k : ℕ) (d : StoredRun) (id : ℕ) (entries : List (ShardId × Listed)) (ls : List Place) → k < length xs
     → entries ≡ (get_or xs (length xs - 1 - k) d).entries.items
     → lookup id (entries_of (newest_first xs)) ≡ lookup id (entries_of (newest_first (take (length xs - k) xs)))
     → Some ls ≡ lookup id (map named_entry entries) → Some ls ≡ lookup id (entries_of (newest_first xs))
@@ -80,7 +79,7 @@ find_some xs k d id entries ls lt is was found =
     sym (was ∙ ap (lookup id) (entries_up xs (length xs - 1 - k) (length xs - k) d entries (omega (arith, lt)) (omega (arith, lt)) is)
     ∙ lookup_first id (map named_entry entries) (entries_of (newest_first (take (length xs - 1 - k) xs))) ls (sym found))
 
-pub find_on : (xs : List StoredRun) (k : ℕ) (d : StoredRun) (id : ℕ) (entries : List (ShardId × Vec Locator Global)) → k < length xs
+pub find_on : (xs : List StoredRun) (k : ℕ) (d : StoredRun) (id : ℕ) (entries : List (ShardId × Listed)) → k < length xs
     → entries ≡ (get_or xs (length xs - 1 - k) d).entries.items
     → lookup id (entries_of (newest_first xs)) ≡ lookup id (entries_of (newest_first (take (length xs - k) xs)))
     → lookup id (map named_entry entries) ≡ None
@@ -118,7 +117,7 @@ count_step xs rest i count more total x order at was cases =
     by zs skip now (inr (new, is)) =
         let e : names (x ∷ zs) ≡ names zs + 1 = names_more x zs (ap (λ (o : Option (List Place)). is_some o) skip ∙ new) in omega (arith, e, now, is)
 
-pub count_run : (xs : List StoredRun) (k count new : ℕ) (d : StoredRun) (entries : List (ShardId × Vec Locator Global)) → k < length xs → entries ≡ (get_or xs k d).entries.items
+pub count_run : (xs : List StoredRun) (k count new : ℕ) (d : StoredRun) (entries : List (ShardId × Listed)) → k < length xs → entries ≡ (get_or xs k d).entries.items
     → count ≡ names (entries_of (newest_first (take k xs)))
     → new + names (entries_of (newest_first (take k xs))) ≡ names (map named_entry entries ++ entries_of (newest_first (take k xs)))
     → count + new ≡ names (entries_of (newest_first (take (k + 1) xs)))

@@ -1,7 +1,6 @@
 -- How a run is spelled.
-use Rattle.std.proofs.Common.{◌≡◌, ℕ, ◌-◌, ◌*◌, List, [], ◌∷◌, ◌++◌, length, length-append, map, Vec, refl, sym, ap, ap₂, ◌∙◌, arith}
+use Rattle.std.proofs.Common.{◌≡◌, ℕ, ◌-◌, ◌*◌, List, [], ◌∷◌, ◌++◌, length, length-append, map, refl, sym, ap, ap₂, ◌∙◌, arith}
 use Rattle.std.specs.List.{AllByRecursion, flat_map}
-use Rattle.std.specs.declared.alloc.Global.{Global}
 use Rattle.std.proofs.lemmas.List.{length-map, length-replicate}
 use Rattle.byteorder.specs.Endian.{big_bytes}
 use Rattle.byteorder.specs.Numbers.{length-bytes_high_first}
@@ -16,6 +15,7 @@ use Rattle.cs_frame.specs.Locators.{spelled_locators}
 use Rattle.cs_frame.specs.Runs.{Entry as SpelledEntry, FitsEntry, FitsRun, SpellsRun, entries_of as spelled_entries, entry_of, spelled_entry, spelled_run}
 use Rattle.cs_frame.specs.declared.identifiers.ShardId.{ShardId}
 use Rattle.cs_frame.specs.declared.locators.Locator.{Locator}
+use Rattle.cs_frame.specs.Places.{Listed}
 use Rattle.cs_index.specs.Staged.{run_frame}
 use Rattle.cs_model.specs.Element.{Entry}
 use Rattle.cs_index.specs.State.{IsShort, id_number, named_entry}
@@ -82,18 +82,18 @@ same_locators : (ls : List Locator) → map as_locator (map place_of ls) ≡ ls
 same_locators [] = refl
 same_locators (l ∷ ls) = ap (λ ms. l ∷ ms) (same_locators ls)
 
-same_entry : (x : ShardId × Vec Locator Global) → FitsEntry (entry_of x) → as_entry (named_entry x) ≡ entry_of x
+same_entry : (x : ShardId × Listed) → FitsEntry (entry_of x) → as_entry (named_entry x) ≡ entry_of x
 same_entry x fits =
     let id : id_bytes (id_number x.0) ≡ x.0.0 = bytes_are x.0 (record { bytes = fits.bytes; size = fits.size }) in
     let locators : map as_locator (map place_of x.1.items) ≡ x.1.items = same_locators x.1.items in
     λ i. record { id = id i; locators = locators i }
 
-same_entries : (xs : List (ShardId × Vec Locator Global)) → AllByRecursion FitsEntry (spelled_entries xs) → map as_entry (map named_entry xs) ≡ spelled_entries xs
+same_entries : (xs : List (ShardId × Listed)) → AllByRecursion FitsEntry (spelled_entries xs) → map as_entry (map named_entry xs) ≡ spelled_entries xs
 same_entries [] all = refl
 same_entries (x ∷ xs) all = ap₂ (λ e es. e ∷ es) (same_entry x all.0) (same_entries xs all.1)
 
 -- a payload that spells these entries, and the pages of its frame
-module _ (xs : List (ShardId × Vec Locator Global)) (payload bytes : List ℕ) (same : payload ≡ bytes) (spells : SpellsRun bytes (spelled_entries xs)) where
+module _ (xs : List (ShardId × Listed)) (payload bytes : List ℕ) (same : payload ≡ bytes) (spells : SpellsRun bytes (spelled_entries xs)) where
   pub payload_length : length payload ≡ run_bytes (length xs)
   payload_length = ap length (same ∙ spells.spelled) ∙ length-run (spelled_entries xs) spells.fits ∙ ap run_bytes (length-map xs entry_of)
 

@@ -1,9 +1,8 @@
 -- What an index keeps.
-use Rattle.std.proofs.Common.{◌≡◌, ◌≢◌, inl, inr, ℕ, ◌+◌, ◌<◌, ◌≤◌, ◌^◌, ◌==◌, ◌&&◌, true, false, true≢false, List, [], ◌∷◌, ◌++◌, length, length-append, map, Bool, Option, Some, None, MatchBool, Vec, eq-eqb, ne_eqb, if◌then◌else◌, refl, sym, ap, ap₂, subst, ◌∙◌, arith}
+use Rattle.std.proofs.Common.{◌≡◌, ◌≢◌, inl, inr, ℕ, ◌+◌, ◌<◌, ◌≤◌, ◌^◌, ◌==◌, ◌&&◌, true, false, true≢false, List, [], ◌∷◌, ◌++◌, length, length-append, map, Bool, Option, Some, None, MatchBool, eq-eqb, ne_eqb, if◌then◌else◌, refl, sym, ap, ap₂, subst, ◌∙◌, arith}
 use Rattle.std.proofs.Common.{Bor}
 use Rattle.std.specs.Prelude.{IfSome, is_some, option_copied, option_map}
 use Rattle.std.specs.List.{AllByRecursion}
-use Rattle.std.specs.declared.alloc.Global.{Global}
 use Rattle.std.proofs.lemmas.Bool.{and_from, and_parts, cases_eq, eqb-true, ltb-true}
 use Rattle.std.proofs.lemmas.List.{length-map}
 use Rattle.cs_frame.specs.declared.identifiers.ShardId.{ShardId}
@@ -16,6 +15,7 @@ use Rattle.cs_model.specs.Index.{Ascending, entries_of, lookup, names}
 use Rattle.cs_model.specs.Tally.{shards}
 use Rattle.cs_index.specs.Sorted.{IsPut}
 use Rattle.cs_frame.specs.Formats.{place_of}
+use Rattle.cs_frame.specs.Places.{Listed}
 use Rattle.cs_index.specs.State.{IsId, IsSet, IsShort, IsStored, IsWhole, State, id_number, index_of, named_entry, newest_first, run_of, state_of}
 use Rattle.cs_index.proofs.Names.{names_of_lookups}
 use Rattle.cs_index.proofs.Newest.{all_newest, lookup_first, lookup_second, names_here, names_more}
@@ -23,7 +23,7 @@ use Rattle.cs_index.proofs.Numbers.{before_is}
 use Rattle.cs_index.proofs.Sorted.{all_append}
 
 abbrev pub Entries : Type 0
-Entries = List (ShardId × Vec Locator Global)
+Entries = List (ShardId × Listed)
 
 pub length-newest : (xs : List StoredRun) → length (newest_first xs) ≡ length xs
 length-newest [] = refl

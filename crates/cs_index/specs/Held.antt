@@ -1,9 +1,8 @@
 -- What an index keeps of its fields.
-use Rattle.std.specs.Prelude.{◌≡◌, ℕ, ◌+◌, ◌<◌, ◌≤◌, ◌^◌, ◌==◌, List, Vec, length, slice_index, if◌then◌else◌}
+use Rattle.std.specs.Prelude.{◌≡◌, ℕ, ◌+◌, ◌<◌, ◌≤◌, ◌^◌, ◌==◌, List, length, slice_index, if◌then◌else◌}
 use Rattle.std.specs.List.{AllByRecursion}
-use Rattle.std.specs.declared.alloc.Global.{Global}
 use Rattle.cs_frame.specs.declared.identifiers.ShardId.{ShardId}
-use Rattle.cs_frame.specs.declared.locators.Locator.{Locator}
+use Rattle.cs_frame.specs.Places.{Listed}
 use Rattle.cs_index.specs.declared.live.Cleared.{Cleared}
 use Rattle.cs_index.specs.Live.{IsClear}
 use Rattle.cs_index.specs.State.{IsId, IsWhole, State, index_of}
@@ -21,7 +20,7 @@ AreCounts on index = (length on ≡ 7680) × ((e : ℕ) → e < 7680 → slice_i
 
 -- What an index keeps of its fields: its value's laws, the table's identifiers, how many are named and how many live, how many chunks live on
 -- each extent, room in the table, and what is known of the extent that was searched last.
-pub record IsHeld (s : State) (entries : List (ShardId × Vec Locator Global)) (named living : ℕ) (on : List ℕ) (table_length table_capacity : ℕ) (cleared : Cleared) : Type 0 where
+pub record IsHeld (s : State) (entries : List (ShardId × Listed)) (named living : ℕ) (on : List ℕ) (table_length table_capacity : ℕ) (cleared : Cleared) : Type 0 where
   pub whole : IsWhole s
   pub ids : AllByRecursion (λ entry. IsId entry.0) entries
   pub count : named ≡ names (index_of s)

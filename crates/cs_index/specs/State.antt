@@ -1,12 +1,11 @@
 -- What an index is, in the words of the store's machine.
-use Rattle.std.specs.Prelude.{◌≡◌, ◌≢◌, ℕ, ◌<◌, ◌≤◌, ◌==◌, List, [], ◌∷◌, ◌++◌, Option, Some, None, length, map, Vec, if◌then◌else◌}
+use Rattle.std.specs.Prelude.{◌≡◌, ◌≢◌, ℕ, ◌<◌, ◌≤◌, ◌==◌, List, [], ◌∷◌, ◌++◌, Option, Some, None, length, map, if◌then◌else◌}
 use Rattle.std.specs.List.{AllByRecursion}
-use Rattle.std.specs.declared.alloc.Global.{Global}
 use Rattle.byteorder.specs.Endian.{big_number}
 use Rattle.cs_frame.specs.Bytes.{IsBytes}
 use Rattle.cs_frame.specs.declared.identifiers.ShardId.{ShardId}
-use Rattle.cs_frame.specs.declared.locators.Locator.{Locator}
 use Rattle.cs_frame.specs.Formats.{place_of}
+use Rattle.cs_frame.specs.Places.{Listed}
 use Rattle.cs_index.specs.declared.runs.StoredRun.{StoredRun}
 use Rattle.cs_model.specs.Element.{Entry, Locator as Place, Run}
 use Rattle.cs_model.specs.Index.{Ascending, entries_of, lookup, names}
@@ -21,7 +20,7 @@ pub record IsId (id : ShardId) : Type 0 where
   pub size : length id.0 ≡ 16
 
 -- an entry as the machine has it
-abbrev pub named_entry : ShardId × Vec Locator Global → Entry
+abbrev pub named_entry : ShardId × Listed → Entry
 named_entry entry = record { id = id_number entry.0; locators = map place_of entry.1.items }
 
 -- a run as the machine has it
@@ -83,6 +82,6 @@ IsNext index after (Some x) =
     IsAfter after x.id × (lookup x.id index ≡ Some x.locators) × ((d : ℕ) → IsAfter after d → d < x.id → lookup d index ≡ None)
 
 -- the value of an index with these fields
-abbrev pub state_of : List (ShardId × Vec Locator Global) → List StoredRun → (limit room : ℕ) → State
+abbrev pub state_of : List (ShardId × Listed) → List StoredRun → (limit room : ℕ) → State
 state_of table runs limit room =
     record { table = map named_entry table; runs = newest_first runs; limit = limit; room = room }

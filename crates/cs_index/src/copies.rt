@@ -21,7 +21,7 @@ use crate::runs::StoredRun;
 use crate::stages::Portion;
 use cs_deps::{Graph, Refusal};
 use cs_extent::Extents;
-use cs_frame::{Locator, Run, ShardId};
+use cs_frame::{Locator, Places, Run, ShardId};
 use std::alloc::{AllocError, Global};
 use std::mem::replace;
 
@@ -50,13 +50,13 @@ fn with_copy(
     locators: &[Locator],
     chunk: usize,
     place: Locator,
-) -> Result<Vec<Locator>, AllocError>
+) -> Result<Places, AllocError>
     requires { chunk < length locators.now }
     ensures places { IfOk result (λ new. map place_of new.items ≡ replaced (map place_of locators.now) chunk (place_of place)) }
     ensures size { IfOk result (λ new. length new.items ≡ length locators.now) }
 {
-    let mut new = Vec::from_slice(alloc, locators)?;
-    new[chunk] = place;
+    let mut new = Places::from_slice(alloc, locators)?;
+    new.set(chunk, place);
     Ok(new)
 }
 
@@ -229,7 +229,7 @@ impl Index {
     }
 
     /// The locators of a shard once a copy counts, where its chunk still lies where it was copied from.
-    fn locators_then(&self, copy: ChunkCopy) -> Result<Option<Vec<Locator>>, AllocError>
+    fn locators_then(&self, copy: ChunkCopy) -> Result<Option<Places>, AllocError>
         ensures { IfOk result (λ locators. MatchOption locators
             (is_place (nth (live_at (index_of self.now) (id_number copy.id)) copy.chunk) (place_of copy.from) ≡ false)
             (λ new. (is_place (nth (live_at (index_of self.now) (id_number copy.id)) copy.chunk) (place_of copy.from) ≡ true) × (map place_of new.items ≡ replaced (live_at (index_of self.now) (id_number copy.id)) copy.chunk (place_of copy.to)) × (length new.items ≤ 8))) }

@@ -10,7 +10,7 @@ ghost use Rattle.cs_model.specs.Tally.{lives_on, one_if_some, places_on, shards}
 use crate::entries::entries_from;
 use crate::runs::{StoredRun, find_in_runs};
 use crate::tables::find;
-use cs_frame::{Locator, ShardId};
+use cs_frame::{Locator, Places, ShardId};
 
 /// 1 where there is a locator, 0 where there is none.
 pub fn one_if_living(locators: &[Locator]) -> usize
@@ -79,7 +79,7 @@ fn take_places(on: &mut [u32], places: &[Locator])
 
 /// The locators of an identifier by its last entry.
 fn last_of<'a>(
-    table: &'a [(ShardId, Vec<Locator>)],
+    table: &'a [(ShardId, Places)],
     runs: &'a [StoredRun],
     id: ShardId,
 ) -> Option<&'a [Locator]>
@@ -93,7 +93,7 @@ fn last_of<'a>(
 }
 
 /// Counts the chunks of an identifier no more.
-fn take_last(on: &mut [u32], table: &[(ShardId, Vec<Locator>)], runs: &[StoredRun], id: ShardId)
+fn take_last(on: &mut [u32], table: &[(ShardId, Places)], runs: &[StoredRun], id: ShardId)
     requires readable { IsReadable table.now runs.now }
     requires counts { AreCounts on.old (map named_entry table.now ++ entries_of (newest_first runs.now)) }
     ensures size { length on.new ≡ length on.old }
@@ -107,7 +107,7 @@ fn take_last(on: &mut [u32], table: &[(ShardId, Vec<Locator>)], runs: &[StoredRu
 /// Counts what lives on each extent once an identifier of a table and of runs, which are listed oldest first, has other locators.
 pub fn recount(
     on: &mut [u32],
-    table: &[(ShardId, Vec<Locator>)],
+    table: &[(ShardId, Places)],
     runs: &[StoredRun],
     id: ShardId,
     locators: &[Locator],
@@ -124,7 +124,7 @@ pub fn recount(
 
 /// How many identifiers of a table and of runs, which are listed oldest first, have locators. Counts into zeros how many chunks live on
 /// each extent. Reads all entries.
-pub fn count_living(table: &[(ShardId, Vec<Locator>)], runs: &[StoredRun], on: &mut [u32]) -> usize
+pub fn count_living(table: &[(ShardId, Places)], runs: &[StoredRun], on: &mut [u32]) -> usize
     requires readable { IsReadable table.now runs.now }
     requires few { names (map named_entry table.now ++ entries_of (newest_first runs.now)) < 2 ^ 29 }
     requires zeros { on.old ≡ replicate 7680 0 }

@@ -9,13 +9,13 @@ ghost use Rattle.cs_index.specs.State.{IsNext, IsStored, id_number, named_entry,
 
 use crate::runs::StoredRun;
 use crate::tables::{is_at, is_before, place};
-use cs_frame::{Locator, ShardId};
+use cs_frame::{Locator, Places, ShardId};
 use std::marker::Model;
 
 /// The entries of an index by rising identifiers, of each identifier the last.
 #[derive(Drop)]
 pub struct Entries<'a> {
-    table: &'a [(ShardId, Vec<Locator>)],
+    table: &'a [(ShardId, Places)],
     runs: &'a [StoredRun],
     /// The identifier that was read last.
     after: Option<ShardId>,
@@ -51,12 +51,12 @@ impl<'a> Entries<'a> {
         self.table_place = skip(self.table, self.table_place, entry.0);
         skip_in_runs(self.runs, &mut self.run_places, entry.0);
         self.after = Some(entry.0);
-        Some((entry.0, &entry.1))
+        Some((entry.0, entry.1.as_slice()))
     }
 }
 
 /// The entries of a table and of runs, which are listed oldest first, from the least identifier on.
-pub fn entries_from<'a>(table: &'a [(ShardId, Vec<Locator>)], runs: &'a [StoredRun]) -> Entries<'a>
+pub fn entries_from<'a>(table: &'a [(ShardId, Places)], runs: &'a [StoredRun]) -> Entries<'a>
     requires { IsReadable table.now runs.now }
     ensures { result ≡ record { index = map named_entry table.now ++ entries_of (newest_first runs.now); after = None } }
 {
@@ -71,7 +71,7 @@ pub fn entries_from<'a>(table: &'a [(ShardId, Vec<Locator>)], runs: &'a [StoredR
 
 /// The entries behind an identifier, where there is one. Searches for it in the table and in each run.
 pub fn entries_after<'a>(
-    table: &'a [(ShardId, Vec<Locator>)],
+    table: &'a [(ShardId, Places)],
     runs: &'a [StoredRun],
     after: Option<ShardId>,
 ) -> Entries<'a>
@@ -91,7 +91,7 @@ pub fn entries_after<'a>(
 }
 
 /// Where the entries behind an identifier begin.
-fn start_behind(entries: &[(ShardId, Vec<Locator>)], id: ShardId) -> usize
+fn start_behind(entries: &[(ShardId, Places)], id: ShardId) -> usize
     requires { Ascending (map named_entry entries.now) }
     ensures { IsStart (Some (id_number id)) result (map named_entry entries.now) }
 {
@@ -113,7 +113,7 @@ fn starts_behind(runs: &[StoredRun], id: ShardId) -> [usize; 24]
 }
 
 /// The entry at a place, if there is one.
-fn entry_at(entries: &[(ShardId, Vec<Locator>)], k: usize) -> Option<&(ShardId, Vec<Locator>)>
+fn entry_at(entries: &[(ShardId, Places)], k: usize) -> Option<&(ShardId, Places)>
     ensures { option_copied result ≡ slice_get entries.now k }
 {
     entries.get(k)
@@ -121,9 +121,9 @@ fn entry_at(entries: &[(ShardId, Vec<Locator>)], k: usize) -> Option<&(ShardId, 
 
 /// The entry with the lesser identifier, where both have the same the newer one.
 fn lesser<'a>(
-    newer: Option<&'a (ShardId, Vec<Locator>)>,
-    older: Option<&'a (ShardId, Vec<Locator>)>,
-) -> Option<&'a (ShardId, Vec<Locator>)>
+    newer: Option<&'a (ShardId, Places)>,
+    older: Option<&'a (ShardId, Places)>,
+) -> Option<&'a (ShardId, Places)>
     ensures { option_map named_entry (option_copied result) ≡ first_of (option_map named_entry (option_copied newer.entry)) (option_map named_entry (option_copied older.entry)) }
 {
     match newer {
@@ -140,15 +140,12 @@ fn lesser<'a>(
 }
 
 /// Of the entries at these places of the runs one with the least identifier, and of those the newest.
-fn first_in_runs<'a>(
-    runs: &'a [StoredRun],
-    places: &[usize; 24],
-) -> Option<&'a (ShardId, Vec<Locator>)>
+fn first_in_runs<'a>(runs: &'a [StoredRun], places: &[usize; 24]) -> Option<&'a (ShardId, Places)>
     requires few { length runs.now ≤ 24 }
     requires stored { AllByRecursion IsStored (newest_first runs.now) }
     ensures { (after : Option ℕ) → AreStarts after runs.now places.now → IsNext (entries_of (newest_first runs.now)) after (option_map named_entry (option_copied result)) }
 {
-    let mut first: Option<&(ShardId, Vec<Locator>)> = None;
+    let mut first: Option<&(ShardId, Places)> = None;
     for k in 0..runs.len() {
         let run = &runs[k];
         first = lesser(entry_at(&run.entries, places[k]), first);
@@ -157,7 +154,7 @@ fn first_in_runs<'a>(
 }
 
 /// The place behind an identifier, where no entry before this place has it or a greater one.
-fn skip(entries: &[(ShardId, Vec<Locator>)], k: usize, id: ShardId) -> usize
+fn skip(entries: &[(ShardId, Places)], k: usize, id: ShardId) -> usize
     requires ascending { Ascending (map named_entry entries.now) }
     requires place { IsPlace (id_number id) k (map named_entry entries.now) }
     ensures { IsStart (Some (id_number id)) result (map named_entry entries.now) }

@@ -13,7 +13,7 @@ use crate::live::{Cleared, LiveChunk, NONE_KNOWN, known_up_to, search, still_cle
 use crate::runs::{StoredRun, are_ids, count_after, count_names, find_in_runs};
 use crate::tables::{find, put};
 use cs_deps::Refusal;
-use cs_frame::{Locator, Run, ShardId};
+use cs_frame::{Locator, Places, Run, ShardId};
 use std::alloc::{AllocError, Global};
 use std::marker::Model;
 
@@ -214,7 +214,7 @@ impl Index {
     }
 
     /// Gives an identifier other locators in the table.
-    pub(crate) fn enter(&mut self, id: ShardId, locators: Vec<Locator>) -> Result<(), AllocError>
+    pub(crate) fn enter(&mut self, id: ShardId, locators: Places) -> Result<(), AllocError>
         requires short { length locators.items ≤ 8 }
         requires limit { lookup (id_number id) (index_of self.old) ≡ None → names (index_of self.old) < self.old.limit }
         ensures entered { OnOk result (IsSet self.old (id_number id) (map place_of locators.items) self.new) }
@@ -223,10 +223,16 @@ impl Index {
         ensures err { OnErr result (self.new ≡ self.old) }
     {
         let standing = self.standing(id);
-        let lives = one_if_living(&locators);
-        let cleared = still_cleared(self.cleared, id, &locators);
+        let lives = one_if_living(locators.as_slice());
+        let cleared = still_cleared(self.cleared, id, locators.as_slice());
         self.table.entries.reserve(1)?;
-        recount(&mut self.on, &self.table.entries, &self.runs, id, &locators);
+        recount(
+            &mut self.on,
+            &self.table.entries,
+            &self.runs,
+            id,
+            locators.as_slice(),
+        );
         match put(&mut self.table.entries, self.room.max(1), id, locators) {
             Ok(left) => {
                 self.room = left;
@@ -243,7 +249,7 @@ impl Index {
     ///
     /// 32 `IndexFull` where it has no entry and as many have one as may, then 9 `OutOfMemory`, only where `reserve` left no room and memory
     /// is refused. Costs a search of the table and of each run.
-    pub fn set(&mut self, id: ShardId, locators: Vec<Locator>) -> Result<(), Refusal>
+    pub fn set(&mut self, id: ShardId, locators: Places) -> Result<(), Refusal>
         requires { (1 ≤ length locators.items) × (length locators.items ≤ 8) }
         ensures entered { OnOk result (IsSet self.old (id_number id) (map place_of locators.items) self.new) }
         ensures full { (result ≡ Err Refusal.IndexFull) ↔ ((lookup (id_number id) (index_of self.old) ≡ None) × (self.old.limit ≤ names (index_of self.old))) }
@@ -284,8 +290,7 @@ impl Index {
         if !self.is_live(id) {
             return Ok(false);
         }
-        let alloc = *self.table.entries.allocator();
-        self.enter(id, Vec::new(alloc))?;
+        self.enter(id, Places::none())?;
         Ok(true)
     }
 
@@ -305,7 +310,7 @@ impl Index {
         &mut self,
         id: ShardId,
         old: &[Locator],
-        new: Vec<Locator>,
+        new: Places,
     ) -> Result<bool, AllocError>
         requires { (1 ≤ length new.items) × (length new.items ≤ 8) }
         ensures answer { IfOk result (λ replaced. IsTrue replaced ↔ (lookup (id_number id) (index_of self.old) ≡ Some (map place_of old.now))) }

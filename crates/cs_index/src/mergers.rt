@@ -10,13 +10,13 @@ ghost use Rattle.cs_index.specs.State.{IsId, IsShort, id_number, named_entry, ne
 
 use crate::entries::entries_from;
 use crate::runs::StoredRun;
-use cs_frame::{Locator, Run, ShardId};
+use cs_frame::{Locator, Places, Run, ShardId};
 use std::alloc::{AllocError, Global};
 
 /// Adds an entry behind the others.
 fn add_entry(
     alloc: Global,
-    entries: &mut Vec<(ShardId, Vec<Locator>)>,
+    entries: &mut Vec<(ShardId, Places)>,
     id: ShardId,
     locators: &[Locator],
 ) -> Result<(), AllocError>
@@ -26,7 +26,7 @@ fn add_entry(
     ensures id { IsId id }
 {
     let _bytes = id.bytes();
-    let copied = Vec::from_slice(alloc, locators)?;
+    let copied = Places::from_slice(alloc, locators)?;
     entries.push((id, copied))?;
     Ok(())
 }
@@ -34,7 +34,7 @@ fn add_entry(
 /// Adds an entry behind the others, unless it is a deletion.
 fn add_live(
     alloc: Global,
-    entries: &mut Vec<(ShardId, Vec<Locator>)>,
+    entries: &mut Vec<(ShardId, Places)>,
     id: ShardId,
     locators: &[Locator],
 ) -> Result<(), AllocError>
@@ -47,7 +47,7 @@ fn add_live(
     if locators.is_empty() {
         return Ok(());
     }
-    let copied = Vec::from_slice(alloc, locators)?;
+    let copied = Places::from_slice(alloc, locators)?;
     entries.push((id, copied))?;
     Ok(())
 }
@@ -55,7 +55,7 @@ fn add_live(
 /// Adds an entry behind the others, unless it is a deletion and there are to be none.
 fn add_kept(
     alloc: Global,
-    entries: &mut Vec<(ShardId, Vec<Locator>)>,
+    entries: &mut Vec<(ShardId, Places)>,
     id: ShardId,
     locators: &[Locator],
     without_deletions: bool,
@@ -76,7 +76,7 @@ fn add_kept(
 /// with deletions or without them. Takes memory for them, and time for all entries.
 pub fn merged_part(
     alloc: Global,
-    table: &[(ShardId, Vec<Locator>)],
+    table: &[(ShardId, Places)],
     runs: &[StoredRun],
     without_deletions: bool,
 ) -> Result<Run, AllocError>

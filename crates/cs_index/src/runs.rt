@@ -7,7 +7,7 @@ ghost use Rattle.cs_frame.specs.Formats.{place_of};
 ghost use Rattle.cs_index.specs.State.{IsId, IsStored, id_number, named_entry, newest_first};
 
 use crate::tables::find;
-use cs_frame::{Locator, ShardId};
+use cs_frame::{Locator, Places, ShardId};
 
 /// A run of the index, with the place of its frame.
 #[derive(Debug, Drop)]
@@ -15,7 +15,7 @@ pub struct StoredRun {
     /// Where its frame begins.
     pub place: Locator,
     /// Its entries, by rising identifiers: 1 to 8 locators each, or none for a deletion.
-    pub entries: Vec<(ShardId, Vec<Locator>)>,
+    pub entries: Vec<(ShardId, Places)>,
 }
 
 /// The locators that the newest of the runs, which are listed oldest first, has of an identifier.
@@ -44,7 +44,7 @@ fn is_named(runs: &[StoredRun], id: ShardId) -> bool
 }
 
 /// How many of these entries have an identifier that no older run has.
-fn count_new(entries: &[(ShardId, Vec<Locator>)], older: &[StoredRun]) -> usize
+fn count_new(entries: &[(ShardId, Places)], older: &[StoredRun]) -> usize
     requires ascending { Ascending (map named_entry entries.now) }
     requires older { AllByRecursion IsStored (newest_first older.now) }
     ensures count { result + names (entries_of (newest_first older.now)) ≡ names (map named_entry entries.now ++ entries_of (newest_first older.now)) }
@@ -83,7 +83,7 @@ pub fn count_after(named: usize, known: bool) -> usize
 }
 
 /// Tells clauses that each identifier of these entries has sixteen bytes. It has no effect.
-fn are_entry_ids(entries: &[(ShardId, Vec<Locator>)])
+fn are_entry_ids(entries: &[(ShardId, Places)])
     ensures { AllByRecursion (λ entry. IsId entry.0) entries.now }
 {
     for entry in entries {

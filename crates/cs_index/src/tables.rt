@@ -7,7 +7,7 @@ ghost use Rattle.cs_frame.specs.Formats.{place_of};
 ghost use Rattle.cs_index.specs.State.{IsId, id_number, named_entry};
 ghost use Rattle.cs_index.specs.Sorted.{IsPlace, IsPut};
 
-use cs_frame::{Locator, ShardId};
+use cs_frame::{Locator, Places, ShardId};
 use std::alloc::AllocError;
 
 /// Whether one identifier is less than another.
@@ -25,7 +25,7 @@ pub fn is_same(a: ShardId, b: ShardId) -> bool
 }
 
 /// How many entries have a lesser identifier.
-pub fn place(entries: &[(ShardId, Vec<Locator>)], id: ShardId) -> usize
+pub fn place(entries: &[(ShardId, Places)], id: ShardId) -> usize
     requires { Ascending (map named_entry entries.now) }
     ensures { IsPlace (id_number id) result (map named_entry entries.now) }
 {
@@ -43,7 +43,7 @@ pub fn place(entries: &[(ShardId, Vec<Locator>)], id: ShardId) -> usize
 }
 
 /// Whether an entry at this place has this identifier.
-pub fn is_at(entries: &[(ShardId, Vec<Locator>)], k: usize, id: ShardId) -> bool
+pub fn is_at(entries: &[(ShardId, Places)], k: usize, id: ShardId) -> bool
     ensures { MatchBool result ((x : Entry) × (slice_get (map named_entry entries.now) k ≡ Some x) × (x.id ≡ id_number id)) ((x : Entry) → slice_get (map named_entry entries.now) k ≡ Some x → x.id ≢ id_number id) }
 {
     if k < entries.len() {
@@ -54,13 +54,13 @@ pub fn is_at(entries: &[(ShardId, Vec<Locator>)], k: usize, id: ShardId) -> bool
 }
 
 /// The locators of an identifier.
-pub fn find(entries: &[(ShardId, Vec<Locator>)], id: ShardId) -> Option<&[Locator]>
+pub fn find(entries: &[(ShardId, Places)], id: ShardId) -> Option<&[Locator]>
     requires { Ascending (map named_entry entries.now) }
     ensures { option_map (map place_of) (option_copied result) ≡ lookup (id_number id) (map named_entry entries.now) }
 {
     let k = place(entries, id);
     if is_at(entries, k, id) {
-        Some(&entries[k].1)
+        Some(entries[k].1.as_slice())
     } else {
         None
     }
@@ -68,10 +68,10 @@ pub fn find(entries: &[(ShardId, Vec<Locator>)], id: ShardId) -> Option<&[Locato
 
 /// Gives an identifier other locators, and tells for how many more entries there is room.
 pub fn put(
-    entries: &mut Vec<(ShardId, Vec<Locator>)>,
+    entries: &mut Vec<(ShardId, Places)>,
     room: usize,
     id: ShardId,
-    locators: Vec<Locator>,
+    locators: Places,
 ) -> Result<usize, AllocError>
     requires ascending { Ascending (map named_entry entries.old.items) }
     requires ids { AllByRecursion (λ entry. IsId entry.0) entries.old.items }
@@ -96,11 +96,11 @@ pub fn put(
 
 /// Puts an entry between others, and tells for how many more there is room.
 fn insert(
-    entries: &mut Vec<(ShardId, Vec<Locator>)>,
+    entries: &mut Vec<(ShardId, Places)>,
     room: usize,
     k: usize,
     id: ShardId,
-    locators: Vec<Locator>,
+    locators: Places,
 ) -> Result<usize, AllocError>
     requires inside { k ≤ vec_len entries.old }
     requires fits { vec_len entries.old + room ≤ vec_capacity entries.old }

@@ -1,9 +1,8 @@
-use Rattle.std.proofs.Common.{◌≡◌, ◌∙◌, ◌<◌, ap, arith, get_or, length, subst, sym, map, List, Vec}
-use Rattle.std.specs.declared.alloc.Global.{Global}
+use Rattle.std.proofs.Common.{◌≡◌, ◌∙◌, ◌<◌, ap, arith, get_or, length, subst, sym, map, List}
 use Rattle.std.proofs.lemmas.List.{length-set}
 use Rattle.std.proofs.lemmas.Option.{slice_get-get_or}
 use Rattle.cs_frame.specs.declared.identifiers.ShardId.{ShardId}
-use Rattle.cs_frame.specs.declared.locators.Locator.{Locator}
+use Rattle.cs_frame.specs.Places.{Listed}
 use Rattle.cs_index.specs.declared.runs.StoredRun.{StoredRun}
 use Rattle.cs_index.specs.Sorted.{IsPlace}
 use Rattle.cs_index.specs.State.{id_number, named_entry}
@@ -25,7 +24,7 @@ skip-requires-clause-ascending c =
 
 pub skip-requires-clause-place : goal.skip-requires-clause-place
 skip-requires-clause-place c =
-    subst (λ (es : List (ShardId × Vec Locator Global)). IsPlace (id_number c.args.id) (get_or c.loop-k.places c.loop-k.k 0) (map named_entry es)) (sym (entries_are (goal.at.skip-requires-clause-place c).After-deref))
+    subst (λ (es : List (ShardId × Listed)). IsPlace (id_number c.args.id) (get_or c.loop-k.places c.loop-k.k 0) (map named_entry es)) (sym (entries_are (goal.at.skip-requires-clause-place c).After-deref))
     (c.loop-k.invariant.still c.loop-k.k (get_or c.args.runs.now c.loop-k.k c.index-runs-k.result) (slice_get-get_or c.args.runs.now c.loop-k.k c.index-runs-k.result c.loop-k-test.true) (omega arith))
 
 pub loop-k-preserved : goal.loop-k-preserved

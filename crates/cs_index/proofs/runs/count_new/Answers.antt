@@ -1,8 +1,7 @@
-use Rattle.std.proofs.Common.{◌≡◌, ◌++◌, ◌∙◌, ap, arith, inl, inr, map, sym, List, ℕ, Some, Vec}
+use Rattle.std.proofs.Common.{◌≡◌, ◌++◌, ◌∙◌, ap, arith, inl, inr, map, sym, List, ℕ, Some}
 use Rattle.std.specs.Prelude.{slice_get}
-use Rattle.std.specs.declared.alloc.Global.{Global}
 use Rattle.cs_frame.specs.declared.identifiers.ShardId.{ShardId}
-use Rattle.cs_frame.specs.declared.locators.Locator.{Locator}
+use Rattle.cs_frame.specs.Places.{Listed}
 use Rattle.cs_model.specs.Element.{Entry}
 use Rattle.cs_model.specs.Index.{entries_of, names}
 use Rattle.cs_index.specs.State.{named_entry, newest_first}
@@ -17,7 +16,7 @@ loop-entry-preserved c =
     let rest : List Entry = entries_of (newest_first c.args.older.now) in
     let i : ℕ = c.loop-entry.entry-index in
     let x : Entry = named_entry c.entry-item.result in
-    let at : slice_get xs i ≡ Some x = read_at named_entry c.args.entries.now i c.entry-item.result c.loop-entry-test.true ∙ ap (λ (e : ShardId × Vec Locator Global). Some (named_entry e)) (sym c.entry-item.is) in
+    let at : slice_get xs i ≡ Some x = read_at named_entry c.args.entries.now i c.entry-item.result c.loop-entry-test.true ∙ ap (λ (e : ShardId × Listed). Some (named_entry e)) (sym c.entry-item.is) in
     let was = c.loop-entry.invariant in
     elim c.if-not-is_named.branch [
       | then-not-is_named w ↦ record {

@@ -18,7 +18,7 @@ returns-then-is_at c =
     let xs : List Entry = map named_entry c.args.entries.now in
     let inside : c.place-k.result < length c.args.entries.now = omega (arith, length-map c.args.entries.now named_entry, inside_at xs c.place-k.result found.0 found.1) in
     let same : found.0 ≡ named_entry (get_or c.args.entries.now c.place-k.result c.index-entries-k.result) = one_at xs c.place-k.result _ _ found.1 (read_at named_entry c.args.entries.now c.place-k.result c.index-entries-k.result inside) in
-    ap (λ (ls : List Locator). Some (map place_of ls)) c.deref.ensures.value
+    ap (λ (ls : List Locator). Some (map place_of ls)) c.as_slice.ensures.value
     ∙ ap (λ (x : Entry). Some x.locators) (sym same)
     ∙ sym (lookup_found xs c.place-k.result (id_number c.args.id) found.0 c.place-k.ensures found.1 found.2)
 

@@ -51,10 +51,10 @@ skip_in_runs-requires-clause-places c =
 pub returns-clause-next : goal.returns-clause-next
 returns-clause-next c =
     let next = found (goal.at.returns-clause-next c).After-first_in_runs (Some (named_entry c.in_ok-entry.entry.now)) c.in_ok-entry.ensures in
-    rw (← c.self.view_is) (next.0, next.1 ∙ ap (λ (ls : List Locator). Some (map place_of ls)) (sym c.deref.ensures.value), next.2)
+    rw (← c.self.view_is) (next.0, next.1 ∙ ap (λ (ls : List Locator). Some (map place_of ls)) (sym c.as_slice.ensures.value), next.2)
 
 pub returns-clause-short : goal.returns-clause-short
 returns-clause-short c =
     let next = found (goal.at.returns-clause-short c).After-first_in_runs (Some (named_entry c.in_ok-entry.entry.now)) c.in_ok-entry.ensures in
-    short_found_in (map named_entry c.self.inside.table.now) (newest_first c.self.inside.runs.now) (id_number c.in_ok-entry.entry.now.0) c.deref.result.now c.self.invariant.readable.short c.self.invariant.readable.stored
-    (next.1 ∙ ap (λ (ls : List Locator). Some (map place_of ls)) (sym c.deref.ensures.value))
+    short_found_in (map named_entry c.self.inside.table.now) (newest_first c.self.inside.runs.now) (id_number c.in_ok-entry.entry.now.0) c.as_slice.result.now c.self.invariant.readable.short c.self.invariant.readable.stored
+    (next.1 ∙ ap (λ (ls : List Locator). Some (map place_of ls)) (sym c.as_slice.ensures.value))

@@ -36,7 +36,7 @@ lived : (c : After-count_after-self-inside) → c.standing-standing.result.1 ≡
 lived c = subst (λ (s : State). c.standing-standing.result.1 ≡ one_if_some (live_at (index_of s) (id_number c.args.id))) (sym c.self.view_is) c.standing-standing.ensures.lives
 
 lives_now : (c : After-count_after-self-inside) → c.one_if_living-lives.result ≡ one_if_some (map place_of c.args.locators.items)
-lives_now c = c.one_if_living-lives.ensures ∙ ap (λ (ls : List Locator). one_if_some (map place_of ls)) c.deref.ensures.value
+lives_now c = c.one_if_living-lives.ensures ∙ ap (λ (ls : List Locator). one_if_some (map place_of ls)) c.as_slice.ensures.value
 
 lives_there : (c : After-count_after-self-inside) → (c.self.inside.living - c.standing-standing.result.1) + c.one_if_living-lives.result ≡ shards (index_of (after_put c))
 lives_there c = lives_then (index_of (before_put c)) (index_of (after_put c)) (id_number c.args.id) (map place_of c.args.locators.items) (set_there c).index c.self.inside.living c.standing-standing.result.1 c.one_if_living-lives.result c.self.invariant.lives (lived c) (lives_now c)
@@ -63,14 +63,14 @@ living_after-self-inside-requires-clause-fits c =
 -- what was counted is the index with the entry in front
 recounted : (c : After-count_after-self-inside) → AreCounts c.recount.new.on (record { id = id_number c.args.id; locators = map place_of c.args.locators.items } ∷ index_of (the_view c.self.inside))
 recounted c =
-    subst (λ (ls : List Locator). AreCounts c.recount.new.on (record { id = id_number c.args.id; locators = map place_of ls } ∷ index_of (the_view c.self.inside))) c.deref-5.ensures.value
-    (subst (λ (rs : List StoredRun). AreCounts c.recount.new.on (record { id = id_number c.args.id; locators = map place_of c.deref-5.result.now } ∷ (map named_entry c.self.inside.table.entries.items ++ entries_of (newest_first rs)))) c.deref-4.ensures.value
-    (subst (λ (t : Entries). AreCounts c.recount.new.on (record { id = id_number c.args.id; locators = map place_of c.deref-5.result.now } ∷ (map named_entry t ++ entries_of (newest_first c.deref-4.result.now)))) (c.deref-3.ensures.value ∙ c.in_ok-reserve.ensures.items) c.recount.ensures))
+    subst (λ (ls : List Locator). AreCounts c.recount.new.on (record { id = id_number c.args.id; locators = map place_of ls } ∷ index_of (the_view c.self.inside))) c.as_slice-3.ensures.value
+    (subst (λ (rs : List StoredRun). AreCounts c.recount.new.on (record { id = id_number c.args.id; locators = map place_of c.as_slice-3.result.now } ∷ (map named_entry c.self.inside.table.entries.items ++ entries_of (newest_first rs)))) c.deref-2.ensures.value
+    (subst (λ (t : Entries). AreCounts c.recount.new.on (record { id = id_number c.args.id; locators = map place_of c.as_slice-3.result.now } ∷ (map named_entry t ++ entries_of (newest_first c.deref-2.result.now)))) (c.deref.ensures.value ∙ c.in_ok-reserve.ensures.items) c.recount.ensures))
 
 pub recount-requires-clause-readable : goal.recount-requires-clause-readable
 recount-requires-clause-readable c =
     let whole = c.self.invariant.whole in
-    rw (c.deref-3.ensures.value ∙ c.in_ok-reserve.ensures.items) (rw (c.deref-4.ensures.value) (record {
+    rw (c.deref.ensures.value ∙ c.in_ok-reserve.ensures.items) (rw (c.deref-2.ensures.value) (record {
       ascending = whole.ascending;
       short = whole.short;
       stored = whole.runs;
@@ -79,17 +79,17 @@ recount-requires-clause-readable c =
 
 pub recount-requires-clause-counts : goal.recount-requires-clause-counts
 recount-requires-clause-counts c =
-    rw (c.deref-3.ensures.value ∙ c.in_ok-reserve.ensures.items) (rw (c.deref-4.ensures.value) (rw (c.deref_mut.ensures.value) c.self.invariant.counts))
+    rw (c.deref.ensures.value ∙ c.in_ok-reserve.ensures.items) (rw (c.deref-2.ensures.value) (rw (c.deref_mut.ensures.value) c.self.invariant.counts))
 
 pub recount-requires-clause-short : goal.recount-requires-clause-short
-recount-requires-clause-short c = omega (arith, ap (λ (ls : List Locator). length ls) c.deref-5.ensures.value, c.requires.short)
+recount-requires-clause-short c = omega (arith, ap (λ (ls : List Locator). length ls) c.as_slice-3.ensures.value, c.requires.short)
 
 pub recount-requires-clause-few : goal.recount-requires-clause-few
 recount-requires-clause-few c =
     let limit = subst (λ (s : State). lookup (id_number c.args.id) (index_of s) ≡ None → names (index_of s) < s.limit) (sym c.self.view_is) c.requires.limit in
-    let few : names (record { id = id_number c.args.id; locators = map place_of c.deref-5.result.now } ∷ index_of (the_view c.self.inside)) ≤ c.self.inside.limit =
-    names_entered (record { id = id_number c.args.id; locators = map place_of c.deref-5.result.now }) (index_of (the_view c.self.inside)) c.self.inside.limit c.self.invariant.whole.named limit in
-    rw (c.deref-3.ensures.value ∙ c.in_ok-reserve.ensures.items) (rw (c.deref-4.ensures.value) (omega (arith, few, c.self.invariant.small)))
+    let few : names (record { id = id_number c.args.id; locators = map place_of c.as_slice-3.result.now } ∷ index_of (the_view c.self.inside)) ≤ c.self.inside.limit =
+    names_entered (record { id = id_number c.args.id; locators = map place_of c.as_slice-3.result.now }) (index_of (the_view c.self.inside)) c.self.inside.limit c.self.invariant.whole.named limit in
+    rw (c.deref.ensures.value ∙ c.in_ok-reserve.ensures.items) (rw (c.deref-2.ensures.value) (omega (arith, few, c.self.invariant.small)))
 
 pub invariant_of-self-in-Ok : goal.invariant_of-self-in-Ok
 invariant_of-self-in-Ok c =
@@ -113,7 +113,7 @@ invariant_of-self-in-Ok c =
           (enter_set i.table.entries.items c.put.new.entries.items i.runs.items i.limit i.room c.in-Ok.left (id_number c.args.id) (map place_of c.args.locators.items) (subst (λ (xs : Entries). IsPut (map named_entry xs) (id_number c.args.id) (map place_of c.args.locators.items) (map named_entry c.put.new.entries.items)) c.in_ok-reserve.ensures.items c.in-Ok.ensures.put)).index
           i.cleared c.still_cleared-cleared.result
           (subst (λ (ls : List Locator). ((c.still_cleared-cleared.result ≡ i.cleared) × (IsAfter (option_map id_number i.cleared.up_to) (id_number c.args.id) ⊎ NoneOn (map place_of ls) i.cleared.extent)) ⊎ (c.still_cleared-cleared.result.up_to ≡ None))
-          c.deref-2.ensures.value c.still_cleared-cleared.ensures)
+          c.as_slice-2.ensures.value c.still_cleared-cleared.ensures)
           c.self.invariant.clear;
     }
 

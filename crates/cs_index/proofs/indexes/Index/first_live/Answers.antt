@@ -1,9 +1,8 @@
-use Rattle.std.proofs.Common.{◌≡◌, ◌∙◌, ◌++◌, List, MatchOption, Vec, ap, ap₂, arith, map, subst}
+use Rattle.std.proofs.Common.{◌≡◌, ◌∙◌, ◌++◌, List, MatchOption, ap, ap₂, arith, map, subst}
 use Rattle.std.specs.Prelude.{option_map}
-use Rattle.std.specs.declared.alloc.Global.{Global}
 use Rattle.cs_frame.specs.declared.identifiers.ShardId.{ShardId}
-use Rattle.cs_frame.specs.declared.locators.Locator.{Locator}
 use Rattle.cs_frame.specs.Formats.{place_of}
+use Rattle.cs_frame.specs.Places.{Listed}
 use Rattle.cs_index.specs.contracts.indexes.Index.{the_view}
 use Rattle.cs_index.specs.declared.runs.StoredRun.{StoredRun}
 use Rattle.cs_index.specs.Live.{NoneUpTo}
@@ -29,7 +28,7 @@ entries_after-entries-requires c =
 index_is : (c : After-entries_after-entries) → c.entries_after-entries.result.index ≡ index_of (the_view c.self.inside)
 index_is c =
     ap (λ (r : Reading). r.index) c.entries_after-entries.ensures
-    ∙ ap₂ (λ (t : List (ShardId × Vec Locator Global)) (runs : List StoredRun). map named_entry t ++ entries_of (newest_first runs)) c.deref.ensures.value c.deref-2.ensures.value
+    ∙ ap₂ (λ (t : List (ShardId × Listed)) (runs : List StoredRun). map named_entry t ++ entries_of (newest_first runs)) c.deref.ensures.value c.deref-2.ensures.value
 
 pub invariant_of-self : goal.invariant_of-self
 invariant_of-self c =

@@ -1,9 +1,8 @@
-use Rattle.std.proofs.Common.{◌≡◌, ◌+◌, ◌-◌, ◌∙◌, ◌++◌, ap, ap₂, arith, length, map, subst, sym, take, drop, ℕ, List, Vec}
+use Rattle.std.proofs.Common.{◌≡◌, ◌+◌, ◌-◌, ◌∙◌, ◌++◌, ap, ap₂, arith, length, map, subst, sym, take, drop, ℕ, List}
 use Rattle.std.proofs.lemmas.List.{length-map}
 use Rattle.std.proofs.lemmas.Result.{IfOk-weaker}
-use Rattle.std.specs.declared.alloc.Global.{Global}
 use Rattle.cs_frame.specs.declared.identifiers.ShardId.{ShardId}
-use Rattle.cs_frame.specs.declared.locators.Locator.{Locator}
+use Rattle.cs_frame.specs.Places.{Listed}
 use Rattle.cs_index.specs.contracts.indexes.Index.{the_view}
 use Rattle.cs_index.specs.declared.runs.StoredRun.{StoredRun}
 use Rattle.cs_model.specs.Element.{Entry, Run}
@@ -33,7 +32,7 @@ merged_part-requires c =
     let n : ℕ = c.len.result - c.args.portion.newest in
     let split : (c.len.result - c.args.portion.newest) + c.args.portion.newest ≡ length c.self.inside.runs.items = omega (arith, inside, c.len.ensures, c.self.inside.runs.ok.0, length-newest c.self.inside.runs.items) in
     subst (λ (rs : List StoredRun). IsReadable c.deref.result.now rs) (sym (slice_is (goal.at.merged_part-requires c).After-deref-2))
-    (subst (λ (t : List (ShardId × Vec Locator Global)). IsReadable t (drop n c.self.inside.runs.items)) (sym c.deref.ensures.value) (record {
+    (subst (λ (t : List (ShardId × Listed)). IsReadable t (drop n c.self.inside.runs.items)) (sym c.deref.ensures.value) (record {
       ascending = whole.ascending;
       short = whole.short;
       stored = stored_newest c.self.inside.runs.items n c.args.portion.newest split whole.runs;
@@ -47,7 +46,7 @@ part_is c =
     let inside = rw (← c.self.view_is) at c.requires in
     let n : ℕ = c.len.result - c.args.portion.newest in
     let split : (c.len.result - c.args.portion.newest) + c.args.portion.newest ≡ length c.self.inside.runs.items = omega (arith, inside, c.len.ensures, c.self.inside.runs.ok.0, length-newest c.self.inside.runs.items) in
-    ap₂ (λ (t : List (ShardId × Vec Locator Global)) (rs : List StoredRun). map named_entry t ++ entries_of (newest_first rs)) c.deref.ensures.value
+    ap₂ (λ (t : List (ShardId × Listed)) (rs : List StoredRun). map named_entry t ++ entries_of (newest_first rs)) c.deref.ensures.value
     (behind_place n c.deref-2.result.now ∙ ap (drop n) c.deref-2.ensures.value)
     ∙ ap (λ (rs : List Run). map named_entry c.self.inside.table.entries.items ++ entries_of rs) (newest_taken c.self.inside.runs.items n c.args.portion.newest split)
 

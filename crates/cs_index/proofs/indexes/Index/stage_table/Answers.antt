@@ -1,7 +1,6 @@
 use Rattle.std.proofs.Common.{◌∙◌, ◌≡◌, ◌≢◌, ◌<◌, ◌≤◌, [], ◌∷◌, Ok, Err, false, arith, ap, length, map, subst, sym, List, ℕ, Vec, vec_len}
 use Rattle.std.specs.declared.alloc.Global.{Global}
 use Rattle.cs_frame.specs.declared.identifiers.ShardId.{ShardId}
-use Rattle.cs_frame.specs.declared.locators.Locator.{Locator}
 use Rattle.cs_model.specs.Element.{Entry, Run}
 use Rattle.cs_model.specs.Extents.{ForRun}
 use Rattle.cs_model.specs.Index.{names}
@@ -11,6 +10,7 @@ use Rattle.cs_frame.specs.Roots.{greatest_runs}
 use Rattle.cs_model.specs.Tally.{shards}
 use Rattle.cs_index.specs.contracts.indexes.Index.{the_view}
 use Rattle.cs_frame.specs.Formats.{place_of}
+use Rattle.cs_frame.specs.Places.{Listed}
 use Rattle.cs_index.specs.Held.{AreCounts}
 use Rattle.cs_index.specs.Live.{IsClear}
 use Rattle.cs_index.specs.Staged.{IsRunStaged}
@@ -50,10 +50,10 @@ returns-in-Err-clause-why c =
     rw (← c.self.view_is) (exact_table {T = ℕ} (the_view c.self.inside) c.args.extents.now c.args.graph.now.staging (Err c.in-Err.refusal) c.self.invariant.whole.ascending some c.in-Err.ensures.why)
 
 none_left : (c : After-push_reserved) → c.replace-entries.new.dest.items ≡ []
-none_left c = ap (λ (v : Vec (ShardId × Vec Locator Global) Global). v.items) c.replace-entries.ensures.after ∙ c.new.ensures.items
+none_left c = ap (λ (v : Vec (ShardId × Listed) Global). v.items) c.replace-entries.ensures.after ∙ c.new.ensures.items
 
 taken : (c : After-push_reserved) → c.replace-entries.result.items ≡ c.self.inside.table.entries.items
-taken c = ap (λ (v : Vec (ShardId × Vec Locator Global) Global). v.items) c.replace-entries.ensures.value
+taken c = ap (λ (v : Vec (ShardId × Listed) Global). v.items) c.replace-entries.ensures.value
 
 runs_are : (c : After-push_reserved) → newest_first c.push_reserved.new.self.items ≡ record { place = place_of c.in-Ok.place; entries = map named_entry c.self.inside.table.entries.items } ∷ newest_first c.self.inside.runs.items
 runs_are c =
@@ -86,7 +86,7 @@ invariant_of-self-in-Ok c =
       lives = c.self.invariant.lives ∙ ap (λ (es : List Entry). shards es) (sym (index_is at));
       counts = subst (λ (es : List Entry). AreCounts i.on.items es) (sym (index_is at)) c.self.invariant.counts;
       small = c.self.invariant.small;
-      fits = (let e : vec_len c.replace-entries.new.dest ≡ 0 = ap (λ (v : Vec (ShardId × Vec Locator Global) Global). vec_len v) c.replace-entries.ensures.after ∙ c.new.ensures.len in omega (arith, e));
+      fits = (let e : vec_len c.replace-entries.new.dest ≡ 0 = ap (λ (v : Vec (ShardId × Listed) Global). vec_len v) c.replace-entries.ensures.after ∙ c.new.ensures.len in omega (arith, e));
       clear = subst (λ (es : List Entry). IsClear es i.cleared) (sym (index_is at)) c.self.invariant.clear;
     }
 
