@@ -1,5 +1,5 @@
 //! Sweeps of one extent each.
-ghost use Rattle.std.specs.Prelude.{◌≡◌, ◌↔◌, ◌⊎◌, ◌+◌, ◌*◌, ◌^◌, ◌<◌, ◌≤◌, ℕ, List, IfErr, IfOk, IsTrue, MatchOption, MatchResult, None, OnErr, OnOk, Some, false, length, map, slice_set, true};
+ghost use Rattle.std.specs.Prelude.{◌≡◌, ◌↔◌, ◌⊎◌, ◌+◌, ◌*◌, ◌^◌, ◌<◌, ◌≤◌, ℕ, List, IfErr, IfOk, IsTrue, MatchOption, MatchResult, None, OnErr, OnOk, Some, false, length, map, true};
 ghost use Rattle.cs_chunk.specs.Chunks.{IsFrameAt};
 ghost use Rattle.cs_chunk.specs.Newest.{AreNewest};
 ghost use Rattle.cs_chunk.specs.Reads.{IsCaused, IsReadRefusal, OnlyReads, fault_at};
@@ -26,7 +26,7 @@ use cs_chunk::read_frame;
 use cs_deps::{Graph, Refusal};
 use cs_disk::PageDisk;
 use cs_extent::{Extents, LAST_GENERATION, Purpose};
-use cs_frame::{FrameKind, Locator, ShardId, encode_frame};
+use cs_frame::{FrameKind, Locator, Places, ShardId, encode_frame};
 use cs_index::{Index, LiveChunk};
 use std::alloc::Global;
 use std::marker::Model;
@@ -285,13 +285,13 @@ fn move_to(
         Ok(places) => places,
         Err(refusal) => return Err(refusal),
     };
-    let mut after = Vec::from_slice(alloc, &before)?;
+    let mut after = Places::from_slice(alloc, before.as_slice())?;
     let place = match append_moved(extents, graph, frame) {
         Ok(place) => place,
         Err(refusal) => return Err(refusal),
     };
-    set_place(&mut after, live.chunk, place);
-    point_at(index, live.id, &before, after);
+    after.set(live.chunk, place);
+    point_at(index, live.id, before.as_slice(), after);
     Ok(())
 }
 
@@ -319,16 +319,8 @@ fn append_moved(
     Ok(made.0)
 }
 
-/// Gives one chunk another place.
-fn set_place(places: &mut Vec<Locator>, chunk: usize, place: Locator)
-    requires { chunk < length places.old.items }
-    ensures { places.new.items ≡ slice_set places.old.items chunk place }
-{
-    places[chunk] = place;
-}
-
 /// Gives a shard these places, where the index has room for the entry.
-fn point_at(index: &mut Index, id: ShardId, before: &[Locator], after: Vec<Locator>)
+fn point_at(index: &mut Index, id: ShardId, before: &[Locator], after: Places)
     requires before { lookup (id_number id) (index_of index.old) ≡ Some (map place_of before.now) }
     requires after { (1 ≤ length after.items) × (length after.items ≤ 8) }
     requires room { 0 < index.old.room }
@@ -341,7 +333,7 @@ fn point_at(index: &mut Index, id: ShardId, before: &[Locator], after: Vec<Locat
 }
 
 /// Where the chunks of a shard are, with room in the index for another entry of it.
-fn places_with_room(alloc: Global, index: &mut Index, id: ShardId) -> Result<Vec<Locator>, Refusal>
+fn places_with_room(alloc: Global, index: &mut Index, id: ShardId) -> Result<Places, Refusal>
     ensures places { IfOk result (λ places. map place_of places.items ≡ live_at (index_of index.old) (id_number id)) }
     ensures short { IfOk result (λ places. length places.items ≤ 8) }
     ensures room { OnOk result (0 < index.new.room) }
@@ -353,14 +345,14 @@ fn places_with_room(alloc: Global, index: &mut Index, id: ShardId) -> Result<Vec
 }
 
 /// Where the chunks of a shard are.
-fn places_of(alloc: Global, index: &Index, id: ShardId) -> Result<Vec<Locator>, Refusal>
+fn places_of(alloc: Global, index: &Index, id: ShardId) -> Result<Places, Refusal>
     ensures places { IfOk result (λ places. map place_of places.items ≡ live_at (index_of index.now) (id_number id)) }
     ensures short { IfOk result (λ places. length places.items ≤ 8) }
     ensures refusals { IfErr result (λ r. r ≡ Refusal.OutOfMemory) }
 {
     match index.lookup(id) {
-        Some(places) => Ok(Vec::from_slice(alloc, places)?),
-        None => Ok(Vec::new(alloc)),
+        Some(places) => Ok(Places::from_slice(alloc, places)?),
+        None => Ok(Places::none()),
     }
 }
 

@@ -13,11 +13,11 @@ returns-clause-moved c =
     let k = c.args.live.now.chunk in
     let p = c.in-Ok-append_moved.place in
     let before : map place_of c.in_ok-after.after.items ≡ live_at (index_of c.args.index.now) (id_number c.args.live.now.id) =
-    ap (map place_of) (c.in_ok-after.ensures.items ∙ c.deref.ensures.value) ∙ c.in-Ok.ensures.places in (
+    ap (map place_of) (c.in_ok-after.ensures ∙ c.as_slice.ensures.value) ∙ c.in-Ok.ensures.places in (
       p,
       c.in-Ok-append_moved.ensures.appended,
-      set_from c.args.index.now c.places_with_room.new.index c.point_at.new.index id (map place_of c.set_place.new.places.items) (replaced (live_at (index_of c.args.index.now) id) k (place_of p))
+      set_from c.args.index.now c.places_with_room.new.index c.point_at.new.index id (map place_of c.set.new.self.items) (replaced (live_at (index_of c.args.index.now) id) k (place_of p))
           c.places_with_room.ensures.rest
-          (ap (map place_of) c.set_place.ensures ∙ replaced_map c.in_ok-after.after.items k p ∙ ap (λ (ls : List Place). replaced ls k (place_of p)) before)
+          (ap (map place_of) c.set.ensures ∙ replaced_map c.in_ok-after.after.items k p ∙ ap (λ (ls : List Place). replaced ls k (place_of p)) before)
           c.point_at.ensures,
     )
