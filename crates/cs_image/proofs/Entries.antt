@@ -1,7 +1,6 @@
 -- Entries that can be spelled, as a page has them and as the machine has them.
-use Rattle.std.proofs.Common.{◌≡◌, inl, inr, ℕ, ◌-◌, ◌*◌, ◌/◌, ◌<◌, ◌≤◌, ◌^◌, Bool, true, nat_le, nat_lt, List, [], ◌∷◌, ◌++◌, length, map, Vec, append-nil, refl, sym, ap, ap₂, ◌∙◌, arith}
+use Rattle.std.proofs.Common.{◌≡◌, inl, inr, ℕ, ◌-◌, ◌*◌, ◌/◌, ◌<◌, ◌≤◌, ◌^◌, Bool, true, nat_le, nat_lt, List, [], ◌∷◌, ◌++◌, length, map, append-nil, refl, sym, ap, ap₂, ◌∙◌, arith}
 use Rattle.std.specs.List.{AllByRecursion, flat_map, list_all}
-use Rattle.std.specs.declared.alloc.Global.{Global}
 use Rattle.std.proofs.Math.Nat.{mod-eq_of_lt}
 use Rattle.std.proofs.lemmas.Bool.{and_from, and_parts, le-leb, leb-true, lt-ltb, ltb-true}
 use Rattle.std.proofs.lemmas.List.{length-map}
@@ -14,6 +13,7 @@ use Rattle.cs_frame.specs.Bytes.{IsBytes, zeros}
 use Rattle.cs_frame.specs.Formats.{as_entry, as_locator, fits_entry, fits_locator, fits_run, id_bytes, place_of, rises}
 use Rattle.cs_frame.specs.Locators.{FitsLocator, spelled_locators}
 use Rattle.cs_frame.specs.Runs.{Entry as SpelledEntry, FitsEntry, FitsRun, Rises, entries_of as spelled_entries, entry_of, is_before, spelled_entry}
+use Rattle.cs_frame.specs.Places.{Listed}
 use Rattle.cs_index.proofs.Numbers.{before_is}
 use Rattle.cs_index.specs.State.{id_number, named_entry}
 use Rattle.cs_model.specs.Element.{Entry, Locator as Place}
@@ -30,7 +30,7 @@ fit_places : (ls : List Locator) → AllByRecursion FitsLocator ls → list_all 
 fit_places [] all = refl
 fit_places (l ∷ ls) all = and_from _ _ (fits_place l all.0) (fit_places ls all.1)
 
-fit_entries : (xs : List (ShardId × Vec Locator Global)) → AllByRecursion FitsEntry (spelled_entries xs) → list_all fits_entry (map named_entry xs) ≡ true
+fit_entries : (xs : List (ShardId × Listed)) → AllByRecursion FitsEntry (spelled_entries xs) → list_all fits_entry (map named_entry xs) ≡ true
 fit_entries [] all = refl
 fit_entries (x ∷ xs) all = and_from _ _
     (and_from _ _ (le-leb (length (map place_of x.1.items)) 8 (let same : length (map place_of x.1.items) ≡ length x.1.items = length-map x.1.items place_of in let few : length x.1.items ≤ 8 = all.0.count in omega arith))
@@ -43,7 +43,7 @@ ascending_rises (x ∷ []) up = refl
 ascending_rises (x ∷ y ∷ xs) up = and_from _ _ (lt-ltb _ _ up.0) (ascending_rises (y ∷ xs) up.1)
 
 -- entries that a page spells fit a run
-pub spelled_fit : (xs : List (ShardId × Vec Locator Global)) → FitsRun (spelled_entries xs) → Ascending (map named_entry xs)
+pub spelled_fit : (xs : List (ShardId × Listed)) → FitsRun (spelled_entries xs) → Ascending (map named_entry xs)
     → fits_run (map named_entry xs) ≡ true
 spelled_fit xs fits up =
     let a : length (spelled_entries xs) ≡ length xs = length-map xs entry_of in

@@ -1,8 +1,7 @@
 -- What an image recovers can be read.
-use Rattle.std.proofs.Common.{◌≡◌, inl, inr, ℕ, zero, suc, ◌+◌, ◌/◌, ◌<◌, ◌≤◌, List, [], ◌∷◌, ◌++◌, length, map, take, drop, Option, Some, None, Vec, true, refl, sym, ap, ◌∙◌, subst, arith}
+use Rattle.std.proofs.Common.{◌≡◌, inl, inr, ℕ, zero, suc, ◌+◌, ◌/◌, ◌<◌, ◌≤◌, List, [], ◌∷◌, ◌++◌, length, map, take, drop, Option, Some, None, true, refl, sym, ap, ◌∙◌, subst, arith}
 use Rattle.std.specs.Prelude.{reverse, slice_index, slice_index_or}
 use Rattle.std.specs.List.{AllByRecursion, flat_map}
-use Rattle.std.specs.declared.alloc.Global.{Global}
 use Rattle.std.proofs.lemmas.Grind.{reverse_onto}
 use Rattle.std.proofs.lemmas.List.{length-drop, length-map, length-reverse, length-take}
 use Rattle.byteorder.specs.Endian.{big_bytes}
@@ -25,6 +24,7 @@ use Rattle.cs_frame.specs.Pointers.{FitsExtent as FitsPair}
 use Rattle.cs_frame.specs.Roots.{SpellsRoot}
 use Rattle.cs_frame.specs.Runs.{spelled_entry, spelled_run}
 use Rattle.cs_frame.specs.Superblocks.{FitsSuperblock, SpellsSuperblock}
+use Rattle.cs_frame.specs.Places.{Listed}
 use Rattle.cs_index.proofs.Newest.{all_oldest}
 use Rattle.cs_index.proofs.Sorted.{all_append, all_take}
 use Rattle.cs_index.specs.declared.runs.StoredRun.{StoredRun}
@@ -280,7 +280,7 @@ module _ (view : ℕ → List ℕ) (format : ℕ) (versions : List ℕ) (pages :
     from_places [] each = tt
     from_places (l ∷ ls) each = (located (place_of l) (each (place_of l) (inl refl)), from_places ls (λ k has. each k (inr has)))
 
-    from_entries : (xs : List (ShardId × Vec Locator Global)) → AllByRecursion EntryLocated (map named_entry xs) → AllByRecursion (λ entry. AllByRecursion (IsLocated x) entry.1.items) xs
+    from_entries : (xs : List (ShardId × Listed)) → AllByRecursion EntryLocated (map named_entry xs) → AllByRecursion (λ entry. AllByRecursion (IsLocated x) entry.1.items) xs
     from_entries [] all = tt
     from_entries (e ∷ xs) all = (from_places e.1.items all.0, from_entries xs all.1)
 

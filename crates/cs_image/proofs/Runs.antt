@@ -1,15 +1,14 @@
 -- Runs that were read.
-use Rattle.std.proofs.Common.{◌≡◌, ℕ, ◌+◌, ◌≤◌, true, List, [], ◌∷◌, length, map, Vec, refl, sym, ap, ap₂, ◌∙◌, subst, arith}
+use Rattle.std.proofs.Common.{◌≡◌, ℕ, ◌+◌, ◌≤◌, true, List, [], ◌∷◌, length, map, refl, sym, ap, ap₂, ◌∙◌, subst, arith}
 use Rattle.std.specs.Prelude.{reverse}
 use Rattle.std.specs.List.{AllByRecursion}
-use Rattle.std.specs.declared.alloc.Global.{Global}
 use Rattle.std.proofs.lemmas.List.{length-map, reverse-reverse}
 use Rattle.cs_extent.specs.State.{State as ExtentsState, shape}
 use Rattle.cs_frame.specs.declared.identifiers.ShardId.{ShardId}
-use Rattle.cs_frame.specs.declared.locators.Locator.{Locator}
 use Rattle.cs_frame.specs.Formats.{as_locator, formats_of, place_of}
 use Rattle.cs_frame.specs.Frames.{spelled_frame}
 use Rattle.cs_frame.specs.Runs.{FitsEntry, IsRun, SpellsRun, entries_of as spelled_entries, entry_of}
+use Rattle.cs_frame.specs.Places.{Listed}
 use Rattle.cs_index.proofs.Newest.{all_newest, all_oldest}
 use Rattle.cs_index.proofs.Spelled.{payload_frame}
 use Rattle.cs_index.proofs.Whole.{stored_runs}
@@ -25,7 +24,7 @@ use Rattle.cs_image.proofs.Entries.{spelled_fit}
 use Rattle.cs_image.proofs.Listed.{oldest_places}
 
 abbrev pub Stored : Type 0
-Stored = List (ShardId × Vec Locator Global)
+Stored = List (ShardId × Listed)
 
 -- ---- a run that is spelled can be held by an index
 
