@@ -22,6 +22,7 @@ use Rattle.cs_frame.specs.declared.locators.Locator.{Locator}
 use Rattle.cs_frame.specs.Formats.{as_locator}
 use Rattle.cs_frame.specs.Geometries.{named_limit}
 use Rattle.cs_frame.specs.Runs.{FitsEntry, IsRun, SpellsRun, entries_of as spelled_entries, entry_of, run_fault}
+use Rattle.cs_frame.specs.Places.{Listed}
 use Rattle.cs_image.proofs.Families.{length-by_family, root_in}
 use Rattle.cs_image.proofs.Listed.{all_default}
 use Rattle.cs_image.proofs.OneByOne.{place_inside}
@@ -106,11 +107,11 @@ fresh_view g image none p = inr (none p, refl)
 
 -- ---- one run
 
-counts_of : (xs : List (ShardId × Vec Locator Global)) → AllByRecursion FitsEntry (spelled_entries xs) → AllByRecursion (λ entry. length entry.1.items ≤ 8) xs
+counts_of : (xs : List (ShardId × Listed)) → AllByRecursion FitsEntry (spelled_entries xs) → AllByRecursion (λ entry. length entry.1.items ≤ 8) xs
 counts_of [] all = tt
 counts_of (x ∷ xs) all = (all.0.count, counts_of xs all.1)
 
-pub is_run : (entries : Vec (ShardId × Vec Locator Global) Global) (payload : List ℕ) → SpellsRun payload (spelled_entries entries.items) → IsRun (record { entries = entries })
+pub is_run : (entries : Vec (ShardId × Listed) Global) (payload : List ℕ) → SpellsRun payload (spelled_entries entries.items) → IsRun (record { entries = entries })
 is_run entries payload is = record {
   some = (let e : length (spelled_entries entries.items) ≡ length entries.items = length-map entries.items entry_of in let some : 1 ≤ length (spelled_entries entries.items) = is.fits.some in omega arith);
   most = (let e : length (spelled_entries entries.items) ≡ length entries.items = length-map entries.items entry_of in omega (arith, is.fits.most, e));

@@ -15,7 +15,7 @@ use crate::stores::Store;
 use cs_chunk::{put_chunks_by, put_fits_by, shard_bytes};
 use cs_deps::Refusal;
 use cs_extent::Extents;
-use cs_frame::{Locator, ShardId};
+use cs_frame::{Places, ShardId};
 use cs_index::Index;
 
 impl Store {
@@ -116,7 +116,7 @@ fn why_worn(extents: &Extents, bytes: &[u8]) -> Refusal
 }
 
 /// Points an identifier at the chunks that were put under it.
-fn enter(index: &mut Index, id: ShardId, places: Vec<Locator>)
+fn enter(index: &mut Index, id: ShardId, places: Places)
     requires count { (1 ≤ length places.items) × (length places.items ≤ 8) }
     requires limit { lookup (id_number id) (index_of index.old) ≡ None → names (index_of index.old) < index.old.limit }
     requires room { 0 < index.old.room }

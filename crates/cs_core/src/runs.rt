@@ -13,7 +13,7 @@ use cs_chunk::{read_frame, refusal_of_fault};
 use cs_deps::{Graph, Refusal};
 use cs_disk::PageDisk;
 use cs_extent::Extents;
-use cs_frame::{FrameKind, Locator, ShardId, decode_run};
+use cs_frame::{FrameKind, Locator, Places, ShardId, decode_run};
 use cs_index::StoredRun;
 use std::alloc::Global;
 
@@ -41,12 +41,12 @@ pub fn are_places_located(extents: &Extents, places: &[Locator]) -> bool
 }
 
 /// Whether the places of all of these entries are located.
-fn are_entries_located(extents: &Extents, entries: &[(ShardId, Vec<Locator>)]) -> bool
+fn are_entries_located(extents: &Extents, entries: &[(ShardId, Places)]) -> bool
     ensures { MatchBool result (AllByRecursion (λ entry. AllByRecursion (IsLocated extents.now) entry.1.items) entries.now) (¬ AllByRecursion (λ entry. AllByRecursion (IsLocated extents.now) entry.1.items) entries.now) }
 {
     for k in 0..entries.len() {
         let entry = &entries[k];
-        if !are_places_located(extents, &entry.1) {
+        if !are_places_located(extents, entry.1.as_slice()) {
             return false;
         }
     }
