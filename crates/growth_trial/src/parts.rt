@@ -8,7 +8,7 @@ use crate::marks::{begin_call, ended};
 use cs_deps::{Dependency, Element, Graph};
 use cs_disk::PageDisk;
 use cs_extent::Extents;
-use cs_frame::{Locator, Superblock, decode_section};
+use cs_frame::{Locator, Places, Superblock, decode_section};
 use cs_index::Index;
 use std::alloc::Global;
 use std::io;
@@ -33,7 +33,7 @@ fn try_index<R: Print>(rt: &R, alloc: Global) -> Result<(), Fault> {
         page: 1,
         generation: 0,
     };
-    index.set(id(10), Vec::from_slice(alloc, &[place])?)?;
+    index.set(id(10), Places::from_slice(alloc, &[place])?)?;
     tell_shard(rt, &index)
 }
 

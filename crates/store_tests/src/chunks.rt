@@ -11,7 +11,7 @@ use cs_chunk::{
 use cs_deps::Refusal;
 use cs_disk::{DiskFault, PageDisk};
 use cs_extent::Extents;
-use cs_frame::{FormatFault, FrameKind, Locator};
+use cs_frame::{FormatFault, FrameKind, Locator, Places};
 use std::alloc::Global;
 use std::process::Abort;
 
@@ -21,7 +21,7 @@ fn put(
     alloc: Global,
     store: &mut Store,
     bytes: &[u8],
-) -> Result<Vec<Locator>, Refusal> {
+) -> Result<Places, Refusal> {
     assert_families(rt, &store.extents, &store.graph);
     put_chunks(alloc, &mut store.extents, &mut store.graph, bytes)
 }

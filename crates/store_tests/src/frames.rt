@@ -1,7 +1,7 @@
 //! The formats of root, frames and runs by their bytes, and by each byte that is damaged.
 use crate::texts::{is_said, prints};
 use cs_frame::{
-    FormatFault, FrameKind, Locator, Root, Run, ShardId, decode_frame, decode_frame_header,
+    FormatFault, FrameKind, Locator, Places, Root, Run, ShardId, decode_frame, decode_frame_header,
     decode_root, decode_run, decode_section, decode_superblock, encode_frame, encode_root,
     encode_run, first_format_has_one_spelling, formats_are_apart, frame_has_one_spelling,
     frame_is_read_by_its_header, frame_pages, page_zero_has_one_spelling, root_has_one_spelling,
@@ -270,7 +270,7 @@ fn tenth(rt: &(impl Abort + AllocGlobal)) -> ShardId {
 /// The payload of a run of one identifier with one locator.
 fn encoded_run(rt: &(impl Abort + AllocGlobal), id: ShardId) -> Vec<u8> {
     let alloc = rt.alloc();
-    let locators = vec![in alloc; FIRST].expect(rt, "memory");
+    let locators = Places::from_slice(alloc, &[FIRST]).expect(rt, "memory");
     let mut entries = Vec::with_capacity(alloc, 1).expect(rt, "memory");
     entries.push_reserved((id, locators));
     encode_run(alloc, &Run { entries }).expect(rt, "bytes")

@@ -5,7 +5,7 @@ use crate::stores::{Store, assert_families, id, plays_divided, plays_large, play
 use crate::texts::{byte, text_of, words_of};
 use cs_deps::{Element, Graph, Refusal};
 use cs_extent::Purpose;
-use cs_frame::{Locator, decode_root};
+use cs_frame::{Locator, Places, decode_root};
 use cs_index::{Entries, Index};
 use std::alloc::Global;
 use std::process::Abort;
@@ -27,8 +27,7 @@ fn set(
     last: u8,
     page: u16,
 ) -> Result<(), Refusal> {
-    let mut locators = Vec::with_capacity(alloc, 1).expect(rt, "memory");
-    locators.push_reserved(place(page));
+    let locators = Places::from_slice(alloc, &[place(page)]).expect(rt, "memory");
     index.set(id(last), locators)
 }
 
@@ -41,8 +40,7 @@ fn replace(
     old: u16,
     new: u16,
 ) -> bool {
-    let mut locators = Vec::with_capacity(alloc, 1).expect(rt, "memory");
-    locators.push_reserved(place(new));
+    let locators = Places::from_slice(alloc, &[place(new)]).expect(rt, "memory");
     index
         .replace_if(id(last), &[place(old)], locators)
         .expect(rt, "memory")

@@ -30,7 +30,7 @@ fn put(
 ) -> Result<(), Refusal> {
     assert_families(rt, &store.extents, &store.graph);
     let places = put_chunks(alloc, &mut store.extents, &mut store.graph, &[byte])?;
-    let count = places.len();
+    let count = places.as_slice().len();
     assert!(rt; 1 <= count);
     assert!(rt; count <= 8);
     store.index.set(id(last), places)
