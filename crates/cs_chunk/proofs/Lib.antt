@@ -1,5 +1,6 @@
 pub mod Pieces
 pub mod Chunkings
+pub mod Copied
 pub mod Newest
 pub mod Appends
 pub mod Putting

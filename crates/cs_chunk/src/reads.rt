@@ -15,7 +15,7 @@ use crate::refusals::{refusal_of_disk, refusal_of_fault};
 use cs_deps::{Graph, Refusal};
 use cs_disk::PageDisk;
 use cs_extent::Extents;
-use cs_frame::{FrameKind, Locator, decode_frame, decode_frame_header};
+use cs_frame::{FrameKind, Locator, ReadFrame, decode_frame_header, read_frame_in};
 use std::alloc::Global;
 
 /// Reads a page: the newest waiting plain write to it, and where none waits what the device has.
@@ -87,16 +87,27 @@ fn page_number(extents: &Extents, locator: Locator) -> u64
     extents.geometry().device_page(locator.extent, locator.page)
 }
 
-/// The payload of the frame in these pages.
-fn decoded(alloc: Global, kind: FrameKind, pages: &[[u8; 4096]]) -> Result<Vec<u8>, Refusal>
-    requires { 0 < length pages.now }
-    ensures spelled { IfOk result (λ payload. SpellsFrame (kind_byte kind) pages.now payload.items) }
-    ensures fault { AnswersFault (frame_fault (kind_byte kind) pages.now) result }
+/// The frame in these pages.
+fn framed(kind: FrameKind, pages: Vec<[u8; 4096]>) -> Result<ReadFrame, Refusal>
+    requires { 0 < length pages.items }
+    ensures spelled { IfOk result (λ payload. SpellsFrame (kind_byte kind) pages.items payload) }
+    ensures fault { AnswersFault (frame_fault (kind_byte kind) pages.items) result }
     ensures refusals { IfErr result (λ r. (r ≡ Refusal.OutOfMemory) ⊎ ((20 ≤ number_of r) × (number_of r ≤ 24))) }
 {
-    match decode_frame(alloc, kind, pages) {
-        Ok(payload) => Ok(payload),
+    match read_frame_in(kind, pages) {
+        Ok(frame) => Ok(frame),
         Err(fault) => Err(refusal_of_fault(fault)),
+    }
+}
+
+/// The payload of a frame, elsewhere in memory.
+fn copied(alloc: Global, frame: &ReadFrame) -> Result<Vec<u8>, Refusal>
+    ensures same { IfOk result (λ payload. payload.items ≡ frame.now) }
+    ensures memory { IfErr result (λ r. r ≡ Refusal.OutOfMemory) }
+{
+    match Vec::from_slice(alloc, frame.payload()) {
+        Ok(payload) => Ok(payload),
+        Err(_) => Err(Refusal::OutOfMemory),
     }
 }
 
@@ -137,12 +148,50 @@ fn read_frame_pages<D: PageDisk>(
     }
 }
 
-/// The payload of the frame that begins at a place. Each page is read once, the newest waiting write to it where there
+/// The frame that begins at a place, in the pages that are read of it. Each page is read once, the newest waiting write to it where there
 /// is one, and then the device isn't asked; the header's tests are made before the second page is read.
 ///
 /// 20 `BadMagic`, 21 `BadDigest`, 22 `BadLength`, 23 `BadPadding` or 24 `BadVersion`, the first test that fails, where
 /// no frame of this kind begins there; 1 `DeviceFault` where a read failed; 9 `OutOfMemory`. The disk holds what it
 /// held.
+pub fn frame_at<D: PageDisk>(
+    alloc: Global,
+    extents: &Extents,
+    graph: &Graph,
+    disk: &mut D,
+    kind: FrameKind,
+    locator: Locator,
+) -> Result<ReadFrame, Refusal>
+    requires extent { locator.extent < (shape extents.now).extents }
+    requires page { locator.page < (shape extents.now).pages }
+    requires device { 2 + (shape extents.now).extents * (shape extents.now).pages ≤ D.page_count disk.old }
+
+    // What is read is the payload of a frame there.
+    ensures payload { D.honest disk.old → (view : ℕ → List ℕ) → AreNewest graph.now (seen (D.state disk.old)) view
+        → IfOk result (λ payload. IsFrameAt (shape extents.now) view (kind_of kind) locator payload) }
+    // Where there is a frame its payload is read, unless the device or memory refuses.
+    ensures read { D.honest disk.old → (view : ℕ → List ℕ) (payload : List ℕ) → AreNewest graph.now (seen (D.state disk.old)) view
+        → IsFrameAt (shape extents.now) view (kind_of kind) locator payload → MatchResult result (λ found. found ≡ payload) IsNoAnswer }
+    // Each other refusal is that of the first test that fails.
+    ensures fault { D.honest disk.old → (view : ℕ → List ℕ) → AreNewest graph.now (seen (D.state disk.old)) view
+        → AnswersFault (fault_at (shape extents.now) view kind locator) result }
+    ensures refusals { IfErr result IsReadRefusal }
+    // Whatever the disk answers, the frame of what is read lies in the extent.
+    ensures size { IfOk result (λ payload. locator.page + length ((formats_of (shape extents.now)).frame (kind_of kind) payload) ≤ (shape extents.now).pages) }
+
+    ensures disk { OnlyReads D.PageDisk disk.old disk.new }
+    ensures cause { IsCaused (D.failure_count disk.old) (D.failure_count disk.new) result }
+    ensures whole { IsWhole extents.now }
+{
+    match read_frame_pages(alloc, extents, graph, disk, kind, locator) {
+        Ok(pages) => framed(kind, pages),
+        Err(refusal) => Err(refusal),
+    }
+}
+
+/// The payload of the frame that begins at a place: that of `frame_at`, which is copied out of its pages.
+///
+/// Refused as `frame_at`.
 pub fn read_frame<D: PageDisk>(
     alloc: Global,
     extents: &Extents,
@@ -172,8 +221,8 @@ pub fn read_frame<D: PageDisk>(
     ensures cause { IsCaused (D.failure_count disk.old) (D.failure_count disk.new) result }
     ensures whole { IsWhole extents.now }
 {
-    match read_frame_pages(alloc, extents, graph, disk, kind, locator) {
-        Ok(pages) => decoded(alloc, kind, &pages),
+    match frame_at(alloc, extents, graph, disk, kind, locator) {
+        Ok(frame) => copied(alloc, &frame),
         Err(refusal) => Err(refusal),
     }
 }

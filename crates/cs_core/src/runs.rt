@@ -9,7 +9,7 @@ ghost use Rattle.cs_frame.specs.Runs.{IsRun, SpellsRun, entries_of, run_fault};
 ghost use Rattle.cs_image.specs.Reads.{AreLocated, IsLocated, IsRunRead};
 ghost use Rattle.cs_core.specs.Openings.{IsOpeningRefusal, IsWhyNoRuns, IsWhyNotRead};
 
-use cs_chunk::{read_frame, refusal_of_fault};
+use cs_chunk::{frame_at, refusal_of_fault};
 use cs_deps::{Graph, Refusal};
 use cs_disk::PageDisk;
 use cs_extent::Extents;
@@ -107,8 +107,8 @@ fn read_run<D: PageDisk>(
     if !is_located(extents, place) {
         return Err(Refusal::NotAStore);
     }
-    match read_frame(alloc, extents, graph, disk, FrameKind::Run, place) {
-        Ok(payload) => decoded_run(alloc, place, &payload),
+    match frame_at(alloc, extents, graph, disk, FrameKind::Run, place) {
+        Ok(frame) => decoded_run(alloc, place, frame.payload()),
         Err(refusal) => Err(refusal),
     }
 }

@@ -3,7 +3,7 @@
 ghost use Rattle.std.specs.Prelude.{◌≡◌, ◌+◌, ◌^◌, ◌<◌, ◌≤◌, ℕ, List, None, Ok, Err, IfOk, length, vec_len};
 ghost use Rattle.cs_frame.specs.Bytes.{EachHas, IsBytes};
 ghost use Rattle.cs_frame.specs.Faults.{HasFault, OkUnlessMemory, fault_in};
-ghost use Rattle.cs_frame.specs.Frames.{SpellsFrame, bytes_in, frame_fault, header_fault, kind_byte, page_count, payload_in, payload_length, spelled_frame};
+ghost use Rattle.cs_frame.specs.Frames.{SpellsFrame, bytes_in, first_page, frame_count, frame_fault, header_fault, kind_byte, page_count, payload_in, payload_length, spelled_frame};
 
 use crate::faults::FormatFault;
 use crate::pages::{check_magic, check_version, is_zero};
@@ -103,10 +103,13 @@ pub fn decode_frame_header(
 }
 
 /// The payload in the pages of a frame. Makes the tests in order.
-fn payload_of(kind: FrameKind, pages: &[[u8; 4096]]) -> Result<&[u8], FormatFault>
+pub(crate) fn payload_of(kind: FrameKind, pages: &[[u8; 4096]]) -> Result<&[u8], FormatFault>
     requires { 0 < length pages.now }
     ensures fault { fault_in result ≡ frame_fault (kind_byte kind) pages.now }
     ensures payload { IfOk result (λ payload. payload.now ≡ payload_in pages.now) }
+    ensures size { IfOk result (λ payload. length payload.now ≡ payload_length (first_page pages.now)) }
+    ensures short { IfOk result (λ payload. length payload.now < 2 ^ 32) }
+    ensures room { IfOk result (λ _. frame_count pages.now ≤ length pages.now) }
     ensures pages { EachHas 4096 pages.now }
     ensures bytes { IfOk result (λ _. IsBytes (bytes_in pages.now)) }
 {

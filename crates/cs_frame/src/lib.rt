@@ -14,6 +14,7 @@ mod page_zero;
 mod pages;
 mod places;
 mod pointers;
+mod read_frames;
 mod roots;
 mod runs;
 mod superblocks;
@@ -36,6 +37,7 @@ pub use laws::{
 pub use locators::Locator;
 pub use page_zero::decode_superblock;
 pub use places::Places;
+pub use read_frames::{ReadFrame, read_frame_in};
 pub use roots::{Root, decode_root, encode_root, greatest_runs};
 pub use runs::{GREATEST_CHUNKS, Run, decode_run, encode_run, run_bytes};
 pub use superblocks::{Superblock, decode_section, encode_section, encode_superblock};

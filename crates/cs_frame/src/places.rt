@@ -1,5 +1,5 @@
 //! Where the chunks of a shard lie.
-ghost use Rattle.std.specs.Prelude.{◌≡◌, ◌<◌, ◌≤◌, ◌++◌, ◌∷◌, [], IfOk, length, slice_set};
+ghost use Rattle.std.specs.Prelude.{◌≡◌, ◌<◌, ◌≤◌, ◌++◌, ◌∷◌, [], IfOk, IsOk, length, slice_set};
 ghost use Rattle.cs_frame.specs.Locators.{locators_in};
 ghost use Rattle.cs_frame.specs.Places.{HasPlaceFor};
 
@@ -45,6 +45,7 @@ impl Places {
     pub fn with_room(alloc: Global, count: usize) -> Result<Self, AllocError>
         ensures items { IfOk result (λ places. places.items ≡ []) }
         ensures room { IfOk result (λ places. count ≤ places.capacity) }
+        ensures memory { count ≤ 1 → IsOk result }
     {
         if count <= 1 {
             return Ok(Self::none());
@@ -57,7 +58,8 @@ impl Places {
 
     /// These locators. Up to one it takes no memory.
     pub fn from_slice(alloc: Global, places: &[Locator]) -> Result<Self, AllocError>
-        ensures { IfOk result (λ made. made.items ≡ places.now) }
+        ensures same { IfOk result (λ made. made.items ≡ places.now) }
+        ensures memory { length places.now ≤ 1 → IsOk result }
     {
         let held = match places {
             [] => Held::Nothing,

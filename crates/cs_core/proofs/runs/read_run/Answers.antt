@@ -6,17 +6,17 @@ use Rattle.cs_core.proofs.runs.read_run.Goals as goal
 pub returns-in-Ok-clause-read : goal.returns-in-Ok-clause-read
 returns-in-Ok-clause-read g c = λ h.
     let image = seen (g.D.PageDisk.state c.args.disk.now) in
-    run_read c.args.extents.now (page image) c.args.place c.if-not-is_located.ensures c.in-Ok.payload.items c.deref.result.now c.deref.ensures.value
+    run_read c.args.extents.now (page image) c.args.place c.if-not-is_located.ensures c.in-Ok.frame c.payload.result.now c.payload.ensures.value
     (c.in-Ok.ensures.payload h (page image) (fresh_view c.args.graph.now image c.requires.none)) c.decoded_run.result c.decoded_run.ensures.spelled c.decoded_run.ensures.place
 
 pub returns-in-Ok-clause-why : goal.returns-in-Ok-clause-why
 returns-in-Ok-clause-why g c = λ h.
     let image = seen (g.D.PageDisk.state c.args.disk.now) in
-    run_not_read c.args.extents.now (page image) c.args.place c.if-not-is_located.ensures c.in-Ok.payload.items c.deref.result.now c.deref.ensures.value
+    run_not_read c.args.extents.now (page image) c.args.place c.if-not-is_located.ensures c.in-Ok.frame c.payload.result.now c.payload.ensures.value
     (c.in-Ok.ensures.payload h (page image) (fresh_view c.args.graph.now image c.requires.none)) c.decoded_run.result c.decoded_run.ensures.fault
 
 pub returns-in-Ok-clause-cause : goal.returns-in-Ok-clause-cause
-returns-in-Ok-clause-cause g c = caused_no (g.D.PageDisk.failure_count c.args.disk.now) (g.D.PageDisk.failure_count c.read_frame.new.disk) (run_fault c.deref.result.now) c.decoded_run.result c.read_frame.ensures.cause.later c.decoded_run.ensures.fault
+returns-in-Ok-clause-cause g c = caused_no (g.D.PageDisk.failure_count c.args.disk.now) (g.D.PageDisk.failure_count c.frame_at.new.disk) (run_fault c.payload.result.now) c.decoded_run.result c.frame_at.ensures.cause.later c.decoded_run.ensures.fault
 
 pub returns-in-Err-clause-why : goal.returns-in-Err-clause-why
 returns-in-Err-clause-why g c = λ h.

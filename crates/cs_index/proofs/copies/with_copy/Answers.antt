@@ -9,4 +9,4 @@ pub returns-clause-places : goal.returns-clause-places
 returns-clause-places c =
     ap (map place_of) c.set.ensures
     ∙ set_replaced c.in_ok-new.new.items c.args.chunk c.args.place
-    ∙ ap (λ (ls : List Locator). replaced (map place_of ls) c.args.chunk (place_of c.args.place)) c.in_ok-new.ensures
+    ∙ ap (λ (ls : List Locator). replaced (map place_of ls) c.args.chunk (place_of c.args.place)) c.in_ok-new.ensures.same

@@ -13,7 +13,7 @@ returns-clause-moved c =
     let k = c.args.live.now.chunk in
     let p = c.in-Ok-append_moved.place in
     let before : map place_of c.in_ok-after.after.items ≡ live_at (index_of c.args.index.now) (id_number c.args.live.now.id) =
-    ap (map place_of) (c.in_ok-after.ensures ∙ c.as_slice.ensures.value) ∙ c.in-Ok.ensures.places in (
+    ap (map place_of) (c.in_ok-after.ensures.same ∙ c.as_slice.ensures.value) ∙ c.in-Ok.ensures.places in (
       p,
       c.in-Ok-append_moved.ensures.appended,
       set_from c.args.index.now c.places_with_room.new.index c.point_at.new.index id (map place_of c.set.new.self.items) (replaced (live_at (index_of c.args.index.now) id) k (place_of p))

@@ -1,0 +1,26 @@
+use Rattle.std.proofs.Common.{List, ℕ, Err}
+use Rattle.cs_extent.specs.State.{shape}
+use Rattle.cs_chunk.proofs.Framed.{all_fit, answers, frames_there, reads_it}
+use Rattle.cs_chunk.proofs.reads.frame_at.Goals as goal
+
+pub returns-in-Ok-clause-payload : goal.returns-in-Ok-clause-payload
+returns-in-Ok-clause-payload g c = λ h view are.
+    frames_there c.args.extents.now c.in-Ok.ensures.whole view c.args.kind c.args.locator c.requires.page c.in-Ok.pages.items (c.in-Ok.ensures.pages h view are) (λ v. v) c.framed.result c.framed.ensures.spelled
+
+pub returns-in-Ok-clause-fault : goal.returns-in-Ok-clause-fault
+returns-in-Ok-clause-fault g c = λ h view are.
+    answers c.args.extents.now c.in-Ok.ensures.whole view c.args.kind c.args.locator c.requires.page c.in-Ok.pages.items (c.in-Ok.ensures.pages h view are) c.framed.result c.framed.ensures.fault
+
+pub returns-in-Ok-clause-read : goal.returns-in-Ok-clause-read
+returns-in-Ok-clause-read g c = λ h view payload are there.
+    let front = c.in-Ok.ensures.pages h view are in
+    reads_it c.args.extents.now c.in-Ok.ensures.whole view c.args.kind c.args.locator c.requires.page (λ v. v) c.framed.result payload
+    (answers c.args.extents.now c.in-Ok.ensures.whole view c.args.kind c.args.locator c.requires.page c.in-Ok.pages.items front c.framed.result c.framed.ensures.fault)
+    (frames_there c.args.extents.now c.in-Ok.ensures.whole view c.args.kind c.args.locator c.requires.page c.in-Ok.pages.items front (λ v. v) c.framed.result c.framed.ensures.spelled) there
+
+pub returns-in-Err-clause-read : goal.returns-in-Err-clause-read
+returns-in-Err-clause-read g c = λ h view payload are there.
+    reads_it c.args.extents.now c.read_frame_pages.ensures.whole view c.args.kind c.args.locator c.requires.page {V = List ℕ} (λ v. v) (Err c.in-Err.refusal) payload (c.in-Err.ensures.fault h view are) tt there
+
+pub returns-in-Ok-clause-size : goal.returns-in-Ok-clause-size
+returns-in-Ok-clause-size g c = all_fit (shape c.args.extents.now) c.args.kind c.args.locator c.in-Ok.pages.items (λ v. v) c.framed.result c.in-Ok.ensures.fits c.framed.ensures.spelled
