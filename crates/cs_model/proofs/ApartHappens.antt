@@ -247,6 +247,7 @@ moves = (
     passes = record { generation = refl; below = omega arith; inside = (omega arith, omega arith) };
     below = inl (omega arith);
     inside = omega arith;
+    within = omega arith;
     stand = (refl, tt);
   },
   (world4, appends s3.world ForMove ([] ∷ []) 2 copy_goes, refl),
@@ -335,10 +336,11 @@ shape = let base = is_shape 6 2 1 8 1 (record {
   some_byte = base.some_byte;
   enough_runs = base.enough_runs;
   apart = λ on. (refl, refl, omega arith, omega arith);
+  fills = λ on. absurd (true≢false (sym on));
 }
 
 format : IsFormat example_apart example_format
-format = example_is_format example_apart
+format = example_is_format example_apart refl
 
 -- all numbers are small
 small : (t : State) → t.world.written ≤ 9 → t.world.superblocks 0 ≤ 9 → t.world.root ≤ 9

@@ -73,7 +73,7 @@ module _ (S : Shape) (F : Formats) (shape : IsShape S) (format : IsFormat S F) w
       → Sound S F (settled s) × Bounded S F (settled s)
   settled_sound s sound b copies =
       let all = settle_all_sound s s.copies sound b copies in (
-        remarked S F shape (settle_all s s.copies) (settle_all s s.copies).world.extents [] all.0 (λ d is. is) all.0.swept
+        remarked S F shape (settle_all s s.copies) (settle_all s s.copies).world.extents [] all.0 refl (λ d is. is) all.0.swept
             (λ on. record {
               found = (all.0.apart on).found;
               one_sweep = (all.0.apart on).one_sweep;
@@ -133,7 +133,7 @@ module _ (S : Shape) (F : Formats) (shape : IsShape S) (format : IsFormat S F) w
         (in_number S F shape format s t mid.world (MoveOne e) (Moved id k) worn.0 d
         (ap (λ (x : State). x.world.written) (sym o.9))) a.root a.count a.commands a.runs a.table b in (
           subst (λ (x : State). Sound S F x) (sym o.9)
-              (remarked S F shape mid mid.world.extents (copy ∷ mid.copies) a.sound (λ x is. is) a.sound.swept
+              (remarked S F shape mid mid.world.extents (copy ∷ mid.copies) a.sound refl (λ x is. is) a.sound.swept
               (λ now. record {
                 found = (a.sound.apart on).found;
                 one_sweep = (a.sound.apart on).one_sweep;

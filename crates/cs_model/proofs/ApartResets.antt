@@ -3,6 +3,7 @@ use Rattle.std.proofs.Common.{◌≡◌, ◌≢◌, ◌⊎◌, inl, inr, ⊎_eli
 use Rattle.std.proofs.lemmas.Bool.{cases_eq}
 use Rattle.std.proofs.lemmas.Bool.Decides.{nat_tests}
 use Rattle.cs_model.proofs.Carries.{and_left, and_right, and_true, carry, root_local}
+use Rattle.cs_model.proofs.Filled.{filled_on}
 use Rattle.cs_model.proofs.Gives.{gives_under}
 use Rattle.cs_model.proofs.Parts.{with_same, with_other}
 use Rattle.cs_model.proofs.ResetMoves.{keeps_reset}
@@ -27,6 +28,7 @@ module _ (S : Shape) (x : Extents) (root : ℕ) (test : ℕ → Bool) where
   -- what a reset of those below n that pass leaves of d
   abbrev pub IsReset : (n d : ℕ) → Extents → Type 0
   IsReset n d z = (d < n) × (test d ≡ true) × (z.pointer d ≡ 0) × (z.generation d ≡ suc (x.generation d))
+      × (S.apart ≡ true → z.found d ≡ 0)
 
   abbrev pub IsKept : (n d : ℕ) → Extents → Type 0
   IsKept n d z = (d < n → test d ≡ false) × (z.pointer d ≡ x.pointer d) × (z.generation d ≡ x.generation d)
@@ -36,10 +38,14 @@ module _ (S : Shape) (x : Extents) (root : ℕ) (test : ℕ → Bool) where
   found_other true f n d not = with_other f n 0 d not
   found_other false f n d not = refl
 
+  found_none : (b : Bool) (f : ℕ → ℕ) (n d : ℕ) → d ≡ n → b ≡ true → (if b then with f n 0 else f) d ≡ 0
+  found_none true f n d same on = with_same f n 0 d same
+  found_none false f n d same off = absurd (true≢false (sym off))
+
   step : (n d : ℕ) (b : Bool) → test n ≡ b → (z : Extents) → IsReset n d z ⊎ IsKept n d z → z.generation n ≡ x.generation n
       → IsReset (suc n) d (if b then forgotten S.apart (emptied z n root) n else z)
       ⊎ IsKept (suc n) d (if b then forgotten S.apart (emptied z n root) n else z)
-  step n d false is z (inl r) young = inl ((let lt : d < n = r.0 in omega arith), r.1, r.2, r.3)
+  step n d false is z (inl r) young = inl ((let lt : d < n = r.0 in omega arith), r.1, r.2, r.3, r.4)
   step n d false is z (inr k) young = inr (
     (λ lt. elim (cases_eq d n) [
       | inl same ↦ ap test same ∙ is
@@ -55,6 +61,7 @@ module _ (S : Shape) (x : Extents) (root : ℕ) (test : ℕ → Bool) where
       ap test same ∙ is,
       with_same z.pointer n 0 d same,
       with_same z.generation n (suc (z.generation n)) d same ∙ ap suc (young ∙ ap x.generation (sym same)),
+      found_none S.apart z.found n d same,
     )
     | inr other ↦ ⊎_elim
         (λ r. inl (
@@ -62,6 +69,7 @@ module _ (S : Shape) (x : Extents) (root : ℕ) (test : ℕ → Bool) where
           r.1,
           with_other z.pointer n 0 d other ∙ r.2,
           with_other z.generation n (suc (z.generation n)) d other ∙ r.3,
+          λ on. found_other S.apart z.found n d other ∙ r.4 on,
         ))
         (λ k. inr (
           (λ lt. k.0 (omega arith)),
@@ -258,14 +266,15 @@ module _ (S : Shape) (F : Formats) (shape : IsShape S) (on : S.apart ≡ true) (
     below = ⊎_elim (λ (below : l.page + length (F.frame ChunkFrame payload) ≤ s.world.extents.pointer l.extent). inl
         (subst (λ (n : ℕ). l.page + length (F.frame ChunkFrame payload) ≤ n) (sym same.0) below)) (λ fz. inr fz) r.below;
     inside = r.inside;
+    within = r.within;
     stand = r.stand;
   }
 
   thawed : (d : ℕ) → (after S.extents).generation d ≡ suc (s.world.extents.generation d)
-      → s.opening.frozen d ((after S.extents).generation d) ≡ true → ⊥
-  thawed d up fz =
-      let le : suc (s.world.extents.generation d) ≤ s.world.extents.generation d = sound.safe.frozen_before d
-      (suc (s.world.extents.generation d)) (ap (s.opening.frozen d) (sym up) ∙ fz) in omega arith
+      → (i : ℕ) → s.opening.frozen d i ((after S.extents).generation d) ≡ true → ⊥
+  thawed d up i fz =
+      let le : suc (s.world.extents.generation d) ≤ s.world.extents.generation d = sound.safe.frozen_before d i
+      (suc (s.world.extents.generation d)) (ap (s.opening.frozen d i) (sym up) ∙ fz) in omega arith
 
   was_swept : (d : ℕ) → (after S.extents).swept d ≡ true → s.world.extents.swept d ≡ true
   was_swept d is = ap (λ (f : ℕ → Bool). f d) (sym (swept_stay S s.world.extents s.world.root (is_blank S s) S.extents)) ∙ is
@@ -314,16 +323,22 @@ module _ (S : Shape) (F : Formats) (shape : IsShape S) (on : S.apart ≡ true) (
       subst (λ (n : ℕ). 0 < n) (sym (held_stays d (sweep_held d was)).0) o.1,
       o.2,
     ));
-    frozen = λ d fz. ⊎_elim (λ r. absurd (thawed d r.3 fz))
-        (λ k. (let o = sound.frozen d (ap (s.opening.frozen d) (sym k.2) ∙ fz) in (
+    frozen = λ off d i fz. ⊎_elim (λ r. absurd (thawed d r.3 i fz))
+        (λ k. (let o = sound.frozen off d i (ap (s.opening.frozen d i) (sym k.2) ∙ fz) in (
           (λ now_open. o.0 (open_before S s.world.extents s.world.root (is_blank S s) S.extents d now_open)),
           subst (λ (n : ℕ). 0 < n) (sym k.1) o.1,
         ))) (cases d);
     damaged = sound.damaged;
+    shown = sound.shown;
+    unfilled = sound.unfilled;
+    filled = λ full. filled_on S F s.opening s.world.extents.pointer s.world.extents.generation s.world.extents.found
+        (after S.extents).pointer (after S.extents).generation (after S.extents).found (roots_of s.world.elements) (sound.filled full)
+        sound.safe.frozen_before
+        (λ d. ⊎_elim (λ r. inl (r.4 on, r.3)) (λ k. inr (k.3, k.2, le_of_eq (sym k.1))) (cases d));
     apart = λ yes. record {
-      found = λ d fz. ⊎_elim (λ r. absurd (thawed d r.3 fz))
+      found = λ d i fz. ⊎_elim (λ r. absurd (thawed d r.3 i fz))
           (λ k. subst (λ (n : ℕ). 0 < n) (sym k.3)
-          ((sound.apart on).found d (ap (s.opening.frozen d) (sym k.2) ∙ fz))) (cases d);
+          ((sound.apart on).found d i (ap (s.opening.frozen d i) (sym k.2) ∙ fz))) (cases d);
       one_sweep = λ d e is also. (sound.apart on).one_sweep d e (was_swept d is) (was_swept e also);
       copied = λ some c has.
           (let any : any_swept S s ≡ true = ap (λ (f : ℕ → Bool). any_below f S.extents)

@@ -49,7 +49,7 @@ module _ (S : Shape) (F : Formats) (shape : IsShape S) (format : IsFormat S F) (
   rested_sound : (s : State) → Sound S F s → Sound S F (rested S s)
   rested_sound s sound = remarked S F shape s
       (record s.world.extents { fresh = if any_swept S s then s.world.extents.fresh else None })
-      (if any_swept S s then s.copies else []) sound (λ d is. is) sound.swept
+      (if any_swept S s then s.copies else []) sound refl (λ d is. is) sound.swept
       (λ now. record {
         found = (sound.apart on).found;
         one_sweep = (sound.apart on).one_sweep;

@@ -41,7 +41,7 @@ module _ (S : Shape) (F : Formats) (opening : Opening) (shape : IsShape S) (open
     pub carries : (d k : ℕ) → k < w.extents.pointer d → Inside S d k
         → (newest v (S.address d k) ≡ newest w (S.address d k)) × (v.extents.generation d ≡ w.extents.generation d)
         × (k < v.extents.pointer d)
-    pub still : (d k : ℕ) → opening.frozen d (w.extents.generation d) ≡ true → 0 < w.extents.pointer d
+    pub still : (d k : ℕ) → opening.frozen d k (w.extents.generation d) ≡ true → 0 < w.extents.pointer d
         → Inside S d k → newest v (S.address d k) ≡ newest w (S.address d k)
     pub stand : Stand S F (newest v) e i bs
     pub member : (m : Element) → IsMember S w m → IsMember S v m
@@ -51,7 +51,7 @@ module _ (S : Shape) (F : Formats) (opening : Opening) (shape : IsShape S) (open
       (settled : (d : ℕ) → Settled S w d) (ex : e < S.extents)
       (fits : w.extents.pointer e + length bs ≤ S.pages) (needs : IsNeed S w (S.section e) need)
       (room : suc (w.superblocks (S.section e)) ≤ S.greatest_number)
-      (thawed : opening.frozen e (w.extents.generation e) ≡ false) (apart : Bool) (purpose : Purpose) where
+      (thawed : (k : ℕ) → w.extents.pointer e ≤ k → opening.frozen e k (w.extents.generation e) ≡ false) (apart : Bool) (purpose : Purpose) where
     u : World
     u = stage_pages S w e (w.extents.pointer e) bs
 
@@ -156,8 +156,12 @@ module _ (S : Shape) (F : Formats) (opening : Opening) (shape : IsShape S) (open
       pointer_there = g.pointer_there;
       grows = longer;
       carries = λ d k lt inside. (g.below d k lt inside, ap (λ (f : ℕ → ℕ). f d) g.generation, longer d k lt);
-      still = λ d k fz some inside. g.still d k
-          (λ is. true≢false (sym fz ∙ ap (λ (n : ℕ). opening.frozen n (w.extents.generation n)) is ∙ thawed)) inside;
+      still = λ d k fz some inside. elim (cases_lt k (w.extents.pointer d)) [
+        | inl lt ↦ g.below d k lt inside
+        | inr high ↦ g.still d k (λ is. true≢false (sym fz
+            ∙ ap (λ (n : ℕ). opening.frozen n k (w.extents.generation n)) is
+            ∙ thawed k (subst (λ (n : ℕ). w.extents.pointer n ≤ k) is high))) inside
+      ];
       stand = g.stand;
       member = λ m is. superblock_member m (g.member m is);
       back = λ m is. g.back m (superblock_back m is);

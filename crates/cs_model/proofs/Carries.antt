@@ -25,7 +25,7 @@ found Before has bytes base (y ∷ ys) x order (inr later) passes newest = elim 
 module _ (S : Shape) (F : Formats) (opening : Opening) (img old : ℕ → Page) (p g q k : ℕ → ℕ)
     (carries : (e i : ℕ) → i < p e → Inside S e i → (img (S.address e i) ≡ old (S.address e i)) × (k e ≡ g e)
     × (i < q e))
-    (still : (e i : ℕ) → opening.frozen e (g e) ≡ true → 0 < p e → Inside S e i
+    (still : (e i : ℕ) → opening.frozen e i (g e) ≡ true → 0 < p e → Inside S e i
     → img (S.address e i) ≡ old (S.address e i)) where
   pub carry_stand : (e i : ℕ) (bs : List Page) → e < S.extents → i + length bs ≤ p e → i + length bs ≤ S.pages
       → Stand S F old e i bs → Stand S F img e i bs
@@ -35,11 +35,11 @@ module _ (S : Shape) (F : Formats) (opening : Opening) (img old : ℕ → Page) 
     carry_stand e (suc i) bs ex (omega arith) (omega arith) stand.1,
   )
 
-  still_stand : (e i : ℕ) (bs : List Page) → e < S.extents → opening.frozen e (g e) ≡ true → 0 < p e
+  still_stand : (e i : ℕ) (bs : List Page) → e < S.extents → ((k : ℕ) → opening.frozen e k (g e) ≡ true) → 0 < p e
       → i + length bs ≤ S.pages → Stand S F old e i bs → Stand S F img e i bs
   still_stand e i [] ex fz some inside stand = tt
   still_stand e i (b ∷ bs) ex fz some inside stand = (
-    still e i fz some (ex, omega arith) ∙ stand.0,
+    still e i (fz i) some (ex, omega arith) ∙ stand.0,
     still_stand e (suc i) bs ex fz some (omega arith) stand.1,
   )
 
@@ -53,8 +53,8 @@ module _ (S : Shape) (F : Formats) (opening : Opening) (img old : ℕ → Page) 
       (carries e (i + n) (omega arith) (ex, omega arith)).2 in omega arith
 
   carry_frame : (l : Locator) (bs : List Page) → Reads S F opening old p g l bs → (l.page + length bs ≤ p l.extent)
-      ⊎ (opening.frozen l.extent l.generation ≡ true)
-      → ((l.page + length bs ≤ q l.extent) ⊎ (opening.frozen l.extent l.generation ≡ true))
+      ⊎ ((i : ℕ) → opening.frozen l.extent i l.generation ≡ true)
+      → ((l.page + length bs ≤ q l.extent) ⊎ ((i : ℕ) → opening.frozen l.extent i l.generation ≡ true))
       × Stand S F img l.extent l.page bs
   carry_frame l bs r (inl below) = (
     inl (carry_below l.extent l.page (length bs) r.passes.inside.0 r.passes.below below r.inside
@@ -64,13 +64,13 @@ module _ (S : Shape) (F : Formats) (opening : Opening) (img old : ℕ → Page) 
   carry_frame l bs r (inr fz) = (
     inr fz,
     still_stand l.extent l.page bs r.passes.inside.0
-        (subst (λ (n : ℕ). opening.frozen l.extent n ≡ true) (sym r.passes.generation) fz)
+        (λ k. subst (λ (n : ℕ). opening.frozen l.extent k n ≡ true) (sym r.passes.generation) (fz k))
         (let lt : l.page < p l.extent = r.passes.below in omega arith) r.inside r.stand,
   )
 
   pub carry_reads : (l : Locator) (bs : List Page) → Reads S F opening old p g l bs → Reads S F opening img q k l bs
   carry_reads l bs r = let f = carry_frame l bs r r.below in
-      record { passes = carry_passes l r.passes; inside = r.inside; below = f.0; stand = f.1 }
+      record { passes = carry_passes l r.passes; inside = r.inside; within = r.within; below = f.0; stand = f.1 }
 
   pub carry_chunks : (ls : List Locator) (cs : List (List ℕ)) → Chunks S F opening old p g ls cs
       → Chunks S F opening img q k ls cs
@@ -119,7 +119,7 @@ module _ (S : Shape) (F : Formats) (opening : Opening) (img old : ℕ → Page) 
 -- what a root gives lies in the places that it covers, and in extents that were frozen
 pub root_local : (S : Shape) (F : Formats) {opening : Opening} → IsShape S → (r : Root) (a b : ℕ → Page)
     → ((h : Place) → Covers S r h → b h.page ≡ a h.page)
-    → ((e i : ℕ) → opening.frozen e (r.generations e) ≡ true → 0 < r.pointers e → Inside S e i
+    → ((e i : ℕ) → opening.frozen e i (r.generations e) ≡ true → 0 < r.pointers e → Inside S e i
     → b (S.address e i) ≡ a (S.address e i)) → RootGives S F opening r a → RootGives S F opening r b
 root_local S F {opening} shape r a b same still gives = (
   carry S F opening b a r.pointers r.generations r.pointers r.generations

@@ -30,7 +30,7 @@ module _ (S : Shape) (log : Log) (opened : ℕ → Page) (X : Cut) (r : Root) (h
   needs_met : (j : ℕ) → r.superblocks j ≤ X.superblocks j
   needs_met = closed.root_superblocks r is (le_of_eq greatest)
 
-  has_before : (w : Write) → w ∈ log.writes → w.page ≡ h.page → w.number ≤ r.writes (section_of S h.page)
+  pub has_before : (w : Write) → w ∈ log.writes → w.page ≡ h.page → w.number ≤ r.writes (section_of S h.page)
       → X.writes w.number ≡ true
   has_before w has at before =
       let u = needed.0 in

@@ -46,5 +46,6 @@ leaves_prefix S F shape format s sound mask =
           omega arith),
       prefix,
       (λ undamaged. whole_recovers S F s.opening (crashed S F s mask) (s.count + map_is.0)
-          (map_after s.start s.commands map_is.0) (whole_map s.start s.commands map_is.0 undamaged) prefix),
+          (map_after s.start s.commands map_is.0) (whole_map s.start s.commands map_is.0 undamaged)
+          (λ on. (sound.filled on).thawed) prefix),
     )

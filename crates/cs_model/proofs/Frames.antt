@@ -1,9 +1,9 @@
 -- A frame that is appended keeps a state sound.
-use Rattle.std.proofs.Common.{◌≡◌, ◌≢◌, inl, ⊎_elim, ℕ, suc, ◌+◌, ◌<◌, ◌≤◌, Bool, true, false, List, [], ◌∷◌, length, Some, le_of_eq, le_trans, true≢false, refl, sym, ap, ◌∙◌, subst, subst₂, arith}
+use Rattle.std.proofs.Common.{◌≡◌, ◌≢◌, inl, inr, ⊎_elim, ℕ, suc, ◌+◌, ◌<◌, ◌≤◌, Bool, true, false, List, [], ◌∷◌, length, Some, le_of_eq, le_trans, true≢false, refl, sym, ap, ◌∙◌, subst, subst₂, arith}
 use Rattle.cs_model.specs.Apart.{any_below}
 use Rattle.cs_model.specs.Append.{AppendAllBy, AppendBy, AppendsChunksBy, AppendsFrame, AppendsFrameBy, IsNeed, appended_by, chunk_frames}
 use Rattle.cs_model.specs.Device.{Inside, IsShape, Page, Shape}
-use Rattle.cs_model.specs.Element.{Locator, Root}
+use Rattle.cs_model.specs.Element.{Locator, Root, roots_of}
 use Rattle.cs_model.specs.Events.{newest_page}
 use Rattle.cs_model.specs.Extents.{ForPut, Goes, Purpose}
 use Rattle.cs_model.specs.Formats.{ChunkFrame, Formats, FrameKind}
@@ -11,10 +11,11 @@ use Rattle.cs_model.specs.Frames.{IsFormat}
 use Rattle.cs_model.specs.Index.{Chunks, Reads}
 use Rattle.cs_model.specs.Lists.{◌∈◌}
 use Rattle.cs_model.specs.Machine.{World}
-use Rattle.cs_model.specs.Sound.{Sound}
+use Rattle.cs_model.specs.Sound.{IsFilledUp, Sound}
 use Rattle.cs_model.specs.State.{State, map_now}
 use Rattle.cs_model.proofs.Parts.{with_same}
 use Rattle.cs_model.proofs.Carries.{carry, carry_reads}
+use Rattle.cs_model.proofs.Filled.{appended_reach, filled_on, no_less}
 use Rattle.cs_model.proofs.Needs.{appended_numbers}
 use Rattle.cs_model.proofs.Places.{goes_inside, opens, unfrozen}
 use Rattle.cs_model.proofs.Appends.{Framed, framed, appended_superblocks, all_up}
@@ -36,7 +37,7 @@ module _ (S : Shape) (F : Formats) (shape : IsShape S) (format : IsFormat S F) w
     pub carries : (d k : ℕ) → k < s.world.extents.pointer d → Inside S d k
         → (newest_page t (S.address d k) ≡ newest_page s (S.address d k))
         × (t.world.extents.generation d ≡ s.world.extents.generation d) × (k < t.world.extents.pointer d)
-    pub still : (d k : ℕ) → s.opening.frozen d (s.world.extents.generation d) ≡ true → 0 < s.world.extents.pointer d
+    pub still : (d k : ℕ) → s.opening.frozen d k (s.world.extents.generation d) ≡ true → 0 < s.world.extents.pointer d
         → Inside S d k → newest_page t (S.address d k) ≡ newest_page s (S.address d k)
     pub reads : Reads S F t.opening (newest_page t) t.world.extents.pointer t.world.extents.generation l bs
 
@@ -54,13 +55,14 @@ module _ (S : Shape) (F : Formats) (shape : IsShape S) (format : IsFormat S F) w
     exists : e < S.extents
     exists = (goes_inside S apart s.world.extents purpose (length (F.frame kind payload)) e placed).0
 
-    thawed : s.opening.frozen e (s.world.extents.generation e) ≡ false
+    thawed : (i : ℕ) → (S.fills ≡ true → s.world.extents.pointer e ≤ i)
+        → s.opening.frozen e i (s.world.extents.generation e) ≡ false
     thawed = unfrozen S F apart by s purpose (length (F.frame kind payload)) e sound placed
 
     fr : Framed S F s.opening shape s.opened s.world (appended_by S apart purpose s.world e need (F.frame kind payload)) e
         (s.world.extents.pointer e) (F.frame kind payload)
     fr = framed S F s.opening shape s.opened s.world e need
-        (F.frame kind payload) sound.safe sound.settled exists fits needs room thawed apart purpose
+        (F.frame kind payload) sound.safe sound.settled exists fits needs room (λ k above. thawed k (λ on. above)) apart purpose
 
     abbrev next : State
     next = record s { world = appended_by S apart purpose s.world e need (F.frame kind payload) }
@@ -84,10 +86,14 @@ module _ (S : Shape) (F : Formats) (shape : IsShape S) (format : IsFormat S F) w
         issued = λ m has. fr.member m (sound.issued m has);
         swept = λ d is. (let was : s.world.extents.swept d ≡ true = ap (λ (f : ℕ → Bool). f d) (sym fr.swept)
             ∙ is in (not_open d was, zero_below d was, (sound.swept d was).2));
-        frozen = λ d is. (let was = was_frozen d is in (frozen_closed d was, fr.grows d 0 (sound.frozen d was).1));
+        frozen = λ off d i is. (let was = was_frozen d i is in (frozen_closed off d i was, fr.grows d 0 (sound.frozen off d i was).1));
         damaged = sound.damaged;
+        shown = sound.shown;
+        unfilled = sound.unfilled;
+        filled = λ full. filled_next (sound.filled full);
         apart = λ on. record {
-          found = λ d is. subst (λ (f : ℕ → ℕ). 0 < f d) (sym fr.found) ((sound.apart on).found d (was_frozen d is));
+          found = λ d i is. subst (λ (f : ℕ → ℕ). 0 < f d) (sym fr.found)
+              ((sound.apart on).found d i (was_frozen d i is));
           one_sweep = λ d c is also. (sound.apart on).one_sweep d c (was_swept d is) (was_swept c also);
           copied = λ some c has.
               (let old = (sound.apart on).copied (ap (λ (f : ℕ → Bool). any_below f S.extents) (sym fr.swept) ∙ some) c has in (
@@ -127,26 +133,50 @@ module _ (S : Shape) (F : Formats) (shape : IsShape S) (format : IsFormat S F) w
         };
         below = inl (le_of_eq (sym fr.pointer_there));
         inside = fits;
+        within = may_reach S.fills refl;
         stand = fr.stand;
       };
     }
       where
+        filled_next : IsFilledUp S F s.opening s.world.extents.pointer s.world.extents.generation s.world.extents.found
+            (roots_of s.world.elements) → IsFilledUp S F s.opening next.world.extents.pointer
+            next.world.extents.generation next.world.extents.found (roots_of next.world.elements)
+        filled_next filled = subst (λ (rs : List Root). IsFilledUp S F s.opening next.world.extents.pointer
+            next.world.extents.generation next.world.extents.found rs) (sym fr.roots)
+            (filled_on S F s.opening s.world.extents.pointer s.world.extents.generation s.world.extents.found
+            next.world.extents.pointer next.world.extents.generation next.world.extents.found
+            (roots_of s.world.elements) filled sound.safe.frozen_before (λ d. inr (
+              ap (λ (f : ℕ → ℕ). f d) fr.found,
+              ap (λ (f : ℕ → ℕ). f d) fr.generation,
+              no_less s.world.extents.pointer next.world.extents.pointer fr.grows d,
+            )))
+
+        -- what was found ends at the pointer or before it
+        may_reach : (b : Bool) → S.fills ≡ b → s.world.extents.pointer e + length (F.frame kind payload) ≤ s.opening.limit
+            (record { extent = e; page = s.world.extents.pointer e; generation = s.world.extents.generation e })
+        may_reach true on = appended_reach S F s.opening s.world.extents.pointer s.world.extents.generation
+            s.world.extents.found (roots_of s.world.elements) (sound.filled on) e (length (F.frame kind payload)) fits
+        may_reach false off = le_trans fits (le_of_eq (sym (sound.unfilled off
+            (record { extent = e; page = s.world.extents.pointer e; generation = s.world.extents.generation e }))))
+
         was_swept : (d : ℕ) → next.world.extents.swept d ≡ true → s.world.extents.swept d ≡ true
         was_swept d is = ap (λ (f : ℕ → Bool). f d) (sym fr.swept) ∙ is
 
-        was_frozen : (d : ℕ) → s.opening.frozen d (next.world.extents.generation d) ≡ true
-            → s.opening.frozen d (s.world.extents.generation d) ≡ true
-        was_frozen d is = ap (λ (f : ℕ → ℕ). s.opening.frozen d (f d)) (sym fr.generation) ∙ is
+        was_frozen : (d i : ℕ) → s.opening.frozen d i (next.world.extents.generation d) ≡ true
+            → s.opening.frozen d i (s.world.extents.generation d) ≡ true
+        was_frozen d i is = ap (λ (f : ℕ → ℕ). s.opening.frozen d i (f d)) (sym fr.generation) ∙ is
 
-        not_frozen : (d : ℕ) → s.opening.frozen d (s.world.extents.generation d) ≡ true → d ≢ e
-        not_frozen d is same = true≢false
-            (sym is ∙ ap (λ (n : ℕ). s.opening.frozen n (s.world.extents.generation n)) same ∙ thawed)
+        not_frozen : S.fills ≡ false → (d i : ℕ) → s.opening.frozen d i (s.world.extents.generation d) ≡ true → d ≢ e
+        not_frozen off d i is same = true≢false
+            (sym is ∙ ap (λ (n : ℕ). s.opening.frozen n i (s.world.extents.generation n)) same
+            ∙ thawed i (λ on. absurd (true≢false (sym on ∙ off))))
 
         -- an extent that is open then was so before, or is the one that is given
-        frozen_closed : (d : ℕ) → s.opening.frozen d (s.world.extents.generation d) ≡ true
+        frozen_closed : S.fills ≡ false → (d i : ℕ) → s.opening.frozen d i (s.world.extents.generation d) ≡ true
             → next.world.extents.open_extent ≢ Some d
-        frozen_closed d is now_open = ⊎_elim (λ (was : s.world.extents.open_extent ≡ Some d). (sound.frozen d is).0 was)
-            (λ given. not_frozen d is given.0)
+        frozen_closed off d i is now_open = ⊎_elim
+            (λ (was : s.world.extents.open_extent ≡ Some d). (sound.frozen off d i is).0 was)
+            (λ given. not_frozen off d i is given.0)
             (opens S apart s.world.extents purpose (length (F.frame kind payload)) e d placed now_open)
 
         not_open : (d : ℕ) → s.world.extents.swept d ≡ true → next.world.extents.open_extent ≢ Some d
@@ -215,7 +245,7 @@ module _ (S : Shape) (F : Formats) (shape : IsShape S) (format : IsFormat S F) w
     pub carries : (d k : ℕ) → k < s.world.extents.pointer d → Inside S d k
         → (newest_page t (S.address d k) ≡ newest_page s (S.address d k))
         × (t.world.extents.generation d ≡ s.world.extents.generation d) × (k < t.world.extents.pointer d)
-    pub still : (d k : ℕ) → s.opening.frozen d (s.world.extents.generation d) ≡ true → 0 < s.world.extents.pointer d
+    pub still : (d k : ℕ) → s.opening.frozen d k (s.world.extents.generation d) ≡ true → 0 < s.world.extents.pointer d
         → Inside S d k → newest_page t (S.address d k) ≡ newest_page s (S.address d k)
     pub root : t.world.root ≡ s.world.root
     pub chunks : Chunks S F t.opening (newest_page t) t.world.extents.pointer t.world.extents.generation ls cs
@@ -257,7 +287,7 @@ module _ (S : Shape) (F : Formats) (shape : IsShape S) (format : IsFormat S F) w
             (two.0 ∙ one.0, two.1 ∙ one.1, two.2));
         still = λ d k fz some inside.
             (let one = a.carries d 0 some (inside.0, (let lt : k < S.pages = inside.1 in omega arith)) in
-            rest.still d k (ap (s.opening.frozen d) one.1 ∙ fz) one.2 inside ∙ a.still d k fz some inside);
+            rest.still d k (ap (s.opening.frozen d k) one.1 ∙ fz) one.2 inside ∙ a.still d k fz some inside);
         chunks = (
           carry_reads S F s.opening _ _ _ _ _ _ rest.carries rest.still l (F.frame ChunkFrame c) a.reads,
           rest.chunks,

@@ -84,6 +84,7 @@ module _ (S : Shape) (F : Formats) where
     below = ⊎_elim (λ (below : l.page + length bs ≤ p l.extent). inl
         (subst (λ (n : ℕ). l.page + length bs ≤ n) (sym same) below)) (λ fz. inr fz) r.below;
     inside = r.inside;
+    within = r.within;
     stand = r.stand;
   }
 

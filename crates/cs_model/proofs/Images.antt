@@ -81,17 +81,18 @@ module _ (S : Shape) (F : Formats) {opening : Opening} (shape : IsShape S) (form
         subst₂ (λ (a b : ℕ). a < u.pointers b) idx ext records.below,
       )
 
-  -- an extent that the root found frozen is as it was at open
-  pub frozen_there : (e i : ℕ) → opening.frozen e (exact.root.0.generations e) ≡ true → 0 < exact.root.0.pointers e
+  -- a page that the root found frozen is as it was at open
+  pub frozen_there : (e i : ℕ) → opening.frozen e i (exact.root.0.generations e) ≡ true → 0 < exact.root.0.pointers e
       → Inside S e i
       → img (S.address e i) ≡ page_as_staged S exact.root.0 opened (writes_of w.elements) (S.address e i)
   frozen_there e i fz some inside =
       let r = exact.root.0 in
       let ext : S.extent (S.address e i) ≡ e = shape.extent e i inside in
+      let idx : S.index (S.address e i) ≡ i = shape.index e i inside in
       ap (λ (f : PageKind). image_at S F f X opened (log_of w.elements) (S.address e i)) (shape.frame_kind e i inside)
       ∙ page_same X (held_by r (section_of S (S.address e i))) opened (writes_of w.elements) (S.address e i)
       (λ x has at.
-      let later = safe.written_later r exact.root.1 e fz some x has (ap S.extent at ∙ ext) in
+      let later = safe.written_later r exact.root.1 e i fz some x has (ap S.extent at ∙ ext) (ap S.index at ∙ idx) in
       let not_kept : X.writes x.number ≡ false = false_from_ne_true (X.writes x.number)
       (λ kept. let needs : x.root ≤ X.root = closed.write_root x has kept in
       let is : r.version ≡ X.root = exact.root.2 in let lt : r.version < x.root = later.0 in omega arith) in

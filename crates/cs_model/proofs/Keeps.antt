@@ -79,6 +79,9 @@ module _ (S : Shape) (F : Formats) (shape : IsShape S) (format : IsFormat S F) w
     caught_up = sound.caught_up;
     frozen = sound.frozen;
     damaged = sound.damaged;
+    shown = sound.shown;
+    unfilled = sound.unfilled;
+    filled = sound.filled;
     apart = λ on. record { found = (sound.apart on).found; one_sweep = (sound.apart on).one_sweep; copied = (sound.apart on).copied };
     left = sound.left;
     issued = sound.issued;

@@ -96,6 +96,9 @@ module _ (S : Shape) (F : Formats) (shape : IsShape S) (format : IsFormat S F) w
     caught_up = sound.caught_up;
     frozen = sound.frozen;
     damaged = sound.damaged;
+    shown = sound.shown;
+    unfilled = sound.unfilled;
+    filled = sound.filled;
     apart = λ on. record { found = (sound.apart on).found; one_sweep = (sound.apart on).one_sweep; copied = (sound.apart on).copied };
     left = λ m has. (d.3 m).0 has;
     issued = λ m has. absurd has;
@@ -114,6 +117,9 @@ module _ (S : Shape) (F : Formats) (shape : IsShape S) (format : IsFormat S F) w
     caught_up = sound.caught_up;
     frozen = sound.frozen;
     damaged = sound.damaged;
+    shown = sound.shown;
+    unfilled = sound.unfilled;
+    filled = sound.filled;
     apart = λ on. record { found = (sound.apart on).found; one_sweep = (sound.apart on).one_sweep; copied = (sound.apart on).copied };
     left = λ m has. absurd has;
     issued = λ m has. absurd has;
@@ -159,6 +165,9 @@ module _ (S : Shape) (F : Formats) (shape : IsShape S) (format : IsFormat S F) w
     caught_up = sound.caught_up;
     frozen = sound.frozen;
     damaged = sound.damaged;
+    shown = sound.shown;
+    unfilled = sound.unfilled;
+    filled = sound.filled;
     apart = λ on. record { found = (sound.apart on).found; one_sweep = (sound.apart on).one_sweep; copied = (sound.apart on).copied };
     swept = sound.swept;
     once = moved d.0 d.1 s.issued m (subst (λ (l : List Element). AreDistinct (l ++ s.issued)) d.2 sound.once);

@@ -20,6 +20,7 @@ pub mod Crash
 pub mod Device
 pub mod Distinct
 pub mod Examples
+pub mod Filled
 pub mod FirstChunks
 pub mod Frames
 pub mod Frozen
@@ -37,6 +38,7 @@ pub mod Merging
 pub mod Moves
 pub mod Movings
 pub mod Named
+pub mod NamedPages
 pub mod Needs
 pub mod OneRound
 pub mod Opens

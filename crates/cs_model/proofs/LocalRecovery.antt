@@ -1,15 +1,17 @@
 -- Recovery looks at the pages of the store alone.
-use Rattle.std.proofs.Common.{◌≡◌, inl, inr, ⊎_elim, ℕ, zero, suc, ◌+◌, ◌-◌, ◌*◌, ◌<◌, ◌≤◌, true, false, nat_lt, ◌==◌, ◌&&◌, List, [], ◌∷◌, ◌++◌, Option, Some, None, if◌then◌else◌, mul-le-mul_right, ne_eqb, refl, sym, ap, ap₂, ◌∙◌, subst, arith}
+use Rattle.std.proofs.Common.{◌≡◌, inl, inr, ⊎_elim, ℕ, zero, suc, ◌+◌, ◌-◌, ◌*◌, ◌<◌, ◌≤◌, true, false, nat_lt, ◌==◌, ◌&&◌, List, [], ◌∷◌, ◌++◌, length, Option, Some, None, if◌then◌else◌, mul-le-mul_right, ne_eqb, refl, sym, ap, ap₂, ◌∙◌, subst, arith}
 use Rattle.std.proofs.lemmas.Bool.{cases_eq}
 use Rattle.cs_model.specs.Device.{Inside, Page, Shape}
 use Rattle.cs_model.specs.Element.{Content, Entry, Locator, Map, Opening, Run}
-use Rattle.cs_model.specs.Formats.{ChunkFrame, Formats, damage_in, opening_in, pages_from}
+use Rattle.cs_model.specs.Formats.{ChunkFrame, Formats, damage_in, limit_in, opening_in, pages_from}
 use Rattle.cs_model.specs.Geometry.{IsGeometry, shape_of}
 use Rattle.cs_model.specs.Index.{AllPass, Gives, Holds, Passes, Reads, ReadsAs, Value, entries_of, live, lookup}
 use Rattle.cs_model.specs.Lists.{◌∈◌}
 use Rattle.cs_model.specs.Local.{AgreeBelow, LiesBelow}
 use Rattle.cs_model.specs.Recovery.{Recovers, RecoversBut}
+use Rattle.cs_model.specs.Safe.{FitsExtent}
 use Rattle.cs_model.proofs.Carries.{carry}
+use Rattle.cs_model.proofs.Filled.{limit_low}
 
 -- each locator that an identifier has passes
 pub live_passes : (S : Shape) (F : Formats) (opening : Opening) (img : ℕ → Page) (p g : ℕ → ℕ) (table : List Entry)
@@ -24,12 +26,14 @@ live_passes S F opening img p g table runs m gives id = passes (lookup id (table
 -- an index gives the same map by two openings that say the same of every locator that passes
 module _ (S : Shape) (F : Formats) (d h : Opening) (img : ℕ → Page) (p g : ℕ → ℕ)
     (damage : (l : Locator) → Passes S F img p g l → h.damage l ≡ d.damage l)
-    (frozen : (e n : ℕ) → d.frozen e n ≡ true → h.frozen e n ≡ true) where
+    (frozen : (e i n : ℕ) → d.frozen e i n ≡ true → h.frozen e i n ≡ true)
+    (limit : (l : Locator) → Passes S F img p g l → h.limit l ≡ d.limit l) where
   reads_by : (l : Locator) (bs : List Page) → Reads S F d img p g l bs → Reads S F h img p g l bs
   reads_by l bs r = record {
     passes = r.passes;
-    below = ⊎_elim (λ below. inl below) (λ fz. inr (frozen l.extent l.generation fz)) r.below;
+    below = ⊎_elim (λ below. inl below) (λ fz. inr (λ i. frozen l.extent i l.generation (fz i))) r.below;
     inside = r.inside;
+    within = subst (λ (n : ℕ). l.page + length bs ≤ n) (sym (limit l r.passes)) r.within;
     stand = r.stand;
   }
 
@@ -76,10 +80,13 @@ module _ (S : Shape) (F : Formats) (count : ℕ) (a b : ℕ → Page) (lies : Li
   same_pages e i (suc n) there fits = ap₂ (λ (x : Page) (xs : List Page). x ∷ xs)
       (at e i (there, omega arith)) (same_pages e (suc i) n there (omega arith))
 
-  same_damage : (p g : ℕ → ℕ) (l : Locator) → Passes S F b p g l → damage_in S F b p g l ≡ damage_in S F a p g l
-  same_damage p g l pass = ap
+  same_damage : (p g : ℕ → ℕ) → ((e : ℕ) → FitsExtent S (p e) (g e)) → (l : Locator) → Passes S F b p g l
+      → damage_in S F b p g l ≡ damage_in S F a p g l
+  same_damage p g fits l pass = ap
       (λ (bs : List Page). if (g l.extent == l.generation) && nat_lt l.page (p l.extent) then F.fault ChunkFrame bs else None)
-      (same_pages l.extent l.page (S.pages - l.page) pass.inside.0 (let lt : l.page < S.pages = pass.inside.1 in omega arith))
+      (same_pages l.extent l.page (limit_in S F p g l - l.page) pass.inside.0
+      (let lt : l.page < S.pages = pass.inside.1 in
+      let end : limit_in S F p g l ≤ S.pages = limit_low S F p g (λ e. (fits e).0) l in omega arith))
 
   gives_alike : (opening : Opening) (p g : ℕ → ℕ) (table : List Entry) (runs : List Run) (m : Map)
       → Gives S F opening a p g table runs m → Gives S F opening b p g table runs m
@@ -87,10 +94,12 @@ module _ (S : Shape) (F : Formats) (count : ℕ) (a b : ℕ → Page) (lies : Li
       (λ e i fz some inside. at e i inside) table runs m gives
 
   pub recovers_alike_but : (opening next : (pointers generations : ℕ → ℕ) → Opening) (n : ℕ) (m : Map)
-      → ((p g : ℕ → ℕ) (l : Locator) → Passes S F b p g l → (next p g).damage l ≡ (opening p g).damage l)
-      → ((p g : ℕ → ℕ) (e k : ℕ) → (opening p g).frozen e k ≡ true → (next p g).frozen e k ≡ true)
+      → ((p g : ℕ → ℕ) → ((e : ℕ) → FitsExtent S (p e) (g e)) → (l : Locator) → Passes S F b p g l
+      → (next p g).damage l ≡ (opening p g).damage l)
+      → ((p g : ℕ → ℕ) (e i k : ℕ) → (opening p g).frozen e i k ≡ true → (next p g).frozen e i k ≡ true)
+      → ((p g : ℕ → ℕ) (l : Locator) → (next p g).limit l ≡ (opening p g).limit l)
       → RecoversBut S F opening a n m → RecoversBut S F next b n m
-  recovers_alike_but opening next n m damage frozen r = record {
+  recovers_alike_but opening next n m damage frozen limit r = record {
     formats = r.formats;
     versions = r.versions;
     pointers = r.pointers;
@@ -105,12 +114,13 @@ module _ (S : Shape) (F : Formats) (count : ℕ) (a b : ℕ → Page) (lies : Li
     runs_fit = r.runs_fit;
     bounds = r.bounds;
     gives = gives_by S F (opening r.pointers r.generations) (next r.pointers r.generations) b r.pointers r.generations
-        (damage r.pointers r.generations) (frozen r.pointers r.generations) [] r.runs m
+        (damage r.pointers r.generations r.extents_fit) (frozen r.pointers r.generations)
+        (λ l pass. limit r.pointers r.generations l) [] r.runs m
         (gives_alike (opening r.pointers r.generations) r.pointers r.generations [] r.runs m r.gives);
   }
 
   pub recovers_alike : (n : ℕ) (m : Map) → Recovers S F a n m → Recovers S F b n m
-  recovers_alike n m r = recovers_alike_but (opening_in S F a) (opening_in S F b) n m same_damage (λ p g e k fz. fz) r
+  recovers_alike n m r = recovers_alike_but (opening_in S F a) (opening_in S F b) n m same_damage (λ p g e i k fz. fz) (λ p g l. refl) r
 
 -- where the pages of a geometry lie
 module _ (E P N Q f : ℕ) (g : IsGeometry E P N Q) where

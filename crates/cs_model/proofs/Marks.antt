@@ -7,7 +7,7 @@ use Rattle.cs_model.proofs.RoundMoves.{keeps_marks, marks_of}
 use Rattle.cs_model.proofs.Rules.{apart_rule, before_rule, not_both_rules}
 use Rattle.cs_model.specs.Apart.{BeginsApart, sweeping}
 use Rattle.cs_model.specs.Device.{IsShape, Shape}
-use Rattle.cs_model.specs.Element.{A_root, A_superblock, A_write, Copy, Element}
+use Rattle.cs_model.specs.Element.{A_root, A_superblock, A_write, Copy, Element, roots_of}
 use Rattle.cs_model.specs.Events.{Does, mark}
 use Rattle.cs_model.specs.Extents.{Extents, marked, other_than}
 use Rattle.cs_model.specs.Formats.{Formats}
@@ -15,7 +15,7 @@ use Rattle.cs_model.specs.Lists.{◌∈◌}
 use Rattle.cs_model.specs.Machine.{World}
 use Rattle.cs_model.specs.Recovery.{RootGives}
 use Rattle.cs_model.specs.Round.{IsMember}
-use Rattle.cs_model.specs.Sound.{Sound, SoundApart}
+use Rattle.cs_model.specs.Sound.{IsFilledUp, Sound, SoundApart}
 use Rattle.cs_model.specs.State.{BeginSweep, State, Sweeping}
 
 -- the extent that is open, if it isn't e
@@ -48,21 +48,25 @@ module _ (S : Shape) (F : Formats) (shape : IsShape S) where
   marks_back w x (A_root r) is = is
 
   -- other marks on extents, and other copies
-  pub remarked : (s : State) (x : Extents) (copies : List Copy) → Sound S F s
+  pub remarked : (s : State) (x : Extents) (copies : List Copy) → Sound S F s → x.found ≡ s.world.extents.found
       → ((d : ℕ) → x.open_extent ≡ Some d → s.world.extents.open_extent ≡ Some d)
       → ((d : ℕ) → x.swept d ≡ true → (x.open_extent ≢ Some d) × (0 < s.world.extents.pointer d) × (d < S.extents))
       → (S.apart ≡ true → SoundApart S F
       (record s { world = record s.world { extents = marks_of s.world.extents x }; copies = copies }))
       → Sound S F (record s { world = record s.world { extents = marks_of s.world.extents x }; copies = copies })
-  remarked s x copies sound closed new apart = record {
+  remarked s x copies sound found closed new apart = record {
     safe = keeps_marks S (RootGives S F s.opening) s.opening.frozen s.opened
         (root_local S F shape) s.world x sound.safe;
     settled = λ d. (let o = sound.settled d in record { last = o.last; pages = o.pages; current = o.current });
     gives = sound.gives;
     maps = sound.maps;
     caught_up = sound.caught_up;
-    frozen = λ d fz. (let o = sound.frozen d fz in ((λ now_open. o.0 (closed d now_open)), o.1));
+    frozen = λ off d i fz. (let o = sound.frozen off d i fz in ((λ now_open. o.0 (closed d now_open)), o.1));
     damaged = sound.damaged;
+    shown = sound.shown;
+    unfilled = sound.unfilled;
+    filled = λ full. subst (λ (f : ℕ → ℕ). IsFilledUp S F s.opening s.world.extents.pointer s.world.extents.generation f
+        (roots_of s.world.elements)) (sym found) (sound.filled full);
     apart = apart;
     left = λ m has. marks_member s.world x m (sound.left m has);
     issued = λ m has. marks_member s.world x m (sound.issued m has);
@@ -84,12 +88,12 @@ module _ (S : Shape) (F : Formats) (shape : IsShape S) where
   keeps_begin_before : S.apart ≡ false → (s t : State) (e : ℕ) → Sound S F s → (s.world.extents.open_extent ≢ Some e)
       → e < S.extents → 0 < s.world.extents.pointer e → t ≡ mark s e true → Sound S F t
   keeps_begin_before before s t e sound closed there some is = subst (λ (x : State). Sound S F x) (sym is)
-      (remarked s (marked s.world.extents e true) s.copies sound (λ d now_open. now_open)
+      (remarked s (marked s.world.extents e true) s.copies sound refl (λ d now_open. now_open)
       (begun_swept s e sound closed there some) (λ on. not_both_rules S.apart before on))
 
   keeps_begin_apart : S.apart ≡ true → (s t : State) (e : ℕ) → Sound S F s → BeginsApart S s e t → Sound S F t
   keeps_begin_apart on s t e sound d = subst (λ (x : State). Sound S F x) (sym d.5)
-      (remarked s (sweeping S s e).world.extents s.copies sound (λ k now_open. other_open e k s.world.extents.open_extent now_open)
+      (remarked s (sweeping S s e).world.extents s.copies sound refl (λ k now_open. other_open e k s.world.extents.open_extent now_open)
       new_swept (λ yes. record {
         found = (sound.apart on).found;
         one_sweep = λ a b is also. is_e a is ∙ sym (is_e b also);
@@ -116,7 +120,7 @@ module _ (S : Shape) (F : Formats) (shape : IsShape S) where
   ]
 
   pub keeps_abandon : (s : State) (e : ℕ) → Sound S F s → s.world.extents.swept e ≡ true → Sound S F (mark s e false)
-  keeps_abandon s e sound swept = remarked s (marked s.world.extents e false) s.copies sound (λ d now_open. now_open)
+  keeps_abandon s e sound swept = remarked s (marked s.world.extents e false) s.copies sound refl (λ d now_open. now_open)
       (λ k is. sound.swept k (was k is))
       (λ on. record {
         found = (sound.apart on).found;

@@ -1,5 +1,5 @@
 -- Staging a page keeps what makes a crash safe.
-use Rattle.std.proofs.Common.{Bool, ◌≡◌, inl, inr, ⊎_elim, ℕ, suc, ◌<◌, ◌≤◌, true, ◌∷◌, le_trans, le_refl, true≢false, refl, sym, ap, ◌∙◌, subst, arith}
+use Rattle.std.proofs.Common.{Bool, ◌≡◌, inl, inr, ⊎_elim, ℕ, suc, ◌<◌, ◌≤◌, true, ◌∷◌, le_trans, le_refl, true≢false, refl, sym, ap, ◌∙◌, subst, subst₂, arith}
 use Rattle.cs_model.specs.Cut.{held_by, page_in, section_of}
 use Rattle.cs_model.specs.Device.{Inside, Page, Place, Shape}
 use Rattle.cs_model.specs.Element.{Root, Write, roots_of, writes_of}
@@ -10,9 +10,9 @@ use Rattle.cs_model.specs.Safe.{Allowed, Safe}
 use Rattle.cs_model.proofs.ClosedSets.{gt-leb}
 use Rattle.cs_model.proofs.Parts.{each, each_two, with_same, grows, with_below, page_skips, still_exact, still_staged}
 
-module _ (S : Shape) (Good : Root → (ℕ → Page) → Type 0) (frozen : ℕ → ℕ → Bool) (opened : ℕ → Page)
+module _ (S : Shape) (Good : Root → (ℕ → Page) → Type 0) (frozen : ℕ → ℕ → ℕ → Bool) (opened : ℕ → Page)
     (local : (r : Root) (a b : ℕ → Page) → ((h : Place) → Covers S r h → b h.page ≡ a h.page)
-    → ((e i : ℕ) → frozen e (r.generations e) ≡ true → 0 < r.pointers e → Inside S e i
+    → ((e i : ℕ) → frozen e i (r.generations e) ≡ true → 0 < r.pointers e → Inside S e i
     → b (S.address e i) ≡ a (S.address e i)) → Good r a → Good r b) where
   pub keeps_page : (w : World) (p : ℕ) (b : Page) → Allowed S Good frozen opened w (StagePage p b)
       → Safe S Good frozen opened w → Safe S Good frozen opened (happens S w (StagePage p b))
@@ -43,15 +43,15 @@ module _ (S : Shape) (Good : Root → (ℕ → Page) → Type 0) (frozen : ℕ �
           (λ (q : ℕ). S.index q < w.extents.pointer (S.extent q)) at below in omega arith))
           (λ old. (old.0, old.1, old.2 ∙ ap (λ (q : ℕ). w.extents.reset (S.extent q)) at, old.3))
           (s.written_once x has)) s.rewritten;
-      written_later = λ r is d fz some. each _ _ _
-          (λ at. (
+      written_later = λ r is d i fz some. each _ _ _
+          (λ at place. (
             ⊎_elim (λ (still_there : r.generations d ≡ w.extents.generation d). absurd
-                (thawed d at (subst (λ (n : ℕ). frozen d n ≡ true) still_there fz)))
+                (thawed d i at place (subst (λ (n : ℕ). frozen d i n ≡ true) still_there fz)))
                 (λ (reset : r.version < w.extents.reset d). subst (λ (n : ℕ). r.version < w.extents.reset n)
                 (sym at) reset) (s.same_or_reset r is d some),
             (let below : r.writes (S.section d) ≤ w.written = (s.roots_below r is).2 (S.section d) in omega arith),
           ))
-          (s.written_later r is d fz some);
+          (s.written_later r is d i fz some);
     };
     since_resets = record {
       fresh = λ r is h held. ⊎_elim
@@ -68,7 +68,7 @@ module _ (S : Shape) (Good : Root → (ℕ → Page) → Type 0) (frozen : ℕ �
           (λ x has. ⊎_elim (λ (below : S.index x.page < w.extents.pointer (S.extent x.page)). inl
           (le_trans below (grows w.extents.pointer e (suc (S.index p)) (S.extent x.page) up))) (λ old. inr old)
           (s.written_once x has));
-      unwritten = λ d fz. each _ _ _ (λ at. thawed d at fz) (s.unwritten d fz);
+      unwritten = λ d i fz. each _ _ _ (λ at place. thawed d i at place fz) (s.unwritten d i fz);
     };
     extents = record {
       extents_fit = λ d. (
@@ -151,9 +151,9 @@ module _ (S : Shape) (Good : Root → (ℕ → Page) → Type 0) (frozen : ℕ �
       new : Write
       new = record { number = suc w.written; page = p; bytes = b; root = w.extents.reset (S.extent p) }
 
-      thawed : (d : ℕ) → S.extent p ≡ d → frozen d (w.extents.generation d) ≡ true → ⊥
-      thawed d at fz = true≢false (sym (subst (λ (n : ℕ). frozen n (w.extents.generation n) ≡ true) (sym at) fz)
-          ∙ next.3)
+      thawed : (d i : ℕ) → S.extent p ≡ d → S.index p ≡ i → frozen d i (w.extents.generation d) ≡ true → ⊥
+      thawed d i at place fz = true≢false (sym (subst₂ (λ (n k : ℕ). frozen n k (w.extents.generation n) ≡ true) (sym at)
+          (sym place) fz) ∙ next.3)
 
       skips : (r : Root) → r ∈ roots_of w.elements → (q : ℕ)
           → page_in (held_by r (section_of S q)) opened (new ∷ writes_of w.elements) q ≡ page_in

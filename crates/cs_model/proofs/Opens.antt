@@ -1,24 +1,27 @@
 -- A store that is opened on what a crash left is sound.
-use Rattle.std.proofs.Common.{nat_lt, ◌==◌, ◌&&◌, ◌-◌, Some, None, eqb-true, ◌≡◌, inl, inr, ℕ, zero, suc, List, ◌+◌, ◌<◌, ◌≤◌, [], ◌∷◌, le_of_eq, le_refl, true≢false, refl, sym, ap, ◌∙◌, subst, arith, Bool, if◌then◌else◌, true, false, ◌||◌, ◌⊎◌, ⊎_elim}
-use Rattle.std.proofs.lemmas.Bool.{cases_eq}
+use Rattle.std.proofs.Common.{nat_lt, ◌==◌, ◌&&◌, ◌-◌, Some, None, eq-eqb, eqb-true, lt-ltb, ◌≡◌, inl, inr, ℕ, zero, suc, List, ◌+◌, ◌<◌, ◌≤◌, [], ◌∷◌, le_of_eq, le_refl, true≢false, refl, sym, ap, ◌∙◌, subst, arith, Bool, if◌then◌else◌, true, false, ◌||◌, ◌⊎◌, ⊎_elim}
+use Rattle.std.proofs.lemmas.Bool.{cases_eq, false_from_ne_true}
 use Rattle.cs_model.specs.Tally.{lives_on}
 use Rattle.cs_model.specs.Apart.{any_run_on, freed, named}
 use Rattle.cs_model.proofs.ApartResets.{freed_sound}
 use Rattle.cs_model.proofs.Named.{gives_named, unnamed_blank}
 use Rattle.cs_model.specs.Cut.{page_in}
 use Rattle.cs_model.specs.Device.{IsShape, Page, Shape}
-use Rattle.cs_model.specs.Element.{Map, Root, RootBefore, Superblock, SuperblockBefore, Write, WriteBefore, roots_of, superblocks_of, writes_of}
-use Rattle.cs_model.specs.Formats.{ChunkFrame, Formats, opening_in, pages_from}
+use Rattle.cs_model.specs.Element.{Locator, Map, Root, RootBefore, Superblock, SuperblockBefore, Write, WriteBefore, roots_of, superblocks_of, writes_of}
+use Rattle.cs_model.specs.Extents.{first_found, reach}
+use Rattle.cs_model.specs.Formats.{ChunkFrame, Formats, damage_in, limit_in, opening_in, pages_from}
 use Rattle.cs_model.specs.Guard.{page_as_staged}
 use Rattle.cs_model.specs.Index.{Gives, entries_of}
 use Rattle.cs_model.specs.Lists.{Descends, ◌∈◌}
 use Rattle.cs_model.specs.Machine.{everything}
 use Rattle.cs_model.specs.Open.{extents_read, opened_state, opened_world, root_read, superblock_read, superblocks_read, state_read}
 use Rattle.cs_model.specs.Recovery.{Recovers, RootGives}
+use Rattle.cs_model.specs.Refusal.{Refusal}
 use Rattle.cs_model.specs.Safe.{FitsExtent}
 use Rattle.cs_model.specs.State.{State}
-use Rattle.cs_model.specs.Sound.{Bounded, Sound}
-use Rattle.cs_model.proofs.Tests.{some_pages, not_empty_at, where_damaged}
+use Rattle.cs_model.specs.Sound.{Bounded, IsFilledUp, Sound}
+use Rattle.cs_model.proofs.Filled.{reach_found, reach_off}
+use Rattle.cs_model.proofs.Tests.{is_below, where_damaged}
 use Rattle.cs_model.proofs.Parts.{each}
 use Rattle.cs_model.proofs.RoundMoves.{none_out}
 use Rattle.cs_model.proofs.Carries.{and_true, and_left, and_right}
@@ -112,6 +115,58 @@ module _ (S : Shape) (F : Formats) (shape : IsShape S) (img : ℕ → Page) (n :
       go true on = gives_named S F (shape.apart on).0 img g.pointers g.generations g.runs m g.gives
       go false before = g.gives
 
+  test_passed : (l : Locator) (f : Refusal) → damage_in S F img g.pointers g.generations l ≡ Some f
+      → (((g.generations l.extent == l.generation) && nat_lt l.page (g.pointers l.extent)) ≡ true)
+      × (F.fault ChunkFrame (pages_from S F img l.extent l.page (limit_in S F g.pointers g.generations l - l.page)) ≡ Some f)
+  test_passed l f is = where_damaged ((g.generations l.extent == l.generation) && nat_lt l.page (g.pointers l.extent))
+      (F.fault ChunkFrame (pages_from S F img l.extent l.page (limit_in S F g.pointers g.generations l - l.page))) f is
+
+  frozen_given : (e i : ℕ) → (opening_in S F img g.pointers g.generations).frozen e i (g.generations e) ≡ true → 0 < g.pointers e
+  frozen_given e i fz = let lt : first_found S i < g.pointers e = is_below (first_found S i) (g.pointers e)
+      (and_right (g.generations e == g.generations e) (nat_lt (first_found S i) (g.pointers e)) fz) in omega arith
+
+  -- of a locator that passes
+  module _ (l : Locator) (same : g.generations l.extent ≡ l.generation) (lt : l.page < g.pointers l.extent) where
+    limit_full : S.fills ≡ true → limit_in S F g.pointers g.generations l ≡ g.pointers l.extent
+    limit_full on = ap (λ (n : ℕ). reach S n l.page) (let test : (g.generations l.extent == l.generation) ≡ true =
+        eq-eqb (g.generations l.extent) l.generation same in rw test refl) ∙ reach_found S (g.pointers l.extent) l.page on lt
+
+    limit_off : S.fills ≡ false → limit_in S F g.pointers g.generations l ≡ S.pages
+    limit_off off = reach_off S (if g.generations l.extent == l.generation then g.pointers l.extent else 0) l.page off
+
+    page_within : (b : Bool) → S.fills ≡ b → l.page < limit_in S F g.pointers g.generations l
+    page_within true on = subst (λ (n : ℕ). l.page < n) (sym (limit_full on)) lt
+    page_within false off = subst (λ (n : ℕ). l.page < n) (sym (limit_off off))
+        (let low : g.pointers l.extent ≤ S.pages = (g.extents_fit l.extent).0 in omega arith)
+
+    up_to_limit : (i : ℕ) (b : Bool) → S.fills ≡ b → i < limit_in S F g.pointers g.generations l
+        → ((g.generations l.extent == l.generation) && nat_lt (if b then i else 0) (g.pointers l.extent)) ≡ true
+    up_to_limit i true on below = and_true (g.generations l.extent == l.generation) (nat_lt i (g.pointers l.extent))
+        (eq-eqb (g.generations l.extent) l.generation same)
+        (lt-ltb i (g.pointers l.extent) (subst (λ (n : ℕ). i < n) (limit_full on) below))
+    up_to_limit i false off below = and_true (g.generations l.extent == l.generation) (nat_lt 0 (g.pointers l.extent))
+        (eq-eqb (g.generations l.extent) l.generation same) (lt-ltb 0 (g.pointers l.extent) (omega arith))
+
+  filled_at_open : S.fills ≡ true → IsFilledUp S F (opening_in S F img g.pointers g.generations) g.pointers g.generations
+      (if S.apart then g.pointers else λ e. 0)
+      (root_read S F img n m g ∷ roots_of (superblocks_read S F img n m g S.sections))
+  filled_at_open on = subst (λ (f : ℕ → ℕ). IsFilledUp S F (opening_in S F img g.pointers g.generations) g.pointers
+      g.generations f (root_read S F img n m g ∷ roots_of (superblocks_read S F img n m g S.sections))) (sym (ap (λ (b : Bool). if b then g.pointers else λ (d : ℕ). 0) (shape.fills on))) (record {
+        thawed = λ e k. false_from_ne_true ((opening_in S F img g.pointers g.generations).frozen e S.pages k) (λ fz. absurd
+            (let lt : S.pages < g.pointers e = full_found e S.pages k fz on in
+            let low : g.pointers e ≤ S.pages = (g.extents_fit e).0 in omega arith));
+        given = λ e. le_refl _;
+        frozen = λ e i fz. full_found e i (g.generations e) fz on;
+        counted = only_root _ (λ e i fz some. (let lt : i < g.pointers e = full_found e i (g.generations e) fz on in
+            ⊎_elim (λ (same : (root_read S F img n m g).pointers e ≡ g.pointers e). subst (λ (k : ℕ). i < k) (sym same) lt)
+            (λ (none : (root_read S F img n m g).pointers e ≡ 0). absurd (omega arith)) (root_pointers e)));
+        limits = λ l young. refl;
+      })
+    where
+      full_found : (e i k : ℕ) → (opening_in S F img g.pointers g.generations).frozen e i k ≡ true → S.fills ≡ true → i < g.pointers e
+      full_found e i k fz is = is_below i (g.pointers e) (subst (λ (c : Bool). nat_lt (if c then i else 0) (g.pointers e) ≡ true)
+          is (and_right (g.generations e == k) (nat_lt (first_found S i) (g.pointers e)) fz))
+
   read_sound : Sound S F (state_read S F img n m g)
   read_sound = record {
     safe = record {
@@ -148,7 +203,7 @@ module _ (S : Shape) (F : Formats) (shape : IsShape S) (img : ℕ → Page) (n :
             (root_read S F img n m g) (page_as_staged S (root_read S F img n m g) img ws))
             (sym (no_writes S.sections)) (root_gives, g.root_fits, g.runs_fit, g.bounds));
         rewritten = λ x y none. absurd (no_write x none);
-        written_later = λ r is e fz some x none. absurd (no_write x none);
+        written_later = λ r is e i fz some x none. absurd (no_write x none);
       };
       since_resets = record {
         fresh = only_root _ (λ h c. inl (record {
@@ -157,13 +212,14 @@ module _ (S : Shape) (F : Formats) (shape : IsShape S) (img : ℕ → Page) (n :
         }));
         same_or_reset = only_root _ (λ e some. inl refl);
         written_once = λ x none. absurd (no_write x none);
-        unwritten = λ e fz x none at. absurd (no_write x none);
+        unwritten = λ e i fz x none at. absurd (no_write x none);
       };
       extents = record {
         extents_fit = g.extents_fit;
         resets_there = λ e out. refl;
-        frozen_before = λ e k fz. le_of_eq
-            (sym (eqb-true (g.generations e) k (and_left (g.generations e == k) (nat_lt 0 (g.pointers e)) fz)));
+        frozen_before = λ e i k fz. le_of_eq
+            (sym (eqb-true (g.generations e) k
+            (and_left (g.generations e == k) (nat_lt (first_found S i) (g.pointers e)) fz)));
       };
       writes_rise = record {
         writes_order = subst (λ (ws : List Write). Descends WriteBefore ws) (sym (no_writes S.sections)) tt;
@@ -259,25 +315,28 @@ module _ (S : Shape) (F : Formats) (shape : IsShape S) (img : ℕ → Page) (n :
     idle = λ off. (refl, refl, refl);
     swept = λ e wrong. absurd (true≢false (sym wrong));
     apart = λ on. record {
-      found = λ e fz. subst (λ (f : ℕ → ℕ). 0 < f e)
-          (sym (ap (λ (b : Bool). if b then g.pointers else λ (d : ℕ). 0) on))
-          (some_pages (and_right (g.generations e == g.generations e) (nat_lt 0 (g.pointers e)) fz));
+      found = λ e i fz. subst (λ (f : ℕ → ℕ). 0 < f e)
+          (sym (ap (λ (b : Bool). if b then g.pointers else λ (d : ℕ). 0) on)) (frozen_given e i fz);
       one_sweep = λ d e wrong. absurd (true≢false (sym wrong));
       copied = λ some c none. absurd none;
     };
-    frozen = λ e fz. (
+    frozen = λ off e i fz. (
       (λ same. let wrong : None ≡ Some e = same in cc),
-      some_pages (and_right (g.generations e == g.generations e) (nat_lt 0 (g.pointers e)) fz),
+      frozen_given e i fz,
     );
     damaged = λ l f is.
-        (let at = where_damaged ((g.generations l.extent == l.generation) && nat_lt l.page (g.pointers l.extent))
-        (F.fault ChunkFrame (pages_from S F img l.extent l.page (S.pages - l.page))) f is in (
-          and_true (g.generations l.extent == l.generation) (nat_lt 0 (g.pointers l.extent))
-              (and_left (g.generations l.extent == l.generation) (nat_lt l.page (g.pointers l.extent)) at.0)
-              (not_empty_at l.page (g.pointers l.extent)
-              (and_right (g.generations l.extent == l.generation) (nat_lt l.page (g.pointers l.extent)) at.0)),
+        (let at = test_passed l f is in
+        let same : g.generations l.extent ≡ l.generation = eqb-true (g.generations l.extent) l.generation
+        (and_left (g.generations l.extent == l.generation) (nat_lt l.page (g.pointers l.extent)) at.0) in
+        let lt : l.page < g.pointers l.extent = is_below l.page (g.pointers l.extent)
+        (and_right (g.generations l.extent == l.generation) (nat_lt l.page (g.pointers l.extent)) at.0) in (
+          page_within l same lt S.fills refl,
+          (λ i below. up_to_limit l same lt i S.fills refl below),
           at.1,
         ));
+    shown = λ l. refl;
+    unfilled = λ off l. reach_off S (if g.generations l.extent == l.generation then g.pointers l.extent else 0) l.page off;
+    filled = filled_at_open;
   }
     where
       only : (r : Root) → r ∈ (root_read S F img n m g ∷ roots_of (superblocks_read S F img n m g S.sections))

@@ -1,5 +1,5 @@
 -- The pages of a frame are staged one after another.
-use Rattle.std.proofs.Common.{◌≡◌, ◌≢◌, ◌⊎◌, inl, inr, ⊎_elim, ℕ, suc, ◌+◌, ◌<◌, ◌≤◌, true, false, ◌&&◌, List, [], ◌∷◌, length, if◌then◌else◌, ◌==◌, le_of_eq, le_trans, eq-eqb, ne_eqb, refl, sym, ap, ◌∙◌, subst, subst₂, arith}
+use Rattle.std.proofs.Common.{◌≡◌, ◌≢◌, ◌⊎◌, inl, inr, ⊎_elim, ℕ, suc, ◌+◌, ◌<◌, ◌≤◌, true, false, ◌&&◌, List, [], ◌∷◌, length, if◌then◌else◌, ◌==◌, le_of_eq, le_refl, le_trans, eq-eqb, ne_eqb, refl, sym, ap, ◌∙◌, subst, subst₂, arith}
 use Rattle.cs_model.specs.Append.{stage_pages}
 use Rattle.cs_model.specs.Cut.{page_in}
 use Rattle.cs_model.specs.Device.{Inside, IsShape, Page, Shape}
@@ -46,7 +46,7 @@ module _ (S : Shape) (F : Formats) (opening : Opening) (shape : IsShape S) (open
 
   paged_step : (w : World) (e i : ℕ) (b : Page) (bs : List Page)
       → Safe S (RootGives S F opening) opening.frozen opened w → e < S.extents → w.extents.pointer e ≡ i
-      → i + suc (length bs) ≤ S.pages → opening.frozen e (w.extents.generation e) ≡ false
+      → i + suc (length bs) ≤ S.pages → ((k : ℕ) → i ≤ k → opening.frozen e k (w.extents.generation e) ≡ false)
       → (let one : World = happens S w (StagePage (S.address e i) b) in
       Safe S (RootGives S F opening) opening.frozen opened one → one.extents.pointer e ≡ suc i
       → suc i + length bs ≤ S.pages → Paged one (stage_pages S one e (suc i) bs) e (suc i) bs)
@@ -136,13 +136,14 @@ module _ (S : Shape) (F : Formats) (opening : Opening) (shape : IsShape S) (open
         idx ∙ sym at ∙ ap w.extents.pointer (sym ext),
         shape.frame_kind e i here,
         le_trans (le_of_eq (ap suc idx)) (omega arith),
-        subst (λ (n : ℕ). opening.frozen n (w.extents.generation n) ≡ false) (sym ext) thawed,
+        subst₂ (λ (n k : ℕ). opening.frozen n k (w.extents.generation n) ≡ false) (sym ext) (sym idx) (thawed i (le_refl _)),
       ) safe) next
           (omega arith)
 
   pub paged : (w : World) (e i : ℕ) (bs : List Page) → Safe S (RootGives S F opening) opening.frozen opened w
       → e < S.extents → w.extents.pointer e ≡ i → i + length bs ≤ S.pages
-      → opening.frozen e (w.extents.generation e) ≡ false → Paged w (stage_pages S w e i bs) e i bs
+      → ((k : ℕ) → i ≤ k → opening.frozen e k (w.extents.generation e) ≡ false)
+      → Paged w (stage_pages S w e i bs) e i bs
   paged w e i [] safe ex at fits thawed = record {
     safe = safe;
     superblocks = refl;
@@ -163,4 +164,5 @@ module _ (S : Shape) (F : Formats) (opening : Opening) (shape : IsShape S) (open
     back = λ m is. is;
   }
   paged w e i (b ∷ bs) safe ex at fits thawed = paged_step w e i b bs safe ex at fits thawed
-      (λ s n f. paged (happens S w (StagePage (S.address e i) b)) e (suc i) bs s ex n f thawed)
+      (λ s n f. paged (happens S w (StagePage (S.address e i) b)) e (suc i) bs s ex n f
+      (λ k after. thawed k (let le : suc i ≤ k = after in omega arith)))

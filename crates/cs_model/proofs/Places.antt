@@ -2,8 +2,9 @@
 use Rattle.std.proofs.Common.{◌≡◌, ◌≢◌, ◌⊎◌, inl, inr, ⊎_elim, ℕ, zero, suc, ◌+◌, ◌<◌, ◌≤◌, Bool, true, false, if◌then◌else◌, ◌==◌, List, [], ◌∷◌, Option, Some, None, true≢false, refl, sym, ap, ◌∙◌, subst, arith}
 use Rattle.std.proofs.lemmas.Bool.{cases_Bool, cases_eq, cases_lt}
 use Rattle.std.proofs.lemmas.Bool.{false_from_ne_true}
+use Rattle.cs_model.proofs.Filled.{not_filled}
 use Rattle.cs_model.specs.Device.{Shape}
-use Rattle.cs_model.specs.Extents.{Behind, Extents, FitsBy, ForMerge, ForMove, ForPut, ForRun, Goes, GoesApart, HasRoom, IsFirst, IsFirstEmpty, MayOpen, Placed, Purpose, Takes, chunk_extents, empties, noted, one_if, open_by, run_extents, spare, taken_by}
+use Rattle.cs_model.specs.Extents.{Behind, Extents, FitsBy, ForMerge, ForMove, ForPut, ForRun, Goes, GoesApart, HasRoom, IsFirst, IsFirstEmpty, MayFill, MayOpen, Placed, Purpose, Takes, chunk_extents, empties, noted, one_if, open_by, run_extents, spare, taken_by}
 use Rattle.cs_model.specs.Formats.{Formats}
 use Rattle.cs_model.specs.Sound.{Sound}
 use Rattle.cs_model.specs.State.{State}
@@ -89,15 +90,17 @@ module _ (S : Shape) where
         | inr other ↦ inr (λ b. other b.2)
         | inl kind ↦ elim (cases_lt S.pages (x.pointer e + k)) [
           | inl over ↦ inr (λ b. let le : x.pointer e + k ≤ S.pages = b.3 in omega arith)
-          | inr fits ↦ elim (cases_eq (x.found e) 0) [
-            | inr old ↦ inr (λ b. old b.4)
-            | inl new ↦ inl (there, some, kind, fits, new)
-          ]
+          | inr fits ↦ ⊎_elim (λ (may : MayFill S.fills (x.found e)). inl (there, some, kind, fits, may))
+              (λ (not : MayFill S.fills (x.found e) → ⊥). inr (λ b. not b.4)) (fill_decided S.fills)
         ]
       ]
     ]
   ]
     where
+      fill_decided : (b : Bool) → MayFill b (x.found e) ⊎ (MayFill b (x.found e) → ⊥)
+      fill_decided true = inl tt
+      fill_decided false = cases_eq (x.found e) 0
+
       cases_Bool_eq : (a b : Bool) → (a ≡ b) ⊎ (a ≢ b)
       cases_Bool_eq true true = inl refl
       cases_Bool_eq false false = inl refl
@@ -152,7 +155,7 @@ module _ (S : Shape) where
 
   -- what takes a frame is there
   pub takes_behind : (x : Extents) (purpose : Purpose) (k e : ℕ) → Takes S x purpose k e
-      → (e < S.extents) × (0 < x.pointer e) × (x.pointer e + k ≤ S.pages) × (x.found e ≡ 0)
+      → (e < S.extents) × (0 < x.pointer e) × (x.pointer e + k ≤ S.pages) × MayFill S.fills (x.found e)
   takes_behind x ForPut k e t = (t.0.0, t.0.1, t.0.3, t.0.4)
   takes_behind x ForRun k e t = (t.0, t.1, t.3, t.4)
   takes_behind x ForMove k e t = (t.0.0, t.0.1, t.0.3, t.0.4)
@@ -299,22 +302,32 @@ module _ (S : Shape) where
   opens true x ForMove k e d goes is = inl is
   opens true x ForMerge k e d goes is = inl is
 
--- a frame goes to no extent that is frozen
-pub unfrozen : (S : Shape) (F : Formats) (apart : Bool) → (apart ≡ true → S.apart ≡ true) → (s : State) (purpose : Purpose)
-    (k e : ℕ) → Sound S F s → Goes S apart s.world.extents purpose k e
-    → s.opening.frozen e (s.world.extents.generation e) ≡ false
-unfrozen S F apart by s purpose k e sound placed = false_from_ne_true (s.opening.frozen e (s.world.extents.generation e))
-    (thaws apart by placed)
+-- where extents are filled up a frame goes behind the pages that are frozen, else to no extent with one
+pub unfrozen : (S : Shape) (F : Formats) (apart : Bool) → (apart ≡ true → S.apart ≡ true) → (s : State)
+    (purpose : Purpose) (k e : ℕ) → Sound S F s → Goes S apart s.world.extents purpose k e
+    → (i : ℕ) → (S.fills ≡ true → s.world.extents.pointer e ≤ i)
+    → s.opening.frozen e i (s.world.extents.generation e) ≡ false
+unfrozen S F apart by s purpose k e sound placed i behind = false_from_ne_true
+    (s.opening.frozen e i (s.world.extents.generation e)) (either S.fills refl)
   where
-    thaws : (rule : Bool) → (rule ≡ true → S.apart ≡ true) → Goes S rule s.world.extents purpose k e
-        → s.opening.frozen e (s.world.extents.generation e) ≡ true → ⊥
-    thaws false on (inl open_one) fz = (sound.frozen e fz).0 open_one.0
-    thaws false on (inr empty) fz = let none : s.world.extents.pointer e ≡ 0 = empty.1.1 in
-        let some : 0 < s.world.extents.pointer e = (sound.frozen e fz).1 in omega arith
-    thaws true on (inl a) fz = let new : s.world.extents.found e ≡ 0 = (takes_behind S s.world.extents purpose k e a.1).3 in
-        let old : 0 < s.world.extents.found e = (sound.apart (on refl)).found e fz in omega arith
-    thaws true on (inr (inl a)) fz =
-        let new : s.world.extents.found e ≡ 0 = (takes_behind S s.world.extents purpose k e a.1.0).3 in
-        let old : 0 < s.world.extents.found e = (sound.apart (on refl)).found e fz in omega arith
-    thaws true on (inr (inr empty)) fz = let none : s.world.extents.pointer e ≡ 0 = empty.1.1 in
-        let some : 0 < s.world.extents.pointer e = (sound.frozen e fz).1 in omega arith
+    thaws : S.fills ≡ false → (rule : Bool) → (rule ≡ true → S.apart ≡ true) → Goes S rule s.world.extents purpose k e
+        → s.opening.frozen e i (s.world.extents.generation e) ≡ true → ⊥
+    thaws off false on (inl open_one) fz = (sound.frozen off e i fz).0 open_one.0
+    thaws off false on (inr empty) fz = let none : s.world.extents.pointer e ≡ 0 = empty.1.1 in
+        let some : 0 < s.world.extents.pointer e = (sound.frozen off e i fz).1 in omega arith
+    thaws off true on (inl a) fz = let new : s.world.extents.found e ≡ 0 = not_filled S.fills (s.world.extents.found e) off
+        (takes_behind S s.world.extents purpose k e a.1).3 in
+        let old : 0 < s.world.extents.found e = (sound.apart (on refl)).found e i fz in omega arith
+    thaws off true on (inr (inl a)) fz =
+        let new : s.world.extents.found e ≡ 0 = not_filled S.fills (s.world.extents.found e) off
+        (takes_behind S s.world.extents purpose k e a.1.0).3 in
+        let old : 0 < s.world.extents.found e = (sound.apart (on refl)).found e i fz in omega arith
+    thaws off true on (inr (inr empty)) fz = let none : s.world.extents.pointer e ≡ 0 = empty.1.1 in
+        let some : 0 < s.world.extents.pointer e = (sound.frozen off e i fz).1 in omega arith
+
+    either : (b : Bool) → S.fills ≡ b → s.opening.frozen e i (s.world.extents.generation e) ≡ true → ⊥
+    either true full fz =
+        let above : s.world.extents.pointer e ≤ i = behind full in
+        let given : s.world.extents.found e ≤ s.world.extents.pointer e = (sound.filled full).given e in
+        let found : i < s.world.extents.found e = (sound.filled full).frozen e i fz in omega arith
+    either false off fz = thaws off apart by placed fz

@@ -10,9 +10,9 @@ use Rattle.cs_model.specs.Machine.{ResetExtent, World, happens}
 use Rattle.cs_model.specs.Safe.{Allowed, FitsExtent, Safe}
 use Rattle.cs_model.proofs.Parts.{grows, with_below}
 
-module _ (S : Shape) (Good : Root → (ℕ → Page) → Type 0) (frozen : ℕ → ℕ → Bool) (opened : ℕ → Page)
+module _ (S : Shape) (Good : Root → (ℕ → Page) → Type 0) (frozen : ℕ → ℕ → ℕ → Bool) (opened : ℕ → Page)
     (local : (r : Root) (a b : ℕ → Page) → ((h : Place) → Covers S r h → b h.page ≡ a h.page)
-    → ((e i : ℕ) → frozen e (r.generations e) ≡ true → 0 < r.pointers e → Inside S e i
+    → ((e i : ℕ) → frozen e i (r.generations e) ≡ true → 0 < r.pointers e → Inside S e i
     → b (S.address e i) ≡ a (S.address e i)) → Good r a → Good r b) where
   pub keeps_reset : (w : World) (e : ℕ) → Allowed S Good frozen opened w (ResetExtent e)
       → Safe S Good frozen opened w → Safe S Good frozen opened (happens S w (ResetExtent e))
@@ -37,17 +37,17 @@ module _ (S : Shape) (Good : Root → (ℕ → Page) → Type 0) (frozen : ℕ �
             subst (λ (i : ℕ). x.number ≤ next.1.0.writes (S.section i)) (sym there) (next.1.3 x has there),
           ))
           (λ not. s.written_once x has);
-      unwritten = λ d. changed (λ p g t. frozen d g ≡ true → (x : Write) → x ∈ writes_of w.elements
-          → S.extent x.page ≡ d → ⊥) d
-          (λ there fz x has at. let le : suc (w.extents.generation e) ≤ w.extents.generation d = s.frozen_before d _ fz in
+      unwritten = λ d i. changed (λ p g t. frozen d i g ≡ true → (x : Write) → x ∈ writes_of w.elements
+          → S.extent x.page ≡ d → S.index x.page ≡ i → ⊥) d
+          (λ there fz x has at place. let le : suc (w.extents.generation e) ≤ w.extents.generation d = s.frozen_before d i _ fz in
           let ge : w.extents.generation d ≡ w.extents.generation e = ap w.extents.generation there in omega arith)
-          (λ not. s.unwritten d);
+          (λ not. s.unwritten d i);
     };
     extents = record {
       extents_fit = λ d. changed (λ p g t. FitsExtent S p g) d (λ there. (omega arith, next.2)) (λ not. s.extents_fit d);
       resets_there = λ d out. changed (λ p g t. t ≡ 0) d
           (λ there. absurd (let lt : e < S.extents = next.3 in omega arith)) (λ not. s.resets_there d out);
-      frozen_before = λ d g fz. le_trans (s.frozen_before d g fz)
+      frozen_before = λ d i g fz. le_trans (s.frozen_before d i g fz)
           (grows w.extents.generation e (suc (w.extents.generation e)) d (omega arith));
     };
     writes_rise = s.writes_rise;

@@ -40,17 +40,20 @@ module _ (S : Shape) (F : Formats) (shape : IsShape S) (format : IsFormat S F) w
       → e < S.extents → Sound S F (retired S F s runs e)
   reset_sound before s runs e sound gives fit young exists = record {
     damaged = sound.damaged;
+    shown = sound.shown;
+    unfilled = sound.unfilled;
+    filled = λ full. not_both_rules S.apart before (shape.fills full);
     apart = λ on. not_both_rules S.apart before on;
-    frozen = λ d. elim (cases_eq d e) [
+    frozen = λ off d i. elim (cases_eq d e) [
       | inl same ↦ (λ fz. absurd (
           let up : with s.world.extents.generation e (suc (s.world.extents.generation e)) d ≡ suc
           (s.world.extents.generation d) = with_same s.world.extents.generation e
           (suc (s.world.extents.generation e)) d same
           ∙ ap (λ (n : ℕ). suc (s.world.extents.generation n)) (sym same) in
-          let le : suc (s.world.extents.generation d) ≤ s.world.extents.generation d = sound.safe.frozen_before d
-          (suc (s.world.extents.generation d)) (ap (s.opening.frozen d) (sym up) ∙ fz) in omega arith))
-      | inr not ↦ (λ fz. let old = sound.frozen d
-          (ap (s.opening.frozen d)
+          let le : suc (s.world.extents.generation d) ≤ s.world.extents.generation d = sound.safe.frozen_before d i
+          (suc (s.world.extents.generation d)) (ap (s.opening.frozen d i) (sym up) ∙ fz) in omega arith))
+      | inr not ↦ (λ fz. let old = sound.frozen off d i
+          (ap (s.opening.frozen d i)
           (sym (with_other s.world.extents.generation e (suc (s.world.extents.generation e)) d not)) ∙ fz) in
           (still_closed d old.0, subst (λ (k : ℕ). 0 < k) (sym (with_other s.world.extents.pointer e 0 d not)) old.1))
     ];

@@ -10,9 +10,9 @@ use Rattle.cs_model.specs.Safe.{Allowed, Safe}
 use Rattle.cs_model.proofs.ClosedSets.{page_same}
 use Rattle.cs_model.proofs.Parts.{below_chosen, chosen_below, each, each_two, still_exact, still_staged}
 
-module _ (S : Shape) (Good : Root → (ℕ → Page) → Type 0) (frozen : ℕ → ℕ → Bool) (opened : ℕ → Page)
+module _ (S : Shape) (Good : Root → (ℕ → Page) → Type 0) (frozen : ℕ → ℕ → ℕ → Bool) (opened : ℕ → Page)
     (local : (r : Root) (a b : ℕ → Page) → ((h : Place) → Covers S r h → b h.page ≡ a h.page)
-    → ((e i : ℕ) → frozen e (r.generations e) ≡ true → 0 < r.pointers e → Inside S e i
+    → ((e i : ℕ) → frozen e i (r.generations e) ≡ true → 0 < r.pointers e → Inside S e i
     → b (S.address e i) ≡ a (S.address e i)) → Good r a → Good r b) where
   pub keeps_root : (w : World) (n : ℕ) (runs : List Run) (m : Map) (pointers : ℕ → ℕ)
       → Allowed S Good frozen opened w (StageRoot n runs m pointers) → Safe S Good frozen opened w
@@ -50,7 +50,7 @@ module _ (S : Shape) (Good : Root → (ℕ → Page) → Type 0) (frozen : ℕ �
           s.good;
       rewritten = λ x y is_x is_y at after. (let old = s.rewritten x y is_x is_y at after in
           (old.0, inr old.1, old.2, old.3));
-      written_later = each _ _ _ (λ d fz some x has at. absurd (s.unwritten d fz x has at)) s.written_later;
+      written_later = each _ _ _ (λ d i fz some x has at place. absurd (s.unwritten d i fz x has at place)) s.written_later;
     };
     since_resets = record {
       fresh = each _ _ _ (λ h has. inl (given h has)) s.fresh;

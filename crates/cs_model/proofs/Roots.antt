@@ -17,6 +17,7 @@ use Rattle.cs_model.proofs.ClosedSets.{gt-leb}
 use Rattle.cs_model.proofs.Parts.{each}
 use Rattle.cs_model.proofs.RootMoves.{keeps_root}
 use Rattle.cs_model.proofs.Carries.{root_local}
+use Rattle.cs_model.proofs.Filled.{filled_rooted}
 use Rattle.cs_model.proofs.Gives.{gives_set}
 
 -- the next root and its runs can be spelled, and keep to their bounds
@@ -56,6 +57,9 @@ module _ (S : Shape) (F : Formats) (shape : IsShape S) (format : IsFormat S F) w
     swept = sound.swept;
     frozen = sound.frozen;
     damaged = sound.damaged;
+    shown = sound.shown;
+    unfilled = sound.unfilled;
+    filled = sound.filled;
     apart = λ on. record { found = (sound.apart on).found; one_sweep = (sound.apart on).one_sweep; copied = (sound.apart on).copied };
   }
 
@@ -153,6 +157,11 @@ module _ (S : Shape) (F : Formats) (shape : IsShape S) (format : IsFormat S F) w
   rooted_under s runs pointers sound agree gives under fit = record {
     frozen = sound.frozen;
     damaged = sound.damaged;
+    shown = sound.shown;
+    unfilled = sound.unfilled;
+    filled = λ on. filled_rooted S F s.opening s.world.extents.pointer s.world.extents.generation s.world.extents.found
+        (roots_of s.world.elements) (sound.filled on)
+        (root_now S s.world (s.count + length s.commands) runs (map_now s) pointers) refl agree;
     apart = λ on. record {
       found = (sound.apart on).found;
       one_sweep = (sound.apart on).one_sweep;

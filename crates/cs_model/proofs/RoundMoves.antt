@@ -34,9 +34,9 @@ none_out S closed exact staged = record {
   };
 }
 
-module _ (S : Shape) (Good : Root → (ℕ → Page) → Type 0) (frozen : ℕ → ℕ → Bool) (opened : ℕ → Page)
+module _ (S : Shape) (Good : Root → (ℕ → Page) → Type 0) (frozen : ℕ → ℕ → ℕ → Bool) (opened : ℕ → Page)
     (local : (r : Root) (a b : ℕ → Page) → ((h : Place) → Covers S r h → b h.page ≡ a h.page)
-    → ((e i : ℕ) → frozen e (r.generations e) ≡ true → 0 < r.pointers e → Inside S e i
+    → ((e i : ℕ) → frozen e i (r.generations e) ≡ true → 0 < r.pointers e → Inside S e i
     → b (S.address e i) ≡ a (S.address e i)) → Good r a → Good r b) where
   pub between : (w : World) (X : Cut) → Safe S Good frozen opened w → Within w.persistent X → Within X w.round
       → Closed S (log_of w.elements) X

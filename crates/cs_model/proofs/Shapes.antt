@@ -1,5 +1,5 @@
 -- The device's pages are apart.
-use Rattle.std.proofs.Common.{◌≡◌, ◌≢◌, inl, inr, ℕ, suc, ◌+◌, ◌-◌, ◌*◌, ◌/◌, ◌%◌, ◌<◌, ◌≤◌, true, false, ◌==◌, nat_le, nat_lt, le_refl, eq-eqb, ne_eqb, mul-le-mul_right, refl, sym, ap, ◌∙◌, arith}
+use Rattle.std.proofs.Common.{◌≡◌, ◌≢◌, inl, inr, ℕ, suc, ◌+◌, ◌-◌, ◌*◌, ◌/◌, ◌%◌, ◌<◌, ◌≤◌, true, false, ◌==◌, nat_le, nat_lt, le_refl, eq-eqb, ne_eqb, mul-le-mul_right, true≢false, refl, sym, ap, ◌∙◌, arith}
 use Rattle.std.proofs.lemmas.Bool.{cases_Bool, cases_eq, cases_lt}
 use Rattle.std.proofs.lemmas.Bool.Decides.{nat_tests}
 use Rattle.std.proofs.lemmas.Nat.{div-mul-add, mod-mul-add, div_below}
@@ -81,6 +81,7 @@ module _ (E P N Q f : ℕ) (g : IsGeometry E P N Q) where
       | inl few ↦ rw few (le_refl _)
       | inr many ↦ rw many (omega arith)
     ];
+    fills = λ on. absurd (true≢false (sym on));
     apart = λ on. ((rules_apart f on).0, (rules_apart f on).1, some_run_extents E, wide on);
     some_byte = (let p : 0 < P = g.some_page in omega arith);
     section_only = only_section;

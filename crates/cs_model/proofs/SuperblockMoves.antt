@@ -9,9 +9,9 @@ use Rattle.cs_model.specs.Machine.{StageSuperblock, World, happens, superblock_n
 use Rattle.cs_model.specs.Safe.{Allowed, Safe}
 use Rattle.cs_model.proofs.Parts.{below_chosen, chosen_below, each, each_two, still_exact, still_staged, with_case, with_same, grows, with_below}
 
-module _ (S : Shape) (Good : Root → (ℕ → Page) → Type 0) (frozen : ℕ → ℕ → Bool) (opened : ℕ → Page)
+module _ (S : Shape) (Good : Root → (ℕ → Page) → Type 0) (frozen : ℕ → ℕ → ℕ → Bool) (opened : ℕ → Page)
     (local : (r : Root) (a b : ℕ → Page) → ((h : Place) → Covers S r h → b h.page ≡ a h.page)
-    → ((e i : ℕ) → frozen e (r.generations e) ≡ true → 0 < r.pointers e → Inside S e i
+    → ((e i : ℕ) → frozen e i (r.generations e) ≡ true → 0 < r.pointers e → Inside S e i
     → b (S.address e i) ≡ a (S.address e i)) → Good r a → Good r b) where
   pub keeps_superblock : (w : World) (j n : ℕ) → Allowed S Good frozen opened w (StageSuperblock j n)
       → Safe S Good frozen opened w → Safe S Good frozen opened (happens S w (StageSuperblock j n))

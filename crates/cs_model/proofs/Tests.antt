@@ -3,11 +3,8 @@ use Rattle.std.proofs.Common.{◌≡◌, ℕ, ◌<◌, nat_lt, Bool, true, false
 use Rattle.std.proofs.lemmas.Bool.Decides.{nat_tests}
 use Rattle.cs_model.specs.Refusal.{Refusal}
 
-pub some_pages : {n : ℕ} → nat_lt 0 n ≡ true → 0 < n
-some_pages is = grind (arith, nat_tests)
-
-pub not_empty_at : (i n : ℕ) → nat_lt i n ≡ true → nat_lt 0 n ≡ true
-not_empty_at i n is = (let lt : i < n = grind (arith, nat_tests) in grind (arith, nat_tests))
+pub is_below : (i n : ℕ) → nat_lt i n ≡ true → i < n
+is_below i n is = grind (arith, nat_tests)
 
 pub where_damaged : (b : Bool) (o : Option Refusal) (f : Refusal) → (if b then o else None) ≡ Some f
     → (b ≡ true) × (o ≡ Some f)

@@ -1,10 +1,12 @@
 -- An image gives one map.
-use Rattle.std.proofs.Common.{Bool, false, ◌-◌, if◌then◌else◌, ◌≡◌, inl, inr, ℕ, suc, ◌≤◌, true, List, [], ◌∷◌, ◌++◌, length, Option, Some, None, le_refl, refl, sym, ap, ap₂, ◌∙◌, subst, arith}
-use Rattle.cs_model.specs.Device.{Page, Shape}
+use Rattle.std.proofs.Common.{Bool, false, ◌-◌, ◌+◌, ◌<◌, ◌==◌, if◌then◌else◌, ◌≡◌, inl, inr, ℕ, suc, ◌≤◌, true, List, [], ◌∷◌, ◌++◌, length, Option, Some, None, le_refl, le_trans, le_of_eq, refl, sym, ap, ap₂, ◌∙◌, subst, arith}
+use Rattle.cs_model.proofs.Filled.{limit_low, limits_agree}
+use Rattle.cs_model.proofs.LocalRecovery.{live_passes}
+use Rattle.cs_model.specs.Device.{IsShape, Page, Shape}
 use Rattle.cs_model.specs.Element.{Content, Damaged, Entry, Locator, Map, Run}
-use Rattle.cs_model.specs.Formats.{ChunkFrame, Formats, FrameKind, RunFrame, Stand, opening_in, pages_from, places}
+use Rattle.cs_model.specs.Formats.{ChunkFrame, Formats, FrameKind, RunFrame, Stand, limit_in, opening_in, pages_from, places}
 use Rattle.cs_model.specs.Frames.{IsFormat, IsFrameFormat}
-use Rattle.cs_model.specs.Index.{Reads, ReadsAs, Value, after, entries_of, lookup}
+use Rattle.cs_model.specs.Index.{Passes, Reads, ReadsAs, Value, after, entries_of, live, lookup}
 use Rattle.cs_model.specs.Lists.{◌∈◌}
 use Rattle.cs_model.specs.Recovery.{IsNew, Recovers}
 use Rattle.cs_model.specs.Refusal.{Refusal}
@@ -40,33 +42,49 @@ module _ (S : Shape) (F : Formats) (format : IsFormat S F) (img : ℕ → Page) 
 
   faulty : (pointers generations : ℕ → ℕ) (l : Locator) (f : Refusal)
       → (opening_in S F img pointers generations).damage l ≡ Some f
-      → F.fault ChunkFrame (pages_from S F img l.extent l.page (S.pages - l.page)) ≡ Some f
+      → F.fault ChunkFrame (pages_from S F img l.extent l.page (limit_in S F pointers generations l - l.page)) ≡ Some f
   faulty pointers generations l f is = when _ _ f is
 
-  same_reading : (ls : List Locator) (v w : Content) → ReadsAs S F (opening_in S F img p g) img p g ls v
-      → ReadsAs S F (opening_in S F img q k) img q k ls w → v ≡ w
-  same_reading [] v w a b = a ∙ sym b
-  same_reading (l ∷ ls) v w (inl a) (inl b) = a.4
-      ∙ ap₂ (λ (c : List ℕ) (r : Content). after c r)
-      (format.one_payload img l.extent l.page ChunkFrame a.0 b.0 (let x = a.2.inside in omega arith)
-      (let x = b.2.inside in omega arith) a.2.stand b.2.stand) (same_reading ls a.1 b.1 a.3 b.3)
-      ∙ sym b.4
-  same_reading (l ∷ ls) v w (inl a) (inr b) = absurd
-      (let e : None ≡ Some b.0 = sym (format.no_fault img l.extent l.page ChunkFrame a.0 a.2.inside a.2.stand)
-      ∙ faulty q k l b.0 b.1 in cc)
-  same_reading (l ∷ ls) v w (inr a) (inl b) = absurd
-      (let e : None ≡ Some a.0 = sym (format.no_fault img l.extent l.page ChunkFrame b.0 b.2.inside b.2.stand)
-      ∙ faulty p g l a.0 a.1 in cc)
-  same_reading (l ∷ ls) v w (inr a) (inr b) =
-      let same : a.0 ≡ b.0 = (let e : Some a.0 ≡ Some b.0 = sym (faulty p g l a.0 a.1) ∙ faulty q k l b.0 b.1 in
-      cc) in a.2 ∙ ap Damaged same ∙ sym b.2
+  -- where a frame stands no superblock that lets it reach so far tells a fault
+  not_faulty : (pointers generations : ℕ → ℕ) (l : Locator) (payload : List ℕ)
+      → l.page + length (F.frame ChunkFrame payload) ≤ limit_in S F pointers generations l
+      → limit_in S F pointers generations l ≤ S.pages → Stand S F img l.extent l.page (F.frame ChunkFrame payload)
+      → F.fault ChunkFrame (pages_from S F img l.extent l.page (limit_in S F pointers generations l - l.page)) ≡ None
+  not_faulty pointers generations l payload within low stand =
+      format.no_fault img l.extent l.page (limit_in S F pointers generations l - l.page) ChunkFrame payload
+      (omega arith) (omega arith) stand
 
-  same_value : (o : Option (List Locator)) (v w : Option Content) → Value S F (opening_in S F img p g) img p g o v
-      → Value S F (opening_in S F img q k) img q k o w → v ≡ w
-  same_value None v w a b = a ∙ sym b
-  same_value (Some []) v w a b = a ∙ sym b
-  same_value (Some (l ∷ ls)) v w a b = a.2 ∙ ap (λ (c : Content). Some c) (same_reading (l ∷ ls) a.0 b.0 a.1 b.1)
-      ∙ sym b.2
+  module _ (fits : (e : ℕ) → p e ≤ S.pages) (also : (e : ℕ) → q e ≤ S.pages) where
+    same_reading : (ls : List Locator) (v w : Content)
+        → ((l : Locator) → l ∈ ls → limit_in S F p g l ≡ limit_in S F q k l)
+        → ReadsAs S F (opening_in S F img p g) img p g ls v
+        → ReadsAs S F (opening_in S F img q k) img q k ls w → v ≡ w
+    same_reading [] v w same a b = a ∙ sym b
+    same_reading (l ∷ ls) v w same (inl a) (inl b) = a.4
+        ∙ ap₂ (λ (c : List ℕ) (r : Content). after c r)
+        (format.one_payload img l.extent l.page ChunkFrame a.0 b.0 (let x = a.2.inside in omega arith)
+        (let x = b.2.inside in omega arith) a.2.stand b.2.stand)
+        (same_reading ls a.1 b.1 (λ x has. same x (inr has)) a.3 b.3)
+        ∙ sym b.4
+    same_reading (l ∷ ls) v w same (inl a) (inr b) = absurd
+        (let e : None ≡ Some b.0 = sym (not_faulty q k l a.0 (le_trans a.2.within (le_of_eq (same l (inl refl))))
+        (limit_low S F q k also l) a.2.stand) ∙ faulty q k l b.0 b.1 in cc)
+    same_reading (l ∷ ls) v w same (inr a) (inl b) = absurd
+        (let e : None ≡ Some a.0 = sym (not_faulty p g l b.0 (le_trans b.2.within (le_of_eq (sym (same l (inl refl)))))
+        (limit_low S F p g fits l) b.2.stand) ∙ faulty p g l a.0 a.1 in cc)
+    same_reading (l ∷ ls) v w same (inr a) (inr b) =
+        let one : a.0 ≡ b.0 = (let e : Some a.0 ≡ Some b.0 = sym (faulty p g l a.0 a.1)
+        ∙ ap (λ (n : ℕ). F.fault ChunkFrame (pages_from S F img l.extent l.page (n - l.page))) (same l (inl refl))
+        ∙ faulty q k l b.0 b.1 in cc) in a.2 ∙ ap Damaged one ∙ sym b.2
+
+    same_value : (o : Option (List Locator)) (v w : Option Content)
+        → ((l : Locator) → l ∈ live o → limit_in S F p g l ≡ limit_in S F q k l)
+        → Value S F (opening_in S F img p g) img p g o v
+        → Value S F (opening_in S F img q k) img q k o w → v ≡ w
+    same_value None v w same a b = a ∙ sym b
+    same_value (Some []) v w same a b = a ∙ sym b
+    same_value (Some (l ∷ ls)) v w same a b = a.2
+        ∙ ap (λ (c : Content). Some c) (same_reading (l ∷ ls) a.0 b.0 same a.1 b.1) ∙ sym b.2
 
   pub same_entries : (xs ys : List Run) → places xs ≡ places ys → ((r : Run) → r ∈ xs → F.fits_run r.entries ≡ true)
       → ((r : Run) → r ∈ ys → F.fits_run r.entries ≡ true)
@@ -91,19 +109,43 @@ module _ (S : Shape) (F : Formats) (format : IsFormat S F) (img : ℕ → Page) 
       (same_entries xs ys rest (λ r has. fx r (inr has)) (λ r has. fy r (inr has)) (λ r has. a r (inr has))
       (λ r has. b r (inr has)))
 
-pub one_recovery : (S : Shape) (F : Formats) → IsFormat S F → (img : ℕ → Page) (n k : ℕ) (m o : Map)
+pub one_recovery : (S : Shape) (F : Formats) → IsShape S → IsFormat S F → (img : ℕ → Page) (n k : ℕ) (m o : Map)
     → Recovers S F img n m → Recovers S F img k o → (n ≡ k) × ((id : ℕ) → m id ≡ o id)
-one_recovery S F format img n k m o a b =
-    let root = format.one_root a.version b.version n k (places a.runs) (places b.runs) a.root_fits b.root_fits
-    (sym a.root ∙ b.root) in (
-      root.0,
-      λ id. same_value S F format img a.pointers a.generations b.pointers b.generations
-          (lookup id (entries_of a.runs)) (m id) (o id) (a.gives.values id)
-          (subst (λ (es : List Entry). Value S F
-          (opening_in S F img b.pointers b.generations) img b.pointers b.generations (lookup id es) (o id))
-          (sym (same_entries S F format img a.pointers a.generations b.pointers b.generations a.runs b.runs root.1
-          a.runs_fit b.runs_fit a.gives.runs_read b.gives.runs_read)) (b.gives.values id)),
-    )
+one_recovery S F shape format img n k m o a b = (
+  root.0,
+  λ id. same_value S F format img a.pointers a.generations b.pointers b.generations (λ e. (a.extents_fit e).0)
+      (λ e. (b.extents_fit e).0) (lookup id (entries_of a.runs)) (m id) (o id) (same_limit id) (a.gives.values id)
+      (subst (λ (es : List Entry). Value S F
+      (opening_in S F img b.pointers b.generations) img b.pointers b.generations (lookup id es) (o id))
+      (sym entries) (b.gives.values id)),
+)
+  where
+    root : (n ≡ k) × (places a.runs ≡ places b.runs)
+    root = format.one_root a.version b.version n k (places a.runs) (places b.runs) a.root_fits b.root_fits
+        (sym a.root ∙ b.root)
+
+    entries : entries_of a.runs ≡ entries_of b.runs
+    entries = same_entries S F format img a.pointers a.generations b.pointers b.generations a.runs b.runs root.1
+        a.runs_fit b.runs_fit a.gives.runs_read b.gives.runs_read
+
+    same_pointer : S.fills ≡ true → (e : ℕ) → e < S.extents → a.pointers e ≡ b.pointers e
+    same_pointer on e lt = let j = shape.section e in
+        format.tells on (a.formats (S.section e)) (b.formats (S.section e)) (S.section e) (a.versions (S.section e))
+        (b.versions (S.section e)) a.pointers a.generations b.pointers b.generations a.extents_fit b.extents_fit
+        (sym (a.superblock (S.section e) j) ∙ b.superblock (S.section e) j) e lt refl
+
+    same_limit : (id : ℕ) (l : Locator) → l ∈ live (lookup id (entries_of a.runs))
+        → limit_in S F a.pointers a.generations l ≡ limit_in S F b.pointers b.generations l
+    same_limit id l has = limits_agree S F img a.pointers a.generations b.pointers b.generations l here there
+        (λ on. same_pointer on l.extent here.inside.0)
+      where
+        here : Passes S F img a.pointers a.generations l
+        here = live_passes S F (opening_in S F img a.pointers a.generations) img a.pointers a.generations [] a.runs m
+            a.gives id l has
+
+        there : Passes S F img b.pointers b.generations l
+        there = live_passes S F (opening_in S F img b.pointers b.generations) img b.pointers b.generations [] b.runs o
+            b.gives id l (subst (λ (es : List Entry). l ∈ live (lookup id es)) entries has)
 
 pub new_store : (S : Shape) (F : Formats) (img : ℕ → Page) → IsNew S F img → Recovers S F img 0 (λ id. None)
 new_store S F img new = record {

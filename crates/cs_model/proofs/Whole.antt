@@ -1,7 +1,6 @@
 -- Where no shard is damaged, nothing is said of opening.
-use Rattle.std.proofs.Common.{◌≡◌, ◌≢◌, inl, inr, ℕ, Bool, true, false, nat_le, List, [], ◌∷◌, ◌++◌, length, Option, Some, None, if◌then◌else◌, ◌==◌, refl, sym, ap, ◌∙◌, subst, eq-eqb, nat_lt, ◌<◌, arith}
-use Rattle.std.proofs.lemmas.Bool.Decides.{nat_tests}
-use Rattle.cs_model.proofs.Carries.{and_true}
+use Rattle.std.proofs.Common.{◌≡◌, ◌≢◌, inl, inr, ℕ, Bool, true, false, nat_le, List, [], ◌∷◌, ◌++◌, length, Option, Some, None, if◌then◌else◌, ◌==◌, refl, sym, ap, ◌∙◌, subst}
+use Rattle.cs_model.proofs.Filled.{own_reads}
 use Rattle.cs_model.specs.Device.{Page, Shape}
 use Rattle.cs_model.specs.Element.{Bytes, Content, Damaged, Entry, Locator, Map, Opening, Run}
 use Rattle.cs_model.specs.Formats.{ChunkFrame, Formats, RunFrame, opening_in}
@@ -103,8 +102,9 @@ whole_map start (c ∷ cs) n whole = either (nat_le n (length cs)) (map_after st
     either false x y a b = b
 
 pub whole_recovers : (S : Shape) (F : Formats) (opening : Opening) (img : ℕ → Page) (n : ℕ) (m : Map) → NoneDamaged m
+    → (S.fills ≡ true → (e k : ℕ) → opening.frozen e S.pages k ≡ false)
     → RecoversBut S F (λ p g. opening) img n m → Recovers S F img n m
-whole_recovers S F opening img n m whole r = record {
+whole_recovers S F opening img n m whole thawed r = record {
   formats = r.formats;
   versions = r.versions;
   pointers = r.pointers;
@@ -119,17 +119,6 @@ whole_recovers S F opening img n m whole r = record {
   versions_fit = r.versions_fit;
   extents_fit = r.extents_fit;
   gives = whole_gives S F opening
-      (opening_in S F img r.pointers r.generations) img r.pointers r.generations own_reads [] r.runs m whole r.gives;
+      (opening_in S F img r.pointers r.generations) img r.pointers r.generations
+      (own_reads S F img r.pointers r.generations opening thawed) [] r.runs m whole r.gives;
 }
-  where
-    -- a page below the pointer is in an extent that isn't empty
-    own_reads : (l : Locator) (bs : List Page) → Reads S F opening img r.pointers r.generations l bs
-        → Reads S F (opening_in S F img r.pointers r.generations) img r.pointers r.generations l bs
-    own_reads l bs reads = record {
-      passes = reads.passes;
-      inside = reads.inside;
-      stand = reads.stand;
-      below = inr (and_true (r.generations l.extent == l.generation) (nat_lt 0 (r.pointers l.extent))
-          (eq-eqb _ _ reads.passes.generation)
-          (let below : l.page < r.pointers l.extent = reads.passes.below in grind (arith, nat_tests)));
-    }

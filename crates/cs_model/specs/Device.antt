@@ -29,6 +29,8 @@ pub record Shape : Type 0 where
   -- an extent holds chunks or runs, and not both, and copies count once the sweep ends; how many may hold runs then
   pub apart : Bool
   pub run_extents : ℕ
+  -- an extent that was found with pages is filled up behind them, and a frame that begins among them ends there
+  pub fills : Bool
   -- what is written to a page; the pages of the root and of the sections
   pub kind : ℕ → PageKind
   pub root_page : ℕ
@@ -54,7 +56,8 @@ abbrev pub Inside : Shape → ℕ → ℕ → Type 0
 Inside S e i = (e < S.extents) × (i < S.pages)
 
 -- no two things lie on one page, a shard can be put, and a root may have as many runs as Stage leaves; where chunks and
--- runs lie apart a hidden entry may name what is gone, a Stage merges by sizes, and extents are left for both
+-- runs lie apart a hidden entry may name what is gone, a Stage merges by sizes, and extents are left for both; only there is
+-- an extent filled up
 pub record IsShape (S : Shape) : Type 0 where
   pub root_kind : S.kind S.root_page ≡ RootPage
   pub section_kind : (j : ℕ) → j < S.sections → S.kind (S.section_page j) ≡ SectionPage j
@@ -69,6 +72,7 @@ pub record IsShape (S : Shape) : Type 0 where
   pub enough_runs : 4 ≤ S.most_runs
   pub apart : S.apart ≡ true → (S.hidden_stand ≡ false) × (S.by_size ≡ true)
       × (1 ≤ S.run_extents) × (S.run_extents + 2 ≤ S.extents)
+  pub fills : S.fills ≡ true → S.apart ≡ true
 
 -- a page of the device as one generation of its extent has it
 pub record Place : Type 0 where

@@ -42,8 +42,12 @@ pub record Copy : Type 0 where
 pub record Opening : Type 0 where
   -- of a chunk that is damaged there, the refusal
   pub damage : Locator → Option Refusal
-  -- the extent was in this generation and not empty, so no page of it is written before it is reset
-  pub frozen : (extent generation : ℕ) → Bool
+  -- the page was found in the extent, which was in this generation, so it isn't written before the extent is reset. Where an
+  -- extent isn't filled up each of its pages counts as found unless it was empty
+  pub frozen : (extent page generation : ℕ) → Bool
+  -- the end of the pages to which a frame may reach that begins there, and the pages up to it as they were found
+  pub limit : Locator → ℕ
+  pub pages : Locator → List Page
 
 -- an identifier's entry in the index: its locators, none for a deletion
 pub record Entry : Type 0 where

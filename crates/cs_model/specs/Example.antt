@@ -1,5 +1,6 @@
--- A format of pages without bounds: an example, which shows that the laws of a format hold together.
-use Rattle.std.specs.Prelude.{◌∷◌, ℕ, true, List, length, None, []}
+-- Formats of pages without bounds: examples, one of which shows that the laws of a format hold together.
+use Rattle.std.specs.Prelude.{◌∷◌, ◌==◌, ℕ, zero, suc, true, List, length, None, [], if◌then◌else◌}
+use Rattle.cs_model.specs.Device.{Shape}
 use Rattle.cs_model.specs.Element.{Entry, Locator}
 use Rattle.cs_model.specs.Formats.{Formats}
 
@@ -24,3 +25,12 @@ example_format = record {
   fits_root = λ v n ls. true;
   fits_run = λ es. true;
 }
+
+-- the pointers of a section's extents of those below n, and 0 for those of other sections
+abbrev pub told : Shape → (section : ℕ) → (pointers : ℕ → ℕ) → (n : ℕ) → List ℕ
+told S j pointers zero = []
+told S j pointers (suc n) = (if S.section n == j then pointers n else 0) ∷ told S j pointers n
+
+-- the same format, but that the page of a section has the pointers of its extents
+abbrev pub telling_format : Shape → Formats
+telling_format S = record example_format { superblock = λ f j v p g. told S j p S.extents }

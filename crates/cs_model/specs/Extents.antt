@@ -68,6 +68,22 @@ other_than e (Some d) = if d == e then None else Some d
 abbrev pub open_after : Shape → (e pointer : ℕ) → Option ℕ
 open_after S e pointer = if pointer == S.pages then None else Some e
 
+-- frames may be appended behind those on an extent: where extents are filled up behind any, else behind those alone that were
+-- all appended since the store was opened
+abbrev pub MayFill : (fills : Bool) → (found : ℕ) → Type 0
+MayFill false found = found ≡ 0
+MayFill true found = Unit {0}
+
+-- a page of an extent counts as found where more pages than so many were found there: than come before it where extents are
+-- filled up, else than none
+abbrev pub first_found : Shape → (page : ℕ) → ℕ
+first_found S page = if S.fills then page else 0
+
+-- how far a frame may reach that begins at a page of an extent of which so many pages were found: to their end, where extents
+-- are filled up and it begins among them, else to the extent's end
+abbrev pub reach : Shape → (found page : ℕ) → ℕ
+reach S found page = if S.fills then (if nat_lt page found then found else S.pages) else S.pages
+
 module _ (S : Shape) where
   -- e is open and has room for k pages
   abbrev pub HasRoom : Extents → (k e : ℕ) → Type 0
@@ -95,11 +111,10 @@ module _ (S : Shape) where
     open_extent = open_after S e (x.pointer e + k);
   }
 
-  -- where chunks and runs lie apart: k pages fit behind the frames on e, which are runs or chunks and were all appended
-  -- since the store was opened
+  -- where chunks and runs lie apart: k pages fit behind the frames on e, which are runs or chunks, and e may be filled up
   abbrev pub Behind : Extents → (runs : Bool) → (k e : ℕ) → Type 0
   Behind x runs k e = (e < S.extents) × (0 < x.pointer e) × (x.of_runs e ≡ runs) × (x.pointer e + k ≤ S.pages)
-      × (x.found e ≡ 0)
+      × MayFill S.fills (x.found e)
 
   -- they fit there for this purpose: chunks of a put not where a sweep goes on or wrote first, copies not where it goes
   -- on, and one run of all nowhere

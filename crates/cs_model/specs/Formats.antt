@@ -3,6 +3,7 @@ use Rattle.std.specs.Prelude.{◌≡◌, ◌-◌, ◌&&◌, ◌∷◌, ◌==◌,
 use Rattle.cs_model.specs.Cut.{Cut, page_in}
 use Rattle.cs_model.specs.Device.{FramePage, Page, PageKind, RootPage, SectionPage, Shape}
 use Rattle.cs_model.specs.Element.{Entry, Locator, Log, Opening, Run}
+use Rattle.cs_model.specs.Extents.{first_found, reach}
 use Rattle.cs_model.specs.Lists.{latest}
 use Rattle.cs_model.specs.Refusal.{Refusal}
 
@@ -16,7 +17,7 @@ pub record Formats : Type 0 where
   pub root : (version commands : ℕ) → List Locator → Page
   -- the pages of a frame, by its kind and payload
   pub frame : FrameKind → List ℕ → List Page
-  -- why no frame of that kind stands at the head of these pages, the rest of an extent; None where one does
+  -- why no frame of that kind stands at the head of these pages, all to which it may reach; None where one does
   pub fault : FrameKind → List Page → Option Refusal
   -- the payload of a run
   pub run : List Entry → List ℕ
@@ -53,15 +54,22 @@ module _ (S : Shape) (F : Formats) where
   pages_from img e i zero = []
   pages_from img e i (suc count) = img (S.address e i) ∷ pages_from img e (suc i) count
 
+  -- how far the frame at a locator may reach, under a superblock: of another generation nothing was found
+  abbrev pub limit_in : (pointers generations : ℕ → ℕ) → Locator → ℕ
+  limit_in pointers generations l =
+      reach S (if generations l.extent == l.generation then pointers l.extent else 0) l.page
+
   -- the refusal of the chunk that a locator has in an image, under its superblock, where it is damaged
   abbrev pub damage_in : (ℕ → Page) → (pointers generations : ℕ → ℕ) → Locator → Option Refusal
   damage_in img pointers generations l =
       if (generations l.extent == l.generation) && nat_lt l.page (pointers l.extent)
-      then F.fault ChunkFrame (pages_from img l.extent l.page (S.pages - l.page)) else None
+      then F.fault ChunkFrame (pages_from img l.extent l.page (limit_in pointers generations l - l.page)) else None
 
   -- what is known of an image, under its superblock
   abbrev pub opening_in : (ℕ → Page) → (pointers generations : ℕ → ℕ) → Opening
   opening_in img pointers generations = record {
     damage = damage_in img pointers generations;
-    frozen = λ e g. (generations e == g) && nat_lt 0 (pointers e);
+    frozen = λ e i g. (generations e == g) && nat_lt (first_found S i) (pointers e);
+    limit = limit_in pointers generations;
+    pages = λ l. pages_from img l.extent l.page (limit_in pointers generations l - l.page);
   }

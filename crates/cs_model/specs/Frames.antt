@@ -5,6 +5,7 @@ use Rattle.cs_model.specs.Element.{Entry, Locator}
 use Rattle.cs_model.specs.Formats.{Formats, FrameKind, Stand, pages_from}
 use Rattle.cs_model.specs.Index.{InRange, IsRunList}
 use Rattle.cs_model.specs.Lists.{◌∈◌}
+use Rattle.cs_model.specs.Safe.{FitsExtent}
 
 -- how many runs a root that is staged has at most
 abbrev pub most_staged : Shape → ℕ
@@ -29,10 +30,14 @@ pub record IsFormat (S : Shape) (F : Formats) : Type 0 where
   pub root_fits : (v n : ℕ) (ls : List Locator) → 1 ≤ v → v ≤ S.greatest_number → n ≤ S.greatest_number
       → length ls ≤ most_staged S → ((l : Locator) → l ∈ ls → InRange S l) → F.fits_root v n ls ≡ true
   pub run_fits : (entries : List Entry) → IsRunList S entries → F.fits_run entries ≡ true
-  -- where a frame stands there is no fault
-  pub no_fault : (img : ℕ → Page) (e i : ℕ) (kind : FrameKind) (payload : List ℕ)
-      → i + length (F.frame kind payload) ≤ S.pages → Stand S F img e i (F.frame kind payload)
-      → F.fault kind (pages_from S F img e i (S.pages - i)) ≡ None
+  -- where a frame stands there is no fault, however many pages follow
+  pub no_fault : (img : ℕ → Page) (e i count : ℕ) (kind : FrameKind) (payload : List ℕ)
+      → length (F.frame kind payload) ≤ count → i + count ≤ S.pages → Stand S F img e i (F.frame kind payload)
+      → F.fault kind (pages_from S F img e i count) ≡ None
+  -- where extents are filled up the page of a section tells the pointers of its extents, in whatever format and version
+  pub tells : S.fills ≡ true → (f k j v w : ℕ) (p g q h : ℕ → ℕ) → ((e : ℕ) → FitsExtent S (p e) (g e))
+      → ((e : ℕ) → FitsExtent S (q e) (h e)) → F.superblock f j v p g ≡ F.superblock k j w q h
+      → (e : ℕ) → e < S.extents → S.section e ≡ j → p e ≡ q e
 
 -- what a format of frames has to say of itself, so that what stands at a place is the frame of one payload
 pub record IsFrameFormat (frame : FrameKind → List ℕ → List Page) (pages : ℕ) : Type 0 where

@@ -19,6 +19,10 @@ by_size_in format = nat_lt 2 format
 abbrev pub apart_in : (format : ℕ) → Bool
 apart_in format = nat_lt 2 format
 
+-- an extent that was found with pages is filled up behind them
+abbrev pub fills_in : (format : ℕ) → Bool
+fills_in format = false
+
 -- how many extents may hold runs where they do
 abbrev pub most_run_extents : (extents : ℕ) → ℕ
 most_run_extents extents = if nat_le 16 extents then 2 else 1
@@ -40,6 +44,7 @@ shape_of extents pages sections per_section format = record {
   by_size = by_size_in format;
   apart = apart_in format;
   run_extents = most_run_extents extents;
+  fills = fills_in format;
   kind = λ p. if p == 0 then SectionPage 0 else if p == 1 then RootPage
       else if nat_lt p (2 + extents * pages) then FramePage else SectionPage (p - (1 + extents * pages));
   root_page = 1;

@@ -107,11 +107,14 @@ module _ (S : Shape) (F : Formats) where
 
   -- opening: what is known of the image at open
   module _ (opening : Opening) (img : ℕ → Page) (pointers generations : ℕ → ℕ) where
-    -- a frame of these pages lies there, below the pointer, or in an extent that isn't written before it is reset
+    -- a frame of these pages lies there, below the pointer, or in an extent that isn't written before it is reset; it
+    -- reaches no further than it may
     pub record Reads (l : Locator) (bs : List Page) : Type 0 where
       pub passes : Passes img pointers generations l
-      pub below : (l.page + length bs ≤ pointers l.extent) ⊎ (opening.frozen l.extent l.generation ≡ true)
+      pub below : (l.page + length bs ≤ pointers l.extent)
+          ⊎ ((i : ℕ) → opening.frozen l.extent i l.generation ≡ true)
       pub inside : l.page + length bs ≤ S.pages
+      pub within : l.page + length bs ≤ opening.limit l
       pub stand : Stand S F img l.extent l.page bs
 
     -- each locator has a frame of that chunk

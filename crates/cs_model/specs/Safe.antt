@@ -126,9 +126,9 @@ module _ (S : Shape) where
     pub within : Within persistent round
     pub ready : Ready log persistent round
 
-  -- Good: what a root must be able to read of an image. frozen: the extents that weren't empty at open, with their
-  -- generations. opened: the image at open
-  module _ (Good : Root → (ℕ → Page) → Type 0) (frozen : ℕ → ℕ → Bool) (opened : ℕ → Page) where
+  -- Good: what a root must be able to read of an image. frozen: the pages that were found in an extent at open, by extent,
+  -- page and generation. opened: the image at open
+  module _ (Good : Root → (ℕ → Page) → Type 0) (frozen : ℕ → ℕ → ℕ → Bool) (opened : ℕ → Page) where
     -- what a root reads is as it was staged
     pub record ReadsAsStaged (writes : List Write) (roots : List Root) : Type 0 where
       -- what it locates was right as it was staged
@@ -136,9 +136,9 @@ module _ (S : Shape) where
       -- a page is written again only behind a root that counts on the write before
       pub rewritten : (x y : Write) → x ∈ writes → y ∈ writes → x.page ≡ y.page → x.number < y.number
           → (r : Root) × (r ∈ roots) × (r.version ≡ y.root) × (x.number ≤ r.writes (section_of S x.page))
-      -- where a root found an extent frozen, what was written there since needs a later root
-      pub written_later : (r : Root) → r ∈ roots → (e : ℕ) → frozen e (r.generations e) ≡ true → 0 < r.pointers e
-          → (x : Write) → x ∈ writes → S.extent x.page ≡ e
+      -- where a root found a page frozen, what was written there since needs a later root
+      pub written_later : (r : Root) → r ∈ roots → (e i : ℕ) → frozen e i (r.generations e) ≡ true → 0 < r.pointers e
+          → (x : Write) → x ∈ writes → S.extent x.page ≡ e → S.index x.page ≡ i
           → (r.version < x.root) × (r.writes (S.section e) < x.number)
 
     -- each extent is as roots and writes found it, but where it was reset since
@@ -153,8 +153,9 @@ module _ (S : Shape) where
       pub written_once : (x : Write) → x ∈ writes → (S.index x.page < pointer (S.extent x.page))
           ⊎ ((r : Root) × (r ∈ roots) × (r.version ≡ reset (S.extent x.page))
           × (x.number ≤ r.writes (section_of S x.page)))
-      -- nothing was written to an extent that is frozen now
-      pub unwritten : (e : ℕ) → frozen e (generation e) ≡ true → (x : Write) → x ∈ writes → S.extent x.page ≡ e → ⊥
+      -- nothing was written to a page that is frozen now
+      pub unwritten : (e i : ℕ) → frozen e i (generation e) ≡ true → (x : Write) → x ∈ writes → S.extent x.page ≡ e
+          → S.index x.page ≡ i → ⊥
 
     -- extents keep to their bounds
     pub record ExtentsInBounds (pointer generation reset : ℕ → ℕ) : Type 0 where
@@ -163,13 +164,13 @@ module _ (S : Shape) where
       -- only an extent that is there was ever reset
       pub resets_there : (e : ℕ) → S.extents ≤ e → reset e ≡ 0
       -- a frozen generation isn't a later one
-      pub frozen_before : (e g : ℕ) → frozen e g ≡ true → g ≤ generation e
+      pub frozen_before : (e i g : ℕ) → frozen e i g ≡ true → g ≤ generation e
 
     -- when a move may come
     abbrev pub Allowed : World → Move → Type 0
     -- the next page of its extent, which isn't frozen
     Allowed w (StagePage p b) = (S.index p ≡ w.extents.pointer (S.extent p)) × (S.kind p ≡ FramePage)
-        × (S.index p < S.pages) × (frozen (S.extent p) (w.extents.generation (S.extent p)) ≡ false)
+        × (S.index p < S.pages) × (frozen (S.extent p) (S.index p) (w.extents.generation (S.extent p)) ≡ false)
     -- it needs the root of each reset that it records, and what the version before it needs
     Allowed w (StageSuperblock j r) = ((e : ℕ) → S.section e ≡ j → w.extents.reset e ≤ r)
         × ((u : Superblock) → u ∈ superblocks_of w.elements → u.section ≡ j → u.root ≤ r)

@@ -3,9 +3,9 @@ use Rattle.std.specs.Prelude.{◌≡◌, ◌≢◌, ◌⊎◌, ◌+◌, ◌-◌,
 use Rattle.cs_model.specs.Apart.{any_swept}
 use Rattle.cs_model.specs.Device.{Page, Shape}
 use Rattle.cs_model.specs.Disk.{applied, kept_of, page_writes}
-use Rattle.cs_model.specs.Element.{Copy, Element, Locator, Root, Run, log_of, roots_of}
+use Rattle.cs_model.specs.Element.{Copy, Element, Locator, Opening, Root, Run, log_of, roots_of}
 use Rattle.cs_model.specs.Events.{IsFrontier, ReadsNow, newest_page}
-use Rattle.cs_model.specs.Formats.{ChunkFrame, Formats, image, pages_from}
+use Rattle.cs_model.specs.Formats.{ChunkFrame, Formats, image, limit_in, pages_from}
 use Rattle.cs_model.specs.Index.{Gives, InBounds, NoneDamaged}
 use Rattle.cs_model.specs.Distinct.{AreDistinct}
 use Rattle.cs_model.specs.Lists.{◌∈◌}
@@ -16,6 +16,19 @@ use Rattle.cs_model.specs.Safe.{Safe, Settled}
 use Rattle.cs_model.specs.State.{State, index_now, map_after, map_now}
 
 module _ (S : Shape) (F : Formats) where
+  -- what is known of the image at open, where extents are filled up: as these extents are, with these roots
+  pub record IsFilledUp (opening : Opening) (pointer generation found : ℕ → ℕ) (roots : List Root) : Type 0 where
+    -- no whole extent is frozen
+    pub thawed : (e g : ℕ) → opening.frozen e S.pages g ≡ false
+    -- the pages that were found in an extent are given, and only they are frozen
+    pub given : (e : ℕ) → found e ≤ pointer e
+    pub frozen : (e i : ℕ) → opening.frozen e i (generation e) ≡ true → i < found e
+    -- a root that counts an extent as it was found counts all pages that were found
+    pub counted : (r : Root) → r ∈ roots → (e i : ℕ) → opening.frozen e i (r.generations e) ≡ true → 0 < r.pointers e
+        → i < r.pointers e
+    -- a frame of no earlier generation may reach as far as it might at open
+    pub limits : (l : Locator) → generation l.extent ≤ l.generation → opening.limit l ≡ limit_in S F found generation l
+
   -- a copy has what was copied, which wasn't damaged
   abbrev pub IsCopy : State → Copy → Type 0
   IsCopy s c = (payload : List ℕ) × ReadsNow S F s c.from ChunkFrame payload × ReadsNow S F s c.to ChunkFrame payload
@@ -23,8 +36,8 @@ module _ (S : Shape) (F : Formats) where
 
   -- what every event keeps where chunks and runs lie apart
   pub record SoundApart (s : State) : Type 0 where
-    -- a frozen extent that wasn't reset since was found with pages
-    pub found : (e : ℕ) → s.opening.frozen e (s.world.extents.generation e) ≡ true → 0 < s.world.extents.found e
+    -- an extent with a frozen page that wasn't reset since was found with pages
+    pub found : (e i : ℕ) → s.opening.frozen e i (s.world.extents.generation e) ≡ true → 0 < s.world.extents.found e
     -- one extent is being swept at most
     pub one_sweep : (d e : ℕ) → s.world.extents.swept d ≡ true → s.world.extents.swept e ≡ true → d ≡ e
     -- while it is, its chunks and their copies stand
@@ -55,13 +68,18 @@ module _ (S : Shape) (F : Formats) where
     -- an extent that is being swept is there, and neither open nor empty
     pub swept : (e : ℕ) → s.world.extents.swept e ≡ true
         → (s.world.extents.open_extent ≢ Some e) × (0 < s.world.extents.pointer e) × (e < S.extents)
-    -- a frozen extent that wasn't reset since is neither open nor empty
-    pub frozen : (e : ℕ) → s.opening.frozen e (s.world.extents.generation e) ≡ true
+    -- where none is filled up, an extent with a frozen page that wasn't reset since is neither open nor empty
+    pub frozen : S.fills ≡ false → (e i : ℕ) → s.opening.frozen e i (s.world.extents.generation e) ≡ true
         → (s.world.extents.open_extent ≢ Some e) × (0 < s.world.extents.pointer e)
-    -- a chunk that is known as damaged lies in such an extent, and is damaged in the image at open
-    pub damaged : (l : Locator) (f : Refusal) → s.opening.damage l ≡ Some f
-        → (s.opening.frozen l.extent l.generation ≡ true)
-        × (F.fault ChunkFrame (pages_from S F s.opened l.extent l.page (S.pages - l.page)) ≡ Some f)
+    -- a chunk that is known as damaged is so in the image at open, where each page to which it may reach is frozen
+    pub damaged : (l : Locator) (f : Refusal) → s.opening.damage l ≡ Some f → (l.page < s.opening.limit l)
+        × ((i : ℕ) → i < s.opening.limit l → s.opening.frozen l.extent i l.generation ≡ true)
+        × (F.fault ChunkFrame (pages_from S F s.opened l.extent l.page (s.opening.limit l - l.page)) ≡ Some f)
+    pub shown : (l : Locator) → s.opening.pages l ≡ pages_from S F s.opened l.extent l.page (s.opening.limit l - l.page)
+    -- there each frame may reach to the end of its extent
+    pub unfilled : S.fills ≡ false → (l : Locator) → s.opening.limit l ≡ S.pages
+    pub filled : S.fills ≡ true → IsFilledUp s.opening s.world.extents.pointer s.world.extents.generation
+        s.world.extents.found (roots_of s.world.elements)
     pub apart : S.apart ≡ true → SoundApart s
 
   -- all numbers keep to their bounds, and each run can be spelled

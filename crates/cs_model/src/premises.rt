@@ -1,7 +1,7 @@
 //! The premises of the laws can be met.
 ghost use Rattle.cs_model.specs.ApartExample.{example_abandoned, example_apart, example_image, example_retired};
 ghost use Rattle.cs_model.specs.Device.{IsShape, Shape};
-ghost use Rattle.cs_model.specs.Example.{example_format};
+ghost use Rattle.cs_model.specs.Example.{example_format, telling_format};
 ghost use Rattle.cs_model.specs.Frames.{IsFormat};
 ghost use Rattle.cs_model.specs.Geometry.{HasExtentsApart, IsGeometry, shape_of};
 ghost use Rattle.cs_model.specs.Open.{opened_state};
@@ -18,7 +18,7 @@ pub fn geometries_are_shapes()
 
 /// The laws that are asked of a format hold together.
 pub fn formats_exist()
-    ensures { (S : Shape) → IsFormat S example_format }
+    ensures { (S : Shape) → IsFormat S (telling_format S) }
 {}
 
 /// In a new store in which chunks and runs lie apart a shard is put and staged, and its extent is swept.

@@ -1,26 +1,29 @@
 //! What a store finds on an image, and what stays of it.
 ghost use Rattle.cs_model.specs.Apart.{Grows, IsFreed};
 ghost use Rattle.cs_model.specs.Append.{AppendsFrame, appended};
-ghost use Rattle.cs_model.specs.Device.{Inside, IsShape, Page, Shape};
-ghost use Rattle.cs_model.specs.Element.{Locator, Map, Opening};
+ghost use Rattle.cs_model.specs.Device.{Inside, IsShape, Page, Place, Shape};
+ghost use Rattle.cs_model.specs.Element.{A_write, Locator, Map, Opening, Root, Write, roots_of, writes_of};
 ghost use Rattle.cs_model.specs.Events.{newest_page};
-ghost use Rattle.cs_model.specs.Extents.{Purpose};
+ghost use Rattle.cs_model.specs.Extents.{Purpose, reach};
 ghost use Rattle.cs_model.specs.Formats.{ChunkFrame, Formats, FrameKind, Stand, pages_from};
 ghost use Rattle.cs_model.specs.Frames.{IsFormat, IsFrameFormat};
-ghost use Rattle.cs_model.specs.Index.{Passes};
+ghost use Rattle.cs_model.specs.Guard.{Covers};
+ghost use Rattle.cs_model.specs.Index.{Passes, Reads};
+ghost use Rattle.cs_model.specs.Lists.{◌∈◌};
 ghost use Rattle.cs_model.specs.Geometry.{IsGeometry, shape_of};
 ghost use Rattle.cs_model.specs.Local.{AgreeBelow, LiesBelow};
 ghost use Rattle.cs_model.specs.Open.{opened_state, state_read};
 ghost use Rattle.cs_model.specs.Recovery.{IsNew, Recovers, RecoversBut};
 ghost use Rattle.cs_model.specs.Refusal.{Refusal};
+ghost use Rattle.cs_model.specs.Round.{IsMember};
 ghost use Rattle.cs_model.specs.Sound.{Sound};
 ghost use Rattle.cs_model.specs.State.{Event, Reply, State};
 ghost use Rattle.cs_model.specs.Step.{Step};
-ghost use Rattle.std.specs.Prelude.{◌≡◌, ◌≢◌, ◌⊎◌, ◌-◌, Some, ◌+◌, ◌*◌, ◌≤◌, ℕ, true, List, None, length};
+ghost use Rattle.std.specs.Prelude.{◌≡◌, ◌≢◌, ◌⊎◌, ◌-◌, Some, ◌+◌, ◌*◌, ◌<◌, ◌≤◌, ℕ, true, List, None, length};
 
 /// An image gives one number of commands and one map.
 pub fn an_image_gives_one_map()
-    ensures { (S : Shape) (F : Formats) (img : ℕ → Page) (n k : ℕ) (m o : Map) → IsFormat S F
+    ensures { (S : Shape) (F : Formats) (img : ℕ → Page) (n k : ℕ) (m o : Map) → IsShape S → IsFormat S F
         → Recovers S F img n m → Recovers S F img k o → (n ≡ k) × ((id : ℕ) → m id ≡ o id) }
 {}
 
@@ -37,20 +40,41 @@ pub fn frames_tell_their_payload()
         → Stand S F img e i (F.frame kind payload) → Stand S F img e i (F.frame kind other) → payload ≡ other }
 {}
 
-/// An extent that wasn't empty at open holds what it held then until it is reset. So a chunk that was damaged at open
-/// is read with the same refusal as long as its locator passes, and no chunk that is appended is a damaged one.
+/// A page that was found in an extent at open holds what it held then until the extent is reset. So a chunk that was damaged at open is
+/// read with the same refusal as long as its locator passes, and no chunk that is appended is a damaged one.
 pub fn what_was_there_at_open_stays()
     ensures pages { (S : Shape) (F : Formats) (s : State) (e i : ℕ) → IsShape S → Sound S F s
-        → s.opening.frozen e (s.world.extents.generation e) ≡ true → Inside S e i
+        → s.opening.frozen e i (s.world.extents.generation e) ≡ true → Inside S e i
         → newest_page s (S.address e i) ≡ s.opened (S.address e i) }
     ensures damage { (S : Shape) (F : Formats) (s : State) (l : Locator) (f : Refusal) → IsShape S → Sound S F s
         → s.opening.damage l ≡ Some f
         → Passes S F (newest_page s) s.world.extents.pointer s.world.extents.generation l
-        → F.fault ChunkFrame (pages_from S F (newest_page s) l.extent l.page (S.pages - l.page)) ≡ Some f }
+        → F.fault ChunkFrame (pages_from S F (newest_page s) l.extent l.page
+        (reach S (s.world.extents.found l.extent) l.page - l.page)) ≡ Some f }
+    // Nor does a frame reach from among the pages that were found past their end.
+    ensures within { (S : Shape) (F : Formats) (s : State) (l : Locator) (bs : List Page) → Sound S F s
+        → Reads S F s.opening (newest_page s) s.world.extents.pointer s.world.extents.generation l bs
+        → l.page + length bs ≤ reach S (s.world.extents.found l.extent) l.page }
     ensures appended { (S : Shape) (F : Formats) (s t : State) (purpose : Purpose) (kind : FrameKind)
         (payload : List ℕ) (l : Locator)
         (f : Refusal) → IsShape S → Sound S F s
         → AppendsFrame S F s purpose kind payload l t → s.opening.damage l ≢ Some f }
+{}
+
+/// A page that the persistent root names is written in no round: each write to it is persistent already, or needs a later root, under
+/// which its extent was reset. So an extent may be filled up behind the pages that are named.
+pub fn named_pages_are_not_written()
+    ensures writes { (S : Shape) (F : Formats) (s : State) (root : Root) (place : Place) (write : Write) → Sound S F s
+        → root ∈ roots_of s.world.elements → root.version ≡ s.world.persistent.root → Covers S root place
+        → write ∈ writes_of s.world.elements → write.page ≡ place.page
+        → (s.world.persistent.writes write.number ≡ true) ⊎ (root.version < write.root) }
+    ensures round { (S : Shape) (F : Formats) (s : State) (root : Root) (place : Place) (write : Write) → Sound S F s
+        → root ∈ roots_of s.world.elements → root.version ≡ s.world.persistent.root → Covers S root place
+        → IsMember S s.world (A_write write) → write.page ≢ place.page }
+    // Where extents are filled up a root names each page of a frame that is read under its pointers.
+    ensures frames { (S : Shape) (F : Formats) (s : State) (root : Root) (img : ℕ → Page) (l : Locator) (bs : List Page)
+        (i : ℕ) → IsShape S → Sound S F s → S.fills ≡ true → Reads S F s.opening img root.pointers root.generations l bs
+        → i < length bs → Covers S root (record { page = S.address l.extent (l.page + i); generation = l.generation }) }
 {}
 
 /// What an image recovers lies on the pages of the store: two images that have those alike recover alike. Of a geometry

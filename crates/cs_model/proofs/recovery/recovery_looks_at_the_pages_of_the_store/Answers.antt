@@ -5,6 +5,6 @@ use Rattle.cs_model.proofs.LocalRecovery.{lies_below, recovers_alike, recovers_a
 pub returns : goal.returns
 returns c = record {
   alike = λ S F count a b n m lies agree r. recovers_alike S F count a b lies agree n m r;
-  alike_but = λ S F opening count a b n m lies agree r. recovers_alike_but S F count a b lies agree opening opening n m (λ p g l pass. refl) (λ p g e k fz. fz) r;
+  alike_but = λ S F opening count a b n m lies agree r. recovers_alike_but S F count a b lies agree opening opening n m (λ p g fits l pass. refl) (λ p g e i k fz. fz) (λ p g l. refl) r;
   geometries = λ E P N Q f g. lies_below E P N Q f g;
 }
