@@ -1,5 +1,5 @@
 -- The chunks of room stay those of the machine where what is read stays.
-use Rattle.std.proofs.Common.{◌≡◌, inl, inr, ⊎_elim, ℕ, suc, ◌<◌, ◌≤◌, ◌+◌, List, [], ◌∷◌, length, refl, sym, ◌∙◌, subst, arith}
+use Rattle.std.proofs.Common.{◌≡◌, inl, inr, ⊎_elim, ℕ, suc, ◌<◌, ◌≤◌, ◌+◌, List, [], ◌∷◌, ◌++◌, length, refl, sym, ap, ◌∙◌, subst, arith}
 use Rattle.cs_model.specs.Device.{Page, Shape}
 use Rattle.cs_model.specs.Element.{Copy, Locator, Opening}
 use Rattle.cs_model.specs.Formats.{ChunkFrame, Formats}
@@ -21,16 +21,22 @@ module _ (S : Shape) (F : Formats) where
     };
     below = ⊎_elim (λ le. inl (subst (λ (n : ℕ). l.page + length bs ≤ n) (sym pointer) le)) (λ is. inr is) r.below;
     inside = r.inside;
+    within = r.within;
     stand = r.stand;
   }
 
   module _ (one two : Opening) (img other : ℕ → Page) (p g q h : ℕ → ℕ) where
-    pub pages_move : (l : Locator) (n : ℕ) → (one.damage l ≡ two.damage l)
+    pub pages_move : (l : Locator) (n : ℕ) → (one.damage l ≡ two.damage l) → (one.pages l ≡ two.pages l)
         → ((payload : List ℕ) → Reads S F one img p g l (F.frame ChunkFrame payload)
         → Reads S F two other q h l (F.frame ChunkFrame payload))
         → HasPages S F one img p g l n → HasPages S F two other q h l n
-    pages_move l n damage reads (inl has) = inl (has.0, reads has.0 has.1, has.2)
-    pages_move l n damage reads (inr bad) = inr (bad.0, sym damage ∙ bad.1, bad.2)
+    pages_move l n damage pages reads (inl has) = inl (has.0, reads has.0 has.1, has.2)
+    pages_move l n damage pages reads (inr bad) = inr (
+      bad.0,
+      sym damage ∙ bad.1,
+      (λ on more. ap (λ (bs : List Page). F.fault ChunkFrame (bs ++ more)) (sym pages) ∙ bad.2 on more),
+      bad.3,
+    )
 
     pub chunks_move : (copies more : List Copy) (id k : ℕ) (ls : List Locator) (cs : List Chunk)
         → ((l : Locator) (n : ℕ) → l ∈ ls → HasPages S F one img p g l n → HasPages S F two other q h l n)

@@ -68,7 +68,7 @@ module _ (S : Shape) (F : Formats) (shape : IsShape S) (format : IsFormat S F) (
     where
       short : {n : ℕ} → l.page + n ≤ S.pages → n ≤ S.pages
       short fits = omega (arith, fits)
-  pages_are opening img p g l n payload whole reads (inr (f, bad, none)) =
+  pages_are opening img p g l n payload whole reads (inr (f, bad, lasts, none)) =
       absurd (let wrong : Some f ≡ None = sym bad ∙ whole in cc)
 
   abbrev copied : State → World → (id k : ℕ) (l new : Locator) → State
@@ -103,7 +103,7 @@ module _ (S : Shape) (F : Formats) (shape : IsShape S) (format : IsFormat S F) (
       (newest_page t) s.world.extents.pointer s.world.extents.generation t.world.extents.pointer
       t.world.extents.generation s.copies s.copies d 0 (live_at (index_now s) d) (of_id d r.chunks)
       (λ m n there. pages_move S F s.opening s.opening (newest_page s) (newest_page t) s.world.extents.pointer
-      s.world.extents.generation t.world.extents.pointer t.world.extents.generation m n refl (λ b. reads_on m b))
+      s.world.extents.generation t.world.extents.pointer t.world.extents.generation m n refl refl (λ b. reads_on m b))
       (λ j m there. refl) (plain.chunks d) in
       let am : IsAmong S F s.opening (newest_page t) t.world.extents.pointer t.world.extents.generation s.copies
       (c ∷ s.copies) id 0 k (live_at (index_now s) id) l (of_id id r.chunks) =

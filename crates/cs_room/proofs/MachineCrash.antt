@@ -1,8 +1,10 @@
 -- What a crash leaves of a state of which room has the roots has room.
-use Rattle.std.proofs.Common.{◌≡◌, inl, inr, ⊎_elim, ℕ, zero, suc, ◌+◌, ◌-◌, ◌<◌, ◌≤◌, ◌==◌, ◌&&◌, Bool, true, false, nat_lt, List, [], ◌∷◌, map, Option, Some, None, if◌then◌else◌, eq-eqb, eqb-true, lt-ltb, le_refl, le_trans, le_of_eq, true≢false, refl, sym, ap, ap₂, ◌∙◌, subst, arith}
-use Rattle.std.proofs.lemmas.Bool.{or_cases}
-use Rattle.cs_model.proofs.Carries.{and_true, carry_reads}
+use Rattle.std.proofs.Common.{◌≡◌, inl, inr, ⊎_elim, ℕ, zero, suc, pred, ◌+◌, ◌-◌, ◌<◌, ◌≤◌, ◌==◌, ◌&&◌, Bool, true, false, nat_lt, List, [], ◌∷◌, ◌++◌, length, map, Option, Some, None, if◌then◌else◌, eq-eqb, eqb-true, lt-ltb, le_refl, le_trans, le_of_eq, true≢false, refl, sym, ap, ap₂, ◌∙◌, subst, arith}
+use Rattle.std.proofs.lemmas.Bool.{cases_lt, or_cases}
+use Rattle.std.proofs.lemmas.List.{append_assoc}
+use Rattle.cs_model.proofs.Carries.{carry_reads}
 use Rattle.cs_model.proofs.ClosedSets.{gt-leb}
+use Rattle.cs_model.proofs.Filled.{damage_here, limit_here, own_reads, reach_off, reads_own}
 use Rattle.cs_model.proofs.Images.{frozen_there, recovers, recovers_frames, recovers_root}
 use Rattle.cs_model.proofs.LocalRecovery.{live_passes}
 use Rattle.cs_model.proofs.Rounds.{Between, kept_image}
@@ -10,7 +12,7 @@ use Rattle.cs_model.proofs.Unique.{same_entries}
 use Rattle.cs_model.specs.Cut.{Cut, Exact, Within, held_by, page_in, section_of}
 use Rattle.cs_model.specs.Device.{Inside, IsShape, Page, Shape}
 use Rattle.cs_model.specs.Element.{Entry, Locator, Map, Opening, Root as StagedRoot, Run, Write, log_of, writes_of}
-use Rattle.cs_model.specs.Formats.{ChunkFrame, Formats, RunFrame, image, opening_in, pages_from, places}
+use Rattle.cs_model.specs.Formats.{ChunkFrame, Formats, RunFrame, image, limit_in, opening_in, pages_from, places}
 use Rattle.cs_model.specs.Frames.{IsFormat}
 use Rattle.cs_model.specs.Guard.{page_as_staged}
 use Rattle.cs_model.specs.Index.{Passes, Reads, entries_of, live_at}
@@ -25,7 +27,7 @@ use Rattle.cs_room.proofs.MachineChunks.{chunks_move}
 use Rattle.cs_room.proofs.OpenedRoots.{opened_roomy}
 use Rattle.cs_room.specs.Events.{Does, Open, forget, opened}
 use Rattle.cs_room.specs.Invariant.{IsRoot}
-use Rattle.cs_room.specs.OfMachine.{AreChunksOf, HasPages, IsRootIn, NoneWorn, of_id, run_places}
+use Rattle.cs_room.specs.OfMachine.{AreChunksOf, HasPages, IsRootIn, Lasts, NoneWorn, of_id, run_places}
 use Rattle.cs_room.specs.RootsOfMachine.{IsRoomy, IsRootOf, TellsPointers}
 use Rattle.cs_room.specs.Rooms.{Room, Root, any_on, has, is_named}
 
@@ -51,35 +53,16 @@ root_inside S p root e on = ⊎_elim
     (λ chunk. (let c = any_of p.chunks e chunk in subst (λ (d : ℕ). d < S.extents) c.2 (root.chunks_there c.0 c.1)))
     (λ run. root.runs_there e (has_of p.runs e run)) (or_cases (any_on p.chunks e) (has p.runs e) on)
 
-module _ (S : Shape) (F : Formats) (img : ℕ → Page) (pointers generations : ℕ → ℕ) where
-  -- where a locator passes its extent was found with pages
-  pub frozen_here : (l : Locator) → Passes S F img pointers generations l
-      → (opening_in S F img pointers generations).frozen l.extent l.generation ≡ true
-  frozen_here l pass = and_true (generations l.extent == l.generation) (nat_lt 0 (pointers l.extent))
-      (eq-eqb (generations l.extent) l.generation pass.generation)
-      (lt-ltb 0 (pointers l.extent) (let below : l.page < pointers l.extent = pass.below in omega arith))
-
-  reads_at_open : (opening : Opening) (l : Locator) (bs : List Page) → Reads S F opening img pointers generations l bs
-      → Reads S F (opening_in S F img pointers generations) img pointers generations l bs
-  reads_at_open opening l bs r = record {
-    passes = r.passes;
-    below = inr (frozen_here l r.passes);
-    inside = r.inside;
-    stand = r.stand;
-  }
-
-  pub damaged_here : (l : Locator) (f : Refusal) → Passes S F img pointers generations l
-      → F.fault ChunkFrame (pages_from S F img l.extent l.page (S.pages - l.page)) ≡ Some f
-      → (opening_in S F img pointers generations).damage l ≡ Some f
-  damaged_here l f pass is = when ((generations l.extent == l.generation) && nat_lt l.page (pointers l.extent))
-      (F.fault ChunkFrame (pages_from S F img l.extent l.page (S.pages - l.page)))
-      (and_true (generations l.extent == l.generation) (nat_lt l.page (pointers l.extent))
-      (eq-eqb (generations l.extent) l.generation pass.generation)
-      (lt-ltb l.page (pointers l.extent) pass.below)) ∙ is
-    where
-      when : (b : Bool) (o : Option Refusal) → b ≡ true → (if b then o else None) ≡ o
-      when true o on = refl
-      when false o wrong = absurd (true≢false (sym wrong))
+-- more pages from there on are those and the ones behind them
+pages_more : (S : Shape) (F : Formats) (img : ℕ → Page) (e i a b : ℕ)
+    → pages_from S F img e i (a + b) ≡ pages_from S F img e i a ++ pages_from S F img e (i + a) b
+pages_more S F img e i zero b = ap₂ (λ (n c : ℕ). pages_from S F img e n c) (let same : i ≡ i + 0 = omega arith in same)
+    (let same : 0 + b ≡ b = omega arith in same)
+pages_more S F img e i (suc a) b = ap (λ (n : ℕ). pages_from S F img e i n)
+    (let same : suc a + b ≡ suc (a + b) = omega arith in same)
+    ∙ ap (λ (bs : List Page). img (S.address e i) ∷ bs)
+    (pages_more S F img e (suc i) a b ∙ ap (λ (n : ℕ). pages_from S F img e (suc i) a ++ pages_from S F img e n b)
+    (let same : suc i + a ≡ i + suc a = omega arith in same))
 
 module _ (S : Shape) (F : Formats) (shape : IsShape S) (format : IsFormat S F) (tells : TellsPointers S F)
     (apart : S.apart ≡ true) (s : State) (r : Room) (roomy : IsRoomy S F s r) where
@@ -105,6 +88,9 @@ module _ (S : Shape) (F : Formats) (shape : IsShape S) (format : IsFormat S F) (
     abbrev opening : Opening
     opening = opening_in S F img gives.pointers gives.generations
 
+    thawed : S.fills ≡ true → (e g : ℕ) → s.opening.frozen e S.pages g ≡ false
+    thawed on = (sound.filled on).thawed
+
     runs_are : given.runs ≡ q.runs
     runs_are = (recovers_root S F shape format s.opened s.world X sound.safe low high exact).1
 
@@ -119,7 +105,7 @@ module _ (S : Shape) (F : Formats) (shape : IsShape S) (format : IsFormat S F) (
     entries_agree = ap entries_of (sym runs_are)
         ∙ same_entries S F format img given.pointers given.generations gives.pointers gives.generations given.runs
         gives.runs given_agree given.runs_fit gives.runs_fit
-        (λ run there. reads_at_open S F img given.pointers given.generations s.opening run.place
+        (λ run there. own_reads S F img given.pointers given.generations s.opening thawed run.place
         (F.frame RunFrame (F.run run.entries)) (given.gives.runs_read run there)) gives.gives.runs_read
 
     pointers_agree : (e : ℕ) → e < S.extents → given.pointers e ≡ gives.pointers e
@@ -139,22 +125,124 @@ module _ (S : Shape) (F : Formats) (shape : IsShape S) (format : IsFormat S F) (
     staged_passes id l there = live_passes S F s.opening staged_page q.pointers q.generations [] q.runs q.map
         (sound.safe.good q exact.root.1).0 id l there
 
-    -- a page of a frozen extent is as it was found
-    page_found : (e i : ℕ) → s.opening.frozen e (q.generations e) ≡ true → 0 < q.pointers e → Inside S e i
+    pointer_below : (e k : ℕ) → e < S.extents → k ≤ q.pointers e → k ≤ S.pages → k ≤ gives.pointers e
+    pointer_below e zero lt low_enough fits = omega arith
+    pointer_below e (suc k) lt low_enough fits =
+        let there : k < given.pointers e = (recovers_frames S F shape format s.opened s.world X sound.safe low high exact
+        e k low_enough (lt, fits)).2 in
+        let same : given.pointers e ≡ gives.pointers e = pointers_agree e lt in omega arith
+
+    -- a page that is frozen is as it was found
+    page_found : (e i : ℕ) → s.opening.frozen e i (q.generations e) ≡ true → 0 < q.pointers e → Inside S e i
         → img (S.address e i) ≡ s.opened (S.address e i)
     page_found e i fz some inside =
         frozen_there S F shape format s.opened s.world X sound.safe low high exact e i fz some inside
         ∙ page_none (held_by q (section_of S (S.address e i))) s.opened (writes_of s.world.elements) (S.address e i)
         (λ x there at. (let ext : S.extent (S.address e i) ≡ e = shape.extent e i inside in
-        let later = sound.safe.written_later q exact.root.1 e fz some x there (ap S.extent at ∙ ext) in
+        let idx : S.index (S.address e i) ≡ i = shape.index e i inside in
+        let later = sound.safe.written_later q exact.root.1 e i fz some x there (ap S.extent at ∙ ext)
+        (ap S.index at ∙ idx) in
         gt-leb x.number (q.writes (section_of S (S.address e i)))
         (subst (λ (d : ℕ). q.writes (S.section d) < x.number) (sym ext) later.1)))
 
-    pages_found : (e i c : ℕ) → s.opening.frozen e (q.generations e) ≡ true → 0 < q.pointers e → e < S.extents
-        → i + c ≤ S.pages → pages_from S F img e i c ≡ pages_from S F s.opened e i c
-    pages_found e i zero fz some lt fits = refl
-    pages_found e i (suc c) fz some lt fits = ap₂ (λ (b : Page) (bs : List Page). b ∷ bs)
-        (page_found e i fz some (lt, omega arith)) (pages_found e (suc i) c fz some lt (omega arith))
+    pages_found : (e i c end : ℕ) → ((k : ℕ) → k < end → s.opening.frozen e k (q.generations e) ≡ true) → 0 < q.pointers e
+        → e < S.extents → i + c ≤ end → end ≤ S.pages → pages_from S F img e i c ≡ pages_from S F s.opened e i c
+    pages_found e i zero end fz some lt fits within = refl
+    pages_found e i (suc c) end fz some lt fits within = ap₂ (λ (b : Page) (bs : List Page). b ∷ bs)
+        (page_found e i (fz i (omega arith)) some (lt, omega arith))
+        (pages_found e (suc i) c end fz some lt (omega arith) within)
+
+    reads_there : (l : Locator) (bs : List Page) → Passes S F img gives.pointers gives.generations l
+        → Reads S F s.opening img given.pointers given.generations l bs
+        → Reads S F opening img gives.pointers gives.generations l bs
+    reads_there l bs pass r = reads_own S F img gives.pointers gives.generations l bs pass
+        (λ on. ⊎_elim (λ (below : l.page + length bs ≤ given.pointers l.extent).
+        subst (λ (n : ℕ). l.page + length bs ≤ n) (pointers_agree l.extent pass.inside.0) below)
+        (λ (fz : (i : ℕ) → s.opening.frozen l.extent i l.generation ≡ true). absurd
+        (true≢false (sym (fz S.pages) ∙ thawed on l.extent l.generation))) r.below) r.inside r.stand
+
+    -- a chunk that was found damaged is so still, by the pages to which its frame might reach and more
+    module _ (id : ℕ) (l : Locator) (there : l ∈ live_at (entries_of q.runs) id) (f : Refusal)
+        (bad : s.opening.damage l ≡ Some f) where
+      was : Passes S F staged_page q.pointers q.generations l
+      was = staged_passes id l there
+
+      pass : Passes S F img gives.pointers gives.generations l
+      pass = passes id l there
+
+      end : ℕ
+      end = s.opening.limit l
+
+      fz : (k : ℕ) → k < s.opening.limit l → s.opening.frozen l.extent k (q.generations l.extent) ≡ true
+      fz k lt = ap (s.opening.frozen l.extent k) was.generation ∙ (sound.damaged l f bad).1 k lt
+
+      some : 0 < q.pointers l.extent
+      some = let below : l.page < q.pointers l.extent = was.below in omega arith
+
+      -- as far as the frame might reach before, it may now
+      reach_low : (b : Bool) → S.fills ≡ b → (s.opening.limit l ≤ limit_in S F gives.pointers gives.generations l)
+          × (s.opening.limit l ≤ S.pages)
+      reach_low true on =
+          let last : l.page < s.opening.limit l = (sound.damaged l f bad).0 in
+          let counted : pred (s.opening.limit l) < q.pointers l.extent =
+          (sound.filled on).counted q exact.root.1 l.extent (pred (s.opening.limit l))
+          (fz (pred (s.opening.limit l)) (omega arith)) some in
+          let now : limit_in S F gives.pointers gives.generations l ≡ gives.pointers l.extent =
+          limit_here S F img gives.pointers gives.generations l pass on in
+          let inside : s.opening.limit l ≤ S.pages = elim (cases_lt S.pages (s.opening.limit l)) [
+            | inl past ↦ absurd (true≢false (sym (fz S.pages past) ∙ thawed on l.extent (q.generations l.extent)))
+            | inr not_past ↦ not_past
+          ] in
+          let more : s.opening.limit l ≤ gives.pointers l.extent =
+          pointer_below l.extent (s.opening.limit l) pass.inside.0 (omega arith) inside in
+          (omega arith, inside)
+      reach_low false off =
+          let all : s.opening.limit l ≡ S.pages = sound.unfilled off l in
+          let now : limit_in S F gives.pointers gives.generations l ≡ S.pages =
+          reach_off S (if gives.generations l.extent == l.generation then gives.pointers l.extent else 0) l.page off in
+          (omega arith, omega arith)
+
+      more : List Page
+      more = pages_from S F img l.extent (l.page + (s.opening.limit l - l.page))
+          (limit_in S F gives.pointers gives.generations l - s.opening.limit l)
+
+      pages_are : opening.pages l ≡ s.opening.pages l ++ more
+      unfolding more
+      pages_are =
+          let lt : l.page < s.opening.limit l = (sound.damaged l f bad).0 in
+          let low_there = reach_low S.fills refl in
+          let le : s.opening.limit l ≤ limit_in S F gives.pointers gives.generations l = low_there.0 in
+          let within : s.opening.limit l ≤ S.pages = low_there.1 in
+          ap (λ (n : ℕ). pages_from S F img l.extent l.page n)
+          (let parts : limit_in S F gives.pointers gives.generations l - l.page ≡ (s.opening.limit l - l.page)
+          + (limit_in S F gives.pointers gives.generations l - s.opening.limit l) = omega arith in parts)
+          ∙ pages_more S F img l.extent l.page (s.opening.limit l - l.page)
+          (limit_in S F gives.pointers gives.generations l - s.opening.limit l)
+          ∙ ap (λ (bs : List Page). bs ++ pages_from S F img l.extent (l.page + (s.opening.limit l - l.page))
+          (limit_in S F gives.pointers gives.generations l - s.opening.limit l))
+          (pages_found l.extent l.page (s.opening.limit l - l.page) (s.opening.limit l) fz some pass.inside.0 (omega arith)
+          within ∙ sym (sound.shown l))
+
+      -- where none is filled up there are no more
+      alone : S.fills ≡ false → opening.pages l ≡ s.opening.pages l
+      alone off =
+          let all : s.opening.limit l ≡ S.pages = sound.unfilled off l in
+          let now : limit_in S F gives.pointers gives.generations l ≡ S.pages =
+          reach_off S (if gives.generations l.extent == l.generation then gives.pointers l.extent else 0) l.page off in
+          let lt : l.page < s.opening.limit l = (sound.damaged l f bad).0 in
+          ap (λ (n : ℕ). pages_from S F img l.extent l.page (n - l.page)) (now ∙ sym all)
+          ∙ pages_found l.extent l.page (s.opening.limit l - l.page) (s.opening.limit l) fz some pass.inside.0 (omega arith)
+          (omega arith) ∙ sym (sound.shown l)
+
+      damaged_still : (b : Bool) → S.fills ≡ b → (S.fills ≡ true → Lasts F s.opening l f) → opening.damage l ≡ Some f
+      damaged_still true on lasts = damage_here S F img gives.pointers gives.generations l pass
+          ∙ ap (F.fault ChunkFrame) pages_are ∙ lasts on more
+      damaged_still false off lasts = damage_here S F img gives.pointers gives.generations l pass
+          ∙ ap (F.fault ChunkFrame) (alone off ∙ sound.shown l) ∙ (sound.damaged l f bad).2
+
+      lasts_still : Lasts F s.opening l f → Lasts F opening l f
+      lasts_still lasts others = ap (λ (bs : List Page). F.fault ChunkFrame (bs ++ others)) pages_are
+          ∙ ap (F.fault ChunkFrame) (append_assoc (s.opening.pages l) more others) ∙ lasts (more ++ others)
 
     has_pages : (id : ℕ) (l : Locator) (k : ℕ) → l ∈ live_at (entries_of q.runs) id
         → HasPages S F s.opening staged_page q.pointers q.generations l k
@@ -163,28 +251,13 @@ module _ (S : Shape) (F : Formats) (shape : IsShape S) (format : IsFormat S F) (
         let moved = carry_reads S F s.opening img staged_page q.pointers q.generations given.pointers given.generations
         (recovers_frames S F shape format s.opened s.world X sound.safe low high exact)
         (frozen_there S F shape format s.opened s.world X sound.safe low high exact) l (F.frame ChunkFrame payload) reads in
-        let pass = passes id l there in inl (
-          payload,
-          record {
-            passes = pass;
-            below = inr (frozen_here S F img gives.pointers gives.generations l pass);
-            inside = moved.inside;
-            stand = moved.stand;
-          },
-          size,
-        )
-    has_pages id l k there (inr (f, bad, none)) =
-        let old = sound.damaged l f bad in
-        let was = staged_passes id l there in
-        let fz : s.opening.frozen l.extent (q.generations l.extent) ≡ true =
-        subst (λ (g : ℕ). s.opening.frozen l.extent g ≡ true) (sym was.generation) old.0 in
-        let some : 0 < q.pointers l.extent = (let below : l.page < q.pointers l.extent = was.below in omega arith) in
-        let fits : l.page + (S.pages - l.page) ≤ S.pages = (let in_it : l.page < S.pages = was.inside.1 in omega arith) in inr (
-          f,
-          damaged_here S F img gives.pointers gives.generations l f (passes id l there)
-              (ap (F.fault ChunkFrame) (pages_found l.extent l.page (S.pages - l.page) fz some was.inside.0 fits) ∙ old.1),
-          none,
-        )
+        inl (payload, reads_there l (F.frame ChunkFrame payload) (passes id l there) moved, size)
+    has_pages id l k there (inr (f, bad, lasts, none)) = inr (
+      f,
+      damaged_still id l there f bad S.fills refl lasts,
+      (λ on. lasts_still id l there f bad (lasts on)),
+      none,
+    )
 
     named_there : (p : Root) → IsRootOf S F s q p → IsRoot S S.run_extents p → IsRootIn S F img n m gives p
     named_there p is root = record {
@@ -197,17 +270,10 @@ module _ (S : Shape) (F : Formats) (shape : IsShape S) (format : IsFormat S F) (
         runs = is.names.runs ∙ run_extents_are q.runs ∙ ap (map (λ (l : Locator). l.extent)) places_agree
             ∙ sym (run_extents_are gives.runs);
         given = λ e on. (let lt : e < S.extents = root_inside S p root e on in
-            below e (p.pointers e) lt (is.names.given e on) (is.fits e on));
+            pointer_below e (p.pointers e) lt (is.names.given e on) (is.fits e on));
       };
       root = root;
     }
-      where
-        below : (e k : ℕ) → e < S.extents → k ≤ q.pointers e → k ≤ S.pages → k ≤ gives.pointers e
-        below e zero lt low_enough fits = omega arith
-        below e (suc k) lt low_enough fits =
-            let there : k < given.pointers e = (recovers_frames S F shape format s.opened s.world X sound.safe low high exact
-            e k low_enough (lt, fits)).2 in
-            let same : given.pointers e ≡ gives.pointers e = pointers_agree e lt in omega arith
 
     opened_there : NoneWorn S (opened_state S F img n m gives)
         → (p : Root) × Does S S.run_extents r (Open p gives.pointers) (opened p gives.pointers)

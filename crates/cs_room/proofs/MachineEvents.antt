@@ -88,7 +88,7 @@ module _ (S : Shape) (F : Formats) where
           s.world.extents.generation (put_state s v id bytes ls).world.extents.pointer (put_state s v id bytes ls).world.extents.generation (copies_now S s) (copies_now S s) d 0
           (live_at (index_now s) d) (of_id d r.chunks)
           (λ l k there. pages_move S F s.opening (put_state s v id bytes ls).opening (newest_page s) (newest_page (put_state s v id bytes ls)) s.world.extents.pointer
-          s.world.extents.generation (put_state s v id bytes ls).world.extents.pointer (put_state s v id bytes ls).world.extents.generation l k refl
+          s.world.extents.generation (put_state s v id bytes ls).world.extents.pointer (put_state s v id bytes ls).world.extents.generation l k refl refl
           (λ payload. carry_reads S F s.opening (newest_page (put_state s v id bytes ls)) (newest_page s) s.world.extents.pointer
           s.world.extents.generation (put_state s v id bytes ls).world.extents.pointer (put_state s v id bytes ls).world.extents.generation put.carries put.still l
           (F.frame ChunkFrame payload)))

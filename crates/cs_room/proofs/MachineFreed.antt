@@ -48,7 +48,7 @@ module _ (S : Shape) (F : Formats) (apart : S.apart ≡ true) (s : State) where
       (freed S s).world.extents.generation copies copies id 0 (live_at (index_now s) id) cs
       (λ l n has_it. pages_move S F s.opening s.opening (newest_page s) (newest_page s)
       s.world.extents.pointer s.world.extents.generation (freed S s).world.extents.pointer
-      (freed S s).world.extents.generation l n refl
+      (freed S s).world.extents.generation l n refl refl
       (λ payload. reads_there S F s.opening (newest_page s) s.world.extents.pointer s.world.extents.generation
       (freed S s).world.extents.pointer (freed S s).world.extents.generation l (F.frame ChunkFrame payload)
       (kept_there id l has_it).0 (kept_there id l has_it).1))

@@ -4,7 +4,7 @@ use Rattle.std.proofs.lemmas.Bool.{cases_eq, ne_eqb, true≢false}
 use Rattle.std.proofs.lemmas.Bool.Decides.{nat_tests}
 use Rattle.cs_model.proofs.Parts.{with_other, with_same}
 use Rattle.cs_model.specs.Device.{Shape}
-use Rattle.cs_model.specs.Extents.{Extents, chunk_extents as machine_chunks, run_extents as machine_runs, one_if}
+use Rattle.cs_model.specs.Extents.{Extents, MayFill, chunk_extents as machine_chunks, run_extents as machine_runs, one_if}
 use Rattle.cs_model.specs.Lists.{with}
 use Rattle.cs_room.proofs.Counts.{count_le, count_less}
 use Rattle.cs_room.specs.Events.{LeftAlone, given, unless}
@@ -105,7 +105,7 @@ module _ (S : Shape) (aside : ℕ → Bool) (x : Extents) (r : Room) (of : AreEx
           ∙ with_other x.pointer e (x.pointer e + k) d other in omega arith)
     ]),
     runs d filled.2 filled.1,
-    ap (λ (f : ℕ → ℕ). f d) found ∙ filled.3,
+    subst (λ (f : ℕ → ℕ). MayFill S.fills (f d)) (sym found) filled.3,
   )
 
   pub empty_still : (e k : ℕ) (y : Extents) → 0 < k → y.pointer ≡ with x.pointer e (x.pointer e + k) → y.found ≡ x.found

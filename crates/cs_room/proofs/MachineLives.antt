@@ -52,7 +52,7 @@ module _ (S : Shape) (F : Formats) (shape : IsShape S) (format : IsFormat S F) (
         space = new_room;
         roomy = made_roomy S F apart img n m gives shape format made worn;
         whole = same_whole (λ (id : ℕ). None) m
-            (one_recovery S F format img 0 n (λ (id : ℕ). None) m (new_store S F img made) gives).1
+            (one_recovery S F shape format img 0 n (λ (id : ℕ). None) m (new_store S F img made) gives).1
             (λ id f wrong. let no : None ≡ Some (Damaged f) = wrong in cc);
       }) young
 
@@ -64,7 +64,7 @@ module _ (S : Shape) (F : Formats) (shape : IsShape S) (format : IsFormat S F) (
       let prefix = leaves_prefix S F shape format s alive.roomy.room.sound kept in record {
         space = opened after.0 gives.pointers;
         roomy = after.2;
-        whole = same_whole _ m (one_recovery S F format (crashed S F s kept) (s.count + prefix.0) n _ m
+        whole = same_whole _ m (one_recovery S F shape format (crashed S F s kept) (s.count + prefix.0) n _ m
             (prefix.4 alive.whole) gives).1 (whole_map s.start s.commands prefix.0 alive.whole);
       }
 

@@ -2,9 +2,10 @@
 use Rattle.std.proofs.Common.{◌≡◌, ◌≢◌, inl, inr, ℕ, zero, suc, ◌+◌, ◌<◌, ◌≤◌, ◌==◌, not, Bool, true, false, List, [], ◌∷◌, ◌++◌, Option, Some, None, if◌then◌else◌, eq-eqb, refl, sym, ap, ◌∙◌, subst, arith}
 use Rattle.std.proofs.lemmas.Bool.{cases_Bool, cases_eq, eqb-true, ne_eqb, true≢false}
 use Rattle.std.proofs.lemmas.List.{append_assoc}
+use Rattle.cs_model.proofs.Filled.{may_fill}
 use Rattle.cs_model.specs.Device.{Page, Shape}
 use Rattle.cs_model.specs.Element.{Copy, Locator, Opening}
-use Rattle.cs_model.specs.Extents.{Extents, ForMove, GoesApart, Takes, fresh_by, taken_by}
+use Rattle.cs_model.specs.Extents.{Extents, ForMove, GoesApart, MayFill, Takes, fresh_by, taken_by}
 use Rattle.cs_model.specs.Formats.{Formats}
 use Rattle.cs_model.specs.Lists.{nth}
 use Rattle.cs_room.proofs.MachineGoes.{empty_here, empty_still, filled_grows, filled_here, holds_given, holds_runs, pointer_given, pointer_is}
@@ -63,11 +64,11 @@ module _ (S : Shape) (x : Extents) (r : Room) (of : AreExtentsOf S (λ (e : ℕ)
     rw first.1 refl,
   ))
 
-  -- e is there, and of it no runs and no page that was found are noted
+  -- e is there, has no runs, isn't being swept and may be filled up
   pub record IsTarget (e : ℕ) : Type 0 where
     pub exists : e < S.extents
     pub chunks : x.of_runs e ≡ false
-    pub found : x.found e ≡ 0
+    pub found : MayFill S.fills (x.found e)
     pub idle : x.swept e ≡ false
 
   pub target : (k e : ℕ) → GoesApart S x ForMove k e → IsTarget e
@@ -78,7 +79,7 @@ module _ (S : Shape) (x : Extents) (r : Room) (of : AreExtentsOf S (λ (e : ℕ)
   target k e (inr (inr (none, first, fits, more))) = let empty = of.noted.empty e first.0 first.1 in record {
     exists = first.0;
     chunks = empty.0;
-    found = empty.1;
+    found = may_fill S.fills (x.found e) empty.1;
     idle = elim (cases_Bool (x.swept e)) [
       | inl on ↦ absurd (let some : 0 < x.pointer e = some_swept e on in let none : x.pointer e ≡ 0 = first.1 in omega arith)
       | inr off ↦ off

@@ -98,7 +98,7 @@ module _ (S : Shape) (F : Formats) (apart : S.apart ≡ true) where
         now.world.extents.generation q.pointers q.generations [] [] id 0 (live_at (entries_of runs) id)
         (map forget (of_id id r.chunks))
         (λ l n there. pages_move S F now.opening now.opening (newest_page now) (newest_page now) now.world.extents.pointer
-        now.world.extents.generation q.pointers q.generations l n refl
+        now.world.extents.generation q.pointers q.generations l n refl refl
         (λ payload. reads_there S F now.opening (newest_page now) now.world.extents.pointer now.world.extents.generation
         q.pointers q.generations l (F.frame ChunkFrame payload) (live_is id l there).0 (live_is id l there).1))
         (λ j l there. refl)

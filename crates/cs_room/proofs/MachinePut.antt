@@ -2,12 +2,13 @@
 use Rattle.std.proofs.Common.{◌≡◌, ◌≢◌, ◌⊎◌, inl, inr, ⊎_elim, ℕ, suc, ◌+◌, ◌<◌, ◌≤◌, ◌==◌, not, Bool, true, false, List, [], ◌∷◌, ◌++◌, length, Some, None, if◌then◌else◌, eq-eqb, refl, sym, ap, ◌∙◌, subst, arith}
 use Rattle.std.proofs.lemmas.Bool.{cases_Bool, cases_eq, ne_eqb, true≢false}
 use Rattle.std.proofs.lemmas.List.{append_assoc}
+use Rattle.cs_model.proofs.Filled.{may_fill}
 use Rattle.cs_model.proofs.Needs.{after_extents_by}
 use Rattle.cs_model.proofs.Parts.{with_other, with_same}
 use Rattle.cs_model.specs.Append.{AppendAllBy, chunk_frames, page_counts}
 use Rattle.cs_model.specs.Device.{IsShape, Shape}
 use Rattle.cs_model.specs.Element.{Locator}
-use Rattle.cs_model.specs.Extents.{Extents, ForPut, GoesApart, Takes, chunk_extents as machine_chunks, one_if, taken_by}
+use Rattle.cs_model.specs.Extents.{Extents, ForPut, GoesApart, MayFill, Takes, chunk_extents as machine_chunks, one_if, taken_by}
 use Rattle.cs_model.specs.Formats.{ChunkFrame, Formats}
 use Rattle.cs_model.specs.Frames.{IsFormat}
 use Rattle.cs_model.specs.Lists.{with, ◌∈◌}
@@ -71,7 +72,7 @@ module _ (S : Shape) (aside : ℕ → Bool) (x : Extents) (r : Room) (of : AreEx
     pub exists : e < S.extents
     pub off : aside e ≡ false
     pub chunks : x.of_runs e ≡ false
-    pub found : x.found e ≡ 0
+    pub found : MayFill S.fills (x.found e)
     pub idle : x.swept e ≡ false
     pub kind : (r.holds e ≡ OfChunks)
         ⊎ (suc (machine_chunks x S.extents) + S.run_extents + 2 ≤ S.extents + one_if x.fresh)
@@ -99,7 +100,7 @@ module _ (S : Shape) (aside : ℕ → Bool) (x : Extents) (r : Room) (of : AreEx
         off = no_aside e (λ is. (let some : 0 < x.pointer e = (of.noted.opened e is).1 in
             let nothing : x.pointer e ≡ 0 = first.1 in omega arith));
         chunks = empty.0;
-        found = empty.1;
+        found = may_fill S.fills (x.found e) empty.1;
         idle = elim (cases_Bool (x.swept e)) [
           | inl on ↦ absurd (let some : 0 < x.pointer e = swept e on in
               let nothing : x.pointer e ≡ 0 = first.1 in omega arith)

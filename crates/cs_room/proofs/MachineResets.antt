@@ -4,7 +4,7 @@ use Rattle.std.proofs.lemmas.Bool.{cases_eq, cases_lt, ne_eqb, true≢false}
 use Rattle.cs_model.proofs.Parts.{with_other, with_same}
 use Rattle.cs_model.specs.Apart.{reset_all}
 use Rattle.cs_model.specs.Device.{Shape}
-use Rattle.cs_model.specs.Extents.{Extents, emptied, forgotten, other_than}
+use Rattle.cs_model.specs.Extents.{Extents, MayFill, emptied, forgotten, other_than}
 use Rattle.cs_model.specs.Lists.{with}
 use Rattle.cs_room.specs.Events.{reset, unless}
 use Rattle.cs_room.specs.OfMachine.{AreExtentsOf, IsFilled, holding}
@@ -232,7 +232,7 @@ module _ (S : Shape) (apart : S.apart ≡ true) (aside test : ℕ → Bool) (x :
         (let some : 0 < x.pointer e = there.1 in
             let is : z.pointer e ≡ x.pointer e = same.pointer in omega arith),
         same.of_runs ∙ there.2,
-        same.found ∙ there.3,
+        subst (λ (n : ℕ). MayFill S.fills n) (sym same.found) there.3,
       ))
       (each_after_all S apart x root test S.extents e)
 

@@ -81,7 +81,7 @@ module _ (S : Shape) (F : Formats) (shape : IsShape S) (format : IsFormat S F) (
           s.world.extents.pointer s.world.extents.generation v.extents.pointer v.extents.generation copies copies id 0
           (live_at (index_now s) id) (of_id id r.chunks)
           (λ m c there. pages_move S F s.opening s.opening (newest_page s) (newest_page (record s { world = v }))
-          s.world.extents.pointer s.world.extents.generation v.extents.pointer v.extents.generation m c refl
+          s.world.extents.pointer s.world.extents.generation v.extents.pointer v.extents.generation m c refl refl
           (λ payload. carry_reads S F s.opening (newest_page (record s { world = v })) (newest_page s) s.world.extents.pointer
           s.world.extents.generation v.extents.pointer v.extents.generation add.carries add.still m
           (F.frame ChunkFrame payload))) (λ j m there. refl) (before.room.chunks id));

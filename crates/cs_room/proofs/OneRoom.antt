@@ -1,26 +1,21 @@
 -- What one opening of an image finds there any opening finds: so room is told by the image alone.
-use Rattle.std.proofs.Common.{◌≡◌, inl, inr, ℕ, ◌-◌, ◌<◌, ◌==◌, ◌&&◌, Bool, true, false, nat_lt, List, [], map, Option, Some, None, if◌then◌else◌, le_trans, le_of_eq, refl, sym, ap, ◌∙◌, subst}
+use Rattle.std.proofs.Common.{◌≡◌, inl, inr, ℕ, ◌-◌, ◌<◌, List, [], ◌++◌, map, le_trans, le_of_eq, refl, sym, ap, ◌∙◌, subst}
+use Rattle.cs_model.proofs.Filled.{damage_here, limit_here, limits_agree, reads_own}
 use Rattle.cs_model.proofs.LocalRecovery.{live_passes}
 use Rattle.cs_model.proofs.Unique.{same_entries}
 use Rattle.cs_model.specs.Device.{IsShape, Page, Shape}
 use Rattle.cs_model.specs.Element.{Entry, Locator, Map, Opening}
-use Rattle.cs_model.specs.Formats.{ChunkFrame, Formats, opening_in, pages_from, places}
+use Rattle.cs_model.specs.Formats.{ChunkFrame, Formats, limit_in, opening_in, pages_from, places}
 use Rattle.cs_model.specs.Frames.{IsFormat}
 use Rattle.cs_model.specs.Index.{Passes, entries_of, live_at}
 use Rattle.cs_model.specs.Lists.{◌∈◌}
 use Rattle.cs_model.specs.Recovery.{Recovers}
-use Rattle.cs_model.specs.Refusal.{Refusal}
 use Rattle.cs_room.proofs.MachineChunks.{chunks_move}
-use Rattle.cs_room.proofs.MachineCrash.{damaged_here, frozen_here, root_inside, run_extents_are}
+use Rattle.cs_room.proofs.MachineCrash.{root_inside, run_extents_are}
 use Rattle.cs_room.specs.Events.{forget}
 use Rattle.cs_room.specs.OfMachine.{AreChunksOf, HasPages, IsRootIn, of_id}
 use Rattle.cs_room.specs.RootsOfMachine.{TellsPointers}
 use Rattle.cs_room.specs.Rooms.{Root}
-
--- a test that gives something passed
-when : (b : Bool) (o : Option Refusal) (f : Refusal) → (if b then o else None) ≡ Some f → o ≡ Some f
-when true o f is = is
-when false o f wrong = absurd (let no : None ≡ Some f = wrong in cc)
 
 module _ (S : Shape) (F : Formats) (shape : IsShape S) (format : IsFormat S F) (tells : TellsPointers S F)
     (img : ℕ → Page) (n k : ℕ) (m o : Map) (gives : Recovers S F img n m) (other : Recovers S F img k o) where
@@ -48,26 +43,36 @@ module _ (S : Shape) (F : Formats) (shape : IsShape S) (format : IsFormat S F) (
   has_pages : (id : ℕ) (l : Locator) (c : ℕ) → l ∈ live_at (entries_of gives.runs) id
       → HasPages S F opening img gives.pointers gives.generations l c
       → HasPages S F again img other.pointers other.generations l c
-  has_pages id l c there has = go (live_passes S F again img other.pointers other.generations [] other.runs o other.gives id l
-      (subst (λ (es : List Entry). l ∈ live_at es id) entries_agree there)) has
+  has_pages id l c there has = go has
     where
-      go : Passes S F img other.pointers other.generations l → HasPages S F opening img gives.pointers gives.generations l c
+      here : Passes S F img gives.pointers gives.generations l
+      here = live_passes S F opening img gives.pointers gives.generations [] gives.runs m gives.gives id l there
+
+      pass : Passes S F img other.pointers other.generations l
+      pass = live_passes S F again img other.pointers other.generations [] other.runs o other.gives id l
+          (subst (λ (es : List Entry). l ∈ live_at es id) entries_agree there)
+
+      limits : limit_in S F gives.pointers gives.generations l ≡ limit_in S F other.pointers other.generations l
+      limits = limits_agree S F img gives.pointers gives.generations other.pointers other.generations l here pass
+          (λ on. pointers_agree l.extent here.inside.0)
+
+      pages : opening.pages l ≡ again.pages l
+      pages = ap (λ (n : ℕ). pages_from S F img l.extent l.page (n - l.page)) limits
+
+      go : HasPages S F opening img gives.pointers gives.generations l c
           → HasPages S F again img other.pointers other.generations l c
-      go pass (inl (payload, reads, size)) = inl (
+      go (inl (payload, reads, size)) = inl (
         payload,
-        record {
-          passes = pass;
-          below = inr (frozen_here S F img other.pointers other.generations l pass);
-          inside = reads.inside;
-          stand = reads.stand;
-        },
+        reads_own S F img other.pointers other.generations l (F.frame ChunkFrame payload) pass
+            (λ on. le_trans reads.within (le_of_eq (limit_here S F img gives.pointers gives.generations l here on
+            ∙ pointers_agree l.extent here.inside.0))) reads.inside reads.stand,
         size,
       )
-      go pass (inr (f, bad, none)) = inr (
+      go (inr (f, bad, lasts, none)) = inr (
         f,
-        damaged_here S F img other.pointers other.generations l f pass
-            (when ((gives.generations l.extent == l.generation) && nat_lt l.page (gives.pointers l.extent))
-            (F.fault ChunkFrame (pages_from S F img l.extent l.page (S.pages - l.page))) f bad),
+        damage_here S F img other.pointers other.generations l pass ∙ ap (F.fault ChunkFrame) (sym pages)
+            ∙ sym (damage_here S F img gives.pointers gives.generations l here) ∙ bad,
+        (λ on more. ap (λ (bs : List Page). F.fault ChunkFrame (bs ++ more)) (sym pages) ∙ lasts on more),
         none,
       )
 

@@ -70,7 +70,7 @@ module _ (S : Shape) (F : Formats) (apart : S.apart ≡ true) (img : ℕ → Pag
     chunks_are id = chunks_move S F opening opening img img gives.pointers gives.generations pointers gives.generations
         [] [] id 0 (live_at (entries_of gives.runs) id) (of_id id (map forget p.chunks))
         (λ l k there. pages_move S F opening opening img img gives.pointers gives.generations pointers gives.generations
-        l k refl
+        l k refl refl
         (λ payload. reads_there S F opening img gives.pointers gives.generations pointers gives.generations l
         (F.frame ChunkFrame payload) (named_live gives.pointers gives.runs id l there) refl))
         (λ j l there. refl) (names.chunks id)

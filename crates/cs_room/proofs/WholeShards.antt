@@ -1,6 +1,6 @@
 -- Where no shard is damaged no chunk that lives is.
-use Rattle.std.proofs.Common.{◌≡◌, ◌≢◌, inl, inr, ℕ, List, [], ◌∷◌, Option, Some, None, sym, ap, ◌∙◌, subst}
-use Rattle.cs_model.proofs.Frozen.{damage_stays}
+use Rattle.std.proofs.Common.{◌≡◌, ◌≢◌, inl, inr, ℕ, ◌+◌, ◌-◌, ◌≤◌, List, [], ◌∷◌, length, Option, Some, None, sym, ap, ◌∙◌, subst, arith}
+use Rattle.cs_model.proofs.Frozen.{damage_stays, reach_fits, reach_now, within_now}
 use Rattle.cs_model.specs.Device.{IsShape, Page, Shape}
 use Rattle.cs_model.specs.Element.{Content, Damaged, Locator, Opening}
 use Rattle.cs_model.specs.Events.{newest_page}
@@ -38,5 +38,9 @@ module _ (S : Shape) (F : Formats) where
   none_damaged shape format s sound whole id l there f bad =
       let found = value_read s.opening (newest_page s) s.world.extents.pointer s.world.extents.generation
       (lookup id (index_now s)) (map_now s id) (whole id) (sound.gives.values id) l there in
-      let none : None ≡ Some f = sym (format.no_fault (newest_page s) l.extent l.page ChunkFrame found.0 found.1.inside
-      found.1.stand) ∙ damage_stays S F shape s sound l f bad found.1.passes in cc
+      let reach : l.page + length (F.frame ChunkFrame found.0) ≤ reach_now S F s sound l =
+      within_now S F s sound l (F.frame ChunkFrame found.0) found.1 in
+      let end : reach_now S F s sound l ≤ S.pages = reach_fits S F s sound l in
+      let none : None ≡ Some f = sym (format.no_fault (newest_page s) l.extent l.page (reach_now S F s sound l - l.page)
+      ChunkFrame found.0 (omega arith) (omega arith) found.1.stand)
+      ∙ damage_stays S F shape s sound l f bad found.1.passes in cc

@@ -1,8 +1,6 @@
--- Examples: a new store, some events of one of 6 extents of 2 pages, one of which may hold runs, and a format.
+-- Examples: a new store, and some events of one of 6 extents of 2 pages, one of which may hold runs.
 use Rattle.std.specs.Prelude.{◌≡◌, ◌∷◌, ◌==◌, ℕ, zero, suc, true, List, None, [], if◌then◌else◌}
 use Rattle.cs_model.specs.Device.{Shape}
-use Rattle.cs_model.specs.Example.{example_format}
-use Rattle.cs_model.specs.Formats.{Formats}
 use Rattle.cs_model.specs.Geometry.{shape_of}
 use Rattle.cs_model.specs.Lists.{with}
 use Rattle.cs_room.specs.Events.{Abandon, BeginSweep, Delete, Does, End, Event, MoveOne, Open, Put, Retire, Stage}
@@ -57,12 +55,3 @@ example_root = record {
 abbrev pub example_opened : List Event
 example_opened =
     Put 1 (1 ∷ []) ∷ Stage 0 1 1 ∷ End 0 ∷ Put 2 (1 ∷ []) ∷ Stage 0 1 1 ∷ End 1 ∷ Open example_root (example_pointers 2 2) ∷ []
-
--- the pointers of a section's extents of those below n, and 0 for those of other sections
-abbrev pub told : Shape → (section : ℕ) → (pointers : ℕ → ℕ) → (n : ℕ) → List ℕ
-told S j pointers zero = []
-told S j pointers (suc n) = (if S.section n == j then pointers n else 0) ∷ told S j pointers n
-
--- a format of pages without bounds in which the page of a section has the pointers of its extents
-abbrev pub telling_format : Shape → Formats
-telling_format S = record example_format { superblock = λ f j v p g. told S j p S.extents }

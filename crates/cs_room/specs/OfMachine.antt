@@ -5,7 +5,7 @@ use Rattle.cs_model.specs.Append.{chunk_frames, page_counts}
 use Rattle.cs_model.specs.Device.{Page, Shape}
 use Rattle.cs_model.specs.Element.{Copy, Entry, Locator, Map, Opening, Run}
 use Rattle.cs_model.specs.Events.{Chunked, newest_page}
-use Rattle.cs_model.specs.Extents.{Extents}
+use Rattle.cs_model.specs.Extents.{Extents, MayFill}
 use Rattle.cs_model.specs.Formats.{ChunkFrame, Formats, RunFrame, opening_in}
 use Rattle.cs_model.specs.Index.{IsRunList, Reads, entries_of, live_at}
 use Rattle.cs_model.specs.Lists.{◌∈◌}
@@ -55,9 +55,9 @@ module _ (S : Shape) where
   abbrev pub NoneWorn : State → Type 0
   NoneWorn s = (e : ℕ) → e < S.extents → s.world.extents.generation e < S.greatest_generation
 
-  -- chunks lie on the extent, and all were appended since the store was opened
+  -- chunks lie on the extent, and it may be filled up
   abbrev pub IsFilled : Extents → ℕ → Type 0
-  IsFilled x e = (e < S.extents) × (0 < x.pointer e) × (x.of_runs e ≡ false) × (x.found e ≡ 0)
+  IsFilled x e = (e < S.extents) × (0 < x.pointer e) × (x.of_runs e ≡ false) × MayFill S.fills (x.found e)
 
   -- what is noted of the extents is right: chunks were appended to those to which the last chunk of a put and the last copy
   -- went and to the one that a sweep opened, and of an empty one nothing is noted
@@ -98,14 +98,19 @@ abbrev pub IsPut : Event → Type 0
 IsPut (Put id bytes) = Unit {0}
 IsPut event = ⊥
 
+-- what is told of the chunk at a locator as damaged is told so whatever pages follow those that were found
+abbrev pub Lasts : Formats → Opening → Locator → Refusal → Type 0
+Lasts F opening l f = (more : List Page) → F.fault ChunkFrame (opening.pages l ++ more) ≡ Some f
+
 module _ (S : Shape) (F : Formats) where
   module _ (opening : Opening) (img : ℕ → Page) (pointers generations : ℕ → ℕ) where
-    -- the frame of the chunk at a locator takes so many pages; a damaged one counts for none
+    -- the frame of the chunk at a locator takes so many pages; a damaged one counts for none, but where extents are filled up
+    -- it does so only if it is damaged whatever pages follow
     abbrev pub HasPages : Locator → ℕ → Type 0
     HasPages l n =
         ((payload : List ℕ) × Reads S F opening img pointers generations l (F.frame ChunkFrame payload)
         × (n ≡ length (F.frame ChunkFrame payload)))
-        ⊎ ((f : Refusal) × (opening.damage l ≡ Some f) × (n ≡ 0))
+        ⊎ ((f : Refusal) × (opening.damage l ≡ Some f) × (S.fills ≡ true → Lasts F opening l f) × (n ≡ 0))
 
     -- c is this chunk of the identifier, which lies there
     pub record IsChunkOf (copies : List Copy) (of chunk : ℕ) (l : Locator) (c : Chunk) : Type 0 where

@@ -1,8 +1,9 @@
 //! The premises of the laws can be met, and the events can happen.
 ghost use Rattle.cs_model.specs.Device.{IsShape, Shape};
+ghost use Rattle.cs_model.specs.Example.{telling_format};
 ghost use Rattle.cs_model.specs.Frames.{IsFormat};
 ghost use Rattle.cs_model.specs.State.{State};
-ghost use Rattle.cs_room.specs.Example.{Plays, example_abandoned, example_events, example_opened, example_root, example_shape, new_room, telling_format};
+ghost use Rattle.cs_room.specs.Example.{Plays, example_abandoned, example_events, example_opened, example_root, example_shape, new_room};
 ghost use Rattle.cs_room.specs.Invariant.{Keeps};
 ghost use Rattle.cs_room.specs.Lives.{IsFormatWithRoom, IsMade, Lives};
 ghost use Rattle.cs_room.specs.OfMachine.{ChunksFit};
