@@ -5,7 +5,7 @@ use Rattle.std.specs.List.{AllByRecursion, list_all, flat_map}
 use Rattle.std.specs.Int.{bytes_high_first}
 use Rattle.std.proofs.Math.Nat.{div-eq_of_lt, mod-eq_of_lt, mod-lt, mul-add-div_right, mul-add-mod_self_right}
 use Rattle.std.proofs.lemmas.Nat.{div-add-mod'}
-use Rattle.std.proofs.lemmas.Bool.{and_parts, and_from, eqb-true, leb-true, ltb-true, le-leb, lt-ltb}
+use Rattle.std.proofs.lemmas.Bool.{true≢false, and_parts, and_from, eqb-true, leb-true, ltb-true, le-leb, lt-ltb}
 use Rattle.std.proofs.lemmas.Grind.{reverse_onto}
 use Rattle.std.proofs.lemmas.List.Folds.{list_all-append}
 use Rattle.std.proofs.lemmas.List.{take_at, drop_at, length-map, length-replicate, length-reverse, reverse-reverse}
@@ -34,6 +34,7 @@ use Rattle.cs_frame.proofs.LocatorLaws.{length-spelled_locators}
 use Rattle.cs_frame.proofs.Pieces.{length-first_chunks}
 use Rattle.cs_frame.proofs.RootLaws.{HasRoom, fewest_runs, one_reading}
 use Rattle.cs_frame.proofs.RunLaws.{run_is_read}
+use Rattle.cs_frame.proofs.TellingLaws.{tells}
 
 -- ---- superblocks
 
@@ -408,12 +409,16 @@ module _ (f extents pages sections format : ℕ) (is : IsGeometry f extents page
       sym (payload_is_read kind (pages_from S F img e i pages) a (stands_there S F img e i pages kind a few fa sa))
       ∙ payload_is_read kind (pages_from S F img e i pages) b (stands_there S F img e i pages kind b few fb sb)
 
-  no_fault : (img : ℕ → Page) (e i kind : ℕ) (payload : List ℕ)
-      → i + length (spelled_frame kind payload) ≤ pages → Stand S F img e i (spelled_frame kind payload)
-      → frame_fault kind (pages_from S F img e i (pages - i)) ≡ None
-  no_fault img e i kind payload inside stand =
-      frame_fault-spelled kind (pages_from S F img e i (pages - i)) payload
-      (stands_there S F img e i (pages - i) kind payload (omega (arith, few)) (omega (arith, inside)) stand)
+  no_fault : (img : ℕ → Page) (e i count kind : ℕ) (payload : List ℕ)
+      → length (spelled_frame kind payload) ≤ count → i + count ≤ pages → Stand S F img e i (spelled_frame kind payload)
+      → frame_fault kind (pages_from S F img e i count) ≡ None
+  no_fault img e i count kind payload long inside stand =
+      frame_fault-spelled kind (pages_from S F img e i count) payload
+      (stands_there S F img e i count kind payload (omega (arith, few, inside)) long stand)
+
+  -- a format in which extents are filled up isn't the first
+  fills_later : S.fills ≡ true → format ≢ 1
+  fills_later on first = true≢false (sym on)
 
   pub any_is_format : IsFormat S F
   any_is_format = record {
@@ -425,8 +430,10 @@ module _ (f extents pages sections format : ℕ) (is : IsGeometry f extents page
     one_payload = λ img e i kind. one_payload img e i (kind_number kind);
     root_fits = root_fits;
     run_fits = run_fits;
-    no_fault = λ img e i kind payload inside stand.
-        ap (option_map refusal_of) (no_fault img e i (kind_number kind) payload inside stand);
+    no_fault = λ img e i count kind payload long inside stand.
+        ap (option_map refusal_of) (no_fault img e i count (kind_number kind) payload long inside stand);
+    tells = λ on k j n v w p g q h small also same e lt at.
+        tells S (fills_later on) (omega (arith, few)) (omega arith) n p g q h small also k j v w same e lt at;
   }
 
 -- so has a store's own shape

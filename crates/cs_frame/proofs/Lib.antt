@@ -10,6 +10,6 @@ pub mod SuperblockLaws
 pub mod FirstFormatLaws
 pub mod FrameLaws
 pub mod RunLaws
-pub mod FormatLaws
 pub mod TellingLaws
+pub mod FormatLaws
 pub mod FittingLaws

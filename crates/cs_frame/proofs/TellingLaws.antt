@@ -1,5 +1,5 @@
 -- The page of a section tells the pointers of its extents.
-use Rattle.std.proofs.Common.{◌≡◌, inl, inr, ℕ, zero, suc, ◌+◌, ◌*◌, ◌≤◌, ◌<◌, ◌^◌, ◌==◌, ◌&&◌, Bool, true, false, List, [], ◌∷◌, ◌++◌, ◌-◌, length, take, drop, codes, slice_index, if◌then◌else◌, eq-eqb, refl, sym, ap, ◌∙◌, subst, arith, append_assoc}
+use Rattle.std.proofs.Common.{◌≡◌, ◌≢◌, inl, inr, ℕ, zero, suc, ◌+◌, ◌*◌, ◌≤◌, ◌<◌, ◌^◌, ◌==◌, ◌&&◌, Bool, true, false, List, [], ◌∷◌, ◌++◌, ◌-◌, length, take, drop, codes, slice_index, if◌then◌else◌, eq-eqb, refl, sym, ap, ◌∙◌, subst, arith, append_assoc}
 use Rattle.std.specs.List.{AllByRecursion}
 use Rattle.std.proofs.lemmas.Bool.{cases_eq, true≢false}
 use Rattle.std.proofs.lemmas.List.{drop_at, take_at}
@@ -10,12 +10,11 @@ use Rattle.cs_model.specs.Safe.{FitsExtent as IsInBounds}
 use Rattle.cs_frame.specs.Bytes.{zeros}
 use Rattle.cs_frame.specs.FirstFormat.{first_format_fields, spelled_first_format}
 use Rattle.cs_frame.specs.Formats.{extents_of, formats_of}
-use Rattle.cs_frame.specs.Geometries.{IsKnown}
 use Rattle.cs_frame.specs.Pages.{padded, sealed}
 use Rattle.cs_frame.specs.Pointers.{FitsExtent, extents_from, spelled_extents}
 use Rattle.cs_frame.specs.Superblocks.{spelled_superblock, superblock_fields}
 use Rattle.cs_frame.proofs.ExtentPageLaws.{extents_from-spelled}
-use Rattle.cs_frame.proofs.FirstFormatLaws.{length-first_format_fields, not_first}
+use Rattle.cs_frame.proofs.FirstFormatLaws.{length-first_format_fields}
 use Rattle.cs_frame.proofs.SuperblockLaws.{length-superblock_fields}
 
 -- two texts of one length that are sealed and padded to one page are one
@@ -63,7 +62,7 @@ module _ (speaks : ℕ → ℕ) (j : ℕ) where
         | inr other ↦ rest (omega arith) more
       ]
 
-module _ (S : Shape) (known : IsKnown S.format) (small : S.pages < 2 ^ 16) (few : S.greatest_generation < 2 ^ 32) (j : ℕ) where
+module _ (S : Shape) (known : S.format ≢ 1) (small : S.pages < 2 ^ 16) (few : S.greatest_generation < 2 ^ 32) (j : ℕ) where
   all_fit : (p g : ℕ → ℕ) → ((e : ℕ) → IsInBounds S (p e) (g e)) → (first count : ℕ)
       → AllByRecursion (FitsExtent S.pages) (extents_of S.section p g j first count)
   all_fit p g fits first zero = tt
@@ -123,7 +122,7 @@ module _ (S : Shape) (known : IsKnown S.format) (small : S.pages < 2 ^ 16) (few 
     mixed : (v w : ℕ) (xs ys : List (ℕ × ℕ)) → spelled_first_format v S.pages xs
         ≡ spelled_superblock S.format w S.extents S.pages S.sections j ys → ⊥
     mixed v w xs ys is = let digit : 49 ≡ 48 + S.format = ap (λ (bytes : List ℕ). slice_index bytes 3) is in
-        not_first S.format known (omega (arith, digit))
+        known (omega (arith, digit))
 
     pub tells : (f k v w : ℕ) → (formats_of S).superblock f j v p g ≡ (formats_of S).superblock k j w q h
         → (e : ℕ) → e < S.extents → S.section e ≡ j → p e ≡ q e
