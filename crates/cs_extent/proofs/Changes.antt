@@ -82,14 +82,15 @@ taken_extents s e k x o lt p g is = λ i. record {
 pub whole_new : (format pages sections : ℕ) (written : List (ℕ × ℕ)) → IsGeometry format (length written) pages sections → AllByRecursion (λ x. x.0 ≤ pages) written
     → (resets : List ℕ) (swept of_runs : List Bool) (found : List ℕ) → resets ≡ replicate (length written) 0
     → swept ≡ replicate (length written) false → of_runs ≡ replicate (length written) false → length found ≡ length written
-    → IsWhole (record { format = format; pages = pages; sections = sections; written = written; resets = resets; swept = swept; open_extent = None; of_runs = of_runs; found = found; fresh = None; last = None })
-whole_new format pages sections written is all resets swept of_runs found zeros falses kinds founds = record {
+    → ((e : ℕ) → get_or found e 0 ≤ pages) → IsWhole (record { format = format; pages = pages; sections = sections; written = written; resets = resets; swept = swept; open_extent = None; of_runs = of_runs; found = found; fresh = None; last = None })
+whole_new format pages sections written is all resets swept of_runs found zeros falses kinds founds low = record {
   geometry = is;
   all_resets = ap length zeros ∙ length-replicate (length written) 0;
   all_swept = ap length falses ∙ length-replicate (length written) false;
   all_kinds = ap length kinds ∙ length-replicate (length written) false;
   all_found = founds;
   pointers = pointers_at pages written all;
+  found_pages = low;
   roots = λ e. let zero_at : get_or resets e 0 ≡ 0 = ap (λ xs. get_or xs e 0) zeros ∙ zeros_at (length written) e in omega (arith, zero_at);
   open_inside = λ e is. absurd (cc is);
   open_begun = λ e is. absurd (cc is);
@@ -99,6 +100,14 @@ whole_new format pages sections written is all resets swept of_runs found zeros 
 pub found_length : (apart : Bool) (written : List (ℕ × ℕ)) → length (found_at apart written) ≡ length written
 found_length false written = length-replicate (length written) 0
 found_length true written = length-map written (λ (row : ℕ × ℕ). row.0)
+
+-- and no more pages than an extent has
+pub found_low : (apart : Bool) (pages : ℕ) (written : List (ℕ × ℕ)) → AllByRecursion (λ x. x.0 ≤ pages) written
+    → (e : ℕ) → get_or (found_at apart written) e 0 ≤ pages
+found_low false pages written all e = let none : get_or (replicate (length written) 0) e 0 ≡ 0 = zeros_at (length written) e in omega (arith, none)
+found_low true pages [] all e = omega arith
+found_low true pages (x ∷ xs) all zero = all.0
+found_low true pages (x ∷ xs) all (suc e) = found_low true pages xs all.1 e
 
 pub all_pointers : (pages : ℕ) (xs : List (ℕ × ℕ)) → ((e : ℕ) → (get_or xs e (0, 0)).0 ≤ pages) → AllByRecursion (λ x. x.0 ≤ pages) xs
 all_pointers pages [] each = tt

@@ -67,7 +67,7 @@ later_emptied x e root page h = split (page.extent == e) refl h
         h)
     split false is h = h
 
-all_later : (S : Shape) (x y : Extents) (changes : List Change) (given : List Given) → LeadsTo S x changes given y → (i : ℕ) (page : Given) → slice_get given i ≡ Some page → IsLater x page
+pub all_later : (S : Shape) (x y : Extents) (changes : List Change) (given : List Given) → LeadsTo S x changes given y → (i : ℕ) (page : Given) → slice_get given i ≡ Some page → IsLater x page
 all_later S x y [] given leads i page at = absurd (cc (at, ap (λ (l : List Given). slice_get l i) leads.1))
 all_later S x y (Append reason k e ∷ changes) given leads i page at = ⊎_elim
     (λ (l : (i < length (given_from e (x.pointer e) (x.generation e) k)) × (slice_get (given_from e (x.pointer e) (x.generation e) k) i ≡ Some page)).

@@ -77,6 +77,7 @@ pub record IsWhole (s : State) : Type 0 where
   pub all_kinds : length s.of_runs ≡ length s.written
   pub all_found : length s.found ≡ length s.written
   pub pointers : (e : ℕ) → (extents_of s).pointer e ≤ s.pages
+  pub found_pages : (e : ℕ) → (extents_of s).found e ≤ s.pages
   pub roots : (e : ℕ) → (extents_of s).reset e < 2 ^ 63
   -- an extent that is open is there and not empty
   pub open_inside : (e : ℕ) → s.open_extent ≡ Some e → e < length s.written

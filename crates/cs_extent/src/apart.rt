@@ -2,7 +2,7 @@
 ghost use Rattle.std.specs.Prelude.{◌≡◌, ◌↔◌, ◌⊎◌, ◌+◌, ◌<◌, ◌≤◌, ◌^◌, ◌==◌, if◌then◌else◌, ℕ, true, List, IfOk, IfErr, OnErr, IsTrue, MatchOption, Some, length, slice_index};
 ghost use Rattle.cs_deps.specs.declared.elements.Element.{Element as Item};
 ghost use Rattle.cs_deps.specs.Named.{Names};
-ghost use Rattle.cs_model.specs.Extents.{Behind, ForPut, GoesApart, IsFirst, IsFirstEmpty, MayOpen, Takes, chunk_extents, how_many, noted, one_if, run_extents};
+ghost use Rattle.cs_model.specs.Extents.{Behind, ForPut, GoesApart, IsFirst, IsFirstEmpty, MayFill, MayOpen, Takes, chunk_extents, how_many, noted, one_if, run_extents};
 ghost use Rattle.cs_extent.specs.Appended.{IsAppendedBy};
 ghost use Rattle.cs_extent.specs.Frames.{AreResetsStaged, IsVersionUpTo, family_of};
 ghost use Rattle.cs_extent.specs.Purposes.{reason_of};
@@ -180,8 +180,7 @@ impl Extents {
         }
     }
 
-    /// Whether so many pages fit behind the frames on an extent, which are runs or chunks and were all appended since the store was
-    /// opened.
+    /// Whether so many pages fit behind the frames on an extent, which are runs or chunks, and the extent may be filled up.
     fn is_behind(&self, puts: &[(usize, usize)], runs: bool, pages: usize, extent: usize) -> bool
         requires { 1 ≤ pages }
         ensures { IsTrue result ↔ Behind (shape self.now) (after_puts (extents_of self.now) puts.now) runs pages extent }
@@ -193,7 +192,16 @@ impl Extents {
         0 < pointer
             && pages <= self.extent_pages().saturating_sub(pointer)
             && self.is_kind(runs, extent)
-            && self.found(extent) == 0
+            && self.may_fill(extent)
+    }
+
+    /// Whether frames may be appended behind those on an extent: where extents are filled up always, else where all were appended since
+    /// the store was opened.
+    fn may_fill(&self, extent: usize) -> bool
+        requires { extent < (shape self.now).extents }
+        ensures { IsTrue result ↔ MayFill (shape self.now).fills ((extents_of self.now).found extent) }
+    {
+        self.fills() || self.found(extent) == 0
     }
 
     /// Whether the sweep opened this extent.

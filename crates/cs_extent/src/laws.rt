@@ -1,5 +1,5 @@
 //! Laws over many changes.
-ghost use Rattle.std.specs.Prelude.{◌≡◌, ◌↔◌, ◌+◌, ◌<◌, ◌≤◌, ℕ, true, List, Some, slice_get};
+ghost use Rattle.std.specs.Prelude.{◌≡◌, ◌↔◌, ◌⊎◌, ◌+◌, ◌<◌, ◌≤◌, ℕ, true, List, Some, slice_get};
 ghost use Rattle.cs_deps.specs.declared.elements.Element.{Element};
 ghost use Rattle.cs_deps.specs.Named.{Named};
 ghost use Rattle.cs_deps.specs.Staging.{IsVersionStaged, Staging, settled};
@@ -8,10 +8,15 @@ ghost use Rattle.cs_model.specs.Extents.{Extents, GoesApart, Placed, Purpose, em
 ghost use Rattle.cs_extent.specs.Changes.{Change, Given, LeadsTo};
 ghost use Rattle.cs_extent.specs.Frames.{AreOneSectionsNeedsWithin, IsFrameBehind, IsFrameStaged, greatest, root_family};
 
-/// Each page of an extent is given at most once in each of the extent's generations.
+/// Between two openings each page of an extent is given at most once in each of the extent's generations, and none of those that were
+/// given before. A page that was given and not recorded may be given again once the store is opened anew: nothing that is named lies
+/// behind the pointer that is found.
 pub fn pages_are_given_once()
-    ensures { (S : Shape) (x y : Extents) (changes : List Change) (given : List Given) (i j : ℕ) (page : Given)
+    ensures once { (S : Shape) (x y : Extents) (changes : List Change) (given : List Given) (i j : ℕ) (page : Given)
         → LeadsTo S x changes given y → slice_get given i ≡ Some page → slice_get given j ≡ Some page → i ≡ j }
+    ensures behind { (S : Shape) (x y : Extents) (changes : List Change) (given : List Given) (i : ℕ) (page : Given)
+        → LeadsTo S x changes given y → slice_get given i ≡ Some page → (x.generation page.extent < page.generation)
+        ⊎ ((page.generation ≡ x.generation page.extent) × (x.pointer page.extent ≤ page.page)) }
 {}
 
 /// A frame goes to one extent, if to any, also where chunks and runs lie apart.

@@ -1,7 +1,7 @@
 //! What is noted of the extents where chunks and runs lie apart.
-ghost use Rattle.std.specs.Prelude.{◌≡◌, ◌↔◌, ◌<◌, ◌^◌, ◌==◌, if◌then◌else◌, ℕ, true, Some, None, IfOk, IfErr, OnOk, OnErr, IsTrue, length};
-ghost use Rattle.cs_model.specs.Extents.{emptied, forgotten, other_than};
-ghost use Rattle.cs_model.specs.Geometry.{apart_in};
+ghost use Rattle.std.specs.Prelude.{◌≡◌, ◌↔◌, ◌<◌, ◌≤◌, ◌^◌, ◌==◌, if◌then◌else◌, ℕ, true, Some, None, IfOk, IfErr, OnOk, OnErr, IsTrue, length};
+ghost use Rattle.cs_model.specs.Extents.{emptied, forgotten, other_than, reach};
+ghost use Rattle.cs_model.specs.Geometry.{apart_in, fills_in};
 ghost use Rattle.cs_extent.specs.Notes.{fresh_noted, is_of_run, last_noted, noted_in, open_noted};
 ghost use Rattle.cs_extent.specs.Purposes.{reason_of};
 ghost use Rattle.cs_extent.specs.State.{IsWhole, extents_of, found_at, shape};
@@ -33,6 +33,30 @@ impl Extents {
         ensures { result ≡ (extents_of self.now).found extent }
     {
         usize::from(self.found[extent])
+    }
+
+    /// Whether extents are filled up: frames are appended behind the pages that were found on an extent, and one that begins among
+    /// them ends there too.
+    pub fn fills(&self) -> bool
+        ensures { result ≡ (shape self.now).fills }
+    {
+        fills_up(self.geometry().format())
+    }
+
+    /// How far a frame may reach that begins at a page of an extent: to the end of the pages that were found where it begins among
+    /// them and extents are filled up, else to the extent's end.
+    pub fn end_of(&self, extent: usize, page: usize) -> usize
+        requires { extent < (shape self.now).extents }
+        ensures end { result ≡ reach (shape self.now) ((extents_of self.now).found extent) page }
+        ensures fits { result ≤ (shape self.now).pages }
+        ensures above { page < (shape self.now).pages → page < result }
+    {
+        self.extent_count();
+        let found = self.found(extent);
+        if self.fills() && page < found {
+            return found;
+        }
+        self.extent_pages()
     }
 
     /// The extent that frames are appended to.
@@ -196,6 +220,13 @@ pub fn lies_apart(format: u8) -> bool
     ensures { result ≡ apart_in format }
 {
     2 < format
+}
+
+/// Whether extents are filled up in stores of this format.
+pub fn fills_up(_format: u8) -> bool
+    ensures { result ≡ fills_in _format }
+{
+    false
 }
 
 /// How many pages of each extent count as found as a store is opened: all that are given where chunks and runs lie apart, else none.

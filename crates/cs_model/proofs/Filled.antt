@@ -1,5 +1,6 @@
 -- Where extents are filled up: what is known of the image at open lasts while pages are given and extents are reset.
 use Rattle.std.proofs.Common.{◌≡◌, ◌≢◌, ◌⊎◌, inl, inr, ⊎_elim, ℕ, zero, suc, ◌+◌, ◌<◌, ◌≤◌, ◌==◌, nat_lt, Bool, true, false, List, ◌∷◌, length, ◌&&◌, if◌then◌else◌, None, eq-eqb, ne_eqb, lt-ltb, le_of_eq, le_refl, le_trans, true≢false, refl, sym, ap, ◌∙◌, subst, arith}
+use Rattle.std.proofs.lemmas.Bool.{cases_lt}
 use Rattle.std.proofs.lemmas.Bool.Decides.{nat_tests}
 use Rattle.cs_model.proofs.Carries.{and_true}
 use Rattle.cs_model.specs.Device.{Page, Shape}
@@ -99,6 +100,18 @@ reach_low S found page low = go S.fills (nat_lt page found)
     go true true = low
     go true false = le_refl _
     go false b = le_refl _
+
+-- a page that is there lies before the end of its frame's pages
+pub reach_above : (S : Shape) (found page : ℕ) → page < S.pages → page < reach S found page
+reach_above S found page inside = elim (cases_lt page found) [
+  | inl among ↦ go S.fills (nat_lt page found) among
+  | inr behind ↦ subst (λ (n : ℕ). page < n) (sym (reach_end S found page behind)) inside
+]
+  where
+    go : (a b : Bool) → page < found → page < (if a then (if b then found else S.pages) else S.pages)
+    go true true among = among
+    go true false among = inside
+    go false b among = inside
 
 pub appended_reach : (S : Shape) (F : Formats) (opening : Opening) (p g f : ℕ → ℕ) (roots : List Root)
     → IsFilledUp S F opening p g f roots → (e n : ℕ) → p e + n ≤ S.pages

@@ -1,8 +1,8 @@
-use Rattle.std.proofs.Common.{◌∙◌, ◌≡◌, ◌≤◌, ap, ℕ, List, replicate, false, zero, length, arith, sym, subst}
+use Rattle.std.proofs.Common.{◌∙◌, ◌≡◌, ◌≤◌, ap, ℕ, List, replicate, false, zero, length, arith, sym, subst, get_or}
 use Rattle.std.specs.List.{AllByRecursion}
 use Rattle.cs_frame.specs.Geometries.{IsGeometry}
 use Rattle.cs_extent.specs.Sections.{format_of, pages_of, rows_of}
-use Rattle.cs_extent.proofs.Changes.{found_length, whole_new}
+use Rattle.cs_extent.proofs.Changes.{found_length, found_low, whole_new}
 use Rattle.cs_extent.proofs.Sections.{rows_are_within, rows_geometry}
 use Rattle.cs_extent.proofs.extents.Extents.of.Goals as goal
 
@@ -29,5 +29,8 @@ invariant_of-result c =
           (c.in_ok-resets.ensures.items_if_clones_equal (λ y h. h) ∙ ap (λ (n : ℕ). replicate n zero) first)
           (c.in_ok-swept.ensures.items_if_clones_equal (λ y h. h) ∙ ap (λ (n : ℕ). replicate n false) second)
           (c.in_ok-kinds.ensures.items_if_clones_equal (λ y h. h) ∙ ap (λ (n : ℕ). replicate n false) third)
-          (ap length c.in_ok-found.ensures ∙ found_length c.lies_apart.result c.deref.result.now ∙ ap length c.deref.ensures.value);
+          (ap length c.in_ok-found.ensures ∙ found_length c.lies_apart.result c.deref.result.now ∙ ap length c.deref.ensures.value)
+          (λ d. subst (λ (fs : List ℕ). get_or fs d 0 ≤ g.pages) (sym c.in_ok-found.ensures)
+          (found_low c.lies_apart.result g.pages c.deref.result.now
+          (subst (λ (ys : List (ℕ × ℕ)). AllByRecursion (λ (x : ℕ × ℕ). x.0 ≤ g.pages) ys) (sym c.deref.ensures.value) all) d));
     }
