@@ -2,15 +2,15 @@
 use Rattle.std.proofs.Common.{◌≡◌, ◌∙◌, ℕ, zero, suc, ◌+◌, ◌-◌, ◌<◌, ◌≤◌, List, [], ◌∷◌, length, take, get_or, Option, Some, None, Result, Ok, Err, MatchResult, IfOk, refl, sym, ap, subst, ⊎_elim, arith}
 use Rattle.std.specs.Prelude.{option_map}
 use Rattle.std.proofs.lemmas.List.{ext_get_or, get_or-take, length-take, length-take-le, take-take}
-use Rattle.cs_chunk.specs.Chunks.{IsFrameAt, kind_of}
+use Rattle.cs_chunk.specs.Chunks.{IsFrameIn, end_in, kind_of}
 use Rattle.cs_chunk.specs.Newest.{AreNewest, IsReadAs}
-use Rattle.cs_chunk.specs.Reads.{AnswersFault, AreReadAs, IsFrameFront, IsNoAnswer, IsOfFault, fault_at, pages_at}
+use Rattle.cs_chunk.specs.Reads.{AnswersFault, AreReadAs, IsFrameFront, IsNoAnswer, IsOfFault, fault_in, pages_in}
 use Rattle.cs_chunk.proofs.Chunkings.{length-spelled}
 use Rattle.cs_chunk.proofs.Newest.{reads_image, reads_newest}
 use Rattle.cs_deps.specs.declared.refusals.Refusal.{Refusal}
 use Rattle.cs_deps.specs.State.{IsNewestOn, NoneOn, State as Graph}
 use Rattle.cs_disk.specs.Disk.{Image, page}
-use Rattle.cs_extent.specs.State.{IsWhole, State, shape}
+use Rattle.cs_extent.specs.State.{IsWhole, State, extents_of, shape}
 use Rattle.cs_frame.specs.declared.faults.FormatFault.{FormatFault}
 use Rattle.cs_frame.specs.declared.frames.FrameKind.{FrameKind}
 use Rattle.cs_frame.specs.declared.frames.FrameKind.TheVariants.{Chunk, Run}
@@ -19,6 +19,7 @@ use Rattle.cs_frame.specs.Formats.{formats_of, kind_number, refusal_of}
 use Rattle.cs_frame.specs.Frames.{SpellsFrame, first_page, frame_count, frame_fault, header_fault, kind_byte, page_count, payload_length, spelled_frame}
 use Rattle.cs_frame.proofs.FormatLaws.{is_format}
 use Rattle.cs_frame.proofs.FrameLaws.{fault_of_taken, header_first}
+use Rattle.cs_model.proofs.Filled.{reach_above, reach_low}
 use Rattle.cs_model.specs.Device.{Shape}
 use Rattle.cs_model.specs.Formats.{Formats, Stand, pages_from}
 
@@ -66,22 +67,29 @@ all_fit S kind l pages items (Err r) le spells = tt
 
 module _ (x : State) (whole : IsWhole x) (view : ℕ → List ℕ) (kind : FrameKind) (l : Locator) (inside : l.page < x.pages) where
   abbrev there : ℕ
-  there = x.pages - l.page
+  there = end_in x l - l.page
+
+  -- the end lies behind the place, and no further than the extent
+  above : l.page < end_in x l
+  above = reach_above (shape x) ((extents_of x).found l.extent) l.page inside
+
+  low : end_in x l ≤ x.pages
+  low = reach_low (shape x) ((extents_of x).found l.extent) l.page (whole.found_pages l.extent)
 
   -- all pages from the place on
   abbrev all : List (List ℕ)
-  all = pages_at (shape x) view l
+  all = pages_in x view l
 
-  length-all : length all ≡ x.pages - l.page
-  length-all = length-from (shape x) (formats_of (shape x)) view l.extent l.page (x.pages - l.page)
+  length-all : length all ≡ end_in x l - l.page
+  length-all = length-from (shape x) (formats_of (shape x)) view l.extent l.page (end_in x l - l.page)
 
   pub first_is : first_page all ≡ view ((shape x).address l.extent l.page)
   first_is =
       let same : l.page + 0 ≡ l.page = omega arith in
-      at_from (shape x) (formats_of (shape x)) view l.extent l.page (x.pages - l.page) 0 (omega (arith, inside)) ∙ ap (λ q. view ((shape x).address l.extent q)) same
+      at_from (shape x) (formats_of (shape x)) view l.extent l.page (end_in x l - l.page) 0 (omega (arith, above)) ∙ ap (λ q. view ((shape x).address l.extent q)) same
 
   -- what the header at the place is refused for, the frame is
-  pub header_at : (f : FormatFault) → header_fault (kind_byte kind) (view ((shape x).address l.extent l.page)) (x.pages - l.page) ≡ Some f → fault_at (shape x) view kind l ≡ Some f
+  pub header_at : (f : FormatFault) → header_fault (kind_byte kind) (view ((shape x).address l.extent l.page)) (end_in x l - l.page) ≡ Some f → fault_in x view kind l ≡ Some f
   header_at f is =
       header_first (kind_byte kind) all f
       (ap (λ b. header_fault (kind_byte kind) b (length all)) first_is ∙ ap (λ n. header_fault (kind_byte kind) (view ((shape x).address l.extent l.page)) n) length-all ∙ is)
@@ -91,13 +99,13 @@ module _ (x : State) (whole : IsWhole x) (view : ℕ → List ℕ) (kind : Frame
     first_read = first_is ∙ ap view (sym at) ∙ sym (reads_same g image view number first are read)
 
     -- what the header is refused for, the frame is
-    pub header_refused : (f : FormatFault) → header_fault (kind_byte kind) first (x.pages - l.page) ≡ Some f → fault_at (shape x) view kind l ≡ Some f
+    pub header_refused : (f : FormatFault) → header_fault (kind_byte kind) first (end_in x l - l.page) ≡ Some f → fault_in x view kind l ≡ Some f
     header_refused f is =
         header_first (kind_byte kind) all f
         (ap (λ b. header_fault (kind_byte kind) b (length all)) first_read ∙ ap (λ n. header_fault (kind_byte kind) first n) length-all ∙ is)
 
     -- the pages that the header counts are the frame's
-    pub front_read : (pages : List (List ℕ)) (count : ℕ) → count ≡ page_count (payload_length first) → count ≤ x.pages - l.page → AreReadAs g image number count pages → IsFrameFront all pages
+    pub front_read : (pages : List (List ℕ)) (count : ℕ) → count ≡ page_count (payload_length first) → count ≤ end_in x l - l.page → AreReadAs g image number count pages → IsFrameFront all pages
     front_read pages count counted fits were =
         let same : frame_count all ≡ count = ap (λ b. page_count (payload_length b)) first_read ∙ sym counted in
         let long : length (take count all) ≡ count = length-take-le count all (omega (arith, fits, length-all)) in
@@ -111,57 +119,58 @@ module _ (x : State) (whole : IsWhole x) (view : ℕ → List ℕ) (kind : Frame
         each i lt =
             let next : number + i ≡ (shape x).address l.extent (l.page + i) = omega (arith, at) in
             reads_same g image view (number + i) (get_or pages i []) are (were.each i lt) ∙ ap view next
-            ∙ sym (get_or-take count all i [] lt ∙ at_from (shape x) (formats_of (shape x)) view l.extent l.page (x.pages - l.page) i (omega (arith, lt, fits)))
+            ∙ sym (get_or-take count all i [] lt ∙ at_from (shape x) (formats_of (shape x)) view l.extent l.page (end_in x l - l.page) i (omega (arith, lt, fits)))
 
-    pub fronts_read : {V : Type 0} (items : V → List (List ℕ)) (result : Result V Refusal) (count : ℕ) → count ≡ page_count (payload_length first) → count ≤ x.pages - l.page → IfOk result (λ v. AreReadAs g image number count (items v)) → IfOk result (λ v. IsFrameFront all (items v))
+    pub fronts_read : {V : Type 0} (items : V → List (List ℕ)) (result : Result V Refusal) (count : ℕ) → count ≡ page_count (payload_length first) → count ≤ end_in x l - l.page → IfOk result (λ v. AreReadAs g image number count (items v)) → IfOk result (λ v. IsFrameFront all (items v))
     fronts_read items (Ok v) count counted fits were = front_read (items v) count counted fits were
     fronts_read items (Err r) count counted fits were = tt
 
   module _ (pages : List (List ℕ)) (front : IsFrameFront all pages) where
     -- these pages have the fault of all
-    pub same_fault : frame_fault (kind_byte kind) pages ≡ fault_at (shape x) view kind l
+    pub same_fault : frame_fault (kind_byte kind) pages ≡ fault_in x view kind l
     same_fault = ap (frame_fault (kind_byte kind)) front.taken ∙ fault_of_taken all (frame_count all) (omega arith) front.enough (kind_byte kind)
 
     -- what they spell is a frame there
-    pub frame_there : (payload : List ℕ) → SpellsFrame (kind_byte kind) pages payload → IsFrameAt (shape x) view (kind_of kind) l payload
+    pub frame_there : (payload : List ℕ) → SpellsFrame (kind_byte kind) pages payload → IsFrameIn x view (kind_of kind) l payload
     frame_there payload spells =
         let n : ℕ = page_count (length payload) in
         let size : length (spelled_frame (kind_byte kind) payload) ≡ page_count (length payload) = length-spelled (kind_byte kind) payload in
         let is : take (page_count (length payload)) (take (frame_count all) all) ≡ spelled_frame (kind_byte kind) payload = ap (take (page_count (length payload))) (sym front.taken) ∙ spells.spelled in
         let few : page_count (length payload) ≤ frame_count all = omega (arith, ap length is, size, length-take (page_count (length payload)) (take (frame_count all) all), length-take (frame_count all) all) in
-        let fits : page_count (length payload) ≤ x.pages - l.page = omega (arith, few, front.enough, length-all) in
+        let fits : page_count (length payload) ≤ end_in x l - l.page = omega (arith, few, front.enough, length-all) in
         let taken : take (length (spelled_frame (kind_byte kind) payload)) all ≡ spelled_frame (kind_byte kind) payload =
         ap (λ k. take k all) size ∙ sym (take-take (page_count (length payload)) (frame_count all) all few) ∙ is in
-        subst (λ k. (l.page + length (spelled_frame k payload) ≤ x.pages) × Stand (shape x) (formats_of (shape x)) view l.extent l.page (spelled_frame k payload)) (sym (same_kind kind))
-        (omega (arith, size, fits, inside), stand_front (shape x) (formats_of (shape x)) view l.extent l.page (x.pages - l.page) (spelled_frame (kind_byte kind) payload) (omega (arith, size, fits)) taken)
+        subst (λ k. (l.page + length (spelled_frame k payload) ≤ end_in x l) × Stand (shape x) (formats_of (shape x)) view l.extent l.page (spelled_frame k payload)) (sym (same_kind kind))
+        (omega (arith, size, fits, above), stand_front (shape x) (formats_of (shape x)) view l.extent l.page (end_in x l - l.page) (spelled_frame (kind_byte kind) payload) (omega (arith, size, fits)) taken)
 
-    pub frames_there : {V : Type 0} (items : V → List ℕ) (result : Result V Refusal) → IfOk result (λ v. SpellsFrame (kind_byte kind) pages (items v)) → IfOk result (λ v. IsFrameAt (shape x) view (kind_of kind) l (items v))
+    pub frames_there : {V : Type 0} (items : V → List ℕ) (result : Result V Refusal) → IfOk result (λ v. SpellsFrame (kind_byte kind) pages (items v)) → IfOk result (λ v. IsFrameIn x view (kind_of kind) l (items v))
     frames_there items (Ok v) spells = frame_there (items v) spells
     frames_there items (Err r) spells = tt
 
-    pub answers : {V : Type 0} (result : Result V Refusal) → AnswersFault (frame_fault (kind_byte kind) pages) result → AnswersFault (fault_at (shape x) view kind l) result
+    pub answers : {V : Type 0} (result : Result V Refusal) → AnswersFault (frame_fault (kind_byte kind) pages) result → AnswersFault (fault_in x view kind l) result
     answers result was = subst (λ found. AnswersFault found result) same_fault was
 
   -- a frame that is there has no fault
-  pub no_fault_there : (payload : List ℕ) → IsFrameAt (shape x) view (kind_of kind) l payload → fault_at (shape x) view kind l ≡ None
+  pub no_fault_there : (payload : List ℕ) → IsFrameIn x view (kind_of kind) l payload → fault_in x view kind l ≡ None
   no_fault_there payload at =
       let law = is_format x.format (length x.written) x.pages x.sections whole.geometry in
-      ap (λ k. frame_fault k all) (sym (same_kind kind)) ∙ is_none (frame_fault (kind_number (kind_of kind)) all) (law.no_fault view l.extent l.page (kind_of kind) payload at.0 at.1)
+      ap (λ k. frame_fault k all) (sym (same_kind kind)) ∙ is_none (frame_fault (kind_number (kind_of kind)) all) (law.no_fault view l.extent l.page (end_in x l - l.page) (kind_of kind) payload
+      (omega (arith, at.0, above)) (omega (arith, above, low)) at.1)
     where
       is_none : (o : Option FormatFault) → option_map refusal_of o ≡ None → o ≡ None
       is_none None h = refl
       is_none (Some f) h = absurd (cc h)
 
-  pub one_frame : (a b : List ℕ) → IsFrameAt (shape x) view (kind_of kind) l a → IsFrameAt (shape x) view (kind_of kind) l b → a ≡ b
+  pub one_frame : (a b : List ℕ) → IsFrameIn x view (kind_of kind) l a → IsFrameIn x view (kind_of kind) l b → a ≡ b
   one_frame a b at bt =
       let law = is_format x.format (length x.written) x.pages x.sections whole.geometry in
-      law.one_payload view l.extent l.page (kind_of kind) a b (omega (arith, at.0)) (omega (arith, bt.0)) at.1 bt.1
+      law.one_payload view l.extent l.page (kind_of kind) a b (omega (arith, at.0, low)) (omega (arith, bt.0, low)) at.1 bt.1
 
   -- what is there is read
-  pub reads_it : {V : Type 0} (items : V → List ℕ) (result : Result V Refusal) (payload : List ℕ) → AnswersFault (fault_at (shape x) view kind l) result → IfOk result (λ v. IsFrameAt (shape x) view (kind_of kind) l (items v)) → IsFrameAt (shape x) view (kind_of kind) l payload
+  pub reads_it : {V : Type 0} (items : V → List ℕ) (result : Result V Refusal) (payload : List ℕ) → AnswersFault (fault_in x view kind l) result → IfOk result (λ v. IsFrameIn x view (kind_of kind) l (items v)) → IsFrameIn x view (kind_of kind) l payload
       → MatchResult result (λ v. items v ≡ payload) IsNoAnswer
   reads_it items (Ok v) payload answer at there = one_frame (items v) payload at there
   reads_it items (Err r) payload answer at there = ⊎_elim
       (λ (n : IsNoAnswer r). n)
-      (λ (f : IsOfFault (fault_at (shape x) view kind l) r). let none = no_fault_there payload there in absurd (cc (none, f.1)))
+      (λ (f : IsOfFault (fault_in x view kind l) r). let none = no_fault_there payload there in absurd (cc (none, f.1)))
       answer

@@ -4,8 +4,8 @@ use Rattle.std.specs.Simd.{first_chunks}
 use Rattle.std.proofs.lemmas.List.{take_more}
 use Rattle.std.proofs.lemmas.List.Sums.{sum_by-append, sum_by-cons}
 use Rattle.std.proofs.lemmas.Option.{same_Some}
-use Rattle.cs_chunk.specs.Chunks.{AreChunksAt, IsFrameAt, kind_of}
-use Rattle.cs_chunk.specs.Lengths.{AreHeadersAt, IsHeaderRefusal, IsOfHeader, header_fault_at, length_at, lengths_at}
+use Rattle.cs_chunk.specs.Chunks.{AreChunksIn, IsFrameIn, end_in, kind_of}
+use Rattle.cs_chunk.specs.Lengths.{AreHeadersIn, IsHeaderRefusal, IsOfHeaderIn, header_fault_in, length_at, lengths_at}
 use Rattle.cs_chunk.specs.Newest.{AreNewest, IsReadAs}
 use Rattle.cs_chunk.specs.Reads.{AnswersFault, IsCaused, IsNoAnswer, IsOfFault, refusal_for}
 use Rattle.cs_chunk.proofs.Chunkings.{length-spelled}
@@ -16,7 +16,7 @@ use Rattle.cs_deps.specs.declared.refusals.Refusal.{Refusal}
 use Rattle.cs_deps.specs.declared.refusals.Refusal.TheVariants.{DeviceFault}
 use Rattle.cs_deps.specs.State.{State as Graph}
 use Rattle.cs_disk.specs.Disk.{Image}
-use Rattle.cs_extent.specs.State.{IsWhole, State, shape}
+use Rattle.cs_extent.specs.State.{IsWhole, State, extents_of, shape}
 use Rattle.cs_frame.specs.declared.faults.FormatFault.{FormatFault}
 use Rattle.cs_frame.specs.declared.faults.FormatFault.TheVariants as fault
 use Rattle.cs_frame.specs.declared.faults.FormatFault.TheVariants.{BadLength, BadMagic, BadVersion}
@@ -30,6 +30,7 @@ use Rattle.cs_frame.specs.Frames.{first_page, frame_bytes, header_fault, kind_by
 use Rattle.cs_frame.specs.Pages.{version_test}
 use Rattle.cs_frame.proofs.Fields.{number_at}
 use Rattle.cs_frame.proofs.GeometryLaws.{bounds}
+use Rattle.cs_model.proofs.Filled.{reach_low}
 use Rattle.cs_model.specs.Index.{joined}
 
 -- ---- the refusals of a header
@@ -88,34 +89,37 @@ both a b c d first second = omega (arith, first, second)
 
 -- the headers at the first k places were read, and say so many bytes
 abbrev pub AreTold : State → (view : ℕ → List ℕ) → List Locator → ℕ → ℕ → Type 0
-AreTold x view ls k total = AreHeadersAt (shape x) view (take k ls) × (total ≡ lengths_at (shape x) view (take k ls))
+AreTold x view ls k total = AreHeadersIn x view (take k ls) × (total ≡ lengths_at (shape x) view (take k ls))
 
 module _ (x : State) (whole : IsWhole x) (view : ℕ → List ℕ) where
   module _ (kind : FrameKind) (l : Locator) where
-    module _ (payload : List ℕ) (at : IsFrameAt (shape x) view (kind_of kind) l payload) where
+    module _ (payload : List ℕ) (at : IsFrameIn x view (kind_of kind) l payload) where
       abbrev pages : List (List ℕ)
       pages = spelled_frame (kind_number (kind_of kind)) payload
 
       size : length pages ≡ page_count (length payload)
       size = length-spelled (kind_number (kind_of kind)) payload
 
+      low : end_in x l ≤ x.pages
+      low = reach_low (shape x) ((extents_of x).found l.extent) l.page (whole.found_pages l.extent)
+
       -- where a frame is, its header tells the payload's length
       pub length_there : length_at (shape x) view l ≡ length payload
       length_there =
           let first : l.page ≡ l.page + 0 = omega arith in
-          let small : length payload < 2 ^ 32 = omega (arith, at.0, size, (bounds _ _ _ _ whole.geometry).most_pages) in
+          let small : length payload < 2 ^ 32 = omega (arith, at.0, low, size, (bounds _ _ _ _ whole.geometry).most_pages) in
           ap (λ q. payload_length (view ((shape x).address l.extent q))) first
           ∙ ap payload_length (of_stand (shape x) (formats_of (shape x)) view l.extent l.page pages at.1 0 (omega (arith, size)))
           ∙ length_spelled (kind_number (kind_of kind)) payload small
 
       -- and has no fault
-      pub header_there : header_fault_at (shape x) view kind l ≡ None
-      header_there = go (header_fault_at (shape x) view kind l) refl
+      pub header_there : header_fault_in x view kind l ≡ None
+      header_there = go (header_fault_in x view kind l) refl
         where
           inside : l.page < x.pages
-          inside = omega (arith, at.0, size)
+          inside = omega (arith, at.0, low, size)
 
-          go : (found : Option FormatFault) → header_fault_at (shape x) view kind l ≡ found → found ≡ None
+          go : (found : Option FormatFault) → header_fault_in x view kind l ≡ found → found ≡ None
           go None is = refl
           go (Some f) is =
               let none = no_fault_there x whole view kind l inside payload at in
@@ -123,12 +127,12 @@ module _ (x : State) (whole : IsWhole x) (view : ℕ → List ℕ) where
               absurd (cc (none, some))
 
     -- what is there is told
-    pub tells_it : (result : Result ℕ Refusal) (payload : List ℕ) → AnswersFault (header_fault_at (shape x) view kind l) result → IfOk result (λ n. n ≡ length_at (shape x) view l)
-        → IsFrameAt (shape x) view (kind_of kind) l payload → MatchResult result (λ n. n ≡ length payload) IsNoAnswer
+    pub tells_it : (result : Result ℕ Refusal) (payload : List ℕ) → AnswersFault (header_fault_in x view kind l) result → IfOk result (λ n. n ≡ length_at (shape x) view l)
+        → IsFrameIn x view (kind_of kind) l payload → MatchResult result (λ n. n ≡ length payload) IsNoAnswer
     tells_it (Ok n) payload answer told at = told ∙ length_there payload at
     tells_it (Err r) payload answer told at = ⊎_elim
         (λ (n : IsNoAnswer r). n)
-        (λ (f : IsOfFault (header_fault_at (shape x) view kind l) r). let none = header_there payload at in absurd (cc (none, f.1)))
+        (λ (f : IsOfFault (header_fault_in x view kind l) r). let none = header_there payload at in absurd (cc (none, f.1)))
         answer
 
     module _ (g : Graph) (image : Image) (are : AreNewest g image view) (number : ℕ) (is : number ≡ (shape x).address l.extent l.page) (first : List ℕ) (read : IsReadAs g image number first) where
@@ -139,39 +143,39 @@ module _ (x : State) (whole : IsWhole x) (view : ℕ → List ℕ) where
       pub told_there : (n : ℕ) → n ≡ payload_length first → n ≡ length_at (shape x) view l
       told_there n told = told ∙ ap payload_length first_there
 
-      pub fault_there : (there : ℕ) → there ≡ x.pages - l.page → header_fault_at (shape x) view kind l ≡ header_fault (kind_byte kind) first there
-      fault_there there same = ap (λ b. header_fault (kind_byte kind) b (x.pages - l.page)) (sym first_there) ∙ ap (λ n. header_fault (kind_byte kind) first n) (sym same)
+      pub fault_there : (there : ℕ) → there ≡ end_in x l - l.page → header_fault_in x view kind l ≡ header_fault (kind_byte kind) first there
+      fault_there there same = ap (λ b. header_fault (kind_byte kind) b (end_in x l - l.page)) (sym first_there) ∙ ap (λ n. header_fault (kind_byte kind) first n) (sym same)
 
   -- ---- of a shard
 
-  headers_more : (ls : List Locator) (l : Locator) → AreHeadersAt (shape x) view ls → header_fault_at (shape x) view Chunk l ≡ None → AreHeadersAt (shape x) view (ls ++ l ∷ [])
+  headers_more : (ls : List Locator) (l : Locator) → AreHeadersIn x view ls → header_fault_in x view Chunk l ≡ None → AreHeadersIn x view (ls ++ l ∷ [])
   headers_more [] l are is = (is, tt)
   headers_more (k ∷ ls) l are is = (are.0, headers_more ls l are.1 is)
 
   lengths_more : (ls : List Locator) (l : Locator) → lengths_at (shape x) view (ls ++ l ∷ []) ≡ lengths_at (shape x) view ls + length_at (shape x) view l
   lengths_more ls l = sum_by-append (length_at (shape x) view) ls (l ∷ []) ∙ ap (λ n. lengths_at (shape x) view ls + n) (sum_by-cons (length_at (shape x) view) l [] ∙ add_zero (length_at (shape x) view l))
 
-  pub told_more : (ls : List Locator) (k : ℕ) (l : Locator) (total n new : ℕ) → k < length ls → l ≡ get_or ls k l → AreTold x view ls k total → header_fault_at (shape x) view Chunk l ≡ None
+  pub told_more : (ls : List Locator) (k : ℕ) (l : Locator) (total n new : ℕ) → k < length ls → l ≡ get_or ls k l → AreTold x view ls k total → header_fault_in x view Chunk l ≡ None
       → n ≡ length_at (shape x) view l → new ≡ total + n → AreTold x view ls (k + 1) new
   told_more ls k l total n new lt at was is told added =
       let longer : take (k + 1) ls ≡ take k ls ++ l ∷ [] = take_more ls k l lt ∙ ap (λ (m : Locator). take k ls ++ m ∷ []) (sym at) in (
-        subst (AreHeadersAt (shape x) view) (sym longer) (headers_more (take k ls) l was.0 is),
+        subst (AreHeadersIn x view) (sym longer) (headers_more (take k ls) l was.0 is),
         (let count : total + n ≡ lengths_at (shape x) view (take k ls ++ l ∷ []) = omega (arith, was.1, told, lengths_more (take k ls) l) in
             added ∙ count ∙ ap (lengths_at (shape x) view) (sym longer)),
       )
 
-  pub all_told : (ls : List Locator) (k total : ℕ) → length ls ≤ k → AreTold x view ls k total → AreHeadersAt (shape x) view ls × (total ≡ lengths_at (shape x) view ls)
-  all_told ls k total le was = subst (λ ks. AreHeadersAt (shape x) view ks × (total ≡ lengths_at (shape x) view ks)) (take_all k ls le) was
+  pub all_told : (ls : List Locator) (k total : ℕ) → length ls ≤ k → AreTold x view ls k total → AreHeadersIn x view ls × (total ≡ lengths_at (shape x) view ls)
+  all_told ls k total le was = subst (λ ks. AreHeadersIn x view ks × (total ≡ lengths_at (shape x) view ks)) (take_all k ls le) was
 
   -- the header at a place is refused
   pub header_refused_at : (ls : List Locator) (k : ℕ) (l : Locator) (total : ℕ) (r : Refusal) → k < length ls → l ≡ get_or ls k l → AreTold x view ls k total
-      → IsNoAnswer r ⊎ IsOfFault (header_fault_at (shape x) view Chunk l) r → IsOfHeader (shape x) view ls r
+      → IsNoAnswer r ⊎ IsOfFault (header_fault_in x view Chunk l) r → IsOfHeaderIn x view ls r
   header_refused_at ls k l total r lt at was h = ⊎_elim
       (λ (n : IsNoAnswer r). inl n)
-      (λ (f : IsOfFault (header_fault_at (shape x) view Chunk l) r). inr (k, l, at_place ls k l lt at, was.0, f))
+      (λ (f : IsOfFault (header_fault_in x view Chunk l) r). inr (k, l, at_place ls k l lt at, was.0, f))
       h
 
-  lengths_joined : (ls : List Locator) (cs : List (List ℕ)) → AreChunksAt (shape x) view ls cs → lengths_at (shape x) view ls ≡ length (joined cs)
+  lengths_joined : (ls : List Locator) (cs : List (List ℕ)) → AreChunksIn x view ls cs → lengths_at (shape x) view ls ≡ length (joined cs)
   lengths_joined [] [] are = refl
   lengths_joined (l ∷ ls) (c ∷ cs) are =
       let here : length_at (shape x) view l ≡ length c = length_there Chunk l c are.0 in
@@ -182,11 +186,11 @@ module _ (x : State) (whole : IsWhole x) (view : ℕ → List ℕ) where
 
   -- what is there is told
   pub tells_all : (result : Result ℕ Refusal) (ls : List Locator) (cs : List (List ℕ))
-      → MatchResult result (λ n. AreHeadersAt (shape x) view ls × (n ≡ lengths_at (shape x) view ls)) (IsOfHeader (shape x) view ls) → AreChunksAt (shape x) view ls cs → MatchResult result (λ n. n ≡ length (joined cs)) IsNoAnswer
+      → MatchResult result (λ n. AreHeadersIn x view ls × (n ≡ lengths_at (shape x) view ls)) (IsOfHeaderIn x view ls) → AreChunksIn x view ls cs → MatchResult result (λ n. n ≡ length (joined cs)) IsNoAnswer
   tells_all (Ok n) ls cs was are = was.1 ∙ lengths_joined ls cs are
   tells_all (Err r) ls cs was are = ⊎_elim
       (λ (n : IsNoAnswer r). n)
-      (λ (f : (k : ℕ) × (l : Locator) × (slice_get ls k ≡ Some l) × AreHeadersAt (shape x) view (take k ls) × IsOfFault (header_fault_at (shape x) view Chunk l) r).
+      (λ (f : (k : ℕ) × (l : Locator) × (slice_get ls k ≡ Some l) × AreHeadersIn x view (take k ls) × IsOfFault (header_fault_in x view Chunk l) r).
       let there = chunk_at x whole view ls cs f.0 f.1 f.2 are in
       let none = header_there Chunk f.1 there.0 there.1 in
       absurd (cc (none, f.4.1)))

@@ -1,14 +1,13 @@
 -- The chunks of a shard, read one after another.
 use Rattle.std.proofs.Common.{◌≡◌, ◌∙◌, ℕ, zero, suc, ◌+◌, ◌<◌, ◌≤◌, ◌⊎◌, List, [], ◌∷◌, ◌++◌, length, take, get_or, Some, slice_get, append-nil, append_assoc, refl, sym, ap, subst, inl, inr, ⊎_elim, arith, Result, Ok, Err, MatchResult, take_all}
 use Rattle.std.proofs.lemmas.List.{take_more}
-use Rattle.cs_chunk.specs.Chunks.{AreChunksAt, IsFrameAt}
-use Rattle.cs_chunk.specs.Reads.{IsNoAnswer, IsOfChunk, IsOfFault, fault_at}
+use Rattle.cs_chunk.specs.Chunks.{AreChunksIn, IsFrameIn}
+use Rattle.cs_chunk.specs.Reads.{IsNoAnswer, IsOfChunkIn, IsOfFault, fault_in}
 use Rattle.cs_chunk.proofs.Framed.{no_fault_there, one_frame}
 use Rattle.cs_deps.specs.declared.refusals.Refusal.{Refusal}
-use Rattle.cs_extent.specs.State.{IsWhole, State, shape}
+use Rattle.cs_extent.specs.State.{IsWhole, State}
 use Rattle.cs_frame.specs.declared.frames.FrameKind.TheVariants.{Chunk}
 use Rattle.cs_frame.specs.declared.locators.Locator.{Locator}
-use Rattle.cs_model.specs.Device.{Shape}
 use Rattle.cs_model.specs.Formats.{ChunkFrame}
 use Rattle.cs_model.specs.Index.{joined}
 
@@ -16,25 +15,25 @@ joined_more : (cs : List (List ℕ)) (c : List ℕ) → joined (cs ++ c ∷ []) 
 joined_more [] c = append-nil c
 joined_more (d ∷ cs) c = ap (λ (ys : List ℕ). d ++ ys) (joined_more cs c) ∙ sym (append_assoc d (joined cs) c)
 
-chunks_more : (S : Shape) (view : ℕ → List ℕ) (ls : List Locator) (cs : List (List ℕ)) (l : Locator) (c : List ℕ) → AreChunksAt S view ls cs → IsFrameAt S view ChunkFrame l c → AreChunksAt S view (ls ++ l ∷ []) (cs ++ c ∷ [])
-chunks_more S view [] [] l c are is = (is, tt)
-chunks_more S view (k ∷ ls) (d ∷ cs) l c are is = (are.0, chunks_more S view ls cs l c are.1 is)
-chunks_more S view [] (d ∷ cs) l c are is = absurd are
-chunks_more S view (k ∷ ls) [] l c are is = absurd are
+chunks_more : (x : State) (view : ℕ → List ℕ) (ls : List Locator) (cs : List (List ℕ)) (l : Locator) (c : List ℕ) → AreChunksIn x view ls cs → IsFrameIn x view ChunkFrame l c → AreChunksIn x view (ls ++ l ∷ []) (cs ++ c ∷ [])
+chunks_more x view [] [] l c are is = (is, tt)
+chunks_more x view (k ∷ ls) (d ∷ cs) l c are is = (are.0, chunks_more x view ls cs l c are.1 is)
+chunks_more x view [] (d ∷ cs) l c are is = absurd are
+chunks_more x view (k ∷ ls) [] l c are is = absurd are
 
 -- these bytes were read of the first k places
-abbrev pub IsRead : Shape → (view : ℕ → List ℕ) → List Locator → ℕ → List ℕ → Type 0
-IsRead S view ls k bytes = (cs : List (List ℕ)) × AreChunksAt S view (take k ls) cs × (bytes ≡ joined cs)
+abbrev pub IsRead : State → (view : ℕ → List ℕ) → List Locator → ℕ → List ℕ → Type 0
+IsRead x view ls k bytes = (cs : List (List ℕ)) × AreChunksIn x view (take k ls) cs × (bytes ≡ joined cs)
 
-pub one_more : (S : Shape) (view : ℕ → List ℕ) (ls : List Locator) (k : ℕ) (l : Locator) (bytes new chunk c : List ℕ) → k < length ls → l ≡ get_or ls k l → IsRead S view ls k bytes → IsFrameAt S view ChunkFrame l chunk → c ≡ chunk → new ≡ bytes ++ c → IsRead S view ls (k + 1) new
-one_more S view ls k l bytes new chunk c lt at was is same pushed = (
+pub one_more : (x : State) (view : ℕ → List ℕ) (ls : List Locator) (k : ℕ) (l : Locator) (bytes new chunk c : List ℕ) → k < length ls → l ≡ get_or ls k l → IsRead x view ls k bytes → IsFrameIn x view ChunkFrame l chunk → c ≡ chunk → new ≡ bytes ++ c → IsRead x view ls (k + 1) new
+one_more x view ls k l bytes new chunk c lt at was is same pushed = (
   was.0 ++ chunk ∷ [],
-  subst (λ ks. AreChunksAt S view ks (was.0 ++ chunk ∷ [])) (sym (take_more ls k l lt ∙ ap (λ (m : Locator). take k ls ++ m ∷ []) (sym at))) (chunks_more S view (take k ls) was.0 l chunk was.1 is),
+  subst (λ ks. AreChunksIn x view ks (was.0 ++ chunk ∷ [])) (sym (take_more ls k l lt ∙ ap (λ (m : Locator). take k ls ++ m ∷ []) (sym at))) (chunks_more x view (take k ls) was.0 l chunk was.1 is),
   pushed ∙ ap (λ (ys : List ℕ). bytes ++ ys) same ∙ ap (λ (ys : List ℕ). ys ++ chunk) was.2 ∙ sym (joined_more was.0 chunk),
 )
 
-pub all_read : (S : Shape) (view : ℕ → List ℕ) (ls : List Locator) (k : ℕ) (bytes : List ℕ) → length ls ≤ k → IsRead S view ls k bytes → (cs : List (List ℕ)) × AreChunksAt S view ls cs × (bytes ≡ joined cs)
-all_read S view ls k bytes le was = (was.0, subst (λ ks. AreChunksAt S view ks was.0) (take_all k ls le) was.1, was.2)
+pub all_read : (x : State) (view : ℕ → List ℕ) (ls : List Locator) (k : ℕ) (bytes : List ℕ) → length ls ≤ k → IsRead x view ls k bytes → (cs : List (List ℕ)) × AreChunksIn x view ls cs × (bytes ≡ joined cs)
+all_read x view ls k bytes le was = (was.0, subst (λ ks. AreChunksIn x view ks was.0) (take_all k ls le) was.1, was.2)
 
 pub at_place : (ls : List Locator) (k : ℕ) (l : Locator) → k < length ls → l ≡ get_or ls k l → slice_get ls k ≡ Some l
 at_place [] k l lt at = absurd (omega (arith, lt))
@@ -42,10 +41,10 @@ at_place (m ∷ ls) zero l lt at = ap (λ (n : Locator). Some n) (sym at)
 at_place (m ∷ ls) (suc k) l lt at = at_place ls k l (omega (arith, lt)) at
 
 -- the chunk at a place is refused
-pub refused_at : (S : Shape) (view : ℕ → List ℕ) (ls : List Locator) (k : ℕ) (l : Locator) (bytes : List ℕ) (r : Refusal) → k < length ls → l ≡ get_or ls k l → IsRead S view ls k bytes → IsNoAnswer r ⊎ IsOfFault (fault_at S view Chunk l) r → IsOfChunk S view ls r
-refused_at S view ls k l bytes r lt at was h = ⊎_elim
+pub refused_at : (x : State) (view : ℕ → List ℕ) (ls : List Locator) (k : ℕ) (l : Locator) (bytes : List ℕ) (r : Refusal) → k < length ls → l ≡ get_or ls k l → IsRead x view ls k bytes → IsNoAnswer r ⊎ IsOfFault (fault_in x view Chunk l) r → IsOfChunkIn x view ls r
+refused_at x view ls k l bytes r lt at was h = ⊎_elim
     (λ (n : IsNoAnswer r). inl n)
-    (λ (f : IsOfFault (fault_at S view Chunk l) r). inr (k, l, was.0, at_place ls k l lt at, was.1, f))
+    (λ (f : IsOfFault (fault_in x view Chunk l) r). inr (k, l, was.0, at_place ls k l lt at, was.1, f))
     h
 
 module _ (x : State) (whole : IsWhole x) (view : ℕ → List ℕ) where
@@ -53,7 +52,7 @@ module _ (x : State) (whole : IsWhole x) (view : ℕ → List ℕ) where
   abbrev pub AreInside : List Locator → Type 0
   AreInside ls = (k : ℕ) (l : Locator) → slice_get ls k ≡ Some l → l.page < x.pages
 
-  one_list : (ls : List Locator) (cs ds : List (List ℕ)) → AreInside ls → AreChunksAt (shape x) view ls cs → AreChunksAt (shape x) view ls ds → joined cs ≡ joined ds
+  one_list : (ls : List Locator) (cs ds : List (List ℕ)) → AreInside ls → AreChunksIn x view ls cs → AreChunksIn x view ls ds → joined cs ≡ joined ds
   one_list [] [] [] inside a b = refl
   one_list (l ∷ ls) (c ∷ cs) (d ∷ ds) inside a b =
       ap (λ (ys : List ℕ). ys ++ joined cs) (one_frame x whole view Chunk l (inside 0 l refl) c d a.0 b.0)
@@ -63,19 +62,19 @@ module _ (x : State) (whole : IsWhole x) (view : ℕ → List ℕ) where
   one_list (l ∷ ls) [] ds inside a b = absurd a
   one_list (l ∷ ls) (c ∷ cs) [] inside a b = absurd b
 
-  pub chunk_at : (ls : List Locator) (cs : List (List ℕ)) (k : ℕ) (l : Locator) → slice_get ls k ≡ Some l → AreChunksAt (shape x) view ls cs → (c : List ℕ) × IsFrameAt (shape x) view ChunkFrame l c
+  pub chunk_at : (ls : List Locator) (cs : List (List ℕ)) (k : ℕ) (l : Locator) → slice_get ls k ≡ Some l → AreChunksIn x view ls cs → (c : List ℕ) × IsFrameIn x view ChunkFrame l c
   chunk_at [] cs k l at are = absurd (cc at)
   chunk_at (m ∷ ls) [] k l at are = absurd are
-  chunk_at (m ∷ ls) (c ∷ cs) zero l at are = (c, subst (λ n. IsFrameAt (shape x) view ChunkFrame n c) (let s : m ≡ l = cc at in s) are.0)
+  chunk_at (m ∷ ls) (c ∷ cs) zero l at are = (c, subst (λ n. IsFrameIn x view ChunkFrame n c) (let s : m ≡ l = cc at in s) are.0)
   chunk_at (m ∷ ls) (c ∷ cs) (suc k) l at are = chunk_at ls cs k l at are.1
 
   -- what is there is read
   pub reads_all : {V : Type 0} (items : V → List ℕ) (result : Result V Refusal) (ls : List Locator) (cs : List (List ℕ)) → AreInside ls
-      → MatchResult result (λ v. (ds : List (List ℕ)) × AreChunksAt (shape x) view ls ds × (items v ≡ joined ds)) (IsOfChunk (shape x) view ls) → AreChunksAt (shape x) view ls cs → MatchResult result (λ v. items v ≡ joined cs) IsNoAnswer
+      → MatchResult result (λ v. (ds : List (List ℕ)) × AreChunksIn x view ls ds × (items v ≡ joined ds)) (IsOfChunkIn x view ls) → AreChunksIn x view ls cs → MatchResult result (λ v. items v ≡ joined cs) IsNoAnswer
   reads_all items (Ok v) ls cs inside was are = was.2 ∙ one_list ls was.0 cs inside was.1 are
   reads_all items (Err r) ls cs inside was are = ⊎_elim
       (λ (n : IsNoAnswer r). n)
-      (λ (f : (k : ℕ) × (l : Locator) × (ds : List (List ℕ)) × (slice_get ls k ≡ Some l) × AreChunksAt (shape x) view (take k ls) ds × IsOfFault (fault_at (shape x) view Chunk l) r).
+      (λ (f : (k : ℕ) × (l : Locator) × (ds : List (List ℕ)) × (slice_get ls k ≡ Some l) × AreChunksIn x view (take k ls) ds × IsOfFault (fault_in x view Chunk l) r).
       let there = chunk_at ls cs f.0 f.1 f.3 are in
       let none = no_fault_there x whole view Chunk f.1 (inside f.0 f.1 f.3) there.0 there.1 in
       absurd (cc (none, f.5.1)))

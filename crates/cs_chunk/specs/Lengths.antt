@@ -1,9 +1,11 @@
 -- The lengths of payloads, as the first pages of their frames say them.
 use Rattle.std.specs.Prelude.{◌≡◌, ◌⊎◌, ◌-◌, ℕ, List, Option, Some, None, slice_get, take}
 use Rattle.std.specs.List.{AllByRecursion, sum_by}
+use Rattle.cs_chunk.specs.Chunks.{end_in}
 use Rattle.cs_chunk.specs.Reads.{IsNoAnswer, IsOfFault}
 use Rattle.cs_deps.specs.declared.refusals.Refusal.{Refusal}
 use Rattle.cs_deps.specs.declared.refusals.Refusal.TheVariants.{BadLength, BadMagic, BadVersion}
+use Rattle.cs_extent.specs.State.{State, shape}
 use Rattle.cs_frame.specs.declared.faults.FormatFault.{FormatFault}
 use Rattle.cs_frame.specs.declared.frames.FrameKind.{FrameKind}
 use Rattle.cs_frame.specs.declared.frames.FrameKind.TheVariants.{Chunk}
@@ -14,6 +16,10 @@ use Rattle.cs_model.specs.Device.{Shape}
 -- the first test that fails of the header at a place
 abbrev pub header_fault_at : Shape → (view : ℕ → List ℕ) → FrameKind → Locator → Option FormatFault
 header_fault_at S view kind l = header_fault (kind_byte kind) (view (S.address l.extent l.page)) (S.pages - l.page)
+
+-- so in these extents
+abbrev pub header_fault_in : State → (view : ℕ → List ℕ) → FrameKind → Locator → Option FormatFault
+header_fault_in x view kind l = header_fault (kind_byte kind) (view ((shape x).address l.extent l.page)) (end_in x l - l.page)
 
 -- the length of a payload that the header at a place says
 abbrev pub length_at : Shape → (view : ℕ → List ℕ) → Locator → ℕ
@@ -27,6 +33,9 @@ IsHeaderRefusal r = IsNoAnswer r ⊎ (r ≡ BadMagic) ⊎ (r ≡ BadVersion) ⊎
 abbrev pub AreHeadersAt : Shape → (view : ℕ → List ℕ) → List Locator → Type 0
 AreHeadersAt S view ls = AllByRecursion (λ l. header_fault_at S view Chunk l ≡ None) ls
 
+abbrev pub AreHeadersIn : State → (view : ℕ → List ℕ) → List Locator → Type 0
+AreHeadersIn x view ls = AllByRecursion (λ l. header_fault_in x view Chunk l ≡ None) ls
+
 -- the lengths that the headers at these places say, together
 abbrev pub lengths_at : Shape → (view : ℕ → List ℕ) → List Locator → ℕ
 lengths_at S view ls = sum_by (length_at S view) ls
@@ -35,3 +44,8 @@ lengths_at S view ls = sum_by (length_at S view) ls
 abbrev pub IsOfHeader : Shape → (view : ℕ → List ℕ) → List Locator → Refusal → Type 0
 IsOfHeader S view ls r = IsNoAnswer r
     ⊎ ((k : ℕ) × (l : Locator) × (slice_get ls k ≡ Some l) × AreHeadersAt S view (take k ls) × IsOfFault (header_fault_at S view Chunk l) r)
+
+-- so in these extents
+abbrev pub IsOfHeaderIn : State → (view : ℕ → List ℕ) → List Locator → Refusal → Type 0
+IsOfHeaderIn x view ls r = IsNoAnswer r
+    ⊎ ((k : ℕ) × (l : Locator) × (slice_get ls k ≡ Some l) × AreHeadersIn x view (take k ls) × IsOfFault (header_fault_in x view Chunk l) r)

@@ -1,6 +1,6 @@
 -- Reads of frames: what they leave of the disk, and how they are refused.
 use Rattle.std.specs.Prelude.{◌≡◌, ◌⊎◌, ◌+◌, ◌-◌, ◌<◌, ◌≤◌, ◌↔◌, ℕ, List, [], Option, Some, None, Result, MatchResult, IsErrOf, length, slice_get, slice_index_or, take}
-use Rattle.cs_chunk.specs.Chunks.{AreChunksAt}
+use Rattle.cs_chunk.specs.Chunks.{AreChunksAt, AreChunksIn, end_in}
 use Rattle.cs_chunk.specs.Newest.{IsReadAs}
 use Rattle.cs_deps.specs.declared.refusals.Refusal.{Refusal}
 use Rattle.cs_deps.specs.declared.refusals.Refusal.TheVariants as refusal
@@ -8,6 +8,7 @@ use Rattle.cs_deps.specs.Refusals.{number_of}
 use Rattle.cs_deps.specs.State.{State as Graph}
 use Rattle.cs_disk.specs.declared.disk.PageDisk.{Ghosts as PageDisk}
 use Rattle.cs_disk.specs.Disk.{GoesOn, Image, Rises}
+use Rattle.cs_extent.specs.State.{State, shape}
 use Rattle.cs_frame.specs.declared.faults.FormatFault.{FormatFault}
 use Rattle.cs_frame.specs.declared.faults.FormatFault.TheVariants as fault
 use Rattle.cs_frame.specs.declared.frames.FrameKind.{FrameKind}
@@ -53,6 +54,14 @@ pages_at S view l = pages_from S (formats_of S) view l.extent l.page (S.pages - 
 abbrev pub fault_at : Shape → (view : ℕ → List ℕ) → FrameKind → Locator → Option FormatFault
 fault_at S view kind l = frame_fault (kind_byte kind) (pages_at S view l)
 
+-- what lies from a place on, as far as its frame may reach in these extents
+abbrev pub pages_in : State → (view : ℕ → List ℕ) → Locator → List (List ℕ)
+pages_in x view l = pages_from (shape x) (formats_of (shape x)) view l.extent l.page (end_in x l - l.page)
+
+-- the first test that fails of the frame there
+abbrev pub fault_in : State → (view : ℕ → List ℕ) → FrameKind → Locator → Option FormatFault
+fault_in x view kind l = frame_fault (kind_byte kind) (pages_in x view l)
+
 -- the pages are those of the frame that the first of all pages begins, as many as its header counts
 pub record IsFrameFront (all pages : List (List ℕ)) : Type 0 where
   pub enough : frame_count all ≤ length all
@@ -82,3 +91,8 @@ pub record OnlyReads {D : Type 0} (disks : PageDisk D) (old new : D) : Type 0 wh
 abbrev pub IsOfChunk : Shape → (view : ℕ → List ℕ) → List Locator → Refusal → Type 0
 IsOfChunk S view ls r = IsNoAnswer r
     ⊎ ((k : ℕ) × (l : Locator) × (cs : List (List ℕ)) × (slice_get ls k ≡ Some l) × AreChunksAt S view (take k ls) cs × IsOfFault (fault_at S view Chunk l) r)
+
+-- so in these extents
+abbrev pub IsOfChunkIn : State → (view : ℕ → List ℕ) → List Locator → Refusal → Type 0
+IsOfChunkIn x view ls r = IsNoAnswer r
+    ⊎ ((k : ℕ) × (l : Locator) × (cs : List (List ℕ)) × (slice_get ls k ≡ Some l) × AreChunksIn x view (take k ls) cs × IsOfFault (fault_in x view Chunk l) r)

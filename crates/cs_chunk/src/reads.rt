@@ -1,9 +1,9 @@
 //! Reads of frames.
 ghost use Rattle.std.specs.Prelude.{◌≡◌, ◌⊎◌, ◌+◌, ◌*◌, ◌-◌, ◌^◌, ◌<◌, ◌≤◌, ℕ, List, IfErr, IfOk, IsOk, MatchResult, OnOk, length};
-ghost use Rattle.cs_chunk.specs.Chunks.{IsFrameAt, kind_of};
-ghost use Rattle.cs_chunk.specs.Lengths.{IsHeaderRefusal, header_fault_at, length_at};
+ghost use Rattle.cs_chunk.specs.Chunks.{IsFrameIn, end_in, kind_of};
+ghost use Rattle.cs_chunk.specs.Lengths.{IsHeaderRefusal, header_fault_in, length_at};
 ghost use Rattle.cs_chunk.specs.Newest.{AreNewest, IsReadAs};
-ghost use Rattle.cs_chunk.specs.Reads.{AnswersFault, AreReadAs, IsCaused, IsFrameFront, IsNoAnswer, IsOfFault, IsReadRefusal, OnlyReads, fault_at, pages_at};
+ghost use Rattle.cs_chunk.specs.Reads.{AnswersFault, AreReadAs, IsCaused, IsFrameFront, IsNoAnswer, IsOfFault, IsReadRefusal, OnlyReads, fault_in, pages_in};
 ghost use Rattle.cs_deps.specs.Refusals.{number_of};
 ghost use Rattle.cs_deps.specs.State.{NoneOn};
 ghost use Rattle.cs_disk.specs.Disk.{seen};
@@ -87,6 +87,17 @@ fn page_number(extents: &Extents, locator: Locator) -> u64
     extents.geometry().device_page(locator.extent, locator.page)
 }
 
+/// How far a frame may reach that begins at a place.
+fn end_of(extents: &Extents, locator: Locator) -> usize
+    requires extent { locator.extent < (shape extents.now).extents }
+    requires page { locator.page < (shape extents.now).pages }
+    ensures end { result ≡ end_in extents.now locator }
+    ensures fits { result ≤ (shape extents.now).pages }
+    ensures above { locator.page < result }
+{
+    extents.end_of(usize::from(locator.extent), usize::from(locator.page))
+}
+
 /// The frame in these pages.
 fn framed(kind: FrameKind, pages: Vec<[u8; 4096]>) -> Result<ReadFrame, Refusal>
     requires { 0 < length pages.items }
@@ -125,9 +136,9 @@ fn read_frame_pages<D: PageDisk>(
     requires page { locator.page < (shape extents.now).pages }
     requires device { 2 + (shape extents.now).extents * (shape extents.now).pages ≤ D.page_count disk.old }
     ensures pages { D.honest disk.old → (view : ℕ → List ℕ) → AreNewest graph.now (seen (D.state disk.old)) view
-        → IfOk result (λ pages. IsFrameFront (pages_at (shape extents.now) view locator) pages.items) }
+        → IfOk result (λ pages. IsFrameFront (pages_in extents.now view locator) pages.items) }
     ensures fault { D.honest disk.old → (view : ℕ → List ℕ) → AreNewest graph.now (seen (D.state disk.old)) view
-        → IfErr result (λ r. IsNoAnswer r ⊎ IsOfFault (fault_at (shape extents.now) view kind locator) r) }
+        → IfErr result (λ r. IsNoAnswer r ⊎ IsOfFault (fault_in extents.now view kind locator) r) }
     ensures some { IfOk result (λ pages. 0 < length pages.items) }
     ensures fits { IfOk result (λ pages. locator.page + length pages.items ≤ (shape extents.now).pages) }
     ensures refusals { IfErr result IsReadRefusal }
@@ -136,7 +147,7 @@ fn read_frame_pages<D: PageDisk>(
     ensures cause { IsCaused (D.failure_count disk.old) (D.failure_count disk.new) result }
 {
     let number = page_number(extents, locator);
-    let there = extents.extent_pages() - usize::from(locator.page);
+    let there = end_of(extents, locator) - usize::from(locator.page);
     let mut first = [0; 4096];
     match read_page(graph, disk, number, &mut first) {
         Ok(()) => {}
@@ -168,13 +179,13 @@ pub fn frame_at<D: PageDisk>(
 
     // What is read is the payload of a frame there.
     ensures payload { D.honest disk.old → (view : ℕ → List ℕ) → AreNewest graph.now (seen (D.state disk.old)) view
-        → IfOk result (λ payload. IsFrameAt (shape extents.now) view (kind_of kind) locator payload) }
+        → IfOk result (λ payload. IsFrameIn extents.now view (kind_of kind) locator payload) }
     // Where there is a frame its payload is read, unless the device or memory refuses.
     ensures read { D.honest disk.old → (view : ℕ → List ℕ) (payload : List ℕ) → AreNewest graph.now (seen (D.state disk.old)) view
-        → IsFrameAt (shape extents.now) view (kind_of kind) locator payload → MatchResult result (λ found. found ≡ payload) IsNoAnswer }
+        → IsFrameIn extents.now view (kind_of kind) locator payload → MatchResult result (λ found. found ≡ payload) IsNoAnswer }
     // Each other refusal is that of the first test that fails.
     ensures fault { D.honest disk.old → (view : ℕ → List ℕ) → AreNewest graph.now (seen (D.state disk.old)) view
-        → AnswersFault (fault_at (shape extents.now) view kind locator) result }
+        → AnswersFault (fault_in extents.now view kind locator) result }
     ensures refusals { IfErr result IsReadRefusal }
     // Whatever the disk answers, the frame of what is read lies in the extent.
     ensures size { IfOk result (λ payload. locator.page + length ((formats_of (shape extents.now)).frame (kind_of kind) payload) ≤ (shape extents.now).pages) }
@@ -206,13 +217,13 @@ pub fn read_frame<D: PageDisk>(
 
     // What is read is the payload of a frame there.
     ensures payload { D.honest disk.old → (view : ℕ → List ℕ) → AreNewest graph.now (seen (D.state disk.old)) view
-        → IfOk result (λ payload. IsFrameAt (shape extents.now) view (kind_of kind) locator payload.items) }
+        → IfOk result (λ payload. IsFrameIn extents.now view (kind_of kind) locator payload.items) }
     // Where there is a frame its payload is read, unless the device or memory refuses.
     ensures read { D.honest disk.old → (view : ℕ → List ℕ) (payload : List ℕ) → AreNewest graph.now (seen (D.state disk.old)) view
-        → IsFrameAt (shape extents.now) view (kind_of kind) locator payload → MatchResult result (λ found. found.items ≡ payload) IsNoAnswer }
+        → IsFrameIn extents.now view (kind_of kind) locator payload → MatchResult result (λ found. found.items ≡ payload) IsNoAnswer }
     // Each other refusal is that of the first test that fails.
     ensures fault { D.honest disk.old → (view : ℕ → List ℕ) → AreNewest graph.now (seen (D.state disk.old)) view
-        → AnswersFault (fault_at (shape extents.now) view kind locator) result }
+        → AnswersFault (fault_in extents.now view kind locator) result }
     ensures refusals { IfErr result IsReadRefusal }
     // Whatever the disk answers, the frame of what is read lies in the extent.
     ensures size { IfOk result (λ payload. locator.page + length ((formats_of (shape extents.now)).frame (kind_of kind) payload.items) ≤ (shape extents.now).pages) }
@@ -249,13 +260,13 @@ pub fn read_length<D: PageDisk>(
         → IfOk result (λ count. count ≡ length_at (shape extents.now) view locator) }
     // Where there is a frame its payload's length is told, unless the device or memory refuses.
     ensures read { D.honest disk.old → (view : ℕ → List ℕ) (payload : List ℕ) → AreNewest graph.now (seen (D.state disk.old)) view
-        → IsFrameAt (shape extents.now) view (kind_of kind) locator payload → MatchResult result (λ count. count ≡ length payload) IsNoAnswer }
+        → IsFrameIn extents.now view (kind_of kind) locator payload → MatchResult result (λ count. count ≡ length payload) IsNoAnswer }
     // Each other refusal is that of the first of the header's tests that fails.
     ensures header { D.honest disk.old → (view : ℕ → List ℕ) → AreNewest graph.now (seen (D.state disk.old)) view
-        → AnswersFault (header_fault_at (shape extents.now) view kind locator) result }
+        → AnswersFault (header_fault_in extents.now view kind locator) result }
     // So it is that of the frame's first test that fails.
     ensures fault { D.honest disk.old → (view : ℕ → List ℕ) → AreNewest graph.now (seen (D.state disk.old)) view
-        → IfErr result (λ r. IsNoAnswer r ⊎ IsOfFault (fault_at (shape extents.now) view kind locator) r) }
+        → IfErr result (λ r. IsNoAnswer r ⊎ IsOfFault (fault_in extents.now view kind locator) r) }
     ensures refusals { IfErr result IsHeaderRefusal }
     // Whatever the disk answers, a frame of so many bytes lies in the extent.
     ensures size { IfOk result (λ count. locator.page + page_count count ≤ (shape extents.now).pages) }
@@ -264,7 +275,7 @@ pub fn read_length<D: PageDisk>(
     ensures cause { IsCaused (D.failure_count disk.old) (D.failure_count disk.new) result }
 {
     let number = page_number(extents, locator);
-    let there = extents.extent_pages() - usize::from(locator.page);
+    let there = end_of(extents, locator) - usize::from(locator.page);
     let mut first = [0; 4096];
     match read_page(graph, disk, number, &mut first) {
         Ok(()) => {}

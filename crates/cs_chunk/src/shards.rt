@@ -1,9 +1,9 @@
 //! Reads of shards.
 ghost use Rattle.std.specs.Prelude.{All, ◌≡◌, ◌+◌, ◌*◌, ◌<◌, ◌≤◌, ℕ, List, IfErr, IfOk, MatchResult, length};
-ghost use Rattle.cs_chunk.specs.Chunks.{AreChunksAt};
-ghost use Rattle.cs_chunk.specs.Lengths.{AreHeadersAt, IsHeaderRefusal, IsOfHeader, lengths_at};
+ghost use Rattle.cs_chunk.specs.Chunks.{AreChunksIn};
+ghost use Rattle.cs_chunk.specs.Lengths.{AreHeadersIn, IsHeaderRefusal, IsOfHeaderIn, lengths_at};
 ghost use Rattle.cs_chunk.specs.Newest.{AreNewest};
-ghost use Rattle.cs_chunk.specs.Reads.{IsCaused, IsNoAnswer, IsOfChunk, IsReadRefusal, OnlyReads};
+ghost use Rattle.cs_chunk.specs.Reads.{IsCaused, IsNoAnswer, IsOfChunkIn, IsReadRefusal, OnlyReads};
 ghost use Rattle.cs_disk.specs.Disk.{seen};
 ghost use Rattle.cs_extent.specs.State.{shape};
 ghost use Rattle.cs_model.specs.Index.{joined};
@@ -31,13 +31,13 @@ pub fn read_chunks<D: PageDisk>(
 
     // What is read is the bytes of chunks there.
     ensures bytes { D.honest disk.old → (view : ℕ → List ℕ) → AreNewest graph.now (seen (D.state disk.old)) view
-        → IfOk result (λ bytes. (cs : List (List ℕ)) × AreChunksAt (shape extents.now) view locators.now cs × (bytes.items ≡ joined cs)) }
+        → IfOk result (λ bytes. (cs : List (List ℕ)) × AreChunksIn extents.now view locators.now cs × (bytes.items ≡ joined cs)) }
     // Where there are chunks their bytes are read, unless the device or memory refuses.
     ensures read { D.honest disk.old → (view : ℕ → List ℕ) (cs : List (List ℕ)) → AreNewest graph.now (seen (D.state disk.old)) view
-        → AreChunksAt (shape extents.now) view locators.now cs → MatchResult result (λ bytes. bytes.items ≡ joined cs) IsNoAnswer }
+        → AreChunksIn extents.now view locators.now cs → MatchResult result (λ bytes. bytes.items ≡ joined cs) IsNoAnswer }
     // Each other refusal is that of the first place that has no chunk.
     ensures fault { D.honest disk.old → (view : ℕ → List ℕ) → AreNewest graph.now (seen (D.state disk.old)) view
-        → IfErr result (IsOfChunk (shape extents.now) view locators.now) }
+        → IfErr result (IsOfChunkIn extents.now view locators.now) }
     ensures refusals { IfErr result IsReadRefusal }
 
     ensures disk { OnlyReads D.PageDisk disk.old disk.new }
@@ -72,13 +72,13 @@ pub fn read_lengths<D: PageDisk>(
 
     // What is told is what the headers say together.
     ensures told { D.honest disk.old → (view : ℕ → List ℕ) → AreNewest graph.now (seen (D.state disk.old)) view
-        → IfOk result (λ count. AreHeadersAt (shape extents.now) view locators.now × (count ≡ lengths_at (shape extents.now) view locators.now)) }
+        → IfOk result (λ count. AreHeadersIn extents.now view locators.now × (count ≡ lengths_at (shape extents.now) view locators.now)) }
     // Where there are chunks the length of their bytes is told, unless the device or memory refuses.
     ensures read { D.honest disk.old → (view : ℕ → List ℕ) (cs : List (List ℕ)) → AreNewest graph.now (seen (D.state disk.old)) view
-        → AreChunksAt (shape extents.now) view locators.now cs → MatchResult result (λ count. count ≡ length (joined cs)) IsNoAnswer }
+        → AreChunksIn extents.now view locators.now cs → MatchResult result (λ count. count ≡ length (joined cs)) IsNoAnswer }
     // Each other refusal is that of the first place that has no chunk's header.
     ensures header { D.honest disk.old → (view : ℕ → List ℕ) → AreNewest graph.now (seen (D.state disk.old)) view
-        → IfErr result (IsOfHeader (shape extents.now) view locators.now) }
+        → IfErr result (IsOfHeaderIn extents.now view locators.now) }
     ensures refusals { IfErr result IsHeaderRefusal }
 
     ensures disk { OnlyReads D.PageDisk disk.old disk.new }

@@ -1,6 +1,6 @@
 use Rattle.std.proofs.Common.{◌+◌, ◌≤◌, List, ℕ, length}
-use Rattle.cs_chunk.specs.Chunks.{IsFrameAt, kind_of}
-use Rattle.cs_chunk.specs.Reads.{fault_at}
+use Rattle.cs_chunk.specs.Chunks.{IsFrameIn, kind_of}
+use Rattle.cs_chunk.specs.Reads.{fault_in}
 use Rattle.cs_extent.specs.State.{shape}
 use Rattle.cs_frame.specs.Formats.{formats_of}
 use Rattle.cs_chunk.proofs.Copied.{copied_answers, copied_ok, copied_read, copied_refusal}
@@ -8,7 +8,7 @@ use Rattle.cs_chunk.proofs.reads.read_frame.Goals as goal
 
 pub returns-in-Ok-clause-payload : goal.returns-in-Ok-clause-payload
 returns-in-Ok-clause-payload g c = λ h view are.
-    copied_ok c.in-Ok.frame (λ v. v.items) (λ (payload : List ℕ). IsFrameAt (shape c.args.extents.now) view (kind_of c.args.kind) c.args.locator payload) c.copied.result (c.in-Ok.ensures.payload h view are) c.copied.ensures.same
+    copied_ok c.in-Ok.frame (λ v. v.items) (λ (payload : List ℕ). IsFrameIn c.args.extents.now view (kind_of c.args.kind) c.args.locator payload) c.copied.result (c.in-Ok.ensures.payload h view are) c.copied.ensures.same
 
 pub returns-in-Ok-clause-read : goal.returns-in-Ok-clause-read
 returns-in-Ok-clause-read g c = λ h view payload are there.
@@ -16,7 +16,7 @@ returns-in-Ok-clause-read g c = λ h view payload are there.
 
 pub returns-in-Ok-clause-fault : goal.returns-in-Ok-clause-fault
 returns-in-Ok-clause-fault g c = λ h view are.
-    copied_answers (fault_at (shape c.args.extents.now) view c.args.kind c.args.locator) c.copied.result (c.in-Ok.ensures.fault h view are) c.copied.ensures.memory
+    copied_answers (fault_in c.args.extents.now view c.args.kind c.args.locator) c.copied.result (c.in-Ok.ensures.fault h view are) c.copied.ensures.memory
 
 pub returns-in-Ok-clause-refusals : goal.returns-in-Ok-clause-refusals
 returns-in-Ok-clause-refusals g c = copied_refusal c.copied.result c.copied.ensures.memory

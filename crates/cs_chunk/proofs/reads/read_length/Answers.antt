@@ -11,7 +11,7 @@ returns-in-Ok-decode_frame_header-clause-told g c = λ h view are.
 
 pub returns-in-Ok-decode_frame_header-clause-header : goal.returns-in-Ok-decode_frame_header-clause-header
 returns-in-Ok-decode_frame_header-clause-header g c = λ h view are.
-    fault_there c.args.extents.now c.page_number-number.ensures.whole view c.args.kind c.args.locator c.args.graph.now (seen (g.D.PageDisk.state c.args.disk.now)) are c.page_number-number.result c.page_number-number.ensures.number c.read_page.new.buffer (c.in-Ok.ensures.page h) (c.extent_pages.result - c.from.result) (omega (arith, c.from.ensures, c.extent_pages.ensures))
+    fault_there c.args.extents.now c.page_number-number.ensures.whole view c.args.kind c.args.locator c.args.graph.now (seen (g.D.PageDisk.state c.args.disk.now)) are c.page_number-number.result c.page_number-number.ensures.number c.read_page.new.buffer (c.in-Ok.ensures.page h) (c.end_of.result - c.from.result) (omega (arith, c.from.ensures, c.end_of.ensures.end))
     ∙ sym c.in-Ok-decode_frame_header.ensures.fault
 
 pub returns-in-Ok-decode_frame_header-clause-read : goal.returns-in-Ok-decode_frame_header-clause-read
@@ -22,7 +22,7 @@ returns-in-Ok-decode_frame_header-clause-read g c = λ h view payload are there.
 pub returns-in-Err-decode_frame_header-clause-header : goal.returns-in-Err-decode_frame_header-clause-header
 returns-in-Err-decode_frame_header-clause-header g c = λ h view are. inr (
   c.in-Err-decode_frame_header.fault,
-  fault_there c.args.extents.now c.page_number-number.ensures.whole view c.args.kind c.args.locator c.args.graph.now (seen (g.D.PageDisk.state c.args.disk.now)) are c.page_number-number.result c.page_number-number.ensures.number c.read_page.new.buffer (c.in-Ok.ensures.page h) (c.extent_pages.result - c.from.result) (omega (arith, c.from.ensures, c.extent_pages.ensures))
+  fault_there c.args.extents.now c.page_number-number.ensures.whole view c.args.kind c.args.locator c.args.graph.now (seen (g.D.PageDisk.state c.args.disk.now)) are c.page_number-number.result c.page_number-number.ensures.number c.read_page.new.buffer (c.in-Ok.ensures.page h) (c.end_of.result - c.from.result) (omega (arith, c.from.ensures, c.end_of.ensures.end))
       ∙ sym c.in-Err-decode_frame_header.ensures.fault,
   c.refusal_of_fault.ensures.same,
 )
@@ -31,7 +31,7 @@ pub returns-in-Err-decode_frame_header-clause-fault : goal.returns-in-Err-decode
 returns-in-Err-decode_frame_header-clause-fault g c = λ h view are. inr (
   c.in-Err-decode_frame_header.fault,
   header_at c.args.extents.now c.page_number-number.ensures.whole view c.args.kind c.args.locator c.requires.page c.in-Err-decode_frame_header.fault
-      (fault_there c.args.extents.now c.page_number-number.ensures.whole view c.args.kind c.args.locator c.args.graph.now (seen (g.D.PageDisk.state c.args.disk.now)) are c.page_number-number.result c.page_number-number.ensures.number c.read_page.new.buffer (c.in-Ok.ensures.page h) (c.extent_pages.result - c.from.result) (omega (arith, c.from.ensures, c.extent_pages.ensures))
+      (fault_there c.args.extents.now c.page_number-number.ensures.whole view c.args.kind c.args.locator c.args.graph.now (seen (g.D.PageDisk.state c.args.disk.now)) are c.page_number-number.result c.page_number-number.ensures.number c.read_page.new.buffer (c.in-Ok.ensures.page h) (c.end_of.result - c.from.result) (omega (arith, c.from.ensures, c.end_of.ensures.end))
       ∙ sym c.in-Err-decode_frame_header.ensures.fault),
   c.refusal_of_fault.ensures.same,
 )
@@ -42,7 +42,7 @@ returns-in-Err-decode_frame_header-clause-read g c = λ h view payload are there
     (returns-in-Err-decode_frame_header-clause-header g c h view are) tt there
 
 pub returns-in-Err-decode_frame_header-clause-refusals : goal.returns-in-Err-decode_frame_header-clause-refusals
-returns-in-Err-decode_frame_header-clause-refusals g c = header_is_refused (kind_byte c.args.kind) c.read_page.new.buffer (c.extent_pages.result - c.from.result) c.in-Err-decode_frame_header.fault c.refusal_of_fault.result c.refusal_of_fault.ensures.same c.in-Err-decode_frame_header.ensures.fault
+returns-in-Err-decode_frame_header-clause-refusals g c = header_is_refused (kind_byte c.args.kind) c.read_page.new.buffer (c.end_of.result - c.from.result) c.in-Err-decode_frame_header.fault c.refusal_of_fault.result c.refusal_of_fault.ensures.same c.in-Err-decode_frame_header.ensures.fault
 
 pub returns-in-Err-decode_frame_header-clause-cause : goal.returns-in-Err-decode_frame_header-clause-cause
 returns-in-Err-decode_frame_header-clause-cause g c = header_caused _ _ c.read_page.result c.in-Err-decode_frame_header.fault c.refusal_of_fault.result c.refusal_of_fault.ensures.same c.read_page.ensures.cause

@@ -3,7 +3,6 @@ use Rattle.std.proofs.lemmas.List.{get_or_default}
 use Rattle.std.proofs.lemmas.Option.{slice_get_within, get_or_from_slice_get}
 use Rattle.cs_chunk.specs.Newest.{AreNewest}
 use Rattle.cs_disk.specs.Disk.{State, seen}
-use Rattle.cs_extent.specs.State.{shape}
 use Rattle.cs_frame.specs.declared.locators.Locator.{Locator}
 use Rattle.cs_chunk.proofs.OnlyRead.{reads_on}
 use Rattle.cs_chunk.proofs.Sharded.{AreInside, all_read, one_more, reads_all, refused_at}
@@ -27,7 +26,7 @@ loop-k-preserved g c =
     let r = (goal.at.loop-k-preserved g c).After-read_frame in record {
       disk = reads_on g.D.PageDisk c.args.disk.now c.loop-k.disk c.read_frame.new.disk c.loop-k.invariant.disk c.read_frame.ensures.disk;
       read = λ h view are.
-          one_more (shape c.args.extents.now) view c.args.locators.now c.loop-k.k (at_place c.args.locators.now c.loop-k.k) c.loop-k.bytes.items c.extend_from_slice.new.self.items c.in-Ok.chunk.items c.deref.result.now
+          one_more c.args.extents.now view c.args.locators.now c.loop-k.k (at_place c.args.locators.now c.loop-k.k) c.loop-k.bytes.items c.extend_from_slice.new.self.items c.in-Ok.chunk.items c.deref.result.now
           c.loop-k-test.true (get_or_default c.args.locators.now c.loop-k.k _ _ c.loop-k-test.true) (c.loop-k.invariant.read h view are)
           (c.in-Ok.ensures.payload (c.loop-k.invariant.disk.honesty.0 h) view (view_here g r h view are)) c.deref.ensures.value c.in_ok-extend_from_slice-in-Ok.ensures.items;
     }
@@ -40,19 +39,19 @@ returns-in-Err-clause-disk g c = reads_on g.D.PageDisk c.args.disk.now c.loop-k.
 
 pub returns-in-Err-clause-fault : goal.returns-in-Err-clause-fault
 returns-in-Err-clause-fault g c = λ h view are.
-    refused_at (shape c.args.extents.now) view c.args.locators.now c.loop-k.k (at_place c.args.locators.now c.loop-k.k) c.loop-k.bytes.items c.in-Err.refusal c.loop-k-test.true (get_or_default c.args.locators.now c.loop-k.k _ _ c.loop-k-test.true) (c.loop-k.invariant.read h view are)
+    refused_at c.args.extents.now view c.args.locators.now c.loop-k.k (at_place c.args.locators.now c.loop-k.k) c.loop-k.bytes.items c.in-Err.refusal c.loop-k-test.true (get_or_default c.args.locators.now c.loop-k.k _ _ c.loop-k-test.true) (c.loop-k.invariant.read h view are)
     (c.in-Err.ensures.fault (c.loop-k.invariant.disk.honesty.0 h) view (view_here g (goal.at.returns-in-Err-clause-fault g c).After-read_frame h view are))
 
 pub returns-in-Err-clause-read : goal.returns-in-Err-clause-read
 returns-in-Err-clause-read g c = λ h view cs are there.
     reads_all c.args.extents.now c.extent_count.ensures.whole view {V = List ℕ} (λ v. v) (Err c.in-Err.refusal) c.args.locators.now cs (inside g (goal.at.returns-in-Err-clause-read g c).After-extent_count)
-    (refused_at (shape c.args.extents.now) view c.args.locators.now c.loop-k.k (at_place c.args.locators.now c.loop-k.k) c.loop-k.bytes.items c.in-Err.refusal c.loop-k-test.true (get_or_default c.args.locators.now c.loop-k.k _ _ c.loop-k-test.true) (c.loop-k.invariant.read h view are)
+    (refused_at c.args.extents.now view c.args.locators.now c.loop-k.k (at_place c.args.locators.now c.loop-k.k) c.loop-k.bytes.items c.in-Err.refusal c.loop-k-test.true (get_or_default c.args.locators.now c.loop-k.k _ _ c.loop-k-test.true) (c.loop-k.invariant.read h view are)
     (c.in-Err.ensures.fault (c.loop-k.invariant.disk.honesty.0 h) view (view_here g (goal.at.returns-in-Err-clause-read g c).After-read_frame h view are))) there
 
 pub returns-clause-bytes : goal.returns-clause-bytes
-returns-clause-bytes g c = λ h view are. all_read (shape c.args.extents.now) view c.args.locators.now c.loop-k.k c.loop-k.bytes.items c.loop-k-test.false (c.loop-k.invariant.read h view are)
+returns-clause-bytes g c = λ h view are. all_read c.args.extents.now view c.args.locators.now c.loop-k.k c.loop-k.bytes.items c.loop-k-test.false (c.loop-k.invariant.read h view are)
 
 pub returns-clause-read : goal.returns-clause-read
 returns-clause-read g c = λ h view cs are there.
     reads_all c.args.extents.now c.extent_count.ensures.whole view {V = List ℕ} (λ v. v) (Ok c.loop-k.bytes.items) c.args.locators.now cs (inside g (goal.at.returns-clause-read g c).After-extent_count)
-    (all_read (shape c.args.extents.now) view c.args.locators.now c.loop-k.k c.loop-k.bytes.items c.loop-k-test.false (c.loop-k.invariant.read h view are)) there
+    (all_read c.args.extents.now view c.args.locators.now c.loop-k.k c.loop-k.bytes.items c.loop-k-test.false (c.loop-k.invariant.read h view are)) there
