@@ -197,7 +197,7 @@ impl Extents {
 
     /// Whether frames may be appended behind those on an extent: where extents are filled up always, else where all were appended since
     /// the store was opened.
-    fn may_fill(&self, extent: usize) -> bool
+    pub fn may_fill(&self, extent: usize) -> bool
         requires { extent < (shape self.now).extents }
         ensures { IsTrue result ↔ MayFill (shape self.now).fills ((extents_of self.now).found extent) }
     {

@@ -9,7 +9,7 @@ ghost use Rattle.cs_index.specs.State.{IsShort, named_entry};
 use cs_extent::Extents;
 use cs_frame::{Run, frame_pages, run_bytes};
 
-/// Whether so many pages fit behind the runs on an extent, which were all appended since the store was opened.
+/// Whether so many pages fit behind the runs on an extent, which may be filled up.
 fn takes_run(extents: &Extents, pages: usize, extent: usize) -> bool
     requires { 1 ≤ pages }
     ensures { IsTrue result ↔ Takes (shape extents.now) (extents_of extents.now) ForRun pages extent }
@@ -21,7 +21,7 @@ fn takes_run(extents: &Extents, pages: usize, extent: usize) -> bool
     0 < pointer
         && pages <= extents.extent_pages().saturating_sub(pointer)
         && extents.holds_runs(extent)
-        && extents.found(extent) == 0
+        && extents.may_fill(extent)
 }
 
 /// The first extent where so many pages fit behind other runs.
