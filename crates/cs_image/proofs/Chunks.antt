@@ -9,7 +9,7 @@ use Rattle.cs_frame.specs.Bytes.{IsPage}
 use Rattle.cs_frame.specs.Formats.{formats_of, refusal_of}
 use Rattle.cs_frame.specs.Frames.{SpellsFrame, frame_bytes, frame_count, frame_fault, page_count, payload_in, spelled_frame}
 use Rattle.cs_index.proofs.Sorted.{all_take}
-use Rattle.cs_model.specs.Device.{Inside, Page, Shape}
+use Rattle.cs_model.specs.Device.{Page, Shape}
 use Rattle.cs_model.specs.Formats.{ChunkFrame, Formats, Stand, pages_from}
 use Rattle.cs_model.specs.Local.{LiesBelow}
 use Rattle.cs_model.specs.Refusal.{Refusal}
@@ -41,35 +41,32 @@ module _ (S : Shape) (view : ℕ → Page) (count : ℕ) (below : LiesBelow S co
   )
 
   -- a frame that these pages spell stands there
-  frame_stands : (e i kind : ℕ) (payload : List ℕ) → i < S.pages
-      → SpellsFrame kind (pages_from S (formats_of S) view e i (S.pages - i)) payload
-      → (i + length (spelled_frame kind payload) ≤ S.pages) × Stand S (formats_of S) view e i (spelled_frame kind payload)
-  frame_stands e i kind payload lt it =
+  frame_stands : (e i end kind : ℕ) (payload : List ℕ) → i < end
+      → SpellsFrame kind (pages_from S (formats_of S) view e i (end - i)) payload
+      → (i + length (spelled_frame kind payload) ≤ end) × Stand S (formats_of S) view e i (spelled_frame kind payload)
+  frame_stands e i end kind payload lt it =
       let size : length (spelled_frame kind payload) ≡ page_count (length payload) = length-first_chunks 4096 (page_count (length payload)) (frame_bytes kind payload) in
-      let all : length (pages_from S (formats_of S) view e i (S.pages - i)) ≡ S.pages - i = length-from S (formats_of S) view e i (S.pages - i) in
-      let fits : page_count (length payload) ≤ S.pages - i = omega (arith, size, all, ap length it.spelled, length-take (page_count (length payload)) (pages_from S (formats_of S) view e i (S.pages - i))) in (
+      let all : length (pages_from S (formats_of S) view e i (end - i)) ≡ end - i = length-from S (formats_of S) view e i (end - i) in
+      let fits : page_count (length payload) ≤ end - i = omega (arith, size, all, ap length it.spelled, length-take (page_count (length payload)) (pages_from S (formats_of S) view e i (end - i))) in (
         omega (arith, size, fits, lt),
-        stand_front S (formats_of S) view e i (S.pages - i) (spelled_frame kind payload) (omega (arith, size, fits))
-            (ap (λ (k : ℕ). take k (pages_from S (formats_of S) view e i (S.pages - i))) size ∙ it.spelled),
+        stand_front S (formats_of S) view e i (end - i) (spelled_frame kind payload) (omega (arith, size, fits))
+            (ap (λ (k : ℕ). take k (pages_from S (formats_of S) view e i (end - i))) size ∙ it.spelled),
       )
 
-  pub chunk_or_fault : (e i : ℕ) → Inside S e i
-      → ((payload : List ℕ) × (i + length ((formats_of S).frame ChunkFrame payload) ≤ S.pages) × Stand S (formats_of S) view e i ((formats_of S).frame ChunkFrame payload))
-      ⊎ ((f : Refusal) × ((formats_of S).fault ChunkFrame (pages_from S (formats_of S) view e i (S.pages - i)) ≡ Some f))
-  chunk_or_fault e i inside = go (frame_fault 0 (pages_from S (formats_of S) view e i (S.pages - i))) refl
+  pub chunk_or_fault : (e i end : ℕ) → e < S.extents → i < end → end ≤ S.pages
+      → ((payload : List ℕ) × (i + length ((formats_of S).frame ChunkFrame payload) ≤ end) × Stand S (formats_of S) view e i ((formats_of S).frame ChunkFrame payload))
+      ⊎ ((f : Refusal) × ((formats_of S).fault ChunkFrame (pages_from S (formats_of S) view e i (end - i)) ≡ Some f))
+  chunk_or_fault e i end there above low = go (frame_fault 0 (pages_from S (formats_of S) view e i (end - i))) refl
     where
-      there : List Page
-      there = pages_from S (formats_of S) view e i (S.pages - i)
+      all : AllByRecursion IsPage (pages_from S (formats_of S) view e i (end - i))
+      all = pages_there e i (end - i) there (omega (arith, above, low))
 
-      all : AllByRecursion IsPage (pages_from S (formats_of S) view e i (S.pages - i))
-      all = pages_there e i (S.pages - i) inside.0 (let lt : i < S.pages = inside.1 in omega arith)
-
-      go : (found : Option FormatFault) → frame_fault 0 (pages_from S (formats_of S) view e i (S.pages - i)) ≡ found
-          → ((payload : List ℕ) × (i + length ((formats_of S).frame ChunkFrame payload) ≤ S.pages) × Stand S (formats_of S) view e i ((formats_of S).frame ChunkFrame payload))
-          ⊎ ((f : Refusal) × ((formats_of S).fault ChunkFrame (pages_from S (formats_of S) view e i (S.pages - i)) ≡ Some f))
+      go : (found : Option FormatFault) → frame_fault 0 (pages_from S (formats_of S) view e i (end - i)) ≡ found
+          → ((payload : List ℕ) × (i + length ((formats_of S).frame ChunkFrame payload) ≤ end) × Stand S (formats_of S) view e i ((formats_of S).frame ChunkFrame payload))
+          ⊎ ((f : Refusal) × ((formats_of S).fault ChunkFrame (pages_from S (formats_of S) view e i (end - i)) ≡ Some f))
       go None none =
-          let pages : List Page = pages_from S (formats_of S) view e i (S.pages - i) in
-          let stands = frame_stands e i 0 (payload_in pages) inside.1
+          let pages : List Page = pages_from S (formats_of S) view e i (end - i) in
+          let stands = frame_stands e i end 0 (payload_in pages) above
           (spells 0 pages (payload_in pages) (each_has pages all) (bytes_joined (take (frame_count pages) pages) (all_take IsPage (frame_count pages) pages all)) none refl) in
           inl (payload_in pages, stands.0, stands.1)
       go (Some f) is = inr (refusal_of f, ap (option_map refusal_of) is)

@@ -1,9 +1,9 @@
 -- What is read of an image is what it recovers.
-use Rattle.std.proofs.Common.{◌≡◌, ◌⊎◌, inl, inr, ⊎_elim, ℕ, zero, suc, ◌+◌, ◌-◌, ◌<◌, ◌≤◌, Bool, true, false, nat_lt, ◌&&◌, ◌==◌, List, [], ◌∷◌, length, map, Option, Some, None, if◌then◌else◌, eq-eqb, refl, sym, ap, ◌∙◌, subst, arith}
+use Rattle.std.proofs.Common.{◌≡◌, ◌⊎◌, inl, inr, ⊎_elim, ℕ, zero, suc, ◌+◌, ◌-◌, ◌<◌, ◌≤◌, Bool, true, false, ◌==◌, List, [], ◌∷◌, length, map, Option, Some, None, if◌then◌else◌, le_of_eq, le_trans, refl, sym, ap, ◌∙◌, subst, arith}
 use Rattle.std.specs.Prelude.{slice_index}
 use Rattle.std.specs.List.{AllByRecursion}
-use Rattle.std.proofs.lemmas.Bool.{lt-ltb}
 use Rattle.std.proofs.lemmas.List.{length-map}
+use Rattle.cs_chunk.specs.Chunks.{end_in}
 use Rattle.cs_extent.specs.State.{State as ExtentsState, extents_of, section_rows, shape}
 use Rattle.cs_frame.specs.declared.locators.Locator.{Locator}
 use Rattle.cs_frame.proofs.FormatLaws.{root_fits_from}
@@ -14,11 +14,12 @@ use Rattle.cs_index.proofs.Newest.{all_newest, all_oldest}
 use Rattle.cs_index.proofs.Whole.{length-newest}
 use Rattle.cs_index.specs.declared.runs.StoredRun.{StoredRun}
 use Rattle.cs_index.specs.State.{IsStored, named_entry, newest_first, run_of}
-use Rattle.cs_model.proofs.Carries.{and_true}
+use Rattle.cs_model.proofs.Filled.{damage_here, limit_here, limit_low, reach_off, reads_own}
 use Rattle.cs_model.specs.Apart.{any_run_on}
+use Rattle.cs_model.specs.Device.{Page}
 use Rattle.cs_model.specs.Element.{Bytes, Content, Damaged, Entry, Locator as Place, Map, Opening, Run}
 use Rattle.cs_model.specs.Extents.{Extents}
-use Rattle.cs_model.specs.Formats.{ChunkFrame, RunFrame, Stand, opening_in, pages_from, places}
+use Rattle.cs_model.specs.Formats.{ChunkFrame, RunFrame, Stand, limit_in, opening_in, pages_from, places}
 use Rattle.cs_model.specs.Index.{AllPass, Gives, Holds, InBounds, Passes, Reads, ReadsAs, Value, after, entries_of, live, lookup}
 use Rattle.cs_model.specs.Lists.{◌∈◌}
 use Rattle.cs_model.specs.Recovery.{Recovers}
@@ -27,8 +28,9 @@ use Rattle.cs_image.specs.Openings.{IsFoundAs}
 use Rattle.cs_image.specs.Reads.{AreExtentsNoted, AreLocated, ArePages, AreVisibleLocated, IsLocated, IsRunRead, IsStoreRead, IsVisibleStoreRead, extents_at}
 use Rattle.cs_image.proofs.Chunks.{chunk_or_fault}
 use Rattle.cs_image.proofs.Listed.{found_in, in_all, in_entries, oldest_places}
-use Rattle.cs_image.proofs.Runs.{Stored, stands_read, stored_read}
-use Rattle.cs_image.proofs.Superblocks.{extents_are, extents_fit, extents_with, read_as, read_below, read_fits, read_listed, section_formats, zero_formats}
+use Rattle.cs_image.proofs.Reaches.{end_is_limit}
+use Rattle.cs_image.proofs.Runs.{Stored, stands_reach, stands_read, stored_read}
+use Rattle.cs_image.proofs.Superblocks.{extents_are, extents_fit, extents_with, read_as, read_below, read_fits, read_found, read_listed, read_whole, section_formats, zero_formats}
 
 module _ (view : ℕ → List ℕ) (format : ℕ) (versions : List ℕ) (pages : ℕ) (written : List (ℕ × ℕ)) (root commands : ℕ) (runs : List StoredRun)
     (read : IsVisibleStoreRead view format versions pages written root commands runs)
@@ -58,9 +60,17 @@ module _ (view : ℕ → List ℕ) (format : ℕ) (versions : List ℕ) (pages :
     inside = (is.extent, (let low : p l.extent ≤ pages = (fit l.extent).0 in let lt : l.page < p l.extent = is.page in omega arith));
   }
 
-  not_empty : (l : Place) → Located l → opening.frozen l.extent l.generation ≡ true
-  not_empty l is = and_true (g l.extent == l.generation) (nat_lt 0 (p l.extent)) (eq-eqb _ _ is.generation)
-      (lt-ltb 0 (p l.extent) (let lt : l.page < p l.extent = is.below in omega arith))
+  -- how far a frame may reach
+  end_there : (l : Place) → Located l → end_in x (as_locator l) ≡ limit_in (shape x) (formats_of (shape x)) p g l
+  end_there l is = end_is_limit x view p g l (λ on. read_found view format versions pages written read.sections on l.extent) is
+
+  -- a frame that reaches no further is read
+  reads_so : (l : Place) (bs : List Page) → Located l → l.page + length bs ≤ limit_in (shape x) (formats_of (shape x)) p g l
+      → Stand (shape x) (formats_of (shape x)) view l.extent l.page bs
+      → Reads (shape x) (formats_of (shape x)) opening view p g l bs
+  reads_so l bs is end stand = reads_own (shape x) (formats_of (shape x)) view p g l bs is
+      (λ on. le_trans end (le_of_eq (limit_here (shape x) (formats_of (shape x)) view p g l is on)))
+      (le_trans end (limit_low (shape x) (formats_of (shape x)) p g (λ e. (fit e).0) l)) stand
 
   -- ---- runs
 
@@ -74,14 +84,10 @@ module _ (view : ℕ → List ℕ) (format : ℕ) (versions : List ℕ) (pages :
 
   run_in : (run : StoredRun) → IsRunRead x view run → IsStored (run_of run) → RunIn (run_of run)
   run_in run is stored =
-      let stands = stands_read x view run is stored in
+      let stands = stands_read x (read_whole view format versions pages written read.sections).found_pages view run is stored in
       record {
-        reads = record {
-          passes = passes run.place is.located;
-          below = inr (not_empty (place_of run.place) (passes run.place is.located));
-          inside = stands.inside;
-          stand = stands.stand;
-        };
+        reads = reads_so (place_of run.place) _ (passes run.place is.located)
+            (le_trans (stands_reach x view run is) (le_of_eq (end_there (place_of run.place) (passes run.place is.located)))) stands.stand;
         fits = stands.fits;
         short = stored.2;
       }
@@ -204,18 +210,21 @@ module _ (view : ℕ → List ℕ) (format : ℕ) (versions : List ℕ) (pages :
         → ((payload : List ℕ) × Reads (shape x) (formats_of (shape x)) opening view p g l ((formats_of (shape x)).frame ChunkFrame payload))
         ⊎ ((f : Refusal) × (opening.damage l ≡ Some f))
     chunk l is = ⊎_elim
-        (λ (c : (payload : List ℕ) × (l.page + length ((formats_of (shape x)).frame ChunkFrame payload) ≤ pages)
+        (λ (c : (payload : List ℕ) × (l.page + length ((formats_of (shape x)).frame ChunkFrame payload) ≤ end_of l)
         × Stand (shape x) (formats_of (shape x)) view l.extent l.page ((formats_of (shape x)).frame ChunkFrame payload)).
-        inl (c.0, record { passes = is; below = inr (not_empty l is); inside = c.1; stand = c.2 }))
-        (λ (b : (f : Refusal) × ((formats_of (shape x)).fault ChunkFrame (pages_from (shape x) (formats_of (shape x)) view l.extent l.page (pages - l.page)) ≡ Some f)).
-        inr (b.0, shown l is b.0 b.1))
-        (chunk_or_fault (shape x) view (device_pages format (length written) pages (length versions)) (read_below view format versions pages written read.sections) are l.extent l.page is.inside)
+        inl (c.0, reads_so l ((formats_of (shape x)).frame ChunkFrame c.0) is c.1 c.2))
+        (λ (b : (f : Refusal) × ((formats_of (shape x)).fault ChunkFrame (pages_from (shape x) (formats_of (shape x)) view l.extent l.page (end_of l - l.page)) ≡ Some f)).
+        inr (b.0, damage_here (shape x) (formats_of (shape x)) view p g l is ∙ b.1))
+        (chunk_or_fault (shape x) view (device_pages format (length written) pages (length versions)) (read_below view format versions pages written read.sections) are l.extent l.page (end_of l)
+        is.inside.0 (end_above l is (shape x).fills refl) (limit_low (shape x) (formats_of (shape x)) p g (λ e. (fit e).0) l))
       where
-        shown : (l : Place) → Located l → (f : Refusal) → (formats_of (shape x)).fault ChunkFrame (pages_from (shape x) (formats_of (shape x)) view l.extent l.page (pages - l.page)) ≡ Some f
-            → opening.damage l ≡ Some f
-        shown l is f fault = let test : ((g l.extent == l.generation) && nat_lt l.page (p l.extent)) ≡ true =
-            and_true (g l.extent == l.generation) (nat_lt l.page (p l.extent)) (eq-eqb _ _ is.generation) (lt-ltb l.page (p l.extent) is.below) in
-            ap (λ (b : Bool). if b then (formats_of (shape x)).fault ChunkFrame (pages_from (shape x) (formats_of (shape x)) view l.extent l.page (pages - l.page)) else None) test ∙ fault
+        end_of : Place → ℕ
+        end_of k = limit_in (shape x) (formats_of (shape x)) p g k
+
+        end_above : (k : Place) → Located k → (b : Bool) → (shape x).fills ≡ b → k.page < limit_in (shape x) (formats_of (shape x)) p g k
+        end_above k is true on = subst (λ (n : ℕ). k.page < n) (sym (limit_here (shape x) (formats_of (shape x)) view p g k is on)) is.below
+        end_above k is false off = subst (λ (n : ℕ). k.page < n)
+            (sym (reach_off (shape x) (if g k.extent == k.generation then p k.extent else 0) k.page off)) is.inside.1
 
     content : (ls : List Place) → ((l : Place) → l ∈ ls → Located l)
         → (c : Content) × ReadsAs (shape x) (formats_of (shape x)) opening view p g ls c

@@ -4,6 +4,7 @@ pub mod Families
 pub mod Found
 pub mod Listed
 pub mod New
+pub mod Reaches
 pub mod Readable
 pub mod Runs
 pub mod OneByOne

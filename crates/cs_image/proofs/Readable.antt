@@ -1,10 +1,11 @@
 -- What an image recovers can be read.
-use Rattle.std.proofs.Common.{◌≡◌, inl, inr, ℕ, zero, suc, ◌+◌, ◌/◌, ◌<◌, ◌≤◌, List, [], ◌∷◌, ◌++◌, length, map, take, drop, Option, Some, None, true, refl, sym, ap, ◌∙◌, subst, arith}
+use Rattle.std.proofs.Common.{◌≡◌, inl, inr, ℕ, zero, suc, ◌+◌, ◌/◌, ◌<◌, ◌≤◌, List, [], ◌∷◌, ◌++◌, length, map, take, drop, Option, Some, None, true, le_of_eq, le_trans, refl, sym, ap, ◌∙◌, subst, arith}
 use Rattle.std.specs.Prelude.{reverse, slice_index, slice_index_or}
 use Rattle.std.specs.List.{AllByRecursion, flat_map}
 use Rattle.std.proofs.lemmas.Grind.{reverse_onto}
 use Rattle.std.proofs.lemmas.List.{length-drop, length-map, length-reverse, length-take}
 use Rattle.byteorder.specs.Endian.{big_bytes}
+use Rattle.cs_chunk.specs.Chunks.{end_in}
 use Rattle.cs_extent.proofs.Sections.{all_in_part, part_inside}
 use Rattle.cs_extent.specs.State.{State as ExtentsState, section_rows, shape}
 use Rattle.cs_frame.proofs.Fields.{IsBytes-field}
@@ -32,7 +33,7 @@ use Rattle.cs_index.specs.State.{named_entry, newest_first, run_of}
 use Rattle.cs_model.proofs.Counting.{ascending_lookup}
 use Rattle.cs_model.specs.Device.{Page, Shape}
 use Rattle.cs_model.specs.Element.{Entry, Locator as Place, Map, Run}
-use Rattle.cs_model.specs.Formats.{Stand, places}
+use Rattle.cs_model.specs.Formats.{Stand, limit_in, places}
 use Rattle.cs_model.specs.Geometry.{shape_of}
 use Rattle.cs_model.specs.Index.{AllPass, Passes, entries_of, live, live_at, lookup, names}
 use Rattle.cs_model.specs.Lists.{◌∈◌}
@@ -40,8 +41,9 @@ use Rattle.cs_model.specs.Recovery.{Recovers}
 use Rattle.cs_image.specs.Reads.{AreLocated, ArePages, AreSectionsRead, HasRunAt, IsLocated, IsReadable, IsRunRead, IsStoreRead, IsVisibleStoreRead, SpellsAt, extents_at}
 use Rattle.cs_image.proofs.Entries.{named_fit, tests_of}
 use Rattle.cs_image.proofs.Listed.{bytes_back, bytes_joined, to_all}
+use Rattle.cs_image.proofs.Reaches.{end_is_limit}
 use Rattle.cs_image.proofs.Runs.{StandsAt, all_stand, same_listed, same_runs}
-use Rattle.cs_image.proofs.Superblocks.{at_one, from_formats, read_below, read_format, rows_agree, section_listed, section_one, zero_one}
+use Rattle.cs_image.proofs.Superblocks.{at_one, from_formats, read_below, read_format, read_found, read_whole, rows_agree, section_listed, section_one, zero_one}
 
 -- ---- pointer and generation of each extent
 
@@ -192,6 +194,11 @@ module _ (view : ℕ → List ℕ) (format : ℕ) (versions : List ℕ) (pages :
     page = subst (λ (k : ℕ). l.page < k) (sym (ap (λ (row : ℕ × ℕ). row.0) (at l.extent passes.inside.0))) passes.below;
   }
 
+  -- how far a frame may reach
+  end_there : (l : Place) → Located l → end_in x (as_locator l) ≡ limit_in (shape x) (formats_of (shape x)) r.pointers r.generations l
+  end_there l passes = end_is_limit x view r.pointers r.generations l
+      (λ on. read_found view format versions pages written superblock on l.extent ∙ ap (λ (row : ℕ × ℕ). row.0) (at l.extent passes.inside.0)) passes
+
   pages_stand : (e i : ℕ) (bs : List Page) → e < length written → i + length bs ≤ pages
       → Stand (shape x) (formats_of (shape x)) view e i bs → AllByRecursion IsPage bs
   pages_stand e i [] there fits stand = tt
@@ -222,7 +229,7 @@ module _ (view : ℕ → List ℕ) (format : ℕ) (versions : List ℕ) (pages :
       record {
         located = located run.place reads.passes;
         payload = spelled_run (map as_entry run.entries);
-        frame = (reads.inside, reads.stand);
+        frame = (le_trans reads.within (le_of_eq (sym (end_there run.place reads.passes))), reads.stand);
         spelled = record {
           fits = named_fit run.entries (tests_of run.entries (r.runs_fit run has))
               (bytes_back (big_bytes 4 (length (map as_entry run.entries))) (flat_map spelled_entry (map as_entry run.entries))
@@ -251,7 +258,7 @@ module _ (view : ℕ → List ℕ) (format : ℕ) (versions : List ℕ) (pages :
     runs_are : newest_first runs ≡ r.runs
     runs_are = same_runs (shape x) view (read_format view format versions pages written superblock) (newest_first runs) r.runs
         (same_listed r.runs runs (same_places root commands (map (λ run. run.place) runs) root_page))
-        (all_stand x view runs read)
+        (all_stand x (read_whole view format versions pages written superblock).found_pages view runs read)
         (to_all (StandsAt (shape x) view) r.runs (λ run has. record { fits = r.runs_fit run has; inside = (r.gives.runs_read run has).inside; stand = (r.gives.runs_read run has).stand }))
 
     -- what an entry has passes where the entry does

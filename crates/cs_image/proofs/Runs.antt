@@ -1,9 +1,10 @@
 -- Runs that were read.
-use Rattle.std.proofs.Common.{◌≡◌, ℕ, ◌+◌, ◌≤◌, true, List, [], ◌∷◌, length, map, refl, sym, ap, ap₂, ◌∙◌, subst, arith}
+use Rattle.std.proofs.Common.{◌≡◌, ℕ, ◌+◌, ◌≤◌, true, List, [], ◌∷◌, length, map, le_trans, refl, sym, ap, ap₂, ◌∙◌, subst, arith}
 use Rattle.std.specs.Prelude.{reverse}
 use Rattle.std.specs.List.{AllByRecursion}
 use Rattle.std.proofs.lemmas.List.{length-map, reverse-reverse}
-use Rattle.cs_extent.specs.State.{State as ExtentsState, shape}
+use Rattle.cs_chunk.specs.Chunks.{end_in}
+use Rattle.cs_extent.specs.State.{State as ExtentsState, extents_of, shape}
 use Rattle.cs_frame.specs.declared.identifiers.ShardId.{ShardId}
 use Rattle.cs_frame.specs.Formats.{as_locator, formats_of, place_of}
 use Rattle.cs_frame.specs.Frames.{spelled_frame}
@@ -15,6 +16,7 @@ use Rattle.cs_index.proofs.Whole.{stored_runs}
 use Rattle.cs_index.specs.declared.runs.StoredRun.{StoredRun}
 use Rattle.cs_index.specs.Staged.{run_frame}
 use Rattle.cs_index.specs.State.{IsId, IsStored, named_entry, newest_first, run_of}
+use Rattle.cs_model.proofs.Filled.{reach_low}
 use Rattle.cs_model.specs.Device.{Page, Shape}
 use Rattle.cs_model.specs.Element.{Locator as Place, Run}
 use Rattle.cs_model.specs.Formats.{RunFrame, Stand, places}
@@ -65,24 +67,32 @@ pub record StandsAt (S : Shape) (view : ℕ → List ℕ) (run : Run) : Type 0 w
   pub inside : run.place.page + length ((formats_of S).frame RunFrame ((formats_of S).run run.entries)) ≤ S.pages
   pub stand : Stand S (formats_of S) view run.place.extent run.place.page ((formats_of S).frame RunFrame ((formats_of S).run run.entries))
 
-pub stands_read : (x : ExtentsState) (view : ℕ → List ℕ) (run : StoredRun) → IsRunRead x view run → IsStored (run_of run)
-    → StandsAt (shape x) view (run_of run)
+-- it reaches no further than it may
+pub stands_reach : (x : ExtentsState) (view : ℕ → List ℕ) (run : StoredRun) → IsRunRead x view run
+    → run.place.page + length ((formats_of (shape x)).frame RunFrame ((formats_of (shape x)).run (run_of run).entries)) ≤ end_in x run.place
 unfolding run_frame
-stands_read x view run is stored =
+stands_reach x view run is = subst (λ (bs : List Page). run.place.page + length bs ≤ end_in x run.place)
+    (payload_frame run.entries.items is.payload is.payload refl is.spelled x) is.frame.0
+
+pub stands_read : (x : ExtentsState) → ((e : ℕ) → (extents_of x).found e ≤ (shape x).pages) → (view : ℕ → List ℕ) (run : StoredRun)
+    → IsRunRead x view run → IsStored (run_of run) → StandsAt (shape x) view (run_of run)
+unfolding run_frame
+stands_read x low view run is stored =
     let frame : spelled_frame 1 is.payload ≡ run_frame x (map named_entry run.entries.items) = payload_frame run.entries.items is.payload is.payload refl is.spelled x in
     record {
       fits = spelled_fit run.entries.items is.spelled.fits stored.0;
-      inside = subst (λ (bs : List Page). run.place.page + length bs ≤ (shape x).pages) frame is.frame.0;
+      inside = le_trans (stands_reach x view run is)
+          (reach_low (shape x) ((extents_of x).found run.place.extent) run.place.page (low run.place.extent));
       stand = subst (λ (bs : List Page). Stand (shape x) (formats_of (shape x)) view run.place.extent run.place.page bs) frame is.frame.1;
     }
 
-pub all_stand : (x : ExtentsState) (view : ℕ → List ℕ) (runs : List StoredRun) → AllByRecursion (IsRunRead x view) runs
+pub all_stand : (x : ExtentsState) → ((e : ℕ) → (extents_of x).found e ≤ (shape x).pages) → (view : ℕ → List ℕ) (runs : List StoredRun) → AllByRecursion (IsRunRead x view) runs
     → AllByRecursion (StandsAt (shape x) view) (newest_first runs)
-all_stand x view runs read = all_newest (StandsAt (shape x) view) runs (go runs read (all_oldest IsStored runs (stored_read x view runs read)))
+all_stand x low view runs read = all_newest (StandsAt (shape x) view) runs (go runs read (all_oldest IsStored runs (stored_read x view runs read)))
   where
     go : (xs : List StoredRun) → AllByRecursion (IsRunRead x view) xs → AllByRecursion (λ run. IsStored (run_of run)) xs → AllByRecursion (λ run. StandsAt (shape x) view (run_of run)) xs
     go [] a b = tt
-    go (run ∷ xs) a b = (stands_read x view run a.0 b.0, go xs a.1 b.1)
+    go (run ∷ xs) a b = (stands_read x low view run a.0 b.0, go xs a.1 b.1)
 
 -- runs that stand at the same places are the same
 pub same_runs : (S : Shape) (view : ℕ → List ℕ) → IsFormat S (formats_of S) → (xs ys : List Run) → places xs ≡ places ys

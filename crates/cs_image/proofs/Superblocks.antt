@@ -4,7 +4,7 @@ use Rattle.std.specs.Prelude.{◌↔◌, replicate, slice_index, slice_index_or}
 use Rattle.std.specs.List.{AllByRecursion}
 use Rattle.std.proofs.lemmas.Bool.{and_from, and_parts, and_right, cases_lt, eqb-true, lt-ltb}
 use Rattle.std.proofs.lemmas.List.{get_or-drop, get_or-take, get_or_past, length-replicate}
-use Rattle.cs_extent.proofs.Changes.{found_length}
+use Rattle.cs_extent.proofs.Changes.{all_pointers, found_length, found_low}
 use Rattle.cs_extent.specs.State.{IsWhole, State as ExtentsState, extents_of, found_at, section_rows, shape}
 use Rattle.cs_frame.proofs.FirstFormatLaws.{apart, one_of_first_format, page_zero_fits, spelled_has_none as first_has_none}
 use Rattle.cs_frame.proofs.FormatLaws.{is_format}
@@ -275,6 +275,12 @@ fits_at pages [] all e = (omega arith, omega arith)
 fits_at pages (row ∷ rows) all zero = (all.0.pointer, (let lt = all.0.generation in omega (arith, lt)))
 fits_at pages (row ∷ rows) all (suc e) = fits_at pages rows all.1 e
 
+-- all pages of an extent count as found where so many are given at open
+pub found_all : (written : List (ℕ × ℕ)) (e : ℕ) → slice_index (found_at true written) e ≡ (slice_index_or written e (0, 0)).0
+found_all [] e = refl
+found_all (row ∷ written) zero = refl
+found_all (row ∷ written) (suc e) = found_all written e
+
 module _ (view : ℕ → List ℕ) (format : ℕ) (versions : List ℕ) (pages : ℕ) (written : List (ℕ × ℕ)) (is : AreSectionsRead view format versions pages written) where
   abbrev x : ExtentsState
   x = extents_at format pages (length versions) written
@@ -319,10 +325,15 @@ module _ (view : ℕ → List ℕ) (format : ℕ) (versions : List ℕ) (pages :
     all_kinds = length-replicate (length written) false;
     all_found = found_length (apart_in format) written;
     pointers = λ e. (extents_fit e).0;
+    found_pages = found_low (apart_in format) pages written (all_pointers pages written (λ e. (extents_fit e).0));
     roots = λ e. subst (λ (k : ℕ). k < 2 ^ 63) (sym (all_default (length written) e 0)) (omega arith);
     open_inside = λ e none. absurd (let wrong : None ≡ Some e = none in cc);
     open_begun = λ e none. absurd (let wrong : None ≡ Some e = none in cc);
   }
+
+  -- where extents are filled up, all pages that are given count as found
+  pub read_found : (shape x).fills ≡ true → (e : ℕ) → (extents_of x).found e ≡ (extents_of x).pointer e
+  read_found on e = ap (λ (b : Bool). slice_index (found_at b written) e) (read_shape.fills on) ∙ found_all written e
 
 -- Extents that are read: nothing is open, reset or being swept. Where chunks and runs lie apart those of runs are the ones on which a run
 -- lies, and all pages that are given count as found
@@ -386,12 +397,6 @@ extents_with format pages sections written of_runs found = λ i. record {
   fresh = None;
   last = None;
 }
-
--- all pages of an extent count as found where so many are given at open
-pub found_all : (written : List (ℕ × ℕ)) (e : ℕ) → slice_index (found_at true written) e ≡ (slice_index_or written e (0, 0)).0
-found_all [] e = refl
-found_all (row ∷ written) zero = refl
-found_all (row ∷ written) (suc e) = found_all written e
 
 -- where all are empty and there are no runs, by either rule
 module _ (format pages sections extents : ℕ) where

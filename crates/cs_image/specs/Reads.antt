@@ -1,7 +1,7 @@
 -- What is read of an image as a store is opened: the sections of the superblock, the root, and its runs one after another.
 use Rattle.std.specs.Prelude.{◌≡◌, ◌<◌, ◌≤◌, ℕ, zero, suc, false, List, None, length, map, replicate, slice_index, take}
 use Rattle.std.specs.List.{AllByRecursion}
-use Rattle.cs_chunk.specs.Chunks.{IsFrameAt}
+use Rattle.cs_chunk.specs.Chunks.{IsFrameIn}
 use Rattle.cs_extent.specs.State.{State as ExtentsState, extents_of, found_at, section_rows, shape}
 use Rattle.cs_frame.specs.declared.locators.Locator.{Locator}
 use Rattle.cs_frame.specs.Bytes.{IsPage}
@@ -69,7 +69,7 @@ pub record IsLocated (x : ExtentsState) (l : Locator) : Type 0 where
 pub record HasRunAt (x : ExtentsState) (view : ℕ → List ℕ) (place : Locator) (entries : List Entry) : Type 0 where
   pub located : IsLocated x place
   pub payload : List ℕ
-  pub frame : IsFrameAt (shape x) view RunFrame place payload
+  pub frame : IsFrameIn x view RunFrame place payload
   pub spelled : SpellsRun payload entries
 
 -- a frame at this place has a run
