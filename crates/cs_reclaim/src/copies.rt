@@ -1,8 +1,8 @@
 //! Sweeps where chunks and runs lie apart: what lives on an extent is copied chunk by chunk, and the copies count once it is retired.
 ghost use Rattle.std.specs.Prelude.{◌≡◌, ◌↔◌, ◌⊎◌, ◌+◌, ◌*◌, ◌<◌, ◌≤◌, ◌∷◌, ℕ, List, [], IfErr, IfOk, IsTrue, MatchResult, None, OnErr, OnOk, Some, false, length, option_map, true};
-ghost use Rattle.cs_chunk.specs.Chunks.{IsFrameAt};
+ghost use Rattle.cs_chunk.specs.Chunks.{IsFrameIn};
 ghost use Rattle.cs_chunk.specs.Newest.{AreNewest};
-ghost use Rattle.cs_chunk.specs.Reads.{IsCaused, IsReadRefusal, OnlyReads, fault_at};
+ghost use Rattle.cs_chunk.specs.Reads.{IsCaused, IsReadRefusal, OnlyReads, fault_in};
 ghost use Rattle.cs_disk.specs.Disk.{seen};
 ghost use Rattle.cs_extent.specs.Appended.{IsAppendedBy};
 ghost use Rattle.cs_extent.specs.Frames.{AreResetsStaged};
@@ -153,14 +153,14 @@ impl Copies {
         // Else the first chunk that is left is copied, byte for byte.
         ensures copied { (id : ShardId) (chunk : ℕ) → result ≡ Ok (Some (id, chunk))
             → (payload : List ℕ) × (copy : IsCopyMade index.now extents.old graph.old self.old extent (id_number id) chunk payload self.new extents.new graph.new)
-            × (D.honest disk.old → (view : ℕ → List ℕ) → AreNewest graph.old (seen (D.state disk.old)) view → IsFrameAt (shape extents.old) view ChunkFrame (as_locator copy.from) payload) }
+            × (D.honest disk.old → (view : ℕ → List ℕ) → AreNewest graph.old (seen (D.state disk.old)) view → IsFrameIn extents.old view ChunkFrame (as_locator copy.from) payload) }
 
         // The refusals of a frame are those of the first chunk that is left, and the others come where it has no fault.
         ensures damaged { D.honest disk.old → (view : ℕ → List ℕ) → AreNewest graph.old (seen (D.state disk.old)) view
-            → (id chunk : ℕ) (from : Place) → FirstUncopied (index_of index.now) self.old extent id chunk from → AnswersMove (fault_at (shape extents.old) view Chunk (as_locator from)) result }
+            → (id chunk : ℕ) (from : Place) → FirstUncopied (index_of index.now) self.old extent id chunk from → AnswersMove (fault_in extents.old view Chunk (as_locator from)) result }
         ensures why { D.honest disk.old → (view : ℕ → List ℕ) → AreNewest graph.old (seen (D.state disk.old)) view
             → (id chunk : ℕ) (from : Place) (payload : List ℕ) → FirstUncopied (index_of index.now) self.old extent id chunk from
-            → IsFrameAt (shape extents.old) view ChunkFrame (as_locator from) payload → AnswersPlaceBy true extents.old graph.old.staging payload result }
+            → IsFrameIn extents.old view ChunkFrame (as_locator from) payload → AnswersPlaceBy true extents.old graph.old.staging payload result }
         // Whatever the disk answers, 30 and 35 come only where the frame of some payload finds no place, or no numbers.
         ensures full { IfErr result (λ r. r ≡ Refusal.Full → IsMoveFullBy true extents.old) }
         ensures worn { IfErr result (λ r. r ≡ Refusal.WornOut → IsMoveWornBy true extents.old graph.old.staging) }
@@ -209,10 +209,10 @@ impl Copies {
         requires resets { AreResetsStaged (extents_of extents.old) graph.old.staging }
         ensures copied { OnOk result ((payload : List ℕ) × (to : Spot) × IsAppendedBy true extents.old graph.old ForMove (chunk_frame extents.old payload) to extents.new graph.new
             × (self.new ≡ record { id = id_number live.now.id; chunk = live.now.chunk; from = place_of live.now.place; to = place_of to } ∷ self.old)
-            × (D.honest disk.old → (view : ℕ → List ℕ) → AreNewest graph.old (seen (D.state disk.old)) view → IsFrameAt (shape extents.old) view ChunkFrame live.now.place payload)) }
-        ensures damaged { D.honest disk.old → (view : ℕ → List ℕ) → AreNewest graph.old (seen (D.state disk.old)) view → AnswersMove (fault_at (shape extents.old) view Chunk live.now.place) result }
+            × (D.honest disk.old → (view : ℕ → List ℕ) → AreNewest graph.old (seen (D.state disk.old)) view → IsFrameIn extents.old view ChunkFrame live.now.place payload)) }
+        ensures damaged { D.honest disk.old → (view : ℕ → List ℕ) → AreNewest graph.old (seen (D.state disk.old)) view → AnswersMove (fault_in extents.old view Chunk live.now.place) result }
         ensures why { D.honest disk.old → (view : ℕ → List ℕ) (payload : List ℕ) → AreNewest graph.old (seen (D.state disk.old)) view
-            → IsFrameAt (shape extents.old) view ChunkFrame live.now.place payload → AnswersPlaceBy true extents.old graph.old.staging payload result }
+            → IsFrameIn extents.old view ChunkFrame live.now.place payload → AnswersPlaceBy true extents.old graph.old.staging payload result }
         ensures full { IfErr result (λ r. r ≡ Refusal.Full → IsMoveFullBy true extents.old) }
         ensures worn { IfErr result (λ r. r ≡ Refusal.WornOut → IsMoveWornBy true extents.old graph.old.staging) }
         ensures refusals { IfErr result (λ r. IsReadRefusal r ⊎ (r ≡ Refusal.Full) ⊎ (r ≡ Refusal.WornOut)) }

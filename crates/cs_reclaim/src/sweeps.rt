@@ -1,8 +1,8 @@
 //! Sweeps of one extent each.
 ghost use Rattle.std.specs.Prelude.{◌≡◌, ◌↔◌, ◌⊎◌, ◌+◌, ◌*◌, ◌^◌, ◌<◌, ◌≤◌, ℕ, List, IfErr, IfOk, IsTrue, MatchOption, MatchResult, None, OnErr, OnOk, Some, false, length, map, true};
-ghost use Rattle.cs_chunk.specs.Chunks.{IsFrameAt};
+ghost use Rattle.cs_chunk.specs.Chunks.{IsFrameIn};
 ghost use Rattle.cs_chunk.specs.Newest.{AreNewest};
-ghost use Rattle.cs_chunk.specs.Reads.{IsCaused, IsReadRefusal, OnlyReads, fault_at};
+ghost use Rattle.cs_chunk.specs.Reads.{IsCaused, IsReadRefusal, OnlyReads, fault_in};
 ghost use Rattle.cs_disk.specs.Disk.{seen};
 ghost use Rattle.cs_extent.specs.Appended.{IsAppended};
 ghost use Rattle.cs_extent.specs.Frames.{AreResetsStaged};
@@ -110,14 +110,14 @@ impl Sweep {
         // Else the first live chunk is moved, byte for byte.
         ensures moved { (id : ShardId) (chunk : ℕ) → result ≡ Ok (Some (id, chunk))
             → (payload : List ℕ) × (move : IsMoved index.old extents.old graph.old self.now (id_number id) chunk payload index.new extents.new graph.new)
-            × (D.honest disk.old → (view : ℕ → List ℕ) → AreNewest graph.old (seen (D.state disk.old)) view → IsFrameAt (shape extents.old) view ChunkFrame (as_locator move.from) payload) }
+            × (D.honest disk.old → (view : ℕ → List ℕ) → AreNewest graph.old (seen (D.state disk.old)) view → IsFrameIn extents.old view ChunkFrame (as_locator move.from) payload) }
 
         // The refusals of a frame are those of the first live chunk's, and the others come where it has no fault.
         ensures damaged { D.honest disk.old → (view : ℕ → List ℕ) → AreNewest graph.old (seen (D.state disk.old)) view
-            → (id chunk : ℕ) (from : Place) → FirstLive (index_of index.old) self.now id chunk from → AnswersMove (fault_at (shape extents.old) view Chunk (as_locator from)) result }
+            → (id chunk : ℕ) (from : Place) → FirstLive (index_of index.old) self.now id chunk from → AnswersMove (fault_in extents.old view Chunk (as_locator from)) result }
         ensures why { D.honest disk.old → (view : ℕ → List ℕ) → AreNewest graph.old (seen (D.state disk.old)) view
             → (id chunk : ℕ) (from : Place) (payload : List ℕ) → FirstLive (index_of index.old) self.now id chunk from
-            → IsFrameAt (shape extents.old) view ChunkFrame (as_locator from) payload → AnswersPlace extents.old graph.old.staging payload result }
+            → IsFrameIn extents.old view ChunkFrame (as_locator from) payload → AnswersPlace extents.old graph.old.staging payload result }
         // Whatever the disk answers, 30 and 35 come only where the frame of some payload finds no place, or no numbers.
         ensures full { IfErr result (λ r. r ≡ Refusal.Full → IsMoveFull extents.old) }
         ensures worn { IfErr result (λ r. r ≡ Refusal.WornOut → IsMoveWorn extents.old graph.old.staging) }
@@ -231,10 +231,10 @@ fn move_live<D: PageDisk>(
     requires resets { AreResetsStaged (extents_of extents.old) graph.old.staging }
     ensures moved { OnOk result ((payload : List ℕ) × (to : Spot) × IsAppended extents.old graph.old ForMove (chunk_frame extents.old payload) to extents.new graph.new
         × IsSet index.old (id_number live.now.id) (replaced (live_at (index_of index.old) (id_number live.now.id)) live.now.chunk (place_of to)) index.new
-        × (D.honest disk.old → (view : ℕ → List ℕ) → AreNewest graph.old (seen (D.state disk.old)) view → IsFrameAt (shape extents.old) view ChunkFrame live.now.place payload)) }
-    ensures damaged { D.honest disk.old → (view : ℕ → List ℕ) → AreNewest graph.old (seen (D.state disk.old)) view → AnswersMove (fault_at (shape extents.old) view Chunk live.now.place) result }
+        × (D.honest disk.old → (view : ℕ → List ℕ) → AreNewest graph.old (seen (D.state disk.old)) view → IsFrameIn extents.old view ChunkFrame live.now.place payload)) }
+    ensures damaged { D.honest disk.old → (view : ℕ → List ℕ) → AreNewest graph.old (seen (D.state disk.old)) view → AnswersMove (fault_in extents.old view Chunk live.now.place) result }
     ensures why { D.honest disk.old → (view : ℕ → List ℕ) (payload : List ℕ) → AreNewest graph.old (seen (D.state disk.old)) view
-        → IsFrameAt (shape extents.old) view ChunkFrame live.now.place payload → AnswersPlace extents.old graph.old.staging payload result }
+        → IsFrameIn extents.old view ChunkFrame live.now.place payload → AnswersPlace extents.old graph.old.staging payload result }
     ensures full { IfErr result (λ r. r ≡ Refusal.Full → IsMoveFull extents.old) }
     ensures worn { IfErr result (λ r. r ≡ Refusal.WornOut → IsMoveWorn extents.old graph.old.staging) }
     ensures refusals { IfErr result (λ r. IsReadRefusal r ⊎ (r ≡ Refusal.Full) ⊎ (r ≡ Refusal.WornOut)) }

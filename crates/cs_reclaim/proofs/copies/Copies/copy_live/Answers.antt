@@ -1,7 +1,6 @@
 use Rattle.std.proofs.Common.{◌≡◌, ◌∙◌, ◌<◌, ◌^◌, inl, inr, ⊎_elim, List, ℕ, ap, arith, length, subst, true}
-use Rattle.cs_chunk.specs.Reads.{IsNoAnswer, IsOfFault, fault_at}
+use Rattle.cs_chunk.specs.Reads.{IsNoAnswer, IsOfFault, fault_in}
 use Rattle.cs_extent.specs.Appended.{IsAppendedBy}
-use Rattle.cs_extent.specs.State.{shape}
 use Rattle.cs_frame.specs.declared.frames.FrameKind.TheVariants.{Chunk}
 use Rattle.cs_frame.specs.Frames.{spelled_frame}
 use Rattle.cs_model.specs.Extents.{ForMove}
@@ -15,7 +14,7 @@ use Rattle.cs_reclaim.proofs.copies.Copies.copy_live.Goals.{After-drop-payload}
 pub returns-in-Err-clause-damaged : goal.returns-in-Err-clause-damaged
 returns-in-Err-clause-damaged g c = λ h view are. ⊎_elim
     (λ (n : IsNoAnswer c.in-Err.refusal). inl n)
-    (λ (f : IsOfFault (fault_at (shape c.args.extents.now) view Chunk c.args.live.now.place) c.in-Err.refusal). inr (inl f))
+    (λ (f : IsOfFault (fault_in c.args.extents.now view Chunk c.args.live.now.place) c.in-Err.refusal). inr (inl f))
     (c.in-Err.ensures.fault h view are)
 
 pub returns-in-Err-clause-why : goal.returns-in-Err-clause-why
@@ -65,7 +64,7 @@ returns-in-Ok-encode_frame-clause-why g c = λ h view payload are there.
 
 pub returns-in-Ok-encode_frame-clause-damaged : goal.returns-in-Ok-encode_frame-clause-damaged
 returns-in-Ok-encode_frame-clause-damaged g c = λ h view are.
-    exact_answers _ _ c.append_copy.result (fault_at (shape c.args.extents.now) view Chunk c.args.live.now.place) (c.in-Ok.ensures.fault h view are) c.append_copy.ensures.why
+    exact_answers _ _ c.append_copy.result (fault_in c.args.extents.now view Chunk c.args.live.now.place) (c.in-Ok.ensures.fault h view are) c.append_copy.ensures.why
 
 pub returns-in-Ok-encode_frame-clause-refusals : goal.returns-in-Ok-encode_frame-clause-refusals
 returns-in-Ok-encode_frame-clause-refusals g c = exact_refusals _ _ c.append_copy.result c.append_copy.ensures.why

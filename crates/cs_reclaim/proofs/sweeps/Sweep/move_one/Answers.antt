@@ -1,10 +1,9 @@
 use Rattle.std.proofs.Common.{◌≡◌, ◌⊎◌, ℕ, List, None, refl, subst, sym}
-use Rattle.cs_chunk.specs.Chunks.{IsFrameAt}
+use Rattle.cs_chunk.specs.Chunks.{IsFrameIn}
 use Rattle.cs_chunk.specs.Newest.{AreNewest}
-use Rattle.cs_chunk.specs.Reads.{IsNoAnswer, IsOfFault, fault_at}
+use Rattle.cs_chunk.specs.Reads.{IsNoAnswer, IsOfFault, fault_in}
 use Rattle.cs_deps.specs.declared.refusals.Refusal.TheVariants.{Full, WornOut}
 use Rattle.cs_disk.specs.Disk.{seen}
-use Rattle.cs_extent.specs.State.{shape}
 use Rattle.cs_frame.specs.declared.frames.FrameKind.TheVariants.{Chunk}
 use Rattle.cs_frame.specs.declared.locators.Locator.{Locator}
 use Rattle.cs_frame.specs.Formats.{as_locator, place_of}
@@ -53,17 +52,17 @@ returns-in-Ok-clause-none g c = (
 pub returns-in-Ok-clause-moved : goal.returns-in-Ok-clause-moved
 returns-in-Ok-clause-moved g c = λ id chunk is.
     move_made c.args.index.now c.move_live.new.index c.args.extents.now c.move_live.new.extents c.args.graph.now c.move_live.new.graph c.args.self.now c.in-Some.live
-    (λ (from : Locator) (payload : List ℕ). g.D.PageDisk.honest c.args.disk.now → (view : ℕ → List ℕ) → AreNewest c.args.graph.now (seen (g.D.PageDisk.state c.args.disk.now)) view → IsFrameAt (shape c.args.extents.now) view ChunkFrame from payload)
+    (λ (from : Locator) (payload : List ℕ). g.D.PageDisk.honest c.args.disk.now → (view : ℕ → List ℕ) → AreNewest c.args.graph.now (seen (g.D.PageDisk.state c.args.disk.now)) view → IsFrameIn c.args.extents.now view ChunkFrame from payload)
     (first_here (index_of c.args.index.now) c.self.inside.extent c.args.self.now c.in-Some.live c.self.view_is c.in-Some.ensures.found)
     (rw (c.first_live.ensures.same) at c.in-Ok.ensures.moved) id chunk (same_answer (c.in-Some.live.id, c.in-Some.live.chunk) (id, chunk) is)
 
 pub returns-in-Ok-clause-damaged : goal.returns-in-Ok-clause-damaged
 returns-in-Ok-clause-damaged g c = λ h view are id chunk from first.
-    subst (λ (p : Place). fault_at (shape c.args.extents.now) view Chunk (as_locator p) ≡ None) (one_place (index_of c.args.index.now) c.args.self.now (id_number c.in-Some.live.id) c.in-Some.live.chunk (place_of c.in-Some.live.place) (first_here (index_of c.args.index.now) c.self.inside.extent c.args.self.now c.in-Some.live c.self.view_is c.in-Some.ensures.found) id chunk from first) (c.in-Ok.ensures.damaged h view are)
+    subst (λ (p : Place). fault_in c.args.extents.now view Chunk (as_locator p) ≡ None) (one_place (index_of c.args.index.now) c.args.self.now (id_number c.in-Some.live.id) c.in-Some.live.chunk (place_of c.in-Some.live.place) (first_here (index_of c.args.index.now) c.self.inside.extent c.args.self.now c.in-Some.live c.self.view_is c.in-Some.ensures.found) id chunk from first) (c.in-Ok.ensures.damaged h view are)
 
 pub returns-in-Ok-clause-why : goal.returns-in-Ok-clause-why
 returns-in-Ok-clause-why g c = λ h view are id chunk from payload first there.
-    c.in-Ok.ensures.why h view payload are (subst (λ (p : Place). IsFrameAt (shape c.args.extents.now) view ChunkFrame (as_locator p) payload) (sym (one_place (index_of c.args.index.now) c.args.self.now (id_number c.in-Some.live.id) c.in-Some.live.chunk (place_of c.in-Some.live.place) (first_here (index_of c.args.index.now) c.self.inside.extent c.args.self.now c.in-Some.live c.self.view_is c.in-Some.ensures.found) id chunk from first)) there)
+    c.in-Ok.ensures.why h view payload are (subst (λ (p : Place). IsFrameIn c.args.extents.now view ChunkFrame (as_locator p) payload) (sym (one_place (index_of c.args.index.now) c.args.self.now (id_number c.in-Some.live.id) c.in-Some.live.chunk (place_of c.in-Some.live.place) (first_here (index_of c.args.index.now) c.self.inside.extent c.args.self.now c.in-Some.live c.self.view_is c.in-Some.ensures.found) id chunk from first)) there)
 
 pub returns-in-Ok-clause-still : goal.returns-in-Ok-clause-still
 returns-in-Ok-clause-still g c =
@@ -81,10 +80,10 @@ returns-in-Err-clause-none g c = (
 
 pub returns-in-Err-clause-damaged : goal.returns-in-Err-clause-damaged
 returns-in-Err-clause-damaged g c = λ h view are id chunk from first.
-    subst (λ (p : Place). IsNoAnswer c.in-Err.refusal ⊎ IsOfFault (fault_at (shape c.args.extents.now) view Chunk (as_locator p)) c.in-Err.refusal
-    ⊎ ((fault_at (shape c.args.extents.now) view Chunk (as_locator p) ≡ None) × ((c.in-Err.refusal ≡ Full) ⊎ (c.in-Err.refusal ≡ WornOut))))
+    subst (λ (p : Place). IsNoAnswer c.in-Err.refusal ⊎ IsOfFault (fault_in c.args.extents.now view Chunk (as_locator p)) c.in-Err.refusal
+    ⊎ ((fault_in c.args.extents.now view Chunk (as_locator p) ≡ None) × ((c.in-Err.refusal ≡ Full) ⊎ (c.in-Err.refusal ≡ WornOut))))
     (one_place (index_of c.args.index.now) c.args.self.now (id_number c.in-Some.live.id) c.in-Some.live.chunk (place_of c.in-Some.live.place) (first_here (index_of c.args.index.now) c.self.inside.extent c.args.self.now c.in-Some.live c.self.view_is c.in-Some.ensures.found) id chunk from first) (c.in-Err.ensures.damaged h view are)
 
 pub returns-in-Err-clause-why : goal.returns-in-Err-clause-why
 returns-in-Err-clause-why g c = λ h view are id chunk from payload first there.
-    c.in-Err.ensures.why h view payload are (subst (λ (p : Place). IsFrameAt (shape c.args.extents.now) view ChunkFrame (as_locator p) payload) (sym (one_place (index_of c.args.index.now) c.args.self.now (id_number c.in-Some.live.id) c.in-Some.live.chunk (place_of c.in-Some.live.place) (first_here (index_of c.args.index.now) c.self.inside.extent c.args.self.now c.in-Some.live c.self.view_is c.in-Some.ensures.found) id chunk from first)) there)
+    c.in-Err.ensures.why h view payload are (subst (λ (p : Place). IsFrameIn c.args.extents.now view ChunkFrame (as_locator p) payload) (sym (one_place (index_of c.args.index.now) c.args.self.now (id_number c.in-Some.live.id) c.in-Some.live.chunk (place_of c.in-Some.live.place) (first_here (index_of c.args.index.now) c.self.inside.extent c.args.self.now c.in-Some.live c.self.view_is c.in-Some.ensures.found) id chunk from first)) there)
