@@ -44,7 +44,7 @@ module _ (x : ExtentsState) (s : State) (disk : DiskState) (left : Image) (whole
         p.1,
         p.2,
         recovers_alike_but (shape x) (formats_of (shape x)) (length left) (crashed (shape x) (formats_of (shape x)) s mask) (page left) below agree
-            (λ p g. s.opening) (λ p g. s.opening) (s.count + p.0) (map_after s.start s.commands p.0) (λ q g l pass. refl) (λ q g e k fz. fz) p.3,
+            (λ p g. s.opening) (λ p g. s.opening) (s.count + p.0) (map_after s.start s.commands p.0) (λ q g fits l pass. refl) (λ q g e i k fz. fz) (λ q g l. refl) p.3,
         λ undamaged. recovers_alike (shape x) (formats_of (shape x)) (length left) (crashed (shape x) (formats_of (shape x)) s mask) (page left) below agree
             (s.count + p.0) (map_after s.start s.commands p.0) (p.4 undamaged),
       )
@@ -55,7 +55,7 @@ module _ (x : ExtentsState) (s : State) (disk : DiskState) (left : Image) (whole
   pub leaves_from : (f : ℕ) → Recovers (shape x) (formats_of (shape x)) s.opened s.count s.start → IsFrontier (shape x) (formats_of (shape x)) s f
       → IsPrefix (shape x) s.opened s.commands f (length s.commands) left
   leaves_from f gives front count start again undamaged =
-      let same = one_recovery (shape x) (formats_of (shape x)) (store_format x whole) s.opened s.count count s.start start gives again in
+      let same = one_recovery (shape x) (formats_of (shape x)) (store_shape x whole) (store_format x whole) s.opened s.count count s.start start gives again in
       go count start same.0 (λ i id. same.1 id i) undamaged
     where
       go : (count : ℕ) (start : Map) → s.count ≡ count → s.start ≡ start → NoneDamaged start

@@ -1,8 +1,9 @@
 -- The refusals of frames, by the machine and by the store's calls.
 use Rattle.std.proofs.Common.{◌≡◌, ℕ, ◌≤◌, arith, List, Some, refl}
 use Rattle.cs_chunk.proofs.FrameFaults.{in_range}
-use Rattle.cs_chunk.specs.Reads.{fault_at, pages_at, refusal_for as refusal_of_fault}
+use Rattle.cs_chunk.specs.Reads.{fault_in, pages_in, refusal_for as refusal_of_fault}
 use Rattle.cs_deps.specs.Refusals.{number_of}
+use Rattle.cs_extent.specs.State.{State as ExtentsState}
 use Rattle.cs_frame.specs.declared.faults.FormatFault.{FormatFault}
 use Rattle.cs_frame.specs.declared.faults.FormatFault.TheVariants as fault
 use Rattle.cs_frame.specs.declared.frames.FrameKind.{FrameKind}
@@ -10,7 +11,6 @@ use Rattle.cs_frame.specs.declared.locators.Locator.{Locator}
 use Rattle.cs_frame.specs.Faults.{fault_number}
 use Rattle.cs_frame.specs.Formats.{refusal_of}
 use Rattle.cs_frame.specs.Frames.{kind_byte}
-use Rattle.cs_model.specs.Device.{Shape}
 use Rattle.cs_model.specs.Numbers.{number_of as number_in_machine}
 use Rattle.cs_model.specs.Refusal.{BadDigest, BadLength, BadMagic, BadPadding, BadVersion, DeviceFault, Full, Halted, InFlight, IndexFull, NoRound, NotSweepable, Refusal as Ground, StillLive, TooLarge, WornOut}
 use Rattle.cs_refine.specs.Refusals.{refusal_for}
@@ -43,6 +43,6 @@ in_range_one fault.BadLength low high = refl
 in_range_one fault.BadPadding low high = refl
 in_range_one fault.BadVersion low high = refl
 
-pub one_refusal : (S : Shape) (view : ℕ → List ℕ) (kind : FrameKind) (l : Locator) (f : FormatFault) → fault_at S view kind l ≡ Some f
+pub one_refusal : (x : ExtentsState) (view : ℕ → List ℕ) (kind : FrameKind) (l : Locator) (f : FormatFault) → fault_in x view kind l ≡ Some f
     → refusal_of_fault f ≡ refusal_for (refusal_of f)
-one_refusal S view kind l f at = let range = in_range (kind_byte kind) (pages_at S view l) f at in in_range_one f range.0 range.1
+one_refusal x view kind l f at = let range = in_range (kind_byte kind) (pages_in x view l) f at in in_range_one f range.0 range.1

@@ -50,6 +50,10 @@ IsRecorded S w x = (u : Superblock) × (u ∈ superblocks_of w.elements) × (u.s
 abbrev pub AreWritesOf : Shape → World → GraphState → Type 0
 AreWritesOf S w g = (m : Element) (p : PageWrite) → IsWaiting w m → write_of g (name m) ≡ Some p → p ≡ page_write S (formats_of S) m
 
+-- where extents are filled up as many pages of each were found as in the world
+abbrev pub FoundAsMuch : State → World → Type 0
+FoundAsMuch x w = (shape x).fills ≡ true → (e : ℕ) → (extents_of x).found e ≡ w.extents.found e
+
 -- the world has these extents, what was staged in it was staged in the graph, and what is kept is what it writes
 pub record IsWorldOf (x : State) (g : GraphState) (w : World) : Type 0 where
   pub extents : w.extents ≡ extents_of x

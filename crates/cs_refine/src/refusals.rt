@@ -1,6 +1,6 @@
 //! Why the calls of a store's parts are refused, as why the machine's events are.
 ghost use Rattle.std.specs.Prelude.{◌≡◌, ◌≢◌, ◌⊎◌, ◌↔◌, ◌+◌, ◌^◌, ◌<◌, ◌≤◌, ℕ, true, false, List, [], Some, None, length};
-ghost use Rattle.cs_chunk.specs.Reads.{fault_at, refusal_for as refusal_of_fault};
+ghost use Rattle.cs_chunk.specs.Reads.{fault_in, refusal_for as refusal_of_fault};
 ghost use Rattle.cs_deps.specs.Refusals.{number_of};
 ghost use Rattle.cs_deps.specs.State.{State as GraphState};
 ghost use Rattle.cs_extent.specs.State.{IsWhole, State as ExtentsState, extents_of, shape};
@@ -13,7 +13,6 @@ ghost use Rattle.cs_index.specs.Staged.{IsFull, IsStageWorn, WritesRun};
 ghost use Rattle.cs_index.specs.State.{State as IndexState, index_of};
 ghost use Rattle.cs_model.specs.Append.{chunk_frames, page_counts};
 ghost use Rattle.cs_model.specs.Element.{Locator as Place};
-ghost use Rattle.cs_model.specs.Device.{Shape};
 ghost use Rattle.cs_model.specs.Events.{Chunked, ReadsNow};
 ghost use Rattle.cs_model.specs.Extents.{Fits, ForMove, ForPut, ForRun, NoPlace};
 ghost use Rattle.cs_model.specs.Formats.{ChunkFrame, Formats};
@@ -128,6 +127,6 @@ pub fn sweep_refusals_agree()
 /// The refusals of the store's calls have the numbers of the machine's, and a frame's fault is one refusal by both.
 pub fn refusals_keep_their_numbers()
     ensures number { (f : Ground) → number_of (refusal_for f) ≡ number_in_machine f }
-    ensures frames { (S : Shape) (view : ℕ → List ℕ) (kind : FrameKind) (l : Locator) (f : FormatFault)
-        → fault_at S view kind l ≡ Some f → refusal_of_fault f ≡ refusal_for (refusal_of f) }
+    ensures frames { (x : ExtentsState) (view : ℕ → List ℕ) (kind : FrameKind) (l : Locator) (f : FormatFault)
+        → fault_in x view kind l ≡ Some f → refusal_of_fault f ≡ refusal_for (refusal_of f) }
 {}

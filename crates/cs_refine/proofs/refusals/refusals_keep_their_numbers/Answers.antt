@@ -4,5 +4,5 @@ use Rattle.cs_refine.proofs.Numbered.{one_refusal, same_number}
 pub returns : goal.returns
 returns c = record {
   number = λ f. same_number f;
-  frames = λ S view kind l f at. one_refusal S view kind l f at;
+  frames = λ x view kind l f at. one_refusal x view kind l f at;
 }
