@@ -264,7 +264,8 @@ pub enum SweepError {
     /// 30 Full: no extent has room for what is moved or staged.
     #[error("no extent has room")]
     Full,
-    /// 33 NotSweepable: the extent is open, empty, being swept or not there.
+    /// 33 NotSweepable: the extent is open, empty, being swept or not there; in stores of format 3 it is empty, holds runs or isn't there, or a
+    /// sweep isn't over.
     #[error("the extent can't be swept")]
     NotSweepable,
     /// 34 StillLive: a chunk is live on the extent as it is to be retired.

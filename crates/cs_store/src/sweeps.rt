@@ -41,9 +41,10 @@ pub(crate) fn sweep_ready<D: PageDisk>(core: &mut Core<D>, extent: usize) -> Res
 impl<D: PageDisk> Store<D> {
     /// Moves what is live on an extent off it and retires it, so that its pages can be written anew once that is persistent, and gives how many chunks
     /// were moved and under which root it was retired. Each chunk is read and staged again. A sweep that is refused after it began is abandoned; what
-    /// was moved stays where it is then.
+    /// was moved stays where it is then, and in stores of format 3 lies where it lay.
     ///
-    /// Refused 33 NotSweepable where the extent is open, empty, being swept or not there; 1 DeviceFault; 9 OutOfMemory, where the extent may be being
+    /// Refused 33 NotSweepable where the extent is open, empty, being swept or not there, in stores of format 3 where it is empty, holds runs or isn't
+    /// there, where any extent is being swept, and after a sweep that was given up until a `sync`; 1 DeviceFault; 9 OutOfMemory, where the extent may be being
     /// swept still; 20 BadMagic, 21 BadDigest, 22 BadLength, 23 BadPadding or 24 BadVersion where a chunk is damaged, the one that `first_on` tells; 30 Full; 34 StillLive; 35 WornOut;
     /// 40 Halted; and 41 HistoryFull where more chunks are to be moved than further events may be kept, of which it makes sure of one alone: sync ahead
     /// of it, or sweep again.
@@ -77,7 +78,8 @@ impl<D: PageDisk> Store<D> {
     }
 
     /// Takes the mark off an extent that is being swept: what a sweep leaves to do that was refused 9 OutOfMemory. Where one is marked no checkpoint can
-    /// be taken, so that puts are refused 41 HistoryFull at last. What was moved stays where it is. Neither the disk nor room for an event is needed.
+    /// be taken, so that puts are refused 41 HistoryFull at last. What was moved stays where it is, and in stores of format 3 lies where it lay. Neither
+    /// the disk nor room for an event is needed.
     ///
     /// Refused 33 NotSweepable where the extent isn't marked, 40 Halted and 9 OutOfMemory.
     pub fn abandon(&mut self, extent: usize) -> Result<(), SweepError>
