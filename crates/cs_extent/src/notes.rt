@@ -223,10 +223,10 @@ pub fn lies_apart(format: u8) -> bool
 }
 
 /// Whether extents are filled up in stores of this format.
-pub fn fills_up(_format: u8) -> bool
-    ensures { result ≡ fills_in _format }
+pub fn fills_up(format: u8) -> bool
+    ensures { result ≡ fills_in format }
 {
-    false
+    2 < format
 }
 
 /// How many pages of each extent count as found as a store is opened: all that are given where chunks and runs lie apart, else none.

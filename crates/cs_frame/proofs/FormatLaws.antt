@@ -418,7 +418,7 @@ module _ (f extents pages sections format : ℕ) (is : IsGeometry f extents page
 
   -- a format in which extents are filled up isn't the first
   fills_later : S.fills ≡ true → format ≢ 1
-  fills_later on first = true≢false (sym on)
+  fills_later on first = true≢false (sym on ∙ ap (nat_lt 2) first)
 
   pub any_is_format : IsFormat S F
   any_is_format = record {

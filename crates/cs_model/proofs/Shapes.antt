@@ -81,7 +81,7 @@ module _ (E P N Q f : ℕ) (g : IsGeometry E P N Q) where
       | inl few ↦ rw few (le_refl _)
       | inr many ↦ rw many (omega arith)
     ];
-    fills = λ on. absurd (true≢false (sym on));
+    fills = λ on. on;
     apart = λ on. ((rules_apart f on).0, (rules_apart f on).1, some_run_extents E, wide on);
     some_byte = (let p : 0 < P = g.some_page in omega arith);
     section_only = only_section;

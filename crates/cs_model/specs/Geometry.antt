@@ -21,7 +21,7 @@ apart_in format = nat_lt 2 format
 
 -- an extent that was found with pages is filled up behind them
 abbrev pub fills_in : (format : ℕ) → Bool
-fills_in format = false
+fills_in format = nat_lt 2 format
 
 -- how many extents may hold runs where they do
 abbrev pub most_run_extents : (extents : ℕ) → ℕ
