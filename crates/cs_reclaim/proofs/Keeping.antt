@@ -3,8 +3,6 @@ use Rattle.std.proofs.Common.{◌≡◌, ◌∙◌, ◌==◌, inl, inr, ℕ, zer
 use Rattle.std.proofs.lemmas.Bool.{cases_eq}
 use Rattle.std.proofs.lemmas.Option.{same_Some}
 use Rattle.cs_chunk.proofs.Appends.{frame_begins, has_writes, newest_begins}
-use Rattle.cs_chunk.proofs.Chunkings.{length-spelled}
-use Rattle.cs_chunk.proofs.Framed.{one_frame}
 use Rattle.cs_chunk.proofs.Newest.{reads_newest, stand_of}
 use Rattle.cs_chunk.proofs.Staying.{stays_appended}
 use Rattle.cs_chunk.specs.Chunks.{AreChunksAt, IsFrameAt}
@@ -14,7 +12,7 @@ use Rattle.cs_deps.specs.State.{IsWhole, State as Graph}
 use Rattle.cs_disk.specs.Disk.{Image}
 use Rattle.cs_extent.specs.Appended.{IsAppendedBy}
 use Rattle.cs_extent.specs.State.{IsWhole as IsWholeExtents, State as ExtentsState, extents_of, shape}
-use Rattle.cs_frame.specs.declared.frames.FrameKind.TheVariants.{Chunk}
+use Rattle.cs_frame.proofs.FormatLaws.{is_format}
 use Rattle.cs_frame.specs.declared.locators.Locator.{Locator}
 use Rattle.cs_frame.specs.Formats.{as_locator, formats_of, place_of}
 use Rattle.cs_index.specs.State.{State, index_of}
@@ -26,6 +24,12 @@ use Rattle.cs_model.specs.Index.{live, live_at}
 use Rattle.cs_model.specs.Lists.{nth, replaced}
 use Rattle.cs_reclaim.specs.Keeps.{AreBelow, places_at}
 use Rattle.cs_reclaim.specs.Moves.{IsMoved, chunk_frame}
+
+-- what lies at a place is the frame of one chunk
+pub one_chunk : (x : ExtentsState) → IsWholeExtents x → (view : ℕ → List ℕ) (l : Locator) (a b : List ℕ)
+    → IsFrameAt (shape x) view ChunkFrame l a → IsFrameAt (shape x) view ChunkFrame l b → a ≡ b
+one_chunk x whole view l a b at bt = (is_format x.format (length x.written) x.pages x.sections whole.geometry).one_payload view l.extent l.page ChunkFrame a b
+    (omega (arith, at.0)) (omega (arith, bt.0)) at.1 bt.1
 
 module _ {apart_by : Bool} (x y : ExtentsState) (g h : Graph) (frame : List (List ℕ)) (to : Locator) (image : Image) (view now : ℕ → List ℕ) (whole : IsWholeExtents x) (a : IsAppendedBy apart_by x g ForMove frame to y h)
     (kept : IsWhole h) (before : AreNewest g image view) (after : AreNewest h image now) where
@@ -73,8 +77,7 @@ module _ {apart_by : Bool} (x y : ExtentsState) (g h : Graph) (frame : List (Lis
   one_moved (l ∷ ls) (c ∷ cs) zero from payload there is read at below =
       let same : l ≡ from = same_Some l from there in
       let here : IsFrameAt (shape x) view ChunkFrame (as_locator from) c = subst (λ (p : Place). IsFrameAt (shape x) view ChunkFrame (as_locator p) c) same at.0 in
-      let inside : from.page < x.pages = omega (arith, read.0, length-spelled 0 payload) in
-      let one : c ≡ payload = one_frame x whole view Chunk (as_locator from) inside c payload here read in
+      let one : c ≡ payload = one_chunk x whole view (as_locator from) c payload here read in
       let new = begins c (is ∙ ap (chunk_frame x) (sym one)) in
       let rest = all_stay ls cs at.1 below.1 in
       ((new.0, rest.0), (new.1, rest.1))

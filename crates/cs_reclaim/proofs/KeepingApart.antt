@@ -4,8 +4,6 @@ use Rattle.std.specs.Prelude.{drop, reverse}
 use Rattle.std.proofs.lemmas.Bool.Decides.{nat_tests}
 use Rattle.std.proofs.lemmas.Option.{same_Some}
 use Rattle.cs_chunk.proofs.Appends.{HasWrites, has_writes}
-use Rattle.cs_chunk.proofs.Chunkings.{length-spelled}
-use Rattle.cs_chunk.proofs.Framed.{one_frame}
 use Rattle.cs_chunk.proofs.Newest.{of_stand, one_view, stand_of}
 use Rattle.cs_chunk.proofs.Staying.{stays_behind}
 use Rattle.cs_chunk.specs.Chunks.{AreChunksAt, IsFrameAt}
@@ -14,7 +12,6 @@ use Rattle.cs_chunk.specs.Stays.{IsBelow}
 use Rattle.cs_deps.specs.State.{IsWhole, State as Graph}
 use Rattle.cs_disk.specs.Disk.{Image}
 use Rattle.cs_extent.specs.State.{IsWhole as IsWholeExtents, State as ExtentsState, extents_of, shape}
-use Rattle.cs_frame.specs.declared.frames.FrameKind.TheVariants.{Chunk}
 use Rattle.cs_frame.specs.declared.locators.Locator.{Locator}
 use Rattle.cs_frame.specs.Formats.{as_locator, formats_of, place_of}
 use Rattle.cs_index.specs.Apart.{IsFullApart, IsNewestStagedApart, WritesNewest, takes_apart}
@@ -39,7 +36,7 @@ use Rattle.cs_reclaim.specs.Keeps.{AreBelow, AreCopiesRead, IsCopyRead, places_a
 use Rattle.cs_reclaim.specs.Moves.{chunk_frame}
 use Rattle.cs_reclaim.specs.Rooted.{IsRetiredApart, IsRootedApart, IsSweepStaged, extents_at_rest, lying_apart}
 use Rattle.cs_reclaim.proofs.Freeing.{blank_dead}
-use Rattle.cs_reclaim.proofs.Keeping.{all_stay, begins, stays}
+use Rattle.cs_reclaim.proofs.Keeping.{all_stay, begins, one_chunk, stays}
 use Rattle.cs_reclaim.proofs.RetireKeeps.{has_before, mark_keeps, under_root}
 
 -- chunks at their places, below the pointers
@@ -170,8 +167,7 @@ module _ (x : ExtentsState) (whole : IsWholeExtents x) (view : ℕ → List ℕ)
   one_replaced (l ∷ ls) (c ∷ cs) zero from to payload at read copy was =
       let same : l ≡ from = same_Some l from at in
       let here : IsFrameAt (shape x) view ChunkFrame (as_locator from) c = subst (λ (p : Place). IsFrameAt (shape x) view ChunkFrame (as_locator p) c) same was.0.0 in
-      let inside : from.page < x.pages = omega (arith, read.0.0, length-spelled 0 payload) in
-      let one : payload ≡ c = one_frame x whole view Chunk (as_locator from) inside payload c read.0 here in
+      let one : payload ≡ c = one_chunk x whole view (as_locator from) payload c read.0 here in
       let new : There (as_locator to) c = subst (λ (b : List ℕ). There (as_locator to) b) one copy in
       ((new.0, was.0.1), (new.1, was.1.1))
   one_replaced (l ∷ ls) (c ∷ cs) (suc k) from to payload at read copy was =
