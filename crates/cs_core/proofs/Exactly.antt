@@ -3,7 +3,7 @@ use Rattle.std.proofs.Common.{◌≡◌, inl, inr, ⊎_elim, ◌∙◌, ℕ, zer
 use Rattle.std.proofs.Math.Nat.{mul-le-mul_left}
 use Rattle.std.specs.Prelude.{Option, slice_index}
 use Rattle.cs_chunk.proofs.Framed.{no_fault_there, one_frame}
-use Rattle.cs_chunk.specs.Reads.{IsOfFault, fault_at}
+use Rattle.cs_chunk.specs.Reads.{IsOfFault, fault_in}
 use Rattle.cs_deps.specs.declared.refusals.Refusal.{Refusal}
 use Rattle.cs_extent.specs.State.{IsWhole, State as ExtentsState, section_rows, shape}
 use Rattle.cs_frame.proofs.FirstFormatLaws.{spelled_has_none as first_has_none, zero_of_first, zero_of_section}
@@ -41,7 +41,7 @@ no_fault found x none f = let clash : None ≡ Some f.0 = sym none ∙ f.1 in cc
 read_there : (x : ExtentsState) (whole : IsWhole x) (view : ℕ → List ℕ) (place : Locator) (r : Refusal) → IsReadable x view place → IsWhyNotRead x view place r → ⊥
 read_there x whole view place r has (inl away) = away.0 has.1.located
 read_there x whole view place r has (inr (inl broken)) =
-    no_fault (fault_at (shape x) view Run place) r (no_fault_there x whole view Run place (place_inside x place whole has.1.located).1 has.1.payload has.1.frame) broken.1
+    no_fault (fault_in x view Run place) r (no_fault_there x whole view Run place (place_inside x place whole has.1.located).1 has.1.payload has.1.frame) broken.1
 read_there x whole view place r has (inr (inr spoiled)) =
     let same : has.1.payload ≡ spoiled.1.0 = one_frame x whole view Run place (place_inside x place whole has.1.located).1 has.1.payload spoiled.1.0 has.1.frame spoiled.1.1 in
     no_fault (run_fault spoiled.1.0) r (ap run_fault (sym same) ∙ run_fault-spelled has.1.payload has.0 has.1.spelled) spoiled.1.2

@@ -2,9 +2,9 @@
 use Rattle.std.proofs.Common.{◌≡◌, ◌≢◌, ◌⊎◌, inl, inr, ℕ, ◌+◌, ◌*◌, ◌≤◌, ◌==◌, true, false, eqb-true, eq-eqb, List, [], ◌∷◌, Some, None, Ok, Err, length, map, refl, sym, ap, ◌∙◌, subst, arith}
 use Rattle.std.specs.Prelude.{◌↔◌, Vec, slice_get, take}
 use Rattle.std.specs.declared.alloc.Global.{Global}
-use Rattle.cs_chunk.specs.Chunks.{AreChunksAt}
+use Rattle.cs_chunk.specs.Chunks.{AreChunksIn}
 use Rattle.cs_chunk.specs.Newest.{AreNewest}
-use Rattle.cs_chunk.specs.Reads.{IsOfChunk, IsReadRefusal}
+use Rattle.cs_chunk.specs.Reads.{IsOfChunkIn, IsReadRefusal}
 use Rattle.cs_deps.specs.declared.refusals.Refusal.{Refusal as Code}
 use Rattle.cs_deps.specs.declared.refusals.Refusal.TheVariants as code
 use Rattle.cs_deps.specs.State.{IsWhole as IsWholeGraph}
@@ -20,13 +20,14 @@ use Rattle.cs_model.specs.Refusal.{DeviceFault, Refusal as Ground}
 use Rattle.cs_model.specs.State.{Get, State, map_now}
 use Rattle.cs_refine.proofs.Disks.{reads}
 use Rattle.cs_refine.proofs.Indexes.{absent}
+use Rattle.cs_refine.proofs.FoundShards.{get_damaged, get_found}
 use Rattle.cs_refine.proofs.PagesRead.{pages_read}
-use Rattle.cs_refine.proofs.ShardsRead.{get_damaged, get_found}
 use Rattle.cs_refine.specs.Devices.{IsDiskOf, pages_now}
 use Rattle.cs_core.specs.Reads.{DeclinesOn, GetAnswers}
 use Rattle.cs_core.specs.States.{IsStateOf}
 use Rattle.cs_core.specs.Stored.{Stored}
 use Rattle.cs_core.proofs.Damage.{IsDamage, read_refusal}
+use Rattle.cs_core.proofs.FramesRead.{found_as_much}
 use Rattle.cs_core.proofs.Going.{no_more, pass_found}
 use Rattle.cs_image.specs.Reads.{page_total}
 
@@ -83,14 +84,14 @@ module _ (v : Stored) (id : ℕ) (disk : DiskState) where
     spots = ap (map as_locator) found ∙ there_and_back ls
 
     pub get_found_answers : (bytes : Vec ℕ Global)
-        → ((view : ℕ → List ℕ) → AreNewest v.graph (seen disk) view → (cs : List (List ℕ)) × AreChunksAt (shape v.extents) view ls cs × (bytes.items ≡ joined cs))
+        → ((view : ℕ → List ℕ) → AreNewest v.graph (seen disk) view → (cs : List (List ℕ)) × AreChunksIn v.extents view ls cs × (bytes.items ≡ joined cs))
         → GetAnswers v disk id (Ok (Some bytes))
     unfolding GetAnswers
     get_found_answers bytes gives s is on =
         let view = pages_now (shape v.extents) s (seen disk) in
         let read = gives view (newest_there v whole graph disk size s is on) in
-        let there : map_now s id ≡ Some (Bytes (joined read.0)) = get_found v.extents s (seen disk) whole is.sound v.index is.parts.index id read.0 some_live
-        (subst (λ (ks : List Locator). AreChunksAt (shape v.extents) (pages_now (shape v.extents) s (seen disk)) ks read.0) (sym spots) read.1) in
+        let there : map_now s id ≡ Some (Bytes (joined read.0)) = get_found v.extents s (seen disk) whole is.sound (found_as_much v.extents s is.parts.world.extents) v.index is.parts.index id read.0 some_live
+        (subst (λ (ks : List Locator). AreChunksIn v.extents (pages_now (shape v.extents) s (seen disk)) ks read.0) (sym spots) read.1) in
         let is_bytes : map_now s id ≡ Some (Bytes bytes.items) = there ∙ ap (λ (b : List ℕ). Some (Bytes b)) (sym read.2) in (
           s,
           (pass_found (λ f damage. let e : Some (Bytes bytes.items) ≡ Some (Damaged f) = sym is_bytes ∙ damage in cc) no_more, (is_bytes, refl)),
@@ -98,26 +99,26 @@ module _ (v : Stored) (id : ℕ) (disk : DiskState) where
         )
 
     -- the map has the damage that was met
-    damage_met : (r : Code) → ((view : ℕ → List ℕ) → AreNewest v.graph (seen disk) view → IsOfChunk (shape v.extents) view ls r) → (d : IsDamage r)
+    damage_met : (r : Code) → ((view : ℕ → List ℕ) → AreNewest v.graph (seen disk) view → IsOfChunkIn v.extents view ls r) → (d : IsDamage r)
         → (s : State) → IsStateOf v s → IsDiskOf (shape v.extents) (formats_of (shape v.extents)) s disk → map_now s id ≡ Some (Damaged d.ground)
     damage_met r of_chunk d s is on = go (of_chunk (pages_now (shape v.extents) s (seen disk)) (newest_there v whole graph disk size s is on))
       where
-        go : IsOfChunk (shape v.extents) (pages_now (shape v.extents) s (seen disk)) ls r → map_now s id ≡ Some (Damaged d.ground)
+        go : IsOfChunkIn v.extents (pages_now (shape v.extents) s (seen disk)) ls r → map_now s id ≡ Some (Damaged d.ground)
         go (inl none) = absurd (d.answered none)
         go (inr (k, l, cs, at, are, (f, fault, same))) =
-            get_damaged v.extents s (seen disk) whole is.sound v.index is.parts.index id k l cs f
+            get_damaged v.extents s (seen disk) whole is.sound (found_as_much v.extents s is.parts.world.extents) v.index is.parts.index id k l cs f
             (ap (λ (ks : List Locator). slice_get ks k) spots ∙ at)
-            (subst (λ (ks : List Locator). AreChunksAt (shape v.extents) (pages_now (shape v.extents) s (seen disk)) (take k ks) cs) (sym spots) are)
+            (subst (λ (ks : List Locator). AreChunksIn v.extents (pages_now (shape v.extents) s (seen disk)) (take k ks) cs) (sym spots) are)
             fault
             ∙ ap (λ (g : Ground). Some (Damaged g)) (d.of_fault f same)
 
-    get_refused : (r : Code) → ((view : ℕ → List ℕ) → AreNewest v.graph (seen disk) view → IsOfChunk (shape v.extents) view ls r)
+    get_refused : (r : Code) → ((view : ℕ → List ℕ) → AreNewest v.graph (seen disk) view → IsOfChunkIn v.extents view ls r)
         → (r ≡ code.OutOfMemory) ⊎ (r ≡ code.DeviceFault) ⊎ IsDamage r → DeclinesOn v disk (Get id) r v
     get_refused r of_chunk (inl memory) = inl memory
     get_refused r of_chunk (inr (inl device)) = inr (DeviceFault, device, λ s is on. (s, (inr ((λ none. some_live ((map_of s is).1 none)), refl), refl), is))
     get_refused r of_chunk (inr (inr d)) = inr (d.ground, d.number, λ s is on. (s, (inl (inl (damage_met r of_chunk d s is on)), refl), is))
 
-    pub get_refused_answers : (r : Code) → IsReadRefusal r → ((view : ℕ → List ℕ) → AreNewest v.graph (seen disk) view → IsOfChunk (shape v.extents) view ls r)
+    pub get_refused_answers : (r : Code) → IsReadRefusal r → ((view : ℕ → List ℕ) → AreNewest v.graph (seen disk) view → IsOfChunkIn v.extents view ls r)
         → GetAnswers v disk id (Err r)
     unfolding GetAnswers
     get_refused_answers r is_read of_chunk = get_refused r of_chunk (read_refusal r is_read)

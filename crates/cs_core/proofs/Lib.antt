@@ -8,6 +8,7 @@ pub mod Crashes
 pub mod Damage
 pub mod Deletes
 pub mod Exactly
+pub mod FramesRead
 pub mod Gets
 pub mod Going
 pub mod Heads
@@ -49,5 +50,6 @@ pub mod StagesApart
 pub mod Starting
 pub mod SweepSteps
 pub mod Sweepable
+pub mod Unstaged
 pub mod Versions
 pub mod Causes

@@ -5,9 +5,9 @@ use Rattle.std.specs.List.{AllByRecursion}
 use Rattle.std.specs.declared.alloc.Global.{Global}
 use Rattle.std.proofs.lemmas.Bool.{cond-false}
 use Rattle.std.proofs.lemmas.List.{length-map}
-use Rattle.cs_chunk.specs.Chunks.{IsFrameAt}
+use Rattle.cs_chunk.specs.Chunks.{IsFrameIn}
 use Rattle.cs_chunk.specs.Newest.{AreNewest}
-use Rattle.cs_chunk.specs.Reads.{IsCaused, IsNoAnswer, IsOfFault, fault_at, refusal_for}
+use Rattle.cs_chunk.specs.Reads.{IsCaused, IsNoAnswer, IsOfFault, fault_in, refusal_for}
 use Rattle.cs_deps.specs.declared.refusals.Refusal.{Refusal}
 use Rattle.cs_deps.specs.declared.refusals.Refusal.TheVariants.{DeviceFault, OutOfMemory as NoMemory}
 use Rattle.cs_deps.specs.State.{NoneOn, State as GraphState}
@@ -119,7 +119,7 @@ is_run entries payload is = record {
   rising = is.fits.rising;
 }
 
-module _ (x : ExtentsState) (view : ℕ → List ℕ) (place : Locator) (located : IsLocated x place) (payload given : List ℕ) (same : given ≡ payload) (frame : IsFrameAt (shape x) view RunFrame place payload) where
+module _ (x : ExtentsState) (view : ℕ → List ℕ) (place : Locator) (located : IsLocated x place) (payload given : List ℕ) (same : given ≡ payload) (frame : IsFrameIn x view RunFrame place payload) where
   pub run_read : (result : Result StoredRun Refusal) → IfOk result (λ run. SpellsRun given (spelled_entries run.entries.items)) → IfOk result (λ run. run.place ≡ place) → IfOk result (λ run. IsRunRead x view run)
   run_read (Ok run) spelled at = subst (λ (l : Locator). HasRunAt x view l (spelled_entries run.entries.items)) (sym at)
       (record { located = located; payload = payload; frame = frame; spelled = subst (λ (b : List ℕ). SpellsRun b (spelled_entries run.entries.items)) same spelled })
@@ -129,7 +129,7 @@ module _ (x : ExtentsState) (view : ℕ → List ℕ) (place : Locator) (located
   run_not_read (Ok run) why = tt
   run_not_read (Err r) why = ⊎_elim (λ m. inl (inr m)) (λ f. inr (inr (inr (located, (payload, frame, subst (λ (b : List ℕ). IsOfFault (run_fault b) r) same f))))) why
 
-pub frame_not_read : (x : ExtentsState) (view : ℕ → List ℕ) (place : Locator) (r : Refusal) → IsLocated x place → IsNoAnswer r ⊎ IsOfFault (fault_at (shape x) view Run place) r → IsNoAnswer r ⊎ IsWhyNotRead x view place r
+pub frame_not_read : (x : ExtentsState) (view : ℕ → List ℕ) (place : Locator) (r : Refusal) → IsLocated x place → IsNoAnswer r ⊎ IsOfFault (fault_in x view Run place) r → IsNoAnswer r ⊎ IsWhyNotRead x view place r
 frame_not_read x view place r located why = ⊎_elim (λ n. inl n) (λ f. inr (inr (inl (located, f)))) why
 
 -- a run is where its place is

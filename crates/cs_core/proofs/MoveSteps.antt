@@ -1,13 +1,13 @@
 -- A move of a chunk is a step of the machine.
-use Rattle.std.proofs.Common.{◌≡◌, ◌⊎◌, inl, inr, ⊎_elim, ℕ, suc, ◌+◌, ◌<◌, ◌≤◌, true, false, List, [], ◌∷◌, Some, None, Ok, Err, length, refl, sym, ap, ◌∙◌, subst, arith}
+use Rattle.std.proofs.Common.{◌≡◌, ◌⊎◌, inl, inr, ⊎_elim, ℕ, ◌≤◌, true, false, List, ◌∷◌, Some, None, Ok, Err, length, refl, sym, ap, ◌∙◌, subst}
 use Rattle.std.specs.Prelude.{◌↔◌, IfErr, OnErr, Option, Result}
-use Rattle.cs_chunk.specs.Chunks.{IsFrameAt}
+use Rattle.cs_chunk.specs.Chunks.{IsFrameIn}
 use Rattle.cs_chunk.specs.Newest.{AreNewest}
-use Rattle.cs_chunk.specs.Reads.{IsNoAnswer, IsOfFault, IsReadRefusal, fault_at, refusal_for as code_of}
+use Rattle.cs_chunk.specs.Reads.{IsNoAnswer, IsOfFault, IsReadRefusal, fault_in, refusal_for as code_of}
 use Rattle.cs_deps.specs.declared.refusals.Refusal.{Refusal as Code}
 use Rattle.cs_deps.specs.declared.refusals.Refusal.TheVariants as code
 use Rattle.cs_deps.specs.State.{IsWhole as IsWholeGraph, State as GraphState}
-use Rattle.cs_disk.specs.Disk.{Image, State as DiskState, page, seen}
+use Rattle.cs_disk.specs.Disk.{State as DiskState, seen}
 use Rattle.cs_extent.specs.State.{IsWhole, State as ExtentsState, extents_of, shape}
 use Rattle.cs_extent.specs.Worn.{IsFrameWorn}
 use Rattle.cs_frame.specs.declared.faults.FormatFault.{FormatFault}
@@ -18,11 +18,10 @@ use Rattle.cs_index.specs.Staged.{IsWhy}
 use Rattle.cs_index.specs.State.{State as IndexState, id_number, index_of}
 use Rattle.cs_model.proofs.Limits.{not_past}
 use Rattle.cs_model.proofs.Outcomes.{first_one, live_found, not_nothing}
-use Rattle.cs_model.specs.Device.{Page, PageKind}
 use Rattle.cs_model.specs.Element.{Locator as Place}
-use Rattle.cs_model.specs.Events.{Does, ReadsNow, newest_page}
+use Rattle.cs_model.specs.Events.{Does, ReadsNow}
 use Rattle.cs_model.specs.Extents.{ForMove, NoPlace}
-use Rattle.cs_model.specs.Formats.{ChunkFrame, Stand}
+use Rattle.cs_model.specs.Formats.{ChunkFrame}
 use Rattle.cs_model.specs.Grounds.{DamagedFirst, NoRoomToMove, PastLimit, Refuses, WouldPass}
 use Rattle.cs_model.specs.Index.{FirstLive, NothingLive, live_at}
 use Rattle.cs_model.specs.Lists.{replaced, ◌∈◌}
@@ -33,9 +32,9 @@ use Rattle.cs_refine.proofs.Calls.{move}
 use Rattle.cs_refine.proofs.DoesBefore.{moved as did_move, none_moved, none_so}
 use Rattle.cs_refine.proofs.Indexes.{first_live, looked_up, nothing_live}
 use Rattle.cs_refine.proofs.RefusedMoves.{move_full, move_worn}
-use Rattle.cs_refine.proofs.ShardsRead.{live_damaged, live_payload, live_whole}
+use Rattle.cs_refine.proofs.FoundShards.{live_damaged, live_payload, live_whole}
 use Rattle.cs_refine.proofs.Shapes.{store_format, store_shape}
-use Rattle.cs_refine.specs.Devices.{IsDiskOf, pages_now, read_by}
+use Rattle.cs_refine.specs.Devices.{IsDiskOf, pages_now}
 use Rattle.cs_refine.specs.Parts.{ArePartsOf}
 use Rattle.cs_index.proofs.Living.{nth_in}
 use Rattle.cs_reclaim.specs.Moves.{AnswersMove, AnswersPlace, IsMoved, chunk_frame}
@@ -44,6 +43,7 @@ use Rattle.cs_core.specs.Reads.{DeclinesOn, MoveAnswers, StepsOn}
 use Rattle.cs_core.specs.States.{IsStateOf}
 use Rattle.cs_core.specs.Stored.{Stored, but_for_room}
 use Rattle.cs_core.proofs.Damage.{IsDamage, read_refusal}
+use Rattle.cs_core.proofs.FramesRead.{found_as_much, frame_read}
 use Rattle.cs_core.proofs.Gets.{newest_there}
 use Rattle.cs_core.proofs.Going.{Beside, beside_is, frontier_same, goes_on, going, roomed, roots_same, same_state}
 use Rattle.cs_core.proofs.MoveGrounds.{damaged_before, full_before, none_before, reads_before, worn_before}
@@ -55,19 +55,6 @@ use Rattle.cs_image.specs.Reads.{page_total}
 pub move_unswept : (v : Stored) (whole : IsWhole v.extents) (runs : v.halted ≡ false) (disk : DiskState) (e : ℕ) → (extents_of v.extents).swept e ≡ false → MoveAnswers v disk e (Err code.NotSweepable) v
 unfolding MoveAnswers
 move_unswept v whole runs disk e not = inr (NotSweepable, refl, λ s is on. (s, move_unmarked v whole runs e not s is, is))
-
--- a frame that the newest pages have is read
-module _ (x : ExtentsState) (whole : IsWhole x) (s : State) (held : Image) where
-  read_back : (e i : ℕ) (bs : List Page) → e < (shape x).extents → i + length bs ≤ (shape x).pages
-      → Stand (shape x) (formats_of (shape x)) (newest_page s) e i bs → Stand (shape x) (formats_of (shape x)) (pages_now (shape x) s held) e i bs
-  read_back e i [] there fits stand = tt
-  read_back e i (b ∷ bs) there fits stand = (
-    ap (λ (k : PageKind). read_by k (newest_page s ((shape x).address e i)) (page held ((shape x).address e i))) ((store_shape x whole).frame_kind e i (there, omega arith)) ∙ stand.0,
-    read_back e (suc i) bs there (omega arith) stand.1,
-  )
-
-  pub frame_read : (l : Place) (payload : List ℕ) → ReadsNow (shape x) (formats_of (shape x)) s l ChunkFrame payload → IsFrameAt (shape x) (pages_now (shape x) s held) ChunkFrame (as_locator l) payload
-  frame_read l payload reads = (reads.inside, read_back l.extent l.page ((formats_of (shape x)).frame ChunkFrame payload) reads.passes.inside.0 reads.inside reads.stand)
 
 -- neither 30 nor 35 is a fault's
 pub not_place : (r : Code) (f : FormatFault) → (r ≡ code.Full) ⊎ (r ≡ code.WornOut) → r ≡ code_of f → ⊥
@@ -144,9 +131,9 @@ module _ (v : Stored) (whole : IsWhole v.extents) (graph : IsWholeGraph v.graph)
   -- ---- a chunk is moved
 
   module _ (id k : ℕ) (payload : List ℕ) (y : ExtentsState) (h : GraphState) (j : IndexState) (moved : IsMoved v.index v.extents v.graph e id k payload j y h) (same : shape y ≡ shape v.extents)
-      (frame : (view : ℕ → List ℕ) → AreNewest v.graph (seen disk) view → IsFrameAt (shape v.extents) view ChunkFrame (as_locator moved.from) payload)
-      (sane : (view : ℕ → List ℕ) → AreNewest v.graph (seen disk) view → (d n : ℕ) (from : Place) → FirstLive (index_of v.index) e d n from → fault_at (shape v.extents) view Chunk (as_locator from) ≡ None)
-      (why : (view : ℕ → List ℕ) → AreNewest v.graph (seen disk) view → (d n : ℕ) (from : Place) (bytes : List ℕ) → FirstLive (index_of v.index) e d n from → IsFrameAt (shape v.extents) view ChunkFrame (as_locator from) bytes
+      (frame : (view : ℕ → List ℕ) → AreNewest v.graph (seen disk) view → IsFrameIn v.extents view ChunkFrame (as_locator moved.from) payload)
+      (sane : (view : ℕ → List ℕ) → AreNewest v.graph (seen disk) view → (d n : ℕ) (from : Place) → FirstLive (index_of v.index) e d n from → fault_in v.extents view Chunk (as_locator from) ≡ None)
+      (why : (view : ℕ → List ℕ) → AreNewest v.graph (seen disk) view → (d n : ℕ) (from : Place) (bytes : List ℕ) → FirstLive (index_of v.index) e d n from → IsFrameIn v.extents view ChunkFrame (as_locator from) bytes
       → (NoPlace (shape v.extents) (extents_of v.extents) ForMove (length (chunk_frame v.extents bytes)) → ⊥) × (IsFrameWorn v.extents ForMove v.graph.staging (length (chunk_frame v.extents bytes)) → ⊥)) where
     module _ (s : State) (is : IsStateOf v s) (on : IsDiskOf (shape v.extents) (formats_of (shape v.extents)) s disk) where
       view : ℕ → List ℕ
@@ -159,10 +146,10 @@ module _ (v : Stored) (whole : IsWhole v.extents) (graph : IsWholeGraph v.graph)
       has = nth_in (live_at (index_of v.index) id) k moved.from moved.first.there
 
       whole_chunk : s.opening.damage moved.from ≡ None
-      whole_chunk = live_whole v.extents s (seen disk) whole is.sound v.index is.parts.index id moved.from has (sane (pages_now (shape v.extents) s (seen disk)) newest id k moved.from moved.first)
+      whole_chunk = live_whole v.extents s (seen disk) whole is.sound (found_as_much v.extents s is.parts.world.extents) v.index is.parts.index id moved.from has (sane (pages_now (shape v.extents) s (seen disk)) newest id k moved.from moved.first)
 
       reads_it : ReadsNow (shape v.extents) (formats_of (shape v.extents)) s moved.from ChunkFrame payload
-      reads_it = live_payload v.extents s (seen disk) whole is.sound v.index is.parts.index id moved.from payload has (frame (pages_now (shape v.extents) s (seen disk)) newest)
+      reads_it = live_payload v.extents s (seen disk) whole is.sound (found_as_much v.extents s is.parts.world.extents) v.index is.parts.index id moved.from payload has (frame (pages_now (shape v.extents) s (seen disk)) newest)
 
       reasons : (NoPlace (shape v.extents) (extents_of v.extents) ForMove (length (chunk_frame v.extents payload)) → ⊥) × (IsFrameWorn v.extents ForMove v.graph.staging (length (chunk_frame v.extents payload)) → ⊥)
       reasons = why (pages_now (shape v.extents) s (seen disk)) newest id k moved.from payload moved.first (frame (pages_now (shape v.extents) s (seen disk)) newest)
@@ -199,8 +186,8 @@ module _ (v : Stored) (whole : IsWhole v.extents) (graph : IsWholeGraph v.graph)
 
   module _ (w : Stored) (same : but_for_room w ≡ but_for_room v) (r : Code) (some : NothingLive (index_of v.index) e → ⊥)
       (met : (view : ℕ → List ℕ) → AreNewest v.graph (seen disk) view → (d n : ℕ) (from : Place) → FirstLive (index_of v.index) e d n from
-      → IsNoAnswer r ⊎ IsOfFault (fault_at (shape v.extents) view Chunk (as_locator from)) r ⊎ ((fault_at (shape v.extents) view Chunk (as_locator from) ≡ None) × ((r ≡ code.Full) ⊎ (r ≡ code.WornOut))))
-      (why : (view : ℕ → List ℕ) → AreNewest v.graph (seen disk) view → (d n : ℕ) (from : Place) (bytes : List ℕ) → FirstLive (index_of v.index) e d n from → IsFrameAt (shape v.extents) view ChunkFrame (as_locator from) bytes
+      → IsNoAnswer r ⊎ IsOfFault (fault_in v.extents view Chunk (as_locator from)) r ⊎ ((fault_in v.extents view Chunk (as_locator from) ≡ None) × ((r ≡ code.Full) ⊎ (r ≡ code.WornOut))))
+      (why : (view : ℕ → List ℕ) → AreNewest v.graph (seen disk) view → (d n : ℕ) (from : Place) (bytes : List ℕ) → FirstLive (index_of v.index) e d n from → IsFrameIn v.extents view ChunkFrame (as_locator from) bytes
       → IsNoAnswer r ⊎ IsWhy r (NoPlace (shape v.extents) (extents_of v.extents) ForMove (length (chunk_frame v.extents bytes))) (IsFrameWorn v.extents ForMove v.graph.staging (length (chunk_frame v.extents bytes)))) where
     module _ (s : State) (is : IsStateOf v s) (on : IsDiskOf (shape v.extents) (formats_of (shape v.extents)) s disk) where
       newest_r : AreNewest v.graph (seen disk) (pages_now (shape v.extents) s (seen disk))
@@ -217,19 +204,19 @@ module _ (v : Stored) (whole : IsWhole v.extents) (graph : IsWholeGraph v.graph)
       lives : first.2 ∈ live_at (index_of v.index) first.0
       lives = nth_in (live_at (index_of v.index) first.0) first.1 first.2 found.there
 
-      met_here : IsNoAnswer r ⊎ IsOfFault (fault_at (shape v.extents) (pages_now (shape v.extents) s (seen disk)) Chunk (as_locator first.2)) r
-          ⊎ ((fault_at (shape v.extents) (pages_now (shape v.extents) s (seen disk)) Chunk (as_locator first.2) ≡ None) × ((r ≡ code.Full) ⊎ (r ≡ code.WornOut)))
+      met_here : IsNoAnswer r ⊎ IsOfFault (fault_in v.extents (pages_now (shape v.extents) s (seen disk)) Chunk (as_locator first.2)) r
+          ⊎ ((fault_in v.extents (pages_now (shape v.extents) s (seen disk)) Chunk (as_locator first.2) ≡ None) × ((r ≡ code.Full) ⊎ (r ≡ code.WornOut)))
       met_here = met (pages_now (shape v.extents) s (seen disk)) newest_r first.0 first.1 first.2 found
 
       -- the frame is damaged
       damage_there : (d : IsDamage r) → s.opening.damage first.2 ≡ Some d.ground
       damage_there d = go met_here
         where
-          go : IsNoAnswer r ⊎ IsOfFault (fault_at (shape v.extents) (pages_now (shape v.extents) s (seen disk)) Chunk (as_locator first.2)) r
-              ⊎ ((fault_at (shape v.extents) (pages_now (shape v.extents) s (seen disk)) Chunk (as_locator first.2) ≡ None) × ((r ≡ code.Full) ⊎ (r ≡ code.WornOut)))
+          go : IsNoAnswer r ⊎ IsOfFault (fault_in v.extents (pages_now (shape v.extents) s (seen disk)) Chunk (as_locator first.2)) r
+              ⊎ ((fault_in v.extents (pages_now (shape v.extents) s (seen disk)) Chunk (as_locator first.2) ≡ None) × ((r ≡ code.Full) ⊎ (r ≡ code.WornOut)))
               → s.opening.damage first.2 ≡ Some d.ground
           go (inl none) = absurd (d.answered none)
-          go (inr (inl (f, fault, number))) = live_damaged v.extents s (seen disk) whole is.sound v.index is.parts.index first.0 first.2 f lives fault
+          go (inr (inl (f, fault, number))) = live_damaged v.extents s (seen disk) whole is.sound (found_as_much v.extents s is.parts.world.extents) v.index is.parts.index first.0 first.2 f lives fault
               ∙ ap (λ (g : Ground). Some g) (d.of_fault f number)
           go (inr (inr (none, place))) = absurd (d.placed place)
 
@@ -241,18 +228,18 @@ module _ (v : Stored) (whole : IsWhole v.extents) (graph : IsWholeGraph v.graph)
 
       -- no place, or no number
       module _ (place : (r ≡ code.Full) ⊎ (r ≡ code.WornOut)) where
-        no_fault : fault_at (shape v.extents) (pages_now (shape v.extents) s (seen disk)) Chunk (as_locator first.2) ≡ None
+        no_fault : fault_in v.extents (pages_now (shape v.extents) s (seen disk)) Chunk (as_locator first.2) ≡ None
         no_fault = go met_here
           where
-            go : IsNoAnswer r ⊎ IsOfFault (fault_at (shape v.extents) (pages_now (shape v.extents) s (seen disk)) Chunk (as_locator first.2)) r
-                ⊎ ((fault_at (shape v.extents) (pages_now (shape v.extents) s (seen disk)) Chunk (as_locator first.2) ≡ None) × ((r ≡ code.Full) ⊎ (r ≡ code.WornOut)))
-                → fault_at (shape v.extents) (pages_now (shape v.extents) s (seen disk)) Chunk (as_locator first.2) ≡ None
+            go : IsNoAnswer r ⊎ IsOfFault (fault_in v.extents (pages_now (shape v.extents) s (seen disk)) Chunk (as_locator first.2)) r
+                ⊎ ((fault_in v.extents (pages_now (shape v.extents) s (seen disk)) Chunk (as_locator first.2) ≡ None) × ((r ≡ code.Full) ⊎ (r ≡ code.WornOut)))
+                → fault_in v.extents (pages_now (shape v.extents) s (seen disk)) Chunk (as_locator first.2) ≡ None
             go (inl none) = absurd (not_answer r place none)
             go (inr (inl (f, fault, number))) = absurd (not_place r f place number)
             go (inr (inr (none, same_place))) = none
 
         chunk_whole : s.opening.damage first.2 ≡ None
-        chunk_whole = live_whole v.extents s (seen disk) whole is.sound v.index is.parts.index first.0 first.2 lives no_fault
+        chunk_whole = live_whole v.extents s (seen disk) whole is.sound (found_as_much v.extents s is.parts.world.extents) v.index is.parts.index first.0 first.2 lives no_fault
 
         payload_there : (payload : List ℕ) × ReadsNow (shape v.extents) (formats_of (shape v.extents)) s first.2 ChunkFrame payload
         payload_there = ⊎_elim
@@ -264,7 +251,7 @@ module _ (v : Stored) (whole : IsWhole v.extents) (graph : IsWholeGraph v.graph)
         reason = ⊎_elim
             (λ (none : IsNoAnswer r). absurd (not_answer r place none))
             (λ (is_why : IsWhy r (NoPlace (shape v.extents) (extents_of v.extents) ForMove (length (chunk_frame v.extents payload_there.0))) (IsFrameWorn v.extents ForMove v.graph.staging (length (chunk_frame v.extents payload_there.0)))). is_why)
-            (why (pages_now (shape v.extents) s (seen disk)) newest_r first.0 first.1 first.2 payload_there.0 found (frame_read v.extents whole s (seen disk) first.2 payload_there.0 payload_there.1))
+            (why (pages_now (shape v.extents) s (seen disk)) newest_r first.0 first.1 first.2 payload_there.0 found (frame_read v.extents s is.parts.world.extents (seen disk) whole is.sound first.2 payload_there.0 payload_there.1))
 
         full_there : NoRoomToMove (shape v.extents) (formats_of (shape v.extents)) s e ↔ NoPlace (shape v.extents) (extents_of v.extents) ForMove (length (chunk_frame v.extents payload_there.0))
         full_there = move_full v.extents v.graph v.index s whole is.parts e first.0 first.1 first.2 payload_there.0 found payload_there.1
@@ -309,11 +296,11 @@ module _ (v : Stored) (whole : IsWhole v.extents) (graph : IsWholeGraph v.graph)
       → (result ≡ Ok None) ↔ NothingLive (index_of v.index) e
       → (result ≡ Ok None → (j ≡ v.index) × (y ≡ v.extents) × (h ≡ v.graph))
       → ((id : ShardId) (k : ℕ) → result ≡ Ok (Some (id, k)) → (payload : List ℕ) × (moved : IsMoved v.index v.extents v.graph e (id_number id) k payload j y h)
-      × ((view : ℕ → List ℕ) → AreNewest v.graph (seen disk) view → IsFrameAt (shape v.extents) view ChunkFrame (as_locator moved.from) payload))
+      × ((view : ℕ → List ℕ) → AreNewest v.graph (seen disk) view → IsFrameIn v.extents view ChunkFrame (as_locator moved.from) payload))
       → ((view : ℕ → List ℕ) → AreNewest v.graph (seen disk) view → (d n : ℕ) (from : Place) → FirstLive (index_of v.index) e d n from
-      → AnswersMove (fault_at (shape v.extents) view Chunk (as_locator from)) result)
+      → AnswersMove (fault_in v.extents view Chunk (as_locator from)) result)
       → ((view : ℕ → List ℕ) → AreNewest v.graph (seen disk) view → (d n : ℕ) (from : Place) (payload : List ℕ) → FirstLive (index_of v.index) e d n from
-      → IsFrameAt (shape v.extents) view ChunkFrame (as_locator from) payload → AnswersPlace v.extents v.graph.staging payload result)
+      → IsFrameIn v.extents view ChunkFrame (as_locator from) payload → AnswersPlace v.extents v.graph.staging payload result)
       → IfErr result (λ r. IsReadRefusal r ⊎ (r ≡ code.Full) ⊎ (r ≡ code.WornOut))
       → OnErr result (j ≡ record v.index { room = j.room }) → OnErr result (y ≡ v.extents) → OnErr result (h ≡ record v.graph { room = h.room }) → shape y ≡ shape v.extents
       → MoveAnswers v disk e result (record v { extents = y; graph = h; index = j })

@@ -1,9 +1,9 @@
 -- A copy of a chunk where chunks and runs lie apart is a step of the machine.
 use Rattle.std.proofs.Common.{◌≡◌, ◌⊎◌, inl, inr, ⊎_elim, ℕ, ◌≤◌, true, false, List, ◌∷◌, Some, None, Ok, Err, length, refl, sym, ap, ◌∙◌, subst}
 use Rattle.std.specs.Prelude.{◌↔◌, IfErr, OnErr, Option, Result}
-use Rattle.cs_chunk.specs.Chunks.{IsFrameAt}
+use Rattle.cs_chunk.specs.Chunks.{IsFrameIn}
 use Rattle.cs_chunk.specs.Newest.{AreNewest}
-use Rattle.cs_chunk.specs.Reads.{IsNoAnswer, IsOfFault, IsReadRefusal, fault_at}
+use Rattle.cs_chunk.specs.Reads.{IsNoAnswer, IsOfFault, IsReadRefusal, fault_in}
 use Rattle.cs_deps.specs.declared.refusals.Refusal.{Refusal as Code}
 use Rattle.cs_deps.specs.declared.refusals.Refusal.TheVariants as code
 use Rattle.cs_deps.specs.State.{IsWhole as IsWholeGraph, State as GraphState}
@@ -37,7 +37,7 @@ use Rattle.cs_refine.proofs.CallsApart.{none_left}
 use Rattle.cs_refine.proofs.CopiesMade.{copy}
 use Rattle.cs_refine.proofs.DoesApart.{moved as did_copy, none_moved}
 use Rattle.cs_refine.proofs.RefusedSweeps.{copy_damaged, copy_full, copy_worn, first_left, nothing_left}
-use Rattle.cs_refine.proofs.ShardsRead.{live_damaged, live_payload, live_whole}
+use Rattle.cs_refine.proofs.FoundShards.{live_damaged, live_payload, live_whole}
 use Rattle.cs_refine.proofs.Shapes.{store_format, store_shape}
 use Rattle.cs_refine.specs.Copying.{AreAllPartsOf}
 use Rattle.cs_refine.specs.Devices.{IsDiskOf, pages_now}
@@ -45,10 +45,11 @@ use Rattle.cs_core.specs.Reads.{DeclinesOn, MoveAnswers, StepsOn}
 use Rattle.cs_core.specs.States.{IsStateOf}
 use Rattle.cs_core.specs.Stored.{Stored, but_for_room}
 use Rattle.cs_core.proofs.Damage.{IsDamage, read_refusal}
+use Rattle.cs_core.proofs.FramesRead.{found_as_much, frame_read}
 use Rattle.cs_core.proofs.Gets.{newest_there}
 use Rattle.cs_core.proofs.Going.{Beside, beside_is, frontier_same, goes_on, going, roots_same, same_state}
 use Rattle.cs_core.proofs.MoveGrounds.{damaged_apart, full_apart, none_apart, reads_apart, worn_apart}
-use Rattle.cs_core.proofs.MoveSteps.{frame_read, not_answer, not_place}
+use Rattle.cs_core.proofs.MoveSteps.{not_answer, not_place}
 use Rattle.cs_core.proofs.RootsStay.{SameRoots, append_stays_by}
 use Rattle.cs_core.proofs.SweepSteps.{all_parts, is_marked}
 use Rattle.cs_image.specs.Reads.{page_total}
@@ -119,9 +120,9 @@ module _ (v : Stored) (whole : IsWhole v.extents) (graph : IsWholeGraph v.graph)
   -- ---- a chunk is copied
 
   module _ (id k : ℕ) (payload : List ℕ) (y : ExtentsState) (h : GraphState) (after : List Copy) (made : IsCopyMade v.index v.extents v.graph v.copies e id k payload after y h) (same : shape y ≡ shape v.extents)
-      (frame : (view : ℕ → List ℕ) → AreNewest v.graph (seen disk) view → IsFrameAt (shape v.extents) view ChunkFrame (as_locator made.from) payload)
-      (sane : (view : ℕ → List ℕ) → AreNewest v.graph (seen disk) view → (d n : ℕ) (from : Place) → FirstUncopied (index_of v.index) v.copies e d n from → fault_at (shape v.extents) view Chunk (as_locator from) ≡ None)
-      (why : (view : ℕ → List ℕ) → AreNewest v.graph (seen disk) view → (d n : ℕ) (from : Place) (bytes : List ℕ) → FirstUncopied (index_of v.index) v.copies e d n from → IsFrameAt (shape v.extents) view ChunkFrame (as_locator from) bytes
+      (frame : (view : ℕ → List ℕ) → AreNewest v.graph (seen disk) view → IsFrameIn v.extents view ChunkFrame (as_locator made.from) payload)
+      (sane : (view : ℕ → List ℕ) → AreNewest v.graph (seen disk) view → (d n : ℕ) (from : Place) → FirstUncopied (index_of v.index) v.copies e d n from → fault_in v.extents view Chunk (as_locator from) ≡ None)
+      (why : (view : ℕ → List ℕ) → AreNewest v.graph (seen disk) view → (d n : ℕ) (from : Place) (bytes : List ℕ) → FirstUncopied (index_of v.index) v.copies e d n from → IsFrameIn v.extents view ChunkFrame (as_locator from) bytes
       → (NowhereBy true v.extents (length (chunk_frame v.extents bytes)) → ⊥) × (IsFrameWornBy true v.extents ForMove v.graph.staging (length (chunk_frame v.extents bytes)) → ⊥)) where
     module _ (s : State) (is : IsStateOf v s) (on : IsDiskOf (shape v.extents) (formats_of (shape v.extents)) s disk) where
       newest : AreNewest v.graph (seen disk) (pages_now (shape v.extents) s (seen disk))
@@ -131,10 +132,10 @@ module _ (v : Stored) (whole : IsWhole v.extents) (graph : IsWholeGraph v.graph)
       has = nth_in (live_at (index_of v.index) id) k made.from made.first.there
 
       whole_chunk : s.opening.damage made.from ≡ None
-      whole_chunk = live_whole v.extents s (seen disk) whole is.sound v.index is.parts.index id made.from has (sane (pages_now (shape v.extents) s (seen disk)) newest id k made.from made.first)
+      whole_chunk = live_whole v.extents s (seen disk) whole is.sound (found_as_much v.extents s is.parts.world.extents) v.index is.parts.index id made.from has (sane (pages_now (shape v.extents) s (seen disk)) newest id k made.from made.first)
 
       reads_it : ReadsNow (shape v.extents) (formats_of (shape v.extents)) s made.from ChunkFrame payload
-      reads_it = live_payload v.extents s (seen disk) whole is.sound v.index is.parts.index id made.from payload has (frame (pages_now (shape v.extents) s (seen disk)) newest)
+      reads_it = live_payload v.extents s (seen disk) whole is.sound (found_as_much v.extents s is.parts.world.extents) v.index is.parts.index id made.from payload has (frame (pages_now (shape v.extents) s (seen disk)) newest)
 
       reasons : (NowhereBy true v.extents (length (chunk_frame v.extents payload)) → ⊥) × (IsFrameWornBy true v.extents ForMove v.graph.staging (length (chunk_frame v.extents payload)) → ⊥)
       reasons = why (pages_now (shape v.extents) s (seen disk)) newest id k made.from payload made.first (frame (pages_now (shape v.extents) s (seen disk)) newest)
@@ -173,8 +174,8 @@ module _ (v : Stored) (whole : IsWhole v.extents) (graph : IsWholeGraph v.graph)
 
   module _ (w : Stored) (same : but_for_room w ≡ but_for_room v) (r : Code) (some : AllCopied (index_of v.index) v.copies e → ⊥)
       (met : (view : ℕ → List ℕ) → AreNewest v.graph (seen disk) view → (d n : ℕ) (from : Place) → FirstUncopied (index_of v.index) v.copies e d n from
-      → IsNoAnswer r ⊎ IsOfFault (fault_at (shape v.extents) view Chunk (as_locator from)) r ⊎ ((fault_at (shape v.extents) view Chunk (as_locator from) ≡ None) × ((r ≡ code.Full) ⊎ (r ≡ code.WornOut))))
-      (why : (view : ℕ → List ℕ) → AreNewest v.graph (seen disk) view → (d n : ℕ) (from : Place) (bytes : List ℕ) → FirstUncopied (index_of v.index) v.copies e d n from → IsFrameAt (shape v.extents) view ChunkFrame (as_locator from) bytes
+      → IsNoAnswer r ⊎ IsOfFault (fault_in v.extents view Chunk (as_locator from)) r ⊎ ((fault_in v.extents view Chunk (as_locator from) ≡ None) × ((r ≡ code.Full) ⊎ (r ≡ code.WornOut))))
+      (why : (view : ℕ → List ℕ) → AreNewest v.graph (seen disk) view → (d n : ℕ) (from : Place) (bytes : List ℕ) → FirstUncopied (index_of v.index) v.copies e d n from → IsFrameIn v.extents view ChunkFrame (as_locator from) bytes
       → IsNoAnswer r ⊎ IsWhy r (NowhereBy true v.extents (length (chunk_frame v.extents bytes))) (IsFrameWornBy true v.extents ForMove v.graph.staging (length (chunk_frame v.extents bytes)))) where
     module _ (s : State) (is : IsStateOf v s) (on : IsDiskOf (shape v.extents) (formats_of (shape v.extents)) s disk) where
       newest_r : AreNewest v.graph (seen disk) (pages_now (shape v.extents) s (seen disk))
@@ -191,19 +192,19 @@ module _ (v : Stored) (whole : IsWhole v.extents) (graph : IsWholeGraph v.graph)
       lives : first.2 ∈ live_at (index_of v.index) first.0
       lives = nth_in (live_at (index_of v.index) first.0) first.1 first.2 found.there
 
-      met_here : IsNoAnswer r ⊎ IsOfFault (fault_at (shape v.extents) (pages_now (shape v.extents) s (seen disk)) Chunk (as_locator first.2)) r
-          ⊎ ((fault_at (shape v.extents) (pages_now (shape v.extents) s (seen disk)) Chunk (as_locator first.2) ≡ None) × ((r ≡ code.Full) ⊎ (r ≡ code.WornOut)))
+      met_here : IsNoAnswer r ⊎ IsOfFault (fault_in v.extents (pages_now (shape v.extents) s (seen disk)) Chunk (as_locator first.2)) r
+          ⊎ ((fault_in v.extents (pages_now (shape v.extents) s (seen disk)) Chunk (as_locator first.2) ≡ None) × ((r ≡ code.Full) ⊎ (r ≡ code.WornOut)))
       met_here = met (pages_now (shape v.extents) s (seen disk)) newest_r first.0 first.1 first.2 found
 
       -- the frame is damaged
       damage_there : (d : IsDamage r) → s.opening.damage first.2 ≡ Some d.ground
       damage_there d = go met_here
         where
-          go : IsNoAnswer r ⊎ IsOfFault (fault_at (shape v.extents) (pages_now (shape v.extents) s (seen disk)) Chunk (as_locator first.2)) r
-              ⊎ ((fault_at (shape v.extents) (pages_now (shape v.extents) s (seen disk)) Chunk (as_locator first.2) ≡ None) × ((r ≡ code.Full) ⊎ (r ≡ code.WornOut)))
+          go : IsNoAnswer r ⊎ IsOfFault (fault_in v.extents (pages_now (shape v.extents) s (seen disk)) Chunk (as_locator first.2)) r
+              ⊎ ((fault_in v.extents (pages_now (shape v.extents) s (seen disk)) Chunk (as_locator first.2) ≡ None) × ((r ≡ code.Full) ⊎ (r ≡ code.WornOut)))
               → s.opening.damage first.2 ≡ Some d.ground
           go (inl none) = absurd (d.answered none)
-          go (inr (inl (f, fault, number))) = live_damaged v.extents s (seen disk) whole is.sound v.index is.parts.index first.0 first.2 f lives fault
+          go (inr (inl (f, fault, number))) = live_damaged v.extents s (seen disk) whole is.sound (found_as_much v.extents s is.parts.world.extents) v.index is.parts.index first.0 first.2 f lives fault
               ∙ ap (λ (g : Ground). Some g) (d.of_fault f number)
           go (inr (inr (none, place))) = absurd (d.placed place)
 
@@ -215,18 +216,18 @@ module _ (v : Stored) (whole : IsWhole v.extents) (graph : IsWholeGraph v.graph)
 
       -- no place, or no number
       module _ (place : (r ≡ code.Full) ⊎ (r ≡ code.WornOut)) where
-        no_fault : fault_at (shape v.extents) (pages_now (shape v.extents) s (seen disk)) Chunk (as_locator first.2) ≡ None
+        no_fault : fault_in v.extents (pages_now (shape v.extents) s (seen disk)) Chunk (as_locator first.2) ≡ None
         no_fault = go met_here
           where
-            go : IsNoAnswer r ⊎ IsOfFault (fault_at (shape v.extents) (pages_now (shape v.extents) s (seen disk)) Chunk (as_locator first.2)) r
-                ⊎ ((fault_at (shape v.extents) (pages_now (shape v.extents) s (seen disk)) Chunk (as_locator first.2) ≡ None) × ((r ≡ code.Full) ⊎ (r ≡ code.WornOut)))
-                → fault_at (shape v.extents) (pages_now (shape v.extents) s (seen disk)) Chunk (as_locator first.2) ≡ None
+            go : IsNoAnswer r ⊎ IsOfFault (fault_in v.extents (pages_now (shape v.extents) s (seen disk)) Chunk (as_locator first.2)) r
+                ⊎ ((fault_in v.extents (pages_now (shape v.extents) s (seen disk)) Chunk (as_locator first.2) ≡ None) × ((r ≡ code.Full) ⊎ (r ≡ code.WornOut)))
+                → fault_in v.extents (pages_now (shape v.extents) s (seen disk)) Chunk (as_locator first.2) ≡ None
             go (inl none) = absurd (not_answer r place none)
             go (inr (inl (f, fault, number))) = absurd (not_place r f place number)
             go (inr (inr (none, same_place))) = none
 
         chunk_whole : s.opening.damage first.2 ≡ None
-        chunk_whole = live_whole v.extents s (seen disk) whole is.sound v.index is.parts.index first.0 first.2 lives no_fault
+        chunk_whole = live_whole v.extents s (seen disk) whole is.sound (found_as_much v.extents s is.parts.world.extents) v.index is.parts.index first.0 first.2 lives no_fault
 
         payload_there : (payload : List ℕ) × ReadsNow (shape v.extents) (formats_of (shape v.extents)) s first.2 ChunkFrame payload
         payload_there = ⊎_elim
@@ -244,7 +245,7 @@ module _ (v : Stored) (whole : IsWhole v.extents) (graph : IsWholeGraph v.graph)
         reason = ⊎_elim
             (λ (none : IsNoAnswer r). absurd (not_answer r place none))
             (λ (is_why : IsWhy r Nowhere Worn). is_why)
-            (why (pages_now (shape v.extents) s (seen disk)) newest_r first.0 first.1 first.2 payload_there.0 found (frame_read v.extents whole s (seen disk) first.2 payload_there.0 payload_there.1))
+            (why (pages_now (shape v.extents) s (seen disk)) newest_r first.0 first.1 first.2 payload_there.0 found (frame_read v.extents s is.parts.world.extents (seen disk) whole is.sound first.2 payload_there.0 payload_there.1))
 
         full_there : NoRoomToCopy S F s e ↔ Nowhere
         full_there = copy_full v.extents v.graph v.index v.copies s (all_parts v s is) whole e first.0 first.1 first.2 found payload_there.0 payload_there.1
@@ -286,11 +287,11 @@ module _ (v : Stored) (whole : IsWhole v.extents) (graph : IsWholeGraph v.graph)
       → (result ≡ Ok None) ↔ AllCopied (index_of v.index) v.copies e
       → (result ≡ Ok None → (after ≡ v.copies) × (y ≡ v.extents) × (h ≡ v.graph))
       → ((id : ShardId) (k : ℕ) → result ≡ Ok (Some (id, k)) → (payload : List ℕ) × (made : IsCopyMade v.index v.extents v.graph v.copies e (id_number id) k payload after y h)
-      × ((view : ℕ → List ℕ) → AreNewest v.graph (seen disk) view → IsFrameAt (shape v.extents) view ChunkFrame (as_locator made.from) payload))
+      × ((view : ℕ → List ℕ) → AreNewest v.graph (seen disk) view → IsFrameIn v.extents view ChunkFrame (as_locator made.from) payload))
       → ((view : ℕ → List ℕ) → AreNewest v.graph (seen disk) view → (d n : ℕ) (from : Place) → FirstUncopied (index_of v.index) v.copies e d n from
-      → AnswersMove (fault_at (shape v.extents) view Chunk (as_locator from)) result)
+      → AnswersMove (fault_in v.extents view Chunk (as_locator from)) result)
       → ((view : ℕ → List ℕ) → AreNewest v.graph (seen disk) view → (d n : ℕ) (from : Place) (payload : List ℕ) → FirstUncopied (index_of v.index) v.copies e d n from
-      → IsFrameAt (shape v.extents) view ChunkFrame (as_locator from) payload → AnswersPlaceBy true v.extents v.graph.staging payload result)
+      → IsFrameIn v.extents view ChunkFrame (as_locator from) payload → AnswersPlaceBy true v.extents v.graph.staging payload result)
       → IfErr result (λ r. IsReadRefusal r ⊎ (r ≡ code.Full) ⊎ (r ≡ code.WornOut))
       → OnErr result (after ≡ v.copies) → OnErr result (y ≡ v.extents) → OnErr result (h ≡ record v.graph { room = h.room }) → shape y ≡ shape v.extents
       → MoveAnswers v disk e result (record v { extents = y; graph = h; copies = after })

@@ -14,7 +14,7 @@ use Rattle.cs_frame.specs.Formats.{formats_of}
 use Rattle.cs_frame.specs.Geometries.{IsGeometry, device_pages, named_limit, section_size}
 use Rattle.cs_image.proofs.Families.{root_in}
 use Rattle.cs_image.proofs.OneByOne.{live_count}
-use Rattle.cs_image.proofs.Superblocks.{read_format}
+use Rattle.cs_image.proofs.Superblocks.{read_format, read_shape}
 use Rattle.cs_image.specs.Counts.{AreThose, HasCount}
 use Rattle.cs_image.specs.Openings.{graph_at, index_at}
 use Rattle.cs_image.specs.Reads.{ArePages, AreSectionsRead, extents_at, page_total}
@@ -107,7 +107,8 @@ module _ (image : Image) (format : ℕ) (versions : List ℕ) (pages : ℕ) (wri
     pub one_map : (n : ℕ) (m : Map) → Recovers (shape x) (formats_of (shape x)) (page image) n m → (commands ≡ n) × HasCount (λ id. m id ≢ None) live
     one_map n m r =
         let found : IsFound (shape x) image (commands, live) = subst (λ (T : Shape). IsFound T image (commands, live)) opened.same_shape found_there in
-        let one = one_recovery (shape x) (formats_of (shape x)) (read_format (page image) format versions pages written sections_there) (page image) commands n found.0 m found.1 r in
+        let one = one_recovery (shape x) (formats_of (shape x)) (read_shape (page image) format versions pages written sections_there)
+        (read_format (page image) format versions pages written sections_there) (page image) commands n found.0 m found.1 r in
         let ids : List ℕ = found.2.0 in
         let those : AreThose (λ id. found.0 id ≢ None) ids = found.2.1 in (
           one.0,

@@ -1,62 +1,46 @@
 -- What first pages tell of a shard's size.
-use Rattle.std.proofs.Common.{◌≡◌, ◌≢◌, inl, inr, ◌∙◌, ℕ, suc, ◌+◌, ◌<◌, ◌≤◌, List, [], ◌∷◌, ◌++◌, Option, Some, None, Result, Ok, Err, length, map, refl, sym, ap, subst, arith}
+use Rattle.std.proofs.Common.{◌≡◌, ◌≢◌, inl, inr, ◌∙◌, ℕ, ◌≤◌, List, [], ◌∷◌, ◌++◌, Option, Some, None, Result, Ok, Err, length, map, refl, sym, ap, subst}
 use Rattle.std.specs.Prelude.{◌↔◌, MatchResult}
-use Rattle.cs_chunk.specs.Chunks.{AreChunksAt}
-use Rattle.cs_chunk.specs.Lengths.{AreHeadersAt, IsHeaderRefusal, IsOfHeader, lengths_at}
+use Rattle.cs_chunk.specs.Chunks.{AreChunksIn}
+use Rattle.cs_chunk.specs.Lengths.{AreHeadersIn, IsHeaderRefusal, IsOfHeaderIn, lengths_at}
 use Rattle.cs_chunk.specs.Newest.{AreNewest}
 use Rattle.cs_chunk.specs.Reads.{IsNoAnswer}
 use Rattle.cs_deps.specs.declared.refusals.Refusal.{Refusal as Code}
 use Rattle.cs_deps.specs.State.{IsWhole as IsWholeGraph}
-use Rattle.cs_disk.specs.Disk.{Image, State as DiskState, page, seen}
-use Rattle.cs_extent.specs.State.{IsWhole, State as ExtentsState, shape}
+use Rattle.cs_disk.specs.Disk.{Image, State as DiskState, seen}
+use Rattle.cs_extent.specs.State.{IsWhole, State as ExtentsState, extents_of, shape}
 use Rattle.cs_frame.specs.declared.locators.Locator.{Locator}
 use Rattle.cs_frame.specs.Formats.{as_locator, formats_of, place_of}
 use Rattle.cs_index.specs.State.{State as IndexState, index_of}
-use Rattle.cs_model.specs.Device.{Inside, Page, PageKind, Shape}
 use Rattle.cs_model.specs.Element.{Bytes, Content, Damaged, Locator as Place}
 use Rattle.cs_model.specs.Events.{newest_page}
-use Rattle.cs_model.specs.Formats.{ChunkFrame, Stand}
 use Rattle.cs_model.specs.Index.{ReadsAs, Value, joined, live, live_at, lookup}
 use Rattle.cs_model.specs.Sound.{Sound}
 use Rattle.cs_model.specs.State.{State, index_now, map_now}
 use Rattle.cs_refine.proofs.Indexes.{absent, live_same, looked_up}
-use Rattle.cs_refine.proofs.Shapes.{store_shape}
-use Rattle.cs_refine.specs.Devices.{pages_now, read_by}
+use Rattle.cs_refine.specs.Devices.{pages_now}
 use Rattle.cs_refine.specs.Parts.{IsIndexOf}
 use Rattle.cs_core.specs.Lookups.{IsSaid, IsSize, TellsSize}
 use Rattle.cs_core.specs.States.{IsStateOf}
 use Rattle.cs_core.specs.Stored.{Stored}
+use Rattle.cs_core.proofs.FramesRead.{frame_read}
 use Rattle.cs_core.proofs.Gets.{found_live, newest_there, there_and_back}
 use Rattle.cs_image.specs.Reads.{page_total}
 
 -- ---- the chunks of a shard that the map has
 
-module _ (x : ExtentsState) (s : State) (held : Image) (whole : IsWhole x) (sound : Sound (shape x) (formats_of (shape x)) s) where
-  abbrev view : ℕ → Page
-  view = pages_now (shape x) s held
-
-  at_frame : (e i : ℕ) → Inside (shape x) e i → view ((shape x).address e i) ≡ newest_page s ((shape x).address e i)
-  at_frame e i inside = ap (λ (k : PageKind). read_by k (newest_page s ((shape x).address e i)) (page held ((shape x).address e i))) ((store_shape x whole).frame_kind e i inside)
-
-  stand_here : (e i : ℕ) (bs : List Page) → e < (shape x).extents → i + length bs ≤ (shape x).pages
-      → Stand (shape x) (formats_of (shape x)) (newest_page s) e i bs → Stand (shape x) (formats_of (shape x)) view e i bs
-  stand_here e i [] there fits stand = tt
-  stand_here e i (b ∷ bs) there fits stand = (
-    at_frame e i (there, omega arith) ∙ stand.0,
-    stand_here e (suc i) bs there (omega arith) stand.1,
-  )
-
+module _ (x : ExtentsState) (s : State) (held : Image) (whole : IsWhole x) (sound : Sound (shape x) (formats_of (shape x)) s) (same : s.world.extents ≡ extents_of x) where
   -- where reading gives bytes, chunks of these bytes are there
   chunks_read : (ks : List Place) (bytes : List ℕ)
       → ReadsAs (shape x) (formats_of (shape x)) s.opening (newest_page s) s.world.extents.pointer s.world.extents.generation ks (Bytes bytes)
-      → (cs : List (List ℕ)) × AreChunksAt (shape x) view (map as_locator ks) cs × (bytes ≡ joined cs)
+      → (cs : List (List ℕ)) × AreChunksIn x (pages_now (shape x) s held) (map as_locator ks) cs × (bytes ≡ joined cs)
   chunks_read [] bytes reads = ([], tt, (let e : Bytes bytes ≡ Bytes [] = reads in cc))
   chunks_read (k ∷ ks) bytes (inl (chunk, Bytes rest, reads, more, is)) =
       let others = chunks_read ks rest more in
-      let same : bytes ≡ chunk ++ rest = (let e : Bytes bytes ≡ Bytes (chunk ++ rest) = is in cc) in (
+      let joins : bytes ≡ chunk ++ rest = (let e : Bytes bytes ≡ Bytes (chunk ++ rest) = is in cc) in (
         chunk ∷ others.0,
-        ((reads.inside, stand_here k.extent k.page ((formats_of (shape x)).frame ChunkFrame chunk) reads.passes.inside.0 reads.inside reads.stand), others.1),
-        same ∙ ap (λ (ys : List ℕ). chunk ++ ys) others.2,
+        (frame_read x s same held whole sound k chunk reads, others.1),
+        joins ∙ ap (λ (ys : List ℕ). chunk ++ ys) others.2,
       )
   chunks_read (k ∷ ks) bytes (inl (chunk, Damaged f, reads, more, is)) = absurd (let e : Bytes bytes ≡ Damaged f = is in cc)
   chunks_read (k ∷ ks) bytes (inr (f, damage, is)) = absurd (cc is)
@@ -66,7 +50,7 @@ module _ (x : ExtentsState) (s : State) (held : Image) (whole : IsWhole x) (soun
     same_live = live_same (index_of i) (index_now s) (looked_up i s.table s.runs is) id
 
     pub chunks_there : (bytes : List ℕ) → map_now s id ≡ Some (Bytes bytes)
-        → (cs : List (List ℕ)) × AreChunksAt (shape x) (pages_now (shape x) s held) (map as_locator (live_at (index_of i) id)) cs × (bytes ≡ joined cs)
+        → (cs : List (List ℕ)) × AreChunksIn x (pages_now (shape x) s held) (map as_locator (live_at (index_of i) id)) cs × (bytes ≡ joined cs)
     chunks_there bytes there =
         chunks_read (live_at (index_of i) id) bytes
         (subst (λ (ks : List Place). ReadsAs (shape x) (formats_of (shape x)) s.opening (newest_page s) s.world.extents.pointer s.world.extents.generation ks (Bytes bytes)) (sym same_live)
@@ -82,19 +66,19 @@ module _ (x : ExtentsState) (s : State) (held : Image) (whole : IsWhole x) (soun
 
 -- ---- what headers say, of places that were found
 
-module _ (S : Shape) (view : ℕ → List ℕ) (places : List Place) where
-  pub none_said : places ≡ [] → IsSaid S view (map as_locator places) (Ok None)
+module _ (x : ExtentsState) (view : ℕ → List ℕ) (places : List Place) where
+  pub none_said : places ≡ [] → IsSaid x view (map as_locator places) (Ok None)
   none_said none = ap (map as_locator) none
 
   module _ (ls : List Locator) (found : places ≡ map place_of ls) where
     same_places : map as_locator places ≡ ls
     same_places = ap (map as_locator) found ∙ there_and_back ls
 
-    pub some_said : (count : ℕ) → AreHeadersAt S view ls × (count ≡ lengths_at S view ls) → IsSaid S view (map as_locator places) (Ok (Some count))
-    some_said count told = subst (λ (ks : List Locator). AreHeadersAt S view ks × (count ≡ lengths_at S view ks)) (sym same_places) told
+    pub some_said : (count : ℕ) → AreHeadersIn x view ls × (count ≡ lengths_at (shape x) view ls) → IsSaid x view (map as_locator places) (Ok (Some count))
+    some_said count told = subst (λ (ks : List Locator). AreHeadersIn x view ks × (count ≡ lengths_at (shape x) view ks)) (sym same_places) told
 
-    pub refusal_said : (r : Code) → IsOfHeader S view ls r → IsSaid S view (map as_locator places) (Err r)
-    refusal_said r is = subst (λ (ks : List Locator). IsOfHeader S view ks r) (sym same_places) is
+    pub refusal_said : (r : Code) → IsOfHeaderIn x view ls r → IsSaid x view (map as_locator places) (Err r)
+    refusal_said r is = subst (λ (ks : List Locator). IsOfHeaderIn x view ks r) (sym same_places) is
 
 -- ---- what is told
 
@@ -110,7 +94,7 @@ module _ (v : Stored) (id : ℕ) (disk : DiskState) where
       (ls : List Locator) (found : live_at (index_of v.index) id ≡ map place_of ls) (some : ls ≢ []) where
     -- by what is answered where there are chunks
     size_told : (answers : List ℕ → Type 0) (result : Result (Option ℕ) Code)
-        → ((view : ℕ → List ℕ) (cs : List (List ℕ)) → AreNewest v.graph (seen disk) view → AreChunksAt (shape v.extents) view ls cs → answers (joined cs))
+        → ((view : ℕ → List ℕ) (cs : List (List ℕ)) → AreNewest v.graph (seen disk) view → AreChunksIn v.extents view ls cs → answers (joined cs))
         → ((bytes : List ℕ) → answers bytes → MatchResult result (λ n. n ≡ Some (length bytes)) IsNoAnswer)
         → MatchResult result (λ n. n ≢ None) IsHeaderRefusal → TellsSize v disk id result
     unfolding TellsSize
@@ -119,17 +103,17 @@ module _ (v : Stored) (id : ℕ) (disk : DiskState) where
         go : (c : Option Content) → map_now s id ≡ c → IsSize c result
         go None nothing = absurd (found_live v id ls found some ((map_of s is).1 nothing))
         go (Some (Bytes bytes)) there =
-            let chunks = chunks_there v.extents s (seen disk) whole is.sound v.index is.parts.index id bytes there in
+            let chunks = chunks_there v.extents s (seen disk) whole is.sound is.parts.world.extents v.index is.parts.index id bytes there in
             fits bytes (subst answers (sym chunks.2) (read (pages_now (shape v.extents) s (seen disk)) chunks.0 (newest_there v whole graph disk size s is on)
-            (subst (λ (ks : List Locator). AreChunksAt (shape v.extents) (pages_now (shape v.extents) s (seen disk)) ks chunks.0) (ap (map as_locator) found ∙ there_and_back ls) chunks.1)))
+            (subst (λ (ks : List Locator). AreChunksIn v.extents (pages_now (shape v.extents) s (seen disk)) ks chunks.0) (ap (map as_locator) found ∙ there_and_back ls) chunks.1)))
         go (Some (Damaged f)) there = damaged
 
     pub size_found : (count : ℕ)
-        → ((view : ℕ → List ℕ) (cs : List (List ℕ)) → AreNewest v.graph (seen disk) view → AreChunksAt (shape v.extents) view ls cs → count ≡ length (joined cs))
+        → ((view : ℕ → List ℕ) (cs : List (List ℕ)) → AreNewest v.graph (seen disk) view → AreChunksIn v.extents view ls cs → count ≡ length (joined cs))
         → TellsSize v disk id (Ok (Some count))
     size_found count read = size_told (λ bytes. count ≡ length bytes) (Ok (Some count)) read (λ bytes same. ap (λ n. Some n) same) (λ none. cc none)
 
     pub size_refused : (r : Code) → IsHeaderRefusal r
-        → ((view : ℕ → List ℕ) (cs : List (List ℕ)) → AreNewest v.graph (seen disk) view → AreChunksAt (shape v.extents) view ls cs → IsNoAnswer r)
+        → ((view : ℕ → List ℕ) (cs : List (List ℕ)) → AreNewest v.graph (seen disk) view → AreChunksIn v.extents view ls cs → IsNoAnswer r)
         → TellsSize v disk id (Err r)
     size_refused r is_header read = size_told (λ bytes. IsNoAnswer r) (Err r) read (λ bytes none. none) is_header

@@ -3,7 +3,7 @@ use Rattle.std.specs.Prelude.{List, [], ◌∷◌, ◌≡◌, ◌≤◌, ◌⊎�
 use Rattle.std.specs.List.{AllByRecursion}
 use Rattle.cs_deps.specs.declared.elements.Element.{Element as Name}
 use Rattle.cs_disk.specs.declared.disk.PageDisk.{Ghosts as PageDisk}
-use Rattle.cs_disk.specs.Disk.{LeavesOnly, page}
+use Rattle.cs_disk.specs.Disk.{GoesOn, LeavesOnly, page}
 use Rattle.cs_extent.specs.State.{shape}
 use Rattle.cs_refine.specs.Crashes.{IsPrefix}
 use Rattle.cs_core.specs.declared.events.Event.{Event}
@@ -45,6 +45,9 @@ module _ {D : Type 0} (disks : PageDisk D) where
     pub did : ((event : Event) × (reply : Reply) × Applies disks old event reply new) ⊎ IsUntouched disks old new ⊎ ((n : ℕ) × Replaces old n new)
     pub rises : old.store.frontier ≤ new.store.frontier
     pub stays_honest : disks.honest old.disk → disks.honest new.disk
+    pub pages : disks.page_count new.disk ≡ disks.page_count old.disk
+    -- a crash within leaves what one before it might have left, or what one after it may
+    pub time : GoesOn disks.honest disks.state disks.moment disks.left_since old.disk new.disk
     pub crash : disks.honest old.disk → LeavesOnly disks.moment disks.left_since old.disk new.disk (IsPrefix (shape old.store.extents) (page old.opened) (commands_said old.history) old.store.frontier old.store.accepted)
 
   -- one call and more, with these cores between them

@@ -17,5 +17,6 @@ pub mod States
 pub mod Steps
 pub mod Stored
 pub mod Sweepable
+pub mod Unstaged
 pub mod Views
 pub mod Writebacks

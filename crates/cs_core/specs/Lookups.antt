@@ -1,14 +1,13 @@
 -- What a core answers outside of its history.
 use Rattle.std.specs.Prelude.{◌≡◌, ◌≢◌, ◌⊎◌, ℕ, List, [], MatchResult, Option, Some, None, Result, Ok, Err, Vec, length}
 use Rattle.std.specs.declared.alloc.Global.{Global}
-use Rattle.cs_chunk.specs.Lengths.{AreHeadersAt, IsHeaderRefusal, IsOfHeader, lengths_at}
+use Rattle.cs_chunk.specs.Lengths.{AreHeadersIn, IsHeaderRefusal, IsOfHeaderIn, lengths_at}
 use Rattle.cs_chunk.specs.Reads.{IsNoAnswer}
 use Rattle.cs_deps.specs.declared.refusals.Refusal.{Refusal}
 use Rattle.cs_disk.specs.Disk.{State as DiskState}
-use Rattle.cs_extent.specs.State.{shape}
+use Rattle.cs_extent.specs.State.{State as ExtentsState, shape}
 use Rattle.cs_frame.specs.declared.locators.Locator.{Locator}
 use Rattle.cs_frame.specs.Formats.{formats_of}
-use Rattle.cs_model.specs.Device.{Shape}
 use Rattle.cs_model.specs.Element.{Bytes, Content, Damaged}
 use Rattle.cs_model.specs.Refusal.{Refusal as Ground}
 use Rattle.cs_model.specs.State.{State, map_now}
@@ -35,9 +34,9 @@ IsSize (Some (Damaged f)) result = MatchResult result (λ found. found ≢ None)
 unfoldable pub TellsSize : Stored → DiskState → (id : ℕ) → Result (Option ℕ) Refusal → Type 0
 TellsSize v disk id result = (s : State) → IsStateOf v s → IsDiskOf (shape v.extents) (formats_of (shape v.extents)) s disk → IsSize (map_now s id) result
 
--- what the headers at these places say: how many bytes together, None where there are no places; a refusal is that of the first header that fails, or the
--- device or memory refused
-abbrev pub IsSaid : Shape → (view : ℕ → List ℕ) → List Locator → Result (Option ℕ) Refusal → Type 0
-IsSaid S view ls (Ok None) = ls ≡ []
-IsSaid S view ls (Ok (Some count)) = AreHeadersAt S view ls × (count ≡ lengths_at S view ls)
-IsSaid S view ls (Err r) = IsOfHeader S view ls r
+-- what the headers at these places say, as far as frames may reach in these extents: how many bytes together, None where there are no places; a refusal is
+-- that of the first header that fails, or the device or memory refused
+abbrev pub IsSaid : ExtentsState → (view : ℕ → List ℕ) → List Locator → Result (Option ℕ) Refusal → Type 0
+IsSaid x view ls (Ok None) = ls ≡ []
+IsSaid x view ls (Ok (Some count)) = AreHeadersIn x view ls × (count ≡ lengths_at (shape x) view ls)
+IsSaid x view ls (Err r) = IsOfHeaderIn x view ls r

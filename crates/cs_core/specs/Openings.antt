@@ -1,8 +1,8 @@
 -- A store as it is opened, and why none is.
 use Rattle.std.specs.Prelude.{◌≡◌, ◌≢◌, ◌⊎◌, ◌+◌, ◌*◌, ◌<◌, ◌≤◌, ℕ, true, false, List, ◌∷◌, [], None, Some, length, map, slice_get}
 use Rattle.std.specs.List.{AllByRecursion}
-use Rattle.cs_chunk.specs.Chunks.{IsFrameAt}
-use Rattle.cs_chunk.specs.Reads.{IsNoAnswer, IsOfFault, fault_at}
+use Rattle.cs_chunk.specs.Chunks.{IsFrameIn}
+use Rattle.cs_chunk.specs.Reads.{IsNoAnswer, IsOfFault, fault_in}
 use Rattle.cs_deps.specs.declared.refusals.Refusal.{Refusal}
 use Rattle.cs_deps.specs.declared.refusals.Refusal.TheVariants.{NotAStore}
 use Rattle.cs_deps.specs.Refusals.{number_of}
@@ -203,8 +203,8 @@ pub record IsRootDamaged (count : ℕ) (view : ℕ → List ℕ) (r : Refusal) :
 -- no run is read at a place: it isn't located, or the frame there has this fault, or its payload has it
 abbrev pub IsWhyNotRead : ExtentsState → (view : ℕ → List ℕ) → Locator → Refusal → Type 0
 IsWhyNotRead x view place r = ((¬ IsLocated x place) × (r ≡ NotAStore))
-    ⊎ (IsLocated x place × IsOfFault (fault_at (shape x) view Run place) r)
-    ⊎ (IsLocated x place × ((payload : List ℕ) × IsFrameAt (shape x) view RunFrame place payload × IsOfFault (run_fault payload) r))
+    ⊎ (IsLocated x place × IsOfFault (fault_in x view Run place) r)
+    ⊎ (IsLocated x place × ((payload : List ℕ) × IsFrameIn x view RunFrame place payload × IsOfFault (run_fault payload) r))
 
 -- A run of the root isn't read, after all older ones were.
 pub record IsRunDamaged (count : ℕ) (view : ℕ → List ℕ) (r : Refusal) : Type 0 where

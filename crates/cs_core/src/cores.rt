@@ -6,12 +6,12 @@
 //! n isn't below the frontier, which no acknowledged number exceeds, nor above the number of commands accepted. The clauses `crash` and
 //! `left` of `Core::apply` say that the image is such a one; `a_crash_of_a_run_leaves_a_prefix` says it of many calls in a row;
 //! `recovers` of `Core::open` says that such an image is opened so.
-ghost use Rattle.std.specs.Prelude.{IfErr, IfOk, IsOk, IsSome, IsTrue, MatchOption, MatchResult, None, OnErr, OnOk, Some, [], false, length, take, true, ℕ, ◌<◌, ◌^◌, ◌↔◌, ◌≡◌, ◌≢◌, ◌≤◌, ◌⊎◌};
+ghost use Rattle.std.specs.Prelude.{IfErr, IfOk, IsOk, IsSome, IsTrue, MatchBool, MatchOption, MatchResult, None, OnErr, OnOk, Some, [], false, length, take, true, ℕ, ◌<◌, ◌^◌, ◌↔◌, ◌≡◌, ◌≢◌, ◌≤◌, ◌⊎◌};
 ghost use Rattle.cs_refine.specs.Crashes.{IsPrefix};
 ghost use Rattle.cs_chunk.specs.Reads.{IsNoAnswer};
 ghost use Rattle.cs_deps.specs.Named.{IsWithin};
 ghost use Rattle.cs_deps.specs.Staging.{IsKept};
-ghost use Rattle.cs_deps.specs.State.{AreCounted, everything};
+ghost use Rattle.cs_deps.specs.State.{AreCounted, IsWhole as IsWholeGraph, everything};
 ghost use Rattle.cs_deps.specs.View.{pending_of, rounds_of};
 ghost use Rattle.cs_disk.specs.Disk.{GoesOn, Leaves, LeavesOnly, MayLeave, Rises, flushed, page, seen};
 ghost use Rattle.cs_extent.specs.State.{IsWhole, extents_of, shape};
@@ -30,6 +30,7 @@ ghost use Rattle.cs_core.specs.Meanings.{commands_said};
 ghost use Rattle.cs_core.specs.Openings.{IsOpened, IsOpeningRefusal, IsWhyNotOpened};
 ghost use Rattle.cs_core.specs.Replays.{replayed};
 ghost use Rattle.cs_core.specs.Replies.{MayAnswer};
+ghost use Rattle.cs_core.specs.Unstaged.{MayStage, NothingToStage};
 ghost use Rattle.cs_core.specs.Started.{IsHeadWritten, IsNewOn, new_stored};
 ghost use Rattle.cs_core.specs.Views.{Applies, IsCore, IsUntouched, IsFound, IsIn, kept};
 ghost use Rattle.cs_core.specs.Writebacks.{WritesBack};
@@ -396,21 +397,24 @@ impl<D: PageDisk> Core<D> {
         // What the laws of cores ask for.
         ensures core { IsCore D.PageDisk self.now }
         ensures whole { IsWhole self.now.store.extents }
+        ensures graph { IsWholeGraph self.now.store.graph }
         // Where the disk is honest the history led to a state of the machine in which disk and store are.
         ensures legal { D.honest self.now.disk → (s : State) × IsIn D.state self.now s }
         // A crash now leaves the map after some of the commands, none of the persistent ones left out.
         ensures left { D.honest self.now.disk → Leaves (D.state self.now.disk) (IsPrefix (shape self.now.store.extents) (page self.now.opened) (commands_said self.now.history) self.now.store.frontier self.now.store.accepted) }
     {
-        // Called for its contract alone: what all extents keep.
+        // Called for their contracts alone: what all extents and all graphs keep.
         self.store.extent_count();
+        self.store.graph.families();
         (self.store.accepted(), self.store.frontier())
     }
 
-    /// Whether the index has changes that aren't staged.
-    pub fn has_changes(&self) -> bool
-        ensures { IsTrue result ↔ (self.now.store.index.table ≢ []) }
+    /// Whether a Stage stages a root: the index has changes that aren't staged, or, where chunks and runs lie apart, a sweep that was given up
+    /// left copies.
+    pub fn may_stage(&self) -> bool
+        ensures { MatchBool result (MayStage self.now.store) (NothingToStage self.now.store) }
     {
-        !self.store.index.is_table_empty()
+        self.store.may_stage()
     }
 
     /// How many extents there are.

@@ -1,5 +1,5 @@
 //! Laws of cores. Each function does nothing; its contract is the law.
-ghost use Rattle.std.specs.Prelude.{◌≡◌, ◌+◌, ◌<◌, ℕ, List, [], length};
+ghost use Rattle.std.specs.Prelude.{◌≡◌, ◌≢◌, ◌↔◌, ◌+◌, ◌<◌, ℕ, List, [], length};
 ghost use Rattle.cs_deps.specs.Chain.{IsHeight};
 ghost use Rattle.cs_deps.specs.declared.elements.Element.{Element as Item};
 ghost use Rattle.cs_deps.specs.Pending.{Waits};
@@ -7,6 +7,7 @@ ghost use Rattle.cs_deps.specs.Staging.{IsKept};
 ghost use Rattle.cs_disk.specs.Disk.{LeavesOnly, page};
 ghost use Rattle.cs_extent.specs.State.{shape};
 ghost use Rattle.cs_frame.specs.Formats.{formats_of};
+ghost use Rattle.cs_model.specs.Apart.{MayStage as MayStageIn, by_rule};
 ghost use Rattle.cs_model.specs.Disk.{page_writes};
 ghost use Rattle.cs_model.specs.State.{State};
 ghost use Rattle.cs_refine.specs.Crashes.{IsPrefix};
@@ -15,6 +16,7 @@ ghost use Rattle.cs_core.specs.Meanings.{commands_said};
 ghost use Rattle.cs_core.specs.Calls.{AreCalls, IsRoundDone};
 ghost use Rattle.cs_core.specs.States.{IsStateOf};
 ghost use Rattle.cs_core.specs.Stored.{Stored};
+ghost use Rattle.cs_core.specs.Unstaged.{MayStage};
 ghost use Rattle.cs_core.specs.Views.{IsCore, IsReached, View};
 
 use cs_disk::PageDisk;
@@ -23,6 +25,12 @@ use cs_disk::PageDisk;
 pub fn all_accepted_is_persistent_at_rest<D: PageDisk>()
     ensures { (v : View D) → IsCore D.PageDisk v → D.honest v.disk
         → v.store.graph.staging.pending.waiting ≡ [] → v.store.index.table ≡ [] → v.store.frontier ≡ v.store.accepted }
+{}
+
+/// A store has something to stage a root for, as `Core::may_stage` tells, where the machine has in the state that it is in.
+pub fn what_may_be_staged_agrees()
+    ensures { (v : Stored) (s : State) → IsStateOf v s
+        → MayStage v ↔ by_rule (shape v.extents).apart (s.table ≢ []) (MayStageIn (shape v.extents) s) }
 {}
 
 /// A round that begins and ends lowers by one the height of each element that waited as it began and waits still, whatever is

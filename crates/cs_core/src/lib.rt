@@ -40,5 +40,5 @@ pub use cores::{Core, Limits};
 pub use events::{Event, OutOfMemory, Reply};
 pub use laws::{
     a_crash_of_a_run_leaves_a_prefix, a_round_lowers_heights_by_one,
-    all_accepted_is_persistent_at_rest, disks_hold_what_is_persistent,
+    all_accepted_is_persistent_at_rest, disks_hold_what_is_persistent, what_may_be_staged_agrees,
 };

@@ -3,10 +3,10 @@
 //! These calls are no events: nothing is recorded of them, so the history doesn't keep the bytes that they give, and they are answered
 //! however many events are kept, and in a halted core too.
 ghost use Rattle.std.specs.Prelude.{IfErr, IfOk, IsTrue, List, MatchResult, None, [], length, map, ℕ, ◌+◌, ◌<◌, ◌↔◌, ◌≡◌, ◌≢◌, ◌≤◌, ◌⊎◌};
-ghost use Rattle.cs_chunk.specs.Chunks.{IsFrameAt, kind_of};
-ghost use Rattle.cs_chunk.specs.Lengths.{IsHeaderRefusal, header_fault_at, length_at};
+ghost use Rattle.cs_chunk.specs.Chunks.{IsFrameIn, kind_of};
+ghost use Rattle.cs_chunk.specs.Lengths.{IsHeaderRefusal, header_fault_in, length_at};
 ghost use Rattle.cs_chunk.specs.Newest.{AreNewest};
-ghost use Rattle.cs_chunk.specs.Reads.{AnswersFault, IsCaused, IsNoAnswer, IsOfFault, IsReadRefusal, OnlyReads, fault_at};
+ghost use Rattle.cs_chunk.specs.Reads.{AnswersFault, IsCaused, IsNoAnswer, IsOfFault, IsReadRefusal, OnlyReads, fault_in};
 ghost use Rattle.cs_disk.specs.Disk.{LeavesOnly, page, seen};
 ghost use Rattle.cs_extent.specs.State.{shape};
 ghost use Rattle.cs_frame.specs.Formats.{as_locator, formats_of};
@@ -59,7 +59,7 @@ impl<D: PageDisk> Core<D> {
         ensures answer { D.honest self.old.disk → (s : State) → IsIn D.state self.old s → IsSize (map_now s (id_number id)) result }
         // Also of a damaged shard what is told is what the headers say.
         ensures headers { D.honest self.old.disk → (view : ℕ → List ℕ) → AreNewest self.old.store.graph (seen (D.state self.old.disk)) view
-            → IsSaid (shape self.old.store.extents) view (map as_locator (live_at (index_of self.old.store.index) (id_number id))) result }
+            → IsSaid self.old.store.extents view (map as_locator (live_at (index_of self.old.store.index) (id_number id))) result }
         // Whatever the disk does, None is answered where the index has no places of the shard's chunks, and nowhere else.
         ensures absent { (result ≡ Ok None) ↔ (live_at (index_of self.old.store.index) (id_number id) ≡ []) }
         ensures refusals { IfErr result IsHeaderRefusal }
@@ -93,13 +93,13 @@ impl<D: PageDisk> Core<D> {
         requires page { place.page < (shape self.old.store.extents).pages }
         // What is read is the payload of a frame there.
         ensures payload { D.honest self.old.disk → (view : ℕ → List ℕ) → AreNewest self.old.store.graph (seen (D.state self.old.disk)) view
-            → IfOk result (λ payload. IsFrameAt (shape self.old.store.extents) view (kind_of kind) place payload.items) }
+            → IfOk result (λ payload. IsFrameIn self.old.store.extents view (kind_of kind) place payload.items) }
         // Where there is a frame its payload is read, unless the device or memory refuses.
         ensures read { D.honest self.old.disk → (view : ℕ → List ℕ) (payload : List ℕ) → AreNewest self.old.store.graph (seen (D.state self.old.disk)) view
-            → IsFrameAt (shape self.old.store.extents) view (kind_of kind) place payload → MatchResult result (λ found. found.items ≡ payload) IsNoAnswer }
+            → IsFrameIn self.old.store.extents view (kind_of kind) place payload → MatchResult result (λ found. found.items ≡ payload) IsNoAnswer }
         // Each other refusal is that of the first test that fails.
         ensures fault { D.honest self.old.disk → (view : ℕ → List ℕ) → AreNewest self.old.store.graph (seen (D.state self.old.disk)) view
-            → AnswersFault (fault_at (shape self.old.store.extents) view kind place) result }
+            → AnswersFault (fault_in self.old.store.extents view kind place) result }
         ensures refusals { IfErr result IsReadRefusal }
         // Whatever the disk answers, the frame of what is read lies in the extent.
         ensures size { IfOk result (λ payload. place.page + length ((formats_of (shape self.old.store.extents)).frame (kind_of kind) payload.items) ≤ (shape self.old.store.extents).pages) }
@@ -128,13 +128,13 @@ impl<D: PageDisk> Core<D> {
             → IfOk result (λ count. count ≡ length_at (shape self.old.store.extents) view place) }
         // Where there is a frame its payload's length is told, unless the device or memory refuses.
         ensures read { D.honest self.old.disk → (view : ℕ → List ℕ) (payload : List ℕ) → AreNewest self.old.store.graph (seen (D.state self.old.disk)) view
-            → IsFrameAt (shape self.old.store.extents) view (kind_of kind) place payload → MatchResult result (λ count. count ≡ length payload) IsNoAnswer }
+            → IsFrameIn self.old.store.extents view (kind_of kind) place payload → MatchResult result (λ count. count ≡ length payload) IsNoAnswer }
         // Each other refusal is that of the first of the header's tests that fails.
         ensures header { D.honest self.old.disk → (view : ℕ → List ℕ) → AreNewest self.old.store.graph (seen (D.state self.old.disk)) view
-            → AnswersFault (header_fault_at (shape self.old.store.extents) view kind place) result }
+            → AnswersFault (header_fault_in self.old.store.extents view kind place) result }
         // So it is that of the frame's first test that fails.
         ensures fault { D.honest self.old.disk → (view : ℕ → List ℕ) → AreNewest self.old.store.graph (seen (D.state self.old.disk)) view
-            → IfErr result (λ r. IsNoAnswer r ⊎ IsOfFault (fault_at (shape self.old.store.extents) view kind place) r) }
+            → IfErr result (λ r. IsNoAnswer r ⊎ IsOfFault (fault_in self.old.store.extents view kind place) r) }
         ensures refusals { IfErr result IsHeaderRefusal }
         // Whatever the disk answers, a frame of so many bytes lies in the extent.
         ensures size { IfOk result (λ count. place.page + page_count count ≤ (shape self.old.store.extents).pages) }

@@ -1,10 +1,11 @@
 //! Runs and roots.
-ghost use Rattle.std.specs.Prelude.{◌≡◌, ◌≢◌, ◌+◌, ◌⊎◌, [], IfErr, IfOk, MatchOption, OnErr, OnOk, false, true};
+ghost use Rattle.std.specs.Prelude.{◌≡◌, ◌≢◌, ◌+◌, ◌⊎◌, [], IfErr, IfOk, MatchBool, MatchOption, OnErr, OnOk, false, true};
 ghost use Rattle.cs_extent.specs.State.{shape};
 ghost use Rattle.cs_model.specs.State.{Stage};
 ghost use Rattle.cs_core.specs.Replies.{MayRefuse};
 ghost use Rattle.cs_core.specs.Steps.{Answers, staged_or_not};
 ghost use Rattle.cs_core.specs.Stored.{but_for_room};
+ghost use Rattle.cs_core.specs.Unstaged.{MayStage, NothingToStage, are_left_over};
 ghost use Rattle.cs_core.specs.Writebacks.{KeepsRound, Stages};
 
 use crate::events::Event;
@@ -13,6 +14,24 @@ use crate::stores::Store;
 use cs_deps::Refusal;
 
 impl Store {
+    /// Whether a Stage stages a root: the index has changes that aren't staged, or, where chunks and runs lie apart, a sweep that was given up
+    /// left copies.
+    pub fn may_stage(&self) -> bool
+        ensures { MatchBool result (MayStage self.now) (NothingToStage self.now) }
+    {
+        if self.index.is_table_empty() {
+            return self.are_left_over();
+        }
+        true
+    }
+
+    /// Whether a sweep that was given up left copies.
+    fn are_left_over(&self) -> bool
+        ensures { result ≡ are_left_over self.now }
+    {
+        self.extents.is_apart() && self.copies.are_left_over(&self.extents)
+    }
+
     /// Stages the index's changes as a run, and the next root over all runs, and gives that root's version; None where nothing
     /// has changed. Up to format 2, where there are four runs already, one run of all that is live takes the place of all; in format 3 the
     /// run takes the place of as many of the newest runs as their sizes ask for, or of all where that one goes nowhere, a root alone is

@@ -18,3 +18,10 @@ returns-clause-left g c = λ honest.
 
 pub returns-clause-core : goal.returns-clause-core
 returns-clause-core g c = rw (← c.self.view_is) c.self.invariant
+
+pub returns-clause-graph : goal.returns-clause-graph
+returns-clause-graph g c = rw (← c.self.view_is) (rw (← c.self-inside.view_is) (record {
+  kept = c.families.ensures.whole.kept;
+  out = c.families.ensures.whole.out;
+  writes = c.families.ensures.whole.writes;
+}))

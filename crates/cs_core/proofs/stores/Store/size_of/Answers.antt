@@ -53,16 +53,16 @@ returns-in-Err-clause-absent g c = rw (← c.self.view_is) (
 
 pub returns-in_default-clause-headers : goal.returns-in_default-clause-headers
 returns-in_default-clause-headers g c = rw (← c.self.view_is) (λ honest view are.
-    none_said (shape c.self.inside.extents) view (live_at (index_of c.self.inside.index) (id_number c.args.id)) (sym (ap live c.in_default.ensures.last)))
+    none_said c.self.inside.extents view (live_at (index_of c.self.inside.index) (id_number c.args.id)) (sym (ap live c.in_default.ensures.last)))
 
 pub returns-then-is_empty-clause-headers : goal.returns-then-is_empty-clause-headers
 returns-then-is_empty-clause-headers g c = rw (← c.self.view_is) (λ honest view are.
-    none_said (shape c.self.inside.extents) view (live_at (index_of c.self.inside.index) (id_number c.args.id)) (sym (ap live c.in-Some.ensures.last) ∙ none_left c.in-Some.places.now c.if-is_empty.ensures))
+    none_said c.self.inside.extents view (live_at (index_of c.self.inside.index) (id_number c.args.id)) (sym (ap live c.in-Some.ensures.last) ∙ none_left c.in-Some.places.now c.if-is_empty.ensures))
 
 pub returns-in-Ok-clause-headers : goal.returns-in-Ok-clause-headers
 returns-in-Ok-clause-headers g c = rw (← c.self.view_is) (λ honest view are.
-    some_said (shape c.self.inside.extents) view (live_at (index_of c.self.inside.index) (id_number c.args.id)) c.in-Some.places.now (sym (ap live c.in-Some.ensures.last)) c.in-Ok.count (c.in-Ok.ensures.told honest view are))
+    some_said c.self.inside.extents view (live_at (index_of c.self.inside.index) (id_number c.args.id)) c.in-Some.places.now (sym (ap live c.in-Some.ensures.last)) c.in-Ok.count (c.in-Ok.ensures.told honest view are))
 
 pub returns-in-Err-clause-headers : goal.returns-in-Err-clause-headers
 returns-in-Err-clause-headers g c = rw (← c.self.view_is) (λ honest view are.
-    refusal_said (shape c.self.inside.extents) view (live_at (index_of c.self.inside.index) (id_number c.args.id)) c.in-Some.places.now (sym (ap live c.in-Some.ensures.last)) c.in-Err.refusal (c.in-Err.ensures.header honest view are))
+    refusal_said c.self.inside.extents view (live_at (index_of c.self.inside.index) (id_number c.args.id)) c.in-Some.places.now (sym (ap live c.in-Some.ensures.last)) c.in-Err.refusal (c.in-Err.ensures.header honest view are))
