@@ -1,8 +1,10 @@
+pub mod Choosing
 pub mod Chunks
 pub mod Counts
 pub mod Freeing
 pub mod Gaining
 pub mod Given
+pub mod MachineAside
 pub mod MachineBlank
 pub mod MachineChunks
 pub mod MachineCopies

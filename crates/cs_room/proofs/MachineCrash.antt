@@ -1,5 +1,5 @@
 -- What a crash leaves of a state of which room has the roots has room.
-use Rattle.std.proofs.Common.{◌≡◌, inl, inr, ⊎_elim, ℕ, zero, suc, pred, ◌+◌, ◌-◌, ◌<◌, ◌≤◌, ◌==◌, ◌&&◌, Bool, true, false, nat_lt, List, [], ◌∷◌, ◌++◌, length, map, Option, Some, None, if◌then◌else◌, eq-eqb, eqb-true, lt-ltb, le_refl, le_trans, le_of_eq, true≢false, refl, sym, ap, ap₂, ◌∙◌, subst, arith}
+use Rattle.std.proofs.Common.{◌≡◌, inl, inr, ⊎_elim, ℕ, zero, suc, pred, ◌+◌, ◌-◌, ◌<◌, ◌≤◌, ◌==◌, ◌&&◌, Bool, true, false, List, [], ◌∷◌, ◌++◌, length, map, Some, if◌then◌else◌, eqb-true, le_refl, le_trans, le_of_eq, true≢false, refl, sym, ap, ap₂, ◌∙◌, subst, arith}
 use Rattle.std.proofs.lemmas.Bool.{cases_lt, or_cases}
 use Rattle.std.proofs.lemmas.List.{append_assoc}
 use Rattle.cs_model.proofs.Carries.{carry_reads}

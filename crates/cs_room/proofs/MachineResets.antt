@@ -86,6 +86,10 @@ module _ (S : Shape) (apart : S.apart ≡ true) (x : Extents) (root : ℕ) (test
   fresh_after_all zero = refl
   fresh_after_all (suc n) = (one_forgotten (test n) n (reset_all S x root test n)).2 ∙ fresh_after_all n
 
+  pub swept_after_all : (n : ℕ) → (reset_all S x root test n).swept ≡ x.swept
+  swept_after_all zero = refl
+  swept_after_all (suc n) = (one_forgotten (test n) n (reset_all S x root test n)).3 ∙ swept_after_all n
+
   -- d was reset; it is as it was
   pub record IsEmptied (n d : ℕ) (z : Extents) : Type 0 where
     pub below : d < n

@@ -28,7 +28,7 @@ use Rattle.cs_room.proofs.MachineFreed.{asides_alike}
 use Rattle.cs_room.proofs.MachineMoves.{IsAmong, among, this_copy}
 use Rattle.cs_room.proofs.MachineRetired.{IsSettled, chunks_settle, has_number, in_targets, settled_ids, settled_or_not, table_before, table_still}
 use Rattle.cs_room.proofs.MachineSettled.{map_from, nth_map, places_settled, settled_place}
-use Rattle.cs_room.proofs.MachineStaged.{merge_leaves, staged_unopened, stage_there}
+use Rattle.cs_room.proofs.MachineStaged.{merge_leaves, rested_fresh, staged_unopened, stage_there}
 use Rattle.cs_room.proofs.MachineStages.{IsBefore, IsStaged}
 use Rattle.cs_room.proofs.MachineSweeps.{all_copies, no_copies, none_aside, some_sweep, unmarked_below}
 use Rattle.cs_room.proofs.Retiring.{retire_keeps}
@@ -275,3 +275,19 @@ module _ (S : Shape) (F : Formats) (shape : IsShape S) (format : IsFormat S F) (
               (sym (ap (λ (x : State). x.copies) is) ∙ none);
         },
       )
+
+  -- no extent is one that a sweep opened then
+  pub retired_fresh : (s t : State) (r : Room) (e v : ℕ) → HasRoomNow S F s r → Step S F s (Retire e) (Retired v) t
+      → t.world.extents.fresh ≡ None
+  retired_fresh s t r e v room step =
+      let o = apart_rule _ _ S.apart apart step.1 in
+      let end = ending s r e room o.0 in
+      let w : Sweep = end.0 in
+      let m : State = now_settled s r e w end.1 in
+      let m_is : machine_settled (mark s e false) ≡ m =
+      ap (λ (x : State). record x { copies = [] }) (settle_all_is (mark s e false) s.copies) in
+      let stages = subst (λ (x : State). StagesApart S F x t) m_is o.3 in
+      let left = merge_leaves S F shape format apart m stages.0 stages.1 stages.2 in
+      ap (λ (x : State). x.world.extents.fresh) stages.3
+      ∙ rested_fresh S F shape format apart stages.0 stages.1
+      (ap (λ (f : ℕ → Bool). any_below f S.extents) left.2 ∙ unmarked s r e w end.1)

@@ -25,7 +25,7 @@ use Rattle.cs_model.specs.Step.{Step}
 use Rattle.cs_room.proofs.Chunks.{has_of, has_there, none_on}
 use Rattle.cs_room.proofs.Given.{chunks_not_empty, runs_not_empty}
 use Rattle.cs_room.proofs.MachineIds.{swept_of}
-use Rattle.cs_room.proofs.MachineResets.{fresh_after_all}
+use Rattle.cs_room.proofs.MachineResets.{swept_after_all, fresh_after_all}
 use Rattle.cs_room.proofs.MachineRoots.{now_rooted}
 use Rattle.cs_room.proofs.MachineStages.{IsBefore, IsStaged, empty_stage, merge_stage, rooted_stage, run_stage}
 use Rattle.cs_room.proofs.MachineSweeps.{some_sweep}
@@ -157,6 +157,29 @@ module _ (S : Shape) (F : Formats) (shape : IsShape S) (format : IsFormat S F) (
       × (mid.world.extents.swept ≡ s.world.extents.swept)
   merge_leaves s mid runs (inl m) = part_leaves s mid runs (takes S s) (deletions_go S s (takes S s)) m
   merge_leaves s mid runs (inr m) = all_leaves s mid runs (length s.runs) (deletions_go S s (length s.runs)) m.1
+
+  -- where no sweep goes on as a root is staged, no extent is one that a sweep opened then
+  pub rested_fresh : (mid : State) (runs : List Run) → any_swept S mid ≡ false
+      → (rooted_apart S F mid runs).world.extents.fresh ≡ None
+  rested_fresh mid runs off =
+      fresh_after_all S apart (now_rooted S F apart mid runs).world.extents (now_rooted S F apart mid runs).world.root
+      (is_blank S (now_rooted S F apart mid runs)) S.extents ∙ rw off refl
+
+  -- nor is any where none was before
+  pub fresh_still : (mid : State) (runs : List Run) → mid.world.extents.fresh ≡ None
+      → (rooted_apart S F mid runs).world.extents.fresh ≡ None
+  fresh_still mid runs none =
+      fresh_after_all S apart (now_rooted S F apart mid runs).world.extents (now_rooted S F apart mid runs).world.root
+      (is_blank S (now_rooted S F apart mid runs)) S.extents ∙ go (any_swept S mid)
+    where
+      go : (b : Bool) → (if b then mid.world.extents.fresh else None) ≡ None
+      go true = none
+      go false = refl
+
+  -- the same extents are marked
+  pub swept_still : (mid : State) (runs : List Run) → (rooted_apart S F mid runs).world.extents.swept ≡ mid.world.extents.swept
+  swept_still mid runs = swept_after_all S apart (now_rooted S F apart mid runs).world.extents
+      (now_rooted S F apart mid runs).world.root (is_blank S (now_rooted S F apart mid runs)) S.extents
 
   -- where a root was staged no copy is noted but those of the unfinished sweep
   pub staged_unopened : (mid : State) (runs : List Run) → (any_swept S mid ≡ true → mid.copies ≡ []

@@ -47,7 +47,7 @@ module _ (S : Shape) (F : Formats) (shape : IsShape S) (format : IsFormat S F) (
   sync_step (Settle n) reply r q is does = inl does
   sync_step event reply r q none does = absurd none
 
-  syncs : (s t : State) (r : Room) (history : List (Event × Reply)) → HasRoomNow S F s r → History S F s history t
+  pub syncs : (s t : State) (r : Room) (history : List (Event × Reply)) → HasRoomNow S F s r → History S F s history t
       → NoneWorn S t → ((x : Event × Reply) → x ∈ history → IsSyncing x.0)
       → (n : ℕ) × (q : Room) × Syncs S S.run_extents n r q × HasRoomNow S F t q
   syncs s t r [] has is young all = (0, r, refl, subst (λ (x : State). HasRoomNow S F x r) (sym is) has)
@@ -95,7 +95,7 @@ module _ (S : Shape) (F : Formats) (shape : IsShape S) (format : IsFormat S F) (
         four.3,
       )
 
-  young_swept : (s t : State) (e : ℕ) → IsSweptIn S F s e t → NoneWorn S t → NoneWorn S s
+  pub young_swept : (s t : State) (e : ℕ) → IsSweptIn S F s e t → NoneWorn S t → NoneWorn S s
   young_swept s t e swept young = young_step S F shape format apart s swept.begun (BeginSweep e) Sweeping swept.begins
       (young_history S F shape format apart swept.begun swept.moved swept.copies swept.goes
       (young_step S F shape format apart swept.moved swept.retired (Retire e) (Retired swept.version) swept.retires

@@ -9,7 +9,7 @@ use Rattle.cs_room.specs.Rooms.{Chunk, Empty, Holding, OfChunks, Room, Sweep, an
 use Rattle.cs_room.specs.Sweeps.{IsChunkExtent, IsSwept}
 use Rattle.cs_room.proofs.Chunks.{any_of, left_le, settle_live, sum_none}
 use Rattle.cs_room.proofs.Counts.{count_two}
-use Rattle.cs_room.proofs.Gaining.{IsKept, IsSweptWith, no_more, single, swept_with}
+use Rattle.cs_room.proofs.Gaining.{IsKept, IsSweptWith, no_more, single, swept_keeps, swept_with}
 use Rattle.cs_room.proofs.Given.{chunks_not_empty, kind_stays, pointer_here}
 use Rattle.cs_room.proofs.Moving.{fresh_fits, fresh_from, left_before, moved_at_most, moved_live, moved_there}
 use Rattle.cs_room.proofs.Places.{sweep_of}
@@ -117,11 +117,18 @@ module _ (S : Shape) (J : ℕ) where
         fresh = λ f at. absurd (nothing f at);
       }) swept
 
-  -- f: the extent that the first sweep opened, behind which all that lives on b fits
-  second_gains : (s t u : Room) (a b f : ℕ) → 1 ≤ J → both s a b ≤ S.pages → IsSwept S J s a t → Keeps S J s
-      → (all : IsSweptWith S J (FitWith b (both s a b)) s a t) → all.moves.sweep.fresh ≡ Some f
-      → t.holds f ≡ OfChunks → IsSwept S J t b u → chunk_extents u S.extents < chunk_extents s S.extents
-  second_gains s t u a b f some fits swept keeps all at there again =
+  -- all that lives on b fits behind the extent to which the last copy went, which is another one
+  pub record FitsBehindLast (t : Room) (b : ℕ) : Type 0 where
+    pub place : ℕ
+    pub last : t.last ≡ Some place
+    pub chunks : IsChunkExtent S J t place
+    pub apart : place ≢ b
+    pub fits : t.pointer place + live_pages t.chunks b ≤ S.pages
+
+  -- f: the extent that the first sweep opened
+  behind_last : (s t : Room) (a b f : ℕ) → both s a b ≤ S.pages → (all : IsSweptWith S J (FitWith b (both s a b)) s a t)
+      → all.moves.sweep.fresh ≡ Some f → t.holds f ≡ OfChunks → FitsBehindLast t b
+  behind_last s t a b f fits all at there =
       let m : Room = all.moved in
       let sweep : IsSweep S J m all.moves.sweep = sweep_of S J m all.moves.sweep all.moves.keeps all.moves.is in
       let fresh = sweep.fresh f at in
@@ -133,27 +140,27 @@ module _ (S : Shape) (J : ℕ) where
       m.chunks b in
       let same : live_pages t.chunks b ≡ live_pages (map settle m.chunks) b = ap (λ (cs : List Chunk). live_pages cs b)
       all.staged.chunks in
-      let less : chunk_extents t S.extents ≤ chunk_extents s S.extents = no_more S J s t a some keeps swept in
       ⊎_elim
-      (λ kept. let pointer : t.pointer f ≡ m.pointer f = kept.1 in
-      let gained : chunk_extents u S.extents < chunk_extents t S.extents = single S J t u f b some all.keeps
-      (kept.2 fresh.1) (target.0, there) fit.0 (omega arith) again in omega arith)
+      (λ kept. let pointer : t.pointer f ≡ m.pointer f = kept.1 in record {
+        place = f;
+        last = kept.2 fresh.1;
+        chunks = (target.0, there);
+        apart = fit.0;
+        fits = omega arith;
+      })
       (λ gone. absurd (gone there))
       (all.staged.kept f target.1)
 
-  pub pair : (s t : Room) (a b : ℕ) → 1 ≤ J → Keeps S J s → a ≢ b → IsChunkExtent S J s b
+  -- a sweep of two extents' first gives an extent; or all that lives on the second fits behind the last copy then
+  pub first_or_behind : (s t : Room) (a b : ℕ) → 1 ≤ J → Keeps S J s → a ≢ b → IsChunkExtent S J s b
       → live_pages s.chunks a + live_pages s.chunks b ≤ S.pages → IsSwept S J s a t
-      → (chunk_extents t S.extents < chunk_extents s S.extents)
-      ⊎ (IsChunkExtent S J t b × ((u : Room) → IsSwept S J t b u
-      → chunk_extents u S.extents < chunk_extents s S.extents))
-  pair s t a b some keeps apart chunks fits swept = by_fresh (pair_swept s t a b some keeps chunks swept)
+      → (chunk_extents t S.extents < chunk_extents s S.extents) ⊎ (IsChunkExtent S J t b × FitsBehindLast t b)
+  first_or_behind s t a b some keeps apart chunks fits swept = by_fresh (pair_swept s t a b some keeps chunks swept)
       _ refl
     where
       by_fresh : (all : IsSweptWith S J (FitWith b (both s a b)) s a t)
           → (o : Option ℕ) → all.moves.sweep.fresh ≡ o
-          → (chunk_extents t S.extents < chunk_extents s S.extents)
-          ⊎ (IsChunkExtent S J t b × ((u : Room) → IsSwept S J t b u
-          → chunk_extents u S.extents < chunk_extents s S.extents))
+          → (chunk_extents t S.extents < chunk_extents s S.extents) ⊎ (IsChunkExtent S J t b × FitsBehindLast t b)
       by_fresh all None at =
           let a1 : chunk_extents t S.extents ≤ how_many (any_on (map settle all.moved.chunks)) S.extents = all.fewer in
           let a2 : how_many (any_on (map settle all.moved.chunks)) S.extents < chunk_extents all.moved S.extents =
@@ -179,7 +186,29 @@ module _ (S : Shape) (J : ℕ) where
                   all chunks.0 fit.chunks (λ same. apart (sym same)) off in omega arith)
               | inl there ↦ inr (
                 (chunks.0, still_there _ s t a b all there),
-                (λ u again. second_gains s t u a b f some fits swept keeps all at (still_there _ s t a f all on) again),
+                behind_last s t a b f fits all at (still_there _ s t a f all on),
               )
             ]
           ]
+
+  -- then a sweep of any other extent on which no more lives gives one
+  pub then_gains : (s t u : Room) (a b c : ℕ) → 1 ≤ J → Keeps S J s → IsSwept S J s a t → (behind : FitsBehindLast t b)
+      → behind.place ≢ c → live_pages t.chunks c ≤ live_pages t.chunks b → IsSwept S J t c u
+      → chunk_extents u S.extents < chunk_extents s S.extents
+  then_gains s t u a b c some keeps first behind apart few swept =
+      let fits : t.pointer behind.place + live_pages t.chunks b ≤ S.pages = behind.fits in
+      let gained : chunk_extents u S.extents < chunk_extents t S.extents = single S J t u behind.place c some
+      (swept_keeps S J s t a some keeps first) behind.last behind.chunks apart (omega arith) swept in
+      let less : chunk_extents t S.extents ≤ chunk_extents s S.extents = no_more S J s t a some keeps first in omega arith
+
+  pub pair : (s t : Room) (a b : ℕ) → 1 ≤ J → Keeps S J s → a ≢ b → IsChunkExtent S J s b
+      → live_pages s.chunks a + live_pages s.chunks b ≤ S.pages → IsSwept S J s a t
+      → (chunk_extents t S.extents < chunk_extents s S.extents)
+      ⊎ (IsChunkExtent S J t b × ((u : Room) → IsSwept S J t b u
+      → chunk_extents u S.extents < chunk_extents s S.extents))
+  pair s t a b some keeps apart chunks fits swept = ⊎_elim (λ less. inl less)
+      (λ second. inr (
+        second.0,
+        (λ u again. then_gains s t u a b b some keeps swept second.1 second.1.apart (omega arith) again),
+      ))
+      (first_or_behind s t a b some keeps apart chunks fits swept)

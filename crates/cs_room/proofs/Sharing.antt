@@ -5,7 +5,7 @@ use Rattle.cs_model.specs.Device.{Shape}
 use Rattle.cs_room.specs.Events.{Does, Put}
 use Rattle.cs_room.specs.Invariant.{Keeps}
 use Rattle.cs_room.specs.Rooms.{Holding, Room, Sweep, all_pages, chunk_extents, how_many, is_of_chunks, live_pages, opened_by}
-use Rattle.cs_room.specs.Sweeps.{IsLeastPair, IsPairSwept, FillsAtMost, IsSwept, PairsSwept, SweepsMade}
+use Rattle.cs_room.specs.Sweeps.{FillsAtMost, IsLeastPair, IsPairSwept, IsSwept, NoTwoFit, PairsSwept, SweepsMade}
 use Rattle.cs_room.proofs.Chunks.{settle_all, sum_same}
 use Rattle.cs_room.proofs.Counts.{chunks_is}
 use Rattle.cs_room.proofs.Gaining.{IsKept, IsSweptWith, no_more, swept_with}
@@ -162,6 +162,19 @@ module _ (S : Shape) (J : ℕ) where
               (but_other (λ d. is_of_chunks (s.holds d)) a e not_a ∙ ap (λ (h : Holding). is_of_chunks h) chunks.1);
         },
       )
+
+  -- where what lives on no two has room on one extent, enough are left
+  pub none_fits : (n : ℕ) (s : Room) → J + n + 3 ≤ S.extents → LivesFew n s → NoTwoFit S J s
+      → chunk_extents s S.extents + n + J + 2 ≤ S.extents
+  none_fits n s large few none = elim (cases_lt (chunk_extents s S.extents) 2) [
+    | inl one ↦ omega arith
+    | inr two ↦ (let least = least_pair s two in ⊎_elim
+        (λ fits. absurd (let over : S.pages < live_pages s.chunks least.0 + live_pages s.chunks least.1 =
+        none least.0 least.1 least.2.two least.2.first least.2.second in
+        let both : live_pages s.chunks least.0 + live_pages s.chunks least.1 ≤ S.pages = fits in omega arith))
+        (λ left. left)
+        (fits_or_left n s least.0 least.1 large few least.2))
+  ]
 
   -- a pair can be swept
   pair_there : (s : Room) → 1 ≤ J → Keeps S J s → s.sweep ≡ None → (a b : ℕ) → IsLeastPair S J s a b

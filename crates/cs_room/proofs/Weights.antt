@@ -1,6 +1,7 @@
 -- Sums over extents, and the extents on which the least lives.
-use Rattle.std.proofs.Common.{◌≡◌, ◌≢◌, inl, inr, ℕ, zero, suc, ◌+◌, ◌*◌, ◌<◌, ◌≤◌, ◌==◌, Bool, true, false, if◌then◌else◌, List, [], ◌∷◌, le_refl, refl, sym, ap, ◌∙◌, subst, arith}
+use Rattle.std.proofs.Common.{◌≡◌, ◌≢◌, ◌⊎◌, inl, inr, ⊎_elim, ℕ, zero, suc, ◌+◌, ◌*◌, ◌<◌, ◌≤◌, ◌==◌, Bool, true, false, if◌then◌else◌, List, [], ◌∷◌, le_refl, refl, sym, ap, ◌∙◌, subst, arith}
 use Rattle.std.proofs.lemmas.Bool.{cases_Bool, cases_eq, cases_lt, eq-eqb, ne_eqb, true≢false}
+use Rattle.cs_model.specs.Lists.{◌∈◌}
 use Rattle.cs_room.specs.Rooms.{Chunk, all_pages, how_many, live_pages}
 use Rattle.cs_room.proofs.Counts.{count_more, count_no, count_there, count_yes}
 
@@ -191,3 +192,27 @@ sum_live (c ∷ cs) n =
     in
     let one : sum_to (point c.extent c.pages) n ≤ c.pages = point_one c.extent c.pages n in
     let rest : sum_to (live_pages cs) n ≤ all_pages cs = sum_live cs n in omega arith
+
+point_there : (x p n : ℕ) → x < n → p ≤ sum_to (point x p) n
+point_there x p zero lt = absurd (omega arith)
+point_there x p (suc n) lt = elim (cases_eq x n) [
+  | inl same ↦ (let here : point x p n ≡ p = rw (eq-eqb x n same) refl in omega arith)
+  | inr other ↦ (let rest : p ≤ sum_to (point x p) n = point_there x p n (omega arith) in omega arith)
+]
+
+-- all pages are counted on extents below n, where no chunk with pages lies elsewhere
+pub all_counted : (cs : List Chunk) (n : ℕ) → ((c : Chunk) → c ∈ cs → (c.extent < n) ⊎ (c.pages ≡ 0))
+    → all_pages cs ≤ sum_to (live_pages cs) n
+all_counted [] n below = omega arith
+all_counted (c ∷ cs) n below =
+    let parts : sum_to (λ e. point c.extent c.pages e + live_pages cs e) n
+    ≡ sum_to (point c.extent c.pages) n + sum_to (live_pages cs) n = sum_plus (point c.extent c.pages) (live_pages cs) n
+    in
+    let one : c.pages ≤ sum_to (point c.extent c.pages) n = ⊎_elim (λ lt. point_there c.extent c.pages n lt)
+    (λ none. let is : c.pages ≡ 0 = none in omega arith) (below c (inl refl)) in
+    let rest : all_pages cs ≤ sum_to (live_pages cs) n = all_counted cs n (λ d there. below d (inr there)) in omega arith
+
+-- the first one, and the others
+pub sum_front : (h : ℕ → ℕ) (n : ℕ) → sum_to h (suc n) ≡ h 0 + sum_to (λ e. h (suc e)) n
+sum_front h zero = refl
+sum_front h (suc n) = let rest : sum_to h (suc n) ≡ h 0 + sum_to (λ e. h (suc e)) n = sum_front h n in omega (arith, rest)

@@ -1,5 +1,5 @@
 -- Whole sweeps, and sweeps of pairs of extents with the least that lives.
-use Rattle.std.specs.Prelude.{◌≡◌, ◌≢◌, ◌⊎◌, ◌<◌, ◌≤◌, ℕ, zero, suc, List, length, sum}
+use Rattle.std.specs.Prelude.{◌≡◌, ◌≢◌, ◌⊎◌, ◌+◌, ◌<◌, ◌≤◌, ℕ, zero, suc, List, Some, length, sum}
 use Rattle.cs_model.specs.Device.{Shape}
 use Rattle.cs_model.specs.Index.{joined}
 use Rattle.cs_model.specs.Lists.{◌∈◌}
@@ -65,6 +65,25 @@ module _ (S : Shape) (J : ℕ) where
   abbrev pub PairsSwept : ℕ → Room → Room → Type 0
   PairsSwept zero s t = t ≡ s
   PairsSwept (suc n) s t = (mid : Room) × IsPairSwept s mid × PairsSwept n mid t
+
+  -- c is chosen for a sweep: an extent of chunks, but not the one to which the last copy of any sweep went, on which no more lives than on
+  -- any other but that one; and what lives there and on another one has room on one extent
+  pub record IsChosen (s : Room) (c : ℕ) : Type 0 where
+    pub chunks : IsChunkExtent s c
+    pub not_last : s.last ≢ Some c
+    pub fewest : (e : ℕ) → IsChunkExtent s e → s.last ≢ Some e → live_pages s.chunks c ≤ live_pages s.chunks e
+    pub partner : (b : ℕ) × (c ≢ b) × IsChunkExtent s b × (live_pages s.chunks c + live_pages s.chunks b ≤ S.pages)
+
+  -- so many extents are chosen and swept one after another, with syncs between a choice and its sweep or none
+  abbrev pub ChosenSwept : ℕ → Room → Room → Type 0
+  ChosenSwept zero s t = t ≡ s
+  ChosenSwept (suc n) s t = (c : ℕ) × (rested : Room) × (mid : Room) × (syncs : ℕ) × IsChosen s c × Syncs syncs s rested
+      × IsSwept rested c mid × ChosenSwept n mid t
+
+  -- what lives on two extents of chunks has no room on one, whichever they are
+  abbrev pub NoTwoFit : Room → Type 0
+  NoTwoFit s = (a b : ℕ) → a ≢ b → IsChunkExtent s a → IsChunkExtent s b
+      → S.pages < live_pages s.chunks a + live_pages s.chunks b
 
 -- frames of these numbers of pages fill at most n extents in their order
 abbrev pub FillsAtMost : (pages n : ℕ) → List ℕ → Type 0

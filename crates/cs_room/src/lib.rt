@@ -26,6 +26,6 @@ pub use machine::{
 pub use newest::{extents_are_reset_under_a_root, the_newest_root_stands};
 pub use room::{there_is_room, what_needs_a_place_happens};
 pub use share::{
-    a_put_finds_its_extents, a_put_finds_room, a_sweep_can_be_made, pairs_of_sweeps_gain,
-    two_sweeps_an_extent_are_enough,
+    a_put_finds_its_extents, a_put_finds_room, a_sweep_can_be_made, chosen_sweeps_gain,
+    pairs_of_sweeps_gain, two_sweeps_an_extent_are_enough,
 };

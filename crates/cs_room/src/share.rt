@@ -3,7 +3,7 @@ ghost use Rattle.cs_model.specs.Device.{Shape};
 ghost use Rattle.cs_room.specs.Events.{Does, Put, Writes, dropped};
 ghost use Rattle.cs_room.specs.Invariant.{Keeps};
 ghost use Rattle.cs_room.specs.Rooms.{Room, all_pages, chunk_extents};
-ghost use Rattle.cs_room.specs.Sweeps.{FillsAtMost, IsChunkExtent, IsSwept, PairsSwept, SweepsMade};
+ghost use Rattle.cs_room.specs.Sweeps.{ChosenSwept, FillsAtMost, IsChunkExtent, IsSwept, NoTwoFit, PairsSwept, SweepsMade};
 ghost use Rattle.std.specs.Prelude.{◌≡◌, ◌+◌, ◌-◌, ◌*◌, ◌<◌, ◌≤◌, ℕ, List, None, length};
 
 /// Where no sweep is unfinished, each extent of chunks can be swept, however many pages runs take, as long as one of all fits on an
@@ -37,6 +37,16 @@ pub fn a_put_finds_room()
 pub fn pairs_of_sweeps_gain()
     ensures { (S : Shape) (J n : ℕ) (s t : Room) → Keeps S J s → 1 ≤ J → s.sweep ≡ None → J + n + 3 ≤ S.extents
         → 2 * all_pages s.chunks < (S.extents - (J + 1 + n)) * (S.pages + 1) → PairsSwept S J n s t
+        → chunk_extents t S.extents + n + J + 2 ≤ S.extents }
+{}
+
+/// Sweeps of chosen extents, two for each of n, leave n extents for puts: each two of them give one, whatever the second one is of. Where less
+/// than half of the device lives, but for J + 1 + n extents, fewer do if none can be chosen after them.
+pub fn chosen_sweeps_gain()
+    ensures gain { (S : Shape) (J n : ℕ) (s t : Room) → Keeps S J s → 1 ≤ J → s.sweep ≡ None → ChosenSwept S J (2 * n) s t
+        → chunk_extents t S.extents + n + J + 2 ≤ S.extents }
+    ensures none { (S : Shape) (J n k : ℕ) (s t : Room) → Keeps S J s → 1 ≤ J → J + n + 3 ≤ S.extents
+        → 2 * all_pages s.chunks < (S.extents - (J + 1 + n)) * (S.pages + 1) → ChosenSwept S J k s t → NoTwoFit S J t
         → chunk_extents t S.extents + n + J + 2 ≤ S.extents }
 {}
 
