@@ -1,10 +1,11 @@
 -- Shards that are named, and shards with faults.
 use Rattle.std.proofs.Common.{◌≡◌, ◌∙◌, ⊎_elim, inl, inr, ℕ, suc, List, [], ◌∷◌, ◌++◌, Option, Some, None, map, refl, sym, ap, subst}
 use Rattle.std.specs.Prelude.{reverse}
-use Rattle.cs_chunk.specs.Reads.{fault_at}
+use Rattle.cs_chunk.specs.Reads.{fault_in}
 use Rattle.cs_deps.specs.declared.refusals.Refusal.{Refusal}
 use Rattle.cs_deps.specs.declared.refusals.Refusal.TheVariants.{DeviceFault}
 use Rattle.cs_disk.specs.Disk.{Rises}
+use Rattle.cs_extent.specs.State.{State as ExtentsState, shape}
 use Rattle.cs_frame.specs.declared.faults.FormatFault.{FormatFault}
 use Rattle.cs_frame.specs.declared.frames.FrameKind.TheVariants as kind
 use Rattle.cs_frame.specs.Formats.{as_locator, place_of}
@@ -12,7 +13,6 @@ use Rattle.cs_index.proofs.Merged.{merged_live}
 use Rattle.cs_index.specs.State.{State as Index, id_number, index_of}
 use Rattle.cs_model.proofs.Distinct.{in_either, in_first, in_second}
 use Rattle.cs_model.proofs.FirstChunks.{lookup_member}
-use Rattle.cs_model.specs.Device.{Shape}
 use Rattle.cs_model.specs.Element.{Entry, Locator as Place}
 use Rattle.cs_model.specs.Formats.{places}
 use Rattle.cs_model.specs.Index.{live, live_at, lookup}
@@ -87,11 +87,11 @@ caused_in before after [] d caused none is = absurd none
 caused_in before after (e ∷ ds) d caused (inl same) is = caused.0 (ap refusal_in (sym same) ∙ is)
 caused_in before after (e ∷ ds) d caused (inr more) is = caused_in before after ds d caused.1 more is
 
-module _ (S : Shape) (view : ℕ → List ℕ) where
+module _ (x : ExtentsState) (view : ℕ → List ℕ) where
   -- a frame that isn't passed over has a damage
-  frame_named : (fs : List Frame) (ds : List Damage) (f : Frame) → AreNamed S view fs ds → f ∈ fs → ¬ IsPassed S view f → (d : Damage) × (d ∈ ds) × (frame_of d ≡ f)
+  frame_named : (fs : List Frame) (ds : List Damage) (f : Frame) → AreNamed x view fs ds → f ∈ fs → ¬ IsPassed x view f → (d : Damage) × (d ∈ ds) × (frame_of d ≡ f)
   frame_named [] ds f named none not = absurd none
-  frame_named (g ∷ fs) ds f (inl (passed, rest)) (inl same) not = absurd (not (subst (λ (h : Frame). IsPassed S view h) (sym same) passed))
+  frame_named (g ∷ fs) ds f (inl (passed, rest)) (inl same) not = absurd (not (subst (λ (h : Frame). IsPassed x view h) (sym same) passed))
   frame_named (g ∷ fs) ds f (inl (passed, rest)) (inr more) not = frame_named fs ds f rest more not
   frame_named (g ∷ fs) ds f (inr (d, xs, e, is, rest)) (inl same) not = (d, subst (λ (ys : List Damage). d ∈ ys) (sym e) (inl refl), is.0 ∙ sym same)
   frame_named (g ∷ fs) ds f (inr (d, xs, e, is, rest)) (inr more) not =
@@ -99,38 +99,38 @@ module _ (S : Shape) (view : ℕ → List ℕ) where
       (found.0, subst (λ (ys : List Damage). found.0 ∈ ys) (sym e) (inr found.1), found.2)
 
   -- a damage is of one of the frames
-  named_frame : (fs : List Frame) (ds : List Damage) (d : Damage) → AreNamed S view fs ds → d ∈ ds → (f : Frame) × (f ∈ fs) × IsNamed S view f d
+  named_frame : (fs : List Frame) (ds : List Damage) (d : Damage) → AreNamed x view fs ds → d ∈ ds → (f : Frame) × (f ∈ fs) × IsNamed x view f d
   named_frame [] ds d none has = absurd (subst (λ (ys : List Damage). d ∈ ys) none has)
   named_frame (g ∷ fs) ds d (inl (passed, rest)) has = let found = named_frame fs ds d rest has in (found.0, inr found.1, found.2)
   named_frame (g ∷ fs) ds d (inr (e, xs, is, named, rest)) has = ⊎_elim
-      (λ (here : d ≡ e). (g, inl refl, subst (λ (x : Damage). IsNamed S view g x) (sym here) named))
+      (λ (here : d ≡ e). (g, inl refl, subst (λ (c : Damage). IsNamed x view g c) (sym here) named))
       (λ (there : d ∈ xs). let found = named_frame fs xs d rest there in (found.0, inr found.1, found.2))
       (subst (λ (ys : List Damage). d ∈ ys) is has)
 
-  module _ (index : Index) (found : Scrubbed) (scrubbed : IsScrubbed S view index found) (id : ℕ) where
+  module _ (index : Index) (found : Scrubbed) (scrubbed : IsScrubbed x view index found) (id : ℕ) where
     -- a chunk that has a fault is named
-    pub faults_named : HasFault S view index id → NamesShard found.damages.items id
+    pub faults_named : HasFault x view index id → NamesShard found.damages.items id
     faults_named (l, f, has, fault) =
         let at = chunk_live (index_of index) scrubbed.chunks scrubbed.live id l has in
         let named = frame_named (frames_of scrubbed.chunks index.runs) found.damages.items (OfChunk at.0) scrubbed.named
         (in_first (map OfChunk scrubbed.chunks) (map OfRun (reverse (places index.runs))) (OfChunk at.0) (in_map OfChunk scrubbed.chunks at.0 at.1))
-        (λ passed. let wrong : None ≡ Some f = sym passed.1 ∙ ap (λ (m : Place). fault_at S view kind.Chunk (as_locator m)) at.2.1 ∙ fault in cc) in
+        (λ passed. let wrong : None ≡ Some f = sym passed.1 ∙ ap (λ (m : Place). fault_in x view kind.Chunk (as_locator m)) at.2.1 ∙ fault in cc) in
         (named.0, named.1, of_its_shard id at.0 named.0 at.2.0 named.2)
 
     -- a chunk that is named has a fault, where the device refused no read
     module _ (before after : ℕ) (caused : AreCaused before after found.damages.items) (not : ¬ Rises before after) where
-      why_fault : (c : Chunk) (r : Refusal) → IsInside S (as_locator c.place) → (r ≡ DeviceFault → ⊥) → IsWhyUnread S view kind.Chunk (as_locator c.place) r
-          → (f : FormatFault) × (fault_at S view kind.Chunk (as_locator c.place) ≡ Some f)
+      why_fault : (c : Chunk) (r : Refusal) → IsInside (shape x) (as_locator c.place) → (r ≡ DeviceFault → ⊥) → IsWhyUnread x view kind.Chunk (as_locator c.place) r
+          → (f : FormatFault) × (fault_in x view kind.Chunk (as_locator c.place) ≡ Some f)
       why_fault c r inside other (inl device) = absurd (other device)
       why_fault c r inside other (inr (inl (there, (f, fault, same)))) = (f, fault)
       why_fault c r inside other (inr (inr (outside, same))) = absurd (outside inside)
 
-      pub named_faults : NamesShard found.damages.items id → HasFault S view index id
+      pub named_faults : NamesShard found.damages.items id → HasFault x view index id
       named_faults (damage.Run p r, has, none) = absurd none
       named_faults (damage.Chunk i k p r, has, of) =
           let c : Chunk = record { id = id_number i; number = k; place = place_of p } in
           let at = named_frame (frames_of scrubbed.chunks index.runs) found.damages.items (damage.Chunk i k p r) scrubbed.named has in
           let there : c ∈ scrubbed.chunks = framed scrubbed.chunks (reverse (places index.runs)) c (subst (λ (f : Frame). f ∈ frames_of scrubbed.chunks index.runs) (sym at.2.0) at.1) in
           let fault = why_fault c r (scrubbed.inside c there) (λ device. not (caused_in before after found.damages.items (damage.Chunk i k p r) caused has device))
-          (subst (λ (f : Frame). IsWhyUnread S view (kind_in f) (place_in f) r) (sym at.2.0) at.2.1) in
+          (subst (λ (f : Frame). IsWhyUnread x view (kind_in f) (place_in f) r) (sym at.2.0) at.2.1) in
           (c.place, fault.0, subst (λ (n : ℕ). c.place ∈ live_at (index_of index) n) of (in_live (index_of index) scrubbed.chunks scrubbed.live c there), fault.1)

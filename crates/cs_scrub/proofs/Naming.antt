@@ -6,9 +6,9 @@ use Rattle.cs_chunk.specs.Reads.{IsCaused}
 use Rattle.cs_deps.specs.declared.refusals.Refusal.{Refusal}
 use Rattle.cs_deps.specs.declared.refusals.Refusal.TheVariants.{DeviceFault, OutOfMemory}
 use Rattle.cs_disk.specs.Disk.{Rises}
+use Rattle.cs_extent.specs.State.{State as ExtentsState}
 use Rattle.cs_frame.specs.declared.frames.FrameKind.{FrameKind}
 use Rattle.cs_frame.specs.declared.locators.Locator.{Locator}
-use Rattle.cs_model.specs.Device.{Shape}
 use Rattle.cs_scrub.specs.declared.damages.Damage.{Damage}
 use Rattle.cs_scrub.specs.Scrubs.{AreCaused, AreNamed, Frame, IsIntact, IsNamed, IsPassed, IsWhyUnread, TellsFrame, frame_of, kind_in, place_in, refusal_in}
 
@@ -22,58 +22,58 @@ framed_more {A} {B} frame part xs k x lt at =
     ∙ ap (λ (zs : List B). map frame zs) (map-append part (take k xs) (x ∷ []))
     ∙ map-append frame (map part (take k xs)) (part x ∷ [])
 
-module _ (S : Shape) (view : ℕ → List ℕ) where
+module _ (x : ExtentsState) (view : ℕ → List ℕ) where
   -- ---- what is named
 
   -- of some frames, and of some more
-  pub both_named : (fs gs : List Frame) (ds es : List Damage) → AreNamed S view fs ds → AreNamed S view gs es → AreNamed S view (fs ++ gs) (ds ++ es)
-  both_named [] gs ds es none more = subst (λ (xs : List Damage). AreNamed S view gs (xs ++ es)) (sym none) more
+  pub both_named : (fs gs : List Frame) (ds es : List Damage) → AreNamed x view fs ds → AreNamed x view gs es → AreNamed x view (fs ++ gs) (ds ++ es)
+  both_named [] gs ds es none more = subst (λ (xs : List Damage). AreNamed x view gs (xs ++ es)) (sym none) more
   both_named (f ∷ fs) gs ds es (inl (passed, rest)) more = inl (passed, both_named fs gs ds es rest more)
   both_named (f ∷ fs) gs ds es (inr (d, xs, e, named, rest)) more = inr (d, xs ++ es, ap (λ (ys : List Damage). ys ++ es) e, named, both_named fs gs xs es rest more)
 
-  passed_on : (fs : List Frame) (f : Frame) (ds : List Damage) → AreNamed S view fs ds → IsPassed S view f → AreNamed S view (fs ++ f ∷ []) ds
-  passed_on fs f ds named passed = subst (λ (xs : List Damage). AreNamed S view (fs ++ f ∷ []) xs) (append-nil ds) (both_named fs (f ∷ []) ds [] named (inl (passed, refl)))
+  passed_on : (fs : List Frame) (f : Frame) (ds : List Damage) → AreNamed x view fs ds → IsPassed x view f → AreNamed x view (fs ++ f ∷ []) ds
+  passed_on fs f ds named passed = subst (λ (xs : List Damage). AreNamed x view (fs ++ f ∷ []) xs) (append-nil ds) (both_named fs (f ∷ []) ds [] named (inl (passed, refl)))
 
-  named_on : (fs : List Frame) (f : Frame) (ds : List Damage) (d : Damage) → AreNamed S view fs ds → IsNamed S view f d → AreNamed S view (fs ++ f ∷ []) (ds ++ d ∷ [])
+  named_on : (fs : List Frame) (f : Frame) (ds : List Damage) (d : Damage) → AreNamed x view fs ds → IsNamed x view f d → AreNamed x view (fs ++ f ∷ []) (ds ++ d ∷ [])
   named_on fs f ds d named is = both_named fs (f ∷ []) ds (d ∷ []) named (inr (d, [], refl, is, refl))
 
   -- ---- what was told of one frame
 
-  told_passed : {T : Type 0} (kind : FrameKind) (l : Locator) (read : Result T Refusal) → TellsFrame S view kind l read → IsOk read → IsIntact S view kind l
+  told_passed : {T : Type 0} (kind : FrameKind) (l : Locator) (read : Result T Refusal) → TellsFrame x view kind l read → IsOk read → IsIntact x view kind l
   told_passed kind l (Ok t) told ok = told
   told_passed kind l (Err r) told ok = absurd (cc ok)
 
-  told_why : {T : Type 0} (kind : FrameKind) (l : Locator) (read : Result T Refusal) (r : Refusal) → TellsFrame S view kind l read → read ≡ Err r → r ≢ OutOfMemory → IsWhyUnread S view kind l r
+  told_why : {T : Type 0} (kind : FrameKind) (l : Locator) (read : Result T Refusal) (r : Refusal) → TellsFrame x view kind l read → read ≡ Err r → r ≢ OutOfMemory → IsWhyUnread x view kind l r
   told_why kind l (Ok t) r told is not = absurd (cc is)
   told_why kind l (Err q) r told is not = go told
     where
       same : q ≡ r
       same = cc is
 
-      go : (q ≡ OutOfMemory) ⊎ IsWhyUnread S view kind l q → IsWhyUnread S view kind l r
+      go : (q ≡ OutOfMemory) ⊎ IsWhyUnread x view kind l q → IsWhyUnread x view kind l r
       go (inl memory) = absurd (not (sym same ∙ memory))
-      go (inr why) = subst (λ (x : Refusal). IsWhyUnread S view kind l x) same why
+      go (inr why) = subst (λ (p : Refusal). IsWhyUnread x view kind l p) same why
 
   -- ---- a step of going through them
 
-  module _ {A B T : Type 0} (frame : B → Frame) (part : A → B) (xs : List A) (k : ℕ) (x : A) (lt : k < length xs) (at : x ≡ get_or xs k x) (read : Result T Refusal)
-      (told : TellsFrame S view (kind_in (frame (part x))) (place_in (frame (part x))) read) where
-    pub step_passed : (ds es : List Damage) → AreNamed S view (map frame (map part (take k xs))) ds → IsOk read → es ≡ ds → AreNamed S view (map frame (map part (take (k + 1) xs))) es
+  module _ {A B T : Type 0} (frame : B → Frame) (part : A → B) (xs : List A) (k : ℕ) (a : A) (lt : k < length xs) (at : a ≡ get_or xs k a) (read : Result T Refusal)
+      (told : TellsFrame x view (kind_in (frame (part a))) (place_in (frame (part a))) read) where
+    pub step_passed : (ds es : List Damage) → AreNamed x view (map frame (map part (take k xs))) ds → IsOk read → es ≡ ds → AreNamed x view (map frame (map part (take (k + 1) xs))) es
     step_passed ds es named ok same =
-        subst (λ (fs : List Frame). AreNamed S view fs es) (sym (framed_more frame part xs k x lt at))
-        (subst (λ (ys : List Damage). AreNamed S view (map frame (map part (take k xs)) ++ frame (part x) ∷ []) ys) (sym same)
-        (passed_on (map frame (map part (take k xs))) (frame (part x)) ds named (told_passed (kind_in (frame (part x))) (place_in (frame (part x))) read told ok)))
+        subst (λ (fs : List Frame). AreNamed x view fs es) (sym (framed_more frame part xs k a lt at))
+        (subst (λ (ys : List Damage). AreNamed x view (map frame (map part (take k xs)) ++ frame (part a) ∷ []) ys) (sym same)
+        (passed_on (map frame (map part (take k xs))) (frame (part a)) ds named (told_passed (kind_in (frame (part a))) (place_in (frame (part a))) read told ok)))
 
-    pub step_named : (ds es : List Damage) (d : Damage) (r : Refusal) → AreNamed S view (map frame (map part (take k xs))) ds → read ≡ Err r → r ≢ OutOfMemory
-        → frame_of d ≡ frame (part x) → refusal_in d ≡ r → es ≡ ds ++ d ∷ [] → AreNamed S view (map frame (map part (take (k + 1) xs))) es
+    pub step_named : (ds es : List Damage) (d : Damage) (r : Refusal) → AreNamed x view (map frame (map part (take k xs))) ds → read ≡ Err r → r ≢ OutOfMemory
+        → frame_of d ≡ frame (part a) → refusal_in d ≡ r → es ≡ ds ++ d ∷ [] → AreNamed x view (map frame (map part (take (k + 1) xs))) es
     step_named ds es d r named is not of why pushed =
-        subst (λ (fs : List Frame). AreNamed S view fs es) (sym (framed_more frame part xs k x lt at))
-        (subst (λ (ys : List Damage). AreNamed S view (map frame (map part (take k xs)) ++ frame (part x) ∷ []) ys) (sym pushed)
-        (named_on (map frame (map part (take k xs))) (frame (part x)) ds d named
-        (of, subst (λ (q : Refusal). IsWhyUnread S view (kind_in (frame (part x))) (place_in (frame (part x))) q) (sym why) (told_why (kind_in (frame (part x))) (place_in (frame (part x))) read r told is not))))
+        subst (λ (fs : List Frame). AreNamed x view fs es) (sym (framed_more frame part xs k a lt at))
+        (subst (λ (ys : List Damage). AreNamed x view (map frame (map part (take k xs)) ++ frame (part a) ∷ []) ys) (sym pushed)
+        (named_on (map frame (map part (take k xs))) (frame (part a)) ds d named
+        (of, subst (λ (q : Refusal). IsWhyUnread x view (kind_in (frame (part a))) (place_in (frame (part a))) q) (sym why) (told_why (kind_in (frame (part a))) (place_in (frame (part a))) read r told is not))))
 
-  pub all_named : {A B : Type 0} (frame : B → Frame) (part : A → B) (xs : List A) (k : ℕ) (ds : List Damage) → length xs ≤ k → AreNamed S view (map frame (map part (take k xs))) ds → AreNamed S view (map frame (map part xs)) ds
-  all_named {A} frame part xs k ds le named = subst (λ (ys : List A). AreNamed S view (map frame (map part ys)) ds) (take_all k xs le) named
+  pub all_named : {A B : Type 0} (frame : B → Frame) (part : A → B) (xs : List A) (k : ℕ) (ds : List Damage) → length xs ≤ k → AreNamed x view (map frame (map part (take k xs))) ds → AreNamed x view (map frame (map part xs)) ds
+  all_named {A} frame part xs k ds le named = subst (λ (ys : List A). AreNamed x view (map frame (map part ys)) ds) (take_all k xs le) named
 
 -- ---- causes
 

@@ -3,11 +3,11 @@ use Rattle.std.proofs.Common.{◌≡◌, ◌∙◌, ℕ, List, [], ◌∷◌, �
 use Rattle.std.specs.Prelude.{reverse}
 use Rattle.std.proofs.lemmas.List.{length-map, length_push, reverse-append}
 use Rattle.cs_core.specs.Stored.{AreInside}
+use Rattle.cs_extent.specs.State.{State as ExtentsState, shape}
 use Rattle.cs_frame.specs.declared.locators.Locator.{Locator}
 use Rattle.cs_frame.specs.Formats.{place_of}
 use Rattle.cs_index.specs.declared.runs.StoredRun.{StoredRun}
 use Rattle.cs_index.specs.State.{State as Index, index_of, newest_first, run_of}
-use Rattle.cs_model.specs.Device.{Shape}
 use Rattle.cs_model.specs.Element.{Entry, Locator as Place, Run}
 use Rattle.cs_model.specs.Formats.{places}
 use Rattle.cs_survey.specs.Chunks.{AreLiveChunks, Chunk}
@@ -51,17 +51,17 @@ run_count index held stored found same runs places_found =
 
 -- ---- all of it
 
-module _ (S : Shape) (view : ℕ → List ℕ) (index held : Index) (same : index ≡ record held { room = 0 }) where
+module _ (x : ExtentsState) (view : ℕ → List ℕ) (index held : Index) (same : index ≡ record held { room = 0 }) where
   same_entries : index_of index ≡ index_of held
-  same_entries = ap (λ (x : Index). index_of x) same
+  same_entries = ap (λ (i : Index). index_of i) same
 
-  pub scrubbed : (chunks : List Chunk) (oldest : List Place) (ds es : List Damage) (found : Scrubbed) → AreLiveChunks (index_of held) chunks → AreInside S held → oldest ≡ reverse (places index.runs)
-      → AreNamed S view (map OfChunk chunks) ds → AreNamed S view (map OfRun oldest) es → found.chunks ≡ length chunks → found.damages.items ≡ ds ++ es → IsScrubbed S view index found
+  pub scrubbed : (chunks : List Chunk) (oldest : List Place) (ds es : List Damage) (found : Scrubbed) → AreLiveChunks (index_of held) chunks → AreInside (shape x) held → oldest ≡ reverse (places index.runs)
+      → AreNamed x view (map OfChunk chunks) ds → AreNamed x view (map OfRun oldest) es → found.chunks ≡ length chunks → found.damages.items ≡ ds ++ es → IsScrubbed x view index found
   scrubbed chunks oldest ds es found live inside runs of_chunks of_runs count all = record {
     chunks = chunks;
     live = subst (λ (xs : List Entry). AreLiveChunks xs chunks) (sym same_entries) live;
     count = count;
     inside = λ c has. inside c.id c.place (in_live (index_of held) chunks live c has);
-    named = subst (λ (xs : List Damage). AreNamed S view (frames_of chunks index.runs) xs) (sym all)
-        (subst (λ (ps : List Place). AreNamed S view (map OfChunk chunks ++ map OfRun ps) (ds ++ es)) runs (both_named S view (map OfChunk chunks) (map OfRun oldest) ds es of_chunks of_runs));
+    named = subst (λ (xs : List Damage). AreNamed x view (frames_of chunks index.runs) xs) (sym all)
+        (subst (λ (ps : List Place). AreNamed x view (map OfChunk chunks ++ map OfRun ps) (ds ++ es)) runs (both_named x view (map OfChunk chunks) (map OfRun oldest) ds es of_chunks of_runs));
   }

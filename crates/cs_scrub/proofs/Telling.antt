@@ -2,31 +2,30 @@
 use Rattle.std.proofs.Common.{◌≡◌, ◌≢◌, ◌∙◌, ◌⊎◌, inl, inr, ℕ, List, Some, None, Ok, Err, Result, sym, ap, subst}
 use Rattle.std.specs.Prelude.{IsOk, MatchOption, Option}
 use Rattle.cs_chunk.specs.Newest.{AreNewest}
-use Rattle.cs_chunk.specs.Reads.{AnswersFault, IsNoAnswer, IsOfFault, OnlyReads, fault_at}
+use Rattle.cs_chunk.specs.Reads.{AnswersFault, IsNoAnswer, IsOfFault, OnlyReads, fault_in}
 use Rattle.cs_core.specs.Stored.{Stored}
 use Rattle.cs_core.specs.Views.{View}
 use Rattle.cs_deps.specs.declared.refusals.Refusal.{Refusal}
 use Rattle.cs_deps.specs.declared.refusals.Refusal.TheVariants.{OutOfMemory}
 use Rattle.cs_disk.specs.declared.disk.PageDisk.{Ghosts as PageDisk}
 use Rattle.cs_disk.specs.Disk.{State as DiskState, seen}
-use Rattle.cs_extent.specs.State.{shape}
+use Rattle.cs_extent.specs.State.{State as ExtentsState, shape}
 use Rattle.cs_frame.specs.declared.frames.FrameKind.{FrameKind}
 use Rattle.cs_frame.specs.declared.locators.Locator.{Locator}
-use Rattle.cs_model.specs.Device.{Shape}
 use Rattle.cs_scrub.specs.Scrubs.{IsInside, TellsFrame}
 
 -- ---- one frame
 
-module _ (S : Shape) (view : ℕ → List ℕ) (kind : FrameKind) (l : Locator) (inside : IsInside S l) where
-  pub told_read : {V T : Type 0} (t : T) (read : Result V Refusal) (v : V) → AnswersFault (fault_at S view kind l) read → read ≡ Ok v → TellsFrame S view kind l (Ok t)
+module _ (x : ExtentsState) (view : ℕ → List ℕ) (kind : FrameKind) (l : Locator) (inside : IsInside (shape x) l) where
+  pub told_read : {V T : Type 0} (t : T) (read : Result V Refusal) (v : V) → AnswersFault (fault_in x view kind l) read → read ≡ Ok v → TellsFrame x view kind l (Ok t)
   told_read t (Ok w) v answers is = (inside, answers)
   told_read t (Err r) v answers is = absurd (cc is)
 
-  pub told_unread : {V : Type 0} (T : Type 0) (read : Result V Refusal) (r : Refusal) → AnswersFault (fault_at S view kind l) read → read ≡ Err r → TellsFrame {T = T} S view kind l (Err r)
+  pub told_unread : {V : Type 0} (T : Type 0) (read : Result V Refusal) (r : Refusal) → AnswersFault (fault_in x view kind l) read → read ≡ Err r → TellsFrame {T = T} x view kind l (Err r)
   told_unread T (Ok w) r answers is = absurd (cc is)
-  told_unread {V} T (Err q) r answers is = subst (λ (x : Refusal). TellsFrame {T = T} S view kind l (Err x)) (let same : q ≡ r = cc is in same) (go answers)
+  told_unread {V} T (Err q) r answers is = subst (λ (p : Refusal). TellsFrame {T = T} x view kind l (Err p)) (let same : q ≡ r = cc is in same) (go answers)
     where
-      go : IsNoAnswer q ⊎ IsOfFault (fault_at S view kind l) q → TellsFrame {T = T} S view kind l (Err q)
+      go : IsNoAnswer q ⊎ IsOfFault (fault_in x view kind l) q → TellsFrame {T = T} x view kind l (Err q)
       go (inl (inl device)) = inr (inl device)
       go (inl (inr memory)) = inl memory
       go (inr fault) = inr (inr (inl (inside, fault)))
@@ -48,10 +47,10 @@ module _ {D : Type 0} (disks : PageDisk D) (a b : View D) (same : b ≡ record a
       (subst (λ (d : DiskState). AreNewest a.store.graph (seen d) view) (sym (reads.same there)) are)
 
   pub told_here : {T : Type 0} (kind : FrameKind) (l : Locator) (read : Result T Refusal)
-      → (disks.honest b.disk → (view : ℕ → List ℕ) → AreNewest b.store.graph (seen (disks.state b.disk)) view → TellsFrame (shape b.store.extents) view kind l read)
-      → disks.honest a.disk → (view : ℕ → List ℕ) → AreNewest a.store.graph (seen (disks.state a.disk)) view → TellsFrame (shape a.store.extents) view kind l read
+      → (disks.honest b.disk → (view : ℕ → List ℕ) → AreNewest b.store.graph (seen (disks.state b.disk)) view → TellsFrame b.store.extents view kind l read)
+      → disks.honest a.disk → (view : ℕ → List ℕ) → AreNewest a.store.graph (seen (disks.state a.disk)) view → TellsFrame a.store.extents view kind l read
   told_here kind l read told there view are =
-      subst (λ (s : Stored). TellsFrame (shape s.extents) view kind l read) same_store (told (reads.honesty.0 there) view (newest_here there view are))
+      subst (λ (s : Stored). TellsFrame s.extents view kind l read) same_store (told (reads.honesty.0 there) view (newest_here there view are))
 
 -- ---- why a frame wasn't read
 

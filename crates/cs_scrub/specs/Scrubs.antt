@@ -1,10 +1,11 @@
 -- What a scrub goes through, and what it names.
 use Rattle.std.specs.Prelude.{◌≡◌, ◌⊎◌, ◌∷◌, ◌++◌, ◌+◌, ℕ, List, [], Some, None, Result, MatchResult, length, map, reverse}
 use Rattle.std.specs.List.{AllByRecursion}
-use Rattle.cs_chunk.specs.Reads.{IsOfFault, fault_at}
+use Rattle.cs_chunk.specs.Reads.{IsOfFault, fault_in}
 use Rattle.cs_deps.specs.declared.refusals.Refusal.{Refusal}
 use Rattle.cs_deps.specs.declared.refusals.Refusal.TheVariants.{DeviceFault, NotAStore, OutOfMemory}
 use Rattle.cs_disk.specs.Disk.{Rises}
+use Rattle.cs_extent.specs.State.{State as ExtentsState, shape}
 use Rattle.cs_frame.specs.declared.faults.FormatFault.{FormatFault}
 use Rattle.cs_frame.specs.declared.frames.FrameKind.{FrameKind}
 use Rattle.cs_frame.specs.declared.frames.FrameKind.TheVariants as kind
@@ -53,40 +54,40 @@ refusal_in (damage.Run place refusal) = refusal
 abbrev pub IsInside : Shape → Locator → Type 0
 IsInside S l = Inside S l.extent l.page
 
--- a frame of this kind begins at the place, and has no fault
-abbrev pub IsIntact : Shape → (view : ℕ → List ℕ) → FrameKind → Locator → Type 0
-IsIntact S view kind l = IsInside S l × (fault_at S view kind l ≡ None)
+-- a frame of this kind begins at the place, and has no fault as far as it may reach in these extents
+abbrev pub IsIntact : ExtentsState → (view : ℕ → List ℕ) → FrameKind → Locator → Type 0
+IsIntact x view kind l = IsInside (shape x) l × (fault_in x view kind l ≡ None)
 
 -- why a frame isn't read: the device refused, or it has this fault, or its place is on no extent
-abbrev pub IsWhyUnread : Shape → (view : ℕ → List ℕ) → FrameKind → Locator → Refusal → Type 0
-IsWhyUnread S view kind l r = (r ≡ DeviceFault) ⊎ (IsInside S l × IsOfFault (fault_at S view kind l) r) ⊎ (¬ IsInside S l × (r ≡ NotAStore))
+abbrev pub IsWhyUnread : ExtentsState → (view : ℕ → List ℕ) → FrameKind → Locator → Refusal → Type 0
+IsWhyUnread x view kind l r = (r ≡ DeviceFault) ⊎ (IsInside (shape x) l × IsOfFault (fault_in x view kind l) r) ⊎ (¬ IsInside (shape x) l × (r ≡ NotAStore))
 
 -- a frame was read and has no fault; or it isn't read, for such a reason or for want of memory
-abbrev pub TellsFrame : {T : Type 0} → Shape → (view : ℕ → List ℕ) → FrameKind → Locator → Result T Refusal → Type 0
-TellsFrame S view kind l result = MatchResult result (λ _. IsIntact S view kind l) (λ r. (r ≡ OutOfMemory) ⊎ IsWhyUnread S view kind l r)
+abbrev pub TellsFrame : {T : Type 0} → ExtentsState → (view : ℕ → List ℕ) → FrameKind → Locator → Result T Refusal → Type 0
+TellsFrame x view kind l result = MatchResult result (λ _. IsIntact x view kind l) (λ r. (r ≡ OutOfMemory) ⊎ IsWhyUnread x view kind l r)
 
 -- a frame was passed over: it has no fault, and what is named is named of others
-abbrev pub IsPassed : Shape → (view : ℕ → List ℕ) → Frame → Type 0
-IsPassed S view f = IsIntact S view (kind_in f) (place_in f)
+abbrev pub IsPassed : ExtentsState → (view : ℕ → List ℕ) → Frame → Type 0
+IsPassed x view f = IsIntact x view (kind_in f) (place_in f)
 
 -- a damage is of this frame, and has the reason for which it isn't read
-abbrev pub IsNamed : Shape → (view : ℕ → List ℕ) → Frame → Damage → Type 0
-IsNamed S view f d = (frame_of d ≡ f) × IsWhyUnread S view (kind_in f) (place_in f) (refusal_in d)
+abbrev pub IsNamed : ExtentsState → (view : ℕ → List ℕ) → Frame → Damage → Type 0
+IsNamed x view f d = (frame_of d ≡ f) × IsWhyUnread x view (kind_in f) (place_in f) (refusal_in d)
 
 -- each of these frames in turn is passed over or named, and nothing else is named
-abbrev pub AreNamed : Shape → (view : ℕ → List ℕ) → List Frame → List Damage → Type 0
-AreNamed S view [] damages = damages ≡ []
-AreNamed S view (f ∷ fs) damages = (IsPassed S view f × AreNamed S view fs damages)
-    ⊎ ((d : Damage) × (ds : List Damage) × (damages ≡ d ∷ ds) × IsNamed S view f d × AreNamed S view fs ds)
+abbrev pub AreNamed : ExtentsState → (view : ℕ → List ℕ) → List Frame → List Damage → Type 0
+AreNamed x view [] damages = damages ≡ []
+AreNamed x view (f ∷ fs) damages = (IsPassed x view f × AreNamed x view fs damages)
+    ⊎ ((d : Damage) × (ds : List Damage) × (damages ≡ d ∷ ds) × IsNamed x view f d × AreNamed x view fs ds)
 
 -- What a scrub of this index found: of the frames of all live chunks and of all runs those are named that can't be read.
-pub record IsScrubbed (S : Shape) (view : ℕ → List ℕ) (index : Index) (found : Scrubbed) : Type 0 where
+pub record IsScrubbed (x : ExtentsState) (view : ℕ → List ℕ) (index : Index) (found : Scrubbed) : Type 0 where
   pub chunks : List Chunk
   pub live : AreLiveChunks (index_of index) chunks
   pub count : found.chunks ≡ length chunks
   -- each chunk begins on an extent, so 43 is said of runs alone
-  pub inside : (c : Chunk) → c ∈ chunks → IsInside S (as_locator c.place)
-  pub named : AreNamed S view (frames_of chunks index.runs) found.damages.items
+  pub inside : (c : Chunk) → c ∈ chunks → IsInside (shape x) (as_locator c.place)
+  pub named : AreNamed x view (frames_of chunks index.runs) found.damages.items
 
 -- 1 is said only where the disk's count of failures rose, or stood at its end
 abbrev pub AreCaused : (before after : ℕ) → List Damage → Type 0
@@ -112,13 +113,13 @@ abbrev pub NamesShard : List Damage → ℕ → Type 0
 NamesShard damages id = (d : Damage) × (d ∈ damages) × IsOfShard id d
 
 -- a chunk of this shard, as the index has it, has a fault, so a read of the shard is refused
-abbrev pub HasFault : Shape → (view : ℕ → List ℕ) → Index → ℕ → Type 0
-HasFault S view index id = (l : Place) × (f : FormatFault) × (l ∈ live_at (index_of index) id) × (fault_at S view kind.Chunk (as_locator l) ≡ Some f)
+abbrev pub HasFault : ExtentsState → (view : ℕ → List ℕ) → Index → ℕ → Type 0
+HasFault x view index id = (l : Place) × (f : FormatFault) × (l ∈ live_at (index_of index) id) × (fault_in x view kind.Chunk (as_locator l) ≡ Some f)
 
 -- a damage is named of each shard with such a chunk
-abbrev pub HidesNothing : Shape → (view : ℕ → List ℕ) → Index → List Damage → Type 0
-HidesNothing S view index damages = (id : ℕ) → HasFault S view index id → NamesShard damages id
+abbrev pub HidesNothing : ExtentsState → (view : ℕ → List ℕ) → Index → List Damage → Type 0
+HidesNothing x view index damages = (id : ℕ) → HasFault x view index id → NamesShard damages id
 
 -- and of no other
-abbrev pub NamesNoOther : Shape → (view : ℕ → List ℕ) → Index → List Damage → Type 0
-NamesNoOther S view index damages = (id : ℕ) → NamesShard damages id → HasFault S view index id
+abbrev pub NamesNoOther : ExtentsState → (view : ℕ → List ℕ) → Index → List Damage → Type 0
+NamesNoOther x view index damages = (id : ℕ) → NamesShard damages id → HasFault x view index id

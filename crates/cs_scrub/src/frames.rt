@@ -30,7 +30,7 @@ fn read_place<D: PageDisk>(
     place: Locator,
 ) -> Result<(), Refusal>
     ensures told { D.honest core.old.disk → (view : ℕ → List ℕ) → AreNewest core.old.store.graph (seen (D.state core.old.disk)) view
-        → TellsFrame (shape core.old.store.extents) view kind place result }
+        → TellsFrame core.old.store.extents view kind place result }
     ensures same { core.new ≡ record core.old { disk = core.new.disk } }
     ensures disk { OnlyReads D.PageDisk core.old.disk core.new.disk }
     ensures cause { IsCaused (D.failure_count core.old.disk) (D.failure_count core.new.disk) result }
@@ -51,7 +51,7 @@ fn read_place<D: PageDisk>(
 /// 23 BadPadding or 24 BadVersion, the first test that fails, where the frame is damaged; 1 DeviceFault where a read failed; 9 OutOfMemory.
 pub fn read_chunk<D: PageDisk>(core: &mut Core<D>, chunk: &LiveChunk) -> Result<(), Refusal>
     ensures told { D.honest core.old.disk → (view : ℕ → List ℕ) → AreNewest core.old.store.graph (seen (D.state core.old.disk)) view
-        → TellsFrame (shape core.old.store.extents) view FrameKind.Chunk chunk.now.place result }
+        → TellsFrame core.old.store.extents view FrameKind.Chunk chunk.now.place result }
     ensures same { core.new ≡ record core.old { disk = core.new.disk } }
     ensures disk { OnlyReads D.PageDisk core.old.disk core.new.disk }
     ensures cause { IsCaused (D.failure_count core.old.disk) (D.failure_count core.new.disk) result }
@@ -66,7 +66,7 @@ pub fn read_chunk<D: PageDisk>(core: &mut Core<D>, chunk: &LiveChunk) -> Result<
 /// Reads the frame of the run of the index at a place, as `read_chunk` does that of a chunk, with the same refusals.
 pub fn read_run<D: PageDisk>(core: &mut Core<D>, place: Locator) -> Result<(), Refusal>
     ensures told { D.honest core.old.disk → (view : ℕ → List ℕ) → AreNewest core.old.store.graph (seen (D.state core.old.disk)) view
-        → TellsFrame (shape core.old.store.extents) view FrameKind.Run place result }
+        → TellsFrame core.old.store.extents view FrameKind.Run place result }
     ensures same { core.new ≡ record core.old { disk = core.new.disk } }
     ensures disk { OnlyReads D.PageDisk core.old.disk core.new.disk }
     ensures cause { IsCaused (D.failure_count core.old.disk) (D.failure_count core.new.disk) result }

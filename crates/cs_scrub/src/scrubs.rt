@@ -52,7 +52,7 @@ fn damaged_chunks<D: PageDisk, P: Progress>(
     progress: &P,
 ) -> Result<Vec<Damage>, AllocError>
     ensures named { D.honest core.old.disk → (view : ℕ → List ℕ) → AreNewest core.old.store.graph (seen (D.state core.old.disk)) view
-        → IfOk result (λ damages. AreNamed (shape core.old.store.extents) view (map OfChunk (map chunk_of chunks.now)) damages.items) }
+        → IfOk result (λ damages. AreNamed core.old.store.extents view (map OfChunk (map chunk_of chunks.now)) damages.items) }
     ensures caused { IfOk result (λ damages. AreCaused (D.failure_count core.old.disk) (D.failure_count core.new.disk) damages.items) }
     ensures counted { IfOk result (λ damages. RisesBy (device_faults damages.items) (D.failure_count core.old.disk) (D.failure_count core.new.disk)) }
     ensures same { core.new ≡ record core.old { disk = core.new.disk } }
@@ -81,7 +81,7 @@ fn damaged_runs<D: PageDisk>(
     runs: &[Locator],
 ) -> Result<Vec<Damage>, AllocError>
     ensures named { D.honest core.old.disk → (view : ℕ → List ℕ) → AreNewest core.old.store.graph (seen (D.state core.old.disk)) view
-        → IfOk result (λ damages. AreNamed (shape core.old.store.extents) view (map OfRun (map place_of runs.now)) damages.items) }
+        → IfOk result (λ damages. AreNamed core.old.store.extents view (map OfRun (map place_of runs.now)) damages.items) }
     ensures caused { IfOk result (λ damages. AreCaused (D.failure_count core.old.disk) (D.failure_count core.new.disk) damages.items) }
     ensures counted { IfOk result (λ damages. RisesBy (device_faults damages.items) (D.failure_count core.old.disk) (D.failure_count core.new.disk)) }
     ensures same { core.new ≡ record core.old { disk = core.new.disk } }
@@ -111,7 +111,7 @@ pub fn scrub<D: PageDisk, P: Progress>(
     progress: &P,
 ) -> Result<Scrubbed, AllocError>
     ensures named { D.honest core.old.disk → (view : ℕ → List ℕ) → AreNewest core.old.store.graph (seen (D.state core.old.disk)) view
-        → IfOk result (IsScrubbed (shape core.old.store.extents) view core.old.store.index) }
+        → IfOk result (IsScrubbed core.old.store.extents view core.old.store.index) }
     ensures runs { IfOk result (λ found. found.runs ≡ length core.old.store.index.runs) }
     ensures caused { IfOk result (λ found. AreCaused (D.failure_count core.old.disk) (D.failure_count core.new.disk) found.damages.items) }
     // It rose by as many as are named 1 at least: no frame is named so for the read of another.

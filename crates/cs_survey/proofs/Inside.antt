@@ -1,6 +1,7 @@
 -- Live chunks begin inside the extents, and an index has one list of them.
 use Rattle.std.proofs.Common.{◌≡◌, ◌∙◌, inl, inr, ℕ, suc, List, [], ◌∷◌, map, refl, sym, ap, subst}
 use Rattle.std.specs.List.{AllByRecursion}
+use Rattle.cs_extent.specs.State.{State as Extents}
 use Rattle.cs_index.specs.declared.live.LiveChunk.{LiveChunk}
 use Rattle.cs_index.specs.State.{State as Index, index_of}
 use Rattle.cs_index.proofs.Merged.{merged_live, merged_one}
@@ -17,11 +18,11 @@ pub live_chunks_one : (index : List Entry) (a b : List Chunk) → AreLiveChunks 
 live_chunks_one index a b one two = one.2 ∙ ap (λ (xs : List Entry). chunks_of xs) (merged_one index one.0 two.0 one.1 two.1) ∙ sym two.2
 
 -- what was read of the chunks that were found was read of any list of all
-pub read_of : (S : Shape) (view : ℕ → List ℕ) (index held : Index) (found slice : List LiveChunk) (chunks : List Chunk) (before after : ℕ) (read : List Head) → index ≡ record held { room = 0 } → slice ≡ found
+pub read_of : (x : Extents) (view : ℕ → List ℕ) (index held : Index) (found slice : List LiveChunk) (chunks : List Chunk) (before after : ℕ) (read : List Head) → index ≡ record held { room = 0 } → slice ≡ found
     → AreLiveChunks (index_of held) (map chunk_of found) → AreLiveChunks (index_of index) chunks
-    → AreRead before after (heads_of S view (map chunk_of slice)) read → AreRead before after (heads_of S view chunks) read
-read_of S view index held found slice chunks before after read same sliced all live =
-    subst (λ (cs : List Chunk). AreRead before after (heads_of S view cs) read)
+    → AreRead before after (heads_of x view (map chunk_of slice)) read → AreRead before after (heads_of x view chunks) read
+read_of x view index held found slice chunks before after read same sliced all live =
+    subst (λ (cs : List Chunk). AreRead before after (heads_of x view cs) read)
     (ap (λ (cs : List LiveChunk). map chunk_of cs) sliced
     ∙ live_chunks_one (index_of held) (map chunk_of found) chunks all (subst (λ (i : Index). AreLiveChunks (index_of i) chunks) same live))
 

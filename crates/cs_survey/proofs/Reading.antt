@@ -4,8 +4,9 @@ use Rattle.std.proofs.Math.Seq.{take-append_seam}
 use Rattle.std.proofs.lemmas.Option.{slice_get-get_or}
 use Rattle.std.specs.Prelude.{slice_get}
 use Rattle.std.specs.List.{AllByRecursion}
+use Rattle.cs_chunk.specs.Chunks.{end_in}
+use Rattle.cs_chunk.specs.Lengths.{header_fault_in, length_at}
 use Rattle.cs_chunk.specs.Newest.{AreNewest}
-use Rattle.cs_chunk.specs.Lengths.{header_fault_at, length_at}
 use Rattle.cs_chunk.specs.Reads.{IsNoAnswer, IsOfFault, OnlyReads}
 use Rattle.cs_core.specs.Views.{View}
 use Rattle.cs_deps.specs.declared.refusals.Refusal.{Refusal}
@@ -13,7 +14,7 @@ use Rattle.cs_deps.specs.declared.refusals.Refusal.TheVariants.{DeviceFault, Out
 use Rattle.cs_deps.specs.State.{State as Graph}
 use Rattle.cs_disk.specs.declared.disk.PageDisk.{Ghosts as PageDisk}
 use Rattle.cs_disk.specs.Disk.{Rises, State as DiskState, seen}
-use Rattle.cs_extent.specs.State.{shape}
+use Rattle.cs_extent.specs.State.{State as Extents, shape}
 use Rattle.cs_frame.specs.declared.faults.FormatFault.{FormatFault}
 use Rattle.cs_frame.specs.declared.frames.FrameKind.TheVariants.{Chunk as ChunkKind}
 use Rattle.cs_frame.specs.declared.locators.Locator.{Locator}
@@ -37,8 +38,11 @@ rises_since a b c le rise = omega (arith, rise, le)
 -- ---- a core whose disk was read
 
 module _ {D : Type 0} (first mid : View D) (same : mid ≡ record first { disk = mid.disk }) where
+  pub extents_there : mid.store.extents ≡ first.store.extents
+  extents_there = ap (λ (v : View D). v.store.extents) same
+
   pub shape_there : shape mid.store.extents ≡ shape first.store.extents
-  shape_there = ap (λ (v : View D). shape v.store.extents) same
+  shape_there = ap shape extents_there
 
   pub same_on : (last : View D) → last ≡ record mid { disk = last.disk } → last ≡ record first { disk = last.disk }
   same_on last more = more ∙ ap (λ (v : View D). record v { disk = last.disk }) same
@@ -73,18 +77,18 @@ no_sums count n e lt = zeros n e ∙ least
     least : ◌≡◌ {A = ℕ} 0 (min 0 (2 ^ 64 - 1))
     least = omega arith
 
-pub heads_more : (S : Shape) (view : ℕ → List ℕ) (cs : List LiveChunk) (k : ℕ) (c : LiveChunk) → slice_get cs k ≡ Some c
-    → heads_of S view (map chunk_of (take (k + 1) cs)) ≡ heads_of S view (map chunk_of (take k cs)) ++ head_of S view (chunk_of c) ∷ []
-heads_more S view cs k c at = ap (λ n. heads_of S view (map chunk_of (take n cs))) (add-one k) ∙ go cs k at
+pub heads_more : (x : Extents) (view : ℕ → List ℕ) (cs : List LiveChunk) (k : ℕ) (c : LiveChunk) → slice_get cs k ≡ Some c
+    → heads_of x view (map chunk_of (take (k + 1) cs)) ≡ heads_of x view (map chunk_of (take k cs)) ++ head_of x view (chunk_of c) ∷ []
+heads_more x view cs k c at = ap (λ n. heads_of x view (map chunk_of (take n cs))) (add-one k) ∙ go cs k at
   where
-    go : (cs : List LiveChunk) (k : ℕ) → slice_get cs k ≡ Some c → heads_of S view (map chunk_of (take (suc k) cs)) ≡ heads_of S view (map chunk_of (take k cs)) ++ head_of S view (chunk_of c) ∷ []
+    go : (cs : List LiveChunk) (k : ℕ) → slice_get cs k ≡ Some c → heads_of x view (map chunk_of (take (suc k) cs)) ≡ heads_of x view (map chunk_of (take k cs)) ++ head_of x view (chunk_of c) ∷ []
     go [] k at = absurd (cc at)
     go (d ∷ cs) zero at = ap (λ (o : Option LiveChunk). first_of o) at
       where
         first_of : Option LiveChunk → List Head
         first_of None = []
-        first_of (Some x) = head_of S view (chunk_of x) ∷ []
-    go (d ∷ cs) (suc k) at = ap (λ (hs : List Head). head_of S view (chunk_of d) ∷ hs) (go cs k at)
+        first_of (Some y) = head_of x view (chunk_of y) ∷ []
+    go (d ∷ cs) (suc k) at = ap (λ (hs : List Head). head_of x view (chunk_of d) ∷ hs) (go cs k at)
 
 pub inside_at : (S : Shape) (cs : List LiveChunk) (k : ℕ) (c : LiveChunk) → slice_get cs k ≡ Some c → AllByRecursion (BeginsInside S) (map chunk_of cs) → BeginsInside S (chunk_of c)
 inside_at S [] k c at all = absurd (cc at)
@@ -119,17 +123,17 @@ module _ (heads read : List Head) (e : ℕ) (said pages : Option ℕ) (a b d : �
     lost = risen_so (lost_in heads read + lost_one said pages) (lost_in (heads ++ (e, said) ∷ []) (read ++ (e, pages) ∷ [])) a d (lost_more (Rises a b) heads read (e, said) (e, pages) was.each) lost_now;
   }
 
-pub heads_step : (S T : Shape) (view : ℕ → List ℕ) (cs : List LiveChunk) (k : ℕ) (c : LiveChunk) (read : List Head) (pages : Option ℕ) (a b d : ℕ) → T ≡ S → slice_get cs k ≡ Some c
+pub heads_step : (x y : Extents) (view : ℕ → List ℕ) (cs : List LiveChunk) (k : ℕ) (c : LiveChunk) (read : List Head) (pages : Option ℕ) (a b d : ℕ) → y ≡ x → slice_get cs k ≡ Some c
     → a ≤ b → b ≤ d
-    → AreRead a b (heads_of S view (map chunk_of (take k cs))) read
-    → (pages ≡ pages_counted (view (T.address c.place.extent c.place.page)) (T.pages - c.place.page)) ⊎ ((pages ≡ None) × Rises b d)
-    → AreRead a d (heads_of S view (map chunk_of (take (k + 1) cs))) (read ++ (c.place.extent, pages) ∷ [])
-heads_step S T view cs k c read pages a b d shapes at le le' was here =
-    subst (λ (hs : List Head). AreRead a d hs (read ++ (c.place.extent, pages) ∷ [])) (sym (heads_more S view cs k c at))
-    (one_read (heads_of S view (map chunk_of (take k cs))) read c.place.extent (pages_counted (view (S.address c.place.extent c.place.page)) (S.pages - c.place.page)) pages a b d was
+    → AreRead a b (heads_of x view (map chunk_of (take k cs))) read
+    → (pages ≡ pages_counted (view ((shape y).address c.place.extent c.place.page)) (end_in y c.place - c.place.page)) ⊎ ((pages ≡ None) × Rises b d)
+    → AreRead a d (heads_of x view (map chunk_of (take (k + 1) cs))) (read ++ (c.place.extent, pages) ∷ [])
+heads_step x y view cs k c read pages a b d same at le le' was here =
+    subst (λ (hs : List Head). AreRead a d hs (read ++ (c.place.extent, pages) ∷ [])) (sym (heads_more x view cs k c at))
+    (one_read (heads_of x view (map chunk_of (take k cs))) read c.place.extent (pages_counted (view ((shape x).address c.place.extent c.place.page)) (end_in x c.place - c.place.page)) pages a b d was
     (⊎_elim
-    (λ (is : pages ≡ pages_counted (view (T.address c.place.extent c.place.page)) (T.pages - c.place.page)).
-    inl (is ∙ ap (λ (U : Shape). pages_counted (view (U.address c.place.extent c.place.page)) (U.pages - c.place.page)) shapes))
+    (λ (is : pages ≡ pages_counted (view ((shape y).address c.place.extent c.place.page)) (end_in y c.place - c.place.page)).
+    inl (is ∙ ap (λ (z : Extents). pages_counted (view ((shape z).address c.place.extent c.place.page)) (end_in z c.place - c.place.page)) same))
     (λ (lost : (pages ≡ None) × Rises b d). inr lost)
     here)
     le le')
@@ -140,12 +144,15 @@ none_read a = record { each = tt; lost = risen_none 0 a refl }
 
 -- ---- what was read of a header
 
-module _ (S : Shape) (view : ℕ → List ℕ) (l : Locator) where
+module _ (x : Extents) (view : ℕ → List ℕ) (l : Locator) where
   abbrev counted : Option ℕ
-  counted = pages_counted (view (S.address l.extent l.page)) (S.pages - l.page)
+  counted = pages_counted (view ((shape x).address l.extent l.page)) (end_in x l - l.page)
 
-  pub fault_pages : (pages : Option ℕ) → pages ≡ None → (before later : ℕ) (r : Refusal) → r ≢ OutOfMemory → (r ≡ DeviceFault → Rises before later) → IsNoAnswer r ⊎ IsOfFault (header_fault_at S view ChunkKind l) r
+  pub told_pages : (pages count : ℕ) → pages ≡ page_count count → count ≡ length_at (shape x) view l → header_fault_in x view ChunkKind l ≡ None → Some pages ≡ counted
+  told_pages pages count is told none = ap Some (is ∙ ap page_count told) ∙ sym (ap (λ (o : Option FormatFault). unless_fault o (page_count (length_at (shape x) view l))) none)
+
+  pub fault_pages : (pages : Option ℕ) → pages ≡ None → (before later : ℕ) (r : Refusal) → r ≢ OutOfMemory → (r ≡ DeviceFault → Rises before later) → IsNoAnswer r ⊎ IsOfFault (header_fault_in x view ChunkKind l) r
       → (pages ≡ counted) ⊎ ((pages ≡ None) × Rises before later)
   fault_pages pages is before later r not cause (inl (inl device)) = inr (is, cause device)
   fault_pages pages is before later r not cause (inl (inr memory)) = absurd (not memory)
-  fault_pages pages is before later r not cause (inr f) = inl (is ∙ sym (ap (λ (o : Option FormatFault). unless_fault o (page_count (length_at S view l))) f.1))
+  fault_pages pages is before later r not cause (inr f) = inl (is ∙ sym (ap (λ (o : Option FormatFault). unless_fault o (page_count (length_at (shape x) view l))) f.1))

@@ -1,10 +1,10 @@
 -- Seeking the extent with fewest live pages.
-use Rattle.std.proofs.Common.{◌≡◌, ◌≢◌, ◌∙◌, ◌⊎◌, inl, inr, ⊎_elim, ◌≤◌, ◌<◌, ◌+◌, ℕ, List, Option, None, Some, MatchBool, MatchOption, Bool, true, false, refl, sym, ap, subst, arith, get_or, length}
+use Rattle.std.proofs.Common.{◌≡◌, ◌≢◌, ◌∙◌, ◌⊎◌, inl, inr, ◌≤◌, ◌<◌, ◌+◌, ℕ, List, Option, None, Some, MatchOption, Bool, true, false, refl, sym, ap, subst, arith, get_or, length}
 use Rattle.std.specs.Prelude.{◌↔◌, IsTrue, slice_get}
 use Rattle.std.proofs.lemmas.Bool.{cases_eq, cases_lt}
 use Rattle.std.proofs.lemmas.Option.{get_or_from_slice_get, same_Some, slice_get_within}
 use Rattle.cs_survey.specs.declared.extent_uses.ExtentUse.{ExtentUse}
-use Rattle.cs_survey.specs.Fewest.{FitOnOne, HasFewer, HasNoFewer, IsFewest, IsFewestLive, IsMovable, IsOther, NoOther, NoTwoFit}
+use Rattle.cs_survey.specs.Fewest.{HasFewer, HasNoFewer, IsFewest, IsFewestLive, IsOther, NoOther, NoTwoFit}
 
 -- of the first i extents e is the first with fewest live pages
 pub record IsFewestOf (uses : List ExtentUse) (but : Option ℕ) (i e : ℕ) : Type 0 where

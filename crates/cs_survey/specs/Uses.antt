@@ -1,10 +1,12 @@
 -- How the extents of a store are used.
 use Rattle.std.specs.Prelude.{◌≡◌, ◌⊎◌, ◌↔◌, ◌+◌, ◌-◌, ◌^◌, ◌<◌, ◌≤◌, ◌==◌, ℕ, List, [], ◌∷◌, Option, Some, None, IsTrue, if◌then◌else◌, length, map, min, slice_get, slice_index}
+use Rattle.cs_chunk.specs.Chunks.{end_in}
 use Rattle.cs_disk.specs.Disk.{Rises}
+use Rattle.cs_extent.specs.State.{State as ExtentsState, shape}
 use Rattle.cs_frame.specs.declared.faults.FormatFault.{FormatFault}
 use Rattle.cs_frame.specs.declared.frames.FrameKind.TheVariants.{Chunk as ChunkKind}
+use Rattle.cs_frame.specs.Formats.{as_locator}
 use Rattle.cs_frame.specs.Frames.{header_fault, kind_byte, page_count, payload_length}
-use Rattle.cs_model.specs.Device.{Shape}
 use Rattle.cs_model.specs.Extents.{Extents}
 use Rattle.cs_survey.specs.Chunks.{Chunk}
 use Rattle.cs_survey.specs.declared.extent_uses.ExtentUse.{ExtentUse}
@@ -21,18 +23,17 @@ abbrev pub unless_fault : Option FormatFault → ℕ → Option ℕ
 unless_fault None pages = Some pages
 unless_fault (Some f) pages = None
 
--- how many pages the header in this first page counts of a chunk's frame, which has so many pages to the end of its extent; None where it
--- fails a test
-abbrev pub pages_counted : (first : List ℕ) → (to_the_end : ℕ) → Option ℕ
-pages_counted first to_the_end = unless_fault (header_fault (kind_byte ChunkKind) first to_the_end) (page_count (payload_length first))
+-- how many pages the header in this first page counts of a chunk's frame, which may have no more than so many; None where it fails a test
+abbrev pub pages_counted : (first : List ℕ) → (at_most : ℕ) → Option ℕ
+pages_counted first at_most = unless_fault (header_fault (kind_byte ChunkKind) first at_most) (page_count (payload_length first))
 
--- what the header of a chunk says
-abbrev pub head_of : Shape → (view : ℕ → List ℕ) → Chunk → Head
-head_of S view c = (c.place.extent, pages_counted (view (S.address c.place.extent c.place.page)) (S.pages - c.place.page))
+-- what the header of a chunk says, whose frame reaches no further than it may in these extents
+abbrev pub head_of : ExtentsState → (view : ℕ → List ℕ) → Chunk → Head
+head_of x view c = (c.place.extent, pages_counted (view ((shape x).address c.place.extent c.place.page)) (end_in x (as_locator c.place) - c.place.page))
 
 -- what the headers of these chunks say, one after another
-abbrev pub heads_of : Shape → (view : ℕ → List ℕ) → List Chunk → List Head
-heads_of S view cs = map (head_of S view) cs
+abbrev pub heads_of : ExtentsState → (view : ℕ → List ℕ) → List Chunk → List Head
+heads_of x view cs = map (head_of x view) cs
 
 -- the sum over those heads that are on extent e
 abbrev pub sum_on : (Option ℕ → ℕ) → (e : ℕ) → List Head → ℕ

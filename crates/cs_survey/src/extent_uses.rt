@@ -26,8 +26,9 @@ impl ExtentUse {
     /// The given pages that aren't live, in pages of 4,096 bytes. Those of the index's runs are among them. None where damaged headers
     /// count more pages than are given.
     ///
-    /// The pages behind the pointer aren't given, so they don't count here. Opening a store gives up those of an extent that was being filled,
-    /// and so does an append that doesn't fit there: nothing is written to them until the extent is emptied.
+    /// The pages behind the pointer aren't given, so they don't count here. In stores of formats 1 and 2 opening a store gives up those of an
+    /// extent that was being filled, and so does an append that doesn't fit there: nothing is written to them until the extent is emptied. In
+    /// stores of format 3 none are given up: a frame that fits there may be appended to any extent of its kind.
     pub fn dead(&self) -> usize
         ensures { result ≡ self.now.pointer - self.now.live }
     {

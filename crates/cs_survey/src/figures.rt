@@ -57,15 +57,15 @@ impl Stats {
         // Whatever reads failed, the counts are those of what was read.
         ensures read { D.honest core.old.disk
             → (view : ℕ → List ℕ) (chunks : List Chunk) → AreNewest core.old.store.graph (seen (D.state core.old.disk)) view → AreLiveChunks (index_of core.old.store.index) chunks
-            → IfOk result (λ stats. AreCountedAsRead (D.failure_count core.old.disk) (D.failure_count core.new.disk) (heads_of (shape core.old.store.extents) view chunks) stats.extents.items) }
+            → IfOk result (λ stats. AreCountedAsRead (D.failure_count core.old.disk) (D.failure_count core.new.disk) (heads_of core.old.store.extents view chunks) stats.extents.items) }
         // So where none failed they are those of the headers.
         ensures counted { D.honest core.old.disk → ¬ Rises (D.failure_count core.old.disk) (D.failure_count core.new.disk)
             → (view : ℕ → List ℕ) (chunks : List Chunk) → AreNewest core.old.store.graph (seen (D.state core.old.disk)) view → AreLiveChunks (index_of core.old.store.index) chunks
-            → IfOk result (λ stats. AreCounted (heads_of (shape core.old.store.extents) view chunks) stats.extents.items) }
+            → IfOk result (λ stats. AreCounted (heads_of core.old.store.extents view chunks) stats.extents.items) }
         // And else a chunk whose read failed isn't live, and counts as unreadable.
         ensures bounded { D.honest core.old.disk
             → (view : ℕ → List ℕ) (chunks : List Chunk) → AreNewest core.old.store.graph (seen (D.state core.old.disk)) view → AreLiveChunks (index_of core.old.store.index) chunks
-            → IfOk result (λ stats. AreBounded (heads_of (shape core.old.store.extents) view chunks) stats.extents.items) }
+            → IfOk result (λ stats. AreBounded (heads_of core.old.store.extents view chunks) stats.extents.items) }
         ensures empty { IfOk result (λ stats. stats.empty ≡ empties (extents_of core.old.store.extents).pointer (shape core.old.store.extents).extents) }
         ensures runs { IfOk result (λ stats. newest_uses stats.runs.items ≡ map run_figure core.old.store.index.runs) }
         ensures named { IfOk result (λ stats. stats.named ≡ names (index_of core.old.store.index)) }

@@ -1,6 +1,7 @@
 //! The use of all extents.
 ghost use Rattle.std.specs.Prelude.{◌≡◌, ◌≢◌, ◌⊎◌, ◌-◌, ◌<◌, ℕ, IfOk, List, MatchBool, None, Option, length, map};
 ghost use Rattle.std.specs.List.{AllByRecursion};
+ghost use Rattle.cs_chunk.specs.Chunks.{end_in};
 ghost use Rattle.cs_chunk.specs.Newest.{AreNewest};
 ghost use Rattle.cs_chunk.specs.Reads.{OnlyReads};
 ghost use Rattle.cs_disk.specs.Disk.{Rises, seen};
@@ -27,15 +28,15 @@ pub fn uses<D: PageDisk>(alloc: Global, core: &mut Core<D>) -> Result<Vec<Extent
     // Whatever reads failed, the counts are those of what was read.
     ensures read { D.honest core.old.disk
         → (view : ℕ → List ℕ) (chunks : List Chunk) → AreNewest core.old.store.graph (seen (D.state core.old.disk)) view → AreLiveChunks (index_of core.old.store.index) chunks
-        → IfOk result (λ uses. AreCountedAsRead (D.failure_count core.old.disk) (D.failure_count core.new.disk) (heads_of (shape core.old.store.extents) view chunks) uses.items) }
+        → IfOk result (λ uses. AreCountedAsRead (D.failure_count core.old.disk) (D.failure_count core.new.disk) (heads_of core.old.store.extents view chunks) uses.items) }
     // So where none failed they are those of the headers.
     ensures counted { D.honest core.old.disk → ¬ Rises (D.failure_count core.old.disk) (D.failure_count core.new.disk)
         → (view : ℕ → List ℕ) (chunks : List Chunk) → AreNewest core.old.store.graph (seen (D.state core.old.disk)) view → AreLiveChunks (index_of core.old.store.index) chunks
-        → IfOk result (λ uses. AreCounted (heads_of (shape core.old.store.extents) view chunks) uses.items) }
+        → IfOk result (λ uses. AreCounted (heads_of core.old.store.extents view chunks) uses.items) }
     // And else a chunk whose read failed isn't live, and counts as unreadable.
     ensures bounded { D.honest core.old.disk
         → (view : ℕ → List ℕ) (chunks : List Chunk) → AreNewest core.old.store.graph (seen (D.state core.old.disk)) view → AreLiveChunks (index_of core.old.store.index) chunks
-        → IfOk result (λ uses. AreBounded (heads_of (shape core.old.store.extents) view chunks) uses.items) }
+        → IfOk result (λ uses. AreBounded (heads_of core.old.store.extents view chunks) uses.items) }
     ensures same { core.new ≡ record core.old { disk = core.new.disk } }
     ensures disk { OnlyReads D.PageDisk core.old.disk core.new.disk }
 {
@@ -62,7 +63,7 @@ fn tally_chunks<D: PageDisk>(
     ensures unreadable { IfOk result (λ tally. length tally.unreadable.items ≡ (shape core.old.store.extents).extents) }
     ensures tallied { IfOk result (λ tally. (read : List Head) × AreTallied read tally.live.items tally.unreadable.items
         × (D.honest core.old.disk → (view : ℕ → List ℕ) → AreNewest core.old.store.graph (seen (D.state core.old.disk)) view
-        → AreRead (D.failure_count core.old.disk) (D.failure_count core.new.disk) (heads_of (shape core.old.store.extents) view (map chunk_of chunks.now)) read)) }
+        → AreRead (D.failure_count core.old.disk) (D.failure_count core.new.disk) (heads_of core.old.store.extents view (map chunk_of chunks.now)) read)) }
     ensures same { core.new ≡ record core.old { disk = core.new.disk } }
     ensures disk { OnlyReads D.PageDisk core.old.disk core.new.disk }
 {
@@ -82,7 +83,7 @@ fn pages_at<D: PageDisk>(core: &mut Core<D>, place: Locator) -> Result<Option<us
     requires extent { place.extent < (shape core.old.store.extents).extents }
     requires page { place.page < (shape core.old.store.extents).pages }
     ensures read { D.honest core.old.disk → (view : ℕ → List ℕ) → AreNewest core.old.store.graph (seen (D.state core.old.disk)) view
-        → IfOk result (λ pages. (pages ≡ pages_counted (view ((shape core.old.store.extents).address place.extent place.page)) ((shape core.old.store.extents).pages - place.page))
+        → IfOk result (λ pages. (pages ≡ pages_counted (view ((shape core.old.store.extents).address place.extent place.page)) (end_in core.old.store.extents place - place.page))
         ⊎ ((pages ≡ None) × Rises (D.failure_count core.old.disk) (D.failure_count core.new.disk))) }
     ensures same { core.new ≡ record core.old { disk = core.new.disk } }
     ensures disk { OnlyReads D.PageDisk core.old.disk core.new.disk }

@@ -7,9 +7,9 @@ use Rattle.cs_scrub.proofs.frames.read_place.Goals.{in-Ok, in-Err}
 
 pub returns-clause-told : goal.returns-clause-told
 returns-clause-told g c = λ honest view are.
-    let S = shape c.args.core.now.store.extents in
-    let inside : IsInside S c.args.place = subst (λ x. IsInside (shape x) c.args.place) c.extents.ensures c.if-not-is_inside.ensures in
+    let extents = c.args.core.now.store.extents in
+    let inside : IsInside (shape extents) c.args.place = subst (λ x. IsInside (shape x) c.args.place) c.extents.ensures c.if-not-is_inside.ensures in
     elim c.match-read_frame.branch [
-      | in-Ok w ↦ subst (λ r. TellsFrame S view c.args.kind c.args.place r) (sym w.result-is) (told_read S view c.args.kind c.args.place inside (tt {0}) c.read_frame.result _ (c.read_frame.ensures.fault honest view are) w.in-Ok.is)
-      | in-Err w ↦ subst (λ r. TellsFrame S view c.args.kind c.args.place r) (sym w.result-is) (told_unread S view c.args.kind c.args.place inside (Unit {0}) c.read_frame.result _ (c.read_frame.ensures.fault honest view are) w.in-Err.is)
+      | in-Ok w ↦ subst (λ r. TellsFrame extents view c.args.kind c.args.place r) (sym w.result-is) (told_read extents view c.args.kind c.args.place inside (tt {0}) c.read_frame.result _ (c.read_frame.ensures.fault honest view are) w.in-Ok.is)
+      | in-Err w ↦ subst (λ r. TellsFrame extents view c.args.kind c.args.place r) (sym w.result-is) (told_unread extents view c.args.kind c.args.place inside (Unit {0}) c.read_frame.result _ (c.read_frame.ensures.fault honest view are) w.in-Err.is)
     ]

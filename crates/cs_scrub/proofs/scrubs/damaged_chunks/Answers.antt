@@ -2,7 +2,6 @@ use Rattle.std.proofs.Common.{[], ℕ, List, get_or, refl, ap, Vec, ◌∙◌}
 use Rattle.std.proofs.lemmas.List.{get_or_default}
 use Rattle.std.specs.declared.alloc.Global.{Global}
 use Rattle.cs_chunk.proofs.OnlyRead.{reads_on}
-use Rattle.cs_extent.specs.State.{shape}
 use Rattle.cs_frame.specs.declared.frames.FrameKind.TheVariants as kind
 use Rattle.cs_index.specs.declared.live.LiveChunk.{LiveChunk}
 use Rattle.cs_survey.specs.Chunks.{chunk_of}
@@ -25,7 +24,7 @@ items v = v.items
 
 pub loop-k-preserved : goal.loop-k-preserved
 loop-k-preserved g c =
-    let S = shape c.args.core.now.store.extents in
+    let extents = c.args.core.now.store.extents in
     let xs = c.args.chunks.now in
     let k = c.loop-k.k in
     let x = at_place xs k in
@@ -45,9 +44,9 @@ loop-k-preserved g c =
           elim c.match-branch-2.branch [
             | in-Some+in_ok-push w ↦
                 (let no = why_some read c.in_ok-refusal.field-0 w.in-Some.refusal w.in-Some.is c.in_ok-refusal.ensures in
-                step_named S view OfChunk chunk_of xs k x lt at read told ds es (damage.Chunk x.id x.chunk x.place w.in-Some.refusal) w.in-Some.refusal was no.0 no.1 refl refl (ap items w.damages-is ∙ w.in_ok-push.ensures.items))
+                step_named extents view OfChunk chunk_of xs k x lt at read told ds es (damage.Chunk x.id x.chunk x.place w.in-Some.refusal) w.in-Some.refusal was no.0 no.1 refl refl (ap items w.damages-is ∙ w.in_ok-push.ensures.items))
             | in_default w ↦
-                step_passed S view OfChunk chunk_of xs k x lt at read told ds es was (why_none read c.in_ok-refusal.field-0 w.in_default.is c.in_ok-refusal.ensures) (ap items w.damages-is)
+                step_passed extents view OfChunk chunk_of xs k x lt at read told ds es was (why_none read c.in_ok-refusal.field-0 w.in_default.is c.in_ok-refusal.ensures) (ap items w.damages-is)
           ];
       caused = elim c.match-branch-2.branch [
         | in-Some+in_ok-push w ↦
@@ -65,7 +64,7 @@ loop-k-preserved g c =
 
 pub returns-clause-named : goal.returns-clause-named
 returns-clause-named g c = λ honest view are.
-    all_named (shape c.args.core.now.store.extents) view OfChunk chunk_of c.args.chunks.now c.loop-k.k c.loop-k.damages.items c.loop-k-test.false (c.loop-k.invariant.named honest view are)
+    all_named c.args.core.now.store.extents view OfChunk chunk_of c.args.chunks.now c.loop-k.k c.loop-k.damages.items c.loop-k-test.false (c.loop-k.invariant.named honest view are)
 
 pub returns-in_err-push-clause-disk : goal.returns-in_err-push-clause-disk
 returns-in_err-push-clause-disk g c = reads_on g.D.PageDisk c.args.core.now.disk c.loop-k.core.disk c.read_chunk.new.core.disk c.loop-k.invariant.disk c.read_chunk.ensures.disk

@@ -2,7 +2,6 @@ use Rattle.std.proofs.Common.{◌≡◌, ℕ, List, map, take}
 use Rattle.cs_chunk.specs.Newest.{AreNewest}
 use Rattle.cs_chunk.specs.Reads.{OnlyReads}
 use Rattle.cs_disk.specs.Disk.{seen}
-use Rattle.cs_extent.specs.State.{shape}
 use Rattle.cs_survey.specs.Chunks.{chunk_of}
 use Rattle.cs_survey.specs.Failures.{RisesBy}
 use Rattle.cs_scrub.specs.Scrubs.{AreCaused, AreNamed, OfChunk, device_faults}
@@ -13,7 +12,7 @@ invariant-loop-k g l = record {
   same : l.core ≡ record l.fn.core { disk = l.core.disk };
   disk : OnlyReads g.D.PageDisk l.fn.core.disk l.core.disk;
   named : g.D.PageDisk.honest l.fn.core.disk → (view : ℕ → List ℕ) → AreNewest l.fn.core.store.graph (seen (g.D.PageDisk.state l.fn.core.disk)) view
-      → AreNamed (shape l.fn.core.store.extents) view (map OfChunk (map chunk_of (take l.k l.chunks))) l.damages.items;
+      → AreNamed l.fn.core.store.extents view (map OfChunk (map chunk_of (take l.k l.chunks))) l.damages.items;
   caused : AreCaused (g.D.PageDisk.failure_count l.fn.core.disk) (g.D.PageDisk.failure_count l.core.disk) l.damages.items;
   counted : RisesBy (device_faults l.damages.items) (g.D.PageDisk.failure_count l.fn.core.disk) (g.D.PageDisk.failure_count l.core.disk);
 }

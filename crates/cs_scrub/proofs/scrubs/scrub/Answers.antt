@@ -2,7 +2,6 @@ use Rattle.std.proofs.Common.{◌∙◌, map, sym, subst}
 use Rattle.std.proofs.lemmas.List.{length-map}
 use Rattle.cs_chunk.proofs.OnlyRead.{reads_on}
 use Rattle.cs_core.specs.Stored.{Stored}
-use Rattle.cs_extent.specs.State.{shape}
 use Rattle.cs_frame.specs.Formats.{place_of}
 use Rattle.cs_survey.specs.Chunks.{chunk_of}
 use Rattle.cs_survey.specs.Failures.{RisesBy}
@@ -70,14 +69,14 @@ returns-clause-runs g c =
 
 pub returns-clause-named : goal.returns-clause-named
 returns-clause-named g c = λ honest view are.
-    let S = shape c.args.core.now.store.extents in
+    let extents = c.args.core.now.store.extents in
     let store = same_store g.D.PageDisk c.args.core.now c.damaged_chunks.new.core c.damaged_chunks.ensures.same c.damaged_chunks.ensures.disk in
     let of_runs = c.in_ok-of_runs.ensures.named (c.damaged_chunks.ensures.disk.honesty.0 honest) view
     (newest_here g.D.PageDisk c.args.core.now c.damaged_chunks.new.core c.damaged_chunks.ensures.same c.damaged_chunks.ensures.disk honest view are) in
-    scrubbed S view c.args.core.now.store.index c.index.result.now c.index.ensures.index (map chunk_of c.in_ok-chunks.chunks.items) (map place_of c.deref-2.result.now)
+    scrubbed extents view c.args.core.now.store.index c.index.result.now c.index.ensures.index (map chunk_of c.in_ok-chunks.chunks.items) (map place_of c.deref-2.result.now)
     c.in_ok-damages.damages.items c.in_ok-of_runs.of_runs.items _ c.in_ok-chunks.ensures c.index.ensures.places
     (run_places_are c.args.core.now.store.index c.index-2.result.now c.runs.result.now c.in_ok-runs.runs.items c.deref-2.result.now c.index-2.ensures.index c.runs.ensures c.in_ok-runs.ensures c.deref-2.ensures.value)
-    (subst (λ xs. AreNamed S view (map OfChunk (map chunk_of xs)) c.in_ok-damages.damages.items) c.deref.ensures.value (c.in_ok-damages.ensures.named honest view are))
-    (subst (λ (s : Stored). AreNamed (shape s.extents) view (map OfRun (map place_of c.deref-2.result.now)) c.in_ok-of_runs.of_runs.items) store of_runs)
+    (subst (λ xs. AreNamed extents view (map OfChunk (map chunk_of xs)) c.in_ok-damages.damages.items) c.deref.ensures.value (c.in_ok-damages.ensures.named honest view are))
+    (subst (λ (s : Stored). AreNamed s.extents view (map OfRun (map place_of c.deref-2.result.now)) c.in_ok-of_runs.of_runs.items) store of_runs)
     (c.len.ensures ∙ c.in_ok-chunks.chunks.ok.0 ∙ sym (length-map c.in_ok-chunks.chunks.items chunk_of))
     c.in_ok-append.ensures.items

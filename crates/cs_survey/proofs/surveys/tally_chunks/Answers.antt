@@ -6,7 +6,7 @@ use Rattle.cs_index.specs.declared.live.LiveChunk.{LiveChunk}
 use Rattle.cs_model.specs.Device.{Shape}
 use Rattle.cs_survey.specs.Chunks.{chunk_of}
 use Rattle.cs_survey.specs.Uses.{AreRead, AreTallied, heads_of, missing_in, pages_in}
-use Rattle.cs_survey.proofs.Reading.{all_written, heads_step, newest_there, no_sums, none_read, place_inside, same_on, shape_there, tallied_so}
+use Rattle.cs_survey.proofs.Reading.{all_written, extents_there, heads_step, newest_there, no_sums, none_read, place_inside, same_on, shape_there, tallied_so}
 use Rattle.cs_survey.proofs.surveys.tally_chunks.Goals as goal
 
 -- the chunk at a place
@@ -59,7 +59,6 @@ loop-k-preserved g c =
     let first = c.args.core.now in
     let mid = c.loop-k.core in
     let was = c.loop-k.invariant in
-    let S = shape first.store.extents in
     let chunks = c.args.chunks.now in
     let k = c.loop-k.k in
     let chunk = at_place chunks k in
@@ -79,18 +78,17 @@ loop-k-preserved g c =
         tallied_so (read ++ (chunk.place.extent, pages) ∷ []) c.count.new.live c.count.new.unreadable _ _ live unreadable
             (subst (λ (e : ℕ). AreTallied (read ++ (e, pages) ∷ []) c.count.new.live c.count.new.unreadable) c.from.ensures
             (c.count.ensures read (tallied_so read c.loop-k.live.items c.loop-k.unreadable.items c.deref_mut.result.now c.deref_mut-in-loop-k.result.now c.deref_mut.ensures.value c.deref_mut-in-loop-k.ensures.value was.tallied.1))),
-        λ h view are. heads_step S (shape mid.store.extents) view chunks k chunk read pages (g.D.PageDisk.failure_count first.disk) (g.D.PageDisk.failure_count mid.disk) (g.D.PageDisk.failure_count c.pages_at.new.core.disk)
-            (shape_there first mid was.same) (slice_get-get_or chunks k _ c.loop-k-test.true) was.disk.failures c.in_ok-pages.ensures.disk.failures (was.tallied.2 h view are)
+        λ h view are. heads_step first.store.extents mid.store.extents view chunks k chunk read pages (g.D.PageDisk.failure_count first.disk) (g.D.PageDisk.failure_count mid.disk) (g.D.PageDisk.failure_count c.pages_at.new.core.disk)
+            (extents_there first mid was.same) (slice_get-get_or chunks k _ c.loop-k-test.true) was.disk.failures c.in_ok-pages.ensures.disk.failures (was.tallied.2 h view are)
             (c.in_ok-pages.ensures.read (was.disk.honesty.0 h) view (newest_there first mid was.same g.D.PageDisk was.disk h view are)),
       );
     }
 
 pub returns-clause-tallied : goal.returns-clause-tallied
 returns-clause-tallied g c =
-    let S = shape c.args.core.now.store.extents in
     let tallied = c.loop-k.invariant.tallied in (
       tallied.0,
       tallied.1,
-      λ h view are. subst (λ (chunks : List LiveChunk). AreRead (g.D.PageDisk.failure_count c.args.core.now.disk) (g.D.PageDisk.failure_count c.loop-k.core.disk) (heads_of S view (map chunk_of chunks)) tallied.0)
+      λ h view are. subst (λ (chunks : List LiveChunk). AreRead (g.D.PageDisk.failure_count c.args.core.now.disk) (g.D.PageDisk.failure_count c.loop-k.core.disk) (heads_of c.args.core.now.store.extents view (map chunk_of chunks)) tallied.0)
           (take_all c.loop-k.k c.args.chunks.now c.loop-k-test.false) (tallied.2 h view are),
     )

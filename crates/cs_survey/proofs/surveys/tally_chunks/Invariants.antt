@@ -15,5 +15,5 @@ invariant-loop-k g l = record {
   disk : OnlyReads g.D.PageDisk l.fn.core.disk l.core.disk;
   tallied : (read : List Head) × AreTallied read l.live.items l.unreadable.items
       × (g.D.PageDisk.honest l.fn.core.disk → (view : ℕ → List ℕ) → AreNewest l.fn.core.store.graph (seen (g.D.PageDisk.state l.fn.core.disk)) view
-      → AreRead (g.D.PageDisk.failure_count l.fn.core.disk) (g.D.PageDisk.failure_count l.core.disk) (heads_of (shape l.fn.core.store.extents) view (map chunk_of (take l.k l.chunks))) read);
+      → AreRead (g.D.PageDisk.failure_count l.fn.core.disk) (g.D.PageDisk.failure_count l.core.disk) (heads_of l.fn.core.store.extents view (map chunk_of (take l.k l.chunks))) read);
 }

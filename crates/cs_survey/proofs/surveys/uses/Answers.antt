@@ -32,7 +32,7 @@ count_after g c = g.D.PageDisk.failure_count c.tally_chunks.new.core.disk
 -- what a list of all live chunks is counted as
 counts : (g : Over) (c : After-uses_with g) → g.D.PageDisk.honest c.args.core.now.disk → (view : ℕ → List ℕ) (chunks : List Chunk)
     → AreNewest c.args.core.now.store.graph (seen (g.D.PageDisk.state c.args.core.now.disk)) view → AreLiveChunks (index_of c.args.core.now.store.index) chunks
-    → IfOk c.uses_with.result (λ uses. AreCountedAsRead (count_before g c) (count_after g c) (heads_of (shape c.args.core.now.store.extents) view chunks) uses.items)
+    → IfOk c.uses_with.result (λ uses. AreCountedAsRead (count_before g c) (count_after g c) (heads_of c.args.core.now.store.extents view chunks) uses.items)
 counts g c honest view chunks are live =
     let first = c.args.core.now in
     let S = shape first.store.extents in
@@ -40,9 +40,9 @@ counts g c honest view chunks are live =
     let tally = c.in_ok-tally.ensures in
     let sizes : S.extents ≡ (shape x).extents = sym (ap (λ (y : Extents). (shape y).extents) c.extents.ensures ∙ ap (λ S. S.extents) (shape_there first c.tally_chunks.new.core tally.same)) in
     let read = tally.tallied.0 in
-    let found = read_of S view first.store.index c.index.result.now c.in_ok-chunks.chunks.items c.deref.result.now chunks (count_before g c) (count_after g c) read c.index.ensures.index c.deref.ensures.value c.in_ok-chunks.ensures live (tally.tallied.2 honest view are) in
+    let found = read_of first.store.extents view first.store.index c.index.result.now c.in_ok-chunks.chunks.items c.deref.result.now chunks (count_before g c) (count_after g c) read c.index.ensures.index c.deref.ensures.value c.in_ok-chunks.ensures live (tally.tallied.2 honest view are) in
     IfOk-weaker c.uses_with.result _ _
-    (λ uses of. counted_as_read (shape x).extents (extents_of x) c.deref-2.result.now c.deref-3.result.now uses.items (count_before g c) (count_after g c) (heads_of S view chunks) read of
+    (λ uses of. counted_as_read (shape x).extents (extents_of x) c.deref-2.result.now c.deref-3.result.now uses.items (count_before g c) (count_after g c) (heads_of first.store.extents view chunks) read of
     (ap length c.deref-2.ensures.value ∙ tally.live ∙ sizes) (ap length c.deref-3.ensures.value ∙ tally.unreadable ∙ sizes)
     (tallied_so read c.in_ok-tally.tally.live.items c.in_ok-tally.tally.unreadable.items _ _ c.deref-2.ensures.value c.deref-3.ensures.value tally.tallied.1) found)
     c.uses_with.ensures
@@ -53,12 +53,12 @@ returns-clause-read g c = λ honest view chunks are live. counts g (goal.at.retu
 pub returns-clause-counted : goal.returns-clause-counted
 returns-clause-counted g c = λ honest still view chunks are live.
     let end = (goal.at.returns-clause-counted g c).After-uses_with in
-    IfOk-weaker c.uses_with.result _ _ (λ uses read. counted_then (count_before g end) (count_after g end) (heads_of (shape c.args.core.now.store.extents) view chunks) uses.items read still) (counts g end honest view chunks are live)
+    IfOk-weaker c.uses_with.result _ _ (λ uses read. counted_then (count_before g end) (count_after g end) (heads_of c.args.core.now.store.extents view chunks) uses.items read still) (counts g end honest view chunks are live)
 
 pub returns-clause-bounded : goal.returns-clause-bounded
 returns-clause-bounded g c = λ honest view chunks are live.
     let end = (goal.at.returns-clause-bounded g c).After-uses_with in
-    IfOk-weaker c.uses_with.result _ _ (λ uses read. bounded_then (count_before g end) (count_after g end) (heads_of (shape c.args.core.now.store.extents) view chunks) uses.items read) (counts g end honest view chunks are live)
+    IfOk-weaker c.uses_with.result _ _ (λ uses read. bounded_then (count_before g end) (count_after g end) (heads_of c.args.core.now.store.extents view chunks) uses.items read) (counts g end honest view chunks are live)
 
 pub returns-clause-extents : goal.returns-clause-extents
 returns-clause-extents g c = IfOk-weaker c.uses_with.result _ _
