@@ -6,7 +6,7 @@ use Rattle.std.proofs.lemmas.Grind.{div_ceil_times}
 use Rattle.cs_deps.specs.declared.refusals.Refusal.{Refusal}
 use Rattle.cs_deps.specs.declared.refusals.Refusal.TheVariants.{Halted, Unsettled, WornOut}
 use Rattle.cs_disk.specs.declared.disk.PageDisk.{Ghosts as PageDisk}
-use Rattle.cs_disk.specs.Disk.{LeavesOnly, page}
+use Rattle.cs_disk.specs.Disk.{GoesOn, LeavesOnly, page}
 use Rattle.cs_extent.specs.State.{shape}
 use Rattle.cs_refine.specs.Crashes.{IsPrefix}
 use Rattle.cs_core.specs.Checkpoints.{IsNotReplaced, IsSettled, Replaces}
@@ -33,6 +33,10 @@ made_room {D = D} old new half count base (Ok n) is are enough taken settled is_
     inl ((some, settled.0, settled.1, omega (arith, is_base, few, replaced)), taken.1)
 made_room old new half count base (Err refusal) is are enough taken settled is_base few refused = inr (not_replaced old refusal refused.0, refused.1)
 
+-- where nothing is asked of a disk time goes on
+same_time : {D : Type 0} (disks : PageDisk D) (disk : D) → GoesOn disks.honest disks.state disks.moment disks.left_since disk disk
+same_time disks disk honest = record { later = omega arith; nothing_else = λ t c le since. inl since; keeps = λ t c le past. past }
+
 -- what a checkpoint does is one call, and where it is refused nothing was called
 pub checkpoint_ran : {D : Type 0} (disks : PageDisk D) (old new : View D) (r : Result ℕ Refusal) → IfOk r (λ n. Replaces old n new) → IfErr r (λ refusal. IsNotReplaced old refusal × (new ≡ old))
     → (disks.honest old.disk → LeavesOnly disks.moment disks.left_since old.disk new.disk (IsPrefix (shape old.store.extents) (page old.opened) (commands_said old.history) old.store.frontier old.store.accepted))
@@ -43,6 +47,8 @@ checkpoint_ran {D = D} disks old new (Ok n) replaces refused crash =
       did = inr (inr (n, replaces));
       rises = omega (arith, same);
       stays_honest = λ h. subst (λ (v : View D). disks.honest v.disk) (sym replaces.1) h;
+      pages = ap (λ (v : View D). disks.page_count v.disk) replaces.1;
+      time = subst (λ (v : View D). GoesOn disks.honest disks.state disks.moment disks.left_since old.disk v.disk) (sym replaces.1) (same_time disks old.disk);
       crash = crash;
     })
 checkpoint_ran disks old new (Err refusal) replaces refused crash = inl refused.1

@@ -1,8 +1,8 @@
 -- Calls of a core, put together.
-use Rattle.std.proofs.Common.{◌≤◌, List, [], ◌∷◌, ◌++◌, sym, subst, refl, inl, inr}
+use Rattle.std.proofs.Common.{◌≡◌, ◌≤◌, List, [], ◌∷◌, ◌++◌, sym, subst, refl, inl, inr}
 use Rattle.std.specs.Prelude.{◌↔◌, Result, Ok, Err, IfOk, OnErr}
 use Rattle.cs_disk.specs.declared.disk.PageDisk.{Ghosts as PageDisk}
-use Rattle.cs_disk.specs.Disk.{LeavesOnly, page}
+use Rattle.cs_disk.specs.Disk.{GoesOn, LeavesOnly, page}
 use Rattle.cs_extent.specs.State.{shape}
 use Rattle.cs_refine.specs.Crashes.{IsPrefix}
 use Rattle.cs_core.specs.declared.events.Event.{Event}
@@ -35,6 +35,6 @@ module _ {D : Type 0} (disks : PageDisk D) where
   pub call_of : {E : Type 0} (event : Event) (old new : View D) (r : Result Reply E) → IfOk r (λ reply. Applies disks old event reply new) → OnErr r (IsUntouched disks old new)
       → old.store.frontier ≤ new.store.frontier → disks.honest old.disk ↔ disks.honest new.disk
       → (disks.honest old.disk → LeavesOnly disks.moment disks.left_since old.disk new.disk (IsPrefix (shape old.store.extents) (page old.opened) (commands_said old.history) old.store.frontier old.store.accepted))
-      → IsCall disks old new
-  call_of event old new (Ok reply) step memory rises honest crash = record { did = inl (event, reply, step); rises = rises; stays_honest = honest.0; crash = crash }
-  call_of event old new (Err e) step memory rises honest crash = record { did = inr (inl memory); rises = rises; stays_honest = honest.0; crash = crash }
+      → GoesOn disks.honest disks.state disks.moment disks.left_since old.disk new.disk → disks.page_count new.disk ≡ disks.page_count old.disk → IsCall disks old new
+  call_of event old new (Ok reply) step memory rises honest crash time pages = record { did = inl (event, reply, step); rises = rises; stays_honest = honest.0; pages = pages; time = time; crash = crash }
+  call_of event old new (Err e) step memory rises honest crash time pages = record { did = inr (inl memory); rises = rises; stays_honest = honest.0; pages = pages; time = time; crash = crash }

@@ -10,14 +10,14 @@ returns-in-Ok-Refused-clause-refused g c =
 pub returns-in-Ok-Refused-clause-call : goal.returns-in-Ok-Refused-clause-call
 returns-in-Ok-Refused-clause-call g c =
     let e = c.apply.ensures in
-    call_of g.D.PageDisk c.args.event.now c.args.core.now c.apply.new.self c.apply.result e.step e.memory e.rises e.honest e.crash
+    call_of g.D.PageDisk c.args.event.now c.args.core.now c.apply.new.self c.apply.result e.step e.memory e.rises e.honest e.crash e.time e.pages
 
 pub returns-in-Ok-clause-call : goal.returns-in-Ok-clause-call
 returns-in-Ok-clause-call g c =
     let e = c.apply.ensures in
-    call_of g.D.PageDisk c.args.event.now c.args.core.now c.apply.new.self c.apply.result e.step e.memory e.rises e.honest e.crash
+    call_of g.D.PageDisk c.args.event.now c.args.core.now c.apply.new.self c.apply.result e.step e.memory e.rises e.honest e.crash e.time e.pages
 
 pub returns-in-Err-clause-call : goal.returns-in-Err-clause-call
 returns-in-Err-clause-call g c =
     let e = c.apply.ensures in
-    call_of g.D.PageDisk c.args.event.now c.args.core.now c.apply.new.self c.apply.result e.step e.memory e.rises e.honest e.crash
+    call_of g.D.PageDisk c.args.event.now c.args.core.now c.apply.new.self c.apply.result e.step e.memory e.rises e.honest e.crash e.time e.pages
