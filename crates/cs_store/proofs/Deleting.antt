@@ -5,13 +5,13 @@ use Rattle.cs_extent.specs.State.{IsWhole, shape}
 use Rattle.cs_frame.specs.declared.identifiers.ShardId.{ShardId}
 use Rattle.cs_frame.specs.Formats.{formats_of}
 use Rattle.cs_index.specs.State.{id_number}
-use Rattle.cs_model.specs.Device.{Shape}
+use Rattle.cs_model.specs.Device.{IsShape, Shape}
 use Rattle.cs_model.specs.Element.{Map}
 use Rattle.cs_model.specs.Frames.{IsFormat}
 use Rattle.cs_model.specs.State as model
 use Rattle.cs_model.specs.State.{State, map_now}
 use Rattle.cs_model.specs.Step.{Step}
-use Rattle.cs_refine.proofs.Shapes.{store_format}
+use Rattle.cs_refine.proofs.Shapes.{store_format, store_shape}
 use Rattle.cs_core.specs.declared.events.Event.TheVariants.{Delete}
 use Rattle.cs_core.specs.declared.events.Reply.{Reply}
 use Rattle.cs_core.specs.declared.events.Reply.TheVariants.{Absent, Accepted}
@@ -43,13 +43,14 @@ module _ {D : Type 0} (disks : PageDisk D) (old new : View D) (id : ShardId) (wh
       go (before, after, ahead, goes, behind) =
           let same = accepts_later disks [] old d.ready before d.same (stays_accepts disks d.ready before ahead) in
           let is_in = untouched_in disks d.ready before d.machine (d.same.honest.0 there) ahead.0 d.is_in in
+          let known = subst IsShape (sym same.same_shape) (store_shape old.store.extents whole) in
           let format = subst (λ (S : Shape). IsFormat S (formats_of S)) (sym same.same_shape) (store_format old.store.extents whole) in
           let did = goes.step.step (same.honest.0 there) d.machine is_in in
           record {
             before = before;
             machine = d.machine;
             is_in = is_in;
-            same = machine_map disks.state before m d.machine format (map_kept disks old before same m has) is_in (id_number id);
+            same = machine_map disks.state before m d.machine known format (map_kept disks old before same m has) is_in (id_number id);
             said = did.0;
             after = did.1;
             says = did.2;

@@ -8,7 +8,7 @@ use Rattle.cs_disk.specs.Disk.{Rises, State as DiskState}
 use Rattle.cs_extent.specs.State.{IsWhole}
 use Rattle.cs_model.specs.Element.{Content, Map}
 use Rattle.cs_model.specs.State.{State, map_now}
-use Rattle.cs_refine.proofs.Shapes.{store_format}
+use Rattle.cs_refine.proofs.Shapes.{store_format, store_shape}
 use Rattle.cs_core.specs.Lookups.{IsReading}
 use Rattle.cs_core.specs.Views.{IsIn, View}
 use Rattle.cs_store.specs.declared.errors.GetError.{GetError}
@@ -20,7 +20,7 @@ use Rattle.cs_store.proofs.Maps.{machine_map}
 
 -- in the state that the store is in, its map has of each identifier what the machine has
 pub map_is : {D : Type 0} (state : D → DiskState) (v : View D) (m : Map) (s : State) → IsWhole v.store.extents → HasMap v m → IsIn state v s → (id : ℕ) → map_now s id ≡ m id
-map_is state v m s whole has is id = machine_map state v m s (store_format v.store.extents whole) has is id
+map_is state v m s whole has is id = machine_map state v m s (store_shape v.store.extents whole) (store_format v.store.extents whole) has is id
 
 pub got : (content content' : Option Content) (found : Option (Vec ℕ Global)) → content' ≡ content → IsReading content' (Ok found) → IsGot content (Ok found)
 got content content' found is reading = subst (λ (c : Option Content). IsReading c (Ok found)) is reading

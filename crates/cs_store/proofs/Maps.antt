@@ -7,7 +7,7 @@ use Rattle.cs_extent.specs.State.{shape}
 use Rattle.cs_frame.specs.Formats.{formats_of}
 use Rattle.cs_model.proofs.Kept.{history_on}
 use Rattle.cs_model.proofs.Unique.{one_recovery}
-use Rattle.cs_model.specs.Device.{Shape}
+use Rattle.cs_model.specs.Device.{IsShape, Shape}
 use Rattle.cs_model.specs.Element.{Content, Map}
 use Rattle.cs_model.specs.Frames.{IsFormat}
 use Rattle.cs_model.specs.Open.{opened_state}
@@ -62,13 +62,13 @@ after_alike m o same [] id = same id
 after_alike m o same (c ∷ cs) id = ap (λ (x : Option Content). if id == c.0 then content_of c.1 else x) (after_alike m o same cs id)
 
 -- in whatever state of the machine a store is, the map there is the one that it has
-pub machine_map : {D : Type 0} (state : D → DiskState) (v : View D) (m : Map) (s : State) → IsFormat (shape v.store.extents) (formats_of (shape v.store.extents)) → HasMap v m → IsIn state v s → (id : ℕ) → map_now s id ≡ m id
-machine_map state v m s format has is id =
+pub machine_map : {D : Type 0} (state : D → DiskState) (v : View D) (m : Map) (s : State) → IsShape (shape v.store.extents) → IsFormat (shape v.store.extents) (formats_of (shape v.store.extents)) → HasMap v m → IsIn state v s → (id : ℕ) → map_now s id ≡ m id
+machine_map state v m s known format has is id =
     let S = shape v.store.extents in
     let F = formats_of S in
     let reached = is.reached in
     let from = history_on S F (opened_state S F (page v.opened) reached.count reached.start reached.gives) s reached.events reached.legal in
-    let one = one_recovery S F format (page v.opened) reached.count v.found.0 reached.start has.start reached.gives has.found in
+    let one = one_recovery S F known format (page v.opened) reached.count v.found.0 reached.start has.start reached.gives has.found in
     ap (λ (o : Map). after_all o s.commands id) from.start
     ∙ ap (λ (cs : List Command). after_all reached.start cs id) (commands_reached S F v.opened v.history s reached)
     ∙ after_alike reached.start has.start one.1 (commands_said v.history) id

@@ -41,5 +41,7 @@ module _ {D : Type 0} (disks : PageDisk D) (old read : View D) (reads : ReadsOn 
     did = inr (inl untouched);
     rises = le_of_eq (sym (ap (λ (v : View D). v.store.frontier) reads.0));
     stays_honest = reads.1.honesty.0;
+    pages = reads.1.pages;
+    time = reads.1.time;
     crash = λ there. crash_still disks old.disk read.disk (Left old old) reads.1 there (left there) (only_now there);
   })

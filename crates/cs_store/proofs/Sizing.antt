@@ -3,8 +3,8 @@ use Rattle.std.proofs.Common.{◌≡◌, ◌∙◌, ℕ, List, Option, Ok, Err, 
 use Rattle.cs_chunk.specs.Reads.{IsCaused}
 use Rattle.cs_deps.specs.declared.refusals.Refusal.{Refusal}
 use Rattle.cs_disk.specs.Disk.{Rises}
+use Rattle.cs_extent.specs.State.{State as ExtentsState}
 use Rattle.cs_frame.specs.declared.locators.Locator.{Locator}
-use Rattle.cs_model.specs.Device.{Shape}
 use Rattle.cs_model.specs.Element.{Content}
 use Rattle.cs_core.specs.Lookups.{IsSaid, IsSize}
 use Rattle.cs_store.specs.declared.sizes.SizeError.{SizeError}
@@ -18,8 +18,8 @@ pub sized_not : (content content' : Option Content) (r : Refusal) (e : SizeError
 sized_not content content' r e is same told =
     subst (λ (c : Option Content). IsSize c (Err (size_refusal e))) is (subst (λ (x : Refusal). IsSize content' (Err x)) (sym same) told)
 
-pub said_not : (S : Shape) (view : ℕ → List ℕ) (places : List Locator) (r : Refusal) (e : SizeError) → size_refusal e ≡ r → IsSaid S view places (Err r) → IsSaidByHeaders S view places (Err e)
-said_not S view places r e same said = subst (λ (x : Refusal). IsSaid S view places (Err x)) (sym same) said
+pub said_not : (x : ExtentsState) (view : ℕ → List ℕ) (places : List Locator) (r : Refusal) (e : SizeError) → size_refusal e ≡ r → IsSaid x view places (Err r) → IsSaidByHeaders x view places (Err e)
+said_not x view places r e same said = subst (λ (p : Refusal). IsSaid x view places (Err p)) (sym same) said
 
 -- what was told as a device fault is one
 pub size_cause : {T : Type 0} (before after : ℕ) (r : Refusal) (e : SizeError) → IsCaused {T = T} before after (Err r) → size_refusal e ≡ r → e ≡ DeviceFault → Rises before after

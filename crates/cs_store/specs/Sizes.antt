@@ -2,8 +2,8 @@
 use Rattle.std.specs.Prelude.{ℕ, List, Option, Result, Ok, Err}
 use Rattle.cs_deps.specs.declared.refusals.Refusal.{Refusal}
 use Rattle.cs_deps.specs.declared.refusals.Refusal.TheVariants as refusal
+use Rattle.cs_extent.specs.State.{State as ExtentsState}
 use Rattle.cs_frame.specs.declared.locators.Locator.{Locator}
-use Rattle.cs_model.specs.Device.{Shape}
 use Rattle.cs_model.specs.Element.{Content}
 use Rattle.cs_core.specs.Lookups.{IsSaid, IsSize}
 use Rattle.cs_store.specs.declared.sizes.SizeError.{SizeError}
@@ -23,8 +23,8 @@ abbrev pub IsSized : Option Content → Result (Option ℕ) SizeError → Type 0
 IsSized content (Ok found) = IsSize content (Ok found)
 IsSized content (Err error) = IsSize content (Err (size_refusal error))
 
--- what the headers at these places say: how many bytes together, None where there are no places; or the error of the first header that fails, or that of
--- device or memory
-abbrev pub IsSaidByHeaders : Shape → (view : ℕ → List ℕ) → List Locator → Result (Option ℕ) SizeError → Type 0
-IsSaidByHeaders S view places (Ok found) = IsSaid S view places (Ok found)
-IsSaidByHeaders S view places (Err error) = IsSaid S view places (Err (size_refusal error))
+-- what the headers at these places say, as far as frames may reach in these extents: how many bytes together, None where there are no places; or the error
+-- of the first header that fails, or that of device or memory
+abbrev pub IsSaidByHeaders : ExtentsState → (view : ℕ → List ℕ) → List Locator → Result (Option ℕ) SizeError → Type 0
+IsSaidByHeaders x view places (Ok found) = IsSaid x view places (Ok found)
+IsSaidByHeaders x view places (Err error) = IsSaid x view places (Err (size_refusal error))

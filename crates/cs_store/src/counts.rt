@@ -1,12 +1,13 @@
 //! What a store tells of itself by numbers.
 ghost use Rattle.std.specs.Prelude.{◌≡◌, ◌≤◌, ◌<◌, ◌^◌, ℕ, length};
+ghost use Rattle.cs_deps.specs.State.{IsWhole as IsWholeGraph};
 ghost use Rattle.cs_disk.specs.Disk.{Leaves, page};
-ghost use Rattle.cs_extent.specs.State.{shape};
+ghost use Rattle.cs_extent.specs.State.{IsWhole, shape};
 ghost use Rattle.cs_model.specs.Element.{Map};
 ghost use Rattle.cs_model.specs.State.{State, map_now};
 ghost use Rattle.cs_refine.specs.Crashes.{IsPrefix};
 ghost use Rattle.cs_core.specs.Meanings.{commands_said};
-ghost use Rattle.cs_core.specs.Views.{IsIn, kept};
+ghost use Rattle.cs_core.specs.Views.{IsCore, IsIn, kept};
 ghost use Rattle.cs_store.specs.Maps.{HasMap};
 
 use crate::stores::Store;
@@ -18,10 +19,15 @@ impl<D: PageDisk> Store<D> {
         ensures found { result ≡ self.now.found }
         // Over an honest disk the store has a map.
         ensures map { D.honest self.now.disk → (m : Map) × HasMap self.now m }
+        // What the laws of cores ask for.
+        ensures core { IsCore D.PageDisk self.now }
+        ensures whole { IsWhole self.now.store.extents }
+        ensures graph { IsWholeGraph self.now.store.graph }
         // In whatever state of the machine it is, the map there is the one that it has.
         ensures machine { (m : Map) → HasMap self.now m → (s : State) → IsIn D.state self.now s → (id : ℕ) → map_now s id ≡ m id }
     {
-        // Called for its contract alone: what all extents keep.
+        // Called for their contracts alone: what all cores and all extents keep.
+        self.core.progress();
         self.core.extents().extent_count();
         self.core.opened()
     }

@@ -9,6 +9,7 @@ ghost use Rattle.cs_refine.specs.Crashes.{IsPrefix};
 ghost use Rattle.cs_core.specs.declared.events.Event.TheVariants.{Delete};
 ghost use Rattle.cs_core.specs.declared.events.Reply.TheVariants.{Absent, Accepted};
 ghost use Rattle.cs_core.specs.Meanings.{commands_said};
+ghost use Rattle.cs_drive.specs.Runs.{Ran};
 ghost use Rattle.cs_store.specs.Errors.{delete_refusal};
 ghost use Rattle.cs_store.specs.Events.{Declines, Does, IsHalted};
 ghost use Rattle.cs_store.specs.Maps.{Accepts, HasMap};
@@ -44,6 +45,8 @@ impl<D: PageDisk> Store<D> {
         ensures map { (m : Map) → HasMap self.old m → MatchResult result (λ deleted. MatchOption deleted (HasMap self.new m) (λ _. HasMap self.new (changed m (id_number id, None)))) (λ _. HasMap self.new m) }
         // Nothing is accepted just where there is nothing under the identifier.
         ensures absent { (m : Map) → HasMap self.old m → D.honest self.old.disk → IfOk result (λ deleted. (deleted ≡ None) ↔ (m (id_number id) ≡ None)) }
+        // It is made of calls of the core, one after another.
+        ensures ran { Ran D.PageDisk self.old self.new }
         ensures rises { self.old.store.frontier ≤ self.new.store.frontier }
         // A crash at any moment of it leaves the map after some of the commands, none of those left out that were persistent before.
         ensures crash { D.honest self.old.disk → LeavesOnly D.moment D.left_since self.old.disk self.new.disk (IsPrefix (shape self.old.store.extents) (page self.old.opened) (commands_said self.new.history) self.old.store.frontier self.new.store.accepted) }

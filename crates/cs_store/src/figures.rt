@@ -47,15 +47,15 @@ impl<D: PageDisk> Store<D> {
         // Whatever reads failed, the counts are those of what was read.
         ensures read { D.honest self.old.disk
             → (view : ℕ → List ℕ) (chunks : List Chunk) → AreNewest self.old.store.graph (seen (D.state self.old.disk)) view → AreLiveChunks (index_of self.old.store.index) chunks
-            → IfOk result (λ stats. AreCountedAsRead (D.failure_count self.old.disk) (D.failure_count self.new.disk) (heads_of (shape self.old.store.extents) view chunks) stats.space.extents.items) }
+            → IfOk result (λ stats. AreCountedAsRead (D.failure_count self.old.disk) (D.failure_count self.new.disk) (heads_of self.old.store.extents view chunks) stats.space.extents.items) }
         // So where none failed they are those of the headers.
         ensures counted { D.honest self.old.disk → ¬ Rises (D.failure_count self.old.disk) (D.failure_count self.new.disk)
             → (view : ℕ → List ℕ) (chunks : List Chunk) → AreNewest self.old.store.graph (seen (D.state self.old.disk)) view → AreLiveChunks (index_of self.old.store.index) chunks
-            → IfOk result (λ stats. AreCounted (heads_of (shape self.old.store.extents) view chunks) stats.space.extents.items) }
+            → IfOk result (λ stats. AreCounted (heads_of self.old.store.extents view chunks) stats.space.extents.items) }
         // And else a chunk whose read failed isn't live, and counts as unreadable.
         ensures bounded { D.honest self.old.disk
             → (view : ℕ → List ℕ) (chunks : List Chunk) → AreNewest self.old.store.graph (seen (D.state self.old.disk)) view → AreLiveChunks (index_of self.old.store.index) chunks
-            → IfOk result (λ stats. AreBounded (heads_of (shape self.old.store.extents) view chunks) stats.space.extents.items) }
+            → IfOk result (λ stats. AreBounded (heads_of self.old.store.extents view chunks) stats.space.extents.items) }
         ensures empty { IfOk result (λ stats. stats.space.empty ≡ empties (extents_of self.old.store.extents).pointer (shape self.old.store.extents).extents) }
         ensures runs { IfOk result (λ stats. newest_uses stats.space.runs.items ≡ map run_figure self.old.store.index.runs) }
         ensures named { IfOk result (λ stats. stats.space.named ≡ names (index_of self.old.store.index)) }

@@ -9,6 +9,7 @@ ghost use Rattle.cs_refine.specs.Crashes.{IsPrefix};
 ghost use Rattle.cs_core.specs.declared.events.Event.TheVariants.{Put};
 ghost use Rattle.cs_core.specs.declared.events.Reply.TheVariants.{Accepted};
 ghost use Rattle.cs_core.specs.Meanings.{commands_said};
+ghost use Rattle.cs_drive.specs.Runs.{Ran};
 ghost use Rattle.cs_store.specs.Errors.{put_refusal};
 ghost use Rattle.cs_store.specs.Events.{DeclinesCopy, Does};
 ghost use Rattle.cs_store.specs.Maps.{Accepts, HasMap};
@@ -51,6 +52,8 @@ impl<D: PageDisk> Store<D> {
         // It alone was accepted where it is done, and nothing where it is refused.
         ensures accepts { MatchResult result (λ _. Accepts D.PageDisk ((id_number id, Some bytes.now) ∷ []) self.old self.new) (λ _. Accepts D.PageDisk [] self.old self.new) }
         ensures map { (m : Map) → HasMap self.old m → MatchResult result (λ _. HasMap self.new (changed m (id_number id, Some bytes.now))) (λ _. HasMap self.new m) }
+        // It is made of calls of the core, one after another.
+        ensures ran { Ran D.PageDisk self.old self.new }
         ensures rises { self.old.store.frontier ≤ self.new.store.frontier }
         // A crash at any moment of it leaves the map after some of the commands, none of those left out that were persistent before.
         ensures crash { D.honest self.old.disk → LeavesOnly D.moment D.left_since self.old.disk self.new.disk (IsPrefix (shape self.old.store.extents) (page self.old.opened) (commands_said self.new.history) self.old.store.frontier self.new.store.accepted) }

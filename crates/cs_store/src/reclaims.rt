@@ -66,18 +66,20 @@ impl<D: PageDisk> Store<D> {
     pub fn reclaim(&mut self) -> Result<Option<Reclaimed>, SweepError>
         // What is chosen is chosen by the extents as they are and the headers of their chunks, which are read first, and then it is swept.
         ensures chosen { D.honest self.old.disk → (view : ℕ → List ℕ) (chunks : List Chunk) → AreNewest self.old.store.graph (seen (D.state self.old.disk)) view → AreLiveChunks (index_of self.old.store.index) chunks
-            → IfOk result (λ found. (read : View D) × ReadsOn D.PageDisk self.old read × Reclaims D.PageDisk read found self.new × GoesBy D.PageDisk (heads_of (shape self.old.store.extents) view chunks) (names (index_of self.old.store.index)) self.old read (reclaimed_extent found)) }
+            → IfOk result (λ found. (read : View D) × ReadsOn D.PageDisk self.old read × Reclaims D.PageDisk read found self.new × GoesBy D.PageDisk (heads_of self.old.store.extents view chunks) (names (index_of self.old.store.index)) self.old read (reclaimed_extent found)) }
         ensures none { result ≡ Ok None → ReadsOn D.PageDisk self.old self.new }
         ensures done { IfOk result (λ found. (swept : Reclaimed) → found ≡ Some swept → (read : View D) × ReadsOn D.PageDisk self.old read × SweepsReady D.PageDisk swept.extent read self.new swept.moved swept.root) }
         ensures refused { IfErr result (λ error. IsHalted self.old (sweep_refusal error) self.new ⊎ ((read : View D) × (extent : ℕ) × ReadsOn D.PageDisk self.old read × ((sweep_refusal error ≡ OutOfMemory) × (self.new ≡ read) ⊎ DeclinesSweep D.PageDisk extent read self.new (sweep_refusal error)))) }
         // One that is declined was chosen so too.
         ensures declined { D.honest self.old.disk → (view : ℕ → List ℕ) (chunks : List Chunk) → AreNewest self.old.store.graph (seen (D.state self.old.disk)) view → AreLiveChunks (index_of self.old.store.index) chunks
-            → IfErr result (λ error. IsHalted self.old (sweep_refusal error) self.new ⊎ DeclinesChosen D.PageDisk (heads_of (shape self.old.store.extents) view chunks) (names (index_of self.old.store.index)) self.old (sweep_refusal error) self.new) }
+            → IfErr result (λ error. IsHalted self.old (sweep_refusal error) self.new ⊎ DeclinesChosen D.PageDisk (heads_of self.old.store.extents view chunks) (names (index_of self.old.store.index)) self.old (sweep_refusal error) self.new) }
         // A halted store refuses it, and nothing is asked of the core: no event more is kept.
         ensures halted { self.old.store.halted ≡ true → (result ≡ Err SweepError.Halted) × (self.new ≡ self.old) }
         // No command is accepted.
         ensures accepts { Accepts D.PageDisk [] self.old self.new }
         ensures map { (m : Map) → HasMap self.old m → HasMap self.new m }
+        // It is made of calls of the core, one after another.
+        ensures ran { Ran D.PageDisk self.old self.new }
         ensures rises { self.old.store.frontier ≤ self.new.store.frontier }
         // A crash at any moment of it leaves the map after some of the commands, none of those left out that were persistent before.
         ensures crash { D.honest self.old.disk → LeavesOnly D.moment D.left_since self.old.disk self.new.disk (IsPrefix (shape self.old.store.extents) (page self.old.opened) (commands_said self.new.history) self.old.store.frontier self.new.store.accepted) }
@@ -106,12 +108,12 @@ fn reclaim_ready<D: PageDisk>(
     core: &mut Core<D>,
 ) -> Result<Option<Reclaimed>, Refusal>
     ensures chosen { D.honest core.old.disk → (view : ℕ → List ℕ) (chunks : List Chunk) → AreNewest core.old.store.graph (seen (D.state core.old.disk)) view → AreLiveChunks (index_of core.old.store.index) chunks
-        → IfOk result (λ found. (read : View D) × ReadsOn D.PageDisk core.old read × Reclaims D.PageDisk read found core.new × GoesBy D.PageDisk (heads_of (shape core.old.store.extents) view chunks) (names (index_of core.old.store.index)) core.old read (reclaimed_extent found)) }
+        → IfOk result (λ found. (read : View D) × ReadsOn D.PageDisk core.old read × Reclaims D.PageDisk read found core.new × GoesBy D.PageDisk (heads_of core.old.store.extents view chunks) (names (index_of core.old.store.index)) core.old read (reclaimed_extent found)) }
     ensures none { result ≡ Ok None → ReadsOn D.PageDisk core.old core.new }
     ensures done { IfOk result (λ found. (swept : Reclaimed) → found ≡ Some swept → (read : View D) × ReadsOn D.PageDisk core.old read × SweepsReady D.PageDisk swept.extent read core.new swept.moved swept.root) }
     ensures refused { IfErr result (λ refusal. (read : View D) × (extent : ℕ) × ReadsOn D.PageDisk core.old read × ((refusal ≡ OutOfMemory) × (core.new ≡ read) ⊎ DeclinesSweep D.PageDisk extent read core.new refusal)) }
     ensures declined { D.honest core.old.disk → (view : ℕ → List ℕ) (chunks : List Chunk) → AreNewest core.old.store.graph (seen (D.state core.old.disk)) view → AreLiveChunks (index_of core.old.store.index) chunks
-        → IfErr result (λ refusal. DeclinesChosen D.PageDisk (heads_of (shape core.old.store.extents) view chunks) (names (index_of core.old.store.index)) core.old refusal core.new) }
+        → IfErr result (λ refusal. DeclinesChosen D.PageDisk (heads_of core.old.store.extents view chunks) (names (index_of core.old.store.index)) core.old refusal core.new) }
     ensures refusals { IfErr result (λ refusal. IsDeleteRefusal refusal ⊎ MayRefuseSweep refusal) }
     ensures accepts { Accepts D.PageDisk [] core.old core.new }
     ensures ran { Ran D.PageDisk core.old core.new }
@@ -141,7 +143,7 @@ fn worth_sweeping<D: PageDisk>(
     core: &mut Core<D>,
 ) -> Result<Option<Found>, AllocError>
     ensures chosen { D.honest core.old.disk → (view : ℕ → List ℕ) (chunks : List Chunk) → AreNewest core.old.store.graph (seen (D.state core.old.disk)) view → AreLiveChunks (index_of core.old.store.index) chunks
-        → IfOk result (λ found. GoesBy D.PageDisk (heads_of (shape core.old.store.extents) view chunks) (names (index_of core.old.store.index)) core.old core.new (chosen_extent found)) }
+        → IfOk result (λ found. GoesBy D.PageDisk (heads_of core.old.store.extents view chunks) (names (index_of core.old.store.index)) core.old core.new (chosen_extent found)) }
     ensures reads { ReadsOn D.PageDisk core.old core.new }
 {
     let extents = core.extents();

@@ -22,7 +22,7 @@ impl<D: PageDisk> Store<D> {
     /// `AllocError` is 9 OutOfMemory.
     pub fn scrub(&mut self) -> Result<Scrubbed, AllocError>
         ensures named { D.honest self.old.disk → (view : ℕ → List ℕ) → AreNewest self.old.store.graph (seen (D.state self.old.disk)) view
-            → IfOk result (IsScrubbed (shape self.old.store.extents) view self.old.store.index) }
+            → IfOk result (IsScrubbed self.old.store.extents view self.old.store.index) }
         ensures runs { IfOk result (λ found. found.runs ≡ length self.old.store.index.runs) }
         ensures caused { IfOk result (λ found. AreCaused (D.failure_count self.old.disk) (D.failure_count self.new.disk) found.damages.items) }
         // It rose by as many as are named 1 at least: no frame is named so for the read of another.

@@ -89,7 +89,7 @@ impl<D: PageDisk> Store<D> {
         ensures answer { (m : Map) → HasMap self.old m → D.honest self.old.disk → IsSized (m (id_number id)) result }
         // Also of a damaged shard what is told is what the headers say.
         ensures headers { D.honest self.old.disk → (view : ℕ → List ℕ) → AreNewest self.old.store.graph (seen (D.state self.old.disk)) view
-            → IsSaidByHeaders (shape self.old.store.extents) view (map as_locator (live_at (index_of self.old.store.index) (id_number id))) result }
+            → IsSaidByHeaders self.old.store.extents view (map as_locator (live_at (index_of self.old.store.index) (id_number id))) result }
         // Whatever the disk does, None is answered where the index has no places of the shard's chunks, and nowhere else.
         ensures absent { (result ≡ Ok None) ↔ (live_at (index_of self.old.store.index) (id_number id) ≡ []) }
         ensures same { self.new ≡ record self.old { disk = self.new.disk } }

@@ -56,6 +56,8 @@ impl<D: PageDisk> Store<D> {
         // No command is accepted.
         ensures accepts { Accepts D.PageDisk [] self.old self.new }
         ensures map { (m : Map) → HasMap self.old m → HasMap self.new m }
+        // It is made of calls of the core, one after another.
+        ensures ran { Ran D.PageDisk self.old self.new }
         ensures rises { self.old.store.frontier ≤ self.new.store.frontier }
         // A crash at any moment of it leaves the map after some of the commands, none of those left out that were persistent before.
         ensures crash { D.honest self.old.disk → LeavesOnly D.moment D.left_since self.old.disk self.new.disk (IsPrefix (shape self.old.store.extents) (page self.old.opened) (commands_said self.new.history) self.old.store.frontier self.new.store.accepted) }
@@ -93,6 +95,8 @@ impl<D: PageDisk> Store<D> {
         // No command is accepted.
         ensures accepts { Accepts D.PageDisk [] self.old self.new }
         ensures map { (m : Map) → HasMap self.old m → HasMap self.new m }
+        // It is made of calls of the core, one after another.
+        ensures ran { Ran D.PageDisk self.old self.new }
         ensures rises { self.old.store.frontier ≤ self.new.store.frontier }
         // A crash at any moment of it leaves the map after some of the commands, none of those left out that were persistent before.
         ensures crash { D.honest self.old.disk → LeavesOnly D.moment D.left_since self.old.disk self.new.disk (IsPrefix (shape self.old.store.extents) (page self.old.opened) (commands_said self.new.history) self.old.store.frontier self.new.store.accepted) }

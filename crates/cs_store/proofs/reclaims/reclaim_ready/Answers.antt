@@ -1,7 +1,6 @@
 use Rattle.std.proofs.Common.{[], Option, refl, inl, inr, subst}
 use Rattle.std.proofs.lemmas.Option.{same_Some}
 use Rattle.cs_drive.proofs.Runs.{ran_then}
-use Rattle.cs_extent.specs.State.{shape}
 use Rattle.cs_index.specs.State.{index_of}
 use Rattle.cs_model.specs.Index.{names}
 use Rattle.cs_survey.specs.Uses.{heads_of}
@@ -53,7 +52,7 @@ returns-in-Ok-sweep_ready-clause-chosen g c = λ honest view chunks are live.
       c.worth_sweeping.new.core,
       c.worth_sweeping.ensures.reads,
       c.in-Ok-sweep_ready.ensures.done,
-      subst (λ (o : Option Found). GoesBy g.D.PageDisk (heads_of (shape first.store.extents) view chunks) (names (index_of first.store.index)) first c.worth_sweeping.new.core (chosen_extent o)) c.in-Some.is
+      subst (λ (o : Option Found). GoesBy g.D.PageDisk (heads_of first.store.extents view chunks) (names (index_of first.store.index)) first c.worth_sweeping.new.core (chosen_extent o)) c.in-Some.is
           (c.in-Ok.ensures.chosen honest view chunks are live),
     )
 
@@ -63,14 +62,14 @@ returns-in_default-found-clause-chosen g c = λ honest view chunks are live.
       c.worth_sweeping.new.core,
       c.worth_sweeping.ensures.reads,
       refl,
-      subst (λ (o : Option Found). GoesBy g.D.PageDisk (heads_of (shape first.store.extents) view chunks) (names (index_of first.store.index)) first c.worth_sweeping.new.core (chosen_extent o)) c.in_default-found.is
+      subst (λ (o : Option Found). GoesBy g.D.PageDisk (heads_of first.store.extents view chunks) (names (index_of first.store.index)) first c.worth_sweeping.new.core (chosen_extent o)) c.in_default-found.is
           (c.in-Ok.ensures.chosen honest view chunks are live),
     )
 
 pub returns-in-Err-clause-declined : goal.returns-in-Err-clause-declined
 returns-in-Err-clause-declined g c = λ honest view chunks are live.
     let first = c.args.core.now in
-    let goes = subst (λ (o : Option Found). GoesBy g.D.PageDisk (heads_of (shape first.store.extents) view chunks) (names (index_of first.store.index)) first c.worth_sweeping.new.core (chosen_extent o)) c.in-Some.is
+    let goes = subst (λ (o : Option Found). GoesBy g.D.PageDisk (heads_of first.store.extents view chunks) (names (index_of first.store.index)) first c.worth_sweeping.new.core (chosen_extent o)) c.in-Some.is
     (c.in-Ok.ensures.chosen honest view chunks are live) in
     (c.worth_sweeping.new.core, c.worth_sweeping.ensures.reads, inr (c.in-Some.field-0.extent, c.in-Some.field-0.dead, goes, c.in-Err.ensures.declined))
 

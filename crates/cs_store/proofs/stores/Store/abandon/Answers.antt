@@ -101,3 +101,9 @@ pub returns-clause-accepts : goal.returns-clause-accepts
 returns-clause-accepts g c = rw (← c.self.view_is) (
     let e = c.ask-asked.ensures in
     abandon_quiet g.D.PageDisk c.args.extent c.self.inside.core c.ask-asked.new.core c.ask-asked.result e.done e.refused)
+
+pub returns-clause-ran : goal.returns-clause-ran
+returns-clause-ran g c = rw (← c.self.view_is) (ran_call g.D.PageDisk c.self.inside.core c.ask-asked.new.core c.ask-asked.ensures.call)
+
+pub returns-then-is_halted-clause-ran : goal.returns-then-is_halted-clause-ran
+returns-then-is_halted-clause-ran g c = rw (← c.self.view_is) (ran_none g.D.PageDisk c.self.inside.core)

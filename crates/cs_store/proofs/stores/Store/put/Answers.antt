@@ -93,3 +93,15 @@ returns-in-Ok-Accepted-clause-accepts g c = rw (← c.self.view_is) (put_adds g.
 
 pub returns-clause-accepts : goal.returns-clause-accepts
 returns-clause-accepts g c = rw (← c.self.view_is) c.in-Err.ensures.accepts
+
+pub returns-in-Ok-Accepted-clause-ran : goal.returns-in-Ok-Accepted-clause-ran
+returns-in-Ok-Accepted-clause-ran g c = rw (← c.self.view_is) c.ask_ready.ensures.ran
+
+pub returns-clause-ran : goal.returns-clause-ran
+returns-clause-ran g c = rw (← c.self.view_is) c.ask_ready.ensures.ran
+
+pub returns-then-is_halted-clause-ran : goal.returns-then-is_halted-clause-ran
+returns-then-is_halted-clause-ran g c = rw (← c.self.view_is) (ran_none g.D.PageDisk c.self.inside.core)
+
+pub returns-in_default-clause-ran : goal.returns-in_default-clause-ran
+returns-in_default-clause-ran g c = rw (← c.self.view_is) (ran_none g.D.PageDisk c.self.inside.core)

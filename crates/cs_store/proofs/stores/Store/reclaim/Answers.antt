@@ -4,7 +4,6 @@ use Rattle.cs_deps.specs.declared.refusals.Refusal.{Refusal}
 use Rattle.cs_deps.specs.declared.refusals.Refusal.TheVariants.{OutOfMemory}
 use Rattle.cs_disk.specs.Disk.{Leaves}
 use Rattle.cs_drive.proofs.Runs.{ran_none}
-use Rattle.cs_extent.specs.State.{shape}
 use Rattle.cs_index.specs.State.{index_of}
 use Rattle.cs_model.specs.Index.{names}
 use Rattle.cs_survey.specs.Uses.{heads_of}
@@ -26,7 +25,7 @@ returns-clause-chosen g c = rw (← c.self.view_is) (λ honest view chunks are l
     let old = c.self.inside.core in
     let new = c.reclaim_ready-reclaimed.new.core in
     let chosen = λ (found : Option Reclaimed). (read : View g.row.D.Denot) × ReadsOn g.D.PageDisk old read × Reclaims g.D.PageDisk read found new
-    × GoesBy g.D.PageDisk (heads_of (shape old.store.extents) view chunks) (names (index_of old.store.index)) old read (reclaimed_extent found) in
+    × GoesBy g.D.PageDisk (heads_of old.store.extents view chunks) (names (index_of old.store.index)) old read (reclaimed_extent found) in
     elim c.match-reclaimed.branch [
       | in-Ok w ↦ if_ok c.match-reclaimed.result w.in-Ok.found chosen w.result-is (w.in-Ok.ensures.chosen honest view chunks are live)
       | in-Err w ↦ if_err c.match-reclaimed.result w.of.result chosen w.result-is
@@ -56,7 +55,7 @@ pub returns-clause-declined : goal.returns-clause-declined
 returns-clause-declined g c = rw (← c.self.view_is) (λ honest view chunks are live.
     let old = c.self.inside.core in
     let new = c.reclaim_ready-reclaimed.new.core in
-    let declines = λ (r : Refusal). DeclinesChosen g.D.PageDisk (heads_of (shape old.store.extents) view chunks) (names (index_of old.store.index)) old r new in
+    let declines = λ (r : Refusal). DeclinesChosen g.D.PageDisk (heads_of old.store.extents view chunks) (names (index_of old.store.index)) old r new in
     let declined = λ (error : SweepError). IsHalted old (sweep_refusal error) new ⊎ declines (sweep_refusal error) in
     elim c.match-reclaimed.branch [
       | in-Ok w ↦ refused_ok c.match-reclaimed.result w.in-Ok.found declined w.result-is
@@ -106,3 +105,9 @@ returns-clause-accepts g c = rw (← c.self.view_is) c.reclaim_ready-reclaimed.e
 
 pub returns-then-is_halted-clause-declined : goal.returns-then-is_halted-clause-declined
 returns-then-is_halted-clause-declined g c = rw (← c.self.view_is) (λ honest view chunks are live. inl (sym c.is_halted.ensures ∙ c.if-is_halted.true, refl, refl))
+
+pub returns-clause-ran : goal.returns-clause-ran
+returns-clause-ran g c = rw (← c.self.view_is) c.reclaim_ready-reclaimed.ensures.ran
+
+pub returns-then-is_halted-clause-ran : goal.returns-then-is_halted-clause-ran
+returns-then-is_halted-clause-ran g c = rw (← c.self.view_is) (ran_none g.D.PageDisk c.self.inside.core)

@@ -1,6 +1,6 @@
 use Rattle.std.proofs.Common.{◌≡◌, map, subst, sym}
 use Rattle.cs_disk.specs.Disk.{Rises}
-use Rattle.cs_extent.specs.State.{IsWhole, shape}
+use Rattle.cs_extent.specs.State.{IsWhole}
 use Rattle.cs_frame.specs.Formats.{as_locator}
 use Rattle.cs_index.specs.State.{id_number, index_of}
 use Rattle.cs_model.specs.Index.{live_at}
@@ -34,9 +34,9 @@ returns-clause-cause g c = rw (← c.self.view_is) (
 
 pub returns-clause-headers : goal.returns-clause-headers
 returns-clause-headers g c = rw (← c.self.view_is) (λ honest view are.
-    let S = shape c.self.inside.core.store.extents in
+    let extents = c.self.inside.core.store.extents in
     let places = map as_locator (live_at (index_of c.self.inside.core.store.index) (id_number c.args.id)) in
     elim c.match-size_of.branch [
-      | in-Ok w ↦ subst (IsSaidByHeaders S view places) (sym w.result-is) (w.in-Ok.ensures.headers honest view are)
-      | in-Err w ↦ subst (IsSaidByHeaders S view places) (sym w.result-is) (said_not S view places w.in-Err.refusal w.of.result w.of.ensures (w.in-Err.ensures.headers honest view are))
+      | in-Ok w ↦ subst (IsSaidByHeaders extents view places) (sym w.result-is) (w.in-Ok.ensures.headers honest view are)
+      | in-Err w ↦ subst (IsSaidByHeaders extents view places) (sym w.result-is) (said_not extents view places w.in-Err.refusal w.of.result w.of.ensures (w.in-Err.ensures.headers honest view are))
     ])

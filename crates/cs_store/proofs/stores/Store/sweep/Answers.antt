@@ -72,3 +72,9 @@ returns-then-is_halted-clause-accepts g c = rw (← c.self.view_is) (accepts_non
 
 pub returns-clause-accepts : goal.returns-clause-accepts
 returns-clause-accepts g c = rw (← c.self.view_is) c.sweep_ready-swept.ensures.accepts
+
+pub returns-clause-ran : goal.returns-clause-ran
+returns-clause-ran g c = rw (← c.self.view_is) c.sweep_ready-swept.ensures.ran
+
+pub returns-then-is_halted-clause-ran : goal.returns-then-is_halted-clause-ran
+returns-then-is_halted-clause-ran g c = rw (← c.self.view_is) (ran_none g.D.PageDisk c.self.inside.core)

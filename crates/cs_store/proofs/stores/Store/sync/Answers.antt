@@ -83,3 +83,9 @@ pub returns-clause-accepts : goal.returns-clause-accepts
 returns-clause-accepts g c = rw (← c.self.view_is) (
     let e = c.sync-synced.ensures in
     sync_accepts g.D.PageDisk c.self.inside.core c.sync-synced.new.core c.sync-synced.result e.done e.stopped)
+
+pub returns-clause-ran : goal.returns-clause-ran
+returns-clause-ran g c = rw (← c.self.view_is) c.sync-synced.ensures.ran
+
+pub returns-then-is_halted-clause-ran : goal.returns-then-is_halted-clause-ran
+returns-then-is_halted-clause-ran g c = rw (← c.self.view_is) (ran_none g.D.PageDisk c.self.inside.core)
