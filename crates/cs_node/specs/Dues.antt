@@ -6,6 +6,7 @@ use Rattle.cs_core.specs.declared.events.Event.{Event}
 use Rattle.cs_core.specs.declared.events.Event.TheVariants as asked
 use Rattle.cs_core.specs.declared.events.Reply.{Reply}
 use Rattle.cs_core.specs.Stored.{Stored, members_of}
+use Rattle.cs_core.specs.Unstaged.{MayStage, NothingToStage}
 use Rattle.cs_core.specs.Views.{IsStep, View}
 use Rattle.cs_node.specs.Locks.{IsDone, IsRefused, WhileLocked}
 use Rattle.cs_node.specs.Starts.{Start}
@@ -33,16 +34,16 @@ IsOfRound s asked.Issue = s.issued < length (members_of s.out)
 IsOfRound s asked.End = (s.out ≢ None) × (length (members_of s.out) ≤ s.issued)
 IsOfRound s event = ⊥
 
--- the event of writeback that is due: what is left of the round that is out, else a new round where something waits, else to stage what
--- has changed
+-- the event of writeback that is due: what is left of the round that is out, else a new round where something waits, else to stage where
+-- there is something to stage
 abbrev pub IsDue : Stored → Event → Type 0
 IsDue s asked.Begin = (s.out ≡ None) × (s.graph.staging.pending.waiting ≢ [])
-IsDue s asked.Stage = (s.out ≡ None) × (s.graph.staging.pending.waiting ≡ []) × (s.index.table ≢ [])
+IsDue s asked.Stage = (s.out ≡ None) × (s.graph.staging.pending.waiting ≡ []) × MayStage s
 IsDue s event = IsOfRound s event
 
--- none is due: no round is out, nothing waits, and nothing has changed
+-- none is due: no round is out, nothing waits, and there is nothing to stage
 abbrev pub IsAtRest : Stored → Type 0
-IsAtRest s = (s.out ≡ None) × (s.graph.staging.pending.waiting ≡ []) × (s.index.table ≡ [])
+IsAtRest s = (s.out ≡ None) × (s.graph.staging.pending.waiting ≡ []) × NothingToStage s
 
 -- one event was done, which this step names and which was due; or none was due
 abbrev pub Turns : {D : Type 0} → (disks : PageDisk D) → (old : View D) → Step → (new : View D) → Type 0

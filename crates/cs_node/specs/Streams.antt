@@ -6,16 +6,18 @@ use Rattle.cs_core.specs.declared.events.Event.{Event}
 use Rattle.cs_core.specs.declared.events.Event.TheVariants.{Begin, Stage}
 use Rattle.cs_core.specs.declared.events.Reply.{Reply}
 use Rattle.cs_core.specs.Stored.{Stored}
+use Rattle.cs_core.specs.Unstaged.{MayStage, NothingToStage}
 use Rattle.cs_core.specs.Views.{IsStep, View}
 use Rattle.cs_node.specs.declared.gates.Step.{Step}
 use Rattle.cs_node.specs.declared.gates.Step.TheVariants.{Idle}
 use Rattle.cs_node.specs.Dues.{IsAtRest, IsOfRound, step_of}
 use Rattle.cs_node.specs.Locks.{IsDone, IsRefused}
 
--- the event that is due: what is left of the round that is out, else to stage what has changed, else a new round where something waits
+-- the event that is due: what is left of the round that is out, else to stage where there is something to stage, else a new round where
+-- something waits
 abbrev pub IsNext : Stored → Event → Type 0
-IsNext s Stage = (s.out ≡ None) × (s.index.table ≢ [])
-IsNext s Begin = (s.out ≡ None) × (s.index.table ≡ []) × (s.graph.staging.pending.waiting ≢ [])
+IsNext s Stage = (s.out ≡ None) × MayStage s
+IsNext s Begin = (s.out ≡ None) × NothingToStage s × (s.graph.staging.pending.waiting ≢ [])
 IsNext s event = IsOfRound s event
 
 -- one event was done, which this step names and which was due; or none was due

@@ -55,7 +55,7 @@ impl<K: Naming> Pilot<K> {
     }
 
     /// Does the event of writeback that is due, under one lock: a round that is out goes on and ends, a new one begins where something
-    /// waits, what the index has changed is staged, or nothing is left to do.
+    /// waits, what the index has changed is staged, or a root alone where a sweep that was given up left copies, or nothing is left to do.
     ///
     /// Refused as the event is, and 9 OutOfMemory.
     pub fn turn<D: PageDisk, G: Gate, R: Wait>(
@@ -98,8 +98,8 @@ impl<D: PageDisk, K: Naming> Node<D, K> {
     /// deletes, settles and sweeps that were refused 41 HistoryFull are taken again. `look` tells the base then, below which purses may forget their
     /// calls. It takes no memory, and time for each event, under the lock.
     ///
-    /// Refused 40 Halted; then 44 Unsettled where something waits, a round is out, something isn't staged, or an extent is being swept, which a
-    /// sync and the end of the sweeps mend; then 35 WornOut past 2^63 - 1 events.
+    /// Refused 40 Halted; then 44 Unsettled where something waits, a round is out, the index has changes that aren't staged, or an extent is being
+    /// swept, which turns of the pilot up to an idle one and the end of the sweeps mend; then 35 WornOut past 2^63 - 1 events.
     pub fn checkpoint<R: Wait>(&self, rt: &R, pilot: &mut Pilot<K>) -> Result<u64, Refusal>
         ensures replaced { WhileLocked D.PageDisk K.start (λ old new. MatchResult result (λ n. Replaces old n new) (λ r. IsNotReplaced old r × (new ≡ old))) }
         ensures seen { pilot.new ≡ pilot.old }
@@ -115,9 +115,9 @@ impl<D: PageDisk, K: Naming> Node<D, K> {
         self.lock.take(rt).hire(&self.board)
     }
 
-    /// Stages what has changed, and writes back until all commands that were accepted by then are persistent: what is left of the round
+    /// Stages what there is to stage, and writes back until all commands that were accepted by then are persistent: what is left of the round
     /// that is out, and then round by round, each event under a lock of its own. Answers how many are persistent by the board, as the
-    /// pilot's seat saw it.
+    /// pilot's seat saw it. Where all were persistent already a root that it staged waits for the pilot's next turns.
     ///
     /// Refused as one of its events is, and 9 OutOfMemory. The events before that stand.
     pub fn sync<R: Wait>(&self, rt: &R, pilot: &mut Pilot<K>) -> Result<u64, Refusal>

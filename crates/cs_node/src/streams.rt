@@ -18,7 +18,7 @@ use std::marker::Model;
 use std::sync::Wait;
 use std::thread;
 
-/// The pilot's seat under steady load. Whenever no round is out it stages what has changed before the next round begins. So rounds of
+/// The pilot's seat under steady load. Whenever no round is out it stages what there is to stage before the next round begins. So rounds of
 /// several syncs overlap: under one flush go the data of what came last, the superblock of what came before, and the root of what came
 /// before that. Contracts see what they see of the pilot.
 #[derive(Drop)]
@@ -63,7 +63,7 @@ impl<K: Naming> Stream<K> {
     }
 
     /// Does the event of writeback that is due, under one lock: a round that is out goes on and ends, what the index has changed is
-    /// staged, a new round begins where something waits, or nothing is left to do.
+    /// staged, or a root alone where a sweep that was given up left copies, a new round begins where something waits, or nothing is left to do.
     ///
     /// Refused as the event is, and 9 OutOfMemory.
     pub fn turn<D: PageDisk, G: Gate, R: Wait>(
@@ -101,14 +101,14 @@ impl<K: Naming> Stream<K> {
     }
 }
 
-/// Which event of writeback is due in a stream, None where nothing waits and nothing has changed.
+/// Which event of writeback is due in a stream, None where nothing waits and there is nothing to stage.
 fn next_event<D: PageDisk>(core: &Core<D>) -> Option<Event>
     ensures { MatchOption result (IsAtRest core.now.store) (λ event. IsNext core.now.store event) }
 {
     if let Some(event) = round_event(core) {
         return Some(event);
     }
-    if core.has_changes() {
+    if core.may_stage() {
         return Some(Event::Stage);
     }
     if core.has_waiting() {

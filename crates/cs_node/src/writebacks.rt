@@ -24,7 +24,7 @@ pub fn round_event<D: PageDisk>(core: &Core<D>) -> Option<Event>
     }
 }
 
-/// Which event of writeback is due, None where nothing waits and nothing has changed.
+/// Which event of writeback is due, None where nothing waits and there is nothing to stage.
 pub fn due<D: PageDisk>(core: &Core<D>) -> Option<Event>
     ensures { MatchOption result (IsAtRest core.now.store) (λ event. IsDue core.now.store event) }
 {
@@ -34,7 +34,7 @@ pub fn due<D: PageDisk>(core: &Core<D>) -> Option<Event>
     if core.has_waiting() {
         return Some(Event::Begin);
     }
-    if core.has_changes() {
+    if core.may_stage() {
         return Some(Event::Stage);
     }
     None
@@ -86,7 +86,7 @@ impl<D: PageDisk, K: Naming> Engine<D, K> {
         }
     }
 
-    /// Stages what has changed, and gives how many commands were accepted then.
+    /// Stages what there is to stage, and gives how many commands were accepted then.
     pub fn stage(&mut self, board: &NamedBoard<D, K>) -> Result<u64, Refusal>
         requires fresh { self.old.fresh ≡ true }
         ensures staged { IsStaged D.PageDisk self.old.core result self.new.core }

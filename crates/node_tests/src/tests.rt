@@ -34,18 +34,18 @@ use std::process::Abort;
 use std::sync::Wait;
 use std::thread::Threads;
 
-/// A core that did nothing yet, over a new store of so many extents, each of so many pages, whose history may have so many events. Of the
-/// calls of its disk from the first one on that formats the store the one with this number fails; with 0 none does.
+/// A core that did nothing yet, over a new store of this format of so many extents, each of so many pages, whose history may have so many
+/// events. Of the calls of its disk from the first one on that formats the store the one with this number fails; with 0 none does.
 fn formatted(
     rt: &impl Abort,
     alloc: Global,
-    geometry: (u64, u64),
+    lies: (u64, u64, u64),
     history: usize,
     at: u64,
 ) -> Core<FailAt<MemoryDisk>>
     ensures { (result.history ≡ []) × (result.store.accepted ≡ 0) }
 {
-    let geometry = Geometry::new(geometry.0, geometry.1).expect(rt, "a geometry");
+    let geometry = Geometry::of_format(lies.0, lies.1, lies.2, None).expect(rt, "a geometry");
     let disk = MemoryDisk::new(alloc, geometry.device_pages()).expect(rt, "a disk");
     match Core::format(alloc, FailAt::new(disk, at), geometry, Limits { history }) {
         Ok(core) => core,
@@ -60,6 +60,8 @@ enum Store {
     Small(usize),
     /// The same with room for all events, of whose disk the call with this number fails.
     Failing(u64),
+    /// The same in format 3, where chunks and runs lie apart.
+    Apart(u64),
     /// The same, opened again once it was formatted.
     Again(u64),
     /// A new store of 64 extents of four pages.
@@ -73,11 +75,12 @@ fn core_of(rt: &impl Abort, alloc: Global, store: Store) -> Core<FailAt<MemoryDi
     ensures { (result.history ≡ []) × (result.store.accepted ≡ 0) }
 {
     match store {
-        Store::Small(history) => formatted(rt, alloc, (6, 2), history, 0),
-        Store::Failing(at) => formatted(rt, alloc, (6, 2), 64, at),
-        Store::Again(at) => opened_again(rt, alloc, formatted(rt, alloc, (6, 2), 64, at)),
-        Store::Wide => formatted(rt, alloc, (64, 4), 2000, 0),
-        Store::WideButShort => formatted(rt, alloc, (64, 4), 64, 0),
+        Store::Small(history) => formatted(rt, alloc, (2, 6, 2), history, 0),
+        Store::Failing(at) => formatted(rt, alloc, (2, 6, 2), 64, at),
+        Store::Apart(at) => formatted(rt, alloc, (3, 6, 2), 64, at),
+        Store::Again(at) => opened_again(rt, alloc, formatted(rt, alloc, (2, 6, 2), 64, at)),
+        Store::Wide => formatted(rt, alloc, (2, 64, 4), 2000, 0),
+        Store::WideButShort => formatted(rt, alloc, (2, 64, 4), 64, 0),
     }
 }
 

@@ -2,16 +2,16 @@ use Rattle.std.proofs.Common.{rules, true≢false, sym, ◌∙◌}
 use Rattle.cs_node.proofs.Resting.{empty_of}
 use Rattle.cs_node.proofs.writebacks.due.Goals as goal
 
-pub returns-then-has_changes : goal.returns-then-has_changes
-returns-then-has_changes g c = (
+pub returns-then-may_stage : goal.returns-then-may_stage
+returns-then-may_stage g c = (
   search rules,
   empty_of _ (λ some. absurd (true≢false (sym (c.has_waiting.ensures.1 some) ∙ c.if-has_waiting.false))),
-  c.has_changes.ensures.0 c.if-has_changes.true,
+  c.if-may_stage.ensures,
 )
 
 pub returns : goal.returns
 returns g c = (
   search rules,
   empty_of _ (λ some. absurd (true≢false (sym (c.has_waiting.ensures.1 some) ∙ c.if-has_waiting.false))),
-  empty_of _ (λ some. absurd (true≢false (sym (c.has_changes.ensures.1 some) ∙ c.if-has_changes.false))),
+  c.if-may_stage.ensures,
 )
