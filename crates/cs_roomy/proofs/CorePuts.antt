@@ -46,7 +46,7 @@ module _ {D : Type 0} (disks : PageDisk D) (v : View D) (geometry : HasGeometry 
   store_is = shape_of_store v.store.extents geometry
 
   -- a state of a core in which n extents are left doesn't refuse a put of n chunks
-  not_full : (w x : View D) (t : model.State) (r : Room) (id : ShardId) (bytes : List ℕ) (n : ℕ) → IsAt disks S w t → HasRoomNow S F t r
+  pub not_full : (w x : View D) (t : model.State) (r : Room) (id : ShardId) (bytes : List ℕ) (n : ℕ) → IsAt disks S w t → HasRoomNow S F t r
       → chunk_extents r S.extents + n + S.run_extents + 2 ≤ S.extents → 1 ≤ n → length bytes ≤ n * S.chunk_bytes
       → Applies disks w (Put id bytes) (Refused NoPlace) x → ⊥
   not_full w x t r id bytes n at has left some short (inl full) =

@@ -1,6 +1,7 @@
 -- The formats have room.
 use Rattle.std.proofs.Common.{ℕ, length, arith}
 use Rattle.cs_extent.specs.State.{State as ExtentsState, shape}
+use Rattle.cs_frame.proofs.FirstFormatLaws.{not_first}
 use Rattle.cs_frame.proofs.FittingLaws.{chunks_fit, runs_fit}
 use Rattle.cs_frame.proofs.FormatLaws.{is_format}
 use Rattle.cs_frame.proofs.GeometryLaws.{bounds}
@@ -21,7 +22,7 @@ module _ (format extents pages sections : ℕ) (geometry : IsGeometry format ext
   pub have_room : IsFormatWithRoom S (formats_of S)
   have_room = record {
     tells = λ f k j v w p g q h inside first second fits also same e lt at.
-        tells S geometry.known (omega (arith, (bounds format extents pages sections geometry).most_pages)) (omega arith)
+        tells S (not_first format geometry.known) (omega (arith, (bounds format extents pages sections geometry).most_pages)) (omega arith)
         j p g q h fits also f k v w same e lt at;
     fits = λ entries list. runs_fit extents pages sections format geometry entries list;
   }

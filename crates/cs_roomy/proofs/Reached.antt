@@ -9,7 +9,7 @@ use Rattle.cs_frame.specs.Frames.{frame_fault}
 use Rattle.cs_model.proofs.Kept.{history_on}
 use Rattle.cs_model.specs.Device.{IsShape, Shape}
 use Rattle.cs_model.specs.Element.{Map, Opening, Run}
-use Rattle.cs_model.specs.Formats.{ChunkFrame, Formats, opening_in, pages_from, places}
+use Rattle.cs_model.specs.Formats.{ChunkFrame, Formats, limit_in, opening_in, pages_from, places}
 use Rattle.cs_model.specs.Frames.{IsFormat}
 use Rattle.cs_model.specs.Grounds.{Refuses}
 use Rattle.cs_model.specs.Open.{opened_state}
@@ -99,7 +99,8 @@ module _ (S : Shape) (shape : IsShape S) (format : IsFormat S (formats_of S)) (f
         let same : s.opening ≡ opening_in S F (page image) gives.pointers gives.generations =
         (history_on S F (opened_state S F (page image) n m gives) s history run).opening in
         no_damage_full ((gives.generations l.extent == l.generation) && nat_lt l.page (gives.pointers l.extent))
-        (frame_fault (kind_number ChunkFrame) (pages_from S F (page image) l.extent l.page (S.pages - l.page)))
+        (frame_fault (kind_number ChunkFrame) (pages_from S F (page image) l.extent l.page
+        (limit_in S F gives.pointers gives.generations l - l.page)))
         (sym (ap (λ (o : Opening). o.damage l) same) ∙ bad)
 
     -- and refuses nothing but puts for want of a place

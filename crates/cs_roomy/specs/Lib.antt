@@ -1,4 +1,6 @@
 pub mod Cores
 pub mod Images
 pub mod Lives
+pub mod Reclaims
+pub mod Roomy
 pub mod Sweeps

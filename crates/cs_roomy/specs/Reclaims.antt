@@ -1,0 +1,58 @@
+-- Calls of reclaim, one after another.
+use Rattle.std.specs.Prelude.{◌≡◌, ◌⊎◌, ◌∷◌, ◌+◌, ◌<◌, ℕ, zero, suc, false, List, [], Option, Some, None}
+use Rattle.cs_chunk.specs.Newest.{AreNewest}
+use Rattle.cs_deps.specs.State.{IsWhole as IsWholeGraph}
+use Rattle.cs_disk.specs.declared.disk.PageDisk.{Ghosts as PageDisk}
+use Rattle.cs_disk.specs.Disk.{Rises, seen}
+use Rattle.cs_extent.specs.State.{IsWhole, extents_of, shape}
+use Rattle.cs_index.specs.State.{index_of}
+use Rattle.cs_model.specs.Element.{Map}
+use Rattle.cs_model.specs.Index.{NoneDamaged, names}
+use Rattle.cs_core.specs.Views.{View}
+use Rattle.cs_survey.specs.Chunks.{AreLiveChunks, Chunk}
+use Rattle.cs_survey.specs.declared.extent_uses.ExtentUse.{ExtentUse}
+use Rattle.cs_survey.specs.Uses.{heads_of}
+use Rattle.cs_drive.specs.Runs.{Ran}
+use Rattle.cs_drive.specs.Syncs.{Syncs}
+use Rattle.cs_store.specs.declared.reclaims.Reclaimed.{Reclaimed}
+use Rattle.cs_store.specs.Maps.{HasMap}
+use Rattle.cs_store.specs.Reclaims.{GoesBy, ReadsOn, Reclaims, reclaimed_extent}
+
+-- no sweep goes on, and none was given up since the last root
+pub record IsIdle {D : Type 0} (v : View D) : Type 0 where
+  pub none_swept : (e : ℕ) → e < (shape v.store.extents).extents → (extents_of v.store.extents).swept e ≡ false
+  pub none_opened : (extents_of v.store.extents).fresh ≡ None
+
+module _ {D : Type 0} (disks : PageDisk D) where
+  -- What a call of reclaim did that answered this, by its clauses `chosen` and `ran`. No shard is damaged, and no read failed as it chose.
+  pub record IsReclaim (v : View D) (found : Option Reclaimed) (w : View D) : Type 0 where
+    pub whole : IsWhole v.store.extents
+    pub graph : IsWholeGraph v.store.graph
+    pub shards : Map
+    pub has_map : HasMap v shards
+    pub undamaged : NoneDamaged shards
+    pub view : ℕ → List ℕ
+    pub newest : AreNewest v.store.graph (seen (disks.state v.disk)) view
+    pub chunks : List Chunk
+    pub live : AreLiveChunks (index_of v.store.index) chunks
+    pub read : View D
+    pub reads : ReadsOn disks v read
+    pub reclaims : Reclaims disks read found w
+    pub goes : GoesBy disks (heads_of v.store.extents view chunks) (names (index_of v.store.index)) v read (reclaimed_extent found)
+    pub none_failed : ¬ Rises (disks.failure_count v.disk) (disks.failure_count read.disk)
+    pub ran : Ran disks v w
+
+  -- there was a sync, or none
+  abbrev pub AreSynced : View D → View D → Type 0
+  AreSynced v w = (w ≡ v) ⊎ (Syncs disks v w × Ran disks v w)
+
+  -- so many calls of reclaim swept an extent each, one after another, with a sync behind each or none
+  abbrev pub ReclaimsBy : ℕ → View D → View D → Type 0
+  ReclaimsBy zero v w = w ≡ v
+  ReclaimsBy (suc n) v w = (swept : Reclaimed) × (mid : View D) × (next : View D) × IsReclaim v (Some swept) mid × AreSynced mid next
+      × ReclaimsBy n next w
+
+-- how many live pages are counted on all of these extents
+abbrev pub total_live : List ExtentUse → ℕ
+total_live [] = 0
+total_live (used ∷ uses) = used.live + total_live uses
