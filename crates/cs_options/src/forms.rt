@@ -49,7 +49,7 @@ const PUT_EXAMPLES: &str = "Example:
   cs_cli put 00000000-0000-0000-0000-00000000000a --file s.store < shard
 
 It prints nothing: with status 0 the bytes are persistent. Status 1: refused, and all is as it was.
-Each call opens the store, which gives up the rest of the extent that was being filled: for many shards take `run`.";
+Each call opens the store, which in formats 1 and 2 gives up the rest of the extent that was being filled: for many shards take `run`.";
 
 /// What help says after the options of `del`.
 const DELETE_EXAMPLES: &str = "Example:

@@ -89,6 +89,8 @@ module _ {D : Type 0} (disks : PageDisk D) where
           }));
           rises = omega (arith, rises);
           stays_honest = reads.honesty.0;
+          pages = reads.pages;
+          time = reads.time;
           crash = crash;
         });
         honest = reads.honesty;

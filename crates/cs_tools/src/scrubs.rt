@@ -3,7 +3,6 @@ ghost use Rattle.std.specs.Prelude.{◌≡◌, ◌≢◌, ◌⊎◌, ℕ, List, 
 ghost use Rattle.cs_chunk.specs.Newest.{AreNewest};
 ghost use Rattle.cs_chunk.specs.Reads.{OnlyReads};
 ghost use Rattle.cs_disk.specs.Disk.{seen};
-ghost use Rattle.cs_extent.specs.State.{shape};
 ghost use Rattle.cs_tools.specs.Scrubs.{Scrubs};
 ghost use Rattle.cs_tools.specs.declared.outcomes.Outcome.TheVariants.{Damaged, Done, Failed};
 
@@ -27,7 +26,7 @@ pub fn scrub<D: PageDisk, P: Progress, W: Write>(
     writer: &mut W,
 ) -> Outcome
     ensures found { D.honest core.old.disk → (view : ℕ → List ℕ) → AreNewest core.old.store.graph (seen (D.state core.old.disk)) view
-        → Scrubs (shape core.old.store.extents) view core.old.store.index (D.failure_count core.old.disk) (D.failure_count core.new.disk) result }
+        → Scrubs core.old.store.extents view core.old.store.index (D.failure_count core.old.disk) (D.failure_count core.new.disk) result }
     ensures same { core.new ≡ record core.old { disk = core.new.disk } }
     ensures disk { OnlyReads D.PageDisk core.old.disk core.new.disk }
 {

@@ -16,12 +16,7 @@ use std::alloc::Global;
 use std::process::Abort;
 
 /// Puts so many bytes.
-fn put(
-    rt: &impl Abort,
-    alloc: Global,
-    store: &mut Store,
-    bytes: &[u8],
-) -> Result<Places, Refusal> {
+fn put(rt: &impl Abort, alloc: Global, store: &mut Store, bytes: &[u8]) -> Result<Places, Refusal> {
     assert_families(rt, &store.extents, &store.graph);
     put_chunks(alloc, &mut store.extents, &mut store.graph, bytes)
 }

@@ -11,3 +11,6 @@ returns-in-Sweep g c = rw (c.in-Sweep.is) c.sweep.ensures
 
 pub returns-in-Sync : goal.returns-in-Sync
 returns-in-Sync g c = rw (c.in-Sync.is) c.sync.ensures
+
+pub returns-in-Delete : goal.returns-in-Delete
+returns-in-Delete g c = rw (c.in-Delete.is) c.delete.ensures
