@@ -23,7 +23,7 @@ class Rules(NamedTuple):
     # Chunks and runs lie on extents of their own, an extent that nothing names is emptied under each root and at opening, and what a sweep copied counts from
     # its end on.
     apart: bool
-    # Where they lie apart: an extent that had room left as the store was opened is filled on. No program goes by it.
+    # Where they lie apart: an extent that had room left as the store was opened is filled on.
     fills: bool
 
 
@@ -31,7 +31,7 @@ RULES = {
     2: Rules(extents=range(4, 2049), pages=range(2, 257), sections=range(1, 9), most_runs=4,
              pages_first=True, by_size=False, apart=False, fills=False),
     3: Rules(extents=range(5, 7681), pages=range(2, 65536), sections=range(1, 16), most_runs=24,
-             pages_first=False, by_size=True, apart=True, fills=False),
+             pages_first=False, by_size=True, apart=True, fills=True),
 }
 
 
