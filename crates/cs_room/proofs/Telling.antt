@@ -1,6 +1,5 @@
 -- What is asked of a format so that no store is stuck can be met, and a store can be made.
-use Rattle.std.proofs.Common.{◌≡◌, inl, inr, ℕ, zero, suc, ◌<◌, ◌≤◌, ◌==◌, true, false, List, [], ◌∷◌, None, if◌then◌else◌, eq-eqb, refl, sym, ap, ap₂, ◌∙◌, subst, arith}
-use Rattle.std.proofs.lemmas.Bool.{cases_eq, ne_eqb}
+use Rattle.std.proofs.Common.{◌≡◌, ℕ, ◌<◌, ◌≤◌, true, [], None, refl, ap}
 use Rattle.cs_model.proofs.Examples.{told_here}
 use Rattle.cs_model.specs.Device.{FramePage, IsShape, Page, PageKind, RootPage, SectionPage, Shape}
 use Rattle.cs_model.specs.Example.{telling_format}

@@ -1,5 +1,5 @@
 -- Examples: a new store, and some events of one of 6 extents of 2 pages, one of which may hold runs.
-use Rattle.std.specs.Prelude.{◌≡◌, ◌∷◌, ◌==◌, ℕ, zero, suc, true, List, None, [], if◌then◌else◌}
+use Rattle.std.specs.Prelude.{◌≡◌, ◌∷◌, ℕ, true, List, None, []}
 use Rattle.cs_model.specs.Device.{Shape}
 use Rattle.cs_model.specs.Geometry.{shape_of}
 use Rattle.cs_model.specs.Lists.{with}
