@@ -44,6 +44,10 @@ mark_in format page = mark_by are_marked (if marks_in format then digest_number 
 abbrev pub greatest_mark_in : (format : ℕ) → ℕ
 greatest_mark_in format = if marks_in format then 18446744073709551615 else 0
 
+-- how many bytes an entry of a run takes at most
+abbrev pub most_entry_bytes : (format : ℕ) → ℕ
+most_entry_bytes format = if marks_in format then 145 else 81
+
 -- how many extents may hold runs where they do
 abbrev pub most_run_extents : (extents : ℕ) → ℕ
 most_run_extents extents = if nat_le 16 extents then 2 else 1
@@ -78,7 +82,7 @@ shape_of extents pages sections per_section format = record {
   section = λ e. if nat_lt e extents then e / per_section else 0;
   chunk_bytes = 4096 * pages - 41;
   most_chunks = 8;
-  most_names = (4096 * pages - 45) / 81;
+  most_names = (4096 * pages - 45) / most_entry_bytes format;
   most_runs = if nat_le format 2 then 4 else 24;
   greatest_number = 9223372036854775807;
   greatest_generation = 4294967295;

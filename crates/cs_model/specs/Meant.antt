@@ -3,7 +3,7 @@ use Rattle.std.specs.Prelude.{◌≤◌, ◌∷◌, ◌==◌, ℕ, Bool, true, f
 
 -- Locators have marks. None has one yet: a mark is nothing then, any two are one, and each fits
 abbrev pub are_marked : Bool
-are_marked = false
+are_marked = true
 
 -- a mark, where locators have marks or not
 abbrev pub MarkBy : (marked : Bool) → Type 0
