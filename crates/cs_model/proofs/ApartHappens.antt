@@ -7,14 +7,15 @@ use Rattle.cs_model.proofs.AnsweredSweeps.{left_one, move_one, retire_one, undam
 use Rattle.cs_model.proofs.ApartAnswered.{sweepable}
 use Rattle.cs_model.proofs.Counting.{lookup_there}
 use Rattle.cs_model.proofs.Examples.{example_is_format}
+use Rattle.cs_model.proofs.Meant.{frame_fits, own_mark}
 use Rattle.cs_model.proofs.Needs.{need_there}
 use Rattle.cs_model.proofs.Outcomes.{clears, ends, not_true}
 use Rattle.cs_model.proofs.Places.{takes_behind}
 use Rattle.cs_model.proofs.Shapes.{is_shape}
 use Rattle.cs_model.specs.Apart.{FirstLeft, NothingLeft, rooted_apart, settled, sweeping}
-use Rattle.cs_model.specs.Append.{AppendBy, appended_by}
+use Rattle.cs_model.specs.Append.{AppendBy, appended_by, next_locator}
 use Rattle.cs_model.specs.ApartExample.{example_abandoned, example_apart, example_image, example_retired}
-use Rattle.cs_model.specs.Device.{IsShape, Page}
+use Rattle.cs_model.specs.Device.{IsShape, Page, mark_of}
 use Rattle.cs_model.specs.Element.{Entry, Locator, Run}
 use Rattle.cs_model.specs.Events.{Does, mark}
 use Rattle.cs_model.specs.Example.{example_format}
@@ -25,6 +26,7 @@ use Rattle.cs_model.specs.Grounds.{PastLimit, WouldPass}
 use Rattle.cs_model.specs.Index.{if_live, live_at, lookup}
 use Rattle.cs_model.specs.Lists.{nth}
 use Rattle.cs_model.specs.Machine.{World}
+use Rattle.cs_model.specs.Meant.{are_marked}
 use Rattle.cs_model.specs.Open.{opened_state}
 use Rattle.cs_model.specs.Recovery.{IsNew, Recovers}
 use Rattle.cs_model.specs.Refusal.{Full, Halted, IndexFull, NotSweepable, StillLive, TooLarge, WornOut}
@@ -93,7 +95,7 @@ append w purpose bs e = appended_by example_apart true purpose w e (need w e) bs
 
 appends : (w : World) (purpose : Purpose) (bs : List Page) (e : ℕ) → Goes example_apart true w.extents purpose (length bs) e
     → AppendBy example_apart true w purpose bs
-    (record { extent = e; page = w.extents.pointer e; generation = w.extents.generation e }) (append w purpose bs e)
+    (next_locator example_apart w e bs) (append w purpose bs e)
 appends w purpose bs e goes = record {
   extent = e;
   need = need w e;
@@ -108,7 +110,7 @@ abbrev world1 : World
 world1 = append s0.world ForPut ([] ∷ []) 0
 
 abbrev chunk : Locator
-chunk = record { extent = 0; page = 0; generation = 0 }
+chunk = record { extent = 0; page = 0; generation = 0; mark = mark_of example_apart ([] ∷ []) }
 
 abbrev s1 : State
 s1 = record s0 { world = world1; table = record { id = 1; locators = chunk ∷ [] } ∷ []; commands = (1, Some []) ∷ [] }
@@ -146,7 +148,7 @@ abbrev world2 : World
 world2 = append s1.world ForRun (example_format.frame RunFrame (example_format.run s1.table)) 1
 
 abbrev run : Run
-run = record { place = record { extent = 1; page = 0; generation = 0 }; entries = s1.table }
+run = record { place = next_locator example_apart s1.world 1 (example_format.frame RunFrame (example_format.run s1.table)); entries = s1.table }
 
 abbrev s2 : State
 s2 = rooted_apart example_apart example_format (record s1 { world = world2 }) (run ∷ [])
@@ -229,10 +231,33 @@ abbrev world4 : World
 world4 = append s3.world ForMove ([] ∷ []) 2
 
 abbrev moved : Locator
-moved = record { extent = 2; page = 0; generation = 0 }
+moved = record { extent = 2; page = 0; generation = 0; mark = mark_of example_apart ([] ∷ []) }
 
 abbrev s4 : State
 s4 = record s3 { world = world4; copies = record { id = 1; chunk = 0; from = chunk; to = moved } ∷ [] }
+
+pub shape : IsShape example_apart
+shape = let base = is_shape 6 2 1 8 1 (record {
+  some_page = omega arith;
+  some_section = omega arith;
+  some_extent = omega arith;
+  all = omega arith;
+}) (λ on. omega arith) in record {
+  root_kind = base.root_kind;
+  section_kind = base.section_kind;
+  root_only = base.root_only;
+  section_only = base.section_only;
+  frame_kind = base.frame_kind;
+  extent = base.extent;
+  index = base.index;
+  section = base.section;
+  some_chunk = base.some_chunk;
+  some_byte = base.some_byte;
+  enough_runs = base.enough_runs;
+  apart = λ on. (refl, refl, omega arith, omega arith);
+  fills = λ on. absurd (true≢false (sym on));
+  marks = base.marks;
+}
 
 moves : Does example_apart example_format s3 (MoveOne 0) (Moved 1 0) s4
 moves = (
@@ -244,11 +269,17 @@ moves = (
   first_left,
   refl,
   record {
-    passes = record { generation = refl; below = omega arith; inside = (omega arith, omega arith) };
+    passes = record {
+      generation = refl;
+      below = omega arith;
+      inside = (omega arith, omega arith);
+      mark = frame_fits example_apart shape ([] ∷ []);
+    };
     below = inl (omega arith);
     inside = omega arith;
     within = omega arith;
     stand = (refl, tt);
+    marked = own_mark are_marked (mark_of example_apart ([] ∷ []));
   },
   (world4, appends s3.world ForMove ([] ∷ []) 2 copy_goes, refl),
   refl,
@@ -271,7 +302,10 @@ abbrev world5 : World
 world5 = append settled_now.world ForRun (example_format.frame RunFrame (example_format.run settled_now.table)) 1
 
 abbrev second : Run
-second = record { place = record { extent = 1; page = 1; generation = 0 }; entries = settled_now.table }
+second = record {
+  place = next_locator example_apart settled_now.world 1 (example_format.frame RunFrame (example_format.run settled_now.table));
+  entries = settled_now.table;
+}
 
 abbrev s5 : State
 s5 = rooted_apart example_apart example_format (record settled_now { world = world5 }) (second ∷ [])
@@ -317,28 +351,6 @@ was_reset : (s5.world.extents.generation 0 ≡ 1) × (s7.world.extents.generatio
 was_reset = (refl, refl)
 
 -- none of them is refused
-pub shape : IsShape example_apart
-shape = let base = is_shape 6 2 1 8 1 (record {
-  some_page = omega arith;
-  some_section = omega arith;
-  some_extent = omega arith;
-  all = omega arith;
-}) (λ on. omega arith) in record {
-  root_kind = base.root_kind;
-  section_kind = base.section_kind;
-  root_only = base.root_only;
-  section_only = base.section_only;
-  frame_kind = base.frame_kind;
-  extent = base.extent;
-  index = base.index;
-  section = base.section;
-  some_chunk = base.some_chunk;
-  some_byte = base.some_byte;
-  enough_runs = base.enough_runs;
-  apart = λ on. (refl, refl, omega arith, omega arith);
-  fills = λ on. absurd (true≢false (sym on));
-}
-
 format : IsFormat example_apart example_format
 format = example_is_format example_apart refl
 

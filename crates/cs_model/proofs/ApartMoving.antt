@@ -1,12 +1,13 @@
 -- Where chunks and runs lie apart: MoveOne and Retire keep a state sound.
-use Rattle.std.proofs.Common.{◌≡◌, inl, inr, ℕ, ◌≤◌, Bool, true, false, ◌&&◌, ◌==◌, List, [], ◌∷◌, Option, Some, None, if◌then◌else◌, eqb-true, le_of_eq, le_trans, refl, sym, ap, ◌∙◌, subst, true≢false}
+use Rattle.std.proofs.Common.{◌≡◌, inl, inr, ℕ, ◌≤◌, Bool, true, false, List, [], ◌∷◌, Option, Some, None, if◌then◌else◌, le_of_eq, le_trans, refl, sym, ap, ◌∙◌, subst, true≢false}
 use Rattle.cs_model.proofs.ApartResets.{swept_below}
 use Rattle.cs_model.proofs.ApartStaging.{stages_sound}
 use Rattle.cs_model.proofs.Bounds.{not_first, not_found, bounded_same, bounded_entry}
-use Rattle.cs_model.proofs.Carries.{and_left, and_right, carry_reads}
+use Rattle.cs_model.proofs.Carries.{carry_reads}
 use Rattle.cs_model.proofs.Commands.{in_number, in_room, not_below}
 use Rattle.cs_model.proofs.Frames.{added}
 use Rattle.cs_model.proofs.Marks.{keeps_abandon, remarked}
+use Rattle.cs_model.proofs.Meant.{one_place}
 use Rattle.cs_model.proofs.Movings.{length_replaced, moved_holds, moved_value, named_nth}
 use Rattle.cs_model.proofs.Parts.{each}
 use Rattle.cs_model.proofs.Roots.{moved_entry}
@@ -28,12 +29,7 @@ use Rattle.cs_model.specs.State.{MoveOne, Moved, Retire, Retired, State, index_n
 
 pub place_is : (o : Option Locator) (l : Locator) → is_place o l ≡ true → o ≡ Some l
 place_is None l is = absurd (true≢false (sym is))
-place_is (Some k) l is =
-    let rest = and_right (k.extent == l.extent) ((k.page == l.page) && (k.generation == l.generation)) is in
-    let e : k.extent ≡ l.extent = eqb-true _ _ (and_left (k.extent == l.extent) _ is) in
-    let p : k.page ≡ l.page = eqb-true _ _ (and_left (k.page == l.page) _ rest) in
-    let g : k.generation ≡ l.generation = eqb-true _ _ (and_right (k.page == l.page) _ rest) in
-    ap (λ (x : Locator). Some x) (λ i. record { extent = e i; page = p i; generation = g i })
+place_is (Some k) l is = ap (λ (x : Locator). Some x) (one_place k l is)
 
 module _ (S : Shape) (F : Formats) (shape : IsShape S) (format : IsFormat S F) where
   settle_sound : (s : State) (c : Copy) → Sound S F s → Bounded S F s → IsCopy S F s c

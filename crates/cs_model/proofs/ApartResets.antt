@@ -262,12 +262,14 @@ module _ (S : Shape) (F : Formats) (shape : IsShape S) (on : S.apart ≡ true) (
       generation = same.1 ∙ r.passes.generation;
       below = subst (λ (n : ℕ). l.page < n) (sym same.0) r.passes.below;
       inside = r.passes.inside;
+      mark = r.passes.mark;
     };
     below = ⊎_elim (λ (below : l.page + length (F.frame ChunkFrame payload) ≤ s.world.extents.pointer l.extent). inl
         (subst (λ (n : ℕ). l.page + length (F.frame ChunkFrame payload) ≤ n) (sym same.0) below)) (λ fz. inr fz) r.below;
     inside = r.inside;
     within = r.within;
     stand = r.stand;
+    marked = r.marked;
   }
 
   thawed : (d : ℕ) → (after S.extents).generation d ≡ suc (s.world.extents.generation d)

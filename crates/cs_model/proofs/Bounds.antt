@@ -61,7 +61,7 @@ module _ (S : Shape) (F : Formats) (shape : IsShape S) (format : IsFormat S F) w
   in_range : (s : State) (img : ℕ → Page) (p : ℕ → ℕ) (l : Locator) → Sound S F s
       → Passes S F img p s.world.extents.generation l → InRange S l
   in_range s img p l sound pass =
-      (pass.inside, le_trans (le_of_eq (sym pass.generation)) (sound.safe.extents_fit l.extent).1)
+      (pass.inside, le_trans (le_of_eq (sym pass.generation)) (sound.safe.extents_fit l.extent).1, pass.mark)
 
   places_in : (runs : List Run) → ((run : Run) → run ∈ runs → InRange S run.place) → (l : Locator) → l ∈ places runs
       → InRange S l

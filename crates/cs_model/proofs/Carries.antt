@@ -45,7 +45,7 @@ module _ (S : Shape) (F : Formats) (opening : Opening) (img old : ℕ → Page) 
 
   pub carry_passes : (l : Locator) → Passes S F old p g l → Passes S F img q k l
   carry_passes l pass = let c = carries l.extent l.page pass.below pass.inside in
-      record { generation = c.1 ∙ pass.generation; below = c.2; inside = pass.inside }
+      record { generation = c.1 ∙ pass.generation; below = c.2; inside = pass.inside; mark = pass.mark }
 
   carry_below : (e i n : ℕ) → e < S.extents → i < p e → i + n ≤ p e → i + n ≤ S.pages → i < q e → i + n ≤ q e
   carry_below e i zero ex some below inside new = omega arith
@@ -70,7 +70,14 @@ module _ (S : Shape) (F : Formats) (opening : Opening) (img old : ℕ → Page) 
 
   pub carry_reads : (l : Locator) (bs : List Page) → Reads S F opening old p g l bs → Reads S F opening img q k l bs
   carry_reads l bs r = let f = carry_frame l bs r r.below in
-      record { passes = carry_passes l r.passes; inside = r.inside; within = r.within; below = f.0; stand = f.1 }
+      record {
+        passes = carry_passes l r.passes;
+        inside = r.inside;
+        within = r.within;
+        below = f.0;
+        stand = f.1;
+        marked = r.marked;
+      }
 
   pub carry_chunks : (ls : List Locator) (cs : List (List ℕ)) → Chunks S F opening old p g ls cs
       → Chunks S F opening img q k ls cs

@@ -3,13 +3,13 @@ use Rattle.std.proofs.Common.{◌≡◌, ◌≢◌, ◌⊎◌, inl, inr, ⊎_eli
 use Rattle.std.proofs.lemmas.Bool.{cases_lt}
 use Rattle.std.proofs.lemmas.Bool.Decides.{nat_tests}
 use Rattle.cs_model.proofs.Carries.{and_true}
-use Rattle.cs_model.specs.Device.{Page, Shape}
+use Rattle.cs_model.specs.Device.{Page, Shape, is_meant}
 use Rattle.cs_model.proofs.Parts.{each}
 use Rattle.cs_model.specs.Element.{Locator, Opening, Root}
 use Rattle.cs_model.specs.Extents.{MayFill, reach}
-use Rattle.cs_model.specs.Formats.{ChunkFrame, Formats, Stand, damage_in, limit_in, opening_in}
+use Rattle.cs_model.specs.Formats.{ChunkFrame, Formats, Stand, damage_in, fault_for, limit_in, opening_in}
 use Rattle.cs_model.specs.Index.{Passes, Reads}
-use Rattle.cs_model.specs.Lists.{◌∈◌}
+use Rattle.cs_model.specs.Meant.{Mark}
 use Rattle.cs_model.specs.Sound.{IsFilledUp}
 
 -- of an extent nothing is found any more and its generation rose, or both are as they were and no fewer pages are given
@@ -115,9 +115,9 @@ reach_above S found page inside = elim (cases_lt page found) [
 
 pub appended_reach : (S : Shape) (F : Formats) (opening : Opening) (p g f : ℕ → ℕ) (roots : List Root)
     → IsFilledUp S F opening p g f roots → (e n : ℕ) → p e + n ≤ S.pages
-    → p e + n ≤ opening.limit (record { extent = e; page = p e; generation = g e })
-appended_reach S F opening p g f roots filled e n fits =
-    let l : Locator = record { extent = e; page = p e; generation = g e } in
+    → (m : Mark) → p e + n ≤ opening.limit (record { extent = e; page = p e; generation = g e; mark = m })
+appended_reach S F opening p g f roots filled e n fits m =
+    let l : Locator = record { extent = e; page = p e; generation = g e; mark = m } in
     le_trans fits (le_of_eq (sym (filled.limits l (le_refl _)
     ∙ reach_end S (if g e == g e then f e else 0) (p e) (le_trans (at_most (g e == g e) (f e)) (filled.given e)))))
   where
@@ -153,13 +153,14 @@ module _ (S : Shape) (F : Formats) (img : ℕ → Page) (p g : ℕ → ℕ) wher
 
   pub reads_own : (l : Locator) (bs : List Page) → Passes S F img p g l
       → (S.fills ≡ true → l.page + length bs ≤ p l.extent) → l.page + length bs ≤ S.pages
-      → Stand S F img l.extent l.page bs → Reads S F (opening_in S F img p g) img p g l bs
-  reads_own l bs pass end inside stand = record {
+      → Stand S F img l.extent l.page bs → is_meant S l.mark bs ≡ true → Reads S F (opening_in S F img p g) img p g l bs
+  reads_own l bs pass end inside stand meant = record {
     passes = pass;
     below = below_here S.fills refl;
     inside = inside;
     within = within_here S.fills refl;
     stand = stand;
+    marked = meant;
   }
     where
       below_here : (b : Bool) → S.fills ≡ b → (l.page + length bs ≤ p l.extent)
@@ -180,7 +181,7 @@ module _ (S : Shape) (F : Formats) (img : ℕ → Page) (p g : ℕ → ℕ) wher
   own_reads opening thawed l bs r = reads_own l bs r.passes
       (λ on. ⊎_elim (λ (below : l.page + length bs ≤ p l.extent). below)
       (λ (fz : (i : ℕ) → opening.frozen l.extent i l.generation ≡ true). absurd
-      (true≢false (sym (fz S.pages) ∙ thawed on l.extent l.generation))) r.below) r.inside r.stand
+      (true≢false (sym (fz S.pages) ∙ thawed on l.extent l.generation))) r.below) r.inside r.stand r.marked
 
 -- by the pointers of a superblock too
 pub limit_low : (S : Shape) (F : Formats) (p g : ℕ → ℕ) → ((e : ℕ) → p e ≤ S.pages) → (l : Locator)
@@ -212,11 +213,12 @@ limits_agree S F img p g q k l here there agree = go S.fills refl
 
 -- where a locator passes what is told of it is told by the pages to which its frame may reach
 pub damage_here : (S : Shape) (F : Formats) (img : ℕ → Page) (p g : ℕ → ℕ) (l : Locator) → Passes S F img p g l
-    → damage_in S F img p g l ≡ F.fault ChunkFrame ((opening_in S F img p g).pages l)
+    → damage_in S F img p g l ≡ fault_for S F ChunkFrame l.mark ((opening_in S F img p g).pages l)
 damage_here S F img p g l pass = taken ((g l.extent == l.generation) && nat_lt l.page (p l.extent))
     (and_true (g l.extent == l.generation) (nat_lt l.page (p l.extent))
     (eq-eqb (g l.extent) l.generation pass.generation) (lt-ltb l.page (p l.extent) pass.below))
   where
-    taken : (b : Bool) → b ≡ true → (if b then F.fault ChunkFrame ((opening_in S F img p g).pages l) else None)
-        ≡ F.fault ChunkFrame ((opening_in S F img p g).pages l)
+    taken : (b : Bool) → b ≡ true
+        → (if b then fault_for S F ChunkFrame l.mark ((opening_in S F img p g).pages l) else None)
+        ≡ fault_for S F ChunkFrame l.mark ((opening_in S F img p g).pages l)
     taken b is = rw is refl

@@ -1,8 +1,8 @@
 -- A frame that is appended keeps a state sound.
 use Rattle.std.proofs.Common.{◌≡◌, ◌≢◌, inl, inr, ⊎_elim, ℕ, suc, ◌+◌, ◌<◌, ◌≤◌, Bool, true, false, List, [], ◌∷◌, length, Some, le_of_eq, le_trans, true≢false, refl, sym, ap, ◌∙◌, subst, subst₂, arith}
 use Rattle.cs_model.specs.Apart.{any_below}
-use Rattle.cs_model.specs.Append.{AppendAllBy, AppendBy, AppendsChunksBy, AppendsFrame, AppendsFrameBy, IsNeed, appended_by, chunk_frames}
-use Rattle.cs_model.specs.Device.{Inside, IsShape, Page, Shape}
+use Rattle.cs_model.specs.Append.{AppendAllBy, AppendBy, AppendsChunksBy, AppendsFrame, AppendsFrameBy, IsNeed, appended_by, chunk_frames, next_locator}
+use Rattle.cs_model.specs.Device.{Inside, IsShape, Page, Shape, mark_of}
 use Rattle.cs_model.specs.Element.{Locator, Root, roots_of}
 use Rattle.cs_model.specs.Events.{newest_page}
 use Rattle.cs_model.specs.Extents.{ForPut, Goes, Purpose}
@@ -11,11 +11,13 @@ use Rattle.cs_model.specs.Frames.{IsFormat}
 use Rattle.cs_model.specs.Index.{Chunks, Reads}
 use Rattle.cs_model.specs.Lists.{◌∈◌}
 use Rattle.cs_model.specs.Machine.{World}
+use Rattle.cs_model.specs.Meant.{are_marked}
 use Rattle.cs_model.specs.Sound.{IsFilledUp, Sound}
 use Rattle.cs_model.specs.State.{State, map_now}
 use Rattle.cs_model.proofs.Parts.{with_same}
 use Rattle.cs_model.proofs.Carries.{carry, carry_reads}
 use Rattle.cs_model.proofs.Filled.{appended_reach, filled_on, no_less}
+use Rattle.cs_model.proofs.Meant.{frame_fits, own_mark}
 use Rattle.cs_model.proofs.Needs.{appended_numbers}
 use Rattle.cs_model.proofs.Places.{goes_inside, opens, unfrozen}
 use Rattle.cs_model.proofs.Appends.{Framed, framed, appended_superblocks, all_up}
@@ -67,9 +69,7 @@ module _ (S : Shape) (F : Formats) (shape : IsShape S) (format : IsFormat S F) w
     abbrev next : State
     next = record s { world = appended_by S apart purpose s.world e need (F.frame kind payload) }
 
-    frame_added : Added s next
-        (record { extent = e; page = s.world.extents.pointer e; generation = s.world.extents.generation e })
-        (F.frame kind payload)
+    frame_added : Added s next (next_locator S s.world e (F.frame kind payload)) (F.frame kind payload)
     frame_added = record {
       sound = record {
         safe = fr.safe;
@@ -130,11 +130,13 @@ module _ (S : Shape) (F : Formats) (shape : IsShape S) (format : IsFormat S F) w
             (let n : 0 < length (F.frame kind payload) = format.some_page kind payload in
                 let f : s.world.extents.pointer e + length (F.frame kind payload) ≤ S.pages = fits in omega arith),
           );
+          mark = frame_fits S shape (F.frame kind payload);
         };
         below = inl (le_of_eq (sym fr.pointer_there));
         inside = fits;
         within = may_reach S.fills refl;
         stand = fr.stand;
+        marked = own_mark are_marked (mark_of S (F.frame kind payload));
       };
     }
       where
@@ -152,12 +154,12 @@ module _ (S : Shape) (F : Formats) (shape : IsShape S) (format : IsFormat S F) w
             )))
 
         -- what was found ends at the pointer or before it
-        may_reach : (b : Bool) → S.fills ≡ b → s.world.extents.pointer e + length (F.frame kind payload) ≤ s.opening.limit
-            (record { extent = e; page = s.world.extents.pointer e; generation = s.world.extents.generation e })
+        may_reach : (b : Bool) → S.fills ≡ b → s.world.extents.pointer e + length (F.frame kind payload)
+            ≤ s.opening.limit (next_locator S s.world e (F.frame kind payload))
         may_reach true on = appended_reach S F s.opening s.world.extents.pointer s.world.extents.generation
             s.world.extents.found (roots_of s.world.elements) (sound.filled on) e (length (F.frame kind payload)) fits
-        may_reach false off = le_trans fits (le_of_eq (sym (sound.unfilled off
-            (record { extent = e; page = s.world.extents.pointer e; generation = s.world.extents.generation e }))))
+            (mark_of S (F.frame kind payload))
+        may_reach false off = le_trans fits (le_of_eq (sym (sound.unfilled off (next_locator S s.world e (F.frame kind payload)))))
 
         was_swept : (d : ℕ) → next.world.extents.swept d ≡ true → s.world.extents.swept d ≡ true
         was_swept d is = ap (λ (f : ℕ → Bool). f d) (sym fr.swept) ∙ is

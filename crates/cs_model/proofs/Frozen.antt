@@ -1,15 +1,15 @@
 -- What was found in an extent is as it was at open until it is reset: all of it where it is frozen, else what lies below the
 -- pointer that was found. So is the damage in it.
 use Rattle.std.proofs.Common.{◌≡◌, ◌≢◌, inl, inr, ℕ, zero, suc, ◌+◌, ◌-◌, ◌<◌, ◌≤◌, ◌==◌, Bool, true, false, true≢false, length, List, [], ◌∷◌, Some, eq-eqb, ne_eqb, le_of_eq, le_refl, le_trans, refl, sym, ap, ap₂, ◌∙◌, subst, arith}
-use Rattle.cs_model.proofs.Filled.{reach_found, reach_low, reach_off}
+use Rattle.cs_model.proofs.Filled.{reach_low, reach_off}
 use Rattle.cs_model.proofs.Places.{unfrozen}
-use Rattle.cs_model.specs.Append.{AppendsFrameBy}
+use Rattle.cs_model.specs.Append.{AppendsFrameBy, next_locator}
 use Rattle.cs_model.specs.Cut.{Cut, page_in}
 use Rattle.cs_model.specs.Device.{Inside, IsShape, Page, Shape}
 use Rattle.cs_model.specs.Element.{Locator, Write, writes_of}
 use Rattle.cs_model.specs.Events.{newest_page}
 use Rattle.cs_model.specs.Extents.{Purpose, reach}
-use Rattle.cs_model.specs.Formats.{ChunkFrame, Formats, FrameKind, pages_from}
+use Rattle.cs_model.specs.Formats.{ChunkFrame, Formats, FrameKind, fault_for, pages_from}
 use Rattle.cs_model.specs.Index.{Passes, Reads}
 use Rattle.cs_model.specs.Lists.{◌∈◌}
 use Rattle.cs_model.specs.Machine.{everything}
@@ -72,16 +72,16 @@ module _ (S : Shape) (F : Formats) (shape : IsShape S) (s : State) (sound : Soun
 
   pub damage_stays : (l : Locator) (f : Refusal) → s.opening.damage l ≡ Some f
       → Passes S F (newest_page s) s.world.extents.pointer s.world.extents.generation l
-      → F.fault ChunkFrame (pages_from S F (newest_page s) l.extent l.page (reach_now S F s sound l - l.page)) ≡ Some f
+      → fault_for S F ChunkFrame l.mark (pages_from S F (newest_page s) l.extent l.page (reach_now S F s sound l - l.page)) ≡ Some f
   damage_stays l f is pass =
       let known = sound.damaged l f is in
       let same : s.opening.limit l ≡ reach_now S F s sound l = limit_now S F s sound l pass.generation in
       let low : reach_now S F s sound l ≤ S.pages = reach_fits S F s sound l in
       let lt : l.page < s.opening.limit l = known.0 in
-      ap (F.fault ChunkFrame) (pages_same l.extent l.page (reach_now S F s sound l - l.page) (reach_now S F s sound l)
+      ap (fault_for S F ChunkFrame l.mark) (pages_same l.extent l.page (reach_now S F s sound l - l.page) (reach_now S F s sound l)
       (λ k below. ap (s.opening.frozen l.extent k) pass.generation
       ∙ known.1 k (subst (λ (n : ℕ). k < n) (sym same) below)) pass.inside.0 (omega arith) low)
-      ∙ ap (λ (n : ℕ). F.fault ChunkFrame (pages_from S F s.opened l.extent l.page (n - l.page))) (sym same) ∙ known.2
+      ∙ ap (λ (n : ℕ). fault_for S F ChunkFrame l.mark (pages_from S F s.opened l.extent l.page (n - l.page))) (sym same) ∙ known.2
 
 -- no chunk that is appended was damaged at open
 pub new_undamaged_by : (S : Shape) (F : Formats) → (s : State) → Sound S F s → (apart : Bool)
@@ -89,11 +89,7 @@ pub new_undamaged_by : (S : Shape) (F : Formats) → (s : State) → Sound S F s
     (f : Refusal) → AppendsFrameBy S F apart s purpose kind payload l t → s.opening.damage l ≢ Some f
 new_undamaged_by S F s sound apart by t purpose kind payload l f a is =
     let e = a.1.extent in
-    let at : Locator = record {
-      extent = e;
-      page = s.world.extents.pointer e;
-      generation = s.world.extents.generation e;
-    } in
+    let at : Locator = next_locator S s.world e (F.frame kind payload) in
     let known = sound.damaged at f (ap s.opening.damage (sym a.1.at) ∙ is) in
     true≢false (sym (known.1 (s.world.extents.pointer e) known.0)
     ∙ unfrozen S F apart by s purpose (length (F.frame kind payload)) e sound a.1.placed

@@ -80,12 +80,14 @@ module _ (S : Shape) (F : Formats) where
       generation = r.passes.generation;
       below = subst (λ (n : ℕ). l.page < n) (sym same) r.passes.below;
       inside = r.passes.inside;
+      mark = r.passes.mark;
     };
     below = ⊎_elim (λ (below : l.page + length bs ≤ p l.extent). inl
         (subst (λ (n : ℕ). l.page + length bs ≤ n) (sym same) below)) (λ fz. inr fz) r.below;
     inside = r.inside;
     within = r.within;
     stand = r.stand;
+    marked = r.marked;
   }
 
   reading_under : (opening : Opening) → (img : ℕ → Page) (p q g : ℕ → ℕ) (ls : List Locator) (content : Content)
@@ -131,6 +133,7 @@ module _ (S : Shape) (F : Formats) where
         generation = old.generation;
         below = subst (λ (n : ℕ). k.page < n) (sym (same k has)) old.below;
         inside = old.inside;
+        mark = old.mark;
       })
 
   pass_if : (img : ℕ → Page) (p g : ℕ → ℕ) (b : Bool) (ls : List Locator) (o r : Option (List Locator))
@@ -164,6 +167,7 @@ module _ (S : Shape) (F : Formats) where
         generation = old.generation;
         below = subst (λ (n : ℕ). k.page < n) (sym (same k has)) old.below;
         inside = old.inside;
+        mark = old.mark;
       })
 
   -- what a merge keeps of what an identifier has

@@ -34,6 +34,7 @@ pub mod Limits
 pub mod Lists
 pub mod LocalRecovery
 pub mod Marks
+pub mod Meant
 pub mod Merging
 pub mod Moves
 pub mod Movings

@@ -3,7 +3,7 @@ use Rattle.std.proofs.Common.{◌≡◌, inl, inr, ⊎_elim, ℕ, zero, suc, ◌
 use Rattle.std.proofs.lemmas.Bool.{cases_eq}
 use Rattle.cs_model.specs.Device.{Inside, Page, Shape}
 use Rattle.cs_model.specs.Element.{Content, Entry, Locator, Map, Opening, Run}
-use Rattle.cs_model.specs.Formats.{ChunkFrame, Formats, damage_in, limit_in, opening_in, pages_from}
+use Rattle.cs_model.specs.Formats.{ChunkFrame, Formats, damage_in, fault_for, limit_in, opening_in, pages_from}
 use Rattle.cs_model.specs.Geometry.{IsGeometry, shape_of}
 use Rattle.cs_model.specs.Index.{AllPass, Gives, Holds, Passes, Reads, ReadsAs, Value, entries_of, live, lookup}
 use Rattle.cs_model.specs.Lists.{◌∈◌}
@@ -35,6 +35,7 @@ module _ (S : Shape) (F : Formats) (d h : Opening) (img : ℕ → Page) (p g : �
     inside = r.inside;
     within = subst (λ (n : ℕ). l.page + length bs ≤ n) (sym (limit l r.passes)) r.within;
     stand = r.stand;
+    marked = r.marked;
   }
 
   reading_by : (ls : List Locator) (content : Content) → ((l : Locator) → l ∈ ls → Passes S F img p g l)
@@ -83,7 +84,7 @@ module _ (S : Shape) (F : Formats) (count : ℕ) (a b : ℕ → Page) (lies : Li
   same_damage : (p g : ℕ → ℕ) → ((e : ℕ) → FitsExtent S (p e) (g e)) → (l : Locator) → Passes S F b p g l
       → damage_in S F b p g l ≡ damage_in S F a p g l
   same_damage p g fits l pass = ap
-      (λ (bs : List Page). if (g l.extent == l.generation) && nat_lt l.page (p l.extent) then F.fault ChunkFrame bs else None)
+      (λ (bs : List Page). if (g l.extent == l.generation) && nat_lt l.page (p l.extent) then fault_for S F ChunkFrame l.mark bs else None)
       (same_pages l.extent l.page (limit_in S F p g l - l.page) pass.inside.0
       (let lt : l.page < S.pages = pass.inside.1 in
       let end : limit_in S F p g l ≤ S.pages = limit_low S F p g (λ e. (fits e).0) l in omega arith))

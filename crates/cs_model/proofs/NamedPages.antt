@@ -1,5 +1,5 @@
 -- A page that the persistent root names is written in no round.
-use Rattle.std.proofs.Common.{◌≡◌, ◌≢◌, ◌⊎◌, inl, inr, ⊎_elim, ℕ, ◌+◌, ◌<◌, ◌≤◌, Bool, true, true≢false, List, length, le_refl, le_trans, le_of_eq, refl, sym, ap, ◌∙◌, subst, subst₂, arith}
+use Rattle.std.proofs.Common.{◌≡◌, ◌≢◌, ◌⊎◌, inl, inr, ⊎_elim, ℕ, ◌+◌, ◌<◌, ◌≤◌, true, true≢false, List, length, sym, ap, ◌∙◌, subst₂, arith}
 use Rattle.cs_model.proofs.ClosedSets.{has_before}
 use Rattle.cs_model.specs.Device.{Inside, IsShape, Page, Place, Shape}
 use Rattle.cs_model.specs.Element.{A_write, Locator, Root, Write, log_of, roots_of, writes_of}

@@ -4,7 +4,7 @@ use Rattle.std.proofs.lemmas.Bool.{cases_eq, cases_lt}
 use Rattle.cs_model.proofs.Parts.{with_same, with_other}
 use Rattle.cs_model.proofs.Appends.{appended_superblocks}
 use Rattle.cs_model.proofs.Places.{goes_one, goes_inside}
-use Rattle.cs_model.specs.Append.{Append, AppendAll, AppendAllBy, AppendBy, IsNeed, appended, appended_by, page_counts, stage_pages}
+use Rattle.cs_model.specs.Append.{Append, AppendAll, AppendAllBy, AppendBy, IsNeed, appended, appended_by, next_locator, page_counts, stage_pages}
 use Rattle.cs_model.specs.Device.{IsShape, Page, Shape}
 use Rattle.cs_model.specs.Element.{Locator, Superblock, superblocks_of}
 use Rattle.cs_model.specs.Extents.{Extents, Fits, FitsBy, Goes, Placed, Purpose, noted_by, open_after, taken, taken_by}
@@ -105,7 +105,7 @@ module _ (S : Shape) where
       )
     where
       at_pointer : ℕ → Locator
-      at_pointer e = record { extent = e; page = w.extents.pointer e; generation = w.extents.generation e }
+      at_pointer e = next_locator S w e bs
 
   pub all_one : (apart : Bool) (w v u : World) (purpose : Purpose) (frames : List (List Page)) (ls ks : List Locator)
       → AppendAllBy S apart w purpose frames ls v → AppendAllBy S apart w purpose frames ks u → (ls ≡ ks) × (v ≡ u)

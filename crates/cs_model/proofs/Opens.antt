@@ -9,7 +9,7 @@ use Rattle.cs_model.specs.Cut.{page_in}
 use Rattle.cs_model.specs.Device.{IsShape, Page, Shape}
 use Rattle.cs_model.specs.Element.{Locator, Map, Root, RootBefore, Superblock, SuperblockBefore, Write, WriteBefore, roots_of, superblocks_of, writes_of}
 use Rattle.cs_model.specs.Extents.{first_found, reach}
-use Rattle.cs_model.specs.Formats.{ChunkFrame, Formats, damage_in, limit_in, opening_in, pages_from}
+use Rattle.cs_model.specs.Formats.{ChunkFrame, Formats, damage_in, fault_for, limit_in, opening_in, pages_from}
 use Rattle.cs_model.specs.Guard.{page_as_staged}
 use Rattle.cs_model.specs.Index.{Gives, entries_of}
 use Rattle.cs_model.specs.Lists.{Descends, ◌∈◌}
@@ -117,9 +117,9 @@ module _ (S : Shape) (F : Formats) (shape : IsShape S) (img : ℕ → Page) (n :
 
   test_passed : (l : Locator) (f : Refusal) → damage_in S F img g.pointers g.generations l ≡ Some f
       → (((g.generations l.extent == l.generation) && nat_lt l.page (g.pointers l.extent)) ≡ true)
-      × (F.fault ChunkFrame (pages_from S F img l.extent l.page (limit_in S F g.pointers g.generations l - l.page)) ≡ Some f)
+      × (fault_for S F ChunkFrame l.mark (pages_from S F img l.extent l.page (limit_in S F g.pointers g.generations l - l.page)) ≡ Some f)
   test_passed l f is = where_damaged ((g.generations l.extent == l.generation) && nat_lt l.page (g.pointers l.extent))
-      (F.fault ChunkFrame (pages_from S F img l.extent l.page (limit_in S F g.pointers g.generations l - l.page))) f is
+      (fault_for S F ChunkFrame l.mark (pages_from S F img l.extent l.page (limit_in S F g.pointers g.generations l - l.page))) f is
 
   frozen_given : (e i : ℕ) → (opening_in S F img g.pointers g.generations).frozen e i (g.generations e) ≡ true → 0 < g.pointers e
   frozen_given e i fz = let lt : first_found S i < g.pointers e = is_below (first_found S i) (g.pointers e)

@@ -1,10 +1,11 @@
 -- An image gives one map.
-use Rattle.std.proofs.Common.{Bool, false, ◌-◌, ◌+◌, ◌<◌, ◌==◌, if◌then◌else◌, ◌≡◌, inl, inr, ℕ, suc, ◌≤◌, true, List, [], ◌∷◌, ◌++◌, length, Option, Some, None, le_refl, le_trans, le_of_eq, refl, sym, ap, ap₂, ◌∙◌, subst, arith}
+use Rattle.std.proofs.Common.{Bool, false, ◌-◌, ◌+◌, ◌<◌, if◌then◌else◌, ◌≡◌, inl, inr, ℕ, suc, ◌≤◌, true, List, [], ◌∷◌, ◌++◌, length, Option, Some, None, le_refl, le_trans, le_of_eq, refl, sym, ap, ap₂, ◌∙◌, subst, arith}
 use Rattle.cs_model.proofs.Filled.{limit_low, limits_agree}
 use Rattle.cs_model.proofs.LocalRecovery.{live_passes}
-use Rattle.cs_model.specs.Device.{IsShape, Page, Shape}
+use Rattle.cs_model.proofs.Meant.{none_for}
+use Rattle.cs_model.specs.Device.{IsShape, Page, Shape, is_meant}
 use Rattle.cs_model.specs.Element.{Content, Damaged, Entry, Locator, Map, Run}
-use Rattle.cs_model.specs.Formats.{ChunkFrame, Formats, FrameKind, RunFrame, Stand, limit_in, opening_in, pages_from, places}
+use Rattle.cs_model.specs.Formats.{ChunkFrame, Formats, FrameKind, RunFrame, Stand, fault_for, limit_in, opening_in, pages_from, places}
 use Rattle.cs_model.specs.Frames.{IsFormat, IsFrameFormat}
 use Rattle.cs_model.specs.Index.{Passes, Reads, ReadsAs, Value, after, entries_of, live, lookup}
 use Rattle.cs_model.specs.Lists.{◌∈◌}
@@ -42,17 +43,18 @@ module _ (S : Shape) (F : Formats) (format : IsFormat S F) (img : ℕ → Page) 
 
   faulty : (pointers generations : ℕ → ℕ) (l : Locator) (f : Refusal)
       → (opening_in S F img pointers generations).damage l ≡ Some f
-      → F.fault ChunkFrame (pages_from S F img l.extent l.page (limit_in S F pointers generations l - l.page)) ≡ Some f
+      → fault_for S F ChunkFrame l.mark (pages_from S F img l.extent l.page (limit_in S F pointers generations l - l.page)) ≡ Some f
   faulty pointers generations l f is = when _ _ f is
 
-  -- where a frame stands no superblock that lets it reach so far tells a fault
+  -- where the frame stands that is meant no superblock that lets it reach so far tells a fault
   not_faulty : (pointers generations : ℕ → ℕ) (l : Locator) (payload : List ℕ)
       → l.page + length (F.frame ChunkFrame payload) ≤ limit_in S F pointers generations l
       → limit_in S F pointers generations l ≤ S.pages → Stand S F img l.extent l.page (F.frame ChunkFrame payload)
-      → F.fault ChunkFrame (pages_from S F img l.extent l.page (limit_in S F pointers generations l - l.page)) ≡ None
-  not_faulty pointers generations l payload within low stand =
-      format.no_fault img l.extent l.page (limit_in S F pointers generations l - l.page) ChunkFrame payload
-      (omega arith) (omega arith) stand
+      → is_meant S l.mark (F.frame ChunkFrame payload) ≡ true
+      → fault_for S F ChunkFrame l.mark (pages_from S F img l.extent l.page (limit_in S F pointers generations l - l.page)) ≡ None
+  not_faulty pointers generations l payload within low stand meant =
+      none_for S F format img l.extent l.page (limit_in S F pointers generations l - l.page) ChunkFrame payload l.mark
+      (omega arith) (omega arith) stand meant
 
   module _ (fits : (e : ℕ) → p e ≤ S.pages) (also : (e : ℕ) → q e ≤ S.pages) where
     same_reading : (ls : List Locator) (v w : Content)
@@ -68,13 +70,13 @@ module _ (S : Shape) (F : Formats) (format : IsFormat S F) (img : ℕ → Page) 
         ∙ sym b.4
     same_reading (l ∷ ls) v w same (inl a) (inr b) = absurd
         (let e : None ≡ Some b.0 = sym (not_faulty q k l a.0 (le_trans a.2.within (le_of_eq (same l (inl refl))))
-        (limit_low S F q k also l) a.2.stand) ∙ faulty q k l b.0 b.1 in cc)
+        (limit_low S F q k also l) a.2.stand a.2.marked) ∙ faulty q k l b.0 b.1 in cc)
     same_reading (l ∷ ls) v w same (inr a) (inl b) = absurd
         (let e : None ≡ Some a.0 = sym (not_faulty p g l b.0 (le_trans b.2.within (le_of_eq (sym (same l (inl refl)))))
-        (limit_low S F p g fits l) b.2.stand) ∙ faulty p g l a.0 a.1 in cc)
+        (limit_low S F p g fits l) b.2.stand b.2.marked) ∙ faulty p g l a.0 a.1 in cc)
     same_reading (l ∷ ls) v w same (inr a) (inr b) =
         let one : a.0 ≡ b.0 = (let e : Some a.0 ≡ Some b.0 = sym (faulty p g l a.0 a.1)
-        ∙ ap (λ (n : ℕ). F.fault ChunkFrame (pages_from S F img l.extent l.page (n - l.page))) (same l (inl refl))
+        ∙ ap (λ (n : ℕ). fault_for S F ChunkFrame l.mark (pages_from S F img l.extent l.page (n - l.page))) (same l (inl refl))
         ∙ faulty q k l b.0 b.1 in cc) in a.2 ∙ ap Damaged one ∙ sym b.2
 
     same_value : (o : Option (List Locator)) (v w : Option Content)

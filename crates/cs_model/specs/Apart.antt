@@ -8,6 +8,7 @@ use Rattle.cs_model.specs.Extents.{Extents, ForMerge, ForMove, ForRun, emptied, 
 use Rattle.cs_model.specs.Formats.{ChunkFrame, Formats}
 use Rattle.cs_model.specs.Index.{entries_of, live_at}
 use Rattle.cs_model.specs.Lists.{nth, replaced, ◌∈◌}
+use Rattle.cs_model.specs.Meant.{same_mark}
 use Rattle.cs_model.specs.Merges.{MergesPart, deletions_go, stage_takes}
 use Rattle.cs_model.specs.Refusal.{Refusal}
 use Rattle.cs_model.specs.State.{State, index_now}
@@ -48,7 +49,8 @@ named pointer runs e = if nat_lt 0 (lives_on e (entries_of runs)) || any_run_on 
 
 -- two locators are one
 abbrev pub same_place : Locator → Locator → Bool
-same_place k l = (k.extent == l.extent) && ((k.page == l.page) && (k.generation == l.generation))
+same_place k l = same_mark k.mark l.mark
+    && ((k.extent == l.extent) && ((k.page == l.page) && (k.generation == l.generation)))
 
 -- there is a locator, and it is l
 abbrev pub is_place : Option Locator → Locator → Bool

@@ -1,6 +1,6 @@
 -- What is staged with a frame.
 use Rattle.std.specs.Prelude.{◌≡◌, ◌≢◌, ◌⊎◌, ◌+◌, ◌<◌, ◌≤◌, ◌∷◌, ℕ, suc, Bool, false, List, length, Option, []}
-use Rattle.cs_model.specs.Device.{Page, Shape}
+use Rattle.cs_model.specs.Device.{Page, Shape, mark_of}
 use Rattle.cs_model.specs.Element.{Entry, Locator, Run, Superblock, superblocks_of}
 use Rattle.cs_model.specs.Extents.{Extents, ForPut, Goes, Purpose, noted_by, open_after}
 use Rattle.cs_model.specs.Formats.{ChunkFrame, Formats, FrameKind, RunFrame}
@@ -42,6 +42,15 @@ module _ (S : Shape) where
   appended_by apart purpose w e need bs = noting apart purpose w.extents e (length bs)
       (happens S (stage_pages w e (w.extents.pointer e) bs) (StageSuperblock (S.section e) need))
 
+  -- the locator of a frame of these pages that begins at the pointer of e
+  abbrev pub next_locator : World → (e : ℕ) → List Page → Locator
+  next_locator w e bs = record {
+    extent = e;
+    page = w.extents.pointer e;
+    generation = w.extents.generation e;
+    mark = mark_of S bs;
+  }
+
   -- a frame of these pages is appended, and l is where it begins
   pub record AppendBy (apart : Bool) (w : World) (purpose : Purpose) (bs : List Page) (l : Locator)
       (v : World) : Type 0 where
@@ -49,7 +58,7 @@ module _ (S : Shape) where
     pub need : ℕ
     pub placed : Goes S apart w.extents purpose (length bs) extent
     pub needs : IsNeed w (S.section extent) need
-    pub at : l ≡ record { extent = extent; page = w.extents.pointer extent; generation = w.extents.generation extent }
+    pub at : l ≡ next_locator w extent bs
     pub after : v ≡ appended_by apart purpose w extent need bs
 
   abbrev pub Append : World → Purpose → List Page → Locator → World → Type 0

@@ -1,5 +1,6 @@
 -- The device: its pages, what lies on each, and the limits of a store.
 use Rattle.std.specs.Prelude.{◌≡◌, ◌+◌, ◌<◌, ◌≤◌, ℕ, Bool, true, false, List}
+use Rattle.cs_model.specs.Meant.{FitsBy, Mark, are_marked, first_by, same_mark}
 
 -- the bytes of a page
 abbrev pub Page : Type 0
@@ -31,6 +32,9 @@ pub record Shape : Type 0 where
   pub run_extents : ℕ
   -- an extent that was found with pages is filled up behind them, and a frame that begins among them ends there
   pub fills : Bool
+  -- the mark of the frame whose first page this is, which a locator of it has, and the greatest mark
+  pub mark : Page → Mark
+  pub greatest_mark : ℕ
   -- what is written to a page; the pages of the root and of the sections
   pub kind : ℕ → PageKind
   pub root_page : ℕ
@@ -55,9 +59,20 @@ pub record Shape : Type 0 where
 abbrev pub Inside : Shape → ℕ → ℕ → Type 0
 Inside S e i = (e < S.extents) × (i < S.pages)
 
+-- a mark that can be
+abbrev pub FitsMark : Shape → Mark → Type 0
+FitsMark S m = FitsBy are_marked S.greatest_mark m
+
+-- the mark of a frame of these pages; such a frame is the one that a locator of this mark means
+abbrev pub mark_of : Shape → List Page → Mark
+mark_of S pages = first_by are_marked S.mark pages
+
+abbrev pub is_meant : Shape → Mark → List Page → Bool
+is_meant S m pages = same_mark (mark_of S pages) m
+
 -- no two things lie on one page, a shard can be put, and a root may have as many runs as Stage leaves; where chunks and
 -- runs lie apart a hidden entry may name what is gone, a Stage merges by sizes, and extents are left for both; only there is
--- an extent filled up
+-- an extent filled up; and each page's mark can be
 pub record IsShape (S : Shape) : Type 0 where
   pub root_kind : S.kind S.root_page ≡ RootPage
   pub section_kind : (j : ℕ) → j < S.sections → S.kind (S.section_page j) ≡ SectionPage j
@@ -73,6 +88,7 @@ pub record IsShape (S : Shape) : Type 0 where
   pub apart : S.apart ≡ true → (S.hidden_stand ≡ false) × (S.by_size ≡ true)
       × (1 ≤ S.run_extents) × (S.run_extents + 2 ≤ S.extents)
   pub fills : S.fills ≡ true → S.apart ≡ true
+  pub marks : (p : Page) → FitsMark S (S.mark p)
 
 -- a page of the device as one generation of its extent has it
 pub record Place : Type 0 where

@@ -1,6 +1,7 @@
 -- What is staged: plain writes, versions of the superblock's sections and of the root.
 use Rattle.std.specs.Prelude.{◌≡◌, ◌<◌, ◌∷◌, ℕ, Bool, List, Option, []}
 use Rattle.cs_model.specs.Device.{Page}
+use Rattle.cs_model.specs.Meant.{Mark}
 use Rattle.cs_model.specs.Refusal.{Refusal}
 
 -- a plain write: one page of a frame
@@ -25,11 +26,12 @@ pub record Superblock : Type 0 where
   pub writes : ℕ
   pub root : ℕ
 
--- where a frame begins, and in which generation of its extent
+-- where a frame begins, in which generation of its extent, and which one it is
 pub record Locator : Type 0 where
   pub extent : ℕ
   pub page : ℕ
   pub generation : ℕ
+  pub mark : Mark
 
 -- a copy that a sweep wrote of a chunk: of which shard, its number there, where it was read and where it was written
 pub record Copy : Type 0 where

@@ -1,10 +1,11 @@
 -- How pages are spelled, and the image of a set of elements.
-use Rattle.std.specs.Prelude.{◌≡◌, ◌-◌, ◌&&◌, ◌∷◌, ◌==◌, ℕ, zero, suc, Bool, List, Option, None, nat_le, nat_lt, [], if◌then◌else◌}
+use Rattle.std.specs.Prelude.{◌≡◌, ◌-◌, ◌&&◌, ◌∷◌, ◌==◌, ℕ, zero, suc, Bool, List, Option, Some, None, nat_le, nat_lt, [], if◌then◌else◌}
 use Rattle.cs_model.specs.Cut.{Cut, page_in}
-use Rattle.cs_model.specs.Device.{FramePage, Page, PageKind, RootPage, SectionPage, Shape}
+use Rattle.cs_model.specs.Device.{FramePage, Page, PageKind, RootPage, SectionPage, Shape, is_meant}
 use Rattle.cs_model.specs.Element.{Entry, Locator, Log, Opening, Run}
 use Rattle.cs_model.specs.Extents.{first_found, reach}
 use Rattle.cs_model.specs.Lists.{latest}
+use Rattle.cs_model.specs.Meant.{Mark}
 use Rattle.cs_model.specs.Refusal.{Refusal}
 
 -- what a frame holds: a chunk of a shard, or a run of the index
@@ -19,11 +20,18 @@ pub record Formats : Type 0 where
   pub frame : FrameKind → List ℕ → List Page
   -- why no frame of that kind stands at the head of these pages, all to which it may reach; None where one does
   pub fault : FrameKind → List Page → Option Refusal
+  -- why a frame isn't read that isn't the one which a locator means
+  pub misplaced : Refusal
   -- the payload of a run
   pub run : List Entry → List ℕ
   -- these can be spelled
   pub fits_root : (version commands : ℕ) → List Locator → Bool
   pub fits_run : List Entry → Bool
+
+-- the refusal, or this one where there is none
+abbrev pub refused_or : Option Refusal → Refusal → Refusal
+refused_or None f = f
+refused_or (Some g) f = g
 
 -- where the frames of the runs begin
 abbrev pub places : List Run → List Locator
@@ -54,6 +62,12 @@ module _ (S : Shape) (F : Formats) where
   pages_from img e i zero = []
   pages_from img e i (suc count) = img (S.address e i) ∷ pages_from img e (suc i) count
 
+  -- why no frame of that kind stands at the head of these pages that a locator of this mark means: the frame's own fault, else
+  -- that it is another one
+  abbrev pub fault_for : FrameKind → Mark → List Page → Option Refusal
+  fault_for kind m pages = if is_meant S m pages then F.fault kind pages
+      else Some (refused_or (F.fault kind pages) F.misplaced)
+
   -- how far the frame at a locator may reach, under a superblock: of another generation nothing was found
   abbrev pub limit_in : (pointers generations : ℕ → ℕ) → Locator → ℕ
   limit_in pointers generations l =
@@ -63,7 +77,7 @@ module _ (S : Shape) (F : Formats) where
   abbrev pub damage_in : (ℕ → Page) → (pointers generations : ℕ → ℕ) → Locator → Option Refusal
   damage_in img pointers generations l =
       if (generations l.extent == l.generation) && nat_lt l.page (pointers l.extent)
-      then F.fault ChunkFrame (pages_from img l.extent l.page (limit_in pointers generations l - l.page)) else None
+      then fault_for ChunkFrame l.mark (pages_from img l.extent l.page (limit_in pointers generations l - l.page)) else None
 
   -- what is known of an image, under its superblock
   abbrev pub opening_in : (ℕ → Page) → (pointers generations : ℕ → ℕ) → Opening

@@ -1,5 +1,5 @@
 -- The laws of a format.
-use Rattle.std.specs.Prelude.{◌≡◌, ◌+◌, ◌-◌, ◌<◌, ◌≤◌, ◌∷◌, ℕ, suc, true, List, length, None, if◌then◌else◌}
+use Rattle.std.specs.Prelude.{◌≡◌, ◌+◌, ◌<◌, ◌≤◌, ◌∷◌, ℕ, suc, true, List, length, None, if◌then◌else◌}
 use Rattle.cs_model.specs.Device.{Page, Shape}
 use Rattle.cs_model.specs.Element.{Entry, Locator}
 use Rattle.cs_model.specs.Formats.{Formats, FrameKind, Stand, pages_from}

@@ -1,6 +1,7 @@
 -- Where everything lies on the device, for a superblock of any number of sections.
-use Rattle.std.specs.Prelude.{◌≡◌, ◌+◌, ◌*◌, ◌-◌, ◌/◌, ◌%◌, ◌<◌, ◌≤◌, ◌==◌, ℕ, Bool, true, false, nat_le, nat_lt, if◌then◌else◌}
-use Rattle.cs_model.specs.Device.{FramePage, RootPage, SectionPage, Shape}
+use Rattle.std.specs.Prelude.{◌≡◌, ◌+◌, ◌*◌, ◌-◌, ◌/◌, ◌%◌, ◌<◌, ◌≤◌, ◌^◌, ◌==◌, ◌&&◌, ℕ, zero, suc, Bool, true, List, slice_index, nat_le, nat_lt, if◌then◌else◌}
+use Rattle.cs_model.specs.Device.{FramePage, Page, RootPage, SectionPage, Shape}
+use Rattle.cs_model.specs.Meant.{Mark, are_marked, mark_by}
 
 -- The rules that a format goes by. Where all formats go by the same one, no code goes by the other yet:
 -- up to format 2 a version of the superblock needs the page writes that it counts; in format 3 a root needs all page writes
@@ -22,6 +23,26 @@ apart_in format = nat_lt 2 format
 -- an extent that was found with pages is filled up behind them
 abbrev pub fills_in : (format : ℕ) → Bool
 fills_in format = nat_lt 2 format
+
+-- a locator has the mark of the frame that it means: where locators have marks, in format 3
+abbrev pub marks_in : (format : ℕ) → Bool
+marks_in format = are_marked && nat_lt 2 format
+
+-- the number in so many bytes from one on, high byte first
+abbrev pub number_at : (first count : ℕ) → List ℕ → ℕ
+number_at first zero bytes = 0
+number_at first (suc count) bytes = slice_index bytes first * 256 ^ count + number_at (suc first) count bytes
+
+-- the first eight bytes of the digest in the first page of a frame, as a number
+abbrev pub digest_number : Page → ℕ
+digest_number page = number_at 9 8 page % 18446744073709551616
+
+-- which is a frame's mark, and 0 in a format that has no marks
+abbrev pub mark_in : (format : ℕ) → Page → Mark
+mark_in format page = mark_by are_marked (if marks_in format then digest_number page else 0)
+
+abbrev pub greatest_mark_in : (format : ℕ) → ℕ
+greatest_mark_in format = if marks_in format then 18446744073709551615 else 0
 
 -- how many extents may hold runs where they do
 abbrev pub most_run_extents : (extents : ℕ) → ℕ
@@ -45,6 +66,8 @@ shape_of extents pages sections per_section format = record {
   apart = apart_in format;
   run_extents = most_run_extents extents;
   fills = fills_in format;
+  mark = mark_in format;
+  greatest_mark = greatest_mark_in format;
   kind = λ p. if p == 0 then SectionPage 0 else if p == 1 then RootPage
       else if nat_lt p (2 + extents * pages) then FramePage else SectionPage (p - (1 + extents * pages));
   root_page = 1;

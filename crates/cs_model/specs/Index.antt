@@ -1,6 +1,6 @@
 -- The index: entries of identifiers, the table over the runs, and what they give of an image.
 use Rattle.std.specs.Prelude.{◌≡◌, ◌≢◌, ◌⊎◌, ◌+◌, ◌<◌, ◌≤◌, ◌∷◌, ◌++◌, ◌==◌, ℕ, suc, true, List, length, Option, Some, None, is_some, [], if◌then◌else◌}
-use Rattle.cs_model.specs.Device.{Inside, Page, Shape}
+use Rattle.cs_model.specs.Device.{FitsMark, Inside, Page, Shape, is_meant}
 use Rattle.cs_model.specs.Element.{Bytes, Content, Damaged, Entry, Locator, Map, Opening, Run}
 use Rattle.cs_model.specs.Formats.{ChunkFrame, Formats, RunFrame, Stand}
 use Rattle.cs_model.specs.Lists.{nth, ◌∈◌}
@@ -75,9 +75,9 @@ pub record InBounds (S : Shape) (version commands runs : ℕ) (entries : List En
   pub named : names entries ≤ S.most_names
   pub chunks_fit : (id : ℕ) → length (live (lookup id entries)) ≤ S.most_chunks
 
--- an extent and a page that are there, and a generation that can be
+-- an extent and a page that are there, and a generation and a mark that can be
 abbrev pub InRange : Shape → Locator → Type 0
-InRange S l = Inside S l.extent l.page × (l.generation ≤ S.greatest_generation)
+InRange S l = Inside S l.extent l.page × (l.generation ≤ S.greatest_generation) × FitsMark S l.mark
 
 -- the entries of a run
 pub record IsRunList (S : Shape) (entries : List Entry) : Type 0 where
@@ -94,11 +94,12 @@ after chunk (Damaged f) = Damaged f
 
 module _ (S : Shape) (F : Formats) where
   module _ (img : ℕ → Page) (pointers generations : ℕ → ℕ) where
-    -- the locator's generation is its extent's, and its page is there and lies below the pointer
+    -- the locator's generation is its extent's, its page is there and lies below the pointer, and its mark can be
     pub record Passes (l : Locator) : Type 0 where
       pub generation : generations l.extent ≡ l.generation
       pub below : l.page < pointers l.extent
       pub inside : Inside S l.extent l.page
+      pub mark : FitsMark S l.mark
 
     -- each locator of an entry passes
     abbrev pub AllPass : Option (List Locator) → Type 0
@@ -108,7 +109,7 @@ module _ (S : Shape) (F : Formats) where
   -- opening: what is known of the image at open
   module _ (opening : Opening) (img : ℕ → Page) (pointers generations : ℕ → ℕ) where
     -- a frame of these pages lies there, below the pointer, or in an extent that isn't written before it is reset; it
-    -- reaches no further than it may
+    -- reaches no further than it may, and it is the one that the locator means
     pub record Reads (l : Locator) (bs : List Page) : Type 0 where
       pub passes : Passes img pointers generations l
       pub below : (l.page + length bs ≤ pointers l.extent)
@@ -116,6 +117,7 @@ module _ (S : Shape) (F : Formats) where
       pub inside : l.page + length bs ≤ S.pages
       pub within : l.page + length bs ≤ opening.limit l
       pub stand : Stand S F img l.extent l.page bs
+      pub marked : is_meant S l.mark bs ≡ true
 
     -- each locator has a frame of that chunk
     abbrev pub Chunks : List Locator → List (List ℕ) → Type 0

@@ -21,6 +21,7 @@ pub mod Index
 pub mod Lists
 pub mod Local
 pub mod Machine
+pub mod Meant
 pub mod Merges
 pub mod Numbers
 pub mod Open

@@ -5,7 +5,7 @@ use Rattle.cs_model.specs.Device.{Page, Shape}
 use Rattle.cs_model.specs.Disk.{applied, kept_of, page_writes}
 use Rattle.cs_model.specs.Element.{Copy, Element, Locator, Opening, Root, Run, log_of, roots_of}
 use Rattle.cs_model.specs.Events.{IsFrontier, ReadsNow, newest_page}
-use Rattle.cs_model.specs.Formats.{ChunkFrame, Formats, image, limit_in, pages_from}
+use Rattle.cs_model.specs.Formats.{ChunkFrame, Formats, fault_for, image, limit_in, pages_from}
 use Rattle.cs_model.specs.Index.{Gives, InBounds, NoneDamaged}
 use Rattle.cs_model.specs.Distinct.{AreDistinct}
 use Rattle.cs_model.specs.Lists.{◌∈◌}
@@ -74,7 +74,7 @@ module _ (S : Shape) (F : Formats) where
     -- a chunk that is known as damaged is so in the image at open, where each page to which it may reach is frozen
     pub damaged : (l : Locator) (f : Refusal) → s.opening.damage l ≡ Some f → (l.page < s.opening.limit l)
         × ((i : ℕ) → i < s.opening.limit l → s.opening.frozen l.extent i l.generation ≡ true)
-        × (F.fault ChunkFrame (pages_from S F s.opened l.extent l.page (s.opening.limit l - l.page)) ≡ Some f)
+        × (fault_for S F ChunkFrame l.mark (pages_from S F s.opened l.extent l.page (s.opening.limit l - l.page)) ≡ Some f)
     pub shown : (l : Locator) → s.opening.pages l ≡ pages_from S F s.opened l.extent l.page (s.opening.limit l - l.page)
     -- there each frame may reach to the end of its extent
     pub unfilled : S.fills ≡ false → (l : Locator) → s.opening.limit l ≡ S.pages

@@ -5,7 +5,7 @@ ghost use Rattle.cs_model.specs.Device.{Inside, IsShape, Page, Place, Shape};
 ghost use Rattle.cs_model.specs.Element.{A_write, Locator, Map, Opening, Root, Write, roots_of, writes_of};
 ghost use Rattle.cs_model.specs.Events.{newest_page};
 ghost use Rattle.cs_model.specs.Extents.{Purpose, reach};
-ghost use Rattle.cs_model.specs.Formats.{ChunkFrame, Formats, FrameKind, Stand, pages_from};
+ghost use Rattle.cs_model.specs.Formats.{ChunkFrame, Formats, FrameKind, Stand, fault_for, pages_from};
 ghost use Rattle.cs_model.specs.Frames.{IsFormat, IsFrameFormat};
 ghost use Rattle.cs_model.specs.Guard.{Covers};
 ghost use Rattle.cs_model.specs.Index.{Passes, Reads};
@@ -49,7 +49,7 @@ pub fn what_was_there_at_open_stays()
     ensures damage { (S : Shape) (F : Formats) (s : State) (l : Locator) (f : Refusal) → IsShape S → Sound S F s
         → s.opening.damage l ≡ Some f
         → Passes S F (newest_page s) s.world.extents.pointer s.world.extents.generation l
-        → F.fault ChunkFrame (pages_from S F (newest_page s) l.extent l.page
+        → fault_for S F ChunkFrame l.mark (pages_from S F (newest_page s) l.extent l.page
         (reach S (s.world.extents.found l.extent) l.page - l.page)) ≡ Some f }
     // Nor does a frame reach from among the pages that were found past their end.
     ensures within { (S : Shape) (F : Formats) (s : State) (l : Locator) (bs : List Page) → Sound S F s
