@@ -2,7 +2,7 @@
 use Rattle.std.proofs.Common.{◌≡◌, inl, inr, ⊎_elim, ℕ, suc, ◌<◌, ◌≤◌, ◌+◌, List, [], ◌∷◌, ◌++◌, length, refl, sym, ap, ◌∙◌, subst, arith}
 use Rattle.cs_model.specs.Device.{Page, Shape}
 use Rattle.cs_model.specs.Element.{Copy, Locator, Opening}
-use Rattle.cs_model.specs.Formats.{ChunkFrame, Formats}
+use Rattle.cs_model.specs.Formats.{ChunkFrame, Formats, fault_for}
 use Rattle.cs_model.specs.Index.{Reads}
 use Rattle.cs_model.specs.Lists.{◌∈◌}
 use Rattle.cs_room.specs.OfMachine.{AreChunksOf, HasPages, copied_to}
@@ -18,11 +18,13 @@ module _ (S : Shape) (F : Formats) where
       generation = generation ∙ r.passes.generation;
       below = (let lt : l.page < p l.extent = r.passes.below in omega arith);
       inside = r.passes.inside;
+      mark = r.passes.mark;
     };
     below = ⊎_elim (λ le. inl (subst (λ (n : ℕ). l.page + length bs ≤ n) (sym pointer) le)) (λ is. inr is) r.below;
     inside = r.inside;
     within = r.within;
     stand = r.stand;
+    marked = r.marked;
   }
 
   module _ (one two : Opening) (img other : ℕ → Page) (p g q h : ℕ → ℕ) where
@@ -34,7 +36,7 @@ module _ (S : Shape) (F : Formats) where
     pages_move l n damage pages reads (inr bad) = inr (
       bad.0,
       sym damage ∙ bad.1,
-      (λ on more. ap (λ (bs : List Page). F.fault ChunkFrame (bs ++ more)) (sym pages) ∙ bad.2 on more),
+      (λ on more. ap (λ (bs : List Page). fault_for S F ChunkFrame l.mark (bs ++ more)) (sym pages) ∙ bad.2 on more),
       bad.3,
     )
 

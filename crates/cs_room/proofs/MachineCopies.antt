@@ -1,6 +1,7 @@
 -- A MoveOne of the machine is one of room.
 use Rattle.std.proofs.Common.{◌≡◌, inl, inr, ℕ, ◌+◌, ◌<◌, ◌≤◌, ◌==◌, Bool, true, false, List, [], ◌∷◌, ◌++◌, length, Option, Some, None, if◌then◌else◌, refl, sym, ap, ◌∙◌, subst, arith}
 use Rattle.std.proofs.lemmas.Bool.{cases_Bool, cases_eq, eqb-true}
+use Rattle.cs_model.proofs.Meant.{one_place}
 use Rattle.cs_model.proofs.ApartResets.{swept_below}
 use Rattle.cs_model.proofs.Bounds.{not_first, not_found}
 use Rattle.cs_model.proofs.Carries.{and_left, and_right, carry_reads}
@@ -9,7 +10,7 @@ use Rattle.cs_model.proofs.Frames.{Added, added}
 use Rattle.cs_model.proofs.Keeps.{steps}
 use Rattle.cs_model.proofs.Needs.{after_extents_by}
 use Rattle.cs_model.proofs.Rules.{apart_rule}
-use Rattle.cs_model.specs.Apart.{FirstLeft, any_below, any_swept}
+use Rattle.cs_model.specs.Apart.{FirstLeft, any_below, any_swept, same_place}
 use Rattle.cs_model.specs.Append.{AppendBy}
 use Rattle.cs_model.specs.Device.{IsShape, Page, Shape}
 use Rattle.cs_model.specs.Element.{Copy, Locator, Opening}
@@ -35,15 +36,10 @@ use Rattle.cs_room.specs.Rooms.{Chunk, Room, Sweep}
 
 pub copy_is : (c : Copy) (id k : ℕ) (l : Locator) → is_copy_of c id k l ≡ true → (c.id ≡ id) × (c.chunk ≡ k) × (c.from ≡ l)
 copy_is c id k l is =
-    let rest = and_right (c.id == id) _ is in
-    let place = and_right (c.chunk == k) _ rest in
-    let more = and_right (c.from.extent == l.extent) _ place in
-    let e : c.from.extent ≡ l.extent = eqb-true _ _ (and_left (c.from.extent == l.extent) _ place) in
-    let p : c.from.page ≡ l.page = eqb-true _ _ (and_left (c.from.page == l.page) _ more) in
-    let g : c.from.generation ≡ l.generation = eqb-true _ _ (and_right (c.from.page == l.page) _ more) in (
+    let rest = and_right (c.id == id) _ is in (
       eqb-true _ _ (and_left (c.id == id) _ is),
       eqb-true _ _ (and_left (c.chunk == k) _ rest),
-      λ i. record { extent = e i; page = p i; generation = g i },
+      one_place c.from l (and_right (c.chunk == k) (same_place c.from l) rest),
     )
 
 -- what isn't copied has no copy

@@ -12,7 +12,7 @@ use Rattle.cs_model.proofs.Unique.{same_entries}
 use Rattle.cs_model.specs.Cut.{Cut, Exact, Within, held_by, page_in, section_of}
 use Rattle.cs_model.specs.Device.{Inside, IsShape, Page, Shape}
 use Rattle.cs_model.specs.Element.{Entry, Locator, Map, Opening, Root as StagedRoot, Run, Write, log_of, writes_of}
-use Rattle.cs_model.specs.Formats.{ChunkFrame, Formats, RunFrame, image, limit_in, opening_in, pages_from, places}
+use Rattle.cs_model.specs.Formats.{ChunkFrame, Formats, RunFrame, image, limit_in, opening_in, pages_from, places, fault_for}
 use Rattle.cs_model.specs.Frames.{IsFormat}
 use Rattle.cs_model.specs.Guard.{page_as_staged}
 use Rattle.cs_model.specs.Index.{Passes, Reads, entries_of, live_at}
@@ -159,7 +159,7 @@ module _ (S : Shape) (F : Formats) (shape : IsShape S) (format : IsFormat S F) (
         (λ on. ⊎_elim (λ (below : l.page + length bs ≤ given.pointers l.extent).
         subst (λ (n : ℕ). l.page + length bs ≤ n) (pointers_agree l.extent pass.inside.0) below)
         (λ (fz : (i : ℕ) → s.opening.frozen l.extent i l.generation ≡ true). absurd
-        (true≢false (sym (fz S.pages) ∙ thawed on l.extent l.generation))) r.below) r.inside r.stand
+        (true≢false (sym (fz S.pages) ∙ thawed on l.extent l.generation))) r.below) r.inside r.stand r.marked
 
     -- a chunk that was found damaged is so still, by the pages to which its frame might reach and more
     module _ (id : ℕ) (l : Locator) (there : l ∈ live_at (entries_of q.runs) id) (f : Refusal)
@@ -234,15 +234,15 @@ module _ (S : Shape) (F : Formats) (shape : IsShape S) (format : IsFormat S F) (
           ∙ pages_found l.extent l.page (s.opening.limit l - l.page) (s.opening.limit l) fz some pass.inside.0 (omega arith)
           (omega arith) ∙ sym (sound.shown l)
 
-      damaged_still : (b : Bool) → S.fills ≡ b → (S.fills ≡ true → Lasts F s.opening l f) → opening.damage l ≡ Some f
+      damaged_still : (b : Bool) → S.fills ≡ b → (S.fills ≡ true → Lasts S F s.opening l f) → opening.damage l ≡ Some f
       damaged_still true on lasts = damage_here S F img gives.pointers gives.generations l pass
-          ∙ ap (F.fault ChunkFrame) pages_are ∙ lasts on more
+          ∙ ap (fault_for S F ChunkFrame l.mark) pages_are ∙ lasts on more
       damaged_still false off lasts = damage_here S F img gives.pointers gives.generations l pass
-          ∙ ap (F.fault ChunkFrame) (alone off ∙ sound.shown l) ∙ (sound.damaged l f bad).2
+          ∙ ap (fault_for S F ChunkFrame l.mark) (alone off ∙ sound.shown l) ∙ (sound.damaged l f bad).2
 
-      lasts_still : Lasts F s.opening l f → Lasts F opening l f
-      lasts_still lasts others = ap (λ (bs : List Page). F.fault ChunkFrame (bs ++ others)) pages_are
-          ∙ ap (F.fault ChunkFrame) (append_assoc (s.opening.pages l) more others) ∙ lasts (more ++ others)
+      lasts_still : Lasts S F s.opening l f → Lasts S F opening l f
+      lasts_still lasts others = ap (λ (bs : List Page). fault_for S F ChunkFrame l.mark (bs ++ others)) pages_are
+          ∙ ap (fault_for S F ChunkFrame l.mark) (append_assoc (s.opening.pages l) more others) ∙ lasts (more ++ others)
 
     has_pages : (id : ℕ) (l : Locator) (k : ℕ) → l ∈ live_at (entries_of q.runs) id
         → HasPages S F s.opening staged_page q.pointers q.generations l k

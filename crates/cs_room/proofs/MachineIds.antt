@@ -1,9 +1,10 @@
 -- The chunks of one identifier.
 use Rattle.std.proofs.Common.{◌≡◌, ◌≢◌, ◌⊎◌, inl, inr, ℕ, suc, ◌<◌, ◌==◌, ◌&&◌, not, Bool, true, false, List, [], ◌∷◌, ◌++◌, length, Option, Some, None, if◌then◌else◌, eq-eqb, refl, sym, ap, ◌∙◌, subst}
 use Rattle.std.proofs.lemmas.Bool.{cases_Bool, eqb-true, ne_eqb, true≢false}
+use Rattle.cs_model.proofs.Meant.{one_place}
 use Rattle.cs_model.proofs.ApartResets.{swept_below}
-use Rattle.cs_model.proofs.Carries.{and_left, and_right}
-use Rattle.cs_model.specs.Apart.{any_below, any_swept}
+use Rattle.cs_model.proofs.Carries.{and_right}
+use Rattle.cs_model.specs.Apart.{any_below, any_swept, same_place}
 use Rattle.cs_model.specs.Device.{Page, Shape}
 use Rattle.cs_model.specs.Element.{Copy, Locator, Opening}
 use Rattle.cs_model.specs.Extents.{one_if}
@@ -73,8 +74,8 @@ not_copied [] id k l none = refl
 not_copied (c ∷ copies) id k l none =
     let rest : copied_to copies id k l ≡ None = not_copied copies id k l (λ x there. none x (inr there)) in
     let test : is_copy_of c id k l ≡ false = elim (cases_Bool (is_copy_of c id k l)) [
-      | inl on ↦ absurd (none c (inl refl) (eqb-true c.from.extent l.extent
-          (and_left (c.from.extent == l.extent) _ (and_right (c.chunk == k) _ (and_right (c.id == id) _ on)))))
+      | inl on ↦ absurd (none c (inl refl) (ap (λ (x : Locator). x.extent) (one_place c.from l
+          (and_right (c.chunk == k) (same_place c.from l) (and_right (c.id == id) _ on)))))
       | inr off ↦ off
     ] in ap (λ (o : Option ℕ). either_of o (if is_copy_of c id k l then Some c.to.extent else None)) rest
     ∙ ap (λ (b : Bool). if b then Some c.to.extent else None) test

@@ -2,6 +2,9 @@
 use Rattle.std.proofs.Common.{◌≡◌, ◌≢◌, inl, inr, ℕ, zero, suc, ◌+◌, ◌<◌, ◌≤◌, ◌==◌, not, Bool, true, false, List, [], ◌∷◌, ◌++◌, Option, Some, None, if◌then◌else◌, eq-eqb, refl, sym, ap, ◌∙◌, subst, arith}
 use Rattle.std.proofs.lemmas.Bool.{cases_Bool, cases_eq, eqb-true, ne_eqb, true≢false}
 use Rattle.std.proofs.lemmas.List.{append_assoc}
+use Rattle.cs_model.specs.Apart.{same_place}
+use Rattle.cs_model.proofs.Carries.{and_true}
+use Rattle.cs_model.proofs.Meant.{own_place}
 use Rattle.cs_model.proofs.Filled.{may_fill}
 use Rattle.cs_model.specs.Device.{Page, Shape}
 use Rattle.cs_model.specs.Element.{Copy, Locator, Opening}
@@ -254,7 +257,5 @@ pub this_copy : (c : Copy) (id k : ℕ) (l : Locator) → c.id ≡ id → c.chun
 this_copy c id k l a b is =
     let one : (c.id == id) ≡ true = eq-eqb c.id id a in
     let two : (c.chunk == k) ≡ true = eq-eqb c.chunk k b in
-    let e : (c.from.extent == l.extent) ≡ true = eq-eqb c.from.extent l.extent (ap (λ (y : Locator). y.extent) is) in
-    let p : (c.from.page == l.page) ≡ true = eq-eqb c.from.page l.page (ap (λ (y : Locator). y.page) is) in
-    let g : (c.from.generation == l.generation) ≡ true =
-    eq-eqb c.from.generation l.generation (ap (λ (y : Locator). y.generation) is) in rw (one, two, e, p, g) refl
+    let from : same_place c.from l ≡ true = own_place c.from l is in
+    and_true (c.id == id) _ one (and_true (c.chunk == k) (same_place c.from l) two from)

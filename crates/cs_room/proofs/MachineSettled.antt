@@ -1,8 +1,9 @@
 -- What a sweep copied counts in the machine as in its room.
 use Rattle.std.proofs.Common.{◌≡◌, inl, inr, ℕ, zero, suc, ◌+◌, ◌==◌, Bool, true, false, List, [], ◌∷◌, ◌++◌, Option, Some, None, if◌then◌else◌, eq-eqb, refl, sym, ap, ◌∙◌, subst, arith}
 use Rattle.std.proofs.lemmas.Bool.{cases_eq, ne_eqb, true≢false}
+use Rattle.cs_model.proofs.Meant.{own_place}
 use Rattle.cs_model.proofs.ApartMoving.{place_is}
-use Rattle.cs_model.specs.Apart.{is_place, same_place, settle_all}
+use Rattle.cs_model.specs.Apart.{is_place, settle_all}
 use Rattle.cs_model.specs.Element.{Copy, Locator}
 use Rattle.cs_model.specs.Index.{entries_of, live_at}
 use Rattle.cs_model.specs.Lists.{nth, replaced}
@@ -73,16 +74,9 @@ map_replaced f k (suc j) (l ∷ ls) x =
     rw off (ap (λ (xs : List Locator). f k l ∷ xs) (map_replaced f (suc k) j ls x
     ∙ ap (λ (n : ℕ). map_from (λ i y. if i == n then x else f i y) (suc k) ls) at))
 
-same_place_there : (a b : Locator) → a ≡ b → same_place a b ≡ true
-same_place_there a b is =
-    let e : (a.extent == b.extent) ≡ true = eq-eqb a.extent b.extent (ap (λ (y : Locator). y.extent) is) in
-    let p : (a.page == b.page) ≡ true = eq-eqb a.page b.page (ap (λ (y : Locator). y.page) is) in
-    let g : (a.generation == b.generation) ≡ true = eq-eqb a.generation b.generation
-    (ap (λ (y : Locator). y.generation) is) in rw (e, p, g) refl
-
 is_place_there : (o : Option Locator) (l : Locator) → o ≡ Some l → is_place o l ≡ true
 is_place_there None l wrong = absurd (let no : None ≡ Some l = wrong in cc)
-is_place_there (Some k) l is = same_place_there k l (let same : k ≡ l = cc in same)
+is_place_there (Some k) l is = own_place k l (let same : k ≡ l = cc in same)
 
 module _ (s : State) where
   -- where the chunks lie once copies count

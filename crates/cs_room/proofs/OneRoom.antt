@@ -5,7 +5,7 @@ use Rattle.cs_model.proofs.LocalRecovery.{live_passes}
 use Rattle.cs_model.proofs.Unique.{same_entries}
 use Rattle.cs_model.specs.Device.{IsShape, Page, Shape}
 use Rattle.cs_model.specs.Element.{Entry, Locator, Map, Opening}
-use Rattle.cs_model.specs.Formats.{ChunkFrame, Formats, limit_in, opening_in, pages_from, places}
+use Rattle.cs_model.specs.Formats.{ChunkFrame, Formats, limit_in, opening_in, pages_from, places, fault_for}
 use Rattle.cs_model.specs.Frames.{IsFormat}
 use Rattle.cs_model.specs.Index.{Passes, entries_of, live_at}
 use Rattle.cs_model.specs.Lists.{◌∈◌}
@@ -65,14 +65,14 @@ module _ (S : Shape) (F : Formats) (shape : IsShape S) (format : IsFormat S F) (
         payload,
         reads_own S F img other.pointers other.generations l (F.frame ChunkFrame payload) pass
             (λ on. le_trans reads.within (le_of_eq (limit_here S F img gives.pointers gives.generations l here on
-            ∙ pointers_agree l.extent here.inside.0))) reads.inside reads.stand,
+            ∙ pointers_agree l.extent here.inside.0))) reads.inside reads.stand reads.marked,
         size,
       )
       go (inr (f, bad, lasts, none)) = inr (
         f,
-        damage_here S F img other.pointers other.generations l pass ∙ ap (F.fault ChunkFrame) (sym pages)
+        damage_here S F img other.pointers other.generations l pass ∙ ap (fault_for S F ChunkFrame l.mark) (sym pages)
             ∙ sym (damage_here S F img gives.pointers gives.generations l here) ∙ bad,
-        (λ on more. ap (λ (bs : List Page). F.fault ChunkFrame (bs ++ more)) (sym pages) ∙ lasts on more),
+        (λ on more. ap (λ (bs : List Page). fault_for S F ChunkFrame l.mark (bs ++ more)) (sym pages) ∙ lasts on more),
         none,
       )
 

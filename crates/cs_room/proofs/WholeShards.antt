@@ -1,5 +1,6 @@
 -- Where no shard is damaged no chunk that lives is.
 use Rattle.std.proofs.Common.{◌≡◌, ◌≢◌, inl, inr, ℕ, ◌+◌, ◌-◌, ◌≤◌, List, [], ◌∷◌, length, Option, Some, None, sym, ap, ◌∙◌, subst, arith}
+use Rattle.cs_model.proofs.Meant.{none_for}
 use Rattle.cs_model.proofs.Frozen.{damage_stays, reach_fits, reach_now, within_now}
 use Rattle.cs_model.specs.Device.{IsShape, Page, Shape}
 use Rattle.cs_model.specs.Element.{Content, Damaged, Locator, Opening}
@@ -41,6 +42,6 @@ module _ (S : Shape) (F : Formats) where
       let reach : l.page + length (F.frame ChunkFrame found.0) ≤ reach_now S F s sound l =
       within_now S F s sound l (F.frame ChunkFrame found.0) found.1 in
       let end : reach_now S F s sound l ≤ S.pages = reach_fits S F s sound l in
-      let none : None ≡ Some f = sym (format.no_fault (newest_page s) l.extent l.page (reach_now S F s sound l - l.page)
-      ChunkFrame found.0 (omega arith) (omega arith) found.1.stand)
+      let none : None ≡ Some f = sym (none_for S F format (newest_page s) l.extent l.page (reach_now S F s sound l - l.page)
+      ChunkFrame found.0 l.mark (omega arith) (omega arith) found.1.stand found.1.marked)
       ∙ damage_stays S F shape s sound l f bad found.1.passes in cc

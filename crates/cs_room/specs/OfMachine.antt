@@ -6,7 +6,7 @@ use Rattle.cs_model.specs.Device.{Page, Shape}
 use Rattle.cs_model.specs.Element.{Copy, Entry, Locator, Map, Opening, Run}
 use Rattle.cs_model.specs.Events.{Chunked, newest_page}
 use Rattle.cs_model.specs.Extents.{Extents, MayFill}
-use Rattle.cs_model.specs.Formats.{ChunkFrame, Formats, RunFrame, opening_in}
+use Rattle.cs_model.specs.Formats.{ChunkFrame, Formats, RunFrame, opening_in, fault_for}
 use Rattle.cs_model.specs.Index.{IsRunList, Reads, entries_of, live_at}
 use Rattle.cs_model.specs.Lists.{◌∈◌}
 use Rattle.cs_model.specs.Recovery.{Recovers}
@@ -99,8 +99,8 @@ IsPut (Put id bytes) = Unit {0}
 IsPut event = ⊥
 
 -- what is told of the chunk at a locator as damaged is told so whatever pages follow those that were found
-abbrev pub Lasts : Formats → Opening → Locator → Refusal → Type 0
-Lasts F opening l f = (more : List Page) → F.fault ChunkFrame (opening.pages l ++ more) ≡ Some f
+abbrev pub Lasts : Shape → Formats → Opening → Locator → Refusal → Type 0
+Lasts S F opening l f = (more : List Page) → fault_for S F ChunkFrame l.mark (opening.pages l ++ more) ≡ Some f
 
 module _ (S : Shape) (F : Formats) where
   module _ (opening : Opening) (img : ℕ → Page) (pointers generations : ℕ → ℕ) where
@@ -110,7 +110,7 @@ module _ (S : Shape) (F : Formats) where
     HasPages l n =
         ((payload : List ℕ) × Reads S F opening img pointers generations l (F.frame ChunkFrame payload)
         × (n ≡ length (F.frame ChunkFrame payload)))
-        ⊎ ((f : Refusal) × (opening.damage l ≡ Some f) × (S.fills ≡ true → Lasts F opening l f) × (n ≡ 0))
+        ⊎ ((f : Refusal) × (opening.damage l ≡ Some f) × (S.fills ≡ true → Lasts S F opening l f) × (n ≡ 0))
 
     -- c is this chunk of the identifier, which lies there
     pub record IsChunkOf (copies : List Copy) (of chunk : ℕ) (l : Locator) (c : Chunk) : Type 0 where
