@@ -86,7 +86,7 @@ stands_there S F img e i n kind payload few fits stand =
 -- ---- locators and roots
 
 one_locator : (l m : Place) → as_locator l ≡ as_locator m → l ≡ m
-one_locator l m is = λ i. record { extent = (is i).extent; page = (is i).page; generation = (is i).generation }
+one_locator l m is = λ i. record { extent = (is i).extent; page = (is i).page; generation = (is i).generation; mark = tt }
 
 one_list : (ls ms : List Place) → map as_locator ls ≡ map as_locator ms → ls ≡ ms
 one_list [] [] is = refl

@@ -223,6 +223,18 @@ module _ (kind : ℕ) (pages : List (List ℕ)) (payload : List ℕ) (it : Spell
       (and_passes _ BadPadding _ padding no_test))))) in
       all.none
 
+-- the first page has the frame's bytes at each offset
+pub first_front : (kind : ℕ) (pages : List (List ℕ)) (payload : List ℕ) → SpellsFrame kind pages payload → (i j : ℕ) → i ≤ j
+    → j ≤ 4096 → field i j (first_page pages) ≡ field i j (frame_bytes kind payload)
+first_front kind pages payload it i j ij low = front kind pages payload it i j ij low
+
+-- the digest is behind nine of them
+pub at_digest_of : (kind : ℕ) (payload : List ℕ)
+    → (rest : List ℕ) × (drop 9 (frame_bytes kind payload) ≡ sha256 payload ++ rest)
+at_digest_of kind payload =
+    let left : List ℕ = zeros (4096 * page_count (length payload) - (41 + length payload)) in
+    (payload ++ left, (parts (frame_bytes kind payload) (codes "CSF1") (big_bytes 4 (length payload)) (sha256 payload) payload left kind refl refl refl (length-sha256 payload)).at_digest)
+
 -- ---- the header, and the pages that are read
 
 -- what the first tests find, all of them do

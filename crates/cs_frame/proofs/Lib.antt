@@ -12,4 +12,5 @@ pub mod FrameLaws
 pub mod RunLaws
 pub mod TellingLaws
 pub mod FormatLaws
+pub mod MarkLaws
 pub mod FittingLaws

@@ -29,9 +29,9 @@ id_bytes id = id / 256 ^ 15 ∷ big_bytes 15 id
 abbrev pub as_locator : Place → Locator
 as_locator l = record { extent = l.extent; page = l.page; generation = l.generation }
 
--- a locator as the machine has it
+-- a locator as the machine has it: none has a mark
 abbrev pub place_of : Locator → Place
-place_of l = record { extent = l.extent; page = l.page; generation = l.generation }
+place_of l = record { extent = l.extent; page = l.page; generation = l.generation; mark = tt }
 
 -- an entry of the machine as a run spells it
 abbrev pub as_entry : NamedEntry → Entry
@@ -92,6 +92,7 @@ formats_of S = record {
   root = λ version commands runs. spelled_root S.format version commands (map as_locator (reverse runs));
   frame = λ kind payload. spelled_frame (kind_number kind) payload;
   fault = λ kind pages. option_map refusal_of (frame_fault (kind_number kind) pages);
+  misplaced = BadDigest;
   run = λ entries. spelled_run (map as_entry entries);
   fits_root = fits_root S.format;
   fits_run = fits_run;

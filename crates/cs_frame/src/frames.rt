@@ -3,6 +3,7 @@
 ghost use Rattle.std.specs.Prelude.{◌≡◌, ◌+◌, ◌^◌, ◌<◌, ◌≤◌, ℕ, List, None, Ok, Err, IfOk, length, vec_len};
 ghost use Rattle.cs_frame.specs.Bytes.{EachHas, IsBytes};
 ghost use Rattle.cs_frame.specs.Faults.{HasFault, OkUnlessMemory, fault_in};
+ghost use Rattle.cs_model.specs.Geometry.{digest_number};
 ghost use Rattle.cs_frame.specs.Frames.{SpellsFrame, bytes_in, first_page, frame_count, frame_fault, header_fault, kind_byte, page_count, payload_in, payload_length, spelled_frame};
 
 use crate::faults::FormatFault;
@@ -100,6 +101,13 @@ pub fn decode_frame_header(
         return Err(FormatFault::BadLength);
     }
     Ok(header)
+}
+
+/// The mark of the frame whose first page this is: the first eight bytes of the digest there.
+pub fn frame_mark(first: &[u8; 4096]) -> u64
+    ensures { result ≡ digest_number first.now }
+{
+    BigEndian::read_u64(&first[9..17])
 }
 
 /// The payload in the pages of a frame. Makes the tests in order.

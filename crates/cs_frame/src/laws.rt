@@ -3,10 +3,11 @@
 
 ghost use Rattle.std.specs.Prelude.{◌≡◌, ◌≢◌, ◌↔◌, ◌+◌, ◌/◌, ◌^◌, ◌<◌, ◌≤◌, ◌++◌, ℕ, List, Some, None, length, take};
 ghost use Rattle.byteorder.specs.Endian.{big_bytes, big_number};
+ghost use Rattle.sha2.specs.Sha256.{sha256};
 ghost use Rattle.cs_model.specs.Element.{Entry as NamedEntry};
 ghost use Rattle.cs_model.specs.Formats.{ChunkFrame, RunFrame};
 ghost use Rattle.cs_model.specs.Frames.{IsFormat};
-ghost use Rattle.cs_model.specs.Geometry.{HasExtentsApart, IsGeometry as IsModelGeometry, shape_of};
+ghost use Rattle.cs_model.specs.Geometry.{HasExtentsApart, IsGeometry as IsModelGeometry, digest_number, shape_of};
 ghost use Rattle.cs_model.specs.Index.{IsRunList};
 ghost use Rattle.cs_model.specs.Safe.{FitsExtent};
 ghost use Rattle.cs_frame.specs.declared.faults.FormatFault.{FormatFault as Fault};
@@ -117,6 +118,15 @@ pub fn frame_is_read_by_its_header()
     ensures payload { (pages : List (List ℕ)) (count : ℕ)
         → frame_count pages ≤ count → frame_count pages ≤ length pages
         → payload_in (take count pages) ≡ payload_in pages }
+{}
+
+/// A frame's mark is the first eight bytes of its payload's digest: two frames of one mark have payloads whose digests agree there.
+pub fn marks_tell_digests()
+    ensures { (kind other_kind : ℕ) (pages others : List (List ℕ)) (payload other : List ℕ)
+        → SpellsFrame kind pages payload → SpellsFrame other_kind others other
+        → IsPage (first_page pages) → IsPage (first_page others)
+        → digest_number (first_page pages) ≡ digest_number (first_page others)
+        → take 8 (sha256 payload) ≡ take 8 (sha256 other) }
 {}
 
 /// These formats keep what the machine's model asks of the spelling of its pages.

@@ -21,7 +21,8 @@ mod superblocks;
 
 pub use faults::FormatFault;
 pub use frames::{
-    FrameHeader, FrameKind, decode_frame, decode_frame_header, encode_frame, frame_pages,
+    FrameHeader, FrameKind, decode_frame, decode_frame_header, encode_frame, frame_mark,
+    frame_pages,
 };
 pub use geometries::{
     FORMAT, GREATEST_SECTION_EXTENTS, GREATEST_SUPERBLOCK_EXTENTS, Geometry, LEAST_PAGES,
@@ -30,9 +31,10 @@ pub use geometries::{
 pub use identifiers::ShardId;
 pub use laws::{
     first_format_has_one_spelling, formats_are_apart, frame_has_one_spelling,
-    frame_is_read_by_its_header, frames_fit_on_an_extent, page_zero_has_one_spelling,
-    root_has_one_spelling, run_has_one_spelling, sections_have_all_extents, sections_tell_pointers,
-    superblock_has_one_spelling, these_formats_are_formats,
+    frame_is_read_by_its_header, frames_fit_on_an_extent, marks_tell_digests,
+    page_zero_has_one_spelling, root_has_one_spelling, run_has_one_spelling,
+    sections_have_all_extents, sections_tell_pointers, superblock_has_one_spelling,
+    these_formats_are_formats,
 };
 pub use locators::Locator;
 pub use page_zero::decode_superblock;
