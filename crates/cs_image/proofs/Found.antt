@@ -58,6 +58,7 @@ module _ (view : ℕ → List ℕ) (format : ℕ) (versions : List ℕ) (pages :
     generation = is.generation;
     below = is.page;
     inside = (is.extent, (let low : p l.extent ≤ pages = (fit l.extent).0 in let lt : l.page < p l.extent = is.page in omega arith));
+    mark = tt;
   }
 
   -- how far a frame may reach
@@ -70,7 +71,7 @@ module _ (view : ℕ → List ℕ) (format : ℕ) (versions : List ℕ) (pages :
       → Reads (shape x) (formats_of (shape x)) opening view p g l bs
   reads_so l bs is end stand = reads_own (shape x) (formats_of (shape x)) view p g l bs is
       (λ on. le_trans end (le_of_eq (limit_here (shape x) (formats_of (shape x)) view p g l is on)))
-      (le_trans end (limit_low (shape x) (formats_of (shape x)) p g (λ e. (fit e).0) l)) stand
+      (le_trans end (limit_low (shape x) (formats_of (shape x)) p g (λ e. (fit e).0) l)) stand refl
 
   -- ---- runs
 
