@@ -10,6 +10,7 @@ pub mod SuperblockLaws
 pub mod FirstFormatLaws
 pub mod FrameLaws
 pub mod RunLaws
+pub mod PackedLaws
 pub mod TellingLaws
 pub mod FormatLaws
 pub mod MarkLaws

@@ -21,7 +21,7 @@ use Rattle.cs_frame.proofs.TestLaws.{Passes, all_zeros, all_zero-zeros, and_pass
 -- ---- the walk of the decoder
 
 -- tests that pass leave the rest
-rest_of_more : (tests more : List (Option FormatFault)) → first_fault tests ≡ None → first_fault (tests ++ more) ≡ first_fault more
+pub rest_of_more : (tests more : List (Option FormatFault)) → first_fault tests ≡ None → first_fault (tests ++ more) ≡ first_fault more
 rest_of_more [] more h = refl
 rest_of_more (None ∷ tests) more h = rest_of_more tests more h
 rest_of_more (Some f ∷ tests) more h = cc
@@ -42,7 +42,7 @@ walk_goes_on previous pieces i id inside h e =
     ∙ ap (λ (n : ℕ). first_fault (entries_tests (Some id) (drop n pieces))) (sym (add-one i))
 
 -- no test answers that memory ran out
-no_memory : (b : Bool) (f : FormatFault) (tests : List (Option FormatFault)) → (f ≡ OutOfMemory → ⊥) → (first_fault tests ≡ Some OutOfMemory → ⊥) → first_fault (unless b f ∷ tests) ≡ Some OutOfMemory → ⊥
+pub no_memory : (b : Bool) (f : FormatFault) (tests : List (Option FormatFault)) → (f ≡ OutOfMemory → ⊥) → (first_fault tests ≡ Some OutOfMemory → ⊥) → first_fault (unless b f ∷ tests) ≡ Some OutOfMemory → ⊥
 no_memory true f tests other rest h = rest h
 no_memory false f tests other rest h = let same : f ≡ OutOfMemory = cc in other same
 

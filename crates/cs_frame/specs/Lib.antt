@@ -3,6 +3,7 @@ pub mod Faults
 pub mod Pages
 pub mod Buffers
 pub mod Locators
+pub mod PackedRuns
 pub mod Places
 pub mod Roots
 pub mod Pointers

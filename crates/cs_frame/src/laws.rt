@@ -17,6 +17,7 @@ ghost use Rattle.cs_frame.specs.Formats.{formats_of, id_bytes};
 ghost use Rattle.cs_frame.specs.Frames.{SpellsFrame, bytes_in, first_page, frame_count, frame_fault, header_fault, payload_in, spelled_frame};
 ghost use Rattle.cs_frame.specs.FirstFormat.{IsOfFirstFormat, SpellsFirstFormat, SpellsPageZero, first_format_fault, page_zero_fault};
 ghost use Rattle.cs_frame.specs.Geometries.{IsGeometry, IsKnown, lengths_below, section_length, section_size, section_start};
+ghost use Rattle.cs_frame.specs.PackedRuns.{SpellsPacked, packed_fault, packed_sizes};
 ghost use Rattle.cs_frame.specs.Roots.{SpellsRoot, root_fault};
 ghost use Rattle.cs_frame.specs.Runs.{Entry, SpellsRun, run_fault};
 ghost use Rattle.cs_frame.specs.Superblocks.{SpellsSuperblock, superblock_fault};
@@ -93,6 +94,19 @@ pub fn run_has_one_spelling()
         → SpellsRun payload entries → SpellsRun other entries → payload ≡ other }
     ensures one_run { (payload : List ℕ) (entries es : List Entry)
         → SpellsRun payload entries → SpellsRun payload es → entries ≡ es }
+{}
+
+/// The same of a run whose entries take the bytes that they need.
+pub fn packed_run_has_one_spelling()
+    ensures exact { (payload : List ℕ) → IsBytes payload
+        → (packed_fault payload ≡ None) ↔ ((entries : List Entry) × SpellsPacked payload entries) }
+    ensures one_payload { (payload other : List ℕ) (entries : List Entry)
+        → SpellsPacked payload entries → SpellsPacked other entries → payload ≡ other }
+    ensures one_run { (payload : List ℕ) (entries es : List Entry)
+        → SpellsPacked payload entries → SpellsPacked payload es → entries ≡ es }
+    // It has as many bytes as its entries say.
+    ensures size { (payload : List ℕ) (entries : List Entry)
+        → SpellsPacked payload entries → length payload ≡ 4 + packed_sizes entries }
 {}
 
 /// Pages begin with a frame of a kind exactly where no test fails, and with one payload alone.

@@ -10,6 +10,7 @@ mod geometries;
 mod identifiers;
 mod laws;
 mod locators;
+mod packed_runs;
 mod page_zero;
 mod pages;
 mod places;
@@ -32,11 +33,12 @@ pub use identifiers::ShardId;
 pub use laws::{
     first_format_has_one_spelling, formats_are_apart, frame_has_one_spelling,
     frame_is_read_by_its_header, frames_fit_on_an_extent, marks_tell_digests,
-    page_zero_has_one_spelling, root_has_one_spelling, run_has_one_spelling,
-    sections_have_all_extents, sections_tell_pointers, superblock_has_one_spelling,
-    these_formats_are_formats,
+    packed_run_has_one_spelling, page_zero_has_one_spelling, root_has_one_spelling,
+    run_has_one_spelling, sections_have_all_extents, sections_tell_pointers,
+    superblock_has_one_spelling, these_formats_are_formats,
 };
 pub use locators::Locator;
+pub use packed_runs::{decode_packed_run, encode_packed_run};
 pub use page_zero::decode_superblock;
 pub use places::Places;
 pub use read_frames::{ReadFrame, read_frame_in};

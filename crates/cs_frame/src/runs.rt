@@ -61,7 +61,7 @@ fn id_from(piece: &[u8; 81]) -> ShardId
 }
 
 /// The identifier is greater than the one before, if there is one.
-fn check_order(previous: Option<ShardId>, id: ShardId) -> Result<(), FormatFault>
+pub(crate) fn check_order(previous: Option<ShardId>, id: ShardId) -> Result<(), FormatFault>
     ensures { fault_in result ≡ order_test (option_map (λ id. id.0) previous) id.0 }
 {
     match previous {
@@ -143,7 +143,7 @@ fn entries_from(alloc: Global, pieces: &[[u8; 81]]) -> Result<Vec<(ShardId, Plac
     Ok(entries)
 }
 
-fn append_locators(payload: &mut Vec<u8>, locators: &[Locator]) -> Result<(), AllocError>
+pub(crate) fn append_locators(payload: &mut Vec<u8>, locators: &[Locator]) -> Result<(), AllocError>
     ensures spelled { OnOk result (payload.new.items ≡ payload.old.items ++ spelled_locators locators.now) }
     ensures fit { OnOk result (AllByRecursion FitsLocator locators.now) }
 {
