@@ -82,6 +82,7 @@ fits_run entries =
 
 -- the formats of a store of this shape: in a store of format 2 a superblock of one section may be one page for all extents, in format 1, and any
 -- other is in sections as the store's format has them; a root lists its runs oldest first, which the machine has newest first
+-- no locator has a mark, so that no frame is misplaced, whatever that would be told as
 abbrev pub formats_of : Shape → Formats
 formats_of S = record {
   superblock = λ format section version pointers generations.
