@@ -61,6 +61,7 @@ module _ {D : Type 0} (disks : PageDisk D) {v w : Stored} {disk after : D} {even
       limit = refl;
       same_shape = served.same_shape;
       cause = served.cause;
+      later = served.later;
       step = went;
     }
 

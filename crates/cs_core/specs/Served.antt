@@ -30,6 +30,8 @@ pub record IsServed {D : Type 0} (disks : PageDisk D)
   pub device : disks.honest before → IfOk result (λ r. IsDiskAfter (but_for_room old) (disks.state before) event r.0 (disks.state after))
   -- 1 is answered only where the disk's count of failures rose, or stood at its end
   pub cause : IfOk result (λ r. r.0 ≡ Refused DeviceFault → Rises (disks.failure_count before) (disks.failure_count after))
+  -- that count doesn't fall, with memory or without
+  pub later : disks.failure_count before ≤ disks.failure_count after
   -- without memory the store has changed by no more than how much room there is, and the disk not at all
   pub refused : OnErr result (but_for_room new ≡ but_for_room old)
   pub same : disks.honest before → OnErr result (disks.state after ≡ disks.state before)

@@ -93,6 +93,8 @@ pub record IsStep {D : Type 0} (disks : PageDisk D) (old : View D) (event : Even
   pub same_shape : shape new.store.extents ≡ shape old.store.extents
   -- 1 is answered only where the disk's count of failures rose, or stood at its end
   pub cause : reply ≡ Refused DeviceFault → Rises (disks.failure_count old.disk) (disks.failure_count new.disk)
+  -- that count doesn't fall
+  pub later : disks.failure_count old.disk ≤ disks.failure_count new.disk
   pub step : disks.honest old.disk → (s : model.State) → IsIn disks.state old s
       → (m : model.Reply) × (t : model.State) × Says (shape old.store.extents) (formats_of (shape old.store.extents)) reply m
       × Step (shape old.store.extents) (formats_of (shape old.store.extents)) s (event_of event) m t × IsIn disks.state new t
@@ -108,7 +110,7 @@ Serves old disk event reply new after = (s : model.State) → IsStateOf old s �
     → (m : model.Reply) × (t : model.State) × Says (shape old.extents) (formats_of (shape old.extents)) reply m
     × Step (shape old.extents) (formats_of (shape old.extents)) s (event_of event) m t × IsStateOf new t × IsDiskOf (shape old.extents) (formats_of (shape old.extents)) t after
 
--- nothing but rooms has changed, and an honest disk holds what it held
+-- nothing but rooms has changed, and an honest disk holds what it held; the disk's count of failures doesn't fall
 pub record IsUntouched {D : Type 0} (disks : PageDisk D) (old new : View D) : Type 0 where
   pub opened : new.opened ≡ old.opened
   pub found : new.found ≡ old.found
@@ -117,3 +119,4 @@ pub record IsUntouched {D : Type 0} (disks : PageDisk D) (old new : View D) : Ty
   pub base : new.base ≡ old.base
   pub limit : new.limit ≡ old.limit
   pub disk : disks.honest old.disk → disks.state new.disk ≡ disks.state old.disk
+  pub later : disks.failure_count old.disk ≤ disks.failure_count new.disk

@@ -196,6 +196,8 @@ impl<D: PageDisk> Core<D> {
         ensures calls { D.honest self.old.disk → IfOk result (λ reply. CountsCalls event.now reply (D.moment self.old.disk) (D.moment self.new.disk)) }
         ensures device { D.honest self.old.disk → IfOk result (λ reply. IsDiskAfter self.old.store (D.state self.old.disk) event.now reply (D.state self.new.disk)) }
         ensures cause { IfOk result (λ reply. reply ≡ Reply.Refused Refusal.DeviceFault → Rises (D.failure_count self.old.disk) (D.failure_count self.new.disk)) }
+        // The disk's count of failures doesn't fall, whatever the answer.
+        ensures later { D.failure_count self.old.disk ≤ D.failure_count self.new.disk }
         // A crash at any moment of the event leaves the map after some of the commands, as before it.
         ensures crash { D.honest self.old.disk → LeavesOnly D.moment D.left_since self.old.disk self.new.disk (IsPrefix (shape self.old.store.extents) (page self.old.opened) (commands_said self.old.history) self.old.store.frontier self.old.store.accepted) }
         // A crash after it does so for the commands and the frontier then.
