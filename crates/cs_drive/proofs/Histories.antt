@@ -1,5 +1,5 @@
 -- Histories of a core, put together and taken apart.
-use Rattle.std.proofs.Common.{◌≡◌, ◌∙◌, ◌+◌, ◌-◌, ◌≤◌, List, [], ◌∷◌, ◌++◌, length, sym, ap, subst, refl, inl, inr, arith, length-append, length-drop}
+use Rattle.std.proofs.Common.{◌≡◌, ◌∙◌, ◌+◌, ◌-◌, ◌≤◌, List, [], ◌∷◌, ◌++◌, length, le_refl, le_trans, sym, ap, subst, refl, inl, inr, arith, length-append, length-drop}
 use Rattle.std.specs.Prelude.{◌↔◌}
 use Rattle.cs_deps.specs.declared.refusals.Refusal.{Refusal}
 use Rattle.cs_deps.specs.declared.refusals.Refusal.TheVariants.{HistoryFull}
@@ -17,7 +17,10 @@ same_refusal r s e = cc
 
 module _ {D : Type 0} (disks : PageDisk D) where
   pub stays_same : (v : View D) → Stays disks v v
-  stays_same v = (record { opened = refl; found = refl; store = refl; history = refl; base = refl; limit = refl; disk = λ h. refl }, (λ h. h, λ h. h))
+  stays_same v = (
+    record { opened = refl; found = refl; store = refl; history = refl; base = refl; limit = refl; disk = λ h. refl; later = le_refl (disks.failure_count v.disk) },
+    (λ h. h, λ h. h),
+  )
 
   pub stays_then : (a b c : View D) → Stays disks a b → Stays disks b c → Stays disks a c
   stays_then a b c p q = (
@@ -29,6 +32,7 @@ module _ {D : Type 0} (disks : PageDisk D) where
       base = q.0.base ∙ p.0.base;
       limit = q.0.limit ∙ p.0.limit;
       disk = λ h. q.0.disk (p.1.0 h) ∙ p.0.disk h;
+      later = le_trans p.0.later q.0.later;
     },
     (λ h. q.1.0 (p.1.0 h), λ h. p.1.1 (q.1.1 h)),
   )

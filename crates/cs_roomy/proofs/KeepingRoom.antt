@@ -146,6 +146,7 @@ module _ {D : Type 0} (disks : PageDisk D) where
     base = ap (λ (u : View D). u.base) is;
     limit = ap (λ (u : View D). u.limit) is;
     disk = reads.same;
+    later = reads.failures;
   }
 
   read_core : (v w : View D) → IsCore disks v → disks.honest v.disk → w ≡ record v { disk = w.disk } → OnlyReads disks v.disk w.disk

@@ -33,6 +33,7 @@ module _ {D : Type 0} (disks : PageDisk D) (old read : View D) (reads : ReadsOn 
     base = ap (λ (v : View D). v.base) reads.0;
     limit = ap (λ (v : View D). v.limit) reads.0;
     disk = reads.1.same;
+    later = reads.1.failures;
   }
 
   -- to a crash they are as one call that changes nothing

@@ -86,6 +86,7 @@ module _ {D : Type 0} (disks : PageDisk D) where
             base = ap (λ (v : View D). v.base) same;
             limit = ap (λ (v : View D). v.limit) same;
             disk = reads.same;
+            later = reads.failures;
           }));
           rises = omega (arith, rises);
           stays_honest = reads.honesty.0;
