@@ -16,7 +16,7 @@ use Rattle.cs_deps.specs.declared.refusals.Refusal.{Refusal}
 use Rattle.cs_deps.specs.declared.refusals.Refusal.TheVariants.{DeviceFault}
 use Rattle.cs_deps.specs.State.{State as Graph}
 use Rattle.cs_disk.specs.Disk.{Image}
-use Rattle.cs_extent.specs.State.{IsWhole, State, extents_of, shape}
+use Rattle.cs_extent.specs.State.{IsWhole, State, shape}
 use Rattle.cs_frame.specs.declared.faults.FormatFault.{FormatFault}
 use Rattle.cs_frame.specs.declared.faults.FormatFault.TheVariants as fault
 use Rattle.cs_frame.specs.declared.faults.FormatFault.TheVariants.{BadLength, BadMagic, BadVersion}

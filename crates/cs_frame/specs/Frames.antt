@@ -69,7 +69,7 @@ kind_test kind first = unless (slice_index first 4 == kind) BadVersion
 abbrev pub room_test : (first : List ℕ) → (there : ℕ) → Option FormatFault
 room_test first there = unless (nat_le (page_count (payload_length first)) there) BadLength
 
--- the tests of a frame's first page, in order, where so many pages lie from it to the end of its extent
+-- the tests of a frame's first page, in order, where so many pages lie from it as far as it may reach
 abbrev pub header_tests : (kind : ℕ) → (first : List ℕ) → (there : ℕ) → List (Option FormatFault)
 header_tests kind first there =
     magic_test (codes "CSF") first
@@ -94,6 +94,6 @@ rest_test pages = unless (all_zero (drop (41 + payload_length (first_page pages)
 abbrev pub frame_tests : (kind : ℕ) → List (List ℕ) → List (Option FormatFault)
 frame_tests kind pages = header_tests kind (first_page pages) (length pages) ++ payload_test pages ∷ rest_test pages ∷ []
 
--- what is wrong with these pages, which lie from the first to the end of its extent, as a frame of this kind
+-- what is wrong with these pages, which lie from the first as far as it may reach, as a frame of this kind
 abbrev pub frame_fault : (kind : ℕ) → List (List ℕ) → Option FormatFault
 frame_fault kind pages = first_fault (frame_tests kind pages)

@@ -79,7 +79,7 @@ pub fn encode_frame(
 }
 
 /// The header in a frame's first page. A reader calls it before it reads further pages: `there` pages
-/// lie from the first to the end of its extent, and the frame's pages are among them.
+/// lie from the first as far as the frame may reach, and the frame's pages are among them.
 pub fn decode_frame_header(
     kind: FrameKind,
     first: &[u8; 4096],

@@ -3,7 +3,7 @@ use Rattle.std.specs.Prelude.{◌≡◌, ◌+◌, ◌*◌, ◌-◌, ◌/◌, ◌
 use Rattle.cs_model.specs.Device.{FramePage, Page, RootPage, SectionPage, Shape}
 use Rattle.cs_model.specs.Meant.{Mark, are_marked, mark_by}
 
--- The rules that a format goes by. Where all formats go by the same one, no code goes by the other yet:
+-- The rules that a format goes by:
 -- up to format 2 a version of the superblock needs the page writes that it counts; in format 3 a root needs all page writes
 abbrev pub pages_first_in : (format : ℕ) → Bool
 pages_first_in format = nat_le format 2

@@ -1,4 +1,4 @@
-use Rattle.std.proofs.Common.{List, ℕ, Err, arith, ◌+◌, ◌≤◌}
+use Rattle.std.proofs.Common.{List, ℕ, Err, arith}
 use Rattle.cs_chunk.specs.Chunks.{end_in}
 use Rattle.cs_extent.specs.State.{shape}
 use Rattle.cs_chunk.proofs.Framed.{all_fit, answers, end_low, frames_there, reads_it}
