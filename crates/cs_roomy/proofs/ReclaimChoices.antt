@@ -64,7 +64,7 @@ module _ {D : Type 0} (disks : PageDisk D) where
     pub enough : page_total (shape v.store.extents) ≤ length (disks.state v.disk).durable
     enough = le_of_eq (sym (sized v.disk roomy.honest ∙ roomy.core.device))
 
-    pub chose_by : (w : View D) (found : Option Reclaimed) → IsReclaim disks v found w → (s : model.State) → IsIn disks.state v s → Chose disks v found w
+    pub chose_by : (w : View D) (found : Option Reclaimed) → IsReclaim disks v found w → (s : model.State) → IsIn disks.state v s → Chose v found w
     chose_by w found call s is =
         let view : ℕ → List ℕ = pages_now (shape v.store.extents) s (seen (disks.state v.disk)) in
         let newest : AreNewest v.store.graph (seen (disks.state v.disk)) view =
