@@ -12,7 +12,7 @@ use std::io;
 use std::io::Write;
 
 /// Moves what is live on an extent, retires it, and prints how many chunks were moved and under which root. A sweep that is
-/// refused after it began is abandoned; what was moved stays where it is then.
+/// refused after it began is abandoned; up to format 2 what was moved stays where it is then, in format 3 it counts where it lay.
 pub fn sweep<D: PageDisk, W: Write>(
     core: &mut Core<D>,
     extent: usize,
