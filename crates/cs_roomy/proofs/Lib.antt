@@ -15,6 +15,7 @@ pub mod KeepingRoom
 pub mod LiveTotals
 pub mod NeverFull
 pub mod Reached
+pub mod ReclaimChoices
 pub mod ReclaimsChoose
 pub mod ReclaimsGain
 pub mod ReclaimsLeave

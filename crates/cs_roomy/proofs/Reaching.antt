@@ -1,5 +1,5 @@
 -- What calls of a core lead to: from each state that it is in a history of the machine leads to one that it is in then.
-use Rattle.std.proofs.Common.{◌≡◌, ◌⊎◌, inl, inr, ⊎_elim, ℕ, ◌<◌, ◌≤◌, List, [], ◌∷◌, ◌++◌, Option, Some, None, length, refl, sym, ap, ◌∙◌, subst}
+use Rattle.std.proofs.Common.{◌≡◌, ◌⊎◌, inl, inr, ⊎_elim, ℕ, ◌<◌, ◌≤◌, List, [], ◌∷◌, ◌++◌, Option, Some, None, length, le_of_eq, le_refl, le_trans, refl, sym, ap, ◌∙◌, subst}
 use Rattle.cs_deps.specs.declared.refusals.Refusal.{Refusal}
 use Rattle.cs_disk.specs.declared.disk.PageDisk.{Ghosts as PageDisk}
 use Rattle.cs_extent.specs.State.{shape}
@@ -92,6 +92,7 @@ module _ {D : Type 0} (disks : PageDisk D) (P : model.Event → Type 0) where
     pub opened : w.opened ≡ v.opened
     pub found : w.found ≡ v.found
     pub honest : disks.honest v.disk → disks.honest w.disk
+    pub later : disks.failure_count v.disk ≤ disks.failure_count w.disk
     pub leads : disks.honest v.disk → (s : model.State) → IsIn disks.state v s → Leads (shape v.store.extents) s w
 
   -- nothing was done
@@ -104,6 +105,7 @@ module _ {D : Type 0} (disks : PageDisk D) (P : model.Event → Type 0) where
     opened = refl;
     found = refl;
     honest = λ h. h;
+    later = le_refl (disks.failure_count v.disk);
     leads = λ h s at. still (shape v.store.extents) s v at;
   })
 
@@ -113,6 +115,7 @@ module _ {D : Type 0} (disks : PageDisk D) (P : model.Event → Type 0) where
     opened = is.opened;
     found = is.found;
     honest = stays;
+    later = is.later;
     leads = λ h s at. still (shape v.store.extents) s w (untouched_in disks v w s h is at);
   }
 
@@ -126,6 +129,7 @@ module _ {D : Type 0} (disks : PageDisk D) (P : model.Event → Type 0) where
     opened = ap (λ (u : View D). u.opened) replaces.1;
     found = ap (λ (u : View D). u.found) replaces.1;
     honest = λ h. subst (λ (u : View D). disks.honest u.disk) (sym replaces.1) h;
+    later = le_of_eq (sym (ap (λ (u : View D). disks.failure_count u.disk) replaces.1));
     leads = λ h s at. still (shape v.store.extents) s w (replaced_in v w s n replaces at);
   }
 
@@ -137,6 +141,7 @@ module _ {D : Type 0} (disks : PageDisk D) (P : model.Event → Type 0) where
     opened = step.opened;
     found = step.found;
     honest = stays;
+    later = step.later;
     leads = λ h s at. (let d = step.step h s at in (
       d.1,
       d.4,
@@ -154,6 +159,7 @@ module _ {D : Type 0} (disks : PageDisk D) (P : model.Event → Type 0) where
     opened = q.opened ∙ p.opened;
     found = q.found ∙ p.found;
     honest = λ h. q.honest (p.honest h);
+    later = le_trans p.later q.later;
     leads = λ h s at. (let one = p.leads h s at in let two = q.leads (p.honest h) one.0 one.1 in (
       two.0,
       two.1,
@@ -216,6 +222,7 @@ module _ {D : Type 0} (disks : PageDisk D) where
     opened = reaches.opened;
     found = reaches.found;
     honest = reaches.honest;
+    later = reaches.later;
     leads = λ h s at. (let t = reaches.leads h s at in (t.0, t.1, t.2, t.3, λ x there. tt));
   }
 

@@ -1,12 +1,11 @@
 -- What a reclaim chooses is chosen by what lives.
-use Rattle.std.proofs.Common.{◌≡◌, ℕ, ◌<◌, ◌≤◌, ◌&&◌, Bool, true, false, not, List, Option, Some, None, length, if◌then◌else◌, le_of_eq, refl, sym, ap, ◌∙◌, subst, arith}
+use Rattle.std.proofs.Common.{◌≡◌, ℕ, ◌<◌, ◌≤◌, ◌&&◌, Bool, true, false, not, List, Option, Some, None, length, if◌then◌else◌, le_refl, refl, sym, ap, ◌∙◌, subst, arith}
 use Rattle.std.specs.Prelude.{slice_get}
 use Rattle.cs_disk.specs.declared.disk.PageDisk.{Ghosts as PageDisk}
 use Rattle.cs_disk.specs.Disk.{Rises}
 use Rattle.cs_extent.specs.State.{extents_of, shape}
 use Rattle.cs_frame.proofs.GeometryLaws.{bounds}
 use Rattle.cs_frame.specs.Formats.{formats_of}
-use Rattle.cs_image.specs.Reads.{page_total}
 use Rattle.cs_model.specs.Apart.{any_swept}
 use Rattle.cs_model.specs.Device.{Shape}
 use Rattle.cs_model.specs.Extents.{Extents}
@@ -26,7 +25,8 @@ use Rattle.cs_survey.specs.declared.extent_uses.ExtentUse.{ExtentUse}
 use Rattle.cs_survey.specs.Uses.{AreCounted, Head, heads_of, live_on, unreadable_on}
 use Rattle.cs_roomy.proofs.ChosenUses.{chosen_is, inside, none_is}
 use Rattle.cs_roomy.proofs.CountedPages.{live_exactly}
-use Rattle.cs_roomy.specs.Reclaims.{IsIdle, IsReclaim}
+use Rattle.cs_roomy.proofs.ReclaimChoices.{Chose, enough, none_within, reclaimed_later}
+use Rattle.cs_roomy.specs.Reclaims.{IsIdle, IsReclaim, NoneFailed}
 use Rattle.cs_roomy.specs.Roomy.{IsRoomyCore}
 
 and_false : (b : Bool) → (b && false) ≡ false
@@ -39,43 +39,41 @@ unless_none test None none = refl
 unless_none test (Some e) none = ap (λ (b : Bool). if b then None else Some e) (none e)
 
 module _ {D : Type 0} (disks : PageDisk D) (sized : (d : D) → disks.honest d → length (disks.state d).durable ≡ disks.page_count d)
-    (v mid : View D) (found : Option Reclaimed) (call : IsReclaim disks v found mid) (roomy : IsRoomyCore disks v) (idle : IsIdle v)
-    (s : model.State) (is : IsIn disks.state v s) (r : Room)
+    (v mid : View D) (found : Option Reclaimed) (call : IsReclaim disks v found mid) (chose : Chose disks v found mid)
+    (unfailed : NoneFailed disks v mid) (roomy : IsRoomyCore disks v) (idle : IsIdle v) (s : model.State) (is : IsIn disks.state v s) (r : Room)
     (has : HasRoomNow (shape v.store.extents) (formats_of (shape v.store.extents)) s r) where
   abbrev S : Shape
   S = shape v.store.extents
 
   abbrev heads : List Head
-  heads = heads_of v.store.extents call.view call.chunks
+  heads = heads_of v.store.extents chose.view chose.chunks
 
   -- the headers were counted as they are
-  counted : AreCounted heads call.goes.uses
-  counted = subst (λ (hs : List Head). AreCounted hs call.goes.uses)
-      (read_exactly (Rises (disks.failure_count v.disk) (disks.failure_count call.read.disk)) heads call.goes.read.0 call.none_failed
-      call.goes.read.1.each)
-      call.goes.read.2
+  counted : AreCounted heads chose.goes.uses
+  counted = subst (λ (hs : List Head). AreCounted hs chose.goes.uses)
+      (read_exactly (Rises (disks.failure_count v.disk) (disks.failure_count chose.read.disk)) heads chose.goes.read.0
+      (none_within disks v v chose.read mid (le_refl (disks.failure_count v.disk)) (reclaimed_later disks chose.read mid found chose.reclaims) unfailed)
+      chose.goes.read.1.each)
+      chose.goes.read.2
 
   sane : NoneDamaged (model.map_now s)
   sane id f bad = call.undamaged id f (sym (map_is disks.state v call.shards s call.whole call.has_map is id) ∙ bad)
 
-  enough : page_total (shape v.store.extents) ≤ length (disks.state v.disk).durable
-  enough = le_of_eq (sym (sized v.disk roomy.honest ∙ roomy.core.device))
-
   exactly : (e : ℕ) → (live_pages r.chunks e ≡ live_on e heads) × (unreadable_on e heads ≡ 0)
-  exactly = live_exactly v.store call.whole call.graph (disks.state v.disk) enough s is.store is.disk call.view call.newest r has.room
-      call.chunks call.live sane
+  exactly = live_exactly v.store call.whole call.graph (disks.state v.disk) (enough disks sized v roomy) s is.store is.disk
+      chose.view chose.newest r has.room chose.chunks chose.live sane
 
   -- of each extent as many pages are counted as live there
-  live : (e : ℕ) (used : ExtentUse) → slice_get call.goes.uses e ≡ Some used → used.live ≡ live_pages r.chunks e
+  live : (e : ℕ) (used : ExtentUse) → slice_get chose.goes.uses e ≡ Some used → used.live ≡ live_pages r.chunks e
   live e used at =
-      let lt : e < (shape v.store.extents).extents = omega (arith, inside call.goes.uses e used at, call.goes.extents.0) in
+      let lt : e < (shape v.store.extents).extents = omega (arith, inside chose.goes.uses e used at, chose.goes.extents.0) in
       let given = has.keeps.lies.given e lt in
       let fits : r.pointer e ≤ (shape v.store.extents).pages = has.keeps.lies.fits e lt in
       let few : v.store.extents.pages ≤ 65535 =
       (bounds v.store.extents.format (length v.store.extents.written) v.store.extents.pages v.store.extents.sections roomy.geometry).most_pages in
       omega (arith, (counted e used at).0, (exactly e).0, given, fits, few)
 
-  readable : (e : ℕ) (used : ExtentUse) → slice_get call.goes.uses e ≡ Some used → used.unreadable ≡ 0
+  readable : (e : ℕ) (used : ExtentUse) → slice_get chose.goes.uses e ≡ Some used → used.unreadable ≡ 0
   readable e used at = omega (arith, (counted e used at).1, (exactly e).1)
 
   -- no extent is set aside
@@ -94,19 +92,19 @@ module _ {D : Type 0} (disks : PageDisk D) (sized : (d : D) → disks.honest d �
   last = has.room.extents.last ∙ unless_none (is_aside (shape v.store.extents) s) s.world.extents.last none_aside
       ∙ ap (λ (x : Extents). x.last) is.store.parts.world.extents
 
-  chooses : ChoosesApart call.goes.uses (extents_of v.store.extents).last (shape v.store.extents).pages (reclaimed_extent found)
-  chooses = subst (λ (b : Bool). ChoosesBy b call.goes.uses (run_pages (names (index_of v.store.index)))
-      (extents_of v.store.extents).last (shape v.store.extents).pages (reclaimed_extent found)) roomy.apart call.goes.chooses
+  chooses : ChoosesApart chose.goes.uses (extents_of v.store.extents).last (shape v.store.extents).pages (reclaimed_extent found)
+  chooses = subst (λ (b : Bool). ChoosesBy b chose.goes.uses (run_pages (names (index_of v.store.index)))
+      (extents_of v.store.extents).last (shape v.store.extents).pages (reclaimed_extent found)) roomy.apart chose.goes.chooses
 
   pub chosen : (e dead : ℕ) → reclaimed_extent found ≡ Some (e, dead)
       → IsChosen (shape v.store.extents) (shape v.store.extents).run_extents r e
   chosen e dead same = chosen_is (shape v.store.extents) (shape v.store.extents).run_extents (extents_of v.store.extents) r
-      call.goes.uses call.goes.extents holds last idle.none_swept live readable e dead
-      (subst (λ (o : Option (ℕ × ℕ)). ChoosesApart call.goes.uses (extents_of v.store.extents).last (shape v.store.extents).pages o)
+      chose.goes.uses chose.goes.extents holds last idle.none_swept live readable e dead
+      (subst (λ (o : Option (ℕ × ℕ)). ChoosesApart chose.goes.uses (extents_of v.store.extents).last (shape v.store.extents).pages o)
       same chooses)
 
   pub none_chosen : reclaimed_extent found ≡ None → NoTwoFit (shape v.store.extents) (shape v.store.extents).run_extents r
   none_chosen same = none_is (shape v.store.extents) (shape v.store.extents).run_extents (extents_of v.store.extents) r
-      call.goes.uses call.goes.extents holds last idle.none_swept live readable
-      (subst (λ (o : Option (ℕ × ℕ)). ChoosesApart call.goes.uses (extents_of v.store.extents).last (shape v.store.extents).pages o)
+      chose.goes.uses chose.goes.extents holds last idle.none_swept live readable
+      (subst (λ (o : Option (ℕ × ℕ)). ChoosesApart chose.goes.uses (extents_of v.store.extents).last (shape v.store.extents).pages o)
       same chooses)

@@ -1,5 +1,5 @@
 -- Reclaims one after another, in room.
-use Rattle.std.proofs.Common.{◌≡◌, inl, inr, ℕ, zero, suc, ◌<◌, ◌||◌, Bool, true, false, List, [], ◌∷◌, ◌++◌, Option, Some, None, length, true≢false, refl, sym, ap, ◌∙◌, subst, arith}
+use Rattle.std.proofs.Common.{◌≡◌, inl, inr, ℕ, zero, suc, ◌<◌, ◌||◌, Bool, true, false, List, [], ◌∷◌, ◌++◌, Option, Some, None, length, le_refl, le_trans, true≢false, refl, sym, ap, ◌∙◌, subst, arith}
 use Rattle.std.proofs.lemmas.Bool.{cases_eq}
 use Rattle.cs_deps.specs.declared.refusals.Refusal.TheVariants.{HistoryFull}
 use Rattle.cs_disk.specs.declared.disk.PageDisk.{Ghosts as PageDisk}
@@ -35,11 +35,12 @@ use Rattle.cs_store.proofs.Running.{untouched_in}
 use Rattle.cs_store.specs.declared.reclaims.Reclaimed.{Reclaimed}
 use Rattle.cs_roomy.proofs.CoreSteps.{IsAt, IsStepTo, answered}
 use Rattle.cs_roomy.proofs.KeepingRoom.{ran_roomy, read_untouched, state_of, young_before}
+use Rattle.cs_roomy.proofs.ReclaimChoices.{chose_by, none_within}
 use Rattle.cs_roomy.proofs.ReclaimsChoose.{chosen}
 use Rattle.cs_roomy.proofs.Reaching.{AllEvents, AllOf, Anything, Reaches, both_of, joined, reaches_ran, reaches_ready, reaches_same, reaches_syncs, reaches_then, reaches_untouched, reaches_went}
 use Rattle.cs_roomy.proofs.StorePuts.{of_sync}
 use Rattle.cs_roomy.specs.Cores.{NoneWornIn}
-use Rattle.cs_roomy.specs.Reclaims.{AreSynced, IsIdle, IsReclaim, ReclaimsBy}
+use Rattle.cs_roomy.specs.Reclaims.{AreSynced, IsIdle, IsReclaim, NoneFailed, ReclaimsBy}
 use Rattle.cs_roomy.specs.Roomy.{IsRoomyCore}
 
 all_moves : (e : ℕ) (moved : List (ShardId × ℕ)) → AllEvents (IsCopying e) (moves e moved)
@@ -214,14 +215,15 @@ module _ {D : Type 0} (disks : PageDisk D) (sized : (d : D) → disks.honest d �
       }
 
   link : (v mid next : View D) (swept : Reclaimed) → IsRoomyCore disks v → NoneWornIn next → IsIdle v
-      → IsReclaim disks v (Some swept) mid → AreSynced disks mid next → (s : model.State) → IsAt disks S v s → (r : Room)
+      → IsReclaim disks v (Some swept) mid → NoneFailed disks v mid → AreSynced disks mid next → (s : model.State) → IsAt disks S v s → (r : Room)
       → HasRoomNow S (formats_of S) s r → IsLinked next r
-  link v mid next swept roomy young idle call synced s at r has =
-      let ready = call.reclaims in
-      let one = reached_in disks S IsSyncing v ready.0 s at (reaches_then disks IsSyncing v call.read ready.0
-      (reaches_untouched disks IsSyncing v call.read call.reads.1.honesty.0
-      (read_untouched disks v call.read call.reads.0 call.reads.1))
-      (reaches_ready disks IsSyncing of_sync call.read ready.0 ready.1)) in
+  link v mid next swept roomy young idle call none synced s at r has =
+      let chose = chose_by disks sized v roomy mid (Some swept) call s at.is_in in
+      let ready = chose.reclaims in
+      let one = reached_in disks S IsSyncing v ready.0 s at (reaches_then disks IsSyncing v chose.read ready.0
+      (reaches_untouched disks IsSyncing v chose.read chose.reads.1.honesty.0
+      (read_untouched disks v chose.read chose.reads.0 chose.reads.1))
+      (reaches_ready disks IsSyncing of_sync chose.read ready.0 ready.1)) in
       let two = swept_in disks S ready.0 mid swept.extent swept.moved swept.root one.0 one.1 ready.2 in
       let three = reached_in disks S IsSyncing mid next two.0 two.1 (synced_to disks mid next synced) in
       let whole = longer disks S one.0 two.0 three.0 swept.extent three.2 two.2 three.3 three.4 in
@@ -237,7 +239,7 @@ module _ {D : Type 0} (disks : PageDisk D) (sized : (d : D) → disks.honest d �
         rested = rests.1;
         count = rests.0;
         choice = subst (λ (T : Shape). IsChosen T T.run_extents r swept.extent) at.same
-            (chosen disks sized v mid (Some swept) call roomy idle s at.is_in r
+            (chosen disks sized v mid (Some swept) call chose none roomy idle s at.is_in r
             (subst (λ (T : Shape). HasRoomNow T (formats_of T) s r) (sym at.same) has) swept.extent swept.dead refl);
         synced = rests.2;
         swept = sweeps.1;
@@ -255,15 +257,20 @@ module _ {D : Type 0} (disks : PageDisk D) (sized : (d : D) → disks.honest d �
     pub idle : IsIdle w
     pub roomy : IsRoomyCore disks w
 
-  pub links : (k : ℕ) (v w : View D) → IsRoomyCore disks v → NoneWornIn w → IsIdle v → ReclaimsBy disks k v w → (s : model.State)
-      → IsAt disks S v s → (r : Room) → HasRoomNow S (formats_of S) s r → AreLinked k r w
-  links zero v w roomy young idle is s at r has = subst (λ (u : View D). AreLinked zero r u) (sym is)
+  pub links : (k : ℕ) (v w : View D) → IsRoomyCore disks v → NoneWornIn w → IsIdle v → ReclaimsBy disks k v w → NoneFailed disks v w
+      → (s : model.State) → IsAt disks S v s → (r : Room) → HasRoomNow S (formats_of S) s r → AreLinked k r w
+  links zero v w roomy young idle is none s at r has = subst (λ (u : View D). AreLinked zero r u) (sym is)
       (record { then_in = s; here = at; after = r; has = has; swept = refl; idle = idle; roomy = roomy })
-  links (suc k) v w roomy young idle (swept, mid, next, call, synced, more) s at r has =
+  links (suc k) v w roomy young idle (swept, mid, next, call, synced, more) none s at r has =
+      let swept_later = (reaches_ran disks v mid call.ran).later in
+      let synced_later = (synced_reaches disks mid next synced).later in
+      let more_later = (reclaims_reach disks k next w more).later in
+      let none_here = none_within disks v v mid w (le_refl (disks.failure_count v.disk)) (le_trans synced_later more_later) none in
+      let none_then = none_within disks v next w w (le_trans swept_later synced_later) (le_refl (disks.failure_count w.disk)) none in
       let then_roomy = synced_roomy disks mid next (ran_roomy disks v mid roomy call.ran) synced in
       let next_young = young_before disks next w (state_of disks next then_roomy) (reclaims_reach disks k next w more) young in
-      let one = link v mid next swept roomy next_young idle call synced s at r has in
-      let rest = links k next w then_roomy young one.idle more one.then_in one.here one.after one.has in record {
+      let one = link v mid next swept roomy next_young idle call none_here synced s at r has in
+      let rest = links k next w then_roomy young one.idle more none_then one.then_in one.here one.after one.has in record {
         then_in = rest.then_in;
         here = rest.here;
         after = rest.after;

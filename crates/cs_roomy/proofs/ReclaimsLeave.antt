@@ -1,5 +1,5 @@
 -- What reclaims leave for puts, and what a sync leaves behind a sweep that was given up.
-use Rattle.std.proofs.Common.{◌≡◌, inl, inr, ℕ, ◌+◌, ◌-◌, ◌*◌, ◌<◌, ◌≤◌, Bool, true, false, [], ◌∷◌, None, length, refl, sym, ap, ◌∙◌, subst, arith}
+use Rattle.std.proofs.Common.{◌≡◌, inl, inr, ℕ, ◌+◌, ◌-◌, ◌*◌, ◌<◌, ◌≤◌, Bool, true, false, [], ◌∷◌, None, length, le_refl, refl, sym, ap, ◌∙◌, subst, arith}
 use Rattle.cs_deps.specs.declared.refusals.Refusal.TheVariants.{HistoryFull}
 use Rattle.cs_disk.specs.declared.disk.PageDisk.{Ghosts as PageDisk}
 use Rattle.cs_extent.specs.State.{extents_of, shape}
@@ -29,13 +29,22 @@ use Rattle.cs_roomy.proofs.CoreSteps.{IsAt}
 use Rattle.cs_roomy.proofs.CoreSweeps.{chunks_counted, room_in}
 use Rattle.cs_roomy.proofs.HavingRoom.{format_is}
 use Rattle.cs_roomy.proofs.KeepingRoom.{IsRoomyState, reached_state, state_of, young_before}
+use Rattle.cs_roomy.proofs.ReclaimChoices.{chose_by, none_within}
 use Rattle.cs_roomy.proofs.ReclaimsChoose.{none_chosen}
 use Rattle.cs_roomy.proofs.ReclaimsGain.{AreLinked, links, none_below, one_in, reached_in, reclaims_reach}
-use Rattle.cs_roomy.proofs.Reaching.{Anything, IsOfRounds, all_turns, any_sync, reaches_events, reaches_finishes, reaches_then, reaches_went}
+use Rattle.cs_roomy.proofs.Reaching.{Anything, IsOfRounds, all_turns, any_sync, reaches_events, reaches_finishes, reaches_ran, reaches_then, reaches_went}
 use Rattle.cs_roomy.specs.Cores.{NoneWornIn}
-use Rattle.cs_roomy.specs.Reclaims.{IsIdle, IsReclaim, ReclaimsBy}
+use Rattle.cs_roomy.specs.Reclaims.{IsIdle, IsReclaim, NoneFailed, ReclaimsBy}
 use Rattle.cs_roomy.specs.Roomy.{IsRoomyCore}
 use Rattle.cs_roomy.specs.Sweeps.{AreLeftForPuts, LiveAtMost, chunk_extents_of}
+
+-- where no call of the disk failed as one more found nothing to sweep, none failed before that either
+pub none_parts : {D : Type 0} (disks : PageDisk D) (v w x : View D) (k : ℕ) → ReclaimsBy disks k v w → IsReclaim disks w None x → NoneFailed disks v x
+    → NoneFailed disks v w × NoneFailed disks w x
+none_parts disks v w x k by call none = (
+  none_within disks v v w x (le_refl (disks.failure_count v.disk)) (reaches_ran disks w x call.ran).later none,
+  none_within disks v w x x (reclaims_reach disks k v w by).later (le_refl (disks.failure_count x.disk)) none,
+)
 
 module _ {D : Type 0} (disks : PageDisk D) (sized : (d : D) → disks.honest d → length (disks.state d).durable ≡ disks.page_count d)
     (v : View D) (roomy : IsRoomyCore disks v) (idle : IsIdle v) where
@@ -59,14 +68,14 @@ module _ {D : Type 0} (disks : PageDisk D) (sized : (d : D) → disks.honest d �
   no_mark = none_below s.world.extents.swept (shape v.store.extents).extents
       (λ e lt. ap (λ (x : Extents). x.swept e) at_start.is_in.store.parts.world.extents ∙ idle.none_swept e lt)
 
-  module _ (w : View D) (young : NoneWornIn w) (k : ℕ) (by : ReclaimsBy disks k v w) where
+  module _ (w : View D) (young : NoneWornIn w) (k : ℕ) (by : ReclaimsBy disks k v w) (none_failed : NoneFailed disks v w) where
     before : NoneWornIn v
     before = young_before disks v w (state_of disks v roomy) (reclaims_reach disks k v w by) young
 
     linked : AreLinked disks sized (shape v.store.extents) shape_is (format_is v.store.extents roomy.geometry) roomy.apart k
         (first before).0 w
     linked = links disks sized (shape v.store.extents) shape_is (format_is v.store.extents roomy.geometry) roomy.apart k v w roomy young
-        idle by s at_start (first before).0 (first before).1
+        idle by none_failed s at_start (first before).0 (first before).1
 
     -- as many extents hold chunks as in room
     as_left : (n : ℕ) → chunk_extents linked.after (shape v.store.extents).extents + n + (shape v.store.extents).run_extents + 2
@@ -93,13 +102,14 @@ module _ {D : Type 0} (disks : PageDisk D) (sized : (d : D) → disks.honest d �
         → LiveAtMost disks.state v pages
         → 2 * pages < ((shape v.store.extents).extents - ((shape v.store.extents).run_extents + 1 + n))
         * ((shape v.store.extents).pages + 1)
-        → IsReclaim disks w None x → AreLeftForPuts n w
-    left_by_fewer n pages x large live share call =
+        → IsReclaim disks w None x → NoneFailed disks w x → AreLeftForPuts n w
+    left_by_fewer n pages x large live share call none_behind =
         let few : all_pages (first before).0.chunks ≤ pages = live (first before).0
         (room_in disks (shape v.store.extents) v s (first before).0 at_start (first before).1.room) in
         let none : NoTwoFit (shape v.store.extents) (shape v.store.extents).run_extents linked.after =
         subst (λ (T : Shape). NoTwoFit T T.run_extents linked.after) linked.here.same
-        (none_chosen disks sized w x None call linked.roomy linked.idle linked.then_in linked.here.is_in linked.after
+        (none_chosen disks sized w x None call (chose_by disks sized w linked.roomy x None call linked.then_in linked.here.is_in) none_behind
+        linked.roomy linked.idle linked.then_in linked.here.is_in linked.after
         (subst (λ (T : Shape). HasRoomNow T (formats_of T) linked.then_in linked.after) (sym linked.here.same) linked.has) refl) in
         as_left n (none_left (shape v.store.extents) (shape v.store.extents).run_extents n k (first before).0 linked.after
         (first before).1.keeps some large (omega (arith, few, share)) linked.swept none)

@@ -24,23 +24,23 @@ pub record IsIdle {D : Type 0} (v : View D) : Type 0 where
   pub none_opened : (extents_of v.store.extents).fresh ≡ None
 
 module _ {D : Type 0} (disks : PageDisk D) where
-  -- What a call of reclaim did that answered this, by its clauses `chosen` and `ran`. No shard is damaged, and no read failed as it chose.
+  -- What a call of reclaim did that answered this: its clauses `chosen` and `ran`, of a store with the clauses `whole` and `graph` of `found` and with a map
+  -- of which no shard is damaged.
   pub record IsReclaim (v : View D) (found : Option Reclaimed) (w : View D) : Type 0 where
     pub whole : IsWhole v.store.extents
     pub graph : IsWholeGraph v.store.graph
     pub shards : Map
     pub has_map : HasMap v shards
     pub undamaged : NoneDamaged shards
-    pub view : ℕ → List ℕ
-    pub newest : AreNewest v.store.graph (seen (disks.state v.disk)) view
-    pub chunks : List Chunk
-    pub live : AreLiveChunks (index_of v.store.index) chunks
-    pub read : View D
-    pub reads : ReadsOn disks v read
-    pub reclaims : Reclaims disks read found w
-    pub goes : GoesBy disks (heads_of v.store.extents view chunks) (names (index_of v.store.index)) v read (reclaimed_extent found)
-    pub none_failed : ¬ Rises (disks.failure_count v.disk) (disks.failure_count read.disk)
+    pub chosen : disks.honest v.disk → (view : ℕ → List ℕ) (chunks : List Chunk) → AreNewest v.store.graph (seen (disks.state v.disk)) view
+        → AreLiveChunks (index_of v.store.index) chunks
+        → (read : View D) × ReadsOn disks v read × Reclaims disks read found w
+        × GoesBy disks (heads_of v.store.extents view chunks) (names (index_of v.store.index)) v read (reclaimed_extent found)
     pub ran : Ran disks v w
+
+  -- no call of the disk failed from v to w: its count of failures hasn't risen, nor does it stand at its end
+  abbrev pub NoneFailed : View D → View D → Type 0
+  NoneFailed v w = ¬ Rises (disks.failure_count v.disk) (disks.failure_count w.disk)
 
   -- there was a sync, or none
   abbrev pub AreSynced : View D → View D → Type 0

@@ -11,7 +11,7 @@ ghost use Rattle.cs_survey.specs.Chunks.{AreLiveChunks, Chunk};
 ghost use Rattle.cs_survey.specs.declared.extent_uses.ExtentUse.{ExtentUse};
 ghost use Rattle.cs_survey.specs.Uses.{AreCounted, AreExtents, heads_of};
 ghost use Rattle.cs_roomy.specs.Cores.{NoneWornIn};
-ghost use Rattle.cs_roomy.specs.Reclaims.{IsIdle, IsReclaim, ReclaimsBy, total_live};
+ghost use Rattle.cs_roomy.specs.Reclaims.{IsIdle, IsReclaim, NoneFailed, ReclaimsBy, total_live};
 ghost use Rattle.cs_roomy.specs.Roomy.{IsRoomyCore};
 ghost use Rattle.cs_roomy.specs.Sweeps.{AreLeftForPuts, LiveAtMost};
 
@@ -19,14 +19,15 @@ use cs_disk::PageDisk;
 
 /// A sync and 2n calls of reclaim that sweep leave n extents for puts, with syncs between them or none: of two that follow one another the first or the
 /// second gives an extent, since what it chooses fits behind what the first one copied. Where one finds nothing to sweep before that, n extents are left
-/// already, as long as less than (E - J - 1 - n)(P + 1) / 2 pages of chunks live.
+/// already, as long as less than (E - J - 1 - n)(P + 1) / 2 pages of chunks live. All that, where no shard is damaged and none of the disk's calls failed
+/// meanwhile.
 pub fn reclaims_leave_room_for_puts<D: PageDisk>()
     ensures all { (v w : View D) (n : ℕ) → IsRoomyCore D.PageDisk v → NoneWornIn w → IsIdle v → ReclaimsBy D.PageDisk (2 * n) v w
-        → AreLeftForPuts n w }
+        → NoneFailed D.PageDisk v w → AreLeftForPuts n w }
     ensures fewer { (v w x : View D) (n k pages : ℕ) → IsRoomyCore D.PageDisk v → NoneWornIn w → IsIdle v
         → (let S = shape v.store.extents in (S.run_extents + n + 3 ≤ S.extents)
         → LiveAtMost D.state v pages → 2 * pages < (S.extents - (S.run_extents + 1 + n)) * (S.pages + 1)
-        → ReclaimsBy D.PageDisk k v w → IsReclaim D.PageDisk w None x → AreLeftForPuts n w) }
+        → ReclaimsBy D.PageDisk k v w → IsReclaim D.PageDisk w None x → NoneFailed D.PageDisk v x → AreLeftForPuts n w) }
     // After a sync where no sweep goes on, nothing is left of one that was given up.
     ensures synced { (u v : View D) → IsRoomyCore D.PageDisk u → NoneWornIn v → Syncs D.PageDisk u v
         → ((e : ℕ) → e < (shape v.store.extents).extents → (extents_of v.store.extents).swept e ≡ false) → IsIdle v }
