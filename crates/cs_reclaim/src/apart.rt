@@ -46,7 +46,7 @@ pub fn a_swept_extent_stays_apart()
 
 /// Where chunks and runs lie apart a copy keeps the chunks of every shard, and so do a Stage and a Retire: what was read at their places
 /// before is read where they are afterwards, as far as it lay below the pointers of its extents, in their generations, and there it
-/// lies again. What was copied stays so as well. A frame that lay across its pointer as the store was opened isn't spoken of here.
+/// lies again. A further copy keeps what was copied before it, too. A frame that lay across its pointer as the store was opened isn't spoken of here.
 pub fn a_sweep_apart_keeps_every_shard()
     ensures copied { (s : IndexState) (x y : State) (g h : GraphState) (copies after : List Copy) (e id chunk : ℕ) (payload : List ℕ) (image : Image) (view now : ℕ → List ℕ)
         → IsWhole x → IsCopyMade s x g copies e id chunk payload after y h → IsWholeGraph h → AreNewest g image view → AreNewest h image now
