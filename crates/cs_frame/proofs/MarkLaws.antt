@@ -18,15 +18,15 @@ digit page k low = sym (get_or-drop 9 page k 0) ∙ sym (get_or-take 8 (drop 9 p
 pub number_is_read : (page : List ℕ) → IsBytes page → digest_number page ≡ number 9 17 page
 number_is_read page are =
     let low : number 9 17 page < 2 ^ 64 = number_below page 9 17 are in
-    let d0 = digit page 0 (omega arith) in
-    let d1 = digit page 1 (omega arith) in
-    let d2 = digit page 2 (omega arith) in
-    let d3 = digit page 3 (omega arith) in
-    let d4 = digit page 4 (omega arith) in
-    let d5 = digit page 5 (omega arith) in
-    let d6 = digit page 6 (omega arith) in
-    let d7 = digit page 7 (omega arith) in
-    omega (arith, low, d0, d1, d2, d3, d4, d5, d6, d7)
+    let digit_0 = digit page 0 (omega arith) in
+    let digit_1 = digit page 1 (omega arith) in
+    let digit_2 = digit page 2 (omega arith) in
+    let digit_3 = digit page 3 (omega arith) in
+    let digit_4 = digit page 4 (omega arith) in
+    let digit_5 = digit page 5 (omega arith) in
+    let digit_6 = digit page 6 (omega arith) in
+    let digit_7 = digit page 7 (omega arith) in
+    omega (arith, low, digit_0, digit_1, digit_2, digit_3, digit_4, digit_5, digit_6, digit_7)
 
 -- in a frame's first page these are the first of its payload's digest
 in_page : (kind : ℕ) (pages : List (List ℕ)) (payload : List ℕ) → SpellsFrame kind pages payload
