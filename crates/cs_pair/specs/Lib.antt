@@ -1,0 +1,7 @@
+pub mod Findings
+pub mod Noted
+pub mod Paired
+pub mod Pairs
+pub mod Reads
+pub mod Stores
+pub mod Tears

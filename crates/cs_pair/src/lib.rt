@@ -1,0 +1,19 @@
+//! A disk whose most important pages lie twice on the device below, so that a torn or damaged one of them is survived.
+#![tactic(auto)]
+
+mod faults;
+mod findings;
+mod notes;
+mod paired;
+mod pairs;
+mod places;
+mod readings;
+mod stores;
+mod tears;
+
+pub use faults::PairFault;
+pub use findings::{Finding, Half};
+pub use paired::Paired;
+pub use pairs::{Held, PageRules, Pair};
+pub use stores::{StoreRules, find_geometry, pairs_of_store};
+pub use tears::Fate;

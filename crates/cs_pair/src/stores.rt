@@ -1,0 +1,181 @@
+// The pairs of a store.
+ghost use Rattle.std.specs.Prelude.{◌≡◌, ◌<◌, ◌≤◌, IfErr, IfOk, MatchResult, IfSome};
+ghost use Rattle.cs_disk.specs.Disk.{HasCause, LeavesOnly, MayLeave, Rises, flushed, seen};
+ghost use Rattle.cs_frame.specs.Geometries.{Dimensions, IsKnown};
+ghost use Rattle.cs_pair.specs.Pairs.{ArePairs};
+ghost use Rattle.cs_pair.specs.Reads.{OnlyReads};
+ghost use Rattle.cs_pair.specs.Stores.{dimensions_on, is_section, pages_of, pairs_where, root_version, section_at, section_version, store_pair, store_pairs, store_version};
+
+use crate::pairs::{PageRules, Pair};
+use cs_disk::{DiskFault, PageDisk};
+use cs_frame::{FormatFault, Geometry, Superblock, decode_root, decode_section, decode_superblock};
+use std::alloc::{AllocError, Global};
+
+/// What tells of the pages of a store that lie in pairs whether they are whole: the root of its format, and of each section of its superblock that
+/// it is that section of a store of these dimensions. Where there is no store no page is.
+#[derive(Clone, Copy, Drop)]
+pub struct StoreRules {
+    pub alloc: Global,
+    pub geometry: Option<Geometry>,
+}
+
+/// The version of the root that these bytes spell in this format, and 0 where they spell none.
+fn root_version(alloc: Global, bytes: &[u8; 4096], format: u8) -> Result<u64, DiskFault>
+    requires { IsKnown format }
+    ensures version { IfOk result (λ found. found ≡ root_version format bytes.now) }
+    ensures memory { IfErr result (λ fault. fault ≡ DiskFault.OutOfMemory) }
+{
+    match decode_root(alloc, bytes, format) {
+        Ok(root) => Ok(root.version),
+        Err(FormatFault::OutOfMemory) => Err(DiskFault::OutOfMemory),
+        Err(_) => Ok(0),
+    }
+}
+
+/// Whether a section is this one of a store of this geometry.
+fn is_of(superblock: &Superblock, geometry: Geometry, section: u64) -> bool {
+    superblock.extent_count == geometry.extents()
+        && superblock.pages == geometry.pages()
+        && superblock.sections == geometry.sections()
+        && u64::from(superblock.section) == section
+}
+
+/// The version of this section that these bytes spell, and 0 where they spell none.
+fn section_version(
+    alloc: Global,
+    bytes: &[u8; 4096],
+    geometry: Geometry,
+    section: u64,
+) -> Result<u64, DiskFault>
+    ensures version { IfOk result (λ found. found ≡ section_version geometry section bytes.now) }
+    ensures memory { IfErr result (λ fault. fault ≡ DiskFault.OutOfMemory) }
+{
+    match decode_section(alloc, bytes, geometry.format()) {
+        Ok(superblock) => Ok(if is_of(&superblock, geometry, section) {
+            superblock.version
+        } else {
+            0
+        }),
+        Err(FormatFault::OutOfMemory) => Err(DiskFault::OutOfMemory),
+        Err(_) => Ok(0),
+    }
+}
+
+/// Which section a page holds.
+fn section_at(geometry: Geometry, number: u64) -> u64
+    ensures { result ≡ section_at geometry number }
+{
+    if number == 0 {
+        0
+    } else {
+        number.saturating_sub(1 + u64::from(geometry.extents()) * u64::from(geometry.pages()))
+    }
+}
+
+impl PageRules for StoreRules {
+    ghost version = { λ r. store_version r.geometry };
+
+    fn version_of(&self, number: u64, bytes: &[u8; 4096]) -> Result<u64, DiskFault> {
+        match self.geometry {
+            None => Ok(0),
+            Some(geometry) => {
+                if number == 1 {
+                    root_version(self.alloc, bytes, geometry.format())
+                } else {
+                    section_version(self.alloc, bytes, geometry, section_at(geometry, number))
+                }
+            }
+        }
+    }
+}
+
+/// A pair of a store of format 3, from 0 on: that of section 0, that of the root, those of the other sections.
+fn store_pair(geometry: Geometry, k: u64) -> Pair
+    requires { k ≤ geometry.sections }
+    ensures { result ≡ store_pair geometry k }
+{
+    let frames = u64::from(geometry.extents()) * u64::from(geometry.pages());
+    Pair {
+        page: if k < 2 { k } else { frames + k },
+        twin: geometry.device_pages() - (1 + k),
+    }
+}
+
+/// The pairs of a store: those of section 0, of the root, and of the other sections, whose twins are the last pages of the device, from
+/// the very last on downwards. Before format 3 there are none.
+pub fn pairs_of_store(alloc: Global, geometry: Geometry) -> Result<Vec<Pair>, AllocError>
+    ensures pairs { IfOk result (λ pairs. pairs.items ≡ store_pairs geometry) }
+    ensures are { IfOk result (λ pairs. ArePairs pairs.items (pages_of geometry)) }
+{
+    let mut pairs = Vec::new(alloc);
+    if geometry.format() == 3 {
+        for k in 0..=u64::from(geometry.sections()) {
+            pairs.push(store_pair(geometry, k))?;
+        }
+    }
+    Ok(pairs)
+}
+
+/// The geometry of the store of format 3 on a device of so many pages whose section 0 this is.
+fn named_by(pages: u64, superblock: &Superblock) -> Option<Geometry> {
+    if superblock.format != 3 || superblock.section != 0 {
+        return None;
+    }
+    match Geometry::of_format(
+        3,
+        u64::from(superblock.extent_count),
+        u64::from(superblock.pages),
+        Some(u64::from(superblock.sections)),
+    ) {
+        Ok(geometry) if geometry.device_pages() == pages => Some(geometry),
+        _ => None,
+    }
+}
+
+/// The geometry of the store on a device whose pages lie in pairs, where there is one, of format 3: that which page 0 says where it is whole, in whatever
+/// format, and else that which the last page says.
+pub fn find_geometry<D: PageDisk>(
+    alloc: Global,
+    disk: &mut D,
+) -> Result<Option<Geometry>, DiskFault>
+    requires { 0 < D.page_count disk.old }
+    ensures found { D.honest disk.old → IfOk result (λ found. found ≡ dimensions_on (D.page_count disk.old) (seen (D.state disk.old))) }
+    ensures pages { IfOk result (λ found. IfSome found (λ d. pages_of d ≡ D.page_count disk.old)) }
+    ensures disk { OnlyReads D.PageDisk disk.old disk.new }
+    ensures cause { HasCause (D.failure_count disk.old) (D.failure_count disk.new) result }
+{
+    let pages = disk.pages();
+    let mut buffer = [0; 4096];
+    match disk.read(0, &mut buffer) {
+        Ok(()) => {}
+        Err(fault) => return Err(fault),
+    }
+    match decode_superblock(alloc, &buffer) {
+        Ok(superblock) => Ok(named_by(pages, &superblock)),
+        Err(FormatFault::OutOfMemory) => Err(DiskFault::OutOfMemory),
+        Err(_) => find_last(alloc, disk, pages),
+    }
+}
+
+/// The geometry that the last page says.
+fn find_last<D: PageDisk>(
+    alloc: Global,
+    disk: &mut D,
+    pages: u64,
+) -> Result<Option<Geometry>, DiskFault>
+    requires pages { pages ≡ D.page_count disk.old }
+    requires some { 0 < pages }
+    ensures disk { OnlyReads D.PageDisk disk.old disk.new }
+    ensures cause { HasCause (D.failure_count disk.old) (D.failure_count disk.new) result }
+{
+    let mut buffer = [0; 4096];
+    match disk.read(pages - 1, &mut buffer) {
+        Ok(()) => {}
+        Err(fault) => return Err(fault),
+    }
+    match decode_section(alloc, &buffer, 3) {
+        Ok(superblock) => Ok(named_by(pages, &superblock)),
+        Err(FormatFault::OutOfMemory) => Err(DiskFault::OutOfMemory),
+        Err(_) => Ok(None),
+    }
+}
