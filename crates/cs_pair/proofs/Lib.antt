@@ -1,2 +1,5 @@
 pub mod Roles
 pub mod Shown
+pub mod Leaving
+pub mod OnlyRead
+pub mod Holding

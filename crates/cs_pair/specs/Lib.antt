@@ -5,3 +5,4 @@ pub mod Pairs
 pub mod Reads
 pub mod Stores
 pub mod Tears
+pub mod Laws

@@ -1,5 +1,7 @@
 // A disk in pairs.
 ghost use Rattle.std.specs.Prelude.{◌≡◌};
+ghost use Rattle.cs_disk.specs.Disk.{IsWhole};
+ghost use Rattle.cs_pair.specs.Laws.{ShowsKept};
 ghost use Rattle.cs_pair.specs.Noted.{AreNotes, AreRight, failed};
 ghost use Rattle.cs_pair.specs.Pairs.{ArePairs, left_shown, shown_state};
 
@@ -30,6 +32,9 @@ pub struct Paired<D: PageDisk, R: PageRules> {
     ghost apart: { ArePairs pairs.items (D.page_count disk) },
     ghost noted: { AreNotes pairs.items notes },
     ghost right: { D.honest disk → AreRight (R.version rules) pairs.items notes (D.state disk) },
+    // What follows from these is said to the trait's laws.
+    ghost shows: { D.honest disk → ShowsKept (R.version rules) pairs.items (D.state disk) },
+    ghost whole: { D.honest disk → IsWhole (shown_state (R.version rules) pairs.items (D.state disk)) },
 }
 
 impl<D: PageDisk, R: PageRules> Paired<D, R> {
@@ -139,6 +144,9 @@ impl<D: PageDisk, R: PageRules> Paired<D, R> {
 }
 
 impl<D: PageDisk, R: PageRules> PageDisk for Paired<D, R> {
+    ghost use Rattle.std.proofs.Common.{◌∙◌};
+    ghost use Rattle.cs_pair.specs.Laws.{counts_pairs, only_pairs, sized_shown};
+
     ghost honest = { λ p. D.honest p.disk };
 
     ghost state = { λ p. shown_state (R.version p.rules) p.pairs.items (D.state p.disk) };
@@ -188,16 +196,20 @@ impl<D: PageDisk, R: PageRules> PageDisk for Paired<D, R> {
         self.notes.flush(&mut self.disk, &self.rules, &self.pairs)
     }
 
-    ghost sized = { λ p h. ? };
+    ghost sized = { λ p h. sized_shown (R.version p.rules) p.pairs.items (D.state p.disk).durable ∙ D.sized p.disk h };
 
-    ghost whole = { λ p h. ? };
+    ghost whole = { λ p h. p.whole h };
 
-    ghost counts_now = { λ p t c h le now. ? };
+    ghost counts_now = { λ p t c h le now. counts_pairs (R.version p.rules) p.pairs.items (D.state p.disk) (p.shows h) (D.left_since p.disk) t (λ image is. D.counts_now p.disk t image h le is) c now };
 
-    ghost only_now = { λ p c h left. ? };
+    ghost only_now = { λ p c h left. only_pairs (R.version p.rules) p.pairs.items (D.state p.disk) (p.shows h) (D.left_since p.disk) (D.moment p.disk) (λ image is. D.only_now p.disk image h is) c left };
 }
 
 impl<D: CrashDisk, R: PageRules> CrashDisk for Paired<D, R> {
+    ghost use Rattle.std.proofs.Common.{sym, ◌∙◌};
+    ghost use Rattle.std.proofs.lemmas.List.{length-map};
+    ghost use Rattle.cs_pair.specs.Pairs.{shown_write};
+
     ghost can_crash = { λ p. D.can_crash p.disk };
 
     ghost volatile_count = { λ p. D.volatile_count p.disk };
@@ -229,5 +241,5 @@ impl<D: CrashDisk, R: PageRules> CrashDisk for Paired<D, R> {
         }
     }
 
-    ghost counted = { λ p h can. ? };
+    ghost counted = { λ p h can. D.counted p.disk h can ∙ sym (length-map (D.state p.disk).volatile (shown_write p.pairs.items)) };
 }
