@@ -1,5 +1,5 @@
 -- A write to a pair.
-use Rattle.std.proofs.Common.{◌≡◌, ◌≢◌, ◌⊎◌, inl, inr, ⊎_elim, if◌then◌else◌, ◌==◌, ℕ, zero, suc, ◌+◌, ◌<◌, ◌≤◌, Bool, true, false, not, List, [], ◌∷◌, ◌++◌, Some, slice_get, get_or, set, length, map, nat_le, refl, sym, ◌∙◌, ap, subst, arith}
+use Rattle.std.proofs.Common.{◌≡◌, ◌≢◌, ◌⊎◌, inl, inr, ⊎_elim, if◌then◌else◌, ◌==◌, ℕ, zero, suc, ◌+◌, ◌<◌, ◌≤◌, Bool, true, false, not, List, [], ◌∷◌, ◌++◌, Some, slice_get, get_or, set, length, map, nat_le, refl, Result, Ok, Err, OnOk, sym, ◌∙◌, ap, subst, arith}
 use Rattle.std.proofs.lemmas.Bool.Decides.{leb_tells}
 use Rattle.std.proofs.lemmas.List.{get_or-map, map_push}
 use Rattle.std.proofs.lemmas.Option.{get_or_from_slice_get, same_Some, slice_get-get_or, slice_get_within}
@@ -186,3 +186,18 @@ went_to V pairs notes s now k p bytes d durable right read durable_at goes (inr 
 pub shows_written : (V : Versions) (pairs : List Pair) (n : ℕ) (s : State) (k : ℕ) (x : Pair) (twin : Bool) (bytes : List ℕ) → ArePairs pairs n → slice_get pairs k ≡ Some x
     → shown_state V pairs (written s (half x twin) bytes) ≡ written (shown_state V pairs s) x.page bytes
 shows_written V pairs n s k x twin bytes are at = shows_as_written V pairs s (half x twin) x.page bytes (shows_as-half pairs n are k x twin at)
+
+pub shows_now : (V : Versions) (pairs : List Pair) (n : ℕ) (s mid now : State) (k : ℕ) (x : Pair) (twin : Bool) (bytes : List ℕ) → ArePairs pairs n → slice_get pairs k ≡ Some x → mid ≡ s
+    → now ≡ written mid (half x twin) bytes → shown_state V pairs now ≡ written (shown_state V pairs s) x.page bytes
+shows_now V pairs n s mid now k x twin bytes are at same is =
+    ap (shown_state V pairs) (is ∙ ap (λ (z : State). written z (half x twin) bytes) same) ∙ shows_written V pairs n s k x twin bytes are at
+
+pub shows_ok : {T E : Type 0} (result : Result T E) (V : Versions) (pairs : List Pair) (n : ℕ) (s mid now : State) (k : ℕ) (x : Pair) (twin : Bool) (bytes : List ℕ) → ArePairs pairs n → slice_get pairs k ≡ Some x → mid ≡ s
+    → OnOk result (now ≡ written mid (half x twin) bytes) → OnOk result (shown_state V pairs now ≡ written (shown_state V pairs s) x.page bytes)
+shows_ok (Ok t) V pairs n s mid now k x twin bytes are at same is = shows_now V pairs n s mid now k x twin bytes are at same is
+shows_ok (Err e) V pairs n s mid now k x twin bytes are at same is = tt
+
+pub shows_either : (V : Versions) (pairs : List Pair) (n : ℕ) (s mid now : State) (k : ℕ) (x : Pair) (twin : Bool) (bytes : List ℕ) → ArePairs pairs n → slice_get pairs k ≡ Some x → mid ≡ s
+    → (now ≡ mid) ⊎ (now ≡ written mid (half x twin) bytes) → (shown_state V pairs now ≡ shown_state V pairs s) ⊎ (shown_state V pairs now ≡ written (shown_state V pairs s) x.page bytes)
+shows_either V pairs n s mid now k x twin bytes are at same (inl still) = inl (ap (shown_state V pairs) (still ∙ same))
+shows_either V pairs n s mid now k x twin bytes are at same (inr is) = inr (shows_now V pairs n s mid now k x twin bytes are at same is)
