@@ -5,3 +5,5 @@ pub mod OnlyRead
 pub mod Holding
 pub mod Right
 pub mod Writing
+pub mod Over
+pub mod Opening

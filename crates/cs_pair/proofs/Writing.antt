@@ -11,18 +11,13 @@ use Rattle.cs_pair.specs.declared.pairs.Held.{Held}
 use Rattle.cs_pair.specs.declared.pairs.Pair.{Pair}
 use Rattle.cs_pair.specs.Noted.{AreRight}
 use Rattle.cs_pair.specs.Pairs.{ArePairs, AreNewer, IsNewer, Versions, half, held_in, is_turned, shown_state, shown_write, shows_as, version_at}
+use Rattle.cs_pair.proofs.Right.{pushed_at, same_map}
 use Rattle.cs_pair.proofs.Roles.{if_same, shows_as-half}
 use Rattle.cs_pair.proofs.Shown.{IsLast, held_same, newest_stays, turned_held}
 
 -- ---- lists
 
--- an element of a list with one more
-pushed_at : {A : Type 0} (xs : List A) (y : A) (i : ℕ) (x : A) → slice_get (xs ++ y ∷ []) i ≡ Some x → (slice_get xs i ≡ Some x) ⊎ (y ≡ x)
-pushed_at [] y zero x at = inr (same_Some y x at)
-pushed_at [] y (suc i) x at = cc
-pushed_at (z ∷ xs) y zero x at = inl at
-pushed_at (z ∷ xs) y (suc i) x at = pushed_at xs y i x at
-
+-- the last of a list with one more
 last_at : {A : Type 0} (xs : List A) (y : A) → slice_get (xs ++ y ∷ []) (length xs) ≡ Some y
 last_at [] y = refl
 last_at (z ∷ xs) y = last_at xs y
@@ -30,10 +25,6 @@ last_at (z ∷ xs) y = last_at xs y
 latest_pushed : (writes : List Write) (w : Write) (p : ℕ) (bytes : List ℕ) → w.0 ≡ p → latest (writes ++ w ∷ []) p bytes ≡ w.1
 latest_pushed [] w p bytes goes = subst (λ q. (if w.0 == q then w.1 else bytes) ≡ w.1) goes (if_same w.0 w.1 bytes)
 latest_pushed (x ∷ writes) w p bytes goes = latest_pushed writes w p (if x.0 == p then x.1 else bytes) goes
-
-same_map : {A B : Type 0} (f g : A → B) (xs : List A) → ((j : ℕ) (x : A) → slice_get xs j ≡ Some x → f x ≡ g x) → map f xs ≡ map g xs
-same_map f g [] same = refl
-same_map f g (x ∷ xs) same = ap (λ b. b ∷ map f xs) (same 0 x refl) ∙ ap (λ l. g x ∷ l) (same_map f g xs (λ j y at. same (suc j) y at))
 
 -- a map of which one value changed
 set_map : {A B : Type 0} (f g : A → B) (xs : List A) (k : ℕ) (h : B) → ((j : ℕ) (x : A) → slice_get xs j ≡ Some x → (j ≡ k → ⊥) → f x ≡ g x) → ((x : A) → slice_get xs k ≡ Some x → h ≡ g x)
@@ -66,7 +57,7 @@ goes_to V image pairs durable k p x d h is at read goes =
     goes ∙ ap (λ (z : Pair). half z (not h.turned)) (get_or_from_slice_get pairs k x d at) ∙ ap (λ (z : Held). half x (not z.turned)) (noted_at V image pairs durable k x h is at read)
 
 -- the newest half has the greatest version
-greatest : (f : Bool → ℕ) (b : Bool) → f b ≤ f (nat_le (f false) (f true))
+pub greatest : (f : Bool → ℕ) (b : Bool) → f b ≤ f (nat_le (f false) (f true))
 greatest f b = ⊎_elim
     (λ (le : (nat_le (f false) (f true) ≡ true) × (f false ≤ f true)). subst (λ (t : Bool). f b ≤ f t) (sym le.0) (up b le.1))
     (λ (lt : (nat_le (f false) (f true) ≡ false) × (f true < f false)). subst (λ (t : Bool). f b ≤ f t) (sym lt.0) (down b lt.1))
@@ -120,7 +111,7 @@ module _ (V : Versions) (pairs : List Pair) (s : State) (p k version : ℕ) (byt
         newest ∙ ap (λ (l : List Held). set l k (record { turned = not (is_turned V s.durable x); version = version })) (right.newest read)
         ∙ set_map (held_in V (seen s)) (held_in V (seen (written s p bytes))) pairs k (record { turned = not (is_turned V s.durable x); version = version }) held_else
         (λ z at_z. sym held_here ∙ ap (λ (y : Pair). held_in V (seen (written s p bytes)) y) (same_Some x z (sym at ∙ at_z)));
-    settled = λ unread. cc;
+    unwritten = λ unread. cc;
   })
 
   -- and where it isn't known whether the write is there, what isn't said of the notes stays
@@ -129,7 +120,7 @@ module _ (V : Versions) (pairs : List Pair) (s : State) (p k version : ℕ) (byt
     newer = ⊎_elim (λ (same : now ≡ s). subst (λ (z : State). AreNewer V pairs z) (sym same) newer) (λ (same : now ≡ written s p bytes). subst (λ (z : State). AreNewer V pairs z) (sym same) newer_written) either;
     durable = λ read. cc;
     newest = λ read. cc;
-    settled = λ unread. cc;
+    unwritten = λ unread. cc;
   }
 
 -- what is noted as the newest is no older than what is durable

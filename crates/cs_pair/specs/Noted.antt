@@ -1,8 +1,8 @@
 -- What is noted of pairs.
-use Rattle.std.specs.Prelude.{◌≡◌, ◌+◌, ◌-◌, ◌^◌, ℕ, Bool, List, [], Some, length, map, min, slice_get}
-use Rattle.cs_disk.specs.Disk.{Image, State, seen}
+use Rattle.std.specs.Prelude.{◌≡◌, ◌+◌, ◌-◌, ◌^◌, ℕ, Bool, List, Some, length, map, min, slice_get}
+use Rattle.cs_disk.specs.Disk.{State, Write, seen}
 use Rattle.cs_pair.specs.declared.notes.Notes.{Notes}
-use Rattle.cs_pair.specs.declared.notes.Trust.TheVariants.{Doubted, Read, Unread}
+use Rattle.cs_pair.specs.declared.notes.Trust.TheVariants.{Read, Unread}
 use Rattle.cs_pair.specs.declared.pairs.Pair.{Pair}
 use Rattle.cs_pair.specs.declared.places.Place.{Place}
 use Rattle.cs_pair.specs.declared.places.Place.TheVariants.{Own, OfPair, OfTwin}
@@ -19,13 +19,17 @@ pub record AreNotes (pairs : List Pair) (notes : Notes) : Type 0 where
   pub durable : length notes.durable.items ≡ length pairs
   pub newest : length notes.newest.items ≡ length pairs
 
+-- no volatile write goes to a pair
+abbrev pub NoneIsWritten : List Pair → State → Type 0
+NoneIsWritten pairs s = (k i : ℕ) (x : Pair) (w : Write) (twin : Bool) → slice_get pairs k ≡ Some x → slice_get s.volatile i ≡ Some w → w.0 ≡ half x twin → ⊥
+
 -- Volatile writes are newer than what is durable; where the notes count, they say which half of each pair is the newest of the durable image
--- and of what the disk reads as; and where nothing was read yet, nothing is volatile.
+-- and of what the disk reads as; and where nothing was read yet, no pair was written.
 pub record AreRight (V : Versions) (pairs : List Pair) (notes : Notes) (s : State) : Type 0 where
   pub newer : AreNewer V pairs s
   pub durable : notes.trust ≡ Read → notes.durable.items ≡ map (held_in V s.durable) pairs
   pub newest : notes.trust ≡ Read → notes.newest.items ≡ map (held_in V (seen s)) pairs
-  pub settled : notes.trust ≡ Unread → s.volatile ≡ []
+  pub unwritten : notes.trust ≡ Unread → NoneIsWritten pairs s
 
 -- how many calls failed: those of the device, and those that were refused without it
 abbrev pub failed : ℕ → Notes → ℕ

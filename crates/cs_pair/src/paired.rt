@@ -38,7 +38,7 @@ pub struct Paired<D: PageDisk, R: PageRules> {
 }
 
 impl<D: PageDisk, R: PageRules> Paired<D, R> {
-    ghost use Rattle.std.specs.Prelude.{◌↔◌, ◌⊎◌, ℕ, All, Some, IfErr, IfOk, MatchResult, map, slice_get};
+    ghost use Rattle.std.specs.Prelude.{◌↔◌, ◌⊎◌, ◌≤◌, ℕ, All, Some, IfErr, IfOk, MatchResult, map, slice_get};
     ghost use Rattle.cs_disk.specs.Disk.{HasCause, LeavesOnly, MayLeave, Rises, flushed, seen};
     ghost use Rattle.cs_pair.specs.declared.pairs.Pair.{Pair};
     ghost use Rattle.cs_pair.specs.Findings.{HasWhole, IsNoneWhole, finding_in};
@@ -56,6 +56,7 @@ impl<D: PageDisk, R: PageRules> Paired<D, R> {
         ensures crash { D.honest disk → MatchResult result (λ p. LeavesOnly D.moment D.left_since disk (disk_below p) (MayLeave (D.state disk))) (λ refused. LeavesOnly D.moment D.left_since disk refused.1 (MayLeave (D.state disk))) }
         ensures honest { MatchResult result (λ p. D.honest disk ↔ D.honest (disk_below p)) (λ refused. D.honest disk ↔ D.honest refused.1) }
         ensures pages { MatchResult result (λ p. D.page_count (disk_below p) ≡ D.page_count disk) (λ refused. D.page_count refused.1 ≡ D.page_count disk) }
+        ensures failures { IfOk result (λ p. D.failure_count disk ≤ D.failure_count (disk_below p)) }
         ensures cause { IfErr result (λ refused. refused.0 ≡ DiskFault.DeviceFault → Rises (D.failure_count disk) (D.failure_count refused.1)) }
     {
         let notes = match Notes::new(alloc, pairs.len()) {
@@ -105,6 +106,7 @@ impl<D: PageDisk, R: PageRules> Paired<D, R> {
         ensures crash { D.honest disk → MatchResult result (λ opened. LeavesOnly D.moment D.left_since disk (disk_below opened.0) (MayLeave (D.state disk))) (λ refused. LeavesOnly D.moment D.left_since disk refused.1 (MayLeave (D.state disk))) }
         ensures honest { MatchResult result (λ opened. D.honest disk ↔ D.honest (disk_below opened.0)) (λ refused. D.honest disk ↔ D.honest refused.1) }
         ensures pages { MatchResult result (λ opened. D.page_count (disk_below opened.0) ≡ D.page_count disk) (λ refused. D.page_count refused.1 ≡ D.page_count disk) }
+        ensures failures { IfOk result (λ opened. D.failure_count disk ≤ D.failure_count (disk_below opened.0)) }
         ensures cause { IfErr result (λ refused. refused.0 ≡ PairFault.Disk DiskFault.DeviceFault → Rises (D.failure_count disk) (D.failure_count refused.1)) }
     {
         let mut paired = match Paired::new(alloc, disk, rules, pairs) {
