@@ -1,6 +1,5 @@
 -- What is noted of pairs, as it is read, written and flushed.
 use Rattle.std.proofs.Common.{◌≡◌, ◌⊎◌, inl, inr, ⊎_elim, ℕ, ◌+◌, ◌<◌, ◌≤◌, Bool, true, false, not, if◌then◌else◌, List, [], ◌∷◌, ◌++◌, Some, slice_get, get_or, set, take, length, map, nat_le, refl, sym, ◌∙◌, ap, subst, arith}
-
 use Rattle.std.proofs.lemmas.List.{map_more, take_all, take_more_set}
 use Rattle.std.proofs.lemmas.Option.{slice_get-get_or}
 use Rattle.cs_disk.specs.Disk.{Image, State, Write, applied, page, seen, written, flushed}

@@ -88,6 +88,7 @@ module _ (V : Versions) (pairs : List Pair) where
     durable_bytes = shown_All (λ bytes. IsBytes bytes) s.durable are (zero_bytes 4096) whole.durable_bytes;
     volatile_bytes = volatile_All (λ bytes. IsBytes bytes) s.volatile whole.volatile_bytes;
   }
+
 -- the pairs of a disk with so many pages
 pub are_on : (pairs : List Pair) (pages : ℕ) (image : Image) → ArePairs pairs pages → length image ≡ pages → ArePairs pairs (length image)
 are_on pairs pages image are sized = subst (λ n. ArePairs pairs n) (sym sized) are

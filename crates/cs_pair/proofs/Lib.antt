@@ -7,3 +7,4 @@ pub mod Right
 pub mod Writing
 pub mod Over
 pub mod Opening
+pub mod Spelling

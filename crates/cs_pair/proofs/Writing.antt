@@ -66,6 +66,7 @@ greatest f b = ⊎_elim
     up : (b : Bool) → f false ≤ f true → f b ≤ f true
     up true le = omega arith
     up false le = le
+
     down : (b : Bool) → f true < f false → f b ≤ f false
     down true lt = omega (arith, lt)
     down false lt = omega arith

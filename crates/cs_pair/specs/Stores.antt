@@ -49,26 +49,36 @@ abbrev pub store_version : Option Dimensions → (page : ℕ) → List ℕ → �
 store_version None p bytes = 0
 store_version (Some d) p bytes = if p == 1 then root_version d.format bytes else section_version d (section_at d p) bytes
 
--- the dimensions that a section's page says, in format 3
-abbrev pub dimensions_in : List ℕ → Dimensions
-dimensions_in bytes = record { format = 3; extents = number 12 14 bytes; pages = number 14 16 bytes; sections = slice_index bytes 16 }
+-- the dimensions of a store of format 3 whose section of these numbers is the first, where the device has its pages
+abbrev pub named : (pages format extents extent_pages sections section : ℕ) → Option Dimensions
+named pages format extents extent_pages sections section =
+    if format == 3 && section == 0 && device_pages 3 extents extent_pages sections == pages
+    then Some (record { format = 3; extents = extents; pages = extent_pages; sections = sections }) else None
 
--- the dimensions of the store of format 3 whose section 0 these bytes spell, where the device has its pages
-abbrev pub named_by : (pages : ℕ) → List ℕ → Option Dimensions
-named_by pages bytes = if slice_index bytes 17 == 0 && pages_of (dimensions_in bytes) == pages then Some (dimensions_in bytes) else None
+-- those that a section's page says, in this format
+abbrev pub named_by : (pages format : ℕ) → List ℕ → Option Dimensions
+named_by pages format bytes = named pages format (number 12 14 bytes) (number 14 16 bytes) (slice_index bytes 16) (slice_index bytes 17)
 
-abbrev pub section_names : (pages : ℕ) → Option FormatFault → List ℕ → Option Dimensions
-section_names pages None bytes = named_by pages bytes
-section_names pages (Some fault) bytes = None
+-- what page 0 says: nothing where it isn't whole in any format
+abbrev pub zero_said : (pages : ℕ) → Option FormatFault → List ℕ → Option (Option Dimensions)
+zero_said pages None bytes = Some (if slice_index bytes 3 == 51 then named_by pages 3 bytes else None)
+zero_said pages (Some fault) bytes = None
 
--- what page 0 says, where it is whole, in whatever format, and else what the last page says
-abbrev pub named_where : (pages : ℕ) → Image → Option FormatFault → Option Dimensions
-named_where pages image None = if slice_index (page image 0) 3 == 51 then named_by pages (page image 0) else None
-named_where pages image (Some fault) = section_names pages (superblock_fault 3 (page image (pages - 1))) (page image (pages - 1))
+-- what the last page says, where it is whole in format 3
+abbrev pub last_says : (pages : ℕ) → Option FormatFault → List ℕ → Option Dimensions
+last_says pages None bytes = named_by pages 3 bytes
+last_says pages (Some fault) bytes = None
 
--- the dimensions of the store on a device whose pages lie in pairs; none where there is no store of format 3
+-- the first, or else the second
+abbrev pub or_else : Option (Option Dimensions) → Option Dimensions → Option Dimensions
+or_else (Some said) other = said
+or_else None other = other
+
+-- The dimensions of the store on a device whose pages lie in pairs: those that page 0 says, where it is whole in whatever format, and else
+-- those that the last page says; none where there is no store of format 3.
 abbrev pub dimensions_on : (pages : ℕ) → Image → Option Dimensions
-dimensions_on pages image = named_where pages image (page_zero_fault (page image 0))
+dimensions_on pages image =
+    or_else (zero_said pages (page_zero_fault (page image 0)) (page image 0)) (last_says pages (superblock_fault 3 (page image (pages - 1))) (page image (pages - 1)))
 
 -- the pairs of a store where there is one
 abbrev pub pairs_where : Option Dimensions → List Pair

@@ -1,10 +1,12 @@
 // The pairs of a store.
-ghost use Rattle.std.specs.Prelude.{◌≡◌, ◌<◌, ◌≤◌, IfErr, IfOk, MatchResult, IfSome};
-ghost use Rattle.cs_disk.specs.Disk.{HasCause, LeavesOnly, MayLeave, Rises, flushed, seen};
-ghost use Rattle.cs_frame.specs.Geometries.{Dimensions, IsKnown};
+ghost use Rattle.std.specs.Prelude.{◌≡◌, ◌≢◌, ◌==◌, ◌&&◌, ◌-◌, ◌<◌, ◌≤◌, IfErr, IfOk};
+ghost use Rattle.cs_disk.specs.Disk.{HasCause, page, seen};
+ghost use Rattle.cs_frame.specs.FirstFormat.{page_zero_fault};
+ghost use Rattle.cs_frame.specs.Geometries.{IsGeometry, IsKnown};
+ghost use Rattle.cs_frame.specs.Superblocks.{superblock_fault};
 ghost use Rattle.cs_pair.specs.Pairs.{ArePairs};
 ghost use Rattle.cs_pair.specs.Reads.{OnlyReads};
-ghost use Rattle.cs_pair.specs.Stores.{dimensions_on, is_section, pages_of, pairs_where, root_version, section_at, section_version, store_pair, store_pairs, store_version};
+ghost use Rattle.cs_pair.specs.Stores.{dimensions_on, last_says, named, pages_of, root_version, section_at, section_version, store_pair, store_pairs, store_version, zero_said};
 
 use crate::pairs::{PageRules, Pair};
 use cs_disk::{DiskFault, PageDisk};
@@ -19,6 +21,23 @@ pub struct StoreRules {
     pub geometry: Option<Geometry>,
 }
 
+/// No version, where a page has this fault; refused where memory ran out.
+fn none_spelled(fault: FormatFault) -> Result<u64, DiskFault>
+    ensures none { IfOk result (λ found. (found ≡ 0) × (fault ≢ FormatFault.OutOfMemory)) }
+    ensures memory { IfErr result (λ refused. refused ≡ DiskFault.OutOfMemory) }
+{
+    match fault {
+        FormatFault::OutOfMemory => Err(DiskFault::OutOfMemory),
+        FormatFault::BadGeometry
+        | FormatFault::BadMagic
+        | FormatFault::BadDigest
+        | FormatFault::BadLength
+        | FormatFault::BadPadding
+        | FormatFault::BadVersion
+        | FormatFault::OutOfOrder => Ok(0),
+    }
+}
+
 /// The version of the root that these bytes spell in this format, and 0 where they spell none.
 fn root_version(alloc: Global, bytes: &[u8; 4096], format: u8) -> Result<u64, DiskFault>
     requires { IsKnown format }
@@ -27,13 +46,14 @@ fn root_version(alloc: Global, bytes: &[u8; 4096], format: u8) -> Result<u64, Di
 {
     match decode_root(alloc, bytes, format) {
         Ok(root) => Ok(root.version),
-        Err(FormatFault::OutOfMemory) => Err(DiskFault::OutOfMemory),
-        Err(_) => Ok(0),
+        Err(fault) => none_spelled(fault),
     }
 }
 
 /// Whether a section is this one of a store of this geometry.
-fn is_of(superblock: &Superblock, geometry: Geometry, section: u64) -> bool {
+fn is_of(superblock: &Superblock, geometry: Geometry, section: u64) -> bool
+    ensures { result ≡ (superblock.now.extent_count == geometry.extents && superblock.now.pages == geometry.pages && superblock.now.sections == geometry.sections && superblock.now.section == section) }
+{
     superblock.extent_count == geometry.extents()
         && superblock.pages == geometry.pages()
         && superblock.sections == geometry.sections()
@@ -51,13 +71,14 @@ fn section_version(
     ensures memory { IfErr result (λ fault. fault ≡ DiskFault.OutOfMemory) }
 {
     match decode_section(alloc, bytes, geometry.format()) {
-        Ok(superblock) => Ok(if is_of(&superblock, geometry, section) {
-            superblock.version
-        } else {
-            0
-        }),
-        Err(FormatFault::OutOfMemory) => Err(DiskFault::OutOfMemory),
-        Err(_) => Ok(0),
+        Ok(superblock) => {
+            if is_of(&superblock, geometry, section) {
+                Ok(superblock.version)
+            } else {
+                Ok(0)
+            }
+        }
+        Err(fault) => none_spelled(fault),
     }
 }
 
@@ -109,73 +130,121 @@ pub fn pairs_of_store(alloc: Global, geometry: Geometry) -> Result<Vec<Pair>, Al
 {
     let mut pairs = Vec::new(alloc);
     if geometry.format() == 3 {
-        for k in 0..=u64::from(geometry.sections()) {
+        let count = 1 + u64::from(geometry.sections());
+        for k in 0..count {
             pairs.push(store_pair(geometry, k))?;
         }
     }
     Ok(pairs)
 }
 
-/// The geometry of the store of format 3 on a device of so many pages whose section 0 this is.
-fn named_by(pages: u64, superblock: &Superblock) -> Option<Geometry> {
+/// The geometry of a store of format 3 whose section this is, where it is the first, and the device has so many pages.
+fn named(pages: u64, superblock: &Superblock) -> Option<Geometry>
+    requires { IsGeometry superblock.now.format superblock.now.extent_count superblock.now.pages superblock.now.sections }
+    ensures { result ≡ named pages superblock.now.format superblock.now.extent_count superblock.now.pages superblock.now.sections superblock.now.section }
+{
     if superblock.format != 3 || superblock.section != 0 {
         return None;
     }
-    match Geometry::of_format(
-        3,
-        u64::from(superblock.extent_count),
-        u64::from(superblock.pages),
-        Some(u64::from(superblock.sections)),
-    ) {
-        Ok(geometry) if geometry.device_pages() == pages => Some(geometry),
-        _ => None,
+    let extents = u64::from(superblock.extent_count);
+    let extent_pages = u64::from(superblock.pages);
+    let sections = u64::from(superblock.sections);
+    match Geometry::of_format(3, extents, extent_pages, Some(sections)) {
+        Ok(geometry) => {
+            if geometry.device_pages() == pages {
+                Some(geometry)
+            } else {
+                None
+            }
+        }
+        Err(_) => None,
     }
 }
 
-/// The geometry of the store on a device whose pages lie in pairs, where there is one, of format 3: that which page 0 says where it is whole, in whatever
-/// format, and else that which the last page says.
-pub fn find_geometry<D: PageDisk>(
+/// What page 0 says of the geometry: nothing where it isn't whole.
+fn zero_said(
     alloc: Global,
-    disk: &mut D,
-) -> Result<Option<Geometry>, DiskFault>
-    requires { 0 < D.page_count disk.old }
-    ensures found { D.honest disk.old → IfOk result (λ found. found ≡ dimensions_on (D.page_count disk.old) (seen (D.state disk.old))) }
-    ensures pages { IfOk result (λ found. IfSome found (λ d. pages_of d ≡ D.page_count disk.old)) }
-    ensures disk { OnlyReads D.PageDisk disk.old disk.new }
-    ensures cause { HasCause (D.failure_count disk.old) (D.failure_count disk.new) result }
+    pages: u64,
+    bytes: &[u8; 4096],
+) -> Result<Option<Option<Geometry>>, DiskFault>
+    ensures said { IfOk result (λ said. said ≡ zero_said pages (page_zero_fault bytes.now) bytes.now) }
+    ensures memory { IfErr result (λ fault. fault ≡ DiskFault.OutOfMemory) }
 {
-    let pages = disk.pages();
-    let mut buffer = [0; 4096];
-    match disk.read(0, &mut buffer) {
-        Ok(()) => {}
-        Err(fault) => return Err(fault),
-    }
-    match decode_superblock(alloc, &buffer) {
-        Ok(superblock) => Ok(named_by(pages, &superblock)),
-        Err(FormatFault::OutOfMemory) => Err(DiskFault::OutOfMemory),
-        Err(_) => find_last(alloc, disk, pages),
+    match decode_superblock(alloc, bytes) {
+        Ok(superblock) => Ok(Some(named(pages, &superblock))),
+        Err(fault) => match none_spelled(fault) {
+            Ok(_) => Ok(None),
+            Err(refused) => Err(refused),
+        },
     }
 }
 
-/// The geometry that the last page says.
-fn find_last<D: PageDisk>(
+/// What the last page says of the geometry.
+fn last_says(alloc: Global, pages: u64, bytes: &[u8; 4096]) -> Result<Option<Geometry>, DiskFault>
+    ensures said { IfOk result (λ said. said ≡ last_says pages (superblock_fault 3 bytes.now) bytes.now) }
+    ensures memory { IfErr result (λ fault. fault ≡ DiskFault.OutOfMemory) }
+{
+    match decode_section(alloc, bytes, 3) {
+        Ok(superblock) => Ok(named(pages, &superblock)),
+        Err(fault) => match none_spelled(fault) {
+            Ok(_) => Ok(None),
+            Err(refused) => Err(refused),
+        },
+    }
+}
+
+/// Reads the last page for the geometry.
+fn read_last<D: PageDisk>(
     alloc: Global,
     disk: &mut D,
     pages: u64,
 ) -> Result<Option<Geometry>, DiskFault>
     requires pages { pages ≡ D.page_count disk.old }
     requires some { 0 < pages }
+    ensures said { D.honest disk.old → IfOk result (λ said. said ≡ last_says pages (superblock_fault 3 (page (seen (D.state disk.old)) (pages - 1))) (page (seen (D.state disk.old)) (pages - 1))) }
     ensures disk { OnlyReads D.PageDisk disk.old disk.new }
     ensures cause { HasCause (D.failure_count disk.old) (D.failure_count disk.new) result }
 {
     let mut buffer = [0; 4096];
     match disk.read(pages - 1, &mut buffer) {
-        Ok(()) => {}
-        Err(fault) => return Err(fault),
+        Ok(()) => last_says(alloc, pages, &buffer),
+        Err(fault) => Err(fault),
     }
-    match decode_section(alloc, &buffer, 3) {
-        Ok(superblock) => Ok(named_by(pages, &superblock)),
-        Err(FormatFault::OutOfMemory) => Err(DiskFault::OutOfMemory),
-        Err(_) => Ok(None),
+}
+
+/// Reads page 0 for the geometry.
+fn read_zero<D: PageDisk>(
+    alloc: Global,
+    disk: &mut D,
+    pages: u64,
+) -> Result<Option<Option<Geometry>>, DiskFault>
+    requires { 0 < D.page_count disk.old }
+    ensures said { D.honest disk.old → IfOk result (λ said. said ≡ zero_said pages (page_zero_fault (page (seen (D.state disk.old)) 0)) (page (seen (D.state disk.old)) 0)) }
+    ensures disk { OnlyReads D.PageDisk disk.old disk.new }
+    ensures cause { HasCause (D.failure_count disk.old) (D.failure_count disk.new) result }
+{
+    let mut buffer = [0; 4096];
+    match disk.read(0, &mut buffer) {
+        Ok(()) => zero_said(alloc, pages, &buffer),
+        Err(fault) => Err(fault),
+    }
+}
+
+/// The geometry of the store on a device whose pages lie in pairs, where there is one, of format 3: that which page 0 says where it is whole,
+/// in whatever format, and else that which the last page says.
+pub fn find_geometry<D: PageDisk>(
+    alloc: Global,
+    disk: &mut D,
+) -> Result<Option<Geometry>, DiskFault>
+    requires { 0 < D.page_count disk.old }
+    ensures found { D.honest disk.old → IfOk result (λ found. found ≡ dimensions_on (D.page_count disk.old) (seen (D.state disk.old))) }
+    ensures disk { OnlyReads D.PageDisk disk.old disk.new }
+    ensures cause { HasCause (D.failure_count disk.old) (D.failure_count disk.new) result }
+{
+    let pages = disk.pages();
+    match read_zero(alloc, disk, pages) {
+        Ok(Some(said)) => Ok(said),
+        Ok(None) => read_last(alloc, disk, pages),
+        Err(fault) => Err(fault),
     }
 }
