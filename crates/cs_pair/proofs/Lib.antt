@@ -8,3 +8,4 @@ pub mod Writing
 pub mod Over
 pub mod Opening
 pub mod Spelling
+pub mod Twins

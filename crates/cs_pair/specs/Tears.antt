@@ -24,6 +24,11 @@ pub record MayTear (V : Versions) (pairs : List Pair) (s : State) (image : Image
   pub size : length image ≡ length s.durable
   pub each : (p : ℕ) → p < length s.durable → IsLeft s p (page image p) ⊎ (IsWritten s p × IsNotWhole V pairs p (page image p))
 
+-- It shows what this image holds, but for pages of no pair that were being written.
+pub record IsTornFrom (pairs : List Pair) (s : State) (image torn : Image) : Type 0 where
+  pub size : length torn ≡ length image
+  pub each : (p : ℕ) → p < length image → (page torn p ≡ page image p) ⊎ (((k : ℕ) (x : Pair) (twin : Bool) → slice_get pairs k ≡ Some x → p ≡ half x twin → ⊥) × IsWritten s p)
+
 -- bytes of which the front was written, and the rest not
 abbrev pub spliced : (at : ℕ) → (new old : List ℕ) → List ℕ
 spliced at new old = take at new ++ drop at old
