@@ -17,9 +17,10 @@ ghost use Rattle.cs_frame.specs.Formats.{formats_of, id_bytes};
 ghost use Rattle.cs_frame.specs.Frames.{SpellsFrame, bytes_in, first_page, frame_count, frame_fault, header_fault, payload_in, spelled_frame};
 ghost use Rattle.cs_frame.specs.FirstFormat.{IsOfFirstFormat, SpellsFirstFormat, SpellsPageZero, first_format_fault, page_zero_fault};
 ghost use Rattle.cs_frame.specs.Geometries.{IsGeometry, IsKnown, lengths_below, section_length, section_size, section_start};
-ghost use Rattle.cs_frame.specs.PackedRuns.{SpellsPacked, packed_fault, packed_sizes};
+ghost use Rattle.cs_frame.specs.FormatRuns.{SpellsRun, run_fault};
+ghost use Rattle.cs_frame.specs.PackedRuns.{SpellsPacked, packed_sizes};
 ghost use Rattle.cs_frame.specs.Roots.{SpellsRoot, root_fault};
-ghost use Rattle.cs_frame.specs.Runs.{Entry, SpellsRun, run_fault};
+ghost use Rattle.cs_frame.specs.Runs.{Entry};
 ghost use Rattle.cs_frame.specs.Superblocks.{SpellsSuperblock, superblock_fault};
 
 /// In each format a page is a superblock section's spelling exactly where no test fails, and of one section alone.
@@ -86,26 +87,19 @@ pub fn formats_are_apart()
         → root_fault f page ≡ Some Fault.BadVersion }
 {}
 
-/// A payload is a run's spelling exactly where no test fails, and of one run alone.
+/// In each format a payload is a run's spelling exactly where no test fails, and of one run alone.
 pub fn run_has_one_spelling()
-    ensures exact { (payload : List ℕ) → IsBytes payload
-        → (run_fault payload ≡ None) ↔ ((entries : List Entry) × SpellsRun payload entries) }
-    ensures one_payload { (payload other : List ℕ) (entries : List Entry)
-        → SpellsRun payload entries → SpellsRun other entries → payload ≡ other }
-    ensures one_run { (payload : List ℕ) (entries es : List Entry)
-        → SpellsRun payload entries → SpellsRun payload es → entries ≡ es }
+    ensures exact { (format : ℕ) (payload : List ℕ) → IsBytes payload
+        → (run_fault format payload ≡ None) ↔ ((entries : List Entry) × SpellsRun payload format entries) }
+    ensures one_payload { (format : ℕ) (payload other : List ℕ) (entries : List Entry)
+        → SpellsRun payload format entries → SpellsRun other format entries → payload ≡ other }
+    ensures one_run { (format : ℕ) (payload : List ℕ) (entries es : List Entry)
+        → SpellsRun payload format entries → SpellsRun payload format es → entries ≡ es }
 {}
 
-/// The same of a run whose entries take the bytes that they need.
-pub fn packed_run_has_one_spelling()
-    ensures exact { (payload : List ℕ) → IsBytes payload
-        → (packed_fault payload ≡ None) ↔ ((entries : List Entry) × SpellsPacked payload entries) }
-    ensures one_payload { (payload other : List ℕ) (entries : List Entry)
-        → SpellsPacked payload entries → SpellsPacked other entries → payload ≡ other }
-    ensures one_run { (payload : List ℕ) (entries es : List Entry)
-        → SpellsPacked payload entries → SpellsPacked payload es → entries ≡ es }
-    // It has as many bytes as its entries say.
-    ensures size { (payload : List ℕ) (entries : List Entry)
+/// A run whose entries take the bytes that they need has as many as they say.
+pub fn packed_runs_have_sizes()
+    ensures { (payload : List ℕ) (entries : List Entry)
         → SpellsPacked payload entries → length payload ≡ 4 + packed_sizes entries }
 {}
 
