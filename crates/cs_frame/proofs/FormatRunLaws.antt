@@ -2,7 +2,7 @@
 use Rattle.std.proofs.Common.{◌≡◌, ℕ, Bool, true, false, List, None, Option, if◌then◌else◌, refl, sym, ap, ◌∙◌, subst}
 use Rattle.cs_frame.specs.declared.faults.FormatFault.{FormatFault}
 use Rattle.cs_frame.specs.Bytes.{IsBytes}
-use Rattle.cs_frame.specs.FormatRuns.{SpellsRun, run_fault, spelled_run}
+use Rattle.cs_frame.specs.FormatRuns.{SpellsRun, run_fault}
 use Rattle.cs_frame.specs.PackedRuns.{SpellsPacked, packed_entries_in, packed_fault, packed_run}
 use Rattle.cs_frame.specs.Runs.{Entry, FitsRun, SpellsPlain, entries_in, plain_fault, plain_run}
 use Rattle.cs_frame.proofs.PackedLaws.{fault-spelled as packed_has_none, run_is_read as packed_is_read, spells as packed_spells}

@@ -12,6 +12,7 @@ pub mod FrameLaws
 pub mod RunLaws
 pub mod PackedLaws
 pub mod FormatRunLaws
+pub mod RunSizes
 pub mod TellingLaws
 pub mod FormatLaws
 pub mod MarkLaws

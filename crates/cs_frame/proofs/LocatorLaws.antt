@@ -1,11 +1,11 @@
 -- Locators spelled and read.
-use Rattle.std.proofs.Common.{zero, suc, ◌+◌, ◌∷◌, add-one, append-nil, append_assoc, get_or, ◌≡◌, ℕ, ◌*◌, ◌/◌, ◌≤◌, ◌<◌, ◌^◌, Bool, true, false, List, [], ◌++◌, length, take, map, refl, sym, ap, subst, ◌∙◌, arith, le_refl}
+use Rattle.std.proofs.Common.{zero, suc, ◌+◌, ◌∷◌, add-one, append-nil, append_assoc, get_or, ◌≡◌, ℕ, ◌*◌, ◌/◌, ◌<◌, ◌^◌, Bool, true, false, List, [], ◌++◌, length, take, map, refl, sym, ap, subst, ◌∙◌, arith, le_refl}
 use Rattle.std.specs.List.{AllByRecursion}
 use Rattle.std.specs.Simd.{first_chunks}
 use Rattle.std.proofs.lemmas.List.{take_all, length-map}
 use Rattle.byteorder.specs.Endian.{big_bytes}
 use Rattle.cs_frame.specs.Bytes.{IsBytes, number}
-use Rattle.cs_frame.specs.Locators.{FitsLocator, locator_in, locator_size, locators_in, most_mark, spelled_locator, spelled_locators}
+use Rattle.cs_frame.specs.Locators.{FitsLocator, locator_in, locator_size, locators_in, spelled_locator, spelled_locators}
 use Rattle.cs_frame.specs.declared.locators.Locator.{Locator}
 use Rattle.cs_frame.proofs.Fields.{field_2, field_4, field_8, number_at, number_below, take_more}
 use Rattle.cs_frame.proofs.Pieces.{AllByRecursion-map, each_piece, length-first_chunks, length-spelled, read_pieces, spelled_pieces}

@@ -5,7 +5,7 @@ use Rattle.byteorder.specs.Endian.{big_bytes}
 use Rattle.cs_model.specs.Device.{Shape}
 use Rattle.cs_model.specs.Element.{Entry as NamedEntry, Locator as Place}
 use Rattle.cs_model.specs.Formats.{Formats, FrameKind, ChunkFrame, RunFrame}
-use Rattle.cs_model.specs.Refusal.{Refusal, BadMagic, BadDigest, BadLength, BadPadding, BadVersion}
+use Rattle.cs_model.specs.Refusal.{Refusal, BadMagic, BadDigest, BadLength, BadPadding, BadVersion, Misplaced}
 use Rattle.cs_frame.specs.declared.faults.FormatFault.{FormatFault}
 use Rattle.cs_frame.specs.declared.faults.FormatFault.TheVariants as fault
 use Rattle.cs_frame.specs.declared.locators.Locator.{Locator}
@@ -55,6 +55,7 @@ refusal_of fault.BadDigest = BadDigest
 refusal_of fault.BadLength = BadLength
 refusal_of fault.BadPadding = BadPadding
 refusal_of fault.BadVersion = BadVersion
+refusal_of fault.Misplaced = Misplaced
 refusal_of fault.BadGeometry = BadLength
 refusal_of fault.OutOfMemory = BadLength
 refusal_of fault.OutOfOrder = BadLength

@@ -1,15 +1,29 @@
 //! Runs of the index, as a format has them.
 
-ghost use Rattle.std.specs.Prelude.{◌≡◌, List, None, Err, IfOk};
+ghost use Rattle.std.specs.Prelude.{◌≡◌, ◌^◌, ◌<◌, ◌≤◌, List, None, Err, IfOk, length};
+ghost use Rattle.std.specs.List.{AllByRecursion};
 ghost use Rattle.cs_frame.specs.Faults.{HasFault, OkUnlessMemory};
-ghost use Rattle.cs_frame.specs.FormatRuns.{SpellsRun, run_fault};
-ghost use Rattle.cs_frame.specs.Runs.{Entry, IsRun, entries_of};
+ghost use Rattle.cs_frame.specs.FormatRuns.{SpellsRun, run_fault, run_size};
+ghost use Rattle.cs_frame.specs.Runs.{Entry, IsRun, entries_of, greatest_chunks};
 
 use crate::faults::FormatFault;
 use crate::locators::has_marks;
-use crate::packed_runs::{decode_packed_run, encode_packed_run};
-use crate::runs::{Run, decode_plain_run, encode_plain_run};
+use crate::packed_runs::{decode_packed_run, encode_packed_run, packed_sizes};
+use crate::runs::{Run, decode_plain_run, encode_plain_run, run_bytes};
 use std::alloc::{AllocError, Global};
+
+/// How many bytes the payload has that spells a run in a format.
+pub fn run_size(format: u8, run: &Run) -> usize
+    requires few { AllByRecursion (λ entry. length entry.1.items ≤ greatest_chunks) run.now.entries.items }
+    requires most { length run.now.entries.items < 2 ^ 32 }
+    ensures { result ≡ run_size format (entries_of run.now.entries.items) }
+{
+    if has_marks(format) {
+        4 + packed_sizes(&run.entries)
+    } else {
+        run_bytes(run.entries.len())
+    }
+}
 
 /// The payload that spells a run in a format.
 pub fn encode_run(alloc: Global, format: u8, run: &Run) -> Result<Vec<u8>, AllocError>

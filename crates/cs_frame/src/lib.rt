@@ -22,10 +22,10 @@ mod runs;
 mod superblocks;
 
 pub use faults::FormatFault;
-pub use format_runs::{decode_run, encode_run};
+pub use format_runs::{decode_run, encode_run, run_size};
 pub use frames::{
-    FrameHeader, FrameKind, decode_frame, decode_frame_header, encode_frame, frame_mark,
-    frame_pages,
+    FrameHeader, FrameKind, decode_frame, decode_frame_header, decode_meant_header, encode_frame,
+    frame_mark, frame_pages,
 };
 pub use geometries::{
     FORMAT, GREATEST_SECTION_EXTENTS, GREATEST_SUPERBLOCK_EXTENTS, Geometry, LEAST_PAGES,
@@ -35,9 +35,9 @@ pub use identifiers::ShardId;
 pub use laws::{
     first_format_has_one_spelling, formats_are_apart, frame_has_one_spelling,
     frame_is_read_by_its_header, frames_fit_on_an_extent, marks_tell_digests,
-    packed_runs_have_sizes, page_zero_has_one_spelling, root_has_one_spelling,
-    run_has_one_spelling, sections_have_all_extents, sections_tell_pointers,
-    superblock_has_one_spelling, these_formats_are_formats,
+    page_zero_has_one_spelling, root_has_one_spelling, run_has_one_spelling, runs_have_sizes,
+    sections_have_all_extents, sections_tell_pointers, superblock_has_one_spelling,
+    these_formats_are_formats,
 };
 pub use locators::{Locator, has_marks};
 pub use page_zero::decode_superblock;

@@ -77,7 +77,11 @@ fn all_marked_from(alloc: Global, bytes: &[u8]) -> Result<Vec<Locator>, AllocErr
 }
 
 /// The locators that these bytes spell in a format.
-pub(crate) fn locators_from(alloc: Global, format: u8, bytes: &[u8]) -> Result<Vec<Locator>, AllocError>
+pub(crate) fn locators_from(
+    alloc: Global,
+    format: u8,
+    bytes: &[u8],
+) -> Result<Vec<Locator>, AllocError>
     ensures { IfOk result (λ v. v.items ≡ locators_in (marks_in format) bytes.now) }
 {
     if has_marks(format) {

@@ -1,17 +1,17 @@
 //! Runs of the index whose entries take the bytes that they need, as a format has them in which locators have marks.
 
-ghost use Rattle.std.specs.Prelude.{◌≡◌, ◌+◌, ◌≤◌, ◌++◌, ℕ, List, None, Ok, Err, IfOk, OnOk, drop, length, option_map, slice_index, true};
+ghost use Rattle.std.specs.Prelude.{◌≡◌, ◌+◌, ◌*◌, ◌^◌, ◌<◌, ◌≤◌, ◌++◌, ℕ, List, None, Ok, Err, IfOk, OnOk, drop, length, option_map, slice_index, true};
 ghost use Rattle.cs_frame.specs.Bytes.{IsBytes, number};
 ghost use Rattle.cs_frame.specs.Faults.{HasFault, OkUnlessMemory, fault_in, first_fault};
 ghost use Rattle.std.specs.List.{AllByRecursion};
 ghost use Rattle.cs_frame.specs.Locators.{FitsLocator, spelled_locators};
-ghost use Rattle.cs_frame.specs.PackedRuns.{AreThere, SpellsPacked, packed_count_test, packed_end, packed_entry, packed_entry_in, packed_entry_tests, packed_fault, packed_in, packed_tests};
+ghost use Rattle.cs_frame.specs.PackedRuns.{AreThere, SpellsPacked, packed_count_test, packed_end, packed_entry, packed_entry_in, packed_entry_tests, packed_fault, packed_in, packed_size, packed_sizes, packed_tests};
 ghost use Rattle.cs_frame.specs.Runs.{Entry, FitsEntry, IsRun, entries_of, entry_of, greatest_chunks, id_in};
 
 use crate::faults::FormatFault;
 use crate::identifiers::ShardId;
-use crate::places::{Places, marked_places_from};
 use crate::locators::Locator;
+use crate::places::{Places, marked_places_from};
 use crate::runs::{GREATEST_CHUNKS, Run, check_order};
 use byteorder::{BigEndian, ByteOrder};
 use std::alloc::{AllocError, Global};
@@ -126,6 +126,29 @@ fn entries_from(
         start += first_end(rest);
     }
     Ok(entries)
+}
+
+/// How many bytes an entry takes.
+fn packed_size(entry: &(ShardId, Places)) -> usize
+    requires { length entry.now.1.items ≤ greatest_chunks }
+    ensures { result ≡ packed_size (length entry.now.1.items) }
+{
+    let (_, places) = entry;
+    17 + 16 * places.as_slice().len()
+}
+
+/// How many bytes these entries take together.
+pub(crate) fn packed_sizes(entries: &[(ShardId, Places)]) -> usize
+    requires few { AllByRecursion (λ entry. length entry.1.items ≤ greatest_chunks) entries.now }
+    requires most { length entries.now < 2 ^ 32 }
+    ensures value { result ≡ packed_sizes (entries_of entries.now) }
+    ensures small { result ≤ 145 * length entries.now }
+{
+    let mut size: usize = 0;
+    for entry in entries {
+        size += packed_size(entry);
+    }
+    size
 }
 
 fn append_locators(payload: &mut Vec<u8>, locators: &[Locator]) -> Result<(), AllocError>

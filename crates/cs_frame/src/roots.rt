@@ -65,7 +65,11 @@ fn runs_end(format: u8, count: usize) -> usize
     ensures inside { result + 32 ≤ 4096 }
     ensures behind { 21 ≤ result }
 {
-    if has_marks(format) { 21 + 16 * count } else { 21 + 8 * count }
+    if has_marks(format) {
+        21 + 16 * count
+    } else {
+        21 + 8 * count
+    }
 }
 
 /// Version and number of commands are in range.

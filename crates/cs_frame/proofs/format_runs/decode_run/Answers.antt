@@ -1,4 +1,4 @@
-use Rattle.std.proofs.Common.{Option, subst, sym, ◌∙◌, ◌≡◌, true, false, ap}
+use Rattle.std.proofs.Common.{Option, subst, sym, ◌∙◌, true, false}
 use Rattle.cs_frame.specs.declared.faults.FormatFault.{FormatFault}
 use Rattle.cs_frame.specs.Faults.{HasFault}
 use Rattle.cs_frame.proofs.FormatRunLaws.{fault_of}

@@ -1,5 +1,5 @@
 use Rattle.std.proofs.Common.{ap, List, ℕ, true, sym, ◌++◌, ◌∙◌, append_assoc, take}
-use Rattle.cs_frame.specs.Locators.{FitsLocator, spelled_locator, spelled_locators}
+use Rattle.cs_frame.specs.Locators.{FitsLocator, spelled_locators}
 use Rattle.cs_frame.proofs.LocatorLaws.{spelled_more}
 use Rattle.cs_frame.proofs.Pieces.{all_more}
 use Rattle.cs_frame.proofs.packed_runs.append_locators.Goals as goal
