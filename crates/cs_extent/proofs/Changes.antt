@@ -1,5 +1,5 @@
 -- What changes of lists do to extents as functions.
-use Rattle.std.proofs.Common.{◌≡◌, ◌≢◌, ◌∙◌, ℕ, zero, suc, ◌*◌, ◌<◌, ◌≤◌, Bool, true, false, List, [], ◌∷◌, length, set, get_or, replicate, None, Option, ◌+◌, refl, ap, ⊎_elim, arith}
+use Rattle.std.proofs.Common.{◌≡◌, ◌≢◌, ◌∙◌, ℕ, zero, suc, ◌<◌, ◌≤◌, Bool, true, false, List, [], ◌∷◌, length, set, get_or, replicate, None, Option, ◌+◌, refl, ap, sym, le_trans, ⊎_elim, arith}
 use Rattle.std.specs.Prelude.{◌==◌, if◌then◌else◌}
 use Rattle.std.specs.List.{AllByRecursion}
 use Rattle.std.proofs.lemmas.Bool.Decides.{nat_tests}
@@ -8,6 +8,7 @@ use Rattle.std.proofs.lemmas.List.{length-map, length-replicate, get_or-set_same
 use Rattle.cs_model.specs.Extents.{emptied, open_after, taken}
 use Rattle.cs_model.specs.Lists.{with}
 use Rattle.cs_frame.specs.Geometries.{IsGeometry}
+use Rattle.cs_extent.specs.Changes.{emptied_in}
 use Rattle.cs_extent.specs.Frames.{greatest}
 use Rattle.cs_extent.specs.State.{State, IsWhole, extents_of, found_at, shape}
 
@@ -53,6 +54,22 @@ reset_extents s e root g lt lr is = λ i. record {
     generations : (d : ℕ) → (get_or (set s.written e (0, g)) d (0, 0)).1 ≡ with (λ k. (get_or s.written k (0, 0)).1) e (suc ((get_or s.written e (0, 0)).1)) d
     generations d = ap (λ (x : ℕ × ℕ). x.1) (written_at s.written e (0, g) (0, 0) lt d) ∙ chosen (λ (x : ℕ × ℕ). x.1) (d == e) (0, g) (get_or s.written d (0, 0)) ∙ ap (λ m. if d == e then m else (get_or s.written d (0, 0)).1) is
 
+-- so too with what counts as found, which is cleared where extents are filled up
+pub reset_found : (s : State) (e root g : ℕ) (fills : Bool) (found : List ℕ) → e < length s.written → e < length s.resets → g ≡ suc ((extents_of s).generation e)
+    → (shape s).fills ≡ fills → ((d : ℕ) → get_or found d 0 ≡ (if fills then with (extents_of s).found e 0 else (extents_of s).found) d)
+    → extents_of (record s { written = set s.written e (0, g); resets = set s.resets e root; found = found }) ≡ emptied_in (shape s) (extents_of s) e root
+reset_found s e root g fills found lt lr is so each = λ i. record {
+  pointer = (reset_extents s e root g lt lr is i).pointer;
+  generation = (reset_extents s e root g lt lr is i).generation;
+  reset = (reset_extents s e root g lt lr is i).reset;
+  open_extent = s.open_extent;
+  swept = (extents_of s).swept;
+  of_runs = (extents_of s).of_runs;
+  found = λ d. (each d ∙ ap (λ (b : Bool). (if b then with (extents_of s).found e 0 else (extents_of s).found) d) (sym so)) i;
+  fresh = s.fresh;
+  last = s.last;
+}
+
 -- pages are taken of one extent
 pub taken_extents : (s : State) (e k : ℕ) (x : ℕ × ℕ) (o : Option ℕ) → e < length s.written → x.0 ≡ (extents_of s).pointer e + k → x.1 ≡ (extents_of s).generation e
     → o ≡ open_after (shape s) e ((extents_of s).pointer e + k) → extents_of (record s { written = set s.written e x; open_extent = o }) ≡ taken (shape s) (extents_of s) e k
@@ -82,7 +99,7 @@ taken_extents s e k x o lt p g is = λ i. record {
 pub whole_new : (format pages sections : ℕ) (written : List (ℕ × ℕ)) → IsGeometry format (length written) pages sections → AllByRecursion (λ x. x.0 ≤ pages) written
     → (resets : List ℕ) (swept of_runs : List Bool) (found : List ℕ) → resets ≡ replicate (length written) 0
     → swept ≡ replicate (length written) false → of_runs ≡ replicate (length written) false → length found ≡ length written
-    → ((e : ℕ) → get_or found e 0 ≤ pages) → IsWhole (record { format = format; pages = pages; sections = sections; written = written; resets = resets; swept = swept; open_extent = None; of_runs = of_runs; found = found; fresh = None; last = None })
+    → ((e : ℕ) → get_or found e 0 ≤ (get_or written e (0, 0)).0) → IsWhole (record { format = format; pages = pages; sections = sections; written = written; resets = resets; swept = swept; open_extent = None; of_runs = of_runs; found = found; fresh = None; last = None })
 whole_new format pages sections written is all resets swept of_runs found zeros falses kinds founds low = record {
   geometry = is;
   all_resets = ap length zeros ∙ length-replicate (length written) 0;
@@ -90,7 +107,8 @@ whole_new format pages sections written is all resets swept of_runs found zeros 
   all_kinds = ap length kinds ∙ length-replicate (length written) false;
   all_found = founds;
   pointers = pointers_at pages written all;
-  found_pages = low;
+  found_pages = λ e. le_trans (low e) (pointers_at pages written all e);
+  found_given = λ on e. low e;
   roots = λ e. let zero_at : get_or resets e 0 ≡ 0 = ap (λ xs. get_or xs e 0) zeros ∙ zeros_at (length written) e in omega (arith, zero_at);
   open_inside = λ e is. absurd (cc is);
   open_begun = λ e is. absurd (cc is);
@@ -101,13 +119,12 @@ pub found_length : (apart : Bool) (written : List (ℕ × ℕ)) → length (foun
 found_length false written = length-replicate (length written) 0
 found_length true written = length-map written (λ (row : ℕ × ℕ). row.0)
 
--- and no more pages than an extent has
-pub found_low : (apart : Bool) (pages : ℕ) (written : List (ℕ × ℕ)) → AllByRecursion (λ x. x.0 ≤ pages) written
-    → (e : ℕ) → get_or (found_at apart written) e 0 ≤ pages
-found_low false pages written all e = let none : get_or (replicate (length written) 0) e 0 ≡ 0 = zeros_at (length written) e in omega (arith, none)
-found_low true pages [] all e = omega arith
-found_low true pages (x ∷ xs) all zero = all.0
-found_low true pages (x ∷ xs) all (suc e) = found_low true pages xs all.1 e
+-- and no more pages of each than are given
+pub found_within : (apart : Bool) (written : List (ℕ × ℕ)) (e : ℕ) → get_or (found_at apart written) e 0 ≤ (get_or written e (0, 0)).0
+found_within false written e = let none : get_or (replicate (length written) 0) e 0 ≡ 0 = zeros_at (length written) e in omega (arith, none)
+found_within true [] e = omega arith
+found_within true (x ∷ xs) zero = omega arith
+found_within true (x ∷ xs) (suc e) = found_within true xs e
 
 pub all_pointers : (pages : ℕ) (xs : List (ℕ × ℕ)) → ((e : ℕ) → (get_or xs e (0, 0)).0 ≤ pages) → AllByRecursion (λ x. x.0 ≤ pages) xs
 all_pointers pages [] each = tt

@@ -164,6 +164,7 @@ module _ (s : State) (whole : IsWhole s) (e : ℕ) (there : e < length s.written
     all_found = whole.all_found;
     pointers = whole.pointers;
     found_pages = whole.found_pages;
+    found_given = whole.found_given;
     roots = whole.roots;
     open_inside = λ d at. (each r o is d at).0;
     open_begun = λ d at. (each r o is d at).1;

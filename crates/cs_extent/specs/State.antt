@@ -78,6 +78,8 @@ pub record IsWhole (s : State) : Type 0 where
   pub all_found : length s.found ≡ length s.written
   pub pointers : (e : ℕ) → (extents_of s).pointer e ≤ s.pages
   pub found_pages : (e : ℕ) → (extents_of s).found e ≤ s.pages
+  -- where extents are filled up, the pages that count as found on an extent are given
+  pub found_given : (shape s).fills ≡ true → (e : ℕ) → (extents_of s).found e ≤ (extents_of s).pointer e
   pub roots : (e : ℕ) → (extents_of s).reset e < 2 ^ 63
   -- an extent that is open is there and not empty
   pub open_inside : (e : ℕ) → s.open_extent ≡ Some e → e < length s.written

@@ -5,8 +5,9 @@ ghost use Rattle.cs_deps.specs.Named.{Names};
 ghost use Rattle.cs_deps.specs.State.{write_of};
 ghost use Rattle.cs_model.specs.Device.{mark_of};
 ghost use Rattle.cs_model.specs.Geometry.{apart_in};
-ghost use Rattle.cs_model.specs.Extents.{Fits, IsFirstEmpty, Placed, empties, emptied, marked, taken};
+ghost use Rattle.cs_model.specs.Extents.{Fits, IsFirstEmpty, Placed, empties, marked, taken};
 ghost use Rattle.cs_extent.specs.Appended.{IsAppended};
+ghost use Rattle.cs_extent.specs.Changes.{emptied_in};
 ghost use Rattle.cs_extent.specs.Frames.{AreResetsStaged, AreWritten, IsFrameStaged, IsOfFrame, IsVersionUpTo, IsWorn, AddsOnlyOf, family_of, greatest, next_place, next_section};
 ghost use Rattle.cs_extent.specs.Places.{room_at};
 ghost use Rattle.cs_extent.specs.Purposes.{reason_of};
@@ -165,7 +166,8 @@ impl Extents {
     }
 
     /// Empties an extent, under the version of the root that was staged for it. Nothing is staged: the next version of
-    /// its section records it, and an opening before that one is persistent finds the extent as it was.
+    /// its section records it, and an opening before that one is persistent finds the extent as it was. Where extents are
+    /// filled up none of its pages counts as found then.
     ///
     /// 35 `WornOut` where its generation is the greatest, 4,294,967,295.
     pub fn reset(&mut self, extent: usize, root: u64) -> Result<(), Refusal>
@@ -173,12 +175,13 @@ impl Extents {
         requires closed { ¬ ((extents_of self.old).open_extent ≡ Some extent) }
         requires written { 0 < (extents_of self.old).pointer extent }
         requires root { root < 2 ^ 63 }
-        ensures extents { OnOk result (extents_of self.new ≡ emptied (extents_of self.old) extent root) }
+        ensures extents { OnOk result (extents_of self.new ≡ emptied_in (shape self.old) (extents_of self.old) extent root) }
         ensures shape { shape self.new ≡ shape self.old }
         ensures worn { (result ≡ Err Refusal.WornOut) ↔ ((extents_of self.old).generation extent ≡ (shape self.old).greatest_generation) }
         ensures refusals { IfErr result (λ r. r ≡ Refusal.WornOut) }
         ensures refused { OnErr result (self.new ≡ self.old) }
     {
+        let fills = self.fills();
         let entry = &mut self.written[extent];
         if entry.1 == LAST_GENERATION {
             return Err(Refusal::WornOut);
@@ -186,6 +189,9 @@ impl Extents {
         entry.0 = 0;
         entry.1 += 1;
         self.resets[extent] = root;
+        if fills {
+            self.found[extent] = 0;
+        }
         Ok(())
     }
 

@@ -2,7 +2,8 @@ use Rattle.std.proofs.Common.{◌∙◌, ◌≡◌, ◌≤◌, ap, ℕ, List, re
 use Rattle.std.specs.List.{AllByRecursion}
 use Rattle.cs_frame.specs.Geometries.{IsGeometry}
 use Rattle.cs_extent.specs.Sections.{format_of, pages_of, rows_of}
-use Rattle.cs_extent.proofs.Changes.{found_length, found_low, whole_new}
+use Rattle.cs_extent.specs.State.{found_at}
+use Rattle.cs_extent.proofs.Changes.{found_length, found_within, whole_new}
 use Rattle.cs_extent.proofs.Sections.{rows_are_within, rows_geometry}
 use Rattle.cs_extent.proofs.extents.Extents.of.Goals as goal
 
@@ -30,7 +31,7 @@ invariant_of-result c =
           (c.in_ok-swept.ensures.items_if_clones_equal (λ y h. h) ∙ ap (λ (n : ℕ). replicate n false) second)
           (c.in_ok-kinds.ensures.items_if_clones_equal (λ y h. h) ∙ ap (λ (n : ℕ). replicate n false) third)
           (ap length c.in_ok-found.ensures ∙ found_length c.lies_apart.result c.deref.result.now ∙ ap length c.deref.ensures.value)
-          (λ d. subst (λ (fs : List ℕ). get_or fs d 0 ≤ g.pages) (sym c.in_ok-found.ensures)
-          (found_low c.lies_apart.result g.pages c.deref.result.now
-          (subst (λ (ys : List (ℕ × ℕ)). AllByRecursion (λ (x : ℕ × ℕ). x.0 ≤ g.pages) ys) (sym c.deref.ensures.value) all) d));
+          (λ d. subst (λ (fs : List ℕ). get_or fs d 0 ≤ (get_or xs d (0, 0)).0) (sym c.in_ok-found.ensures)
+          (subst (λ (ys : List (ℕ × ℕ)). get_or (found_at c.lies_apart.result c.deref.result.now) d 0 ≤ (get_or ys d (0, 0)).0) c.deref.ensures.value
+          (found_within c.lies_apart.result c.deref.result.now d)));
     }
