@@ -22,7 +22,7 @@ use crate::purposes::Purpose;
 use crate::supplies::Supply;
 use crate::ways::{Way, are_versions_worn, are_writes_worn, count};
 use cs_deps::{Dependency, Graph, LAST_NUMBER, Refusal};
-use cs_frame::{Geometry, Locator, Superblock, encode_section, frame_mark, has_marks};
+use cs_frame::{Geometry, Locator, Superblock, encode_section, frame_mark};
 use std::alloc::{AllocError, Global};
 use std::marker::Model;
 
@@ -354,11 +354,7 @@ impl Extents {
         requires { 1 ≤ length frame.now }
         ensures { result ≡ mark_of (shape self.now) frame.now }
     {
-        if has_marks(self.geometry().format()) {
-            frame_mark(&frame[0])
-        } else {
-            0
-        }
+        frame_mark(self.geometry().format(), &frame[0])
     }
 
     /// Where a frame begins that goes to an extent.
