@@ -166,17 +166,22 @@ module _ {apart_by : Bool} (x : State) (g : Graph) (r : Reason) (frame : List (L
   pub pointer_of : (e : ℕ) → (extents_of y).pointer e ≡ with (extents_of x).pointer l.extent ((extents_of x).pointer l.extent + length frame) e
   pointer_of e = ap (λ (z : Extents). z.pointer e) a.extents
 
+  pub found_of : (e : ℕ) → (extents_of y).found e ≡ (extents_of x).found e
+  found_of e = ap (λ (z : Extents). z.found e) a.extents
+
   pub frame_stays : ((e : ℕ) → (extents_of x).pointer e ≤ x.pages) → (k : Locator) (f : List (List ℕ)) → IsNewestFrame (shape x) (extents_of x) g k f → IsNewestFrame (shape x) (extents_of y) h k f
   frame_stays within k f was = record {
     extent = was.extent;
     given = omega (arith, was.given, pointer_of k.extent, pointer_grows (extents_of x).pointer l.extent (length frame) k.extent);
+    behind = λ on. omega (arith, was.behind on, found_of k.extent);
     newest = λ i lt. newest_stays ((shape x).address k.extent (k.page + i)) (slice_index_or f i []) (apart_below within k.extent (k.page + i) (omega (arith, was.given, lt))) (was.newest i lt);
   }
 
-  pub frame_begins : IsNewestFrame (shape x) (extents_of y) h l frame
-  frame_begins = record {
+  pub frame_begins : ((shape x).fills ≡ true → (e : ℕ) → (extents_of x).found e ≤ (extents_of x).pointer e) → IsNewestFrame (shape x) (extents_of y) h l frame
+  frame_begins found = record {
     extent = inside.0;
     given = omega (arith, begins_at, pointer_of l.extent, with_same (extents_of x).pointer l.extent ((extents_of x).pointer l.extent + length frame));
+    behind = λ on. omega (arith, found on l.extent, begins_at, found_of l.extent);
     newest = newest_begins;
   }
 
@@ -192,3 +197,6 @@ module _ {apart_by : Bool} (x : State) (g : Graph) (r : Reason) (frame : List (L
 
   pub within_more : ((e : ℕ) → (extents_of x).pointer e ≤ x.pages) → (e : ℕ) → (extents_of y).pointer e ≤ x.pages
   within_more within e = omega (arith, pointer_of e, pointer_within (extents_of x).pointer l.extent (length frame) x.pages inside.1 within e)
+
+  pub found_more : ((shape x).fills ≡ true → (e : ℕ) → (extents_of x).found e ≤ (extents_of x).pointer e) → (shape x).fills ≡ true → (e : ℕ) → (extents_of y).found e ≤ (extents_of y).pointer e
+  found_more found on e = omega (arith, found on e, found_of e, pointer_of e, pointer_grows (extents_of x).pointer l.extent (length frame) e)

@@ -1,10 +1,9 @@
 -- The faults of frames, as refusals.
-use Rattle.std.proofs.Common.{◌≡◌, ◌≢◌, ◌∙◌, ℕ, ◌≤◌, ◌⊎◌, Bool, true, false, List, [], ◌∷◌, codes, length, Option, Some, None, refl, sym, ap, subst, inl, inr, ⊎_elim, arith, bytes_eq, nat_le, drop, ◌+◌, slice_index}
+use Rattle.std.proofs.Common.{◌≡◌, ◌≢◌, ◌∙◌, ℕ, ◌≤◌, ◌⊎◌, Bool, true, false, List, [], ◌∷◌, codes, length, Option, Some, None, refl, sym, ap, subst, inl, inr, arith, bytes_eq, nat_le, drop, ◌+◌, slice_index}
 use Rattle.std.specs.Prelude.{◌==◌}
 use Rattle.std.proofs.lemmas.Option.{same_Some}
 use Rattle.cs_chunk.specs.Reads.{IsNoAnswer, IsOfFault, IsReadRefusal, refusal_for}
 use Rattle.cs_deps.specs.declared.refusals.Refusal.{Refusal}
-use Rattle.cs_deps.specs.declared.refusals.Refusal.TheVariants.{OutOfMemory as NoMemory}
 use Rattle.cs_deps.specs.Refusals.{number_of}
 use Rattle.cs_frame.specs.declared.faults.FormatFault.{FormatFault}
 use Rattle.cs_frame.specs.declared.faults.FormatFault.TheVariants.{BadGeometry, OutOfMemory, BadMagic, BadDigest, BadLength, BadPadding, BadVersion, OutOfOrder}
@@ -73,25 +72,12 @@ none_found kind pages never = go (frame_fault kind pages) refl
     go None is = refl
     go (Some f) is = absurd (never f (not_memory f (in_range kind pages f is)) is)
 
-memory_or : (f : FormatFault) → (f ≡ OutOfMemory) ⊎ (f ≢ OutOfMemory)
-memory_or OutOfMemory = inl refl
-memory_or BadGeometry = inr (λ e. cc e)
-memory_or BadMagic = inr (λ e. cc e)
-memory_or BadDigest = inr (λ e. cc e)
-memory_or BadLength = inr (λ e. cc e)
-memory_or BadPadding = inr (λ e. cc e)
-memory_or BadVersion = inr (λ e. cc e)
-memory_or OutOfOrder = inr (λ e. cc e)
-
--- so it is 9 or 20 to 24
-pub decode_refusal : (kind : ℕ) (pages : List (List ℕ)) (f : FormatFault) (r : Refusal) → r ≡ refusal_for f → (f ≢ OutOfMemory → frame_fault kind pages ≡ Some f) → (r ≡ NoMemory) ⊎ ((20 ≤ number_of r) × (number_of r ≤ 24))
-decode_refusal kind pages f r is h = ⊎_elim
-    (λ (e : f ≡ OutOfMemory). inl (is ∙ ap refusal_for e))
-    (λ (ne : f ≢ OutOfMemory).
-    let range = in_range kind pages f (h ne) in
+-- what a frame is refused for is 20 to 24
+pub frame_refusal : (kind : ℕ) (pages : List (List ℕ)) (f : FormatFault) (r : Refusal) → r ≡ refusal_for f → Some f ≡ frame_fault kind pages → (20 ≤ number_of r) × (number_of r ≤ 24)
+frame_refusal kind pages f r is found =
+    let range = in_range kind pages f (sym found) in
     let number : number_of r ≡ fault_number f = ap number_of is ∙ same_number f in
-    inr (omega (arith, number, range.0), omega (arith, number, range.1)))
-    (memory_or f)
+    (omega (arith, number, range.0), omega (arith, number, range.1))
 
 -- so is what a header is refused for
 header_in_range : (kind : ℕ) (first : List ℕ) (there : ℕ) (f : FormatFault) → header_fault kind first there ≡ Some f → IsInRange f

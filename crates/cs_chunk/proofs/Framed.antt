@@ -53,17 +53,21 @@ same_kind : (kind : FrameKind) → kind_number (kind_of kind) ≡ kind_byte kind
 same_kind Chunk = refl
 same_kind Run = refl
 
--- the frame of what pages spell has no more pages than they are
-pub fits_there : (S : Shape) (kind : FrameKind) (l : Locator) (pages : List (List ℕ)) (payload : List ℕ) → l.page + length pages ≤ S.pages → SpellsFrame (kind_byte kind) pages payload
-    → l.page + length ((formats_of S).frame (kind_of kind) payload) ≤ S.pages
-fits_there S kind l pages payload le spells =
-    subst (λ k. l.page + length (spelled_frame k payload) ≤ S.pages) (sym (same_kind kind))
+-- the frame of what pages spell reaches no further than they do
+pub fits_there : (S : Shape) (kind : FrameKind) (l : Locator) (pages : List (List ℕ)) (payload : List ℕ) (end : ℕ) → l.page + length pages ≤ end → SpellsFrame (kind_byte kind) pages payload
+    → l.page + length ((formats_of S).frame (kind_of kind) payload) ≤ end
+fits_there S kind l pages payload end le spells =
+    subst (λ k. l.page + length (spelled_frame k payload) ≤ end) (sym (same_kind kind))
     (omega (arith, le, length-spelled (kind_byte kind) payload, ap length spells.spelled, length-take (page_count (length payload)) pages))
 
-pub all_fit : {V : Type 0} (S : Shape) (kind : FrameKind) (l : Locator) (pages : List (List ℕ)) (items : V → List ℕ) (result : Result V Refusal) → l.page + length pages ≤ S.pages → IfOk result (λ v. SpellsFrame (kind_byte kind) pages (items v))
-    → IfOk result (λ v. l.page + length ((formats_of S).frame (kind_of kind) (items v)) ≤ S.pages)
-all_fit S kind l pages items (Ok v) le spells = fits_there S kind l pages (items v) le spells
-all_fit S kind l pages items (Err r) le spells = tt
+pub all_fit : {V : Type 0} (S : Shape) (kind : FrameKind) (l : Locator) (pages : List (List ℕ)) (items : V → List ℕ) (result : Result V Refusal) (end : ℕ) → l.page + length pages ≤ end → IfOk result (λ v. SpellsFrame (kind_byte kind) pages (items v))
+    → IfOk result (λ v. l.page + length ((formats_of S).frame (kind_of kind) (items v)) ≤ end)
+all_fit S kind l pages items (Ok v) end le spells = fits_there S kind l pages (items v) end le spells
+all_fit S kind l pages items (Err r) end le spells = tt
+
+-- the end of a frame lies in the extent
+pub end_low : (x : State) → IsWhole x → (l : Locator) → end_in x l ≤ x.pages
+end_low x whole l = reach_low (shape x) ((extents_of x).found l.extent) l.page (whole.found_pages l.extent)
 
 module _ (x : State) (whole : IsWhole x) (view : ℕ → List ℕ) (kind : FrameKind) (l : Locator) (inside : l.page < x.pages) where
   abbrev there : ℕ
@@ -74,7 +78,7 @@ module _ (x : State) (whole : IsWhole x) (view : ℕ → List ℕ) (kind : Frame
   above = reach_above (shape x) ((extents_of x).found l.extent) l.page inside
 
   low : end_in x l ≤ x.pages
-  low = reach_low (shape x) ((extents_of x).found l.extent) l.page (whole.found_pages l.extent)
+  low = end_low x whole l
 
   -- all pages from the place on
   abbrev all : List (List ℕ)

@@ -9,14 +9,14 @@ use Rattle.cs_chunk.specs.Lengths.{AreHeadersIn, IsHeaderRefusal, IsOfHeaderIn, 
 use Rattle.cs_chunk.specs.Newest.{AreNewest, IsReadAs}
 use Rattle.cs_chunk.specs.Reads.{AnswersFault, IsCaused, IsNoAnswer, IsOfFault, refusal_for}
 use Rattle.cs_chunk.proofs.Chunkings.{length-spelled}
-use Rattle.cs_chunk.proofs.Framed.{header_at, no_fault_there, reads_same}
+use Rattle.cs_chunk.proofs.Framed.{end_low, header_at, no_fault_there, reads_same}
 use Rattle.cs_chunk.proofs.Newest.{of_stand}
 use Rattle.cs_chunk.proofs.Sharded.{at_place, chunk_at}
 use Rattle.cs_deps.specs.declared.refusals.Refusal.{Refusal}
 use Rattle.cs_deps.specs.declared.refusals.Refusal.TheVariants.{DeviceFault}
 use Rattle.cs_deps.specs.State.{State as Graph}
 use Rattle.cs_disk.specs.Disk.{Image}
-use Rattle.cs_extent.specs.State.{IsWhole, State, extents_of, shape}
+use Rattle.cs_extent.specs.State.{IsWhole, State, shape}
 use Rattle.cs_frame.specs.declared.faults.FormatFault.{FormatFault}
 use Rattle.cs_frame.specs.declared.faults.FormatFault.TheVariants as fault
 use Rattle.cs_frame.specs.declared.faults.FormatFault.TheVariants.{BadLength, BadMagic, BadVersion}
@@ -30,7 +30,6 @@ use Rattle.cs_frame.specs.Frames.{first_page, frame_bytes, header_fault, kind_by
 use Rattle.cs_frame.specs.Pages.{version_test}
 use Rattle.cs_frame.proofs.Fields.{number_at}
 use Rattle.cs_frame.proofs.GeometryLaws.{bounds}
-use Rattle.cs_model.proofs.Filled.{reach_low}
 use Rattle.cs_model.specs.Index.{joined}
 
 -- ---- the refusals of a header
@@ -101,7 +100,7 @@ module _ (x : State) (whole : IsWhole x) (view : ℕ → List ℕ) where
       size = length-spelled (kind_number (kind_of kind)) payload
 
       low : end_in x l ≤ x.pages
-      low = reach_low (shape x) ((extents_of x).found l.extent) l.page (whole.found_pages l.extent)
+      low = end_low x whole l
 
       -- where a frame is, its header tells the payload's length
       pub length_there : length_at (shape x) view l ≡ length payload

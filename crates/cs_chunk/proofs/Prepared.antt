@@ -4,7 +4,7 @@ use Rattle.std.specs.Prelude.{map, sum}
 use Rattle.std.specs.List.{AllByRecursion}
 use Rattle.std.proofs.lemmas.List.{length-map}
 use Rattle.cs_chunk.specs.declared.cuts.Cut.{Cut}
-use Rattle.cs_chunk.specs.Chunks.{AreChunksAt}
+use Rattle.cs_chunk.specs.Chunks.{AreChunksIn}
 use Rattle.cs_chunk.specs.Cuts.{IsCut, pages_of, pieces}
 use Rattle.cs_chunk.specs.Newest.{AreNewest}
 use Rattle.cs_chunk.specs.Puts.{AreNewestFrames, IsPutSoFar, MayPut}
@@ -65,6 +65,7 @@ module _ (apart : Bool) (x : State) (g k : Graph) (bytes : List ℕ) (whole : Is
     sections = section_there x whole;
     resets = resets;
     pointers = whole.pointers;
+    found = whole.found_given;
     pages = subst (λ ks. AllByRecursion (λ n. (1 ≤ n) × (n ≤ x.pages)) ks) (sym pages_are) (each_page (cut.count - 1) cut.pages cut.last x.pages cut.least cut.most is.pages);
     fits = subst (λ ks. FitsBy (shape x) apart (extents_of x) ForPut ks) (sym pages_are) fits;
     numbers = λ worn. numbers (subst (λ ks. AreWornBy apart x g.staging ForPut ks) pages_are worn);
@@ -73,14 +74,14 @@ module _ (apart : Bool) (x : State) (g k : Graph) (bytes : List ℕ) (whole : Is
 
   module _ (ls : List Locator) (y : State) (h : Graph) (done : IsPutSoFar apart x k fs [] ls y h) where
     pub put_chunked : (ds : List (List ℕ)) × Chunked (shape x).chunk_bytes bytes ds × AreAppendedBy apart x g ForPut (chunk_frames (shape x) (formats_of (shape x)) ds) ls y h
-        × ((image : Image) (view : ℕ → List ℕ) → AreNewest h image view → AreChunksAt (shape x) view ls ds)
+        × ((image : Image) (view : ℕ → List ℕ) → AreNewest h image view → AreChunksIn y view ls ds)
     put_chunked = (
       pieces cut.size cut.count bytes,
       chunked apart x g.staging bytes whole cut is,
       appended_whatever apart x g k ForPut _ ls y h same (subst (λ us. AreAppendedBy apart x k ForPut us ls y h) frames done.appended),
-      λ image view are. put_reads (shape x) (extents_of y) h image view ls (pieces cut.size cut.count bytes)
-          (λ e. omega (arith, done.may.pointers e, ap (λ (S : Shape). S.pages) done.same_shape))
-          are (subst (λ us. AreNewestFrames (shape x) (extents_of y) h ls us) frames done.newest),
+      λ image view are. put_reads y h image view ls (pieces cut.size cut.count bytes) done.may.pointers are
+          (subst (λ (S : Shape). AreNewestFrames S (extents_of y) h ls (chunk_frames S (formats_of S) (pieces cut.size cut.count bytes))) (sym done.same_shape)
+          (subst (λ us. AreNewestFrames (shape x) (extents_of y) h ls us) frames done.newest)),
     )
 
     pub put_few : (1 ≤ length ls) × (length ls ≤ 8)

@@ -1,12 +1,12 @@
 -- The frames of a put, appended one after another.
-use Rattle.std.proofs.Common.{◌≡◌, ◌∙◌, ℕ, suc, ◌+◌, ◌^◌, ◌<◌, ◌≤◌, Bool, List, [], ◌∷◌, ◌++◌, length, take, drop, get_or, refl, sym, ap, subst, inl, inr, ⊎_elim, arith}
+use Rattle.std.proofs.Common.{◌≡◌, ◌∙◌, ℕ, suc, ◌+◌, ◌^◌, ◌<◌, ◌≤◌, Bool, true, false, List, [], ◌∷◌, ◌++◌, length, take, drop, get_or, refl, sym, ap, subst, inl, inr, ⊎_elim, arith}
 use Rattle.std.specs.Prelude.{map, sum}
 use Rattle.std.specs.List.{AllByRecursion}
 use Rattle.std.proofs.lemmas.List.{get_or-map, drop_more, take_more, length-map}
-use Rattle.cs_chunk.specs.Chunks.{AreChunksAt}
+use Rattle.cs_chunk.specs.Chunks.{AreChunksIn}
 use Rattle.cs_chunk.specs.Newest.{AreNewest}
 use Rattle.cs_chunk.specs.Puts.{AreNewestFrames, IsNewestFrame, IsPutSoFar, MayPut}
-use Rattle.cs_chunk.proofs.Appends.{frame_begins, frames_stay, has_writes, staged_more, within_more}
+use Rattle.cs_chunk.proofs.Appends.{found_more, frame_begins, frames_stay, has_writes, staged_more, within_more}
 use Rattle.cs_chunk.proofs.Newest.{reads_newest, stand_of}
 use Rattle.cs_deps.specs.State.{IsWhole, State as Graph}
 use Rattle.cs_disk.specs.Disk.{Image}
@@ -21,8 +21,9 @@ use Rattle.cs_frame.specs.declared.locators.Locator.{Locator}
 use Rattle.cs_frame.specs.Formats.{formats_of}
 use Rattle.cs_model.specs.Append.{chunk_frames, page_counts}
 use Rattle.cs_model.specs.Device.{Shape}
-use Rattle.cs_model.specs.Extents.{Extents, FitsBy, ForPut, Goes, Purpose as Reason, taken_by}
+use Rattle.cs_model.specs.Extents.{Extents, FitsBy, ForPut, Goes, Purpose as Reason, reach, taken_by}
 use Rattle.cs_model.specs.Formats.{ChunkFrame}
+use Rattle.cs_model.proofs.Filled.{reach_end, reach_off}
 use Rattle.cs_model.proofs.Places.{goes_inside, goes_one}
 
 -- the graph's room doesn't matter
@@ -108,6 +109,7 @@ module _ (apart : Bool) (x : State) (g : Graph) (f : List (List ℕ)) (left : Li
       sections = subst (λ (S : Shape). (e : ℕ) → e < S.extents → S.section e < S.sections) (sym a.same_shape) may.sections;
       resets = resets;
       pointers = λ e. omega (arith, within_more x g ForPut f l y h a (has_writes h whole) may.pointers e, same_pages);
+      found = λ on. found_more x g ForPut f l y h a (has_writes h whole) may.found (sym (ap (λ (S : Shape). S.fills) a.same_shape) ∙ on);
       pages = subst (λ n. AllByRecursion (λ k. (1 ≤ k) × (k ≤ n)) (page_counts left)) (sym same_pages) may.pages.1;
       fits = rw (a.same_shape, a.extents) (fits_behind l.extent a.placed);
       numbers = λ worn. may.numbers (worn_before worn);
@@ -122,7 +124,7 @@ so_far_more apart x g done f left ls y h l z i was a whole resets families room 
   newest = subst (λ S. AreNewestFrames S (extents_of z) i (ls ++ l ∷ []) (done ++ f ∷ [])) was.same_shape
       (frames_more (shape y) (extents_of z) i ls done l f
       (frames_stay y h ForPut f l z i a (has_writes i whole) was.may.pointers ls done (subst (λ S. AreNewestFrames S (extents_of y) h ls done) (sym was.same_shape) was.newest))
-      (frame_begins y h ForPut f l z i a (has_writes i whole)));
+      (frame_begins y h ForPut f l z i a (has_writes i whole) was.may.found));
   may = may_more apart y h f left was.may l z i a whole resets families room;
   same_shape = a.same_shape ∙ was.same_shape;
   families = families ∙ was.families;
@@ -146,16 +148,29 @@ module _ {V X : Type 0} (items : V → X) (vs : List V) (k : ℕ) (v : V) (f : X
   pub done_at : take (k + 1) (map items vs) ≡ take k (map items vs) ++ f ∷ []
   done_at = take_more (map items vs) k f inside_k ∙ ap (λ u. take k (map items vs) ++ u ∷ []) at_k
 
+-- a frame behind what counts as found may reach to the end of its extent
+pub end_behind : (S : Shape) (found page : ℕ) → (S.fills ≡ true → found ≤ page) → reach S found page ≡ S.pages
+end_behind S found page behind = go S.fills refl
+  where
+    go : (b : Bool) → S.fills ≡ b → reach S found page ≡ S.pages
+    go true on = reach_end S found page (behind on)
+    go false off = reach_off S found page off
+
 -- what was put reads back
-pub put_reads : (S : Shape) (x : Extents) (g : Graph) (image : Image) (view : ℕ → List ℕ) (ls : List Locator) (cs : List (List ℕ)) → ((e : ℕ) → x.pointer e ≤ S.pages) → AreNewest g image view
-    → AreNewestFrames S x g ls (chunk_frames S (formats_of S) cs) → AreChunksAt S view ls cs
-put_reads S x g image view [] [] within are newest = tt
-put_reads S x g image view (l ∷ ls) (c ∷ cs) within are newest = (
-  (omega (arith, newest.0.given, within l.extent), stand_of S (formats_of S) view l.extent l.page ((formats_of S).frame ChunkFrame c) (λ i lt. reads_newest g image view (S.address l.extent (l.page + i)) (get_or ((formats_of S).frame ChunkFrame c) i []) are (newest.0.newest i lt))),
-  put_reads S x g image view ls cs within are newest.1,
-)
-put_reads S x g image view [] (c ∷ cs) within are newest = newest
-put_reads S x g image view (l ∷ ls) [] within are newest = newest
+pub put_reads : (x : State) (g : Graph) (image : Image) (view : ℕ → List ℕ) (ls : List Locator) (cs : List (List ℕ)) → ((e : ℕ) → (extents_of x).pointer e ≤ x.pages) → AreNewest g image view
+    → AreNewestFrames (shape x) (extents_of x) g ls (chunk_frames (shape x) (formats_of (shape x)) cs) → AreChunksIn x view ls cs
+put_reads x g image view [] [] within are newest = tt
+put_reads x g image view (l ∷ ls) (c ∷ cs) within are newest =
+    let S : Shape = shape x in
+    let frame : List (List ℕ) = (formats_of (shape x)).frame ChunkFrame c in (
+      (
+        omega (arith, newest.0.given, within l.extent, end_behind (shape x) ((extents_of x).found l.extent) l.page newest.0.behind),
+        stand_of S (formats_of S) view l.extent l.page frame (λ i lt. reads_newest g image view (S.address l.extent (l.page + i)) (get_or frame i []) are (newest.0.newest i lt)),
+      ),
+      put_reads x g image view ls cs within are newest.1,
+    )
+put_reads x g image view [] (c ∷ cs) within are newest = newest
+put_reads x g image view (l ∷ ls) [] within are newest = newest
 
 pub so_far_at : (apart : Bool) (x : State) (g : Graph) (done fs : List (List (List ℕ))) (f : List (List ℕ)) (left : List (List (List ℕ))) (ls : List Locator) (y : State) (h : Graph) → fs ≡ f ∷ left → IsPutSoFar apart x g done fs ls y h → IsPutSoFar apart x g done (f ∷ left) ls y h
 so_far_at apart x g done fs f left ls y h is was = subst (λ us. IsPutSoFar apart x g done us ls y h) is was

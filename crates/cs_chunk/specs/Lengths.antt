@@ -13,11 +13,7 @@ use Rattle.cs_frame.specs.declared.locators.Locator.{Locator}
 use Rattle.cs_frame.specs.Frames.{header_fault, kind_byte, payload_length}
 use Rattle.cs_model.specs.Device.{Shape}
 
--- the first test that fails of the header at a place
-abbrev pub header_fault_at : Shape → (view : ℕ → List ℕ) → FrameKind → Locator → Option FormatFault
-header_fault_at S view kind l = header_fault (kind_byte kind) (view (S.address l.extent l.page)) (S.pages - l.page)
-
--- so in these extents
+-- the first test that fails of the header at a place in these extents
 abbrev pub header_fault_in : State → (view : ℕ → List ℕ) → FrameKind → Locator → Option FormatFault
 header_fault_in x view kind l = header_fault (kind_byte kind) (view ((shape x).address l.extent l.page)) (end_in x l - l.page)
 
@@ -30,9 +26,6 @@ abbrev pub IsHeaderRefusal : Refusal → Type 0
 IsHeaderRefusal r = IsNoAnswer r ⊎ (r ≡ BadMagic) ⊎ (r ≡ BadVersion) ⊎ (r ≡ BadLength)
 
 -- a chunk's header is at each of these places
-abbrev pub AreHeadersAt : Shape → (view : ℕ → List ℕ) → List Locator → Type 0
-AreHeadersAt S view ls = AllByRecursion (λ l. header_fault_at S view Chunk l ≡ None) ls
-
 abbrev pub AreHeadersIn : State → (view : ℕ → List ℕ) → List Locator → Type 0
 AreHeadersIn x view ls = AllByRecursion (λ l. header_fault_in x view Chunk l ≡ None) ls
 
@@ -41,11 +34,6 @@ abbrev pub lengths_at : Shape → (view : ℕ → List ℕ) → List Locator →
 lengths_at S view ls = sum_by (length_at S view) ls
 
 -- The headers before place k are there, and the refusal is that of the header at k; or the device or memory refused.
-abbrev pub IsOfHeader : Shape → (view : ℕ → List ℕ) → List Locator → Refusal → Type 0
-IsOfHeader S view ls r = IsNoAnswer r
-    ⊎ ((k : ℕ) × (l : Locator) × (slice_get ls k ≡ Some l) × AreHeadersAt S view (take k ls) × IsOfFault (header_fault_at S view Chunk l) r)
-
--- so in these extents
 abbrev pub IsOfHeaderIn : State → (view : ℕ → List ℕ) → List Locator → Refusal → Type 0
 IsOfHeaderIn x view ls r = IsNoAnswer r
     ⊎ ((k : ℕ) × (l : Locator) × (slice_get ls k ≡ Some l) × AreHeadersIn x view (take k ls) × IsOfFault (header_fault_in x view Chunk l) r)

@@ -1,5 +1,5 @@
 -- What a put does, one frame after another.
-use Rattle.std.specs.Prelude.{◌≡◌, ◌+◌, ◌<◌, ◌≤◌, ℕ, Bool, List, [], ◌∷◌, length, slice_index_or, sum}
+use Rattle.std.specs.Prelude.{◌≡◌, ◌+◌, ◌<◌, ◌≤◌, ℕ, Bool, true, List, [], ◌∷◌, length, slice_index_or, sum}
 use Rattle.std.specs.List.{AllByRecursion}
 use Rattle.cs_deps.specs.State.{IsNewestOn, State as Graph}
 use Rattle.cs_extent.specs.Appended.{AreAppendedBy}
@@ -17,15 +17,18 @@ pub record MayPut (apart : Bool) (x : State) (g : Graph) (frames : List (List (L
   pub sections : (e : ℕ) → e < (shape x).extents → (shape x).section e < (shape x).sections
   pub resets : AreResetsStaged (extents_of x) g.staging
   pub pointers : (e : ℕ) → (extents_of x).pointer e ≤ x.pages
+  pub found : (shape x).fills ≡ true → (e : ℕ) → (extents_of x).found e ≤ (extents_of x).pointer e
   pub pages : AllByRecursion (λ k. (1 ≤ k) × (k ≤ x.pages)) (page_counts frames)
   pub fits : FitsBy (shape x) apart (extents_of x) ForPut (page_counts frames)
   pub numbers : AreWornBy apart x g.staging ForPut (page_counts frames) → ⊥
   pub room : length frames + sum (page_counts frames) ≤ g.room
 
--- the frame at l lies below the pointer of its extent, and the newest waiting writes are its pages
+-- the frame at l lies below the pointer of its extent, where extents are filled up behind what counts as found there, and the newest
+-- waiting writes are its pages
 pub record IsNewestFrame (S : Shape) (x : Extents) (g : Graph) (l : Locator) (frame : List (List ℕ)) : Type 0 where
   pub extent : l.extent < S.extents
   pub given : l.page + length frame ≤ x.pointer l.extent
+  pub behind : S.fills ≡ true → x.found l.extent ≤ l.page
   pub newest : (i : ℕ) → i < length frame → IsNewestOn g (S.address l.extent (l.page + i)) (slice_index_or frame i [])
 
 -- the same of each of these frames

@@ -1,6 +1,6 @@
 -- Reads of frames: what they leave of the disk, and how they are refused.
 use Rattle.std.specs.Prelude.{◌≡◌, ◌⊎◌, ◌+◌, ◌-◌, ◌<◌, ◌≤◌, ◌↔◌, ℕ, List, [], Option, Some, None, Result, MatchResult, IsErrOf, length, slice_get, slice_index_or, take}
-use Rattle.cs_chunk.specs.Chunks.{AreChunksAt, AreChunksIn, end_in}
+use Rattle.cs_chunk.specs.Chunks.{AreChunksIn, end_in}
 use Rattle.cs_chunk.specs.Newest.{IsReadAs}
 use Rattle.cs_deps.specs.declared.refusals.Refusal.{Refusal}
 use Rattle.cs_deps.specs.declared.refusals.Refusal.TheVariants as refusal
@@ -16,7 +16,6 @@ use Rattle.cs_frame.specs.declared.frames.FrameKind.TheVariants.{Chunk}
 use Rattle.cs_frame.specs.declared.locators.Locator.{Locator}
 use Rattle.cs_frame.specs.Formats.{formats_of}
 use Rattle.cs_frame.specs.Frames.{frame_count, frame_fault, kind_byte}
-use Rattle.cs_model.specs.Device.{Shape}
 use Rattle.cs_model.specs.Formats.{pages_from}
 
 -- the refusal with the number of a fault
@@ -45,14 +44,6 @@ IsOfFault found r = (f : FormatFault) × (found ≡ Some f) × (r ≡ refusal_fo
 -- Something was read, and there is no fault; or the refusal is that of the fault; or the device or memory refused.
 abbrev pub AnswersFault : {T : Type 0} → Option FormatFault → Result T Refusal → Type 0
 AnswersFault found result = MatchResult result (λ _. found ≡ None) (λ r. IsNoAnswer r ⊎ IsOfFault found r)
-
--- what lies from a place to the end of its extent
-abbrev pub pages_at : Shape → (view : ℕ → List ℕ) → Locator → List (List ℕ)
-pages_at S view l = pages_from S (formats_of S) view l.extent l.page (S.pages - l.page)
-
--- the first test that fails of the frame at a place
-abbrev pub fault_at : Shape → (view : ℕ → List ℕ) → FrameKind → Locator → Option FormatFault
-fault_at S view kind l = frame_fault (kind_byte kind) (pages_at S view l)
 
 -- what lies from a place on, as far as its frame may reach in these extents
 abbrev pub pages_in : State → (view : ℕ → List ℕ) → Locator → List (List ℕ)
@@ -88,11 +79,6 @@ pub record OnlyReads {D : Type 0} (disks : PageDisk D) (old new : D) : Type 0 wh
   pub failures : disks.failure_count old ≤ disks.failure_count new
 
 -- The chunks before place k are there, and the refusal is that of the fault at k; or the device or memory refused.
-abbrev pub IsOfChunk : Shape → (view : ℕ → List ℕ) → List Locator → Refusal → Type 0
-IsOfChunk S view ls r = IsNoAnswer r
-    ⊎ ((k : ℕ) × (l : Locator) × (cs : List (List ℕ)) × (slice_get ls k ≡ Some l) × AreChunksAt S view (take k ls) cs × IsOfFault (fault_at S view Chunk l) r)
-
--- so in these extents
 abbrev pub IsOfChunkIn : State → (view : ℕ → List ℕ) → List Locator → Refusal → Type 0
 IsOfChunkIn x view ls r = IsNoAnswer r
     ⊎ ((k : ℕ) × (l : Locator) × (cs : List (List ℕ)) × (slice_get ls k ≡ Some l) × AreChunksIn x view (take k ls) cs × IsOfFault (fault_in x view Chunk l) r)

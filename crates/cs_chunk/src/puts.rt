@@ -1,6 +1,6 @@
 //! Puts.
 ghost use Rattle.std.specs.Prelude.{◌≡◌, ◌↔◌, ◌⊎◌, ◌+◌, ◌*◌, ◌^◌, ◌<◌, ◌≤◌, ℕ, List, [], IfErr, IfOk, MatchBool, OnErr, OnOk, Err, length, map, sum};
-ghost use Rattle.cs_chunk.specs.Chunks.{AreChunksAt};
+ghost use Rattle.cs_chunk.specs.Chunks.{AreChunksIn};
 ghost use Rattle.cs_chunk.specs.Cuts.{IsCut, pages_of, pieces};
 ghost use Rattle.cs_chunk.specs.Newest.{AreNewest};
 ghost use Rattle.cs_chunk.specs.Puts.{IsPutSoFar, MayPut};
@@ -161,7 +161,7 @@ pub fn put_chunks(
     // The frames of the chunks are appended, and read back.
     ensures chunks { IfOk result (λ ls. (cs : List (List ℕ)) × Chunked (shape extents.old).chunk_bytes bytes.now cs
         × AreAppended extents.old graph.old ForPut (chunk_frames (shape extents.old) (formats_of (shape extents.old)) cs) ls.items extents.new graph.new
-        × ((image : Image) (view : ℕ → List ℕ) → AreNewest graph.new image view → AreChunksAt (shape extents.old) view ls.items cs)) }
+        × ((image : Image) (view : ℕ → List ℕ) → AreNewest graph.new image view → AreChunksIn extents.new view ls.items cs)) }
     ensures few { IfOk result (λ ls. (1 ≤ length ls.items) × (length ls.items ≤ 8)) }
     ensures shape { shape extents.new ≡ shape extents.old }
 
@@ -208,7 +208,7 @@ pub fn put_chunks_by(
     // The frames of the chunks are appended, and read back.
     ensures chunks { IfOk result (λ ls. (cs : List (List ℕ)) × Chunked (shape extents.old).chunk_bytes bytes.now cs
         × AreAppendedBy apart extents.old graph.old ForPut (chunk_frames (shape extents.old) (formats_of (shape extents.old)) cs) ls.items extents.new graph.new
-        × ((image : Image) (view : ℕ → List ℕ) → AreNewest graph.new image view → AreChunksAt (shape extents.old) view ls.items cs)) }
+        × ((image : Image) (view : ℕ → List ℕ) → AreNewest graph.new image view → AreChunksIn extents.new view ls.items cs)) }
     ensures few { IfOk result (λ ls. (1 ≤ length ls.items) × (length ls.items ≤ 8)) }
     ensures shape { shape extents.new ≡ shape extents.old }
 

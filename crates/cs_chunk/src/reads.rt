@@ -103,7 +103,7 @@ fn framed(kind: FrameKind, pages: Vec<[u8; 4096]>) -> Result<ReadFrame, Refusal>
     requires { 0 < length pages.items }
     ensures spelled { IfOk result (λ payload. SpellsFrame (kind_byte kind) pages.items payload) }
     ensures fault { AnswersFault (frame_fault (kind_byte kind) pages.items) result }
-    ensures refusals { IfErr result (λ r. (r ≡ Refusal.OutOfMemory) ⊎ ((20 ≤ number_of r) × (number_of r ≤ 24))) }
+    ensures refusals { IfErr result (λ r. (20 ≤ number_of r) × (number_of r ≤ 24)) }
 {
     match read_frame_in(kind, pages) {
         Ok(frame) => Ok(frame),
@@ -140,7 +140,7 @@ fn read_frame_pages<D: PageDisk>(
     ensures fault { D.honest disk.old → (view : ℕ → List ℕ) → AreNewest graph.now (seen (D.state disk.old)) view
         → IfErr result (λ r. IsNoAnswer r ⊎ IsOfFault (fault_in extents.now view kind locator) r) }
     ensures some { IfOk result (λ pages. 0 < length pages.items) }
-    ensures fits { IfOk result (λ pages. locator.page + length pages.items ≤ (shape extents.now).pages) }
+    ensures fits { IfOk result (λ pages. locator.page + length pages.items ≤ end_in extents.now locator) }
     ensures refusals { IfErr result IsReadRefusal }
     ensures whole { IsWhole extents.now }
     ensures disk { OnlyReads D.PageDisk disk.old disk.new }
@@ -187,7 +187,8 @@ pub fn frame_at<D: PageDisk>(
     ensures fault { D.honest disk.old → (view : ℕ → List ℕ) → AreNewest graph.now (seen (D.state disk.old)) view
         → AnswersFault (fault_in extents.now view kind locator) result }
     ensures refusals { IfErr result IsReadRefusal }
-    // Whatever the disk answers, the frame of what is read lies in the extent.
+    // Whatever the disk answers, the frame of what is read reaches no further than it may, and lies in the extent.
+    ensures reach { IfOk result (λ payload. locator.page + length ((formats_of (shape extents.now)).frame (kind_of kind) payload) ≤ end_in extents.now locator) }
     ensures size { IfOk result (λ payload. locator.page + length ((formats_of (shape extents.now)).frame (kind_of kind) payload) ≤ (shape extents.now).pages) }
 
     ensures disk { OnlyReads D.PageDisk disk.old disk.new }
@@ -225,7 +226,8 @@ pub fn read_frame<D: PageDisk>(
     ensures fault { D.honest disk.old → (view : ℕ → List ℕ) → AreNewest graph.now (seen (D.state disk.old)) view
         → AnswersFault (fault_in extents.now view kind locator) result }
     ensures refusals { IfErr result IsReadRefusal }
-    // Whatever the disk answers, the frame of what is read lies in the extent.
+    // Whatever the disk answers, the frame of what is read reaches no further than it may, and lies in the extent.
+    ensures reach { IfOk result (λ payload. locator.page + length ((formats_of (shape extents.now)).frame (kind_of kind) payload.items) ≤ end_in extents.now locator) }
     ensures size { IfOk result (λ payload. locator.page + length ((formats_of (shape extents.now)).frame (kind_of kind) payload.items) ≤ (shape extents.now).pages) }
 
     ensures disk { OnlyReads D.PageDisk disk.old disk.new }
@@ -268,7 +270,8 @@ pub fn read_length<D: PageDisk>(
     ensures fault { D.honest disk.old → (view : ℕ → List ℕ) → AreNewest graph.now (seen (D.state disk.old)) view
         → IfErr result (λ r. IsNoAnswer r ⊎ IsOfFault (fault_in extents.now view kind locator) r) }
     ensures refusals { IfErr result IsHeaderRefusal }
-    // Whatever the disk answers, a frame of so many bytes lies in the extent.
+    // Whatever the disk answers, a frame of so many bytes reaches no further than it may, and lies in the extent.
+    ensures reach { IfOk result (λ count. locator.page + page_count count ≤ end_in extents.now locator) }
     ensures size { IfOk result (λ count. locator.page + page_count count ≤ (shape extents.now).pages) }
 
     ensures disk { OnlyReads D.PageDisk disk.old disk.new }

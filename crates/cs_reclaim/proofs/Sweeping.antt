@@ -16,7 +16,7 @@ use Rattle.cs_index.specs.Staged.{IsMergeStaged, IsRunAppended}
 use Rattle.cs_index.specs.State.{State, index_of}
 use Rattle.cs_model.specs.Device.{Shape}
 use Rattle.cs_model.specs.Element.{Entry, Locator as Place}
-use Rattle.cs_model.specs.Extents.{Extents, HasRoom, IsFirstEmpty, Placed, Purpose, emptied, empties, marked, spare, taken}
+use Rattle.cs_model.specs.Extents.{Extents, HasRoom, IsFirstEmpty, Placed, Purpose, empties, marked, spare, taken}
 use Rattle.cs_model.specs.Index.{IsMergedRun, live_at}
 use Rattle.cs_model.specs.Lists.{with}
 use Rattle.cs_reclaim.specs.Sweeps.{IsNotSweepable, IsSwept}
@@ -101,7 +101,7 @@ with_le f e v d n le more = split (d == e)
     split true = more
     split false = le
 
-pub resets_emptied : (x y z : Extents) (s : Staging) (e v : ℕ) (b : Bool) → y ≡ emptied x e v → z ≡ marked y e b → slice_index s.latest root_family ≡ v → AreResetsStaged x s → AreResetsStaged z s
-resets_emptied x y z s e v b empty mark root staged d =
+pub resets_emptied : (S : Shape) (x y z : Extents) (s : Staging) (e v : ℕ) (b : Bool) → y ≡ emptied_in S x e v → z ≡ marked y e b → slice_index s.latest root_family ≡ v → AreResetsStaged x s → AreResetsStaged z s
+resets_emptied S x y z s e v b empty mark root staged d =
     let is : z.reset d ≡ with x.reset e v d = ap (λ (w : Extents). w.reset d) mark ∙ ap (λ (w : Extents). w.reset d) empty in
     omega (arith, is, with_le x.reset e v d (slice_index s.latest root_family) (staged d) (omega (arith, root)))

@@ -1,6 +1,6 @@
 //! Laws of sweeps where chunks and runs lie apart.
 ghost use Rattle.std.specs.Prelude.{◌≡◌, ◌≢◌, ◌==◌, Bool, ℕ, List, [], Some, if◌then◌else◌, true};
-ghost use Rattle.cs_chunk.specs.Chunks.{AreChunksAt, IsFrameAt};
+ghost use Rattle.cs_chunk.specs.Chunks.{AreChunksIn, IsFrameIn};
 ghost use Rattle.cs_chunk.specs.Newest.{AreNewest};
 ghost use Rattle.cs_chunk.specs.Stays.{IsBelow};
 ghost use Rattle.cs_deps.specs.State.{IsWhole as IsWholeGraph, State as GraphState};
@@ -50,20 +50,20 @@ pub fn a_swept_extent_stays_apart()
 pub fn a_sweep_apart_keeps_every_shard()
     ensures copied { (s : IndexState) (x y : State) (g h : GraphState) (copies after : List Copy) (e id chunk : ℕ) (payload : List ℕ) (image : Image) (view now : ℕ → List ℕ)
         → IsWhole x → IsCopyMade s x g copies e id chunk payload after y h → IsWholeGraph h → AreNewest g image view → AreNewest h image now
-        → (d : ℕ) (cs : List (List ℕ)) → AreChunksAt (shape x) view (places_at s d) cs → AreBelow (shape x) (extents_of x) (places_at s d) cs
-        → AreChunksAt (shape x) now (places_at s d) cs × AreBelow (shape x) (extents_of y) (places_at s d) cs }
+        → (d : ℕ) (cs : List (List ℕ)) → AreChunksIn x view (places_at s d) cs → AreBelow (shape x) (extents_of x) (places_at s d) cs
+        → AreChunksIn y now (places_at s d) cs × AreBelow (shape y) (extents_of y) (places_at s d) cs }
     ensures copies { (s : IndexState) (x y : State) (g h : GraphState) (copies after : List Copy) (e id chunk : ℕ) (payload : List ℕ) (image : Image) (view now : ℕ → List ℕ)
         → IsWhole x → (copy : IsCopyMade s x g copies e id chunk payload after y h) → IsWholeGraph h → AreNewest g image view → AreNewest h image now
-        → IsFrameAt (shape x) view ChunkFrame (as_locator copy.from) payload → IsBelow (extents_of x) (as_locator copy.from) (chunk_frame x payload)
-        → AreCopiesRead (shape x) view (extents_of x) copies → AreCopiesRead (shape x) now (extents_of y) after }
+        → IsFrameIn x view ChunkFrame (as_locator copy.from) payload → IsBelow (extents_of x) (as_locator copy.from) (chunk_frame x payload)
+        → AreCopiesRead x view copies → AreCopiesRead y now after }
     ensures staged { (s t : IndexState) (x y : State) (g h : GraphState) (copies after : List Copy) (v commands : ℕ) (image : Image) (view now : ℕ → List ℕ)
         → IsWhole x → IsSweepStaged s x g copies v commands t y h after → IsWholeGraph h → AreNewest g image view → AreNewest h image now
         → ((id : ℕ) → live_at (index_of t) id ≡ live_at (index_of s) id)
-        → (d : ℕ) (cs : List (List ℕ)) → AreChunksAt (shape x) view (places_at s d) cs → AreBelow (shape x) (extents_of x) (places_at s d) cs
-        → AreChunksAt (shape x) now (places_at t d) cs × AreBelow (shape x) (extents_of y) (places_at t d) cs }
+        → (d : ℕ) (cs : List (List ℕ)) → AreChunksIn x view (places_at s d) cs → AreBelow (shape x) (extents_of x) (places_at s d) cs
+        → AreChunksIn y now (places_at t d) cs × AreBelow (shape y) (extents_of y) (places_at t d) cs }
     ensures retired { (s t : IndexState) (x y : State) (g h : GraphState) (copies after : List Copy) (e v commands : ℕ) (image : Image) (view now : ℕ → List ℕ)
         → IsWhole x → (retired : IsRetiredApart s x g copies e v commands t y h after) → IsWholeGraph h → AreNewest g image view → AreNewest h image now
-        → AreCopiesRead (shape x) view (extents_of x) copies → ((id : ℕ) → live_at (index_of t) id ≡ live_at (index_of retired.counted) id)
-        → (d : ℕ) (cs : List (List ℕ)) → AreChunksAt (shape x) view (places_at s d) cs → AreBelow (shape x) (extents_of x) (places_at s d) cs
-        → AreChunksAt (shape x) now (places_at t d) cs × AreBelow (shape x) (extents_of y) (places_at t d) cs }
+        → AreCopiesRead x view copies → ((id : ℕ) → live_at (index_of t) id ≡ live_at (index_of retired.counted) id)
+        → (d : ℕ) (cs : List (List ℕ)) → AreChunksIn x view (places_at s d) cs → AreBelow (shape x) (extents_of x) (places_at s d) cs
+        → AreChunksIn y now (places_at t d) cs × AreBelow (shape y) (extents_of y) (places_at t d) cs }
 {}

@@ -1,6 +1,6 @@
 //! Laws of sweeps.
 ghost use Rattle.std.specs.Prelude.{◌≡◌, ◌≢◌, Bool, ℕ, List};
-ghost use Rattle.cs_chunk.specs.Chunks.{AreChunksAt, IsFrameAt};
+ghost use Rattle.cs_chunk.specs.Chunks.{AreChunksIn, IsFrameIn};
 ghost use Rattle.cs_chunk.specs.Newest.{AreNewest};
 ghost use Rattle.cs_deps.specs.State.{IsWhole as IsWholeGraph, State as GraphState};
 ghost use Rattle.cs_disk.specs.Disk.{Image};
@@ -32,14 +32,16 @@ pub fn a_swept_extent_stays()
 pub fn a_sweep_keeps_every_shard()
     ensures moved { (s t : IndexState) (x y : State) (g h : GraphState) (e id chunk : ℕ) (payload : List ℕ) (image : Image) (view now : ℕ → List ℕ)
         → IsWhole x → (move : IsMoved s x g e id chunk payload t y h) → IsWholeGraph h → AreNewest g image view → AreNewest h image now
-        → IsFrameAt (shape x) view ChunkFrame (as_locator move.from) payload
-        → (d : ℕ) (cs : List (List ℕ)) → AreChunksAt (shape x) view (places_at s d) cs → AreBelow (shape x) (extents_of x) (places_at s d) cs
-        → AreChunksAt (shape x) now (places_at t d) cs × AreBelow (shape x) (extents_of y) (places_at t d) cs }
+        → IsFrameIn x view ChunkFrame (as_locator move.from) payload
+        → (d : ℕ) (cs : List (List ℕ)) → AreChunksIn x view (places_at s d) cs → AreBelow (shape x) (extents_of x) (places_at s d) cs
+        → AreChunksIn y now (places_at t d) cs × AreBelow (shape y) (extents_of y) (places_at t d) cs }
     ensures retired { (s t : IndexState) (x y : State) (g h : GraphState) (e v commands : ℕ) (image : Image) (view now : ℕ → List ℕ)
         → IsWhole x → IsRetired s x g e v commands t y h → IsWholeGraph h → AreNewest g image view → AreNewest h image now
         → NothingLive (index_of s) e → ((id : ℕ) → live_at (index_of t) id ≡ live_at (index_of s) id)
-        → (d : ℕ) (cs : List (List ℕ)) → AreChunksAt (shape x) view (places_at s d) cs → AreBelow (shape x) (extents_of x) (places_at s d) cs
-        → AreChunksAt (shape x) now (places_at t d) cs × AreBelow (shape x) (extents_of y) (places_at t d) cs }
+        → (d : ℕ) (cs : List (List ℕ)) → AreChunksIn x view (places_at s d) cs → AreBelow (shape x) (extents_of x) (places_at s d) cs
+        → AreChunksIn y now (places_at t d) cs × AreBelow (shape y) (extents_of y) (places_at t d) cs }
     ensures marked { (S : Shape) (x y : Extents) (e : ℕ) (b : Bool) → y ≡ marked x e b
         → (ls : List Spot) (cs : List (List ℕ)) → AreBelow S x ls cs → AreBelow S y ls cs }
+    ensures read { (x y : State) (e : ℕ) (b : Bool) (view : ℕ → List ℕ) → extents_of y ≡ marked (extents_of x) e b → shape y ≡ shape x
+        → (ls : List Spot) (cs : List (List ℕ)) → AreChunksIn x view ls cs → AreChunksIn y view ls cs }
 {}

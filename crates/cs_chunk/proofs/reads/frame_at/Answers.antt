@@ -1,6 +1,7 @@
-use Rattle.std.proofs.Common.{List, ℕ, Err}
+use Rattle.std.proofs.Common.{List, ℕ, Err, arith}
+use Rattle.cs_chunk.specs.Chunks.{end_in}
 use Rattle.cs_extent.specs.State.{shape}
-use Rattle.cs_chunk.proofs.Framed.{all_fit, answers, frames_there, reads_it}
+use Rattle.cs_chunk.proofs.Framed.{all_fit, answers, end_low, frames_there, reads_it}
 use Rattle.cs_chunk.proofs.reads.frame_at.Goals as goal
 
 pub returns-in-Ok-clause-payload : goal.returns-in-Ok-clause-payload
@@ -22,5 +23,11 @@ pub returns-in-Err-clause-read : goal.returns-in-Err-clause-read
 returns-in-Err-clause-read g c = λ h view payload are there.
     reads_it c.args.extents.now c.read_frame_pages.ensures.whole view c.args.kind c.args.locator c.requires.page {V = List ℕ} (λ v. v) (Err c.in-Err.refusal) payload (c.in-Err.ensures.fault h view are) tt there
 
+pub returns-in-Ok-clause-reach : goal.returns-in-Ok-clause-reach
+returns-in-Ok-clause-reach g c =
+    all_fit (shape c.args.extents.now) c.args.kind c.args.locator c.in-Ok.pages.items (λ v. v) c.framed.result (end_in c.args.extents.now c.args.locator) c.in-Ok.ensures.fits c.framed.ensures.spelled
+
 pub returns-in-Ok-clause-size : goal.returns-in-Ok-clause-size
-returns-in-Ok-clause-size g c = all_fit (shape c.args.extents.now) c.args.kind c.args.locator c.in-Ok.pages.items (λ v. v) c.framed.result c.in-Ok.ensures.fits c.framed.ensures.spelled
+returns-in-Ok-clause-size g c =
+    all_fit (shape c.args.extents.now) c.args.kind c.args.locator c.in-Ok.pages.items (λ v. v) c.framed.result c.args.extents.now.pages
+    (omega (arith, c.in-Ok.ensures.fits, end_low c.args.extents.now c.in-Ok.ensures.whole c.args.locator)) c.framed.ensures.spelled

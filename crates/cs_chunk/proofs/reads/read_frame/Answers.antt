@@ -1,5 +1,5 @@
 use Rattle.std.proofs.Common.{◌+◌, ◌≤◌, List, ℕ, length}
-use Rattle.cs_chunk.specs.Chunks.{IsFrameIn, kind_of}
+use Rattle.cs_chunk.specs.Chunks.{IsFrameIn, end_in, kind_of}
 use Rattle.cs_chunk.specs.Reads.{fault_in}
 use Rattle.cs_extent.specs.State.{shape}
 use Rattle.cs_frame.specs.Formats.{formats_of}
@@ -20,6 +20,11 @@ returns-in-Ok-clause-fault g c = λ h view are.
 
 pub returns-in-Ok-clause-refusals : goal.returns-in-Ok-clause-refusals
 returns-in-Ok-clause-refusals g c = copied_refusal c.copied.result c.copied.ensures.memory
+
+pub returns-in-Ok-clause-reach : goal.returns-in-Ok-clause-reach
+returns-in-Ok-clause-reach g c =
+    let S = shape c.args.extents.now in
+    copied_ok c.in-Ok.frame (λ v. v.items) (λ (payload : List ℕ). c.args.locator.page + length ((formats_of S).frame (kind_of c.args.kind) payload) ≤ end_in c.args.extents.now c.args.locator) c.copied.result c.in-Ok.ensures.reach c.copied.ensures.same
 
 pub returns-in-Ok-clause-size : goal.returns-in-Ok-clause-size
 returns-in-Ok-clause-size g c =

@@ -6,6 +6,7 @@ use Rattle.cs_disk.specs.Disk.{State, seen}
 use Rattle.cs_frame.specs.Frames.{header_fault, kind_byte, page_count}
 use Rattle.cs_chunk.proofs.Framed.{header_refused, fronts_read}
 use Rattle.cs_chunk.proofs.FrameFaults.{header_refusal}
+use Rattle.cs_chunk.proofs.Lengths.{header_caused}
 use Rattle.cs_chunk.proofs.OnlyRead.{all_fit_in, caused_on, no_fault, read_refusal, reads_on, some_read}
 use Rattle.cs_chunk.proofs.reads.read_frame_pages.Goals as goal
 
@@ -50,11 +51,14 @@ returns-in-Ok-decode_frame_header-clause-some g c = some_read c.read_pages.resul
 
 pub returns-in-Ok-decode_frame_header-clause-fits : goal.returns-in-Ok-decode_frame_header-clause-fits
 returns-in-Ok-decode_frame_header-clause-fits g c =
-    all_fit_in c.read_pages.result (λ v. v.items) c.pages.result c.args.locator.page c.args.extents.now.pages
-    (omega (arith, c.pages.ensures, c.in-Ok-decode_frame_header.ensures.room, c.from.ensures, c.end_of.ensures.fits, c.requires.page)) c.read_pages.ensures.size
+    all_fit_in c.read_pages.result (λ v. v.items) c.pages.result c.args.locator.page (end_in c.args.extents.now c.args.locator)
+    (omega (arith, c.pages.ensures, c.in-Ok-decode_frame_header.ensures.room, c.from.ensures, c.end_of.ensures.end, c.end_of.ensures.above)) c.read_pages.ensures.size
 
 pub returns-in-Ok-decode_frame_header-clause-cause : goal.returns-in-Ok-decode_frame_header-clause-cause
 returns-in-Ok-decode_frame_header-clause-cause g c = caused_on _ _ _ c.read_page.result c.read_pages.result c.read_page.ensures.cause c.read_pages.ensures.cause
 
 pub returns-in-Err-decode_frame_header-clause-refusals : goal.returns-in-Err-decode_frame_header-clause-refusals
 returns-in-Err-decode_frame_header-clause-refusals g c = header_refusal (kind_byte c.args.kind) c.read_page.new.buffer (c.end_of.result - c.from.result) c.in-Err-decode_frame_header.fault c.refusal_of_fault.result c.refusal_of_fault.ensures.number c.in-Err-decode_frame_header.ensures.fault
+
+pub returns-in-Err-decode_frame_header-clause-cause : goal.returns-in-Err-decode_frame_header-clause-cause
+returns-in-Err-decode_frame_header-clause-cause g c = header_caused _ _ c.read_page.result c.in-Err-decode_frame_header.fault c.refusal_of_fault.result c.refusal_of_fault.ensures.same c.read_page.ensures.cause

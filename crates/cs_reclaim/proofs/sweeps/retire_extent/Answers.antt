@@ -1,6 +1,6 @@
 use Rattle.std.proofs.Common.{◌∙◌, ap, arith, false, inl, refl, sym, Err}
 use Rattle.std.proofs.lemmas.Result.{err_from_is_err_and}
-use Rattle.cs_extent.specs.State.{extents_of}
+use Rattle.cs_extent.specs.State.{extents_of, shape}
 use Rattle.cs_frame.specs.Formats.{place_of}
 use Rattle.cs_index.proofs.Exact.{why_same}
 use Rattle.cs_index.specs.State.{id_number, index_of}
@@ -52,7 +52,7 @@ unreachable-requires c =
 
 pub returns-clause-resets : goal.returns-clause-resets
 returns-clause-resets c =
-    resets_emptied (extents_of c.stage_merged.new.extents) (extents_of c.reset.new.self) (extents_of c.set_swept.new.self) c.stage_merged.new.graph.staging c.args.extent c.in_ok-root.root false
+    resets_emptied (shape c.stage_merged.new.extents) (extents_of c.stage_merged.new.extents) (extents_of c.reset.new.self) (extents_of c.set_swept.new.self) c.stage_merged.new.graph.staging c.args.extent c.in_ok-root.root false
     c.in-Ok.ensures.extents c.set_swept.ensures.extents
     (merge_root c.first_live.new.self c.args.extents.now c.args.graph.now ForMove c.in_ok-root.root c.args.commands c.stage_merged.new.self c.stage_merged.new.extents c.stage_merged.new.graph c.args.extent
     c.in_ok-root.ensures.staged (omega (arith, c.in_ok-root.ensures.families, c.requires.families, c.extent_count-extents.ensures.whole.geometry.fewest_sections)))
