@@ -4,8 +4,7 @@ use Rattle.std.proofs.lemmas.List.{get_or-drop, get_or-take, length-take-le, tak
 use Rattle.std.proofs.lemmas.Option.{same_Some}
 use Rattle.byteorder.specs.Endian.{big_bytes, big_number}
 use Rattle.byteorder.specs.Numbers.{big_from-lt}
-use Rattle.sha2.specs.Sha256.{sha256}
-use Rattle.sha2.specs.Sha256.{digest_bytes, final_hash, initial_hash_256}
+use Rattle.sha2.specs.Sha256.{digest_bytes, final_hash, initial_hash_256, sha256}
 use Rattle.sha2.proofs.Facts256.{length-sha256}
 use Rattle.std.specs.Int.{to_be_bytes, w32}
 use Rattle.std.specs.Simd.{first_chunks}

@@ -112,6 +112,10 @@ meant_header_fault format kind mark first there = first_fault (header_fault kind
 abbrev pub meant_fault : (format kind mark : ℕ) → List (List ℕ) → Option FormatFault
 meant_fault format kind mark pages = first_fault (frame_fault kind pages ∷ mark_test format mark (first_page pages) ∷ [])
 
+-- the first eight bytes of a payload's digest
+abbrev pub digest_front : (payload : List ℕ) → List ℕ
+digest_front payload = take 8 (sha256 payload)
+
 -- the mark of the frame with this payload, in a format that has marks
 abbrev pub payload_mark : (payload : List ℕ) → ℕ
 payload_mark payload = number 0 8 (sha256 payload)

@@ -3,7 +3,6 @@
 
 ghost use Rattle.std.specs.Prelude.{◌≡◌, ◌≢◌, ◌↔◌, ◌+◌, ◌/◌, ◌^◌, ◌<◌, ◌≤◌, ◌++◌, ℕ, List, Some, None, length, take, true};
 ghost use Rattle.byteorder.specs.Endian.{big_bytes, big_number};
-ghost use Rattle.sha2.specs.Sha256.{sha256};
 ghost use Rattle.cs_model.specs.Element.{Entry as NamedEntry};
 ghost use Rattle.cs_model.specs.Formats.{ChunkFrame, RunFrame};
 ghost use Rattle.cs_model.specs.Frames.{IsFormat};
@@ -14,7 +13,7 @@ ghost use Rattle.cs_frame.specs.declared.faults.FormatFault.{FormatFault as Faul
 ghost use Rattle.cs_frame.specs.declared.locators.Locator.{Locator as Place};
 ghost use Rattle.cs_frame.specs.Bytes.{EachHas, IsBytes, IsPage};
 ghost use Rattle.cs_frame.specs.Formats.{formats_of, id_bytes};
-ghost use Rattle.cs_frame.specs.Frames.{SpellsFrame, bytes_in, first_page, frame_count, frame_fault, header_fault, payload_in, payload_mark, spelled_frame};
+ghost use Rattle.cs_frame.specs.Frames.{SpellsFrame, bytes_in, digest_front, first_page, frame_count, frame_fault, header_fault, payload_in, payload_mark, spelled_frame};
 ghost use Rattle.cs_frame.specs.FirstFormat.{IsOfFirstFormat, SpellsFirstFormat, SpellsPageZero, first_format_fault, page_zero_fault};
 ghost use Rattle.cs_frame.specs.Geometries.{IsGeometry, IsKnown, lengths_below, section_length, section_size, section_start};
 ghost use Rattle.cs_frame.specs.FormatRuns.{SpellsRun, run_fault, run_size};
@@ -133,10 +132,10 @@ pub fn marks_tell_digests()
         → SpellsFrame kind pages payload → SpellsFrame other_kind others other
         → IsPage (first_page pages) → IsPage (first_page others)
         → digest_number (first_page pages) ≡ digest_number (first_page others)
-        → take 8 (sha256 payload) ≡ take 8 (sha256 other) }
+        → digest_front payload ≡ digest_front other }
     // So it is of the frames of two payloads.
     ensures payloads { (payload other : List ℕ) → payload_mark payload ≡ payload_mark other
-        → take 8 (sha256 payload) ≡ take 8 (sha256 other) }
+        → digest_front payload ≡ digest_front other }
     ensures mark { (format kind : ℕ) (payload : List ℕ) → marks_in format ≡ true
         → mark_in format (first_page (spelled_frame kind payload)) ≡ payload_mark payload }
 {}
