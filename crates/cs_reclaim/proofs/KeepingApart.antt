@@ -6,7 +6,7 @@ use Rattle.std.proofs.lemmas.Option.{same_Some}
 use Rattle.cs_chunk.proofs.Appends.{HasWrites, has_writes}
 use Rattle.cs_chunk.proofs.Newest.{of_stand, one_view, stand_of}
 use Rattle.cs_chunk.proofs.Staying.{stays_behind}
-use Rattle.cs_chunk.specs.Chunks.{AreChunksAt, IsFrameAt}
+use Rattle.cs_chunk.specs.Chunks.{AreChunksIn, IsFrameIn}
 use Rattle.cs_chunk.specs.Newest.{AreNewest}
 use Rattle.cs_chunk.specs.Stays.{IsBelow}
 use Rattle.cs_deps.specs.State.{IsWhole, State as Graph}
@@ -32,45 +32,41 @@ use Rattle.cs_model.specs.Index.{entries_of, live, live_at, lookup}
 use Rattle.cs_model.specs.Lists.{nth, replaced, ◌∈◌}
 use Rattle.cs_model.specs.Merges.{IsRunOf}
 use Rattle.cs_reclaim.specs.Copied.{IsCopyMade}
-use Rattle.cs_reclaim.specs.Keeps.{AreBelow, AreCopiesRead, IsCopyRead, places_at}
+use Rattle.cs_reclaim.specs.Keeps.{AreBelow, AreCopiesRead, IsChunkThere, IsCopyRead, places_at}
 use Rattle.cs_reclaim.specs.Moves.{chunk_frame}
 use Rattle.cs_reclaim.specs.Rooted.{IsRetiredApart, IsRootedApart, IsSweepStaged, extents_at_rest, lying_apart}
 use Rattle.cs_reclaim.proofs.Freeing.{blank_dead}
-use Rattle.cs_reclaim.proofs.Keeping.{all_stay, begins, one_chunk, stays}
-use Rattle.cs_reclaim.proofs.RetireKeeps.{has_before, mark_keeps, under_root}
+use Rattle.cs_reclaim.proofs.Keeping.{all_stay, begins, one_chunk, stays, there_still}
+use Rattle.cs_reclaim.proofs.RetireKeeps.{has_before, mark_keeps, mark_reads, under_root}
 
 -- chunks at their places, below the pointers
-abbrev AreThere : Shape → (view : ℕ → List ℕ) → Extents → List Place → List (List ℕ) → Type 0
-AreThere S view x ls cs = AreChunksAt S view (map as_locator ls) cs × AreBelow S x (map as_locator ls) cs
-
--- one of them at its place
-abbrev IsThere : Shape → (view : ℕ → List ℕ) → Extents → Locator → List ℕ → Type 0
-IsThere S view x l c = IsFrameAt S view ChunkFrame l c × IsBelow x l ((formats_of S).frame ChunkFrame c)
+abbrev AreThere : ExtentsState → (view : ℕ → List ℕ) → List Place → List (List ℕ) → Type 0
+AreThere x view ls cs = AreChunksIn x view (map as_locator ls) cs × AreBelow (shape x) (extents_of x) (map as_locator ls) cs
 
 -- ---- a copy
 
 module _ (s : IndexState) (x y : ExtentsState) (g h : Graph) (copies after : List Copy) (e id chunk : ℕ) (payload : List ℕ) (image : Image) (view now : ℕ → List ℕ)
     (whole : IsWholeExtents x) (copy : IsCopyMade s x g copies e id chunk payload after y h) (kept : IsWhole h) (before : AreNewest g image view) (behind : AreNewest h image now) where
-  pub copy_keeps : (d : ℕ) (cs : List (List ℕ)) → AreChunksAt (shape x) view (places_at s d) cs → AreBelow (shape x) (extents_of x) (places_at s d) cs
-      → AreChunksAt (shape x) now (places_at s d) cs × AreBelow (shape x) (extents_of y) (places_at s d) cs
+  pub copy_keeps : (d : ℕ) (cs : List (List ℕ)) → AreChunksIn x view (places_at s d) cs → AreBelow (shape x) (extents_of x) (places_at s d) cs
+      → AreChunksIn y now (places_at s d) cs × AreBelow (shape y) (extents_of y) (places_at s d) cs
   copy_keeps d cs at below = all_stay x y g h (chunk_frame x payload) copy.to image view now whole copy.appended kept before behind (live_at (index_of s) d) cs at below
 
   abbrev new : Copy
   new = record { id = id; chunk = chunk; from = copy.from; to = place_of copy.to }
 
-  pub copies_keep : IsFrameAt (shape x) view ChunkFrame (as_locator copy.from) payload → IsBelow (extents_of x) (as_locator copy.from) (chunk_frame x payload)
-      → AreCopiesRead (shape x) view (extents_of x) copies → AreCopiesRead (shape x) now (extents_of y) after
-  copies_keep read below all = subst (λ (cs : List Copy). AreCopiesRead (shape x) now (extents_of y) cs) (sym copy.noted) each
+  pub copies_keep : IsFrameIn x view ChunkFrame (as_locator copy.from) payload → IsBelow (extents_of x) (as_locator copy.from) (chunk_frame x payload)
+      → AreCopiesRead x view copies → AreCopiesRead y now after
+  copies_keep read below all = subst (λ (cs : List Copy). AreCopiesRead y now cs) (sym copy.noted) each
     where
-      still : (l : Locator) (c : List ℕ) → IsThere (shape x) view (extents_of x) l c → IsThere (shape x) now (extents_of y) l c
+      still : (l : Locator) (c : List ℕ) → IsChunkThere x view l c → IsChunkThere y now l c
       still l c was = stays x y g h (chunk_frame x payload) copy.to image view now whole copy.appended kept before behind l c was
 
-      one : IsCopyRead (shape x) now (extents_of y) new
+      one : IsCopyRead y now new
       one = (payload, still (as_locator copy.from) payload (read, below), begins x y g h (chunk_frame x payload) copy.to image view now whole copy.appended kept before behind payload refl)
 
-      each : (c : Copy) → c ∈ (new ∷ copies) → IsCopyRead (shape x) now (extents_of y) c
+      each : (c : Copy) → c ∈ (new ∷ copies) → IsCopyRead y now c
       each c there = ⊎_elim
-          (λ (is : c ≡ new). subst (λ (d : Copy). IsCopyRead (shape x) now (extents_of y) d) (sym is) one)
+          (λ (is : c ≡ new). subst (λ (d : Copy). IsCopyRead y now d) (sym is) one)
           (λ (old : c ∈ copies). (let was = all c old in (was.0, still (as_locator c.from) was.0 was.1, still (as_locator c.to) was.0 was.2)))
           there
 
@@ -80,17 +76,19 @@ module _ (s : IndexState) (x y : ExtentsState) (g h : Graph) (copies after : Lis
 living_stays : (S : Shape) (x : Extents) (t : IndexState) (copies : List Copy) (root id : ℕ) (l : Place) → l ∈ live_at (index_of t) id
     → ((reset_all (lying_apart S) x root (is_blank_by S x (index_of t) t.runs copies) S.extents).pointer l.extent ≡ x.pointer l.extent)
     × ((reset_all (lying_apart S) x root (is_blank_by S x (index_of t) t.runs copies) S.extents).generation l.extent ≡ x.generation l.extent)
+    × ((reset_all (lying_apart S) x root (is_blank_by S x (index_of t) t.runs copies) S.extents).found l.extent ≡ x.found l.extent)
 living_stays S x t copies root id l lives = ⊎_elim
     (λ reset. absurd ((lives_none (index_of t) l.extent).0 (blank_dead S (index_of t) t.runs copies x l.extent reset.1) id l lives refl))
-    (λ kept. (kept.1, kept.2))
+    (λ kept. (kept.1, kept.2, kept.3))
     (each_extent (lying_apart S) x root (is_blank_by S x (index_of t) t.runs copies) S.extents l.extent)
 
 module _ (t : IndexState) (x y : ExtentsState) (copies after : List Copy) (v : ℕ) (rooted : IsRootedApart t x copies v y after) where
-  below_freed : (id : ℕ) (l : Place) (f : List (List ℕ)) → l ∈ live_at (index_of t) id → IsBelow (extents_of x) (as_locator l) f → IsBelow (extents_of y) (as_locator l) f
-  below_freed id l f lives below =
+  there_freed : (view : ℕ → List ℕ) (id : ℕ) (l : Place) (c : List ℕ) → l ∈ live_at (index_of t) id → IsChunkThere x view (as_locator l) c → IsChunkThere y view (as_locator l) c
+  there_freed view id l c lives was =
       let same = living_stays (shape x) (extents_at_rest (shape x) (extents_of x)) t after v id l lives in
-      subst (λ (z : Extents). IsBelow z (as_locator l) f) (sym rooted.freed)
-      (below.0 ∙ sym same.1, omega (arith, below.1, same.0))
+      there_still x y (as_locator l) c rooted.same_shape (ap (λ (z : Extents). z.found l.extent) rooted.freed ∙ same.2) view view was.0 was.0.1
+      (subst (λ (z : Extents). IsBelow z (as_locator l) (chunk_frame x c)) (sym rooted.freed)
+      (was.1.0 ∙ sym same.1, omega (arith, was.1.1, same.0)))
 
 -- ---- a Stage
 
@@ -112,25 +110,26 @@ module _ (go : Bool) (k : ℕ) (s t : IndexState) (x y : ExtentsState) (g h : Gr
   abbrev NoRun : Type 0
   NoRun = IsRunOf go (part s k) [] × (y ≡ x) × (staged.between ≡ g) × (t.runs ≡ drop k s.runs)
 
-  part_keeps : (l : Locator) (c : List ℕ) → IsThere (shape x) view (extents_of x) l c → IsThere (shape x) now (extents_of y) l c
+  part_keeps : (l : Locator) (c : List ℕ) → IsChunkThere x view l c → IsChunkThere y now l c
   part_keeps l c was = ⊎_elim
       (λ (m : SomeRun).
       let is = stays_behind x y g staged.between reason (run_frame x m.0) (chunk_frame x c) (as_locator m.1) l image view now whole m.4 has before are was.1 was.0.1 in
-      ((was.0.0, is.0), is.1))
+      there_still x y l c m.4.same_shape (ap (λ (z : Extents). z.found l.extent) m.4.extents) view now was.0 is.0 is.1)
       (λ (n : NoRun).
-      let same : (p : ℕ) → now p ≡ view p = one_view g image now view (subst (λ (b : Graph). AreNewest b image now) n.2 are) before in (
+      let same : (p : ℕ) → now p ≡ view p = one_view g image now view (subst (λ (b : Graph). AreNewest b image now) n.2 are) before in
+      subst (λ (z : ExtentsState). IsChunkThere z now l c) (sym n.1) (
         (
           was.0.0,
           stand_of (shape x) (formats_of (shape x)) now l.extent l.page (chunk_frame x c)
               (λ i lt. same ((shape x).address l.extent (l.page + i)) ∙ of_stand (shape x) (formats_of (shape x)) view l.extent l.page (chunk_frame x c) was.0.1 i lt),
         ),
-        subst (λ (z : ExtentsState). IsBelow (extents_of z) l (chunk_frame x c)) (sym n.1) was.1,
+        was.1,
       ))
       staged.appended
 
 module _ (s t : IndexState) (x y : ExtentsState) (g h : Graph) (copies after : List Copy) (v commands : ℕ) (image : Image) (view now : ℕ → List ℕ) (whole : IsWholeExtents x)
     (staged : IsSweepStaged s x g copies v commands t y h after) (kept : IsWhole h) (before : AreNewest g image view) (behind : AreNewest h image now) where
-  run_keeps : (l : Locator) (c : List ℕ) → IsThere (shape x) view (extents_of x) l c → IsThere (shape x) now (extents_of staged.mid) l c
+  run_keeps : (l : Locator) (c : List ℕ) → IsChunkThere x view l c → IsChunkThere staged.mid now l c
   run_keeps l c was = ⊎_elim
       (λ (one : IsNewestStagedApart (takes_apart (shape x) s) s x g ForRun v commands t staged.mid h).
       part_keeps (deletions_go (shape x) s (takes_apart (shape x) s)) (takes_apart (shape x) s) s t x staged.mid g h ForRun v commands image view now whole one kept before behind l c was)
@@ -138,35 +137,35 @@ module _ (s t : IndexState) (x y : ExtentsState) (g h : Graph) (copies after : L
       part_keeps (deletions_go (shape x) s (length s.runs)) (length s.runs) s t x staged.mid g h ForMerge v commands image view now whole all.1 kept before behind l c was)
       staged.staged
 
-  all_there : (id : ℕ) (ls : List Place) (cs : List (List ℕ)) → ((l : Place) → l ∈ ls → l ∈ live_at (index_of t) id) → AreThere (shape x) view (extents_of x) ls cs → AreThere (shape x) now (extents_of y) ls cs
+  all_there : (id : ℕ) (ls : List Place) (cs : List (List ℕ)) → ((l : Place) → l ∈ ls → l ∈ live_at (index_of t) id) → AreThere x view ls cs → AreThere y now ls cs
   all_there id [] [] lives was = (tt, tt)
   all_there id [] (c ∷ cs) lives was = absurd was.0
   all_there id (l ∷ ls) [] lives was = absurd was.0
   all_there id (l ∷ ls) (c ∷ cs) lives was =
-      let here = run_keeps (as_locator l) c (was.0.0, was.1.0) in
+      let here = there_freed t staged.mid y copies after v staged.rooted now id l c (lives l (inl refl)) (run_keeps (as_locator l) c (was.0.0, was.1.0)) in
       let rest = all_there id ls cs (λ k there. lives k (inr there)) (was.0.1, was.1.1) in
-      ((here.0, rest.0), (below_freed t staged.mid y copies after v staged.rooted id l (chunk_frame x c) (lives l (inl refl)) here.1, rest.1))
+      ((here.0, rest.0), (here.1, rest.1))
 
   pub stage_keeps : ((id : ℕ) → live_at (index_of t) id ≡ live_at (index_of s) id)
-      → (d : ℕ) (cs : List (List ℕ)) → AreChunksAt (shape x) view (places_at s d) cs → AreBelow (shape x) (extents_of x) (places_at s d) cs
-      → AreChunksAt (shape x) now (places_at t d) cs × AreBelow (shape x) (extents_of y) (places_at t d) cs
+      → (d : ℕ) (cs : List (List ℕ)) → AreChunksIn x view (places_at s d) cs → AreBelow (shape x) (extents_of x) (places_at s d) cs
+      → AreChunksIn y now (places_at t d) cs × AreBelow (shape y) (extents_of y) (places_at t d) cs
   stage_keeps same d cs at below =
       all_there d (live_at (index_of t) d) cs (λ l there. there)
-      (subst (λ (ls : List Place). AreThere (shape x) view (extents_of x) ls cs) (sym (same d)) (at, below))
+      (subst (λ (ls : List Place). AreThere x view ls cs) (sym (same d)) (at, below))
 
 -- ---- what was copied counts
 
 module _ (x : ExtentsState) (whole : IsWholeExtents x) (view : ℕ → List ℕ) where
   abbrev There : Locator → List ℕ → Type 0
-  There l c = IsThere (shape x) view (extents_of x) l c
+  There l c = IsChunkThere x view l c
 
   one_replaced : (ls : List Place) (cs : List (List ℕ)) (k : ℕ) (from to : Place) (payload : List ℕ) → nth ls k ≡ Some from → There (as_locator from) payload → There (as_locator to) payload
-      → AreThere (shape x) view (extents_of x) ls cs → AreThere (shape x) view (extents_of x) (replaced ls k to) cs
+      → AreThere x view ls cs → AreThere x view (replaced ls k to) cs
   one_replaced [] cs k from to payload at read copy was = was
   one_replaced (l ∷ ls) [] k from to payload at read copy was = absurd was.0
   one_replaced (l ∷ ls) (c ∷ cs) zero from to payload at read copy was =
       let same : l ≡ from = same_Some l from at in
-      let here : IsFrameAt (shape x) view ChunkFrame (as_locator from) c = subst (λ (p : Place). IsFrameAt (shape x) view ChunkFrame (as_locator p) c) same was.0.0 in
+      let here : IsFrameIn x view ChunkFrame (as_locator from) c = subst (λ (p : Place). IsFrameIn x view ChunkFrame (as_locator p) c) same was.0.0 in
       let one : payload ≡ c = one_chunk x whole view (as_locator from) payload c read.0 here in
       let new : There (as_locator to) c = subst (λ (b : List ℕ). There (as_locator to) b) one copy in
       ((new.0, was.0.1), (new.1, was.1.1))
@@ -175,17 +174,17 @@ module _ (x : ExtentsState) (whole : IsWholeExtents x) (view : ℕ → List ℕ)
       ((was.0.0, rest.0), (was.1.0, rest.1))
 
   abbrev AreAt : List Entry → (d : ℕ) → List (List ℕ) → Type 0
-  AreAt index d cs = AreThere (shape x) view (extents_of x) (live_at index d) cs
+  AreAt index d cs = AreThere x view (live_at index d) cs
 
   abbrev entry : (index : List Entry) → Copy → Entry
   entry index c = record { id = c.id; locators = replaced (live_at index c.id) c.chunk c.to }
 
   -- the chunks of every shard are there once one copy counts, and once these do
-  settle_one : (older table : List Entry) (c : Copy) → IsCopyRead (shape x) view (extents_of x) c → (d : ℕ) (cs : List (List ℕ)) → AreAt (table ++ older) d cs → AreAt (settle_in older table c ++ older) d cs
+  settle_one : (older table : List Entry) (c : Copy) → IsCopyRead x view c → (d : ℕ) (cs : List (List ℕ)) → AreAt (table ++ older) d cs → AreAt (settle_in older table c ++ older) d cs
   settle_one older table c read d cs was = split (is_place (nth (live_at (table ++ older) c.id) c.chunk) c.from) refl
     where
       named : (b : Bool) → (c.id == d) ≡ b → nth (live_at (table ++ older) c.id) c.chunk ≡ Some c.from
-          → AreThere (shape x) view (extents_of x) (live (if b then Some (replaced (live_at (table ++ older) c.id) c.chunk c.to) else lookup d (table ++ older))) cs
+          → AreThere x view (live (if b then Some (replaced (live_at (table ++ older) c.id) c.chunk c.to) else lookup d (table ++ older))) cs
       named true is at =
           let same : d ≡ c.id = grind (arith, nat_tests) in
           one_replaced (live_at (table ++ older) c.id) cs c.chunk c.from c.to read.0 at read.1 read.2 (subst (λ (n : ℕ). AreAt (table ++ older) n cs) same was)
@@ -195,7 +194,7 @@ module _ (x : ExtentsState) (whole : IsWholeExtents x) (view : ℕ → List ℕ)
       split true is = named (c.id == d) refl (place_is (nth (live_at (table ++ older) c.id) c.chunk) c.from is)
       split false is = was
 
-  settle_keeps : (older table : List Entry) (copies : List Copy) → AreCopiesRead (shape x) view (extents_of x) copies
+  settle_keeps : (older table : List Entry) (copies : List Copy) → AreCopiesRead x view copies
       → (d : ℕ) (cs : List (List ℕ)) → AreAt (table ++ older) d cs → AreAt (settle_table older table copies ++ older) d cs
   settle_keeps older table [] read d cs was = was
   settle_keeps older table (c ∷ copies) read d cs was =
@@ -205,19 +204,15 @@ module _ (x : ExtentsState) (whole : IsWholeExtents x) (view : ℕ → List ℕ)
 
 pub retire_apart_keeps : (s t : IndexState) (x y : ExtentsState) (g h : Graph) (copies after : List Copy) (e v commands : ℕ) (image : Image) (view now : ℕ → List ℕ)
     → IsWholeExtents x → (retired : IsRetiredApart s x g copies e v commands t y h after) → IsWhole h → AreNewest g image view → AreNewest h image now
-    → AreCopiesRead (shape x) view (extents_of x) copies → ((id : ℕ) → live_at (index_of t) id ≡ live_at (index_of retired.counted) id)
-    → (d : ℕ) (cs : List (List ℕ)) → AreChunksAt (shape x) view (places_at s d) cs → AreBelow (shape x) (extents_of x) (places_at s d) cs
-    → AreChunksAt (shape x) now (places_at t d) cs × AreBelow (shape x) (extents_of y) (places_at t d) cs
+    → AreCopiesRead x view copies → ((id : ℕ) → live_at (index_of t) id ≡ live_at (index_of retired.counted) id)
+    → (d : ℕ) (cs : List (List ℕ)) → AreChunksIn x view (places_at s d) cs → AreBelow (shape x) (extents_of x) (places_at s d) cs
+    → AreChunksIn y now (places_at t d) cs × AreBelow (shape y) (extents_of y) (places_at t d) cs
 retire_apart_keeps s t x y g h copies after e v commands image view now whole retired kept before behind read same d cs at below =
-    let settled : AreThere (shape x) view (extents_of x) (live_at (settle_table (entries_of s.runs) s.table copies ++ entries_of s.runs) d) cs =
+    let settled : AreThere x view (live_at (settle_table (entries_of s.runs) s.table copies ++ entries_of s.runs) d) cs =
     settle_keeps x whole view (entries_of s.runs) s.table copies read d cs (at, below) in
-    let counted : AreThere (shape x) view (extents_of x) (live_at (index_of retired.counted) d) cs =
-    subst (λ (ls : List Place). AreThere (shape x) view (extents_of x) ls cs) (sym (ap live (retired.settled.index d))) settled in
-    let here : AreThere (shape retired.unmarked) view (extents_of retired.unmarked) (live_at (index_of retired.counted) d) cs =
-    subst (λ (S : Shape). AreThere S view (extents_of retired.unmarked) (live_at (index_of retired.counted) d) cs) (sym retired.ended.same_shape)
-    (subst (λ (z : Extents). AreThere (shape x) view z (live_at (index_of retired.counted) d) cs) (sym retired.ended.mark) (counted.0, marks (live_at (index_of retired.counted) d) cs counted.1)) in
-    let all = stage_keeps retired.counted t retired.unmarked y g h [] after v commands image view now retired.ended.whole retired.staged kept before behind same d cs here.0 here.1 in
-    subst (λ (S : Shape). AreThere S now (extents_of y) (live_at (index_of t) d) cs) retired.ended.same_shape all
-  where
-    marks : (ls : List Place) (bs : List (List ℕ)) → AreBelow (shape x) (extents_of x) (map as_locator ls) bs → AreBelow (shape x) (marked (extents_of x) e false) (map as_locator ls) bs
-    marks ls bs under = mark_keeps (shape x) (extents_of x) (marked (extents_of x) e false) e false refl (map as_locator ls) bs under
+    let counted : AreThere x view (live_at (index_of retired.counted) d) cs =
+    subst (λ (ls : List Place). AreThere x view ls cs) (sym (ap live (retired.settled.index d))) settled in
+    stage_keeps retired.counted t retired.unmarked y g h [] after v commands image view now retired.ended.whole retired.staged kept before behind same d cs
+    (mark_reads x retired.unmarked e false view retired.ended.mark retired.ended.same_shape (map as_locator (live_at (index_of retired.counted) d)) cs counted.0)
+    (subst (λ (S : Shape). AreBelow S (extents_of retired.unmarked) (map as_locator (live_at (index_of retired.counted) d)) cs) (sym retired.ended.same_shape)
+    (mark_keeps (shape x) (extents_of x) (extents_of retired.unmarked) e false retired.ended.mark (map as_locator (live_at (index_of retired.counted) d)) cs counted.1))

@@ -1,11 +1,11 @@
 -- A retired extent keeps the chunks of every shard.
-use Rattle.std.proofs.Common.{◌≡◌, ◌≢◌, ◌∙◌, inl, inr, ⊎_elim, ℕ, zero, suc, ◌+◌, ◌<◌, Bool, List, [], ◌∷◌, ◌++◌, Some, length, map, slice_get, refl, sym, ap, subst}
-use Rattle.std.specs.Prelude.{reverse}
+use Rattle.std.proofs.Common.{◌≡◌, ◌≢◌, ◌∙◌, inl, inr, ⊎_elim, ℕ, zero, suc, ◌+◌, ◌<◌, Bool, true, false, List, [], ◌∷◌, ◌++◌, Some, length, map, slice_get, refl, sym, ap, subst}
+use Rattle.std.specs.Prelude.{if◌then◌else◌, reverse}
 use Rattle.std.proofs.lemmas.Option.{same_Some, some_pair_parts}
 use Rattle.cs_chunk.proofs.Appends.{HasWrites, has_writes}
 use Rattle.cs_chunk.proofs.Newest.{of_stand, one_view, stand_of}
 use Rattle.cs_chunk.proofs.Staying.{below_reset, stays_behind}
-use Rattle.cs_chunk.specs.Chunks.{AreChunksAt, IsFrameAt}
+use Rattle.cs_chunk.specs.Chunks.{AreChunksIn}
 use Rattle.cs_chunk.specs.Newest.{AreNewest}
 use Rattle.cs_chunk.specs.Stays.{IsBelow}
 use Rattle.cs_deps.specs.declared.elements.Element.{Element}
@@ -15,6 +15,7 @@ use Rattle.cs_deps.specs.Pending.{Waits}
 use Rattle.cs_deps.specs.Staging.{Staging}
 use Rattle.cs_deps.specs.State.{IsNewestOn, IsWhole, NoneOn, State as Graph, Write, write_of}
 use Rattle.cs_disk.specs.Disk.{Image, page}
+use Rattle.cs_extent.proofs.Fitting.{with_other}
 use Rattle.cs_extent.proofs.Given.{in_either}
 use Rattle.cs_extent.proofs.Staged.{get_front}
 use Rattle.cs_extent.specs.Frames.{root_family}
@@ -29,10 +30,11 @@ use Rattle.cs_model.specs.Extents.{Extents, ForMove, marked}
 use Rattle.cs_model.specs.Formats.{ChunkFrame, Stand, places}
 use Rattle.cs_model.specs.Geometry.{pages_first_in}
 use Rattle.cs_model.specs.Index.{IsMergedRun, NothingLive, live_at}
-use Rattle.cs_model.specs.Lists.{◌∈◌}
-use Rattle.cs_reclaim.specs.Keeps.{AreBelow, places_at}
+use Rattle.cs_model.specs.Lists.{with, ◌∈◌}
+use Rattle.cs_reclaim.specs.Keeps.{AreBelow, IsChunkThere, places_at}
 use Rattle.cs_reclaim.specs.Moves.{chunk_frame}
 use Rattle.cs_reclaim.specs.Retired.{IsRetired}
+use Rattle.cs_reclaim.proofs.Keeping.{in_still, there_still}
 
 -- ---- a root that is staged changes no page of an extent
 
@@ -110,12 +112,6 @@ module _ (s t : IndexState) (x y : ExtentsState) (g h : Graph) (e v commands : �
   are : AreNewest between image now
   are = under_root x.format (pages_first_in x.format) between h v commands over retired.1.root (has_writes h kept) image now after
 
-  abbrev Was : Locator → List ℕ → Type 0
-  Was l c = IsFrameAt (shape x) view ChunkFrame l c × IsBelow (extents_of x) l (chunk_frame x c)
-
-  abbrev Still : Locator → List ℕ → Type 0
-  Still l c = Stand (shape x) (formats_of (shape x)) now l.extent l.page (chunk_frame x c) × IsBelow (extents_of mid) l (chunk_frame x c)
-
   abbrev SomeRun : Type 0
   SomeRun = (entries : List Entry) × (place : Place) × (entries ≢ []) × IsMergedRun (index_of s) entries × IsRunAppended x g ForMove entries place mid between
       × (t.runs ≡ record { place = place; entries = entries } ∷ [])
@@ -123,8 +119,21 @@ module _ (s t : IndexState) (x y : ExtentsState) (g h : Graph) (e v commands : �
   abbrev NoRun : Type 0
   NoRun = ((id : ℕ) → live_at (index_of s) id ≡ []) × (mid ≡ x) × (between ≡ g) × (t.runs ≡ [])
 
+  -- the run that was appended leaves the shape, and what counts as found
+  mid_shape : shape mid ≡ shape x
+  mid_shape = ⊎_elim (λ (m : SomeRun). m.4.same_shape) (λ (n : NoRun). ap shape n.1) retired.1.appended
+
+  mid_found : (d : ℕ) → (extents_of mid).found d ≡ (extents_of x).found d
+  mid_found d = ⊎_elim
+      (λ (m : SomeRun). ap (λ (z : Extents). z.found d) m.4.extents)
+      (λ (n : NoRun). ap (λ (z : ExtentsState). (extents_of z).found d) n.1)
+      retired.1.appended
+
+  abbrev Still : Locator → List ℕ → Type 0
+  Still l c = Stand (shape x) (formats_of (shape x)) now l.extent l.page (chunk_frame x c) × IsBelow (extents_of mid) l (chunk_frame x c)
+
   -- whatever was appended
-  still : (l : Locator) (c : List ℕ) → Was l c → Still l c
+  still : (l : Locator) (c : List ℕ) → IsChunkThere x view l c → Still l c
   still l c was = ⊎_elim
       (λ (m : SomeRun). stays_behind x mid g between ForMove (run_frame x m.0) (chunk_frame x c) (as_locator m.1) l image view now whole m.4 has before are was.1 was.0.1)
       (λ (n : NoRun).
@@ -135,26 +144,38 @@ module _ (s t : IndexState) (x y : ExtentsState) (g h : Graph) (e v commands : �
       ))
       retired.1.appended
 
-  -- a frame elsewhere stays below its pointer as the extent is emptied
+  -- what counts as found elsewhere does, as the extent is emptied, and a frame elsewhere stays below its pointer
+  found_else : (b : Bool) (f : ℕ → ℕ) (d : ℕ) → d ≢ e → (if b then with f e 0 else f) d ≡ f d
+  found_else true f d other = with_other f e 0 d other
+  found_else false f d other = refl
+
+  found_then : (d : ℕ) → d ≢ e → (extents_of y).found d ≡ (extents_of x).found d
+  found_then d other = ap (λ (z : Extents). z.found d) retired.2 ∙ found_else (shape mid).fills (extents_of mid).found d other ∙ mid_found d
+
   below : (l : Locator) (f : List (List ℕ)) → l.extent ≢ e → IsBelow (extents_of mid) l f → IsBelow (extents_of y) l f
   below l f other under = subst (λ (z : Extents). IsBelow z l f) (sym retired.2) (below_reset (extents_of mid) e v l f other under)
 
+  there_then : (l : Locator) (c : List ℕ) → l.extent ≢ e → IsChunkThere x view l c → IsChunkThere y now l c
+  there_then l c other was =
+      let here = still l c was in
+      there_still x y l c retired.3 (found_then l.extent other) view now was.0 here.0 (below l (chunk_frame x c) other here.1)
+
   all_stay : (ls : List Place) (cs : List (List ℕ)) → ((l : Place) → l ∈ ls → l.extent ≢ e)
-      → AreChunksAt (shape x) view (map as_locator ls) cs → AreBelow (shape x) (extents_of x) (map as_locator ls) cs
-      → AreChunksAt (shape x) now (map as_locator ls) cs × AreBelow (shape x) (extents_of y) (map as_locator ls) cs
+      → AreChunksIn x view (map as_locator ls) cs → AreBelow (shape x) (extents_of x) (map as_locator ls) cs
+      → AreChunksIn y now (map as_locator ls) cs × AreBelow (shape y) (extents_of y) (map as_locator ls) cs
   all_stay [] [] off at under = (tt, tt)
   all_stay [] (c ∷ cs) off at under = absurd at
   all_stay (l ∷ ls) [] off at under = absurd at
   all_stay (l ∷ ls) (c ∷ cs) off at under =
-      let here = still (as_locator l) c (at.0, under.0) in
+      let here = there_then (as_locator l) c (off l (inl refl)) (at.0, under.0) in
       let rest = all_stay ls cs (λ k there. off k (inr there)) at.1 under.1 in
-      (((at.0.0, here.0), rest.0), (below (as_locator l) (chunk_frame x c) (off l (inl refl)) here.1, rest.1))
+      ((here.0, rest.0), (here.1, rest.1))
 
   pub retire_keeps : NothingLive (index_of s) e → ((id : ℕ) → live_at (index_of t) id ≡ live_at (index_of s) id)
-      → (d : ℕ) (cs : List (List ℕ)) → AreChunksAt (shape x) view (places_at s d) cs → AreBelow (shape x) (extents_of x) (places_at s d) cs
-      → AreChunksAt (shape x) now (places_at t d) cs × AreBelow (shape x) (extents_of y) (places_at t d) cs
+      → (d : ℕ) (cs : List (List ℕ)) → AreChunksIn x view (places_at s d) cs → AreBelow (shape x) (extents_of x) (places_at s d) cs
+      → AreChunksIn y now (places_at t d) cs × AreBelow (shape y) (extents_of y) (places_at t d) cs
   retire_keeps nothing same d cs at under =
-      subst (λ (ls : List Place). AreChunksAt (shape x) now (map as_locator ls) cs × AreBelow (shape x) (extents_of y) (map as_locator ls) cs) (sym (same d))
+      subst (λ (ls : List Place). AreChunksIn y now (map as_locator ls) cs × AreBelow (shape y) (extents_of y) (map as_locator ls) cs) (sym (same d))
       (all_stay (live_at (index_of s) d) cs (λ l there. nothing d l there) at under)
 
 -- ---- an abandoned sweep
@@ -167,3 +188,11 @@ below_marked S x e b (l ∷ ls) (c ∷ cs) under = (under.0, below_marked S x e 
 
 pub mark_keeps : (S : Shape) (x y : Extents) (e : ℕ) (b : Bool) → y ≡ marked x e b → (ls : List Locator) (cs : List (List ℕ)) → AreBelow S x ls cs → AreBelow S y ls cs
 mark_keeps S x y e b is ls cs under = subst (λ (z : Extents). AreBelow S z ls cs) (sym is) (below_marked S x e b ls cs under)
+
+pub mark_reads : (x y : ExtentsState) (e : ℕ) (b : Bool) (view : ℕ → List ℕ) → extents_of y ≡ marked (extents_of x) e b → shape y ≡ shape x
+    → (ls : List Locator) (cs : List (List ℕ)) → AreChunksIn x view ls cs → AreChunksIn y view ls cs
+mark_reads x y e b view is same [] [] at = tt
+mark_reads x y e b view is same [] (c ∷ cs) at = absurd at
+mark_reads x y e b view is same (l ∷ ls) [] at = absurd at
+mark_reads x y e b view is same (l ∷ ls) (c ∷ cs) at =
+    (in_still x y l c same (ap (λ (z : Extents). z.found l.extent) is) view view at.0 at.0.1, mark_reads x y e b view is same ls cs at.1)

@@ -9,6 +9,7 @@ use Rattle.cs_deps.specs.Staging.{IsVersionStaged, Staging}
 use Rattle.cs_deps.specs.State.{State as GraphState}
 use Rattle.cs_extent.proofs.Fitting.{with_other}
 use Rattle.cs_extent.specs.Appended.{IsAppended}
+use Rattle.cs_extent.specs.Changes.{emptied_in}
 use Rattle.cs_extent.specs.Frames.{AreResetsStaged, root_family}
 use Rattle.cs_extent.specs.State.{State as ExtentsState, extents_of, shape}
 use Rattle.cs_frame.specs.declared.locators.Locator.{Locator}
