@@ -60,7 +60,7 @@ gives = record {
     version_fits = is_new.some_number;
     commands_fit = omega arith;
     few_runs = omega arith;
-    named = omega arith;
+    weight_fits = omega arith;
     chunks_fit = λ id. omega arith;
   };
   gives = record {
@@ -253,6 +253,9 @@ shape = let base = is_shape 6 2 1 8 1 (record {
   some_chunk = base.some_chunk;
   some_byte = base.some_byte;
   enough_runs = base.enough_runs;
+  some_weight = base.some_weight;
+  more_weight = base.more_weight;
+  one_fits = base.one_fits;
   apart = λ on. (refl, refl, omega arith, omega arith);
   fills = λ on. absurd (true≢false (sym on));
   marks = base.marks;
@@ -375,7 +378,7 @@ fresh s t event one fine w = fine (subst (λ (x : State). PastLimit example_apar
 put_steps : Step example_apart example_format s0 (Put 1 []) (Accepted 1) s1
 put_steps = (
   clears Halted (not_true false refl) (clears TooLarge (λ large. let over : 65000 < 0 = omega (arith, large) in omega arith)
-      (clears IndexFull (λ full. let over : 100 ≤ 0 = full.1 in omega arith)
+      (clears IndexFull (λ heavy. let over : 100 < 1 = heavy.2 in omega arith)
       (clears Full (λ none. none ([] ∷ []) (chunk ∷ []) (record s0 { world = world1 }) (refl, omega arith, omega arith)
       (world1, (world1, appends s0.world ForPut ([] ∷ []) 0 put_goes, refl), refl))
       (clears WornOut (fresh s0 s1 (Put 1 [])

@@ -1,13 +1,13 @@
 -- Put and Delete keep a state sound.
-use Rattle.std.proofs.Common.{◌+◌, ◌≡◌, ◌≢◌, ◌⊎◌, inl, inr, ⊎_elim, ℕ, suc, ◌<◌, ◌≤◌, true, List, [], ◌∷◌, ◌++◌, length, Option, Some, None, le_of_eq, le_trans, refl, sym, ap, ap₂, ◌∙◌, subst, arith}
-use Rattle.std.proofs.lemmas.Bool.{cases_lt, cases_Bool}
+use Rattle.std.proofs.Common.{◌+◌, ◌≡◌, ◌≢◌, inl, inr, ⊎_elim, ℕ, suc, ◌<◌, ◌≤◌, true, List, [], ◌∷◌, ◌++◌, length, Option, Some, None, le_of_eq, le_trans, refl, sym, ap, ap₂, subst, arith}
+use Rattle.std.proofs.lemmas.Bool.{cases_lt}
 use Rattle.cs_model.specs.Device.{IsShape, Page, Shape}
 use Rattle.cs_model.specs.Element.{Bytes, Content, Entry, Locator, Opening, Run}
 use Rattle.cs_model.specs.Events.{Does}
 use Rattle.cs_model.specs.Formats.{Formats}
 use Rattle.cs_model.specs.Frames.{IsFormat}
 use Rattle.cs_model.specs.Grounds.{Refuses, WouldPass}
-use Rattle.cs_model.specs.Index.{Chunks, ReadsAs, Value, entries_of, joined, lookup, names}
+use Rattle.cs_model.specs.Index.{Chunks, ReadsAs, Value, entries_of, joined, lookup, named_weight, weight_with}
 use Rattle.cs_model.specs.Machine.{World}
 use Rattle.cs_model.specs.Refusal.{Full, Halted, IndexFull, Refusal, TooLarge, WornOut}
 use Rattle.cs_model.specs.Sound.{Bounded, Sound}
@@ -18,6 +18,7 @@ use Rattle.cs_model.proofs.Bounds.{not_first, bounded_same, bounded_entry}
 use Rattle.cs_model.proofs.Gives.{chunks_pass, chunks_hold}
 use Rattle.cs_model.proofs.Frames.{put_in}
 use Rattle.cs_model.proofs.Roots.{with_entry}
+use Rattle.cs_model.proofs.Weights.{weight_deletion}
 
 module _ (S : Shape) (F : Formats) (shape : IsShape S) (format : IsFormat S F) where
   put_reading : (opening : Opening) → (img : ℕ → Page) (p g : ℕ → ℕ) (ls : List Locator) (cs : List (List ℕ))
@@ -89,14 +90,9 @@ module _ (S : Shape) (F : Formats) (shape : IsShape S) (format : IsFormat S F) w
       (λ (x : State). x.count + length x.commands) d.6 in
       let fit_mid : d.2.count + length ((id, Some bytes) ∷ d.2.commands) ≤ S.greatest_number = le_trans
       (le_of_eq (sym total)) (not_below _ _ (λ lt. worn.0 (Accepted n, t, d, inr lt))) in
-      let room : (is_some (lookup id (index_now d.2)) ≡ true)
-      ⊎ (names (index_now d.2) < S.most_names) = elim (cases_Bool (is_some (lookup id (index_now s)))) [
-        | inl old ↦ inl (ap (λ (es : List Entry). is_some (lookup id es)) index ∙ old)
-        | inr new ↦ inr (le_trans (le_of_eq (ap (λ (es : List Entry). suc (names es)) index))
-            (⊎_elim (λ (lt : names (index_now s) < S.most_names). lt)
-            (λ (le : S.most_names ≤ names (index_now s)). absurd (full.0 (new, le)))
-            (cases_lt (names (index_now s)) S.most_names)))
-      ] in
+      let room : named_weight S (record { id = id; locators = d.1 } ∷ index_now d.2) ≤ S.most_weight =
+      le_trans (le_of_eq (ap₂ (λ (es : List Entry) (c : ℕ). weight_with S es id c) index (chunk_count _ _ _ _ d.1 d.0 p.chunks)))
+      (not_below _ _ (λ lt. full.0 (d.0, d.3, lt))) in
       both _ t d.6
       (with_entry S F shape format d.2 id d.1 p.sound
       (chunks_pass S F shape format _ _ _ _ d.1 d.0 p.chunks)
@@ -121,5 +117,6 @@ module _ (S : Shape) (F : Formats) (shape : IsShape S) (format : IsFormat S F) w
       both _ t d.2 (with_entry S F shape format s id [] sound (λ l has. absurd has)
       (λ l has. absurd has) (id, None) refl refl)
       (bounded_entry S F shape format s id [] ((id, None) ∷ s.commands) b
-      (inl (named_there s.opening _ _ _ (lookup id (index_now s)) (map_now s id) d.0 (sound.gives.values id)))
+      (le_trans (weight_deletion S shape id (index_now s)
+      (named_there s.opening _ _ _ (lookup id (index_now s)) (map_now s id) d.0 (sound.gives.values id))) b.bounds.weight_fits)
       (omega arith) fit)

@@ -1,5 +1,5 @@
 -- The device's pages are apart.
-use Rattle.std.proofs.Common.{◌≡◌, ◌≢◌, inl, inr, ℕ, suc, ◌+◌, ◌-◌, ◌*◌, ◌/◌, ◌%◌, ◌<◌, ◌≤◌, true, false, ◌==◌, nat_le, nat_lt, le_refl, eq-eqb, ne_eqb, mul-le-mul_right, refl, sym, ap, ◌∙◌, arith}
+use Rattle.std.proofs.Common.{◌≡◌, ◌≢◌, inl, inr, ℕ, suc, ◌+◌, ◌-◌, ◌*◌, ◌/◌, ◌%◌, ◌<◌, ◌≤◌, Bool, true, false, if◌then◌else◌, ◌==◌, nat_le, nat_lt, le_refl, eq-eqb, ne_eqb, mul-le-mul_right, refl, sym, ap, ◌∙◌, arith}
 use Rattle.std.proofs.lemmas.Bool.{cases_Bool, cases_eq, cases_lt}
 use Rattle.std.proofs.lemmas.Bool.Decides.{nat_tests}
 use Rattle.std.proofs.lemmas.Nat.{div-mul-add, mod-mul-add, div_below}
@@ -13,6 +13,25 @@ rules_apart f on = (grind (arith, nat_tests), grind (arith, nat_tests))
 
 some_run_extents : (E : ℕ) → 1 ≤ most_run_extents E
 some_run_extents E = grind (arith, nat_tests)
+
+-- an entry weighs something, one of more chunks no less, and one of eight no more than a run may
+weighs_some : (b : Bool) → 1 ≤ (if b then 17 + 16 * 0 else 1)
+weighs_some true = omega arith
+weighs_some false = omega arith
+
+weighs_more : (b : Bool) (c d : ℕ) → c ≤ d → (if b then 17 + 16 * c else 1) ≤ (if b then 17 + 16 * d else 1)
+weighs_more true c d le = omega arith
+weighs_more false c d le = omega arith
+
+weighs_few : (b : Bool) (pages : ℕ) → 0 < pages
+    → (if b then 17 + 16 * 8 else 1) ≤ (if b then 4096 * pages - 45 else (4096 * pages - 45) / 81)
+weighs_few true pages some = omega arith
+weighs_few false pages some = omega arith
+
+-- up to format 2 each weighs one
+pub weighs_one : (E P N Q f : ℕ) → f ≤ 2 → ((c : ℕ) → (shape_of E P N Q f).weigh c ≡ 1)
+    × ((shape_of E P N Q f).most_weight ≡ (4096 * P - 45) / 81)
+weighs_one E P N Q f le = let off : marks_in f ≡ false = grind (arith, nat_tests) in ((λ c. rw off refl), rw off refl)
 
 module _ (E P N Q f : ℕ) (g : IsGeometry E P N Q) where
   S : Shape
@@ -82,6 +101,9 @@ module _ (E P N Q f : ℕ) (g : IsGeometry E P N Q) where
       | inl few ↦ rw few (le_refl _)
       | inr many ↦ rw many (omega arith)
     ];
+    some_weight = weighs_some (marks_in f);
+    more_weight = λ b c le. weighs_more (marks_in f) b c le;
+    one_fits = weighs_few (marks_in f) P g.some_page;
     fills = λ on. on;
     marks = λ page. digest_fits (marks_in f) (number_at 9 8 page);
     apart = λ on. ((rules_apart f on).0, (rules_apart f on).1, some_run_extents E, wide on);

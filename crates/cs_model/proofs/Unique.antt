@@ -168,7 +168,7 @@ new_store S F img new = record {
     version_fits = new.some_number;
     commands_fit = omega arith;
     few_runs = omega arith;
-    named = omega arith;
+    weight_fits = omega arith;
     chunks_fit = λ id. omega arith;
   };
   gives = record {

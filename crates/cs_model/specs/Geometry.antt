@@ -43,9 +43,14 @@ mark_in format page = if marks_in format then digest_number page else 0
 abbrev pub greatest_mark_in : (format : ℕ) → ℕ
 greatest_mark_in format = if marks_in format then 18446744073709551615 else 0
 
--- how many bytes an entry of a run takes at most
-abbrev pub most_entry_bytes : (format : ℕ) → ℕ
-most_entry_bytes format = if marks_in format then 145 else 81
+-- what an entry of so many chunks weighs: up to format 2, where each takes 81 bytes of a run, one; in a format that has marks as many
+-- bytes as it takes
+abbrev pub weigh_in : (format chunks : ℕ) → ℕ
+weigh_in format chunks = if marks_in format then 17 + 16 * chunks else 1
+
+-- what the entries of a run may weigh that takes one whole extent: a frame's header has 41 bytes, and a run's count 4
+abbrev pub most_weight_in : (format pages : ℕ) → ℕ
+most_weight_in format pages = if marks_in format then 4096 * pages - 45 else (4096 * pages - 45) / 81
 
 -- how many extents may hold runs where they do
 abbrev pub most_run_extents : (extents : ℕ) → ℕ
@@ -81,8 +86,9 @@ shape_of extents pages sections per_section format = record {
   section = λ e. if nat_lt e extents then e / per_section else 0;
   chunk_bytes = 4096 * pages - 41;
   most_chunks = 8;
-  most_names = (4096 * pages - 45) / most_entry_bytes format;
   most_runs = if nat_le format 2 then 4 else 24;
+  weigh = weigh_in format;
+  most_weight = most_weight_in format pages;
   greatest_number = 9223372036854775807;
   greatest_generation = 4294967295;
 }

@@ -7,7 +7,7 @@ use Rattle.cs_model.specs.Element.{Damaged, Entry, Locator, Run}
 use Rattle.cs_model.specs.Events.{Chunked, Does, Merged, ReadsNow, mark}
 use Rattle.cs_model.specs.Extents.{ForMove, ForRun, Purpose}
 use Rattle.cs_model.specs.Formats.{ChunkFrame, Formats, RunFrame}
-use Rattle.cs_model.specs.Index.{FirstLive, IsTableRun, NothingLive, lookup, names}
+use Rattle.cs_model.specs.Index.{FirstLive, IsTableRun, NothingLive, lookup, weight_with}
 use Rattle.cs_model.specs.Machine.{PastGreatest}
 use Rattle.cs_model.specs.Merges.{MergesNewest, stage_takes}
 use Rattle.cs_model.specs.Refusal.{Full, Halted, InFlight, IndexFull, NoRound, NotSweepable, Refusal, StillLive, TooLarge, WornOut}
@@ -43,6 +43,11 @@ module _ (S : Shape) (F : Formats) where
   abbrev pub WouldPass : State → Event → Type 0
   WouldPass s event = (reply : Reply) × (t : State) × Does S F s event reply t × PastLimit t
 
+  -- with an entry of the chunks of these bytes in place of what the identifier has, the newest entries weigh more than they may
+  abbrev pub TooHeavy : State → (id : ℕ) → List ℕ → Type 0
+  TooHeavy s id bytes = (cs : List (List ℕ)) × Chunked S.chunk_bytes bytes cs
+      × (S.most_weight < weight_with S (index_now s) id (length cs))
+
   -- the chunks of these bytes don't fit
   abbrev pub NoRoomToPut : State → List ℕ → Type 0
   NoRoomToPut s bytes = (cs : List (List ℕ)) (ls : List Locator) (mid : State)
@@ -75,7 +80,7 @@ module _ (S : Shape) (F : Formats) where
   abbrev pub Refuses : State → Event → Refusal → Type 0
   Refuses s (Put id bytes) = First Halted (s.halted ≡ true)
       (First TooLarge (S.most_chunks * S.chunk_bytes < length bytes)
-      (First IndexFull ((is_named s id ≡ false) × (S.most_names ≤ names (index_now s)))
+      (First IndexFull (TooHeavy s id bytes)
       (First Full (NoRoomToPut s bytes)
       (First WornOut (WouldPass s (Put id bytes)) NoMore))))
   Refuses s (Get id) = FoundDamaged (λ f. map_now s id ≡ Some (Damaged f)) NoMore

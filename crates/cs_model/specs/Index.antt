@@ -1,5 +1,5 @@
 -- The index: entries of identifiers, the table over the runs, and what they give of an image.
-use Rattle.std.specs.Prelude.{◌≡◌, ◌≢◌, ◌⊎◌, ◌+◌, ◌<◌, ◌≤◌, ◌∷◌, ◌++◌, ◌==◌, ℕ, suc, true, List, length, Option, Some, None, is_some, [], if◌then◌else◌}
+use Rattle.std.specs.Prelude.{◌≡◌, ◌≢◌, ◌⊎◌, ◌+◌, ◌-◌, ◌<◌, ◌≤◌, ◌∷◌, ◌++◌, ◌==◌, ℕ, suc, true, List, length, Option, Some, None, is_some, [], if◌then◌else◌}
 use Rattle.cs_model.specs.Device.{FitsMark, Inside, Page, Shape, is_meant}
 use Rattle.cs_model.specs.Element.{Bytes, Content, Damaged, Entry, Locator, Map, Opening, Run}
 use Rattle.cs_model.specs.Formats.{ChunkFrame, Formats, RunFrame, Stand}
@@ -37,6 +37,26 @@ abbrev pub names : List Entry → ℕ
 names [] = 0
 names (x ∷ xs) = if is_some (lookup x.id xs) then names xs else suc (names xs)
 
+-- what an entry weighs, nothing where there is none
+abbrev pub weight : Shape → Option (List Locator) → ℕ
+weight S None = 0
+weight S (Some locators) = S.weigh (length locators)
+
+-- what the newest entries of the identifiers weigh together: those of the others behind the first, with it in place of what its
+-- identifier has there
+abbrev pub named_weight : Shape → List Entry → ℕ
+named_weight S [] = 0
+named_weight S (x ∷ xs) = (named_weight S xs - weight S (lookup x.id xs)) + S.weigh (length x.locators)
+
+-- what they weigh with an entry of so many chunks in place of what an identifier has
+abbrev pub weight_with : Shape → List Entry → (id chunks : ℕ) → ℕ
+weight_with S index id chunks = (named_weight S index - weight S (lookup id index)) + S.weigh chunks
+
+-- what the entries of a run weigh together, each of an identifier of its own
+abbrev pub run_weight : Shape → List Entry → ℕ
+run_weight S [] = 0
+run_weight S (x ∷ xs) = S.weigh (length x.locators) + run_weight S xs
+
 -- the identifiers rise
 abbrev pub Ascending : List Entry → Type 0
 Ascending [] = Unit {0}
@@ -72,7 +92,7 @@ pub record InBounds (S : Shape) (version commands runs : ℕ) (entries : List En
   pub version_fits : version ≤ S.greatest_number
   pub commands_fit : commands ≤ S.greatest_number
   pub few_runs : runs ≤ S.most_runs
-  pub named : names entries ≤ S.most_names
+  pub weight_fits : named_weight S entries ≤ S.most_weight
   pub chunks_fit : (id : ℕ) → length (live (lookup id entries)) ≤ S.most_chunks
 
 -- an extent and a page that are there, and a generation and a mark that can be
@@ -83,7 +103,7 @@ InRange S l = Inside S l.extent l.page × (l.generation ≤ S.greatest_generatio
 pub record IsRunList (S : Shape) (entries : List Entry) : Type 0 where
   pub some : entries ≢ []
   pub ascending : Ascending entries
-  pub few : length entries ≤ S.most_names
+  pub weight_fits : run_weight S entries ≤ S.most_weight
   pub locators : (x : Entry) → x ∈ entries
       → (length x.locators ≤ S.most_chunks) × ((l : Locator) → l ∈ x.locators → InRange S l)
 

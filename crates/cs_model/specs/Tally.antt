@@ -1,7 +1,8 @@
 -- Sums over the identifiers of an index, each counted by the locators that it has.
-use Rattle.std.specs.Prelude.{◌+◌, ◌-◌, ◌∷◌, ◌==◌, ℕ, suc, List, [], if◌then◌else◌}
+use Rattle.std.specs.Prelude.{◌+◌, ◌-◌, ◌*◌, ◌∷◌, ◌==◌, ℕ, suc, List, length, [], if◌then◌else◌}
+use Rattle.cs_model.specs.Device.{Shape}
 use Rattle.cs_model.specs.Element.{Entry, Locator}
-use Rattle.cs_model.specs.Index.{live_at}
+use Rattle.cs_model.specs.Index.{live_at, names}
 
 -- what the identifiers of an index come to, each as f says of its locators
 abbrev pub tally : (f : List Locator → ℕ) → List Entry → ℕ
@@ -25,3 +26,16 @@ shards index = tally one_if_some index
 -- how many chunks of them are on the extent
 abbrev pub lives_on : (extent : ℕ) → List Entry → ℕ
 lives_on e index = tally (places_on e) index
+
+-- what an entry of these locators weighs where there is one, nothing where there is none
+abbrev pub weight_if_some : Shape → List Locator → ℕ
+weight_if_some S [] = 0
+weight_if_some S (l ∷ ls) = S.weigh (length (l ∷ ls))
+
+-- what the entries weigh of the identifiers that live
+abbrev pub living_weight : Shape → List Entry → ℕ
+living_weight S index = tally (weight_if_some S) index
+
+-- what the deletions weigh among the newest entries: so many identifiers are named and don't live
+abbrev pub dead_weight : Shape → List Entry → ℕ
+dead_weight S index = (names index - shards index) * S.weigh 0
