@@ -253,8 +253,7 @@ shape = let base = is_shape 6 2 1 8 1 (record {
   some_chunk = base.some_chunk;
   some_byte = base.some_byte;
   enough_runs = base.enough_runs;
-  some_weight = base.some_weight;
-  more_weight = base.more_weight;
+  weighs = base.weighs;
   one_fits = base.one_fits;
   apart = λ on. (refl, refl, omega arith, omega arith);
   fills = λ on. absurd (true≢false (sym on));

@@ -53,7 +53,7 @@ module _ (S : Shape) (F : Formats) (shape : IsShape S) (format : IsFormat S F) w
                 (λ x has. sound.gives.holds c.id x has) (inr (copy.0, copy.2)))
                 done.1,
             bounded_entry S F shape format s c.id moved s.commands b
-                (le_trans (weight_replaced S c.id moved (index_now s)
+                (le_trans (weight_replaced S.weigh c.id moved (index_now s)
                 (named_nth S F shape format (lookup c.id (index_now s)) c.chunk c.from at)
                 (length_replaced S F shape format (live_at (index_now s) c.id) c.chunk c.to)) b.bounds.weight_fits)
                 (le_trans (le_of_eq (length_replaced S F shape format (live_at (index_now s) c.id) c.chunk c.to))

@@ -72,8 +72,8 @@ module _ (S : Shape) (F : Formats) (shape : IsShape S) (format : IsFormat S F) w
   run_list s v n k index entries img p sound bounds some order in_index pass = record {
     some = some;
     ascending = order;
-    weight_fits = le_trans (le_of_eq (sym (ascending_weight S entries order)))
-        (le_trans (weight_some S entries index in_index) bounds.weight_fits);
+    weight_fits = le_trans (le_of_eq (sym (ascending_weight S.weigh entries order)))
+        (le_trans (weight_some S.weigh entries index in_index) bounds.weight_fits);
     locators = λ x has. (let at = ascending_lookup entries x order has in (
       subst (λ (o : Option (List Locator)). length (live o) ≤ S.most_chunks) (in_index x.id x.locators at)
           (bounds.chunks_fit x.id),
@@ -115,7 +115,7 @@ module _ (S : Shape) (F : Formats) (shape : IsShape S) (format : IsFormat S F) w
         version_fits = root;
         commands_fit = b.bounds.commands_fit;
         few_runs = le_trans few (most_fits S shape);
-        weight_fits = le_trans (weight_some S (entries_of runs) (index_now s) in_index) b.bounds.weight_fits;
+        weight_fits = le_trans (weight_some S.weigh (entries_of runs) (index_now s) in_index) b.bounds.weight_fits;
         chunks_fit = λ id. small id (lookup id (entries_of runs)) refl;
       }) all
     where
@@ -166,7 +166,7 @@ module _ (S : Shape) (F : Formats) (shape : IsShape S) (format : IsFormat S F) w
       commands_fit = le_trans
           (le_of_eq (ap₂ (λ (c : ℕ) (cs : List Command). c + length cs) count commands)) b.bounds.commands_fit;
       few_runs = le_trans (le_of_eq (ap length runs)) b.bounds.few_runs;
-      weight_fits = le_trans (le_of_eq (ap (named_weight S) index)) b.bounds.weight_fits;
+      weight_fits = le_trans (le_of_eq (ap (named_weight S.weigh) index)) b.bounds.weight_fits;
       chunks_fit = λ id. subst (λ (es : List Entry). length (live (lookup id es)) ≤ S.most_chunks) (sym index)
           (b.bounds.chunks_fit id);
     };
@@ -179,7 +179,7 @@ module _ (S : Shape) (F : Formats) (shape : IsShape S) (format : IsFormat S F) w
 
   -- an entry more
   pub bounded_entry : (s : State) (id : ℕ) (ls : List Locator) (cs : List Command) → Bounded S F s
-      → named_weight S (record { id = id; locators = ls } ∷ index_now s) ≤ S.most_weight → length ls ≤ S.most_chunks
+      → named_weight S.weigh (record { id = id; locators = ls } ∷ index_now s) ≤ S.most_weight → length ls ≤ S.most_chunks
       → s.count + length cs ≤ S.greatest_number
       → Bounded S F (record s { table = record { id = id; locators = ls } ∷ s.table; commands = cs })
   bounded_entry s id ls cs b room few fit = record {

@@ -90,8 +90,8 @@ module _ (S : Shape) (F : Formats) (shape : IsShape S) (format : IsFormat S F) w
       (λ (x : State). x.count + length x.commands) d.6 in
       let fit_mid : d.2.count + length ((id, Some bytes) ∷ d.2.commands) ≤ S.greatest_number = le_trans
       (le_of_eq (sym total)) (not_below _ _ (λ lt. worn.0 (Accepted n, t, d, inr lt))) in
-      let room : named_weight S (record { id = id; locators = d.1 } ∷ index_now d.2) ≤ S.most_weight =
-      le_trans (le_of_eq (ap₂ (λ (es : List Entry) (c : ℕ). weight_with S es id c) index (chunk_count _ _ _ _ d.1 d.0 p.chunks)))
+      let room : named_weight S.weigh (record { id = id; locators = d.1 } ∷ index_now d.2) ≤ S.most_weight =
+      le_trans (le_of_eq (ap₂ (λ (es : List Entry) (c : ℕ). weight_with S.weigh es id c) index (chunk_count _ _ _ _ d.1 d.0 p.chunks)))
       (not_below _ _ (λ lt. full.0 (d.0, d.3, lt))) in
       both _ t d.6
       (with_entry S F shape format d.2 id d.1 p.sound
@@ -117,6 +117,6 @@ module _ (S : Shape) (F : Formats) (shape : IsShape S) (format : IsFormat S F) w
       both _ t d.2 (with_entry S F shape format s id [] sound (λ l has. absurd has)
       (λ l has. absurd has) (id, None) refl refl)
       (bounded_entry S F shape format s id [] ((id, None) ∷ s.commands) b
-      (le_trans (weight_deletion S shape id (index_now s)
+      (le_trans (weight_deletion S.weigh shape.weighs id (index_now s)
       (named_there s.opening _ _ _ (lookup id (index_now s)) (map_now s id) d.0 (sound.gives.values id))) b.bounds.weight_fits)
       (omega arith) fit)

@@ -18,7 +18,7 @@ use Rattle.cs_model.specs.Tally.{dead_weight}
 
 module _ (S : Shape) (F : Formats) (shape : IsShape S) (by_size : S.by_size ≡ true) where
   some_most : 0 < S.most_weight
-  some_most = let one : 1 ≤ S.weigh S.most_chunks = weighs S shape S.most_chunks in
+  some_most = let one : 1 ≤ S.weigh S.most_chunks = weighs S.weigh shape.weighs S.most_chunks in
       let fits : S.weigh S.most_chunks ≤ S.most_weight = shape.one_fits in omega arith
 
   -- deletions go where all runs are merged
@@ -38,27 +38,27 @@ module _ (S : Shape) (F : Formats) (shape : IsShape S) (by_size : S.by_size ≡ 
         m
 
     -- where deletions go none is left
-    all_gone : deletions_go S s k ≡ true → 4 * dead_weight S (entries_of runs) < S.most_weight
-    all_gone go = let none : dead_weight S (entries_of runs) ≡ 0 = none_dead S (entries_of runs) (index_now s)
+    all_gone : deletions_go S s k ≡ true → 4 * dead_weight S.weigh (entries_of runs) < S.most_weight
+    all_gone go = let none : dead_weight S.weigh (entries_of runs) ≡ 0 = none_dead S.weigh (entries_of runs) (index_now s)
         (λ id. staged_lookup id
         ∙ ap (λ (b : Bool). if b then if_live (lookup id (index_now s)) else lookup id (index_now s)) go) in
         let some : 0 < S.most_weight = some_most in omega arith
 
     -- else there are as few as there were
-    as_few : deletions_go S s k ≡ false → 4 * dead_weight S (index_now s) < S.most_weight
-        → 4 * dead_weight S (entries_of runs) < S.most_weight
+    as_few : deletions_go S s k ≡ false → 4 * dead_weight S.weigh (index_now s) < S.most_weight
+        → 4 * dead_weight S.weigh (entries_of runs) < S.most_weight
     as_few stay few = subst (λ (n : ℕ). 4 * n < S.most_weight)
-        (sym (dead_alike S (entries_of runs) (index_now s) (λ id. staged_lookup id
+        (sym (dead_alike S.weigh (entries_of runs) (index_now s) (λ id. staged_lookup id
         ∙ ap (λ (b : Bool). if b then if_live (lookup id (index_now s)) else lookup id (index_now s)) stay))) few
 
-    part_of_few : k ≡ reached S s → 4 * dead_weight S (entries_of runs) < S.most_weight
+    part_of_few : k ≡ reached S s → 4 * dead_weight S.weigh (entries_of runs) < S.most_weight
     part_of_few is = elim (cases_Bool (deletions_go S s k)) [
       | inl go ↦ all_gone go
-      | inr stay ↦ as_few stay (few (nat_le S.most_weight (4 * dead_weight S (index_now s))) refl stay)
+      | inr stay ↦ as_few stay (few (nat_le S.most_weight (4 * dead_weight S.weigh (index_now s))) refl stay)
     ]
       where
-        few : (b : Bool) → nat_le S.most_weight (4 * dead_weight S (index_now s)) ≡ b → deletions_go S s k ≡ false
-            → 4 * dead_weight S (index_now s) < S.most_weight
+        few : (b : Bool) → nat_le S.most_weight (4 * dead_weight S.weigh (index_now s)) ≡ b → deletions_go S s k ≡ false
+            → 4 * dead_weight S.weigh (index_now s) < S.most_weight
         few false test stay = grind (arith, nat_tests)
         few true test stay =
             let all : k ≡ length s.runs = is ∙ ap (λ (b : Bool). if b then length s.runs
@@ -76,8 +76,8 @@ module _ (S : Shape) (F : Formats) (shape : IsShape S) (by_size : S.by_size ≡ 
       by [] none = absurd (some none)
       by (x ∷ xs) is = by_reached s
 
-  apart_few : (s t : State) → s.table ≢ [] → StagesApart S F s t → 4 * dead_weight S (index_now t) < S.most_weight
-  apart_few s t some o = subst (λ (u : State). 4 * dead_weight S (index_now u) < S.most_weight) (sym o.3)
+  apart_few : (s t : State) → s.table ≢ [] → StagesApart S F s t → 4 * dead_weight S.weigh (index_now t) < S.most_weight
+  apart_few s t some o = subst (λ (u : State). 4 * dead_weight S.weigh (index_now u) < S.most_weight) (sym o.3)
       (⊎_elim
       (λ (part : MergesFor S F s false o.0 o.1). part_of_few true s o.0 ForRun (takes S s) o.1 part (takes_reached s some))
       (λ (all : ((u : State) (others : List Run) → MergesFor S F s false u others → ⊥) × MergesFor S F s true o.0 o.1).
@@ -85,10 +85,10 @@ module _ (S : Shape) (F : Formats) (shape : IsShape S) (by_size : S.by_size ≡ 
       o.2)
 
   pub few_dead : (s t : State) (v : ℕ) → s.table ≢ [] → Does S F s Stage (Staged v) t
-      → 4 * dead_weight S (index_now t) < S.most_weight
+      → 4 * dead_weight S.weigh (index_now t) < S.most_weight
   few_dead s t v some does = elim (cases_Bool S.apart) [
     | inl on ↦ apart_few s t some (apart_rule _ _ S.apart on does).2
     | inr before ↦ (let o = before_rule _ _ S.apart before does in
-        subst (λ (u : State). 4 * dead_weight S (index_now u) < S.most_weight) (sym o.5)
+        subst (λ (u : State). 4 * dead_weight S.weigh (index_now u) < S.most_weight) (sym o.5)
         (part_of_few false s o.2 ForRun (stage_takes S s) o.3 o.4 (by_reached s)))
   ]

@@ -89,7 +89,7 @@ none_left : (S : Shape) (s : State) → length (drop (length s.runs) s.runs) ≡
 none_left S s = ap length (drop-length s.runs)
 
 reached_left : (S : Shape) (s : State) → 0 < S.most_runs → length (drop (reached S s) s.runs) < S.most_runs
-reached_left S s some = go (nat_le S.most_weight (4 * dead_weight S (index_now s)))
+reached_left S s some = go (nat_le S.most_weight (4 * dead_weight S.weigh (index_now s)))
   where
     go : (b : Bool) → length (drop (if b then length s.runs else reaching S (sizes s.runs) (names s.table)) s.runs) < S.most_runs
     go true = let none : length (drop (length s.runs) s.runs) ≡ 0 = none_left S s in omega arith

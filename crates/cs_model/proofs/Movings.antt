@@ -144,9 +144,9 @@ module _ (S : Shape) (F : Formats) (shape : IsShape S) (format : IsFormat S F) w
       (Some (replaced (live_at (index_now s) id) k new)) v) (sym a.opening)
       (ap (λ (m : Map). m id) (sym same_map)) done.1))
       (bounded_entry S F shape format mid id (replaced (live_at (index_now s) id) k new) mid.commands bm
-      (le_trans (le_of_eq (ap (λ (es : List Entry). named_weight S (record { id = id; locators = replaced (live_at (index_now s) id) k new } ∷ es))
+      (le_trans (le_of_eq (ap (λ (es : List Entry). named_weight S.weigh (record { id = id; locators = replaced (live_at (index_now s) id) k new } ∷ es))
       index))
-      (le_trans (weight_replaced S id (replaced (live_at (index_now s) id) k new) (index_now s)
+      (le_trans (weight_replaced S.weigh id (replaced (live_at (index_now s) id) k new) (index_now s)
       (named_nth (lookup id (index_now s)) k l o.5.there) (length_replaced (live_at (index_now s) id) k new)) b.bounds.weight_fits))
       (le_trans (le_of_eq (length_replaced (live_at (index_now s) id) k new)) (b.bounds.chunks_fit id))
       bm.bounds.commands_fit)

@@ -3,8 +3,8 @@ use Rattle.std.proofs.Common.{◌≡◌, ◌≢◌, inl, inr, ℕ, suc, ◌+◌,
 use Rattle.std.proofs.lemmas.Bool.{cases_Bool, cases_eq, cases_lt}
 use Rattle.std.proofs.lemmas.Bool.Decides.{nat_tests}
 use Rattle.std.proofs.lemmas.Nat.{div-mul-add, mod-mul-add, div_below}
-use Rattle.cs_model.specs.Device.{FramePage, IsShape, RootPage, SectionPage, Shape}
-use Rattle.cs_model.specs.Geometry.{HasExtentsApart, IsGeometry, apart_in, by_size_in, hidden_stand_in, marks_in, most_run_extents, number_at, shape_of}
+use Rattle.cs_model.specs.Device.{FramePage, IsShape, IsWeighing, RootPage, SectionPage, Shape}
+use Rattle.cs_model.specs.Geometry.{HasExtentsApart, IsGeometry, apart_in, by_size_in, hidden_stand_in, marks_in, most_run_extents, number_at, shape_of, weigh_in}
 use Rattle.cs_model.proofs.Meant.{digest_fits}
 
 -- in a format in which chunks and runs lie apart hidden entries don't stand, and merges go by size
@@ -22,6 +22,9 @@ weighs_some false = omega arith
 weighs_more : (b : Bool) (c d : ℕ) → c ≤ d → (if b then 17 + 16 * c else 1) ≤ (if b then 17 + 16 * d else 1)
 weighs_more true c d le = omega arith
 weighs_more false c d le = omega arith
+
+pub is_weighing : (f : ℕ) → IsWeighing (weigh_in f)
+is_weighing f = record { some = weighs_some (marks_in f); more = λ c d le. weighs_more (marks_in f) c d le }
 
 weighs_few : (b : Bool) (pages : ℕ) → 0 < pages
     → (if b then 17 + 16 * 8 else 1) ≤ (if b then 4096 * pages - 45 else (4096 * pages - 45) / 81)
@@ -101,8 +104,7 @@ module _ (E P N Q f : ℕ) (g : IsGeometry E P N Q) where
       | inl few ↦ rw few (le_refl _)
       | inr many ↦ rw many (omega arith)
     ];
-    some_weight = weighs_some (marks_in f);
-    more_weight = λ b c le. weighs_more (marks_in f) b c le;
+    weighs = is_weighing f;
     one_fits = weighs_few (marks_in f) P g.some_page;
     fills = λ on. on;
     marks = λ page. digest_fits (marks_in f) (number_at 9 8 page);

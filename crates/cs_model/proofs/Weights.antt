@@ -5,7 +5,7 @@ use Rattle.std.proofs.lemmas.Bool.{cases_Bool}
 use Rattle.cs_model.proofs.Counting.{ascending_tail, none_below}
 use Rattle.cs_model.proofs.Sums.{summed, sums_alike, sums_no_more, sums_one, sums_parts, sums_times}
 use Rattle.cs_model.proofs.Tallies.{tally_is}
-use Rattle.cs_model.specs.Device.{IsShape, Shape}
+use Rattle.cs_model.specs.Device.{IsWeighing}
 use Rattle.cs_model.specs.Element.{Entry, Locator}
 use Rattle.cs_model.specs.Index.{Ascending, if_live, live, lookup, named_weight, names, run_weight, weight}
 use Rattle.cs_model.specs.Tally.{dead_weight, living_weight, one_if_some, shards, weight_if_some}
@@ -60,78 +60,81 @@ names_parts xs =
 dead_is : (xs : List Entry) → names xs - shards xs ≡ summed one_if_dead xs
 dead_is xs = let parts : names xs ≡ shards xs + summed one_if_dead xs = names_parts xs in omega arith
 
-module _ (S : Shape) where
-  pub weight_is : (xs : List Entry) → named_weight S xs ≡ summed (weight S) xs
+module _ (weigh : (chunks : ℕ) → ℕ) where
+  pub weight_is : (xs : List Entry) → named_weight weigh xs ≡ summed (weight weigh) xs
   weight_is [] = refl
-  weight_is (x ∷ xs) = ap (λ (n : ℕ). (n - weight S (lookup x.id xs)) + S.weigh (length x.locators)) (weight_is xs)
+  weight_is (x ∷ xs) = ap (λ (n : ℕ). (n - weight weigh (lookup x.id xs)) + weigh (length x.locators)) (weight_is xs)
 
   -- each identifier's entry weighs no more than all
-  pub weight_one : (xs : List Entry) (id : ℕ) → weight S (lookup id xs) ≤ named_weight S xs
-  weight_one xs id = le_trans (sums_one (weight S) refl xs id) (le_of_eq (sym (weight_is xs)))
+  pub weight_one : (xs : List Entry) (id : ℕ) → weight weigh (lookup id xs) ≤ named_weight weigh xs
+  weight_one xs id = le_trans (sums_one (weight weigh) refl xs id) (le_of_eq (sym (weight_is xs)))
 
   -- an index in which each weighs no more weighs no more
-  pub weight_no_more : (xs ys : List Entry) → ((id : ℕ) → weight S (lookup id xs) ≤ weight S (lookup id ys))
-      → named_weight S xs ≤ named_weight S ys
+  pub weight_no_more : (xs ys : List Entry) → ((id : ℕ) → weight weigh (lookup id xs) ≤ weight weigh (lookup id ys))
+      → named_weight weigh xs ≤ named_weight weigh ys
   weight_no_more xs ys same = le_trans (le_of_eq (weight_is xs))
-      (le_trans (sums_no_more (weight S) refl xs ys same) (le_of_eq (sym (weight_is ys))))
+      (le_trans (sums_no_more (weight weigh) refl xs ys same) (le_of_eq (sym (weight_is ys))))
+
+  pub weight_alike : (xs ys : List Entry) → ((id : ℕ) → lookup id xs ≡ lookup id ys) → named_weight weigh xs ≡ named_weight weigh ys
+  weight_alike xs ys same = weight_is xs ∙ sums_alike (weight weigh) refl xs ys (λ id. ap (weight weigh) (same id)) ∙ sym (weight_is ys)
 
   -- so does one that has some of the entries
   pub weight_some : (xs ys : List Entry) → ((id : ℕ) (ls : List Locator) → lookup id xs ≡ Some ls → lookup id ys ≡ Some ls)
-      → named_weight S xs ≤ named_weight S ys
+      → named_weight weigh xs ≤ named_weight weigh ys
   weight_some xs ys same = weight_no_more xs ys (λ id. at id (lookup id xs) refl)
     where
-      at : (id : ℕ) (o : Option (List Locator)) → lookup id xs ≡ o → weight S o ≤ weight S (lookup id ys)
+      at : (id : ℕ) (o : Option (List Locator)) → lookup id xs ≡ o → weight weigh o ≤ weight weigh (lookup id ys)
       at id None is = omega arith
-      at id (Some ls) is = le_of_eq (ap (weight S) (sym (same id ls is)))
+      at id (Some ls) is = le_of_eq (ap (weight weigh) (sym (same id ls is)))
 
   -- an entry more that weighs no more than what its identifier has makes no more
-  pub weight_entry : (x : Entry) (xs : List Entry) → S.weigh (length x.locators) ≤ weight S (lookup x.id xs)
-      → named_weight S (x ∷ xs) ≤ named_weight S xs
-  weight_entry x xs light = let one : weight S (lookup x.id xs) ≤ named_weight S xs = weight_one xs x.id in omega arith
+  pub weight_entry : (x : Entry) (xs : List Entry) → weigh (length x.locators) ≤ weight weigh (lookup x.id xs)
+      → named_weight weigh (x ∷ xs) ≤ named_weight weigh xs
+  weight_entry x xs light = let one : weight weigh (lookup x.id xs) ≤ named_weight weigh xs = weight_one xs x.id in omega arith
 
   -- nor does one of as many chunks
   pub weight_replaced : (id : ℕ) (ls : List Locator) (xs : List Entry) → is_some (lookup id xs) ≡ true
-      → length ls ≡ length (live (lookup id xs)) → named_weight S (record { id = id; locators = ls } ∷ xs) ≤ named_weight S xs
+      → length ls ≡ length (live (lookup id xs)) → named_weight weigh (record { id = id; locators = ls } ∷ xs) ≤ named_weight weigh xs
   weight_replaced id ls xs is same = weight_entry (record { id = id; locators = ls }) xs (as_much (lookup id xs) is same)
     where
-      as_much : (o : Option (List Locator)) → is_some o ≡ true → length ls ≡ length (live o) → S.weigh (length ls) ≤ weight S o
+      as_much : (o : Option (List Locator)) → is_some o ≡ true → length ls ≡ length (live o) → weigh (length ls) ≤ weight weigh o
       as_much None wrong e = absurd (true≢false (sym wrong))
-      as_much (Some ks) some e = le_of_eq (ap S.weigh e)
+      as_much (Some ks) some e = le_of_eq (ap weigh e)
 
   pub weight_as : (id : ℕ) (ls ks : List Locator) (xs : List Entry) → lookup id xs ≡ Some ks → length ls ≡ length ks
-      → named_weight S (record { id = id; locators = ls } ∷ xs) ≤ named_weight S xs
+      → named_weight weigh (record { id = id; locators = ls } ∷ xs) ≤ named_weight weigh xs
   weight_as id ls ks xs is same = weight_entry (record { id = id; locators = ls }) xs
-      (le_of_eq (ap S.weigh same ∙ ap (weight S) (sym is)))
+      (le_of_eq (ap weigh same ∙ ap (weight weigh) (sym is)))
 
   -- the entries of a run weigh what they do one by one
-  pub ascending_weight : (xs : List Entry) → Ascending xs → named_weight S xs ≡ run_weight S xs
+  pub ascending_weight : (xs : List Entry) → Ascending xs → named_weight weigh xs ≡ run_weight weigh xs
   ascending_weight [] order = refl
   ascending_weight (x ∷ xs) order =
-      let alone : weight S (lookup x.id xs) ≡ 0 = ap (weight S) (none_below x xs x.id order (le_refl _)) in
-      let rest : named_weight S xs ≡ run_weight S xs = ascending_weight xs (ascending_tail x xs order) in omega arith
+      let alone : weight weigh (lookup x.id xs) ≡ 0 = ap (weight weigh) (none_below x xs x.id order (le_refl _)) in
+      let rest : named_weight weigh xs ≡ run_weight weigh xs = ascending_weight xs (ascending_tail x xs order) in omega arith
 
-  weight_parts : (o : Option (List Locator)) → weight S o ≡ weight_if_some S (live o) + one_if_dead o * S.weigh 0
+  weight_parts : (o : Option (List Locator)) → weight weigh o ≡ weight_if_some weigh (live o) + one_if_dead o * weigh 0
   weight_parts None = omega arith
   weight_parts (Some []) = omega arith
   weight_parts (Some (l ∷ ls)) = omega arith
 
   -- what is named lives or is dead
-  pub named_parts : (xs : List Entry) → named_weight S xs ≡ living_weight S xs + dead_weight S xs
+  pub named_parts : (xs : List Entry) → named_weight weigh xs ≡ living_weight weigh xs + dead_weight weigh xs
   named_parts xs = weight_is xs
-      ∙ sums_parts (weight S) (λ (o : Option (List Locator)). weight_if_some S (live o))
-      (λ (o : Option (List Locator)). one_if_dead o * S.weigh 0) refl (omega arith) weight_parts xs
-      ∙ ap₂ (λ (a b : ℕ). a + b) (sym (tally_is (weight_if_some S) xs))
-      (sums_times (S.weigh 0) one_if_dead refl xs ∙ ap (λ (n : ℕ). n * S.weigh 0) (sym (dead_is xs)))
+      ∙ sums_parts (weight weigh) (λ (o : Option (List Locator)). weight_if_some weigh (live o))
+      (λ (o : Option (List Locator)). one_if_dead o * weigh 0) refl (omega arith) weight_parts xs
+      ∙ ap₂ (λ (a b : ℕ). a + b) (sym (tally_is (weight_if_some weigh) xs))
+      (sums_times (weigh 0) one_if_dead refl xs ∙ ap (λ (n : ℕ). n * weigh 0) (sym (dead_is xs)))
 
   -- deletions weigh as much where the identifiers have the same, and nothing where a run has what lives alone
-  pub dead_alike : (xs ys : List Entry) → ((id : ℕ) → lookup id xs ≡ lookup id ys) → dead_weight S xs ≡ dead_weight S ys
-  dead_alike xs ys same = ap (λ (n : ℕ). n * S.weigh 0)
+  pub dead_alike : (xs ys : List Entry) → ((id : ℕ) → lookup id xs ≡ lookup id ys) → dead_weight weigh xs ≡ dead_weight weigh ys
+  dead_alike xs ys same = ap (λ (n : ℕ). n * weigh 0)
       (dead_is xs ∙ sums_alike one_if_dead refl xs ys (λ id. ap one_if_dead (same id)) ∙ sym (dead_is ys))
 
-  pub none_dead : (xs ys : List Entry) → ((id : ℕ) → lookup id xs ≡ if_live (lookup id ys)) → dead_weight S xs ≡ 0
-  none_dead xs ys live_alone = ap (λ (n : ℕ). n * S.weigh 0)
+  pub none_dead : (xs ys : List Entry) → ((id : ℕ) → lookup id xs ≡ if_live (lookup id ys)) → dead_weight weigh xs ≡ 0
+  none_dead xs ys live_alone = ap (λ (n : ℕ). n * weigh 0)
       (dead_is xs ∙ sums_alike one_if_dead refl xs [] (λ id. ap one_if_dead (live_alone id) ∙ lives (lookup id ys)))
-      ∙ nothing (S.weigh 0)
+      ∙ nothing (weigh 0)
     where
       nothing : (k : ℕ) → 0 * k ≡ 0
       nothing k = omega arith
@@ -142,8 +145,8 @@ module _ (S : Shape) where
       lives (Some (l ∷ ls)) = refl
 
   -- an entry more with a locator makes no deletion
-  pub dead_no_more : (x : Entry) (xs : List Entry) → 0 < length x.locators → dead_weight S (x ∷ xs) ≤ dead_weight S xs
-  dead_no_more x xs some = mul-le-mul_right (S.weigh 0)
+  pub dead_no_more : (x : Entry) (xs : List Entry) → 0 < length x.locators → dead_weight weigh (x ∷ xs) ≤ dead_weight weigh xs
+  dead_no_more x xs some = mul-le-mul_right (weigh 0)
       (le_trans (le_of_eq (dead_is (x ∷ xs))) (le_trans fewer (le_of_eq (sym (dead_is xs)))))
     where
       alive : (ls : List Locator) → 0 < length ls → one_if_dead (Some ls) ≡ 0
@@ -154,35 +157,35 @@ module _ (S : Shape) where
       fewer = let here : one_if_dead (Some x.locators) ≡ 0 = alive x.locators some in omega arith
 
   -- where each entry weighs one the names are counted
-  pub ones_weigh : ((c : ℕ) → S.weigh c ≡ 1) → (xs : List Entry) → named_weight S xs ≡ names xs
+  pub ones_weigh : ((c : ℕ) → weigh c ≡ 1) → (xs : List Entry) → named_weight weigh xs ≡ names xs
   ones_weigh ones xs = weight_is xs ∙ ap (λ (f : Option (List Locator) → ℕ). summed f xs) (λ i o. one o i) ∙ sym (names_is xs)
     where
-      one : (o : Option (List Locator)) → weight S o ≡ one_if_named o
+      one : (o : Option (List Locator)) → weight weigh o ≡ one_if_named o
       one None = refl
       one (Some ls) = ones (length ls)
 
-  module _ (shape : IsShape S) where
+  module _ (rule : IsWeighing weigh) where
     -- each entry weighs something
-    pub weighs : (c : ℕ) → 1 ≤ S.weigh c
-    weighs c = le_trans shape.some_weight (shape.more_weight 0 c (omega arith))
+    pub weighs : (c : ℕ) → 1 ≤ weigh c
+    weighs c = le_trans rule.some (rule.more 0 c (omega arith))
 
     -- no more identifiers are named than it weighs
-    pub names_weigh : (xs : List Entry) → names xs ≤ named_weight S xs
+    pub names_weigh : (xs : List Entry) → names xs ≤ named_weight weigh xs
     names_weigh xs =
-        let parts : summed (weight S) xs ≡ summed one_if_named xs + summed (λ (o : Option (List Locator)). weight S o - one_if_named o) xs =
-        sums_parts (weight S) one_if_named (λ (o : Option (List Locator)). weight S o - one_if_named o) refl refl each xs in
-        let all : named_weight S xs ≡ summed (weight S) xs = weight_is xs in
+        let parts : summed (weight weigh) xs ≡ summed one_if_named xs + summed (λ (o : Option (List Locator)). weight weigh o - one_if_named o) xs =
+        sums_parts (weight weigh) one_if_named (λ (o : Option (List Locator)). weight weigh o - one_if_named o) refl refl each xs in
+        let all : named_weight weigh xs ≡ summed (weight weigh) xs = weight_is xs in
         let named : names xs ≡ summed one_if_named xs = names_is xs in omega arith
       where
-        each : (o : Option (List Locator)) → weight S o ≡ one_if_named o + (weight S o - one_if_named o)
+        each : (o : Option (List Locator)) → weight weigh o ≡ one_if_named o + (weight weigh o - one_if_named o)
         each None = refl
-        each (Some ls) = let some : 1 ≤ S.weigh (length ls) = weighs (length ls) in omega arith
+        each (Some ls) = let some : 1 ≤ weigh (length ls) = weighs (length ls) in omega arith
 
     -- a deletion of what is named makes no more
     pub weight_deletion : (id : ℕ) (xs : List Entry) → is_some (lookup id xs) ≡ true
-        → named_weight S (record { id = id; locators = [] } ∷ xs) ≤ named_weight S xs
+        → named_weight weigh (record { id = id; locators = [] } ∷ xs) ≤ named_weight weigh xs
     weight_deletion id xs is = weight_entry (record { id = id; locators = [] }) xs (least (lookup id xs) is)
       where
-        least : (o : Option (List Locator)) → is_some o ≡ true → S.weigh 0 ≤ weight S o
+        least : (o : Option (List Locator)) → is_some o ≡ true → weigh 0 ≤ weight weigh o
         least None wrong = absurd (true≢false (sym wrong))
-        least (Some ls) some = shape.more_weight 0 (length ls) (omega arith)
+        least (Some ls) some = rule.more 0 (length ls) (omega arith)

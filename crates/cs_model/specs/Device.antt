@@ -72,9 +72,14 @@ mark_of S pages = first_mark S.mark pages
 abbrev pub is_meant : Shape → Mark → List Page → Bool
 is_meant S m pages = same_mark (mark_of S pages) m
 
--- no two things lie on one page, a shard can be put, and a root may have as many runs as Stage leaves; each entry weighs something,
--- one of more chunks no less, and one of any shard no more than all may; where chunks and runs lie apart a hidden entry may name what is
--- gone, a Stage merges by sizes, and extents are left for both; only there is an extent filled up; and each page's mark can be
+-- a rule of how much entries weigh: each weighs something, and one of more chunks no less
+pub record IsWeighing (weigh : (chunks : ℕ) → ℕ) : Type 0 where
+  pub some : 1 ≤ weigh 0
+  pub more : (b c : ℕ) → b ≤ c → weigh b ≤ weigh c
+
+-- no two things lie on one page, a shard can be put, and a root may have as many runs as Stage leaves; entries weigh by a
+-- rule, and no shard's more than all may; where chunks and runs lie apart a hidden entry may name what is gone, a Stage merges by sizes, and
+-- extents are left for both; only there is an extent filled up; and each page's mark can be
 pub record IsShape (S : Shape) : Type 0 where
   pub root_kind : S.kind S.root_page ≡ RootPage
   pub section_kind : (j : ℕ) → j < S.sections → S.kind (S.section_page j) ≡ SectionPage j
@@ -87,8 +92,7 @@ pub record IsShape (S : Shape) : Type 0 where
   pub some_chunk : 0 < S.most_chunks
   pub some_byte : 0 < S.chunk_bytes
   pub enough_runs : 4 ≤ S.most_runs
-  pub some_weight : 1 ≤ S.weigh 0
-  pub more_weight : (b c : ℕ) → b ≤ c → S.weigh b ≤ S.weigh c
+  pub weighs : IsWeighing S.weigh
   pub one_fits : S.weigh S.most_chunks ≤ S.most_weight
   pub apart : S.apart ≡ true → (S.hidden_stand ≡ false) × (S.by_size ≡ true)
       × (1 ≤ S.run_extents) × (S.run_extents + 2 ≤ S.extents)

@@ -46,7 +46,7 @@ module _ (S : Shape) (F : Formats) where
   -- with an entry of the chunks of these bytes in place of what the identifier has, the newest entries weigh more than they may
   abbrev pub TooHeavy : State → (id : ℕ) → List ℕ → Type 0
   TooHeavy s id bytes = (cs : List (List ℕ)) × Chunked S.chunk_bytes bytes cs
-      × (S.most_weight < weight_with S (index_now s) id (length cs))
+      × (S.most_weight < weight_with S.weigh (index_now s) id (length cs))
 
   -- the chunks of these bytes don't fit
   abbrev pub NoRoomToPut : State → List ℕ → Type 0

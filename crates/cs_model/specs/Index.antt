@@ -37,25 +37,27 @@ abbrev pub names : List Entry → ℕ
 names [] = 0
 names (x ∷ xs) = if is_some (lookup x.id xs) then names xs else suc (names xs)
 
--- what an entry weighs, nothing where there is none
-abbrev pub weight : Shape → Option (List Locator) → ℕ
-weight S None = 0
-weight S (Some locators) = S.weigh (length locators)
+-- by the rule of how much an entry weighs that has so many chunks
+module _ (weigh : (chunks : ℕ) → ℕ) where
+  -- what an entry weighs, nothing where there is none
+  abbrev pub weight : Option (List Locator) → ℕ
+  weight None = 0
+  weight (Some locators) = weigh (length locators)
 
--- what the newest entries of the identifiers weigh together: those of the others behind the first, with it in place of what its
--- identifier has there
-abbrev pub named_weight : Shape → List Entry → ℕ
-named_weight S [] = 0
-named_weight S (x ∷ xs) = (named_weight S xs - weight S (lookup x.id xs)) + S.weigh (length x.locators)
+  -- what the newest entries of the identifiers weigh together: those of the others behind the first, with it in place of what its
+  -- identifier has there
+  abbrev pub named_weight : List Entry → ℕ
+  named_weight [] = 0
+  named_weight (x ∷ xs) = (named_weight xs - weight (lookup x.id xs)) + weigh (length x.locators)
 
--- what they weigh with an entry of so many chunks in place of what an identifier has
-abbrev pub weight_with : Shape → List Entry → (id chunks : ℕ) → ℕ
-weight_with S index id chunks = (named_weight S index - weight S (lookup id index)) + S.weigh chunks
+  -- what they weigh with an entry of so many chunks in place of what an identifier has
+  abbrev pub weight_with : List Entry → (id chunks : ℕ) → ℕ
+  weight_with index id chunks = (named_weight index - weight (lookup id index)) + weigh chunks
 
--- what the entries of a run weigh together, each of an identifier of its own
-abbrev pub run_weight : Shape → List Entry → ℕ
-run_weight S [] = 0
-run_weight S (x ∷ xs) = S.weigh (length x.locators) + run_weight S xs
+  -- what the entries of a run weigh together, each of an identifier of its own
+  abbrev pub run_weight : List Entry → ℕ
+  run_weight [] = 0
+  run_weight (x ∷ xs) = weigh (length x.locators) + run_weight xs
 
 -- the identifiers rise
 abbrev pub Ascending : List Entry → Type 0
@@ -92,7 +94,7 @@ pub record InBounds (S : Shape) (version commands runs : ℕ) (entries : List En
   pub version_fits : version ≤ S.greatest_number
   pub commands_fit : commands ≤ S.greatest_number
   pub few_runs : runs ≤ S.most_runs
-  pub weight_fits : named_weight S entries ≤ S.most_weight
+  pub weight_fits : named_weight S.weigh entries ≤ S.most_weight
   pub chunks_fit : (id : ℕ) → length (live (lookup id entries)) ≤ S.most_chunks
 
 -- an extent and a page that are there, and a generation and a mark that can be
@@ -103,7 +105,7 @@ InRange S l = Inside S l.extent l.page × (l.generation ≤ S.greatest_generatio
 pub record IsRunList (S : Shape) (entries : List Entry) : Type 0 where
   pub some : entries ≢ []
   pub ascending : Ascending entries
-  pub weight_fits : run_weight S entries ≤ S.most_weight
+  pub weight_fits : run_weight S.weigh entries ≤ S.most_weight
   pub locators : (x : Entry) → x ∈ entries
       → (length x.locators ≤ S.most_chunks) × ((l : Locator) → l ∈ x.locators → InRange S l)
 

@@ -42,7 +42,7 @@ module _ (S : Shape) where
   -- how many of the newest runs a Stage merges by size: all where the deletions weigh at least a quarter of what the newest entries
   -- may weigh
   abbrev pub reached : State → ℕ
-  reached s = if nat_le S.most_weight (4 * dead_weight S (index_now s)) then length s.runs
+  reached s = if nat_le S.most_weight (4 * dead_weight S.weigh (index_now s)) then length s.runs
       else reaching (sizes s.runs) (names s.table)
 
   -- how many of the newest runs a Stage merges: by size, or else none of up to three, and all of more

@@ -1,6 +1,5 @@
 -- Sums over the identifiers of an index, each counted by the locators that it has.
 use Rattle.std.specs.Prelude.{◌+◌, ◌-◌, ◌*◌, ◌∷◌, ◌==◌, ℕ, suc, List, length, [], if◌then◌else◌}
-use Rattle.cs_model.specs.Device.{Shape}
 use Rattle.cs_model.specs.Element.{Entry, Locator}
 use Rattle.cs_model.specs.Index.{live_at, names}
 
@@ -27,15 +26,17 @@ shards index = tally one_if_some index
 abbrev pub lives_on : (extent : ℕ) → List Entry → ℕ
 lives_on e index = tally (places_on e) index
 
--- what an entry of these locators weighs where there is one, nothing where there is none
-abbrev pub weight_if_some : Shape → List Locator → ℕ
-weight_if_some S [] = 0
-weight_if_some S (l ∷ ls) = S.weigh (length (l ∷ ls))
+-- by the rule of how much an entry weighs that has so many chunks
+module _ (weigh : (chunks : ℕ) → ℕ) where
+  -- what an entry of these locators weighs where there is one, nothing where there is none
+  abbrev pub weight_if_some : List Locator → ℕ
+  weight_if_some [] = 0
+  weight_if_some (l ∷ ls) = weigh (length (l ∷ ls))
 
--- what the entries weigh of the identifiers that live
-abbrev pub living_weight : Shape → List Entry → ℕ
-living_weight S index = tally (weight_if_some S) index
+  -- what the entries weigh of the identifiers that live
+  abbrev pub living_weight : List Entry → ℕ
+  living_weight index = tally weight_if_some index
 
--- what the deletions weigh among the newest entries: so many identifiers are named and don't live
-abbrev pub dead_weight : Shape → List Entry → ℕ
-dead_weight S index = (names index - shards index) * S.weigh 0
+  -- what the deletions weigh among the newest entries: so many identifiers are named and don't live
+  abbrev pub dead_weight : List Entry → ℕ
+  dead_weight index = (names index - shards index) * weigh 0

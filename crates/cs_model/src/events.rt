@@ -130,10 +130,10 @@ pub fn format_2_counts_names_as_before()
 /// then where what lives with it weighs three quarters at most.
 pub fn a_stage_leaves_room_for_puts()
     ensures stage { (S : Shape) (F : Formats) (s t : State) (v : ℕ) → IsShape S → S.by_size ≡ true → s.table ≢ []
-        → Does S F s Stage (Staged v) t → 4 * dead_weight S (index_now t) < S.most_weight }
+        → Does S F s Stage (Staged v) t → 4 * dead_weight S.weigh (index_now t) < S.most_weight }
     ensures put { (S : Shape) (F : Formats) (s : State) (id : ℕ) (bytes : List ℕ) (chunks : List (List ℕ)) (locators : List Locator)
-        → IsShape S → 4 * dead_weight S (index_now s) < S.most_weight → Chunked S.chunk_bytes bytes chunks
+        → IsShape S → 4 * dead_weight S.weigh (index_now s) < S.most_weight → Chunked S.chunk_bytes bytes chunks
         → length locators ≡ length chunks
-        → 4 * living_weight S (record { id = id; locators = locators } ∷ index_now s) ≤ 3 * S.most_weight
+        → 4 * living_weight S.weigh (record { id = id; locators = locators } ∷ index_now s) ≤ 3 * S.most_weight
         → Refuses S F s (Put id bytes) IndexFull → ⊥ }
 {}

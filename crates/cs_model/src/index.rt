@@ -1,5 +1,5 @@
 //! What an index counts.
-ghost use Rattle.cs_model.specs.Device.{IsShape, Shape};
+ghost use Rattle.cs_model.specs.Device.{IsWeighing};
 ghost use Rattle.cs_model.specs.Element.{Entry, Locator};
 ghost use Rattle.cs_model.specs.Index.{Ascending, live_at, lookup, named_weight, names, run_weight, weight};
 ghost use Rattle.cs_model.specs.Lists.{◌∈◌};
@@ -18,23 +18,29 @@ pub fn tallies_count_identifiers()
         ↔ ((id : ℕ) (l : Locator) → l ∈ live_at index id → l.extent ≢ e) }
 {}
 
-/// What an index weighs depends on what each identifier has alone: one in which each entry weighs no more weighs no more.
+/// What an index weighs, by whatever rule, depends on what each identifier has alone: one in which each entry weighs no more weighs no more.
 pub fn weights_count_newest_entries()
-    ensures each { (S : Shape) (index : List Entry) (id : ℕ) → weight S (lookup id index) ≤ named_weight S index }
-    ensures no_more { (S : Shape) (index other : List Entry)
-        → ((id : ℕ) → weight S (lookup id index) ≤ weight S (lookup id other)) → named_weight S index ≤ named_weight S other }
+    ensures each { (weigh : ℕ → ℕ) (index : List Entry) (id : ℕ) → weight weigh (lookup id index) ≤ named_weight weigh index }
+    ensures no_more { (weigh : ℕ → ℕ) (index other : List Entry)
+        → ((id : ℕ) → weight weigh (lookup id index) ≤ weight weigh (lookup id other))
+        → named_weight weigh index ≤ named_weight weigh other }
+    ensures alike { (weigh : ℕ → ℕ) (index other : List Entry)
+        → ((id : ℕ) → lookup id index ≡ lookup id other) → named_weight weigh index ≡ named_weight weigh other }
     // The entries of a run weigh what they do one by one.
-    ensures run { (S : Shape) (entries : List Entry) → Ascending entries → named_weight S entries ≡ run_weight S entries }
+    ensures run { (weigh : ℕ → ℕ) (entries : List Entry) → Ascending entries
+        → named_weight weigh entries ≡ run_weight weigh entries }
     // What is named lives, or is a deletion.
-    ensures parts { (S : Shape) (index : List Entry) → named_weight S index ≡ living_weight S index + dead_weight S index }
+    ensures parts { (weigh : ℕ → ℕ) (index : List Entry)
+        → named_weight weigh index ≡ living_weight weigh index + dead_weight weigh index }
     // No more identifiers are named than it weighs.
-    ensures names { (S : Shape) (index : List Entry) → IsShape S → names index ≤ named_weight S index }
+    ensures names { (weigh : ℕ → ℕ) (index : List Entry) → IsWeighing weigh → names index ≤ named_weight weigh index }
 {}
 
 /// The deletion of an identifier that is named, and an entry of as many chunks as it has, make an index weigh no more.
 pub fn deletions_and_moves_weigh_no_more()
-    ensures deletion { (S : Shape) (index : List Entry) (id : ℕ) → IsShape S → is_some (lookup id index) ≡ true
-        → named_weight S (record { id = id; locators = [] } ∷ index) ≤ named_weight S index }
-    ensures moved { (S : Shape) (index : List Entry) (id : ℕ) (locators others : List Locator) → lookup id index ≡ Some others
-        → length locators ≡ length others → named_weight S (record { id = id; locators = locators } ∷ index) ≤ named_weight S index }
+    ensures deletion { (weigh : ℕ → ℕ) (index : List Entry) (id : ℕ) → IsWeighing weigh → is_some (lookup id index) ≡ true
+        → named_weight weigh (record { id = id; locators = [] } ∷ index) ≤ named_weight weigh index }
+    ensures moved { (weigh : ℕ → ℕ) (index : List Entry) (id : ℕ) (locators others : List Locator)
+        → lookup id index ≡ Some others → length locators ≡ length others
+        → named_weight weigh (record { id = id; locators = locators } ∷ index) ≤ named_weight weigh index }
 {}

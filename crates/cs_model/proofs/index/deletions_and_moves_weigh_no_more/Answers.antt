@@ -3,6 +3,6 @@ use Rattle.cs_model.proofs.Weights.{weight_as, weight_deletion}
 
 pub returns : goal.returns
 returns c = record {
-  deletion = λ S index id shape is. weight_deletion S shape id index is;
-  moved = λ S index id locators others is same. weight_as S id locators others index is same;
+  deletion = λ weigh index id rule is. weight_deletion weigh rule id index is;
+  moved = λ weigh index id locators others is same. weight_as weigh id locators others index is same;
 }
