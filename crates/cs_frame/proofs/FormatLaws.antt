@@ -36,6 +36,7 @@ use Rattle.cs_frame.proofs.Pieces.{length-first_chunks}
 use Rattle.cs_frame.proofs.PackedLaws.{HasFields, one_packing}
 use Rattle.cs_frame.proofs.RootLaws.{HasRoom, fewest_runs, one_reading}
 use Rattle.cs_frame.proofs.RunLaws.{run_is_read}
+use Rattle.cs_frame.proofs.RunWeights.{length_weighs, weighs_some}
 use Rattle.cs_frame.proofs.TellingLaws.{tells}
 
 -- ---- superblocks
@@ -448,15 +449,16 @@ module _ (f extents pages sections format : ℕ) (is : IsGeometry f extents page
       (le-leb _ _ (le_trans count staged_few)))
       (all_of (fits_locator (marks_in format)) ls (λ l there. fits l (each l there)))
 
-  -- there are few entries, however many bytes one may take
-  few_entries : (marked : Bool) (n : ℕ) → n ≤ (4096 * pages - 45) / (if marked then 145 else 81) → n < 2 ^ 32
+  -- there are few entries, however much they weigh
+  few_entries : (marked : Bool) (n : ℕ) → n ≤ (if marked then 4096 * pages - 45 else (4096 * pages - 45) / 81) → n < 2 ^ 32
   few_entries true n low = omega (arith, low, few)
   few_entries false n low = omega (arith, low, few)
 
   run_fits : (entries : List NamedEntry) → IsRunList S entries → fits_run (marks_in format) entries ≡ true
   run_fits entries list = and_from _ _
       (and_from _ _
-      (and_from _ _ (le-leb _ _ (some_entry entries list.some)) (lt-ltb _ _ (few_entries (marks_in format) (length entries) list.few)))
+      (and_from _ _ (le-leb _ _ (some_entry entries list.some)) (lt-ltb _ _ (few_entries (marks_in format) (length entries)
+      (le_trans (length_weighs S.weigh (weighs_some (marks_in format)) entries) list.weight_fits))))
       (all_of (fits_entry (marks_in format)) entries (λ x there. and_from _ _ (le-leb _ _ (list.locators x there).0)
       (all_of (fits_locator (marks_in format)) x.locators (λ l has. fits l ((list.locators x there).1 l has))))))
       (it_rises entries list.ascending)

@@ -13,6 +13,7 @@ pub mod RunLaws
 pub mod PackedLaws
 pub mod FormatRunLaws
 pub mod RunSizes
+pub mod RunWeights
 pub mod TellingLaws
 pub mod FormatLaws
 pub mod MarkLaws

@@ -1,21 +1,22 @@
 //! The laws of the formats: a page without a fault is one value's spelling and no other's, and what is
 //! spelled has no fault.
 
-ghost use Rattle.std.specs.Prelude.{◌≡◌, ◌≢◌, ◌↔◌, ◌+◌, ◌/◌, ◌^◌, ◌<◌, ◌≤◌, ◌++◌, ℕ, List, Some, None, length, take, true};
+ghost use Rattle.std.specs.Prelude.{◌≡◌, ◌≢◌, ◌↔◌, ◌+◌, ◌/◌, ◌^◌, ◌<◌, ◌≤◌, ◌++◌, ℕ, List, Some, None, length, map, take, true};
 ghost use Rattle.byteorder.specs.Endian.{big_bytes, big_number};
 ghost use Rattle.cs_model.specs.Element.{Entry as NamedEntry};
 ghost use Rattle.cs_model.specs.Formats.{ChunkFrame, RunFrame};
 ghost use Rattle.cs_model.specs.Frames.{IsFormat};
-ghost use Rattle.cs_model.specs.Geometry.{HasExtentsApart, IsGeometry as IsModelGeometry, digest_number, mark_in, marks_in, shape_of};
-ghost use Rattle.cs_model.specs.Index.{IsRunList};
+ghost use Rattle.cs_model.specs.Geometry.{HasExtentsApart, IsGeometry as IsModelGeometry, digest_number, mark_in, marks_in, most_weight_in, shape_of, weigh_in};
+ghost use Rattle.cs_model.specs.Index.{IsRunList, run_weight};
+ghost use Rattle.cs_model.specs.Lists.{◌∈◌};
 ghost use Rattle.cs_model.specs.Safe.{FitsExtent};
 ghost use Rattle.cs_frame.specs.declared.faults.FormatFault.{FormatFault as Fault};
 ghost use Rattle.cs_frame.specs.declared.locators.Locator.{Locator as Place};
 ghost use Rattle.cs_frame.specs.Bytes.{EachHas, IsBytes, IsPage};
-ghost use Rattle.cs_frame.specs.Formats.{formats_of, id_bytes};
-ghost use Rattle.cs_frame.specs.Frames.{SpellsFrame, bytes_in, digest_front, first_page, frame_count, frame_fault, header_fault, payload_in, payload_mark, spelled_frame};
+ghost use Rattle.cs_frame.specs.Formats.{as_entry, formats_of, id_bytes};
+ghost use Rattle.cs_frame.specs.Frames.{SpellsFrame, bytes_in, digest_front, first_page, frame_count, frame_fault, header_fault, page_count, payload_in, payload_mark, spelled_frame};
 ghost use Rattle.cs_frame.specs.FirstFormat.{IsOfFirstFormat, SpellsFirstFormat, SpellsPageZero, first_format_fault, page_zero_fault};
-ghost use Rattle.cs_frame.specs.Geometries.{IsGeometry, IsKnown, lengths_below, section_length, section_size, section_start};
+ghost use Rattle.cs_frame.specs.Geometries.{IsGeometry, IsKnown, lengths_below, section_length, section_size, section_start, weight_bytes};
 ghost use Rattle.cs_frame.specs.FormatRuns.{SpellsRun, run_fault, run_size};
 ghost use Rattle.cs_frame.specs.Roots.{SpellsRoot, root_fault};
 ghost use Rattle.cs_frame.specs.Runs.{Entry};
@@ -99,6 +100,18 @@ pub fn run_has_one_spelling()
 pub fn runs_have_sizes()
     ensures { (payload : List ℕ) (format : ℕ) (entries : List Entry)
         → SpellsRun payload format entries → length payload ≡ run_size format entries }
+{}
+
+/// A run takes what its entries weigh by the rule of the format, and fits on an extent exactly where they weigh no more than they may.
+pub fn runs_take_what_they_weigh()
+    ensures size { (format : ℕ) (entries : List NamedEntry)
+        → run_size format (map as_entry entries) ≡ weight_bytes format (run_weight (weigh_in format) entries) }
+    ensures payload { (extents pages sections per_section format : ℕ) (entries : List NamedEntry)
+        → let S = shape_of extents pages sections per_section format in
+        ((entry : NamedEntry) → entry ∈ entries → length entry.locators ≤ S.most_chunks)
+        → length ((formats_of S).run entries) ≡ weight_bytes format (run_weight S.weigh entries) }
+    ensures pages { (format pages weight : ℕ) → 1 ≤ pages
+        → (page_count (weight_bytes format weight) ≤ pages) ↔ (weight ≤ most_weight_in format pages) }
 {}
 
 /// Pages begin with a frame of a kind exactly where no test fails, and with one payload alone.
