@@ -1,10 +1,10 @@
 -- The extents that the sections of a superblock record.
-use Rattle.std.proofs.Common.{◌≡◌, inl, inr, ⊎_elim, ℕ, zero, suc, ◌+◌, ◌-◌, ◌/◌, ◌<◌, ◌≤◌, ◌^◌, Bool, true, false, List, [], ◌∷◌, length, take, drop, Some, None, nat_lt, ◌==◌, ◌&&◌, if◌then◌else◌, eq-eqb, ne_eqb, true≢false, refl, sym, ap, ◌∙◌, subst, arith}
+use Rattle.std.proofs.Common.{◌≡◌, inl, inr, ⊎_elim, ℕ, zero, suc, ◌+◌, ◌-◌, ◌/◌, ◌<◌, ◌≤◌, ◌^◌, Bool, true, false, List, [], ◌∷◌, length, take, drop, Some, None, nat_lt, ◌==◌, ◌&&◌, if◌then◌else◌, eq-eqb, le_trans, ne_eqb, true≢false, refl, sym, ap, ◌∙◌, subst, arith}
 use Rattle.std.specs.Prelude.{◌↔◌, replicate, slice_index, slice_index_or}
 use Rattle.std.specs.List.{AllByRecursion}
 use Rattle.std.proofs.lemmas.Bool.{and_from, and_parts, and_right, cases_lt, eqb-true, lt-ltb}
 use Rattle.std.proofs.lemmas.List.{get_or-drop, get_or-take, get_or_past, length-replicate}
-use Rattle.cs_extent.proofs.Changes.{all_pointers, found_length, found_low}
+use Rattle.cs_extent.proofs.Changes.{found_length, found_within}
 use Rattle.cs_extent.specs.State.{IsWhole, State as ExtentsState, extents_of, found_at, section_rows, shape}
 use Rattle.cs_frame.proofs.FirstFormatLaws.{apart, one_of_first_format, page_zero_fits, spelled_has_none as first_has_none}
 use Rattle.cs_frame.proofs.FormatLaws.{is_format}
@@ -325,7 +325,8 @@ module _ (view : ℕ → List ℕ) (format : ℕ) (versions : List ℕ) (pages :
     all_kinds = length-replicate (length written) false;
     all_found = found_length (apart_in format) written;
     pointers = λ e. (extents_fit e).0;
-    found_pages = found_low (apart_in format) pages written (all_pointers pages written (λ e. (extents_fit e).0));
+    found_pages = λ e. le_trans (found_within (apart_in format) written e) (extents_fit e).0;
+    found_given = λ on e. found_within (apart_in format) written e;
     roots = λ e. subst (λ (k : ℕ). k < 2 ^ 63) (sym (all_default (length written) e 0)) (omega arith);
     open_inside = λ e none. absurd (let wrong : None ≡ Some e = none in cc);
     open_begun = λ e none. absurd (let wrong : None ≡ Some e = none in cc);
