@@ -1,5 +1,5 @@
 -- Where chunks and runs lie apart copies, Stages and Retires keep the chunks of every shard.
-use Rattle.std.proofs.Common.{◌≡◌, ◌≢◌, ◌∙◌, ◌==◌, inl, inr, ⊎_elim, ℕ, zero, suc, ◌+◌, ◌<◌, Bool, List, [], ◌∷◌, ◌++◌, Some, true, false, if◌then◌else◌, length, map, refl, sym, ap, subst, arith}
+use Rattle.std.proofs.Common.{◌≡◌, ◌≢◌, ◌∙◌, ◌==◌, inl, inr, ⊎_elim, ℕ, zero, suc, ◌+◌, Bool, List, [], ◌∷◌, ◌++◌, Some, true, false, if◌then◌else◌, length, map, refl, sym, ap, subst, arith}
 use Rattle.std.specs.Prelude.{drop, reverse}
 use Rattle.std.proofs.lemmas.Bool.Decides.{nat_tests}
 use Rattle.std.proofs.lemmas.Option.{same_Some}
@@ -25,7 +25,7 @@ use Rattle.cs_model.proofs.Tallies.{lives_none}
 use Rattle.cs_model.specs.Apart.{is_blank_by, is_place, reset_all}
 use Rattle.cs_model.specs.Device.{Shape}
 use Rattle.cs_model.specs.Element.{Copy, Entry, Locator as Place}
-use Rattle.cs_model.specs.Extents.{Extents, ForMerge, ForRun, Purpose as Reason, marked}
+use Rattle.cs_model.specs.Extents.{Extents, ForMerge, ForRun, Purpose as Reason}
 use Rattle.cs_model.specs.Formats.{ChunkFrame, places}
 use Rattle.cs_model.specs.Geometry.{pages_first_in}
 use Rattle.cs_model.specs.Index.{entries_of, live, live_at, lookup}
@@ -122,6 +122,7 @@ module _ (go : Bool) (k : ℕ) (s t : IndexState) (x y : ExtentsState) (g h : Gr
           was.0.0,
           stand_of (shape x) (formats_of (shape x)) now l.extent l.page (chunk_frame x c)
               (λ i lt. same ((shape x).address l.extent (l.page + i)) ∙ of_stand (shape x) (formats_of (shape x)) view l.extent l.page (chunk_frame x c) was.0.1 i lt),
+          was.0.2,
         ),
         was.1,
       ))

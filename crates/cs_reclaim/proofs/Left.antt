@@ -1,6 +1,6 @@
 -- Whether something is left on an extent, and how a Retire of it is refused.
-use Rattle.std.proofs.Common.{◌≡◌, ◌∙◌, ◌⊎◌, ◌==◌, inl, inr, ⊎_elim, ℕ, List, Option, None, Some, Result, Ok, Err, Bool, true, false, refl, sym, ap, subst, arith, eq-eqb}
-use Rattle.std.specs.Prelude.{◌↔◌, MatchOption, is_some}
+use Rattle.std.proofs.Common.{◌≡◌, ◌∙◌, ◌⊎◌, ◌==◌, inl, inr, ⊎_elim, ℕ, List, Option, None, Some, Result, Ok, Err, Bool, true, false, refl, sym, arith, eq-eqb}
+use Rattle.std.specs.Prelude.{MatchOption, is_some}
 use Rattle.std.proofs.lemmas.Bool.Decides.{nat_tests}
 use Rattle.cs_deps.specs.declared.refusals.Refusal.{Refusal}
 use Rattle.cs_deps.specs.declared.refusals.Refusal.TheVariants.{Full, OutOfMemory, StillLive, WornOut}

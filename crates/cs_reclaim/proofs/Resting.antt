@@ -1,12 +1,12 @@
 -- What is at rest once a root was staged, and what the root goes with.
-use Rattle.std.proofs.Common.{◌≡◌, ◌≢◌, ◌∙◌, ◌⊎◌, ⊎_elim, ℕ, ◌+◌, ◌^◌, ◌<◌, ◌≤◌, Bool, List, [], ◌∷◌, None, Some, true, false, not, if◌then◌else◌, length, length-set, refl, sym, ap, subst, arith}
+use Rattle.std.proofs.Common.{◌≡◌, ◌≢◌, ◌∙◌, ⊎_elim, ℕ, ◌^◌, ◌<◌, ◌≤◌, Bool, List, [], ◌∷◌, None, true, false, not, if◌then◌else◌, length, length-set, refl, sym, ap, subst, arith}
 use Rattle.std.specs.Prelude.{IsTrue, ◌↔◌, drop, slice_index}
 use Rattle.std.proofs.lemmas.List.{get_or-set_same}
 use Rattle.cs_deps.specs.Named.{Named}
 use Rattle.cs_deps.specs.Staging.{IsVersionStaged, Staging}
 use Rattle.cs_deps.specs.State.{State as Graph}
 use Rattle.cs_extent.specs.Frames.{root_family}
-use Rattle.cs_extent.specs.State.{State as ExtentsState, extents_of, shape}
+use Rattle.cs_extent.specs.State.{State as ExtentsState, shape}
 use Rattle.cs_index.specs.Apart.{IsFullApart, IsNewestStagedApart, IsStagedApart, WritesNewest, takes_apart}
 use Rattle.cs_index.specs.Merges.{deletions_go, part}
 use Rattle.cs_index.specs.Staged.{IsPartStagedBy, IsRunAppendedBy}
@@ -109,6 +109,12 @@ module _ (s t : State) (x y : ExtentsState) (g h : Graph) (v commands : ℕ) (st
   staged_limit = ⊎_elim
       (λ (one : IsNewestStagedApart (takes_apart (shape x) s) s x g ForRun v commands t y h). one.limit)
       (λ (all : IsFullApart (WritesNewest (shape x) s (takes_apart (shape x) s)) x ForRun × IsNewestStagedApart (length s.runs) s x g ForMerge v commands t y h). all.1.limit)
+      staged
+
+  pub staged_format : t.format ≡ s.format
+  staged_format = ⊎_elim
+      (λ (one : IsNewestStagedApart (takes_apart (shape x) s) s x g ForRun v commands t y h). one.format)
+      (λ (all : IsFullApart (WritesNewest (shape x) s (takes_apart (shape x) s)) x ForRun × IsNewestStagedApart (length s.runs) s x g ForMerge v commands t y h). all.1.format)
       staged
 
   pub staged_root : root_family < length h.staging.latest → slice_index h.staging.latest root_family ≡ v

@@ -27,7 +27,7 @@ use Rattle.cs_index.specs.State.{State as IndexState, index_of}
 use Rattle.cs_model.specs.Device.{Shape}
 use Rattle.cs_model.specs.Element.{Entry, Locator as Place}
 use Rattle.cs_model.specs.Extents.{Extents, ForMove, marked}
-use Rattle.cs_model.specs.Formats.{ChunkFrame, Stand, places}
+use Rattle.cs_model.specs.Formats.{Stand, places}
 use Rattle.cs_model.specs.Geometry.{pages_first_in}
 use Rattle.cs_model.specs.Index.{IsMergedRun, NothingLive, live_at}
 use Rattle.cs_model.specs.Lists.{with, ◌∈◌}

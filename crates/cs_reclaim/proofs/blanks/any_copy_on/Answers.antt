@@ -1,4 +1,4 @@
-use Rattle.std.proofs.Common.{◌≡◌, ◌∙◌, ◌||◌, ap, nat_eq, ℕ}
+use Rattle.std.proofs.Common.{◌∙◌, ◌||◌, ap, nat_eq, ℕ}
 use Rattle.cs_reclaim.proofs.Noted.{copied_more}
 use Rattle.cs_reclaim.proofs.blanks.any_copy_on.Goals as goal
 

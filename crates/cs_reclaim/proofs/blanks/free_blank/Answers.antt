@@ -1,4 +1,4 @@
-use Rattle.std.proofs.Common.{◌≡◌, ◌∙◌, ℕ, suc, add-one, ap, arith, subst, sym}
+use Rattle.std.proofs.Common.{◌≡◌, ◌∙◌, ℕ, add-one, ap, arith, subst, sym}
 use Rattle.cs_extent.specs.State.{extents_of, shape}
 use Rattle.cs_index.specs.State.{index_of}
 use Rattle.cs_model.specs.Apart.{is_any_swept, is_blank_by, reset_all}
