@@ -47,7 +47,7 @@ module _ (S : Shape) (F : Formats) (shape : IsShape S) (format : IsFormat S F) (
             ),
       )
 
-  untorn : (mask : List Bool) → TornFrom S F s mask (crashed S F s mask)
+  pub untorn : (mask : List Bool) → TornFrom S F s mask (crashed S F s mask)
   untorn mask p = inr refl
 
   -- an image has one number of commands

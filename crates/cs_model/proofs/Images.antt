@@ -82,7 +82,7 @@ module _ (S : Shape) (F : Formats) {opening : Opening} (shape : IsShape S) (form
       )
 
   -- a page that the root found frozen is as it was at open
-  pub frozen_there : (e i : ℕ) → opening.frozen e i (exact.root.0.generations e) ≡ true → 0 < exact.root.0.pointers e
+  frozen_there : (e i : ℕ) → opening.frozen e i (exact.root.0.generations e) ≡ true → 0 < exact.root.0.pointers e
       → Inside S e i
       → img (S.address e i) ≡ page_as_staged S exact.root.0 opened (writes_of w.elements) (S.address e i)
   frozen_there e i fz some inside =
@@ -137,25 +137,22 @@ module _ (S : Shape) (F : Formats) {opening : Opening} (shape : IsShape S) (form
         [] exact.root.0.runs exact.root.0.map (safe.good exact.root.0 exact.root.1).0;
   }
 
-  itself : Alike img
-  itself = record {
-    root = refl;
-    sections = λ j lt. refl;
-    named = λ e i below inside. refl;
-    frozen = λ e i fz some inside. refl;
-  }
-
-  pub recovers : RecoversBut S F (λ a b. opening) img exact.root.0.commands exact.root.0.map
-  recovers = recovers_alike img itself
-
   -- by that root's version and runs
-  pub recovers_root : (recovers.version ≡ exact.root.0.version) × (recovers.runs ≡ exact.root.0.runs)
-  unfolding recovers recovers_alike
-  recovers_root = (refl, refl)
+  pub alike_root : (other : ℕ → Page) (alike : Alike other) → ((recovers_alike other alike).version ≡ exact.root.0.version)
+      × ((recovers_alike other alike).runs ≡ exact.root.0.runs)
+  unfolding recovers_alike
+  alike_root other alike = (refl, refl)
 
-  -- what it has of the pages below the root's pointers
-  pub recovers_frames : (e i : ℕ) → i < exact.root.0.pointers e → Inside S e i
-      → (img (S.address e i) ≡ page_as_staged S exact.root.0 opened (writes_of w.elements) (S.address e i))
-      × (recovers.generations e ≡ exact.root.0.generations e) × (i < recovers.pointers e)
-  unfolding recovers recovers_alike
-  recovers_frames e i below inside = frames_there e i below inside
+  -- what it has of the pages below the root's pointers, and of those that the root found frozen
+  pub alike_frames : (other : ℕ → Page) (alike : Alike other) (e i : ℕ) → i < exact.root.0.pointers e → Inside S e i
+      → (other (S.address e i) ≡ page_as_staged S exact.root.0 opened (writes_of w.elements) (S.address e i))
+      × ((recovers_alike other alike).generations e ≡ exact.root.0.generations e)
+      × (i < (recovers_alike other alike).pointers e)
+  unfolding recovers_alike
+  alike_frames other alike e i below inside =
+      let there = frames_there e i below inside in (alike.named e i below inside ∙ there.0, there.1, there.2)
+
+  pub alike_frozen : (other : ℕ → Page) → Alike other → (e i : ℕ) → opening.frozen e i (exact.root.0.generations e) ≡ true
+      → 0 < exact.root.0.pointers e → Inside S e i
+      → other (S.address e i) ≡ page_as_staged S exact.root.0 opened (writes_of w.elements) (S.address e i)
+  alike_frozen other alike e i fz some inside = alike.frozen e i fz some inside ∙ frozen_there e i fz some inside
