@@ -27,23 +27,25 @@ module _ (S : Shape) (F : Formats) (shape : IsShape S) (format : IsFormat S F) (
       let X : Cut = kept.0 in
       let r : Root = kept.1.exact.root.0 in
       let is : r ∈ roots_of s.world.elements = kept.1.exact.root.1 in
-      let map_is = sound.maps r is in
-      (map_is.0, λ img torn.
-      let whole : RecoversBut S F (λ a b. s.opening) img r.commands r.map = recovers_alike S F shape format s.opened s.world
-      X sound.safe kept.1.low kept.1.high kept.1.exact img (alike S F shape format s sound mask img torn X kept.1 kept.2) in
-      let prefix : RecoversBut S F (λ a b. s.opening) img (s.count + map_is.0) (map_after s.start s.commands map_is.0) =
-      subst (λ (n : ℕ). RecoversBut S F (λ a b. s.opening) img n (map_after s.start s.commands map_is.0)) map_is.2
-      (subst (λ (m : Map). RecoversBut S F (λ a b. s.opening) img r.commands m) map_is.3 whole) in (
-        map_is.1,
-        (λ f front. let last : front.0.commands ≤ r.commands = sound.safe.counts front.0 r front.1 is
-            (le_trans (le_of_eq front.2) (le_trans kept.1.low.root (le_of_eq (sym kept.1.exact.root.2)))) in
-            let fc : front.0.commands ≡ s.count + f = front.3 in let rc : r.commands ≡ s.count + map_is.0 = map_is.2 in
-            omega arith),
-        prefix,
-        (λ undamaged. whole_recovers S F s.opening img (s.count + map_is.0)
-            (map_after s.start s.commands map_is.0) (whole_map s.start s.commands map_is.0 undamaged)
-            (λ on. (sound.filled on).thawed) prefix),
-      ))
+      let map_is = sound.maps r is in (
+        map_is.0,
+        λ img torn.
+            let whole : RecoversBut S F (λ a b. s.opening) img r.commands r.map = recovers_alike S F shape format s.opened s.world
+            X sound.safe kept.1.low kept.1.high kept.1.exact img (alike S F shape format s sound mask img torn X kept.1 kept.2) in
+            let prefix : RecoversBut S F (λ a b. s.opening) img (s.count + map_is.0) (map_after s.start s.commands map_is.0) =
+            subst (λ (n : ℕ). RecoversBut S F (λ a b. s.opening) img n (map_after s.start s.commands map_is.0)) map_is.2
+            (subst (λ (m : Map). RecoversBut S F (λ a b. s.opening) img r.commands m) map_is.3 whole) in (
+              map_is.1,
+              (λ f front. let last : front.0.commands ≤ r.commands = sound.safe.counts front.0 r front.1 is
+                  (le_trans (le_of_eq front.2) (le_trans kept.1.low.root (le_of_eq (sym kept.1.exact.root.2)))) in
+                  let fc : front.0.commands ≡ s.count + f = front.3 in let rc : r.commands ≡ s.count + map_is.0 = map_is.2 in
+                  omega arith),
+              prefix,
+              (λ undamaged. whole_recovers S F s.opening img (s.count + map_is.0)
+                  (map_after s.start s.commands map_is.0) (whole_map s.start s.commands map_is.0 undamaged)
+                  (λ on. (sound.filled on).thawed) prefix),
+            ),
+      )
 
   untorn : (mask : List Bool) → TornFrom S F s mask (crashed S F s mask)
   untorn mask p = inr refl

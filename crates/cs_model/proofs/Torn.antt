@@ -1,20 +1,18 @@
 -- Pages of frames that the round writes aren't named by a root that a crash may leave, so what they hold isn't read.
-use Rattle.std.proofs.Common.{◌≡◌, ◌≢◌, ◌⊎◌, inl, inr, ⊎_elim, ◌↔◌, ℕ, ◌+◌, ◌<◌, ◌≤◌, Bool, true, List, le_refl, le_trans, le_of_eq, true≢false, refl, sym, ap, ◌∙◌, subst, subst₂, arith}
+use Rattle.std.proofs.Common.{◌≡◌, ◌≢◌, ⊎_elim, ℕ, ◌<◌, ◌≤◌, Bool, true, List, le_trans, le_of_eq, true≢false, sym, ap, ◌∙◌, subst, subst₂, arith}
 use Rattle.cs_model.specs.Cut.{Cut, section_of}
-use Rattle.cs_model.specs.Device.{FramePage, Inside, IsShape, Page, PageKind, Place, RootPage, SectionPage, Shape}
-use Rattle.cs_model.specs.Element.{A_write, Map, Root, Write, log_of, roots_of, writes_of}
+use Rattle.cs_model.specs.Device.{FramePage, Inside, IsShape, Page, Place, RootPage, SectionPage, Shape}
+use Rattle.cs_model.specs.Element.{A_write, Root, Write, log_of, roots_of, writes_of}
 use Rattle.cs_model.specs.Formats.{Formats, image}
 use Rattle.cs_model.specs.Frames.{IsFormat}
 use Rattle.cs_model.specs.Guard.{Covers}
 use Rattle.cs_model.specs.Lists.{◌∈◌}
-use Rattle.cs_model.specs.Recovery.{RecoversBut}
 use Rattle.cs_model.specs.Round.{IsMember}
-use Rattle.cs_model.specs.Sound.{GivesFirst, Sound, crashed}
-use Rattle.cs_model.specs.State.{State, map_after}
-use Rattle.cs_model.specs.Torn.{IsBeingWritten, LeavesPrefixTorn, TornFrom}
-use Rattle.cs_model.proofs.Images.{Alike, recovers_alike}
-use Rattle.cs_model.proofs.Rounds.{Between, kept_image}
-use Rattle.cs_model.proofs.Whole.{whole_map, whole_recovers}
+use Rattle.cs_model.specs.Sound.{Sound, crashed}
+use Rattle.cs_model.specs.State.{State}
+use Rattle.cs_model.specs.Torn.{IsBeingWritten, TornFrom}
+use Rattle.cs_model.proofs.Images.{Alike}
+use Rattle.cs_model.proofs.Rounds.{Between}
 
 module _ (S : Shape) (F : Formats) (s : State) (sound : Sound S F s) (r : Root) (is : r ∈ roots_of s.world.elements)
     (low : s.world.persistent.root ≤ r.version) (high : r.version ≤ s.world.round.root) where

@@ -63,14 +63,14 @@ pub fn torn_pages_are_not_read()
 
 /// A crash that tears pages of frames leaves the map after some commands, no fewer than the frontier's, as one does that tears none.
 pub fn a_crash_that_tears_leaves_a_prefix()
-    // So in each sound state,
+    // In each sound state.
     ensures state { (S : Shape) (F : Formats) (s : State) (mask : List Bool)
         → IsShape S → IsFormat S F → Sound S F s → LeavesPrefixTorn S F s mask }
-    // at any moment of an event,
+    // At any moment of an event.
     ensures moment { (S : Shape) (F : Formats) (s t : State) (event : Event) (reply : Reply) (mask : List Bool)
         → IsShape S → IsFormat S F → Sound S F s → Bounded S F s → Step S F s event reply t
         → LeavesPrefixTorn S F s mask × LeavesPrefixTorn S F t mask }
-    // and after any history.
+    // After any history of a store that was opened on an image that gives a map.
     ensures history { (S : Shape) (F : Formats) (img : ℕ → Page) (n : ℕ) (m : Map) (gives : Recovers S F img n m)
         (history : List (Event × Reply)) (t : State) (mask : List Bool)
         → IsShape S → IsFormat S F → History S F (opened_state S F img n m gives) history t
