@@ -9,3 +9,4 @@ pub mod Over
 pub mod Opening
 pub mod Spelling
 pub mod Twins
+pub mod Tearing

@@ -3,6 +3,7 @@
 
 mod faults;
 mod findings;
+mod laws;
 mod notes;
 mod paired;
 mod pairs;
@@ -13,6 +14,7 @@ mod tears;
 
 pub use faults::PairFault;
 pub use findings::{Finding, Half};
+pub use laws::torn_pages_show_a_crash;
 pub use paired::Paired;
 pub use pairs::{Held, PageRules, Pair};
 pub use stores::{StoreRules, find_geometry, pairs_of_store};
