@@ -55,6 +55,7 @@ latest_agrees m n (w ∷ writes) p bytes agree =
     alike : (b : Bool) → (if b then bytes else bytes) ≡ bytes
     alike true = refl
     alike false = refl
+
     one : (b c : Bool) → (w.0 ≡ p → b ≡ c) → (if b then (if w.0 == p then w.1 else bytes) else bytes) ≡ (if c then (if w.0 == p then w.1 else bytes) else bytes)
     one b c same = ⊎_elim
         (λ (goes : w.0 ≡ p). ap (λ (x : Bool). if x then (if w.0 == p then w.1 else bytes) else bytes) (same goes))
@@ -163,6 +164,7 @@ module _ (V : Versions) (pairs : List Pair) (s : State) (c : Image) (are : ArePa
     where
       t : Bool
       t = is_turned V s.durable x
+
       from : (page c (half x (not t)) ≡ page nearest (half x (not t))) ⊎ IsTorn (half x (not t)) → page c (half x (is_turned V c x)) ≡ page nearest (half x (is_turned V nearest x))
       from (inl same) =
           let halves = by_halves t (λ b. page c (half x b) ≡ page nearest (half x b)) (newest_whole k x at) same in

@@ -1,14 +1,15 @@
 -- The pairs of a store lie apart.
-use Rattle.std.proofs.Common.{◌≡◌, ◌⊎◌, inl, inr, ⊎_elim, if◌then◌else◌, ◌==◌, ℕ, zero, suc, ◌+◌, ◌-◌, ◌*◌, ◌<◌, ◌≤◌, Bool, true, false, List, [], ◌∷◌, Some, slice_get, map, nat_lt, refl, sym, ◌∙◌, ap, subst, arith, eq-eqb}
-use Rattle.std.proofs.lemmas.Bool.{cases_lt}
+use Rattle.std.proofs.Common.{◌≡◌, ◌⊎◌, inl, inr, ⊎_elim, if◌then◌else◌, ◌==◌, ℕ, zero, suc, ◌+◌, ◌-◌, ◌*◌, ◌<◌, ◌≤◌, Bool, true, false, List, [], ◌∷◌, ◌++◌, Some, slice_get, map, nat_lt, refl, sym, ◌∙◌, ap, subst, arith, eq-eqb}
+use Rattle.std.proofs.lemmas.Bool.{cases_lt, ne_eqb}
+use Rattle.std.proofs.lemmas.List.FromFn.{map-range_with_len_more}
 use Rattle.std.proofs.lemmas.Bool.Decides.{nat_tests}
-use Rattle.std.proofs.lemmas.Nat.{le-mul_of_pos_right}
+use Rattle.std.proofs.Math.Nat.{le-mul_of_pos_right}
 use Rattle.std.proofs.lemmas.Option.{same_Some}
 use Rattle.std.specs.List.{range_with_len}
 use Rattle.cs_frame.specs.Geometries.{Dimensions, IsGeometry, kept_pages}
 use Rattle.cs_pair.specs.declared.pairs.Pair.{Pair}
 use Rattle.cs_pair.specs.Pairs.{ArePairs, half}
-use Rattle.cs_pair.specs.Stores.{pages_of, store_pair}
+use Rattle.cs_pair.specs.Stores.{pages_of, store_pair, store_pairs}
 
 -- an element of a list that is made of its places
 made_at : {A : Type 0} (f : ℕ → A) (a n k : ℕ) (x : A) → slice_get (map f (range_with_len a n)) k ≡ Some x → (k < n) × (f (a + k) ≡ x)
@@ -60,7 +61,7 @@ module _ (F N S : ℕ) (some : 2 ≤ F) (total : N ≡ 2 + F + 2 * S) where
 frames : (d : Dimensions) → IsGeometry d.format d.extents d.pages d.sections → d.format ≡ 3 → 2 ≤ d.extents * d.pages
 frames d g three =
     let many = subst (λ f. (if f == 3 then 5 else 4) ≤ d.extents) three g.fewest_extents in
-    let some = le-mul_of_pos_right d.extents (omega (arith, g.fewest_pages)) in
+    let some = le-mul_of_pos_right {m = d.pages} d.extents (omega (arith, g.fewest_pages)) in
     omega (arith, many, some)
 
 total_pages : (d : Dimensions) → d.format ≡ 3 → pages_of d ≡ 2 + d.extents * d.pages + 2 * d.sections
@@ -69,7 +70,7 @@ total_pages d three =
     omega (arith, kept)
 
 -- The pairs of a store of format 3 lie apart, on its device.
-pub are_store_pairs : (d : Dimensions) → IsGeometry d.format d.extents d.pages d.sections → d.format ≡ 3 → ArePairs (map (store_pair d) (range_with_len 0 (1 + d.sections))) (pages_of d)
+are_store_pairs : (d : Dimensions) → IsGeometry d.format d.extents d.pages d.sections → d.format ≡ 3 → ArePairs (map (store_pair d) (range_with_len 0 (1 + d.sections))) (pages_of d)
 are_store_pairs d g three =
     let F = d.extents * d.pages in
     let N = pages_of d in
@@ -88,5 +89,24 @@ are_store_pairs d g three =
           one_place F N d.sections some total i j b c (omega (arith, one.0)) (omega (arith, two.0)) (ap (λ (z : Pair). half z b) left ∙ same ∙ sym (ap (λ (z : Pair). half z c) right));
     }
 
-pub no_pairs : (n : ℕ) → ArePairs [] n
+no_pairs : (n : ℕ) → ArePairs [] n
 no_pairs n = record { inside = λ k x twin at. cc; apart = λ i j x y b c at_i at_j same. cc }
+
+-- one pair more was listed
+pub pairs_more : (d : Dimensions) (pairs new : List Pair) (k : ℕ) (x : Pair) → pairs ≡ map (store_pair d) (range_with_len 0 k) → x ≡ store_pair d k → new ≡ pairs ++ x ∷ [] → new ≡ map (store_pair d) (range_with_len 0 (k + 1))
+pairs_more d pairs new k x before is pushed =
+    pushed ∙ ap (λ (l : List Pair). l ++ x ∷ []) before ∙ ap (λ (y : Pair). map (store_pair d) (range_with_len 0 k) ++ y ∷ []) is ∙ sym (map-range_with_len_more (store_pair d) 0 k k (omega arith))
+
+-- and all
+pub listed : (d : Dimensions) (pairs : List Pair) (k : ℕ) → d.format ≡ 3 → k ≡ 1 + d.sections → pairs ≡ map (store_pair d) (range_with_len 0 k) → pairs ≡ store_pairs d
+listed d pairs k three all is =
+    is ∙ ap (λ n. map (store_pair d) (range_with_len 0 n)) all ∙ sym (ap (λ (b : Bool). if b then map (store_pair d) (range_with_len 0 (1 + d.sections)) else []) (eq-eqb d.format 3 three))
+
+pub listed_apart : (d : Dimensions) (pairs : List Pair) (k : ℕ) → IsGeometry d.format d.extents d.pages d.sections → d.format ≡ 3 → k ≡ 1 + d.sections → pairs ≡ map (store_pair d) (range_with_len 0 k) → ArePairs pairs (pages_of d)
+listed_apart d pairs k g three all is = subst (λ (l : List Pair). ArePairs l (pages_of d)) (sym (is ∙ ap (λ n. map (store_pair d) (range_with_len 0 n)) all)) (are_store_pairs d g three)
+
+pub unlisted : (d : Dimensions) (pairs : List Pair) → (d.format ≡ 3 → ⊥) → pairs ≡ [] → pairs ≡ store_pairs d
+unlisted d pairs other none = none ∙ sym (ap (λ (b : Bool). if b then map (store_pair d) (range_with_len 0 (1 + d.sections)) else []) (ne_eqb d.format 3 other))
+
+pub unlisted_apart : (pairs : List Pair) (n : ℕ) → pairs ≡ [] → ArePairs pairs n
+unlisted_apart pairs n none = subst (λ (l : List Pair). ArePairs l n) (sym none) (no_pairs n)

@@ -17,5 +17,5 @@ pub use findings::{Finding, Half};
 pub use laws::torn_pages_show_a_crash;
 pub use paired::Paired;
 pub use pairs::{Held, PageRules, Pair};
-pub use stores::{StoreRules, find_geometry, pairs_of_store};
+pub use stores::{StoreRules, find_geometry, open_store, pairs_of_store};
 pub use tears::Fate;

@@ -1,13 +1,17 @@
 // The pairs of a store.
-ghost use Rattle.std.specs.Prelude.{◌≡◌, ◌≢◌, ◌==◌, ◌&&◌, ◌-◌, ◌<◌, ◌≤◌, IfErr, IfOk};
-ghost use Rattle.cs_disk.specs.Disk.{HasCause, page, seen};
+ghost use Rattle.std.specs.Prelude.{◌≡◌, ◌≢◌, ◌==◌, ◌&&◌, ◌⊎◌, ◌↔◌, ◌-◌, ◌<◌, ◌≤◌, ℕ, IfErr, IfOk, IfSome, MatchResult};
+ghost use Rattle.cs_disk.specs.Disk.{HasCause, flushed, page, seen};
 ghost use Rattle.cs_frame.specs.FirstFormat.{page_zero_fault};
 ghost use Rattle.cs_frame.specs.Geometries.{IsGeometry, IsKnown};
 ghost use Rattle.cs_frame.specs.Superblocks.{superblock_fault};
 ghost use Rattle.cs_pair.specs.Pairs.{ArePairs};
+ghost use Rattle.cs_pair.specs.Paired.{disk_below, pairs_of, rules_of};
 ghost use Rattle.cs_pair.specs.Reads.{OnlyReads};
-ghost use Rattle.cs_pair.specs.Stores.{dimensions_on, last_says, named, pages_of, root_version, section_at, section_version, store_pair, store_pairs, store_version, zero_said};
+ghost use Rattle.cs_pair.specs.Stores.{dimensions_on, last_says, named, pages_of, pairs_where, root_version, section_at, section_version, store_pair, store_pairs, store_version, zero_said};
 
+use crate::faults::PairFault;
+use crate::findings::Finding;
+use crate::paired::Paired;
 use crate::pairs::{PageRules, Pair};
 use cs_disk::{DiskFault, PageDisk};
 use cs_frame::{FormatFault, Geometry, Superblock, decode_root, decode_section, decode_superblock};
@@ -129,11 +133,12 @@ pub fn pairs_of_store(alloc: Global, geometry: Geometry) -> Result<Vec<Pair>, Al
     ensures are { IfOk result (λ pairs. ArePairs pairs.items (pages_of geometry)) }
 {
     let mut pairs = Vec::new(alloc);
-    if geometry.format() == 3 {
-        let count = 1 + u64::from(geometry.sections());
-        for k in 0..count {
-            pairs.push(store_pair(geometry, k))?;
-        }
+    if geometry.format() != 3 {
+        return Ok(pairs);
+    }
+    let count = 1 + u64::from(geometry.sections());
+    for k in 0..count {
+        pairs.push(store_pair(geometry, k))?;
     }
     Ok(pairs)
 }
@@ -141,7 +146,8 @@ pub fn pairs_of_store(alloc: Global, geometry: Geometry) -> Result<Vec<Pair>, Al
 /// The geometry of a store of format 3 whose section this is, where it is the first, and the device has so many pages.
 fn named(pages: u64, superblock: &Superblock) -> Option<Geometry>
     requires { IsGeometry superblock.now.format superblock.now.extent_count superblock.now.pages superblock.now.sections }
-    ensures { result ≡ named pages superblock.now.format superblock.now.extent_count superblock.now.pages superblock.now.sections superblock.now.section }
+    ensures named { result ≡ named pages superblock.now.format superblock.now.extent_count superblock.now.pages superblock.now.sections superblock.now.section }
+    ensures pages { IfSome result (λ d. pages_of d ≡ pages) }
 {
     if superblock.format != 3 || superblock.section != 0 {
         return None;
@@ -168,6 +174,7 @@ fn zero_said(
     bytes: &[u8; 4096],
 ) -> Result<Option<Option<Geometry>>, DiskFault>
     ensures said { IfOk result (λ said. said ≡ zero_said pages (page_zero_fault bytes.now) bytes.now) }
+    ensures pages { IfOk result (λ said. IfSome said (λ named. IfSome named (λ d. pages_of d ≡ pages))) }
     ensures memory { IfErr result (λ fault. fault ≡ DiskFault.OutOfMemory) }
 {
     match decode_superblock(alloc, bytes) {
@@ -182,6 +189,7 @@ fn zero_said(
 /// What the last page says of the geometry.
 fn last_says(alloc: Global, pages: u64, bytes: &[u8; 4096]) -> Result<Option<Geometry>, DiskFault>
     ensures said { IfOk result (λ said. said ≡ last_says pages (superblock_fault 3 bytes.now) bytes.now) }
+    ensures pages { IfOk result (λ said. IfSome said (λ d. pages_of d ≡ pages)) }
     ensures memory { IfErr result (λ fault. fault ≡ DiskFault.OutOfMemory) }
 {
     match decode_section(alloc, bytes, 3) {
@@ -202,6 +210,7 @@ fn read_last<D: PageDisk>(
     requires pages { pages ≡ D.page_count disk.old }
     requires some { 0 < pages }
     ensures said { D.honest disk.old → IfOk result (λ said. said ≡ last_says pages (superblock_fault 3 (page (seen (D.state disk.old)) (pages - 1))) (page (seen (D.state disk.old)) (pages - 1))) }
+    ensures pages { IfOk result (λ said. IfSome said (λ d. pages_of d ≡ pages)) }
     ensures disk { OnlyReads D.PageDisk disk.old disk.new }
     ensures cause { HasCause (D.failure_count disk.old) (D.failure_count disk.new) result }
 {
@@ -220,6 +229,7 @@ fn read_zero<D: PageDisk>(
 ) -> Result<Option<Option<Geometry>>, DiskFault>
     requires { 0 < D.page_count disk.old }
     ensures said { D.honest disk.old → IfOk result (λ said. said ≡ zero_said pages (page_zero_fault (page (seen (D.state disk.old)) 0)) (page (seen (D.state disk.old)) 0)) }
+    ensures pages { IfOk result (λ said. IfSome said (λ named. IfSome named (λ d. pages_of d ≡ pages))) }
     ensures disk { OnlyReads D.PageDisk disk.old disk.new }
     ensures cause { HasCause (D.failure_count disk.old) (D.failure_count disk.new) result }
 {
@@ -238,6 +248,7 @@ pub fn find_geometry<D: PageDisk>(
 ) -> Result<Option<Geometry>, DiskFault>
     requires { 0 < D.page_count disk.old }
     ensures found { D.honest disk.old → IfOk result (λ found. found ≡ dimensions_on (D.page_count disk.old) (seen (D.state disk.old))) }
+    ensures pages { IfOk result (λ found. IfSome found (λ d. pages_of d ≡ D.page_count disk.old)) }
     ensures disk { OnlyReads D.PageDisk disk.old disk.new }
     ensures cause { HasCause (D.failure_count disk.old) (D.failure_count disk.new) result }
 {
@@ -246,5 +257,40 @@ pub fn find_geometry<D: PageDisk>(
         Ok(Some(said)) => Ok(said),
         Ok(None) => read_last(alloc, disk, pages),
         Err(fault) => Err(fault),
+    }
+}
+
+/// The pairs of a store, where there is one.
+fn pairs_where(alloc: Global, geometry: Option<Geometry>) -> Result<Vec<Pair>, AllocError>
+    ensures pairs { IfOk result (λ pairs. pairs.items ≡ pairs_where geometry) }
+    ensures are { (pages : ℕ) → IfSome geometry (λ d. pages_of d ≡ pages) → IfOk result (λ pairs. ArePairs pairs.items pages) }
+{
+    match geometry {
+        Some(geometry) => pairs_of_store(alloc, geometry),
+        None => Ok(Vec::new(alloc)),
+    }
+}
+
+/// Opens the disk of a store whose pages lie in pairs, and tells what the halves hold. Where there is no store of format 3, there are no pairs, and the
+/// disk passes all calls through.
+pub fn open_store<D: PageDisk>(
+    alloc: Global,
+    disk: D,
+) -> Result<(Paired<D, StoreRules>, Vec<Finding>), (PairFault, D)>
+    requires { 0 < D.page_count disk }
+    ensures pairs { D.honest disk → IfOk result (λ opened. pairs_of opened.0 ≡ pairs_where (dimensions_on (D.page_count disk) (seen (D.state disk)))) }
+    ensures rules { D.honest disk → IfOk result (λ opened. (rules_of opened.0).geometry ≡ dimensions_on (D.page_count disk) (seen (D.state disk))) }
+    ensures state { D.honest disk → MatchResult result (λ opened. D.state (disk_below opened.0) ≡ flushed (D.state disk)) (λ refused. (D.state refused.1 ≡ D.state disk) ⊎ (D.state refused.1 ≡ flushed (D.state disk))) }
+    ensures honest { MatchResult result (λ opened. D.honest disk ↔ D.honest (disk_below opened.0)) (λ refused. D.honest disk ↔ D.honest refused.1) }
+    ensures pages { MatchResult result (λ opened. D.page_count (disk_below opened.0) ≡ D.page_count disk) (λ refused. D.page_count refused.1 ≡ D.page_count disk) }
+{
+    let mut disk = disk;
+    let geometry = match find_geometry(alloc, &mut disk) {
+        Ok(geometry) => geometry,
+        Err(fault) => return Err((PairFault::Disk(fault), disk)),
+    };
+    match pairs_where(alloc, geometry) {
+        Ok(pairs) => Paired::open(alloc, disk, StoreRules { alloc, geometry }, pairs),
+        Err(_) => Err((PairFault::Disk(DiskFault::OutOfMemory), disk)),
     }
 }
