@@ -1,5 +1,5 @@
 -- Each run and each chunk fits on an extent.
-use Rattle.std.proofs.Common.{◌≡◌, le_of_eq, le_trans, ℕ, ◌+◌, ◌-◌, ◌*◌, ◌≤◌, List, length, map, ap, ◌∙◌, arith}
+use Rattle.std.proofs.Common.{◌≡◌, le_of_eq, le_trans, ℕ, ◌-◌, ◌*◌, ◌≤◌, List, length, map, ap, ◌∙◌, arith}
 use Rattle.cs_model.specs.Device.{Shape}
 use Rattle.cs_model.specs.Element.{Entry as NamedEntry}
 use Rattle.cs_model.specs.Formats.{ChunkFrame, RunFrame}

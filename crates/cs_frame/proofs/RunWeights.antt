@@ -1,12 +1,12 @@
 -- What the entries of a run weigh, and the bytes and pages that it takes.
-use Rattle.std.proofs.Common.{◌≡◌, ◌↔◌, inl, inr, ℕ, suc, ◌+◌, ◌-◌, ◌*◌, ◌/◌, ◌≤◌, Bool, true, false, List, [], ◌∷◌, length, map, if◌then◌else◌, refl, sym, ap, ◌∙◌, arith}
+use Rattle.std.proofs.Common.{◌≡◌, ◌↔◌, inl, inr, ℕ, ◌+◌, ◌-◌, ◌*◌, ◌/◌, ◌≤◌, Bool, true, false, List, [], ◌∷◌, length, map, if◌then◌else◌, refl, ap, ◌∙◌, arith}
 use Rattle.std.specs.List.{AllByRecursion}
 use Rattle.std.proofs.lemmas.List.{length-map}
 use Rattle.cs_frame.specs.Formats.{as_entry, as_locator, formats_of}
 use Rattle.cs_frame.specs.FormatRuns.{run_size}
 use Rattle.cs_frame.specs.Frames.{page_count}
 use Rattle.cs_frame.specs.Geometries.{run_bytes, weight_bytes}
-use Rattle.cs_frame.specs.PackedRuns.{packed_size, packed_sizes}
+use Rattle.cs_frame.specs.PackedRuns.{packed_sizes}
 use Rattle.cs_frame.specs.Runs.{Entry}
 use Rattle.cs_frame.proofs.RunSizes.{HasSizes, length-spelled_run}
 use Rattle.cs_model.specs.Element.{Entry as NamedEntry}

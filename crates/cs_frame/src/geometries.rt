@@ -307,6 +307,10 @@ impl Geometry {
         ensures { result ≡ most_weight_in self.format self.pages }
     {
         let bytes = 4096 * usize::from(self.pages) - 45;
-        if has_marks(self.format) { bytes } else { bytes / 81 }
+        if has_marks(self.format) {
+            bytes
+        } else {
+            bytes / 81
+        }
     }
 }

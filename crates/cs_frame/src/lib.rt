@@ -36,8 +36,8 @@ pub use laws::{
     first_format_has_one_spelling, formats_are_apart, frame_has_one_spelling,
     frame_is_read_by_its_header, frames_fit_on_an_extent, marks_tell_digests,
     page_zero_has_one_spelling, root_has_one_spelling, run_has_one_spelling, runs_have_sizes,
-    runs_take_what_they_weigh, sections_have_all_extents, sections_tell_pointers, superblock_has_one_spelling,
-    these_formats_are_formats,
+    runs_take_what_they_weigh, sections_have_all_extents, sections_tell_pointers,
+    superblock_has_one_spelling, these_formats_are_formats,
 };
 pub use locators::{Locator, has_marks};
 pub use page_zero::decode_superblock;
