@@ -97,6 +97,19 @@ fn section_at(geometry: Geometry, number: u64) -> u64
     }
 }
 
+impl StoreRules {
+    /// The pairs of the store, where there is one.
+    pub fn pairs(&self) -> Result<Vec<Pair>, AllocError>
+        ensures pairs { IfOk result (λ pairs. pairs.items ≡ pairs_where self.now.geometry) }
+        ensures are { (pages : ℕ) → IfSome self.now.geometry (λ d. pages_of d ≡ pages) → IfOk result (λ pairs. ArePairs pairs.items pages) }
+    {
+        match self.geometry {
+            Some(geometry) => pairs_of_store(self.alloc, geometry),
+            None => Ok(Vec::new(self.alloc)),
+        }
+    }
+}
+
 impl PageRules for StoreRules {
     ghost version = { λ r. store_version r.geometry };
 
@@ -260,17 +273,6 @@ pub fn find_geometry<D: PageDisk>(
     }
 }
 
-/// The pairs of a store, where there is one.
-fn pairs_where(alloc: Global, geometry: Option<Geometry>) -> Result<Vec<Pair>, AllocError>
-    ensures pairs { IfOk result (λ pairs. pairs.items ≡ pairs_where geometry) }
-    ensures are { (pages : ℕ) → IfSome geometry (λ d. pages_of d ≡ pages) → IfOk result (λ pairs. ArePairs pairs.items pages) }
-{
-    match geometry {
-        Some(geometry) => pairs_of_store(alloc, geometry),
-        None => Ok(Vec::new(alloc)),
-    }
-}
-
 /// Opens the disk of a store whose pages lie in pairs, and tells what the halves hold. Where there is no store of format 3, there are no pairs, and the
 /// disk passes all calls through.
 pub fn open_store<D: PageDisk>(
@@ -289,8 +291,9 @@ pub fn open_store<D: PageDisk>(
         Ok(geometry) => geometry,
         Err(fault) => return Err((PairFault::Disk(fault), disk)),
     };
-    match pairs_where(alloc, geometry) {
-        Ok(pairs) => Paired::open(alloc, disk, StoreRules { alloc, geometry }, pairs),
+    let rules = StoreRules { alloc, geometry };
+    match rules.pairs() {
+        Ok(pairs) => Paired::open(alloc, disk, rules, pairs),
         Err(_) => Err((PairFault::Disk(DiskFault::OutOfMemory), disk)),
     }
 }
