@@ -43,6 +43,7 @@ impl<D: PageDisk, R: PageRules> Paired<D, R> {
     ghost use Rattle.cs_pair.specs.declared.pairs.Pair.{Pair};
     ghost use Rattle.cs_pair.specs.Findings.{HasWhole, IsNoneWhole, finding_in};
     ghost use Rattle.cs_pair.specs.Paired.{disk_below, pairs_of, rules_of};
+    ghost use Rattle.cs_pair.specs.Pairs.{AreNewer};
     ghost use Rattle.cs_pair.specs.Reads.{OnlyReads};
 
     /// A disk in these pairs: it flushes the disk below. What lies in the pairs is read later.
@@ -124,7 +125,10 @@ impl<D: PageDisk, R: PageRules> Paired<D, R> {
 
     /// The disk below.
     pub fn disk(&self) -> &D
-        ensures { result.now ≡ disk_below self.now }
+        ensures disk { result.now ≡ disk_below self.now }
+        ensures pairs { ArePairs (pairs_of self.now) (D.page_count (disk_below self.now)) }
+        // Its volatile writes to pairs go to the halves that aren't the newest of its durable image, and are newer.
+        ensures newer { D.honest (disk_below self.now) → AreNewer (R.version (rules_of self.now)) (pairs_of self.now) (D.state (disk_below self.now)) }
     {
         &self.disk
     }

@@ -1,10 +1,11 @@
 // The pairs of a store.
-ghost use Rattle.std.specs.Prelude.{◌≡◌, ◌≢◌, ◌==◌, ◌&&◌, ◌⊎◌, ◌↔◌, ◌-◌, ◌<◌, ◌≤◌, ℕ, IfErr, IfOk, IfSome, MatchResult};
-ghost use Rattle.cs_disk.specs.Disk.{HasCause, flushed, page, seen};
+ghost use Rattle.std.specs.Prelude.{◌≡◌, ◌≢◌, ◌==◌, ◌&&◌, ◌⊎◌, ◌↔◌, ◌-◌, ◌<◌, ◌≤◌, ℕ, All, IfErr, IfOk, IfSome, MatchResult, map};
+ghost use Rattle.cs_disk.specs.Disk.{HasCause, LeavesOnly, MayLeave, Rises, flushed, page, seen};
 ghost use Rattle.cs_frame.specs.FirstFormat.{page_zero_fault};
 ghost use Rattle.cs_frame.specs.Geometries.{IsGeometry, IsKnown};
 ghost use Rattle.cs_frame.specs.Superblocks.{superblock_fault};
 ghost use Rattle.cs_pair.specs.Pairs.{ArePairs};
+ghost use Rattle.cs_pair.specs.Findings.{HasWhole, finding_in};
 ghost use Rattle.cs_pair.specs.Paired.{disk_below, pairs_of, rules_of};
 ghost use Rattle.cs_pair.specs.Reads.{OnlyReads};
 ghost use Rattle.cs_pair.specs.Stores.{dimensions_on, last_says, named, pages_of, pairs_where, root_version, section_at, section_version, store_pair, store_pairs, store_version, zero_said};
@@ -282,9 +283,13 @@ pub fn open_store<D: PageDisk>(
     requires { 0 < D.page_count disk }
     ensures pairs { D.honest disk → IfOk result (λ opened. pairs_of opened.0 ≡ pairs_where (dimensions_on (D.page_count disk) (seen (D.state disk)))) }
     ensures rules { D.honest disk → IfOk result (λ opened. (rules_of opened.0).geometry ≡ dimensions_on (D.page_count disk) (seen (D.state disk))) }
+    ensures findings { D.honest disk → IfOk result (λ opened. opened.1.items ≡ map (finding_in (store_version (dimensions_on (D.page_count disk) (seen (D.state disk)))) (seen (D.state disk))) (pairs_where (dimensions_on (D.page_count disk) (seen (D.state disk))))) }
+    ensures whole { IfOk result (λ opened. All HasWhole opened.1.items) }
     ensures state { D.honest disk → MatchResult result (λ opened. D.state (disk_below opened.0) ≡ flushed (D.state disk)) (λ refused. (D.state refused.1 ≡ D.state disk) ⊎ (D.state refused.1 ≡ flushed (D.state disk))) }
+    ensures crash { D.honest disk → MatchResult result (λ opened. LeavesOnly D.moment D.left_since disk (disk_below opened.0) (MayLeave (D.state disk))) (λ refused. LeavesOnly D.moment D.left_since disk refused.1 (MayLeave (D.state disk))) }
     ensures honest { MatchResult result (λ opened. D.honest disk ↔ D.honest (disk_below opened.0)) (λ refused. D.honest disk ↔ D.honest refused.1) }
     ensures pages { MatchResult result (λ opened. D.page_count (disk_below opened.0) ≡ D.page_count disk) (λ refused. D.page_count refused.1 ≡ D.page_count disk) }
+    ensures cause { IfErr result (λ refused. refused.0 ≡ PairFault.Disk DiskFault.DeviceFault → Rises (D.failure_count disk) (D.failure_count refused.1)) }
 {
     let mut disk = disk;
     let geometry = match find_geometry(alloc, &mut disk) {
