@@ -25,6 +25,6 @@ invariant_of-result g c =
     }
 
 pub returns-clause-state : goal.returns-clause-state
-returns-clause-state g c = λ h.
+returns-clause-state g c = λ h can.
     let self = c.args.self in
-    crash_shows (g.R.PageRules.version self.rules) self.pairs.items _ _ self.apart (g.met.D.PageDisk.sized self.disk h) (self.right h).newer _ c.args.mask.now (c.crash.ensures.state h (c.crashable.ensures.0 c.if-not-crashable.false))
+    crash_shows (g.R.PageRules.version self.rules) self.pairs.items _ _ self.apart (g.met.D.PageDisk.sized self.disk h) (self.right h).newer _ c.args.mask.now (c.crash.ensures.state h can)
