@@ -10,3 +10,4 @@ pub mod Opening
 pub mod Spelling
 pub mod Twins
 pub mod Tearing
+pub mod Telling

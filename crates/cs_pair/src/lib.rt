@@ -14,7 +14,7 @@ mod tears;
 
 pub use faults::PairFault;
 pub use findings::{Finding, Half};
-pub use laws::torn_pages_show_a_crash;
+pub use laws::{the_geometry_is_found, torn_pages_show_a_crash};
 pub use paired::Paired;
 pub use pairs::{Held, PageRules, Pair};
 pub use stores::{StoreRules, find_geometry, open_store, pairs_of_store};
