@@ -1,5 +1,5 @@
 -- What an append leaves of the waiting writes, and what it adds.
-use Rattle.std.proofs.Common.{◌≡◌, ◌≢◌, ◌∙◌, ℕ, zero, suc, ◌+◌, ◌-◌, ◌<◌, ◌≤◌, ◌⊎◌, Bool, true, false, List, [], ◌∷◌, ◌++◌, length, Some, slice_get, get_or, refl, sym, ap, subst, inl, inr, ⊎_elim, arith}
+use Rattle.std.proofs.Common.{◌≡◌, ◌≢◌, ◌∙◌, ℕ, zero, suc, ◌+◌, ◌-◌, ◌<◌, ◌≤◌, ◌⊎◌, Bool, true, false, List, [], ◌∷◌, ◌++◌, length, Some, slice_get, get_or, eq-eqb, refl, sym, ap, subst, inl, inr, ⊎_elim, arith}
 use Rattle.std.specs.Prelude.{◌==◌, if◌then◌else◌, slice_index_or}
 use Rattle.std.proofs.lemmas.Option.{some_pair_parts, slice_get_within}
 use Rattle.cs_chunk.specs.Puts.{AreNewestFrames, IsNewestFrame}
@@ -17,6 +17,7 @@ use Rattle.cs_extent.proofs.Fitting.{pointer_grows, with_same}
 use Rattle.cs_extent.proofs.Given.{in_either}
 use Rattle.cs_extent.proofs.Staged.{get_front}
 use Rattle.cs_frame.specs.declared.locators.Locator.{Locator}
+use Rattle.cs_model.specs.Device.{mark_of}
 use Rattle.cs_model.specs.Extents.{Extents, Purpose as Reason}
 use Rattle.cs_model.specs.Lists.{with}
 use Rattle.cs_model.proofs.Places.{goes_inside}
@@ -174,6 +175,7 @@ module _ {apart_by : Bool} (x : State) (g : Graph) (r : Reason) (frame : List (L
     extent = was.extent;
     given = omega (arith, was.given, pointer_of k.extent, pointer_grows (extents_of x).pointer l.extent (length frame) k.extent);
     behind = λ on. omega (arith, was.behind on, found_of k.extent);
+    meant = was.meant;
     newest = λ i lt. newest_stays ((shape x).address k.extent (k.page + i)) (slice_index_or f i []) (apart_below within k.extent (k.page + i) (omega (arith, was.given, lt))) (was.newest i lt);
   }
 
@@ -182,6 +184,7 @@ module _ {apart_by : Bool} (x : State) (g : Graph) (r : Reason) (frame : List (L
     extent = inside.0;
     given = omega (arith, begins_at, pointer_of l.extent, with_same (extents_of x).pointer l.extent ((extents_of x).pointer l.extent + length frame));
     behind = λ on. omega (arith, found on l.extent, begins_at, found_of l.extent);
+    meant = eq-eqb (mark_of (shape x) frame) l.mark (sym (ap (λ (k : Locator). k.mark) a.place));
     newest = newest_begins;
   }
 

@@ -1,16 +1,18 @@
 -- The faults of frames, as refusals.
-use Rattle.std.proofs.Common.{◌≡◌, ◌≢◌, ◌∙◌, ℕ, ◌≤◌, ◌⊎◌, Bool, true, false, List, [], ◌∷◌, codes, length, Option, Some, None, refl, sym, ap, subst, inl, inr, arith, bytes_eq, nat_le, drop, ◌+◌, slice_index}
+use Rattle.std.proofs.Common.{◌≡◌, ◌≢◌, ◌∙◌, ℕ, ◌≤◌, ◌⊎◌, Bool, true, false, List, [], ◌∷◌, codes, length, Option, Some, None, refl, sym, ap, subst, inl, inr, ⊎_elim, arith, bytes_eq, nat_le, drop, ◌+◌, slice_index}
 use Rattle.std.specs.Prelude.{◌==◌}
 use Rattle.std.proofs.lemmas.Option.{same_Some}
-use Rattle.cs_chunk.specs.Reads.{IsNoAnswer, IsOfFault, IsReadRefusal, refusal_for}
+use Rattle.cs_chunk.specs.Reads.{IsFrameRefusal, IsNoAnswer, IsOfFault, IsReadRefusal, refusal_for}
 use Rattle.cs_deps.specs.declared.refusals.Refusal.{Refusal}
 use Rattle.cs_deps.specs.Refusals.{number_of}
 use Rattle.cs_frame.specs.declared.faults.FormatFault.{FormatFault}
-use Rattle.cs_frame.specs.declared.faults.FormatFault.TheVariants.{BadGeometry, OutOfMemory, BadMagic, BadDigest, BadLength, BadPadding, BadVersion, OutOfOrder}
+use Rattle.cs_frame.specs.declared.faults.FormatFault.TheVariants.{BadGeometry, OutOfMemory, BadMagic, BadDigest, BadLength, BadPadding, BadVersion, OutOfOrder, Misplaced}
 use Rattle.cs_frame.specs.Bytes.{all_zero, field}
 use Rattle.cs_frame.specs.Faults.{fault_number, first_fault, unless}
-use Rattle.cs_frame.specs.Frames.{bytes_in, first_page, frame_count, frame_fault, header_fault, kind_test, page_count, payload_length, payload_test, rest_test, room_test}
+use Rattle.cs_frame.specs.Frames.{bytes_in, first_page, frame_count, frame_fault, header_fault, kind_test, meant_fault, page_count, payload_length, payload_test, rest_test, room_test}
 use Rattle.cs_frame.specs.Pages.{magic_test, version_test}
+use Rattle.cs_frame.proofs.MarkLaws.{meant_finds}
+use Rattle.cs_model.specs.Geometry.{mark_in}
 
 -- the faults that a frame may have
 abbrev pub IsInRange : FormatFault → Type 0
@@ -49,6 +51,7 @@ same_number BadLength = refl
 same_number BadPadding = refl
 same_number BadVersion = refl
 same_number OutOfOrder = refl
+same_number Misplaced = refl
 
 -- the refusal of a fault that was found, unless memory ran out
 pub answered : (f : FormatFault) (found : Option FormatFault) (r : Refusal) → r ≡ refusal_for f → (f ≢ OutOfMemory → found ≡ Some f) → IsNoAnswer r ⊎ IsOfFault found r
@@ -60,6 +63,7 @@ answered BadLength found r is h = inr (BadLength, h (λ e. cc e), is)
 answered BadPadding found r is h = inr (BadPadding, h (λ e. cc e), is)
 answered BadVersion found r is h = inr (BadVersion, h (λ e. cc e), is)
 answered OutOfOrder found r is h = inr (OutOfOrder, h (λ e. cc e), is)
+answered Misplaced found r is h = inr (Misplaced, h (λ e. cc e), is)
 
 not_memory : (f : FormatFault) → IsInRange f → f ≢ OutOfMemory
 not_memory f r e = let same : fault_number f ≡ fault_number OutOfMemory = ap fault_number e in absurd (omega (arith, r.0, same))
@@ -72,12 +76,15 @@ none_found kind pages never = go (frame_fault kind pages) refl
     go None is = refl
     go (Some f) is = absurd (never f (not_memory f (in_range kind pages f is)) is)
 
--- what a frame is refused for is 20 to 24
-pub frame_refusal : (kind : ℕ) (pages : List (List ℕ)) (f : FormatFault) (r : Refusal) → r ≡ refusal_for f → Some f ≡ frame_fault kind pages → (20 ≤ number_of r) × (number_of r ≤ 24)
-frame_refusal kind pages f r is found =
-    let range = in_range kind pages f (sym found) in
+-- what a frame is refused for is 20 to 24, or 26
+pub frame_refusal : (format kind mark : ℕ) (pages : List (List ℕ)) (f : FormatFault) (r : Refusal) → r ≡ refusal_for f → Some f ≡ meant_fault format kind mark pages → IsFrameRefusal r
+frame_refusal format kind mark pages f r is found = ⊎_elim
+    (λ (own : frame_fault kind pages ≡ Some f).
+    let range = in_range kind pages f own in
     let number : number_of r ≡ fault_number f = ap number_of is ∙ same_number f in
-    (omega (arith, number, range.0), omega (arith, number, range.1))
+    inl (omega (arith, number, range.0), omega (arith, number, range.1)))
+    (λ (other : (frame_fault kind pages ≡ None) × (f ≡ Misplaced)). inr (is ∙ ap refusal_for other.1))
+    (meant_finds (frame_fault kind pages) (mark_in format (first_page pages) == mark) f (sym found))
 
 -- so is what a header is refused for
 header_in_range : (kind : ℕ) (first : List ℕ) (there : ℕ) (f : FormatFault) → header_fault kind first there ≡ Some f → IsInRange f
@@ -91,4 +98,4 @@ header_in_range kind first there =
 pub header_refusal : (kind : ℕ) (first : List ℕ) (there : ℕ) (f : FormatFault) (r : Refusal) → number_of r ≡ fault_number f → Some f ≡ header_fault kind first there → IsReadRefusal r
 header_refusal kind first there f r is found =
     let range = header_in_range kind first there f (sym found) in
-    inr (omega (arith, is, range.0), omega (arith, is, range.1))
+    inr (inl (omega (arith, is, range.0), omega (arith, is, range.1)))

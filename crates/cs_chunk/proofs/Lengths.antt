@@ -5,11 +5,11 @@ use Rattle.std.proofs.lemmas.List.{take_more}
 use Rattle.std.proofs.lemmas.List.Sums.{sum_by-append, sum_by-cons}
 use Rattle.std.proofs.lemmas.Option.{same_Some}
 use Rattle.cs_chunk.specs.Chunks.{AreChunksIn, IsFrameIn, end_in, kind_of}
-use Rattle.cs_chunk.specs.Lengths.{AreHeadersIn, IsHeaderRefusal, IsOfHeaderIn, header_fault_in, length_at, lengths_at}
+use Rattle.cs_chunk.specs.Lengths.{AreHeadersIn, IsHeaderRefusal, IsOfFaultOrMark, IsOfHeaderIn, header_fault_in, length_at, lengths_at}
 use Rattle.cs_chunk.specs.Newest.{AreNewest, IsReadAs}
-use Rattle.cs_chunk.specs.Reads.{AnswersFault, IsCaused, IsNoAnswer, IsOfFault, refusal_for}
+use Rattle.cs_chunk.specs.Reads.{AnswersFault, IsCaused, IsNoAnswer, IsOfFault, fault_in, pages_in, refusal_for}
 use Rattle.cs_chunk.proofs.Chunkings.{length-spelled}
-use Rattle.cs_chunk.proofs.Framed.{end_low, header_at, no_fault_there, reads_same}
+use Rattle.cs_chunk.proofs.Framed.{end_low, first_is, header_at, no_fault_there, reads_same}
 use Rattle.cs_chunk.proofs.Newest.{of_stand}
 use Rattle.cs_chunk.proofs.Sharded.{at_place, chunk_at}
 use Rattle.cs_deps.specs.declared.refusals.Refusal.{Refusal}
@@ -26,10 +26,12 @@ use Rattle.cs_frame.specs.declared.locators.Locator.{Locator}
 use Rattle.cs_frame.specs.Bytes.{field}
 use Rattle.cs_frame.specs.Faults.{first_fault, unless}
 use Rattle.cs_frame.specs.Formats.{formats_of, kind_number}
-use Rattle.cs_frame.specs.Frames.{first_page, frame_bytes, header_fault, kind_byte, kind_test, page_count, payload_length, room_test, spelled_frame}
+use Rattle.cs_frame.specs.Frames.{first_page, frame_bytes, frame_fault, header_fault, kind_byte, kind_test, meant_header_fault, page_count, payload_length, room_test, spelled_frame}
 use Rattle.cs_frame.specs.Pages.{version_test}
 use Rattle.cs_frame.proofs.Fields.{number_at}
+use Rattle.cs_frame.proofs.MarkLaws.{meant_finds, meant_passes, passes_meant}
 use Rattle.cs_frame.proofs.GeometryLaws.{bounds}
+use Rattle.cs_model.specs.Geometry.{mark_in}
 use Rattle.cs_model.specs.Index.{joined}
 
 -- ---- the refusals of a header
@@ -47,11 +49,14 @@ header_refuses kind first there =
     more Refuses (bytes_eq (field 0 3 first) (codes "CSF")) BadMagic (version_test first ∷ kind_test kind first ∷ room_test first there ∷ []) (inr (inl refl))
     (more Refuses (slice_index first 3 == 49) BadVersion (kind_test kind first ∷ room_test first there ∷ []) (inr (inr (inl refl)))
     (more Refuses (slice_index first 4 == kind) BadVersion (room_test first there ∷ []) (inr (inr (inl refl)))
-    (more Refuses (nat_le (page_count (payload_length first)) there) BadLength [] (inr (inr (inr refl)))
+    (more Refuses (nat_le (page_count (payload_length first)) there) BadLength [] (inr (inr (inr (inl refl))))
     (λ f h. absurd (cc h)))))
 
-pub header_is_refused : (kind : ℕ) (first : List ℕ) (there : ℕ) (f : FormatFault) (r : Refusal) → r ≡ refusal_for f → Some f ≡ header_fault kind first there → IsHeaderRefusal r
-header_is_refused kind first there f r is found = subst IsHeaderRefusal (sym is) (header_refuses kind first there f (sym found))
+pub header_is_refused : (format kind mark : ℕ) (first : List ℕ) (there : ℕ) (f : FormatFault) (r : Refusal) → r ≡ refusal_for f → Some f ≡ meant_header_fault format kind mark first there → IsHeaderRefusal r
+header_is_refused format kind mark first there f r is found = subst IsHeaderRefusal (sym is) (⊎_elim
+    (λ (own : header_fault kind first there ≡ Some f). header_refuses kind first there f own)
+    (λ (other : (header_fault kind first there ≡ None) × (f ≡ fault.Misplaced)). subst Refuses (sym other.1) (inr (inr (inr (inr refl)))))
+    (meant_finds (header_fault kind first there) (mark_in format first == mark) f (sym found)))
 
 -- none of them is the device's
 not_device : (f : FormatFault) → refusal_for f ≡ DeviceFault → ⊥
@@ -63,6 +68,7 @@ not_device fault.BadLength e = cc e
 not_device fault.BadPadding e = cc e
 not_device fault.BadVersion e = cc e
 not_device fault.OutOfOrder e = cc e
+not_device fault.Misplaced e = cc e
 
 pub header_caused : {T U : Type 0} (before after : ℕ) (page : Result U Refusal) (f : FormatFault) (r : Refusal) → r ≡ refusal_for f → IsCaused before after page → IsCaused {T = T} before after (Err r)
 header_caused before after page f r is cause = record { later = cause.later; failed = λ device. (let e : r ≡ DeviceFault = cc device in absurd (not_device f (sym is ∙ e))) }
@@ -90,6 +96,31 @@ both a b c d first second = omega (arith, first, second)
 abbrev pub AreTold : State → (view : ℕ → List ℕ) → List Locator → ℕ → ℕ → Type 0
 AreTold x view ls k total = AreHeadersIn x view (take k ls) × (total ≡ lengths_at (shape x) view (take k ls))
 
+-- where a frame has no fault its header has none
+none_of_header : (x : State) → IsWhole x → (view : ℕ → List ℕ) (kind : FrameKind) (l : Locator) → l.page < x.pages → fault_in x view kind l ≡ None → header_fault_in x view kind l ≡ None
+none_of_header x whole view kind l inside none =
+    let passes = meant_passes (frame_fault (kind_byte kind) (pages_in x view l)) (mark_in (shape x).format (first_page (pages_in x view l))) l.mark none in
+    passes_meant (header_fault (kind_byte kind) first (end_in x l - l.page)) (mark_in (shape x).format first) l.mark
+    (go (header_fault (kind_byte kind) first (end_in x l - l.page)) refl)
+    (ap (mark_in (shape x).format) (sym (first_is x whole view kind l inside)) ∙ passes.1)
+  where
+    first : List ℕ
+    first = view ((shape x).address l.extent l.page)
+
+    go : (found : Option FormatFault) → header_fault (kind_byte kind) first (end_in x l - l.page) ≡ found → found ≡ None
+    go None is = refl
+    go (Some f) is = let some = header_at x whole view kind l inside f is in absurd (cc (none, some))
+
+-- what a header is refused for, the frame is, or it has another mark, and a fault
+pub mark_or_fault : (x : State) → IsWhole x → (view : ℕ → List ℕ) (kind : FrameKind) (l : Locator) → l.page < x.pages → (f : FormatFault) (r : Refusal) → header_fault_in x view kind l ≡ Some f → r ≡ refusal_for f
+    → IsOfFaultOrMark (fault_in x view kind l) r
+mark_or_fault x whole view kind l inside f r found is =
+    let first : List ℕ = view ((shape x).address l.extent l.page) in
+    ⊎_elim
+    (λ (own : header_fault (kind_byte kind) first (end_in x l - l.page) ≡ Some f). inl (f, header_at x whole view kind l inside f own, is))
+    (λ (other : (header_fault (kind_byte kind) first (end_in x l - l.page) ≡ None) × (f ≡ fault.Misplaced)). inr (is ∙ ap refusal_for other.1, λ none. let no = none_of_header x whole view kind l inside none in cc (no, found)))
+    (meant_finds (header_fault (kind_byte kind) first (end_in x l - l.page)) (mark_in (shape x).format first == l.mark) f found)
+
 module _ (x : State) (whole : IsWhole x) (view : ℕ → List ℕ) where
   module _ (kind : FrameKind) (l : Locator) where
     module _ (payload : List ℕ) (at : IsFrameIn x view (kind_of kind) l payload) where
@@ -113,17 +144,7 @@ module _ (x : State) (whole : IsWhole x) (view : ℕ → List ℕ) where
 
       -- and has no fault
       pub header_there : header_fault_in x view kind l ≡ None
-      header_there = go (header_fault_in x view kind l) refl
-        where
-          inside : l.page < x.pages
-          inside = omega (arith, at.0, low, size)
-
-          go : (found : Option FormatFault) → header_fault_in x view kind l ≡ found → found ≡ None
-          go None is = refl
-          go (Some f) is =
-              let none = no_fault_there x whole view kind l inside payload at in
-              let some = header_at x whole view kind l inside f is in
-              absurd (cc (none, some))
+      header_there = none_of_header x whole view kind l (omega (arith, at.0, low, size)) (no_fault_there x whole view kind l (omega (arith, at.0, low, size)) payload at)
 
     -- what is there is told
     pub tells_it : (result : Result ℕ Refusal) (payload : List ℕ) → AnswersFault (header_fault_in x view kind l) result → IfOk result (λ n. n ≡ length_at (shape x) view l)
@@ -142,8 +163,11 @@ module _ (x : State) (whole : IsWhole x) (view : ℕ → List ℕ) where
       pub told_there : (n : ℕ) → n ≡ payload_length first → n ≡ length_at (shape x) view l
       told_there n told = told ∙ ap payload_length first_there
 
-      pub fault_there : (there : ℕ) → there ≡ end_in x l - l.page → header_fault_in x view kind l ≡ header_fault (kind_byte kind) first there
-      fault_there there same = ap (λ b. header_fault (kind_byte kind) b (end_in x l - l.page)) (sym first_there) ∙ ap (λ n. header_fault (kind_byte kind) first n) (sym same)
+      pub fault_there : (format there : ℕ) → format ≡ (shape x).format → there ≡ end_in x l - l.page → header_fault_in x view kind l ≡ meant_header_fault format (kind_byte kind) l.mark first there
+      fault_there format there is same =
+          ap (λ b. meant_header_fault (shape x).format (kind_byte kind) l.mark b (end_in x l - l.page)) (sym first_there)
+          ∙ ap (λ n. meant_header_fault (shape x).format (kind_byte kind) l.mark first n) (sym same)
+          ∙ ap (λ n. meant_header_fault n (kind_byte kind) l.mark first there) (sym is)
 
   -- ---- of a shard
 

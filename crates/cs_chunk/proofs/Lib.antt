@@ -10,5 +10,6 @@ pub mod FrameFaults
 pub mod OnlyRead
 pub mod Framed
 pub mod Sharded
+pub mod Digests
 pub mod Lengths
 pub mod Staying

@@ -166,6 +166,7 @@ put_reads x g image view (l ∷ ls) (c ∷ cs) within are newest =
       (
         omega (arith, newest.0.given, within l.extent, end_behind (shape x) ((extents_of x).found l.extent) l.page newest.0.behind),
         stand_of S (formats_of S) view l.extent l.page frame (λ i lt. reads_newest g image view (S.address l.extent (l.page + i)) (get_or frame i []) are (newest.0.newest i lt)),
+        newest.0.meant,
       ),
       put_reads x g image view ls cs within are newest.1,
     )

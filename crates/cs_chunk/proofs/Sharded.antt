@@ -1,13 +1,14 @@
 -- The chunks of a shard, read one after another.
 use Rattle.std.proofs.Common.{◌≡◌, ◌∙◌, ℕ, zero, suc, ◌+◌, ◌<◌, ◌≤◌, ◌⊎◌, List, [], ◌∷◌, ◌++◌, length, take, get_or, Some, slice_get, append-nil, append_assoc, refl, sym, ap, subst, inl, inr, ⊎_elim, arith, Result, Ok, Err, MatchResult, take_all}
 use Rattle.std.proofs.lemmas.List.{take_more}
-use Rattle.cs_chunk.specs.Chunks.{AreChunksIn, IsFrameIn}
+use Rattle.cs_chunk.specs.Chunks.{AreChunksIn, AreMeant, IsFrameIn, IsMeant}
 use Rattle.cs_chunk.specs.Reads.{IsNoAnswer, IsOfChunkIn, IsOfFault, fault_in}
 use Rattle.cs_chunk.proofs.Framed.{no_fault_there, one_frame}
 use Rattle.cs_deps.specs.declared.refusals.Refusal.{Refusal}
 use Rattle.cs_extent.specs.State.{IsWhole, State}
 use Rattle.cs_frame.specs.declared.frames.FrameKind.TheVariants.{Chunk}
 use Rattle.cs_frame.specs.declared.locators.Locator.{Locator}
+use Rattle.cs_model.specs.Device.{Shape}
 use Rattle.cs_model.specs.Formats.{ChunkFrame}
 use Rattle.cs_model.specs.Index.{joined}
 
@@ -34,6 +35,26 @@ one_more x view ls k l bytes new chunk c lt at was is same pushed = (
 
 pub all_read : (x : State) (view : ℕ → List ℕ) (ls : List Locator) (k : ℕ) (bytes : List ℕ) → length ls ≤ k → IsRead x view ls k bytes → (cs : List (List ℕ)) × AreChunksIn x view ls cs × (bytes ≡ joined cs)
 all_read x view ls k bytes le was = (was.0, subst (λ ks. AreChunksIn x view ks was.0) (take_all k ls le) was.1, was.2)
+
+meant_more : (S : Shape) (ls : List Locator) (cs : List (List ℕ)) (l : Locator) (c : List ℕ) → AreMeant S ls cs → IsMeant S ChunkFrame l c → AreMeant S (ls ++ l ∷ []) (cs ++ c ∷ [])
+meant_more S [] [] l c are is = (is, tt)
+meant_more S (k ∷ ls) (d ∷ cs) l c are is = (are.0, meant_more S ls cs l c are.1 is)
+meant_more S [] (d ∷ cs) l c are is = absurd are
+meant_more S (k ∷ ls) [] l c are is = absurd are
+
+-- these bytes are those of chunks that the first k places mean
+abbrev pub IsMeantSoFar : Shape → List Locator → ℕ → List ℕ → Type 0
+IsMeantSoFar S ls k bytes = (cs : List (List ℕ)) × AreMeant S (take k ls) cs × (bytes ≡ joined cs)
+
+pub one_meant_more : (S : Shape) (ls : List Locator) (k : ℕ) (l : Locator) (bytes new chunk c : List ℕ) → k < length ls → l ≡ get_or ls k l → IsMeantSoFar S ls k bytes → IsMeant S ChunkFrame l chunk → c ≡ chunk → new ≡ bytes ++ c → IsMeantSoFar S ls (k + 1) new
+one_meant_more S ls k l bytes new chunk c lt at was is same pushed = (
+  was.0 ++ chunk ∷ [],
+  subst (λ ks. AreMeant S ks (was.0 ++ chunk ∷ [])) (sym (take_more ls k l lt ∙ ap (λ (m : Locator). take k ls ++ m ∷ []) (sym at))) (meant_more S (take k ls) was.0 l chunk was.1 is),
+  pushed ∙ ap (λ (ys : List ℕ). bytes ++ ys) same ∙ ap (λ (ys : List ℕ). ys ++ chunk) was.2 ∙ sym (joined_more was.0 chunk),
+)
+
+pub meant_all : (S : Shape) (ls : List Locator) (k : ℕ) (bytes : List ℕ) → length ls ≤ k → IsMeantSoFar S ls k bytes → (cs : List (List ℕ)) × AreMeant S ls cs × (bytes ≡ joined cs)
+meant_all S ls k bytes le was = (was.0, subst (λ ks. AreMeant S ks was.0) (take_all k ls le) was.1, was.2)
 
 pub at_place : (ls : List Locator) (k : ℕ) (l : Locator) → k < length ls → l ≡ get_or ls k l → slice_get ls k ≡ Some l
 at_place [] k l lt at = absurd (omega (arith, lt))

@@ -1,10 +1,12 @@
 -- Where frames are read, and the chunks of a shard.
-use Rattle.std.specs.Prelude.{◌+◌, ◌≤◌, ℕ, List, [], ◌∷◌, length}
+use Rattle.std.specs.Prelude.{◌≡◌, ◌+◌, ◌≤◌, ℕ, true, List, [], ◌∷◌, length}
 use Rattle.cs_extent.specs.State.{State, extents_of, shape}
 use Rattle.cs_frame.specs.declared.frames.FrameKind.{FrameKind as Kind}
 use Rattle.cs_frame.specs.declared.frames.FrameKind.TheVariants.{Chunk, Run}
 use Rattle.cs_frame.specs.declared.locators.Locator.{Locator}
 use Rattle.cs_frame.specs.Formats.{formats_of}
+use Rattle.cs_frame.specs.Frames.{digest_front}
+use Rattle.cs_model.specs.Device.{Shape, is_meant}
 use Rattle.cs_model.specs.Extents.{reach}
 use Rattle.cs_model.specs.Formats.{ChunkFrame, FrameKind, RunFrame, Stand}
 
@@ -17,10 +19,15 @@ kind_of Run = RunFrame
 abbrev pub end_in : State → Locator → ℕ
 end_in x l = reach (shape x) ((extents_of x).found l.extent) l.page
 
--- the frame of this payload begins at l, and reaches no further than it may
+-- the frame of this payload is the one that l means
+abbrev pub IsMeant : Shape → FrameKind → Locator → (payload : List ℕ) → Type 0
+IsMeant S kind l payload = is_meant S l.mark ((formats_of S).frame kind payload) ≡ true
+
+-- the frame of this payload begins at l, reaches no further than it may, and is the one that l means
 abbrev pub IsFrameIn : State → (view : ℕ → List ℕ) → FrameKind → Locator → (payload : List ℕ) → Type 0
 IsFrameIn x view kind l payload = (l.page + length ((formats_of (shape x)).frame kind payload) ≤ end_in x l)
     × Stand (shape x) (formats_of (shape x)) view l.extent l.page ((formats_of (shape x)).frame kind payload)
+    × IsMeant (shape x) kind l payload
 
 -- these chunks have their frames at these places
 abbrev pub AreChunksIn : State → (view : ℕ → List ℕ) → List Locator → (chunks : List (List ℕ)) → Type 0
@@ -28,3 +35,17 @@ AreChunksIn x view [] [] = Unit {0}
 AreChunksIn x view (l ∷ ls) (c ∷ cs) = IsFrameIn x view ChunkFrame l c × AreChunksIn x view ls cs
 AreChunksIn x view [] (c ∷ cs) = ⊥
 AreChunksIn x view (l ∷ ls) [] = ⊥
+
+-- the frames of these chunks are those that these places mean
+abbrev pub AreMeant : Shape → List Locator → (chunks : List (List ℕ)) → Type 0
+AreMeant S [] [] = Unit {0}
+AreMeant S (l ∷ ls) (c ∷ cs) = IsMeant S ChunkFrame l c × AreMeant S ls cs
+AreMeant S [] (c ∷ cs) = ⊥
+AreMeant S (l ∷ ls) [] = ⊥
+
+-- the digests of these texts and of those begin with the same eight bytes, one by one
+abbrev pub AgreeInDigests : List (List ℕ) → List (List ℕ) → Type 0
+AgreeInDigests [] [] = Unit {0}
+AgreeInDigests (c ∷ cs) (d ∷ ds) = (digest_front c ≡ digest_front d) × AgreeInDigests cs ds
+AgreeInDigests [] (d ∷ ds) = ⊥
+AgreeInDigests (c ∷ cs) [] = ⊥

@@ -1,29 +1,34 @@
 -- The lengths of payloads, as the first pages of their frames say them.
-use Rattle.std.specs.Prelude.{◌≡◌, ◌⊎◌, ◌-◌, ℕ, List, Option, Some, None, slice_get, take}
+use Rattle.std.specs.Prelude.{◌≡◌, ◌≢◌, ◌⊎◌, ◌-◌, ℕ, List, Option, Some, None, slice_get, take}
 use Rattle.std.specs.List.{AllByRecursion, sum_by}
 use Rattle.cs_chunk.specs.Chunks.{end_in}
 use Rattle.cs_chunk.specs.Reads.{IsNoAnswer, IsOfFault}
 use Rattle.cs_deps.specs.declared.refusals.Refusal.{Refusal}
-use Rattle.cs_deps.specs.declared.refusals.Refusal.TheVariants.{BadLength, BadMagic, BadVersion}
+use Rattle.cs_deps.specs.declared.refusals.Refusal.TheVariants.{BadLength, BadMagic, BadVersion, Misplaced}
 use Rattle.cs_extent.specs.State.{State, shape}
 use Rattle.cs_frame.specs.declared.faults.FormatFault.{FormatFault}
 use Rattle.cs_frame.specs.declared.frames.FrameKind.{FrameKind}
 use Rattle.cs_frame.specs.declared.frames.FrameKind.TheVariants.{Chunk}
 use Rattle.cs_frame.specs.declared.locators.Locator.{Locator}
-use Rattle.cs_frame.specs.Frames.{header_fault, kind_byte, payload_length}
+use Rattle.cs_frame.specs.Frames.{kind_byte, meant_header_fault, payload_length}
 use Rattle.cs_model.specs.Device.{Shape}
 
--- the first test that fails of the header at a place in these extents
+-- the first test that fails of the header at a place in these extents, the last of which is that its frame is the one that l means
 abbrev pub header_fault_in : State → (view : ℕ → List ℕ) → FrameKind → Locator → Option FormatFault
-header_fault_in x view kind l = header_fault (kind_byte kind) (view ((shape x).address l.extent l.page)) (end_in x l - l.page)
+header_fault_in x view kind l = meant_header_fault (shape x).format (kind_byte kind) l.mark (view ((shape x).address l.extent l.page)) (end_in x l - l.page)
 
 -- the length of a payload that the header at a place says
 abbrev pub length_at : Shape → (view : ℕ → List ℕ) → Locator → ℕ
 length_at S view l = payload_length (view (S.address l.extent l.page))
 
--- the device or memory refused, or one of a header's tests: 1, 9, 20, 22 and 24
+-- the device or memory refused, or one of a header's tests: 1, 9, 20, 22, 24 and 26
 abbrev pub IsHeaderRefusal : Refusal → Type 0
-IsHeaderRefusal r = IsNoAnswer r ⊎ (r ≡ BadMagic) ⊎ (r ≡ BadVersion) ⊎ (r ≡ BadLength)
+IsHeaderRefusal r = IsNoAnswer r ⊎ (r ≡ BadMagic) ⊎ (r ≡ BadVersion) ⊎ (r ≡ BadLength) ⊎ (r ≡ Misplaced)
+
+-- The refusal is that of a frame's fault; or it is 26, and the frame has a fault: its header has another mark, and whether the frame is
+-- damaged or another one shows behind the header.
+abbrev pub IsOfFaultOrMark : Option FormatFault → Refusal → Type 0
+IsOfFaultOrMark found r = IsOfFault found r ⊎ ((r ≡ Misplaced) × (found ≢ None))
 
 -- a chunk's header is at each of these places
 abbrev pub AreHeadersIn : State → (view : ℕ → List ℕ) → List Locator → Type 0

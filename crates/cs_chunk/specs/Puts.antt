@@ -8,7 +8,7 @@ use Rattle.cs_extent.specs.State.{State, extents_of, shape}
 use Rattle.cs_extent.specs.Worn.{AreWornBy}
 use Rattle.cs_frame.specs.declared.locators.Locator.{Locator}
 use Rattle.cs_model.specs.Append.{page_counts}
-use Rattle.cs_model.specs.Device.{Shape}
+use Rattle.cs_model.specs.Device.{Shape, is_meant}
 use Rattle.cs_model.specs.Extents.{Extents, FitsBy, ForPut}
 
 -- these frames may be appended, one after another, where chunks and runs lie apart or not, and nothing refuses one of them
@@ -23,12 +23,13 @@ pub record MayPut (apart : Bool) (x : State) (g : Graph) (frames : List (List (L
   pub numbers : AreWornBy apart x g.staging ForPut (page_counts frames) → ⊥
   pub room : length frames + sum (page_counts frames) ≤ g.room
 
--- the frame at l lies below the pointer of its extent, where extents are filled up behind what counts as found there, and the newest
--- waiting writes are its pages
+-- the frame at l lies below the pointer of its extent, where extents are filled up behind what counts as found there, it is the one that
+-- l means, and the newest waiting writes are its pages
 pub record IsNewestFrame (S : Shape) (x : Extents) (g : Graph) (l : Locator) (frame : List (List ℕ)) : Type 0 where
   pub extent : l.extent < S.extents
   pub given : l.page + length frame ≤ x.pointer l.extent
   pub behind : S.fills ≡ true → x.found l.extent ≤ l.page
+  pub meant : is_meant S l.mark frame ≡ true
   pub newest : (i : ℕ) → i < length frame → IsNewestOn g (S.address l.extent (l.page + i)) (slice_index_or frame i [])
 
 -- the same of each of these frames

@@ -15,7 +15,7 @@ use Rattle.cs_frame.specs.declared.frames.FrameKind.{FrameKind}
 use Rattle.cs_frame.specs.declared.frames.FrameKind.TheVariants.{Chunk}
 use Rattle.cs_frame.specs.declared.locators.Locator.{Locator}
 use Rattle.cs_frame.specs.Formats.{formats_of}
-use Rattle.cs_frame.specs.Frames.{frame_count, frame_fault, kind_byte}
+use Rattle.cs_frame.specs.Frames.{frame_count, kind_byte, meant_fault}
 use Rattle.cs_model.specs.Formats.{pages_from}
 
 -- the refusal with the number of a fault
@@ -28,14 +28,19 @@ refusal_for fault.BadLength = refusal.BadLength
 refusal_for fault.BadPadding = refusal.BadPadding
 refusal_for fault.BadVersion = refusal.BadVersion
 refusal_for fault.OutOfOrder = refusal.OutOfOrder
+refusal_for fault.Misplaced = refusal.Misplaced
 
 -- the device or memory refused
 abbrev pub IsNoAnswer : Refusal → Type 0
 IsNoAnswer r = (r ≡ refusal.DeviceFault) ⊎ (r ≡ refusal.OutOfMemory)
 
--- the device or memory refused, or the frame is damaged: 1, 9 and 20 to 24
+-- the frame is damaged, or it is another one: 20 to 24, and 26
+abbrev pub IsFrameRefusal : Refusal → Type 0
+IsFrameRefusal r = ((20 ≤ number_of r) × (number_of r ≤ 24)) ⊎ (r ≡ refusal.Misplaced)
+
+-- the device or memory refused, or the frame is damaged or another one: 1, 9, 20 to 24 and 26
 abbrev pub IsReadRefusal : Refusal → Type 0
-IsReadRefusal r = IsNoAnswer r ⊎ ((20 ≤ number_of r) × (number_of r ≤ 24))
+IsReadRefusal r = IsNoAnswer r ⊎ IsFrameRefusal r
 
 -- the refusal is that of this fault, where there is one
 abbrev pub IsOfFault : Option FormatFault → Refusal → Type 0
@@ -49,9 +54,9 @@ AnswersFault found result = MatchResult result (λ _. found ≡ None) (λ r. IsN
 abbrev pub pages_in : State → (view : ℕ → List ℕ) → Locator → List (List ℕ)
 pages_in x view l = pages_from (shape x) (formats_of (shape x)) view l.extent l.page (end_in x l - l.page)
 
--- the first test that fails of the frame there
+-- the first test that fails of the frame there, the last of which is that it is the one that l means
 abbrev pub fault_in : State → (view : ℕ → List ℕ) → FrameKind → Locator → Option FormatFault
-fault_in x view kind l = frame_fault (kind_byte kind) (pages_in x view l)
+fault_in x view kind l = meant_fault (shape x).format (kind_byte kind) l.mark (pages_in x view l)
 
 -- the pages are those of the frame that the first of all pages begins, as many as its header counts
 pub record IsFrameFront (all pages : List (List ℕ)) : Type 0 where

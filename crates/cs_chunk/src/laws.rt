@@ -1,5 +1,6 @@
 //! Laws of what is read.
-ghost use Rattle.std.specs.Prelude.{◌≡◌, ◌≢◌, ℕ, true, List};
+ghost use Rattle.std.specs.Prelude.{◌≡◌, ◌≢◌, ◌⊎◌, ℕ, true, List};
+ghost use Rattle.cs_chunk.specs.Chunks.{AgreeInDigests, AreMeant};
 ghost use Rattle.cs_chunk.specs.Newest.{AreNewest};
 ghost use Rattle.cs_chunk.specs.Stays.{IsBelow};
 ghost use Rattle.cs_deps.specs.State.{IsWhole as IsWholeGraph, State as GraphState};
@@ -8,8 +9,11 @@ ghost use Rattle.cs_extent.specs.Appended.{IsAppended, IsAppendedBy};
 ghost use Rattle.cs_extent.specs.State.{IsWhole, State, extents_of, shape};
 ghost use Rattle.cs_frame.specs.declared.locators.Locator.{Locator as Place};
 ghost use Rattle.cs_frame.specs.Formats.{formats_of};
+ghost use Rattle.cs_frame.specs.Frames.{digest_front};
 ghost use Rattle.cs_model.specs.Extents.{Extents as Given, Purpose, emptied};
 ghost use Rattle.cs_model.specs.Formats.{Stand};
+ghost use Rattle.cs_model.specs.Geometry.{marks_in};
+ghost use Rattle.cs_model.specs.Index.{joined};
 
 /// Each page reads as one list of bytes.
 pub fn pages_have_one_newest()
@@ -30,4 +34,14 @@ pub fn what_was_put_stays()
         → IsBelow (extents_of x) k old → Stand (shape x) (formats_of (shape x)) view k.extent k.page old
         → Stand (shape x) (formats_of (shape x)) now k.extent k.page old × IsBelow (extents_of y) k old }
     ensures reset { (x : Given) (e root : ℕ) (k : Place) (old : List (List ℕ)) → k.extent ≢ e → IsBelow x k old → IsBelow (emptied x e root) k old }
+{}
+
+/// In a format that has marks, chunks that the same places mean have digests that begin with the same eight bytes, chunk by chunk: so the
+/// bytes are the same, or two different texts agree in eight bytes of their digests. What is read at the places of chunks that were put is
+/// what was put, so far, whatever the disk answers.
+pub fn places_tell_digests()
+    ensures digests { (x : State) (ls : List Place) (cs ds : List (List ℕ)) → marks_in x.format ≡ true
+        → AreMeant (shape x) ls cs → AreMeant (shape x) ls ds → AgreeInDigests cs ds }
+    ensures bytes { (cs ds : List (List ℕ)) → AgreeInDigests cs ds
+        → (joined cs ≡ joined ds) ⊎ ((c d : List ℕ) × (c ≢ d) × (digest_front c ≡ digest_front d)) }
 {}

@@ -11,7 +11,7 @@ mod refusals;
 mod shards;
 
 pub use chunks::shard_bytes;
-pub use laws::{pages_have_one_newest, what_was_put_stays};
+pub use laws::{pages_have_one_newest, places_tell_digests, what_was_put_stays};
 pub use puts::{put_chunks, put_chunks_by, put_fits, put_fits_by};
 pub use reads::{frame_at, read_frame, read_length};
 pub use refusals::{refusal_of_disk, refusal_of_fault};

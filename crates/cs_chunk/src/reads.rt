@@ -1,21 +1,23 @@
 //! Reads of frames.
 ghost use Rattle.std.specs.Prelude.{◌≡◌, ◌⊎◌, ◌+◌, ◌*◌, ◌-◌, ◌^◌, ◌<◌, ◌≤◌, ℕ, List, IfErr, IfOk, IsOk, MatchResult, OnOk, length};
-ghost use Rattle.cs_chunk.specs.Chunks.{IsFrameIn, end_in, kind_of};
-ghost use Rattle.cs_chunk.specs.Lengths.{IsHeaderRefusal, header_fault_in, length_at};
+ghost use Rattle.cs_chunk.specs.Chunks.{IsFrameIn, IsMeant, end_in, kind_of};
+ghost use Rattle.cs_chunk.specs.Lengths.{IsHeaderRefusal, IsOfFaultOrMark, header_fault_in, length_at};
 ghost use Rattle.cs_chunk.specs.Newest.{AreNewest, IsReadAs};
-ghost use Rattle.cs_chunk.specs.Reads.{AnswersFault, AreReadAs, IsCaused, IsFrameFront, IsNoAnswer, IsOfFault, IsReadRefusal, OnlyReads, fault_in, pages_in};
+ghost use Rattle.cs_chunk.specs.Reads.{AnswersFault, AreReadAs, IsCaused, IsFrameFront, IsFrameRefusal, IsNoAnswer, IsOfFault, IsReadRefusal, OnlyReads, fault_in, pages_in};
 ghost use Rattle.cs_deps.specs.Refusals.{number_of};
 ghost use Rattle.cs_deps.specs.State.{NoneOn};
 ghost use Rattle.cs_disk.specs.Disk.{seen};
 ghost use Rattle.cs_extent.specs.State.{IsWhole, shape};
 ghost use Rattle.cs_frame.specs.Formats.{formats_of};
-ghost use Rattle.cs_frame.specs.Frames.{SpellsFrame, frame_fault, kind_byte, page_count};
+ghost use Rattle.cs_frame.specs.Frames.{SpellsFrame, kind_byte, meant_fault, page_count};
 
 use crate::refusals::{refusal_of_disk, refusal_of_fault};
 use cs_deps::{Graph, Refusal};
 use cs_disk::PageDisk;
 use cs_extent::Extents;
-use cs_frame::{FrameKind, Locator, ReadFrame, decode_frame_header, read_frame_in};
+use cs_frame::{
+    FrameKind, Locator, ReadFrame, decode_frame_header, decode_meant_header, read_frame_in,
+};
 use std::alloc::Global;
 
 /// Reads a page: the newest waiting plain write to it, and where none waits what the device has.
@@ -87,6 +89,13 @@ fn page_number(extents: &Extents, locator: Locator) -> u64
     extents.geometry().device_page(locator.extent, locator.page)
 }
 
+/// The format of the store.
+fn format_of(extents: &Extents) -> u8
+    ensures { result ≡ (shape extents.now).format }
+{
+    extents.geometry().format()
+}
+
 /// How far a frame may reach that begins at a place.
 fn end_of(extents: &Extents, locator: Locator) -> usize
     requires extent { locator.extent < (shape extents.now).extents }
@@ -98,14 +107,19 @@ fn end_of(extents: &Extents, locator: Locator) -> usize
     extents.end_of(usize::from(locator.extent), usize::from(locator.page))
 }
 
-/// The frame in these pages.
-fn framed(kind: FrameKind, pages: Vec<[u8; 4096]>) -> Result<ReadFrame, Refusal>
+/// The frame of a mark in these pages.
+fn framed(
+    format: u8,
+    kind: FrameKind,
+    mark: u64,
+    pages: Vec<[u8; 4096]>,
+) -> Result<ReadFrame, Refusal>
     requires { 0 < length pages.items }
     ensures spelled { IfOk result (λ payload. SpellsFrame (kind_byte kind) pages.items payload) }
-    ensures fault { AnswersFault (frame_fault (kind_byte kind) pages.items) result }
-    ensures refusals { IfErr result (λ r. (20 ≤ number_of r) × (number_of r ≤ 24)) }
+    ensures fault { AnswersFault (meant_fault format (kind_byte kind) mark pages.items) result }
+    ensures refusals { IfErr result IsFrameRefusal }
 {
-    match read_frame_in(kind, pages) {
+    match read_frame_in(format, kind, mark, pages) {
         Ok(frame) => Ok(frame),
         Err(fault) => Err(refusal_of_fault(fault)),
     }
@@ -163,8 +177,8 @@ fn read_frame_pages<D: PageDisk>(
 /// is one, and then the device isn't asked; the header's tests are made before the second page is read.
 ///
 /// 20 `BadMagic`, 21 `BadDigest`, 22 `BadLength`, 23 `BadPadding` or 24 `BadVersion`, the first test that fails, where
-/// no frame of this kind begins there; 1 `DeviceFault` where a read failed; 9 `OutOfMemory`. The disk holds what it
-/// held.
+/// no frame of this kind begins there; 26 `Misplaced` where one does and it isn't the one that the place means; 1 `DeviceFault` where a read
+/// failed; 9 `OutOfMemory`. The disk holds what it held.
 pub fn frame_at<D: PageDisk>(
     alloc: Global,
     extents: &Extents,
@@ -190,13 +204,15 @@ pub fn frame_at<D: PageDisk>(
     // Whatever the disk answers, the frame of what is read reaches no further than it may, and lies in the extent.
     ensures reach { IfOk result (λ payload. locator.page + length ((formats_of (shape extents.now)).frame (kind_of kind) payload) ≤ end_in extents.now locator) }
     ensures size { IfOk result (λ payload. locator.page + length ((formats_of (shape extents.now)).frame (kind_of kind) payload) ≤ (shape extents.now).pages) }
+    // And it is the one that the place means.
+    ensures meant { IfOk result (λ payload. IsMeant (shape extents.now) (kind_of kind) locator payload) }
 
     ensures disk { OnlyReads D.PageDisk disk.old disk.new }
     ensures cause { IsCaused (D.failure_count disk.old) (D.failure_count disk.new) result }
     ensures whole { IsWhole extents.now }
 {
     match read_frame_pages(alloc, extents, graph, disk, kind, locator) {
-        Ok(pages) => framed(kind, pages),
+        Ok(pages) => framed(format_of(extents), kind, locator.mark, pages),
         Err(refusal) => Err(refusal),
     }
 }
@@ -229,6 +245,8 @@ pub fn read_frame<D: PageDisk>(
     // Whatever the disk answers, the frame of what is read reaches no further than it may, and lies in the extent.
     ensures reach { IfOk result (λ payload. locator.page + length ((formats_of (shape extents.now)).frame (kind_of kind) payload.items) ≤ end_in extents.now locator) }
     ensures size { IfOk result (λ payload. locator.page + length ((formats_of (shape extents.now)).frame (kind_of kind) payload.items) ≤ (shape extents.now).pages) }
+    // And it is the one that the place means.
+    ensures meant { IfOk result (λ payload. IsMeant (shape extents.now) (kind_of kind) locator payload.items) }
 
     ensures disk { OnlyReads D.PageDisk disk.old disk.new }
     ensures cause { IsCaused (D.failure_count disk.old) (D.failure_count disk.new) result }
@@ -244,8 +262,9 @@ pub fn read_frame<D: PageDisk>(
 /// to it where there is one, and then the device isn't asked. Only the header's tests are made: there is a length also where digest
 /// or padding are damaged. It asks for no memory itself.
 ///
-/// 20 `BadMagic`, 24 `BadVersion` or 22 `BadLength`, the first test that fails, where no header of this kind is there; 1 `DeviceFault`
-/// or 9 `OutOfMemory` where the disk refused the read so. The disk holds what it held.
+/// 20 `BadMagic`, 24 `BadVersion` or 22 `BadLength`, the first test that fails, where no header of this kind is there; 26 `Misplaced` where
+/// one is and it isn't that of the frame that the place means; 1 `DeviceFault` or 9 `OutOfMemory` where the disk refused the read so. The
+/// disk holds what it held.
 pub fn read_length<D: PageDisk>(
     extents: &Extents,
     graph: &Graph,
@@ -266,9 +285,9 @@ pub fn read_length<D: PageDisk>(
     // Each other refusal is that of the first of the header's tests that fails.
     ensures header { D.honest disk.old → (view : ℕ → List ℕ) → AreNewest graph.now (seen (D.state disk.old)) view
         → AnswersFault (header_fault_in extents.now view kind locator) result }
-    // So it is that of the frame's first test that fails.
+    // So it is that of the frame's first test that fails, or 26 of a frame that has a fault.
     ensures fault { D.honest disk.old → (view : ℕ → List ℕ) → AreNewest graph.now (seen (D.state disk.old)) view
-        → IfErr result (λ r. IsNoAnswer r ⊎ IsOfFault (fault_in extents.now view kind locator) r) }
+        → IfErr result (λ r. IsNoAnswer r ⊎ IsOfFaultOrMark (fault_in extents.now view kind locator) r) }
     ensures refusals { IfErr result IsHeaderRefusal }
     // Whatever the disk answers, a frame of so many bytes reaches no further than it may, and lies in the extent.
     ensures reach { IfOk result (λ count. locator.page + page_count count ≤ end_in extents.now locator) }
@@ -284,7 +303,7 @@ pub fn read_length<D: PageDisk>(
         Ok(()) => {}
         Err(refusal) => return Err(refusal),
     }
-    match decode_frame_header(kind, &first, there) {
+    match decode_meant_header(format_of(extents), kind, locator.mark, &first, there) {
         Ok(header) => Ok(header.payload_len),
         Err(fault) => Err(refusal_of_fault(fault)),
     }

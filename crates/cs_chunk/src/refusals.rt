@@ -23,6 +23,7 @@ pub fn refusal_of_fault(fault: FormatFault) -> Refusal
         FormatFault::BadPadding => Refusal::BadPadding,
         FormatFault::BadVersion => Refusal::BadVersion,
         FormatFault::OutOfOrder => Refusal::OutOfOrder,
+        FormatFault::Misplaced => Refusal::Misplaced,
     }
 }
 

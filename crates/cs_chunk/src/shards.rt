@@ -1,6 +1,6 @@
 //! Reads of shards.
 ghost use Rattle.std.specs.Prelude.{All, ◌≡◌, ◌+◌, ◌*◌, ◌<◌, ◌≤◌, ℕ, List, IfErr, IfOk, MatchResult, length};
-ghost use Rattle.cs_chunk.specs.Chunks.{AreChunksIn};
+ghost use Rattle.cs_chunk.specs.Chunks.{AreChunksIn, AreMeant};
 ghost use Rattle.cs_chunk.specs.Lengths.{AreHeadersIn, IsHeaderRefusal, IsOfHeaderIn, lengths_at};
 ghost use Rattle.cs_chunk.specs.Newest.{AreNewest};
 ghost use Rattle.cs_chunk.specs.Reads.{IsCaused, IsNoAnswer, IsOfChunkIn, IsReadRefusal, OnlyReads};
@@ -17,7 +17,7 @@ use std::alloc::Global;
 
 /// The bytes of the chunks whose frames begin at these places, one after another.
 ///
-/// The first refusal that is met is answered: 20 to 24 as `read_frame` does, 1 `DeviceFault`, 9 `OutOfMemory`. No frame
+/// The first refusal that is met is answered: 20 to 24 and 26 as `read_frame` does, 1 `DeviceFault`, 9 `OutOfMemory`. No frame
 /// behind it is read.
 pub fn read_chunks<D: PageDisk>(
     alloc: Global,
@@ -39,6 +39,8 @@ pub fn read_chunks<D: PageDisk>(
     ensures fault { D.honest disk.old → (view : ℕ → List ℕ) → AreNewest graph.now (seen (D.state disk.old)) view
         → IfErr result (IsOfChunkIn extents.now view locators.now) }
     ensures refusals { IfErr result IsReadRefusal }
+    // Whatever the disk answers, what is read is the bytes of chunks that the places mean.
+    ensures meant { IfOk result (λ bytes. (cs : List (List ℕ)) × AreMeant (shape extents.now) locators.now cs × (bytes.items ≡ joined cs)) }
 
     ensures disk { OnlyReads D.PageDisk disk.old disk.new }
     ensures cause { IsCaused (D.failure_count disk.old) (D.failure_count disk.new) result }
@@ -58,7 +60,7 @@ pub fn read_chunks<D: PageDisk>(
 
 /// How many bytes the chunks have together whose frames begin at these places, by the first page of each frame alone.
 ///
-/// The first refusal that is met is answered: 20, 22 and 24 as `read_length` does, 1 `DeviceFault`, 9 `OutOfMemory`. No page behind it is
+/// The first refusal that is met is answered: 20, 22, 24 and 26 as `read_length` does, 1 `DeviceFault`, 9 `OutOfMemory`. No page behind it is
 /// read. Where digest or padding of a chunk are damaged there is a length.
 pub fn read_lengths<D: PageDisk>(
     extents: &Extents,

@@ -5,7 +5,7 @@ use Rattle.std.proofs.lemmas.Bool.{cases_lt}
 use Rattle.std.proofs.lemmas.Bool.Decides.{nat_tests}
 use Rattle.std.proofs.lemmas.Option.{same_Some}
 use Rattle.cs_deps.specs.State.{State as GraphState, write_of}
-use Rattle.cs_model.specs.Device.{Shape}
+use Rattle.cs_model.specs.Device.{Shape, mark_of}
 use Rattle.cs_model.specs.Extents.{Extents, ForMerge, ForMove, ForPut, ForRun, GoesApart, Purpose as Reason, emptied, forgotten, marked, noted_by, of_runs_by, other_than, taken}
 use Rattle.cs_model.specs.Lists.{with}
 use Rattle.cs_extent.specs.Appended.{IsAppendedBy}
@@ -201,7 +201,7 @@ pub noted_append : (x : State) (g : GraphState) (r : Reason) (frame : List (List
     × SpellsExtents mid ((shape x).section e) (slice_index g.staging.latest (family_of ((shape x).section e)) + 1) page)
     → AddsOnlyOf g h (IsOfFrame g.staging ((shape x).section e) (length frame)) → h.round ≡ g.round
     → e < length mid.of_runs → empty ≡ ((extents_of x).pointer e == 0) → opened ≡ x.open_extent → y ≡ noted_in r e empty opened mid
-    → IsAppendedBy true x g r frame (next_place (extents_of x) e) y h
+    → IsAppendedBy true x g r frame (next_place (extents_of x) e (mark_of (shape x) frame)) y h
 noted_append x g r frame e mid y h empty opened goes given same staged writes section others round there is before noted = record {
   placed = goes;
   place = refl;

@@ -2,6 +2,7 @@
 use Rattle.std.specs.Prelude.{◌≡◌, ◌+◌, ℕ, Bool, false, List, [], ◌∷◌, Some, length, slice_index}
 use Rattle.cs_deps.specs.State.{State as GraphState, write_of}
 use Rattle.cs_frame.specs.declared.locators.Locator.{Locator}
+use Rattle.cs_model.specs.Device.{mark_of}
 use Rattle.cs_model.specs.Extents.{Goes, Purpose as Reason, taken_by}
 use Rattle.cs_extent.specs.Frames.{AreWritten, IsFrameStaged, IsOfFrame, AddsOnlyOf, family_of, next_place, next_section}
 use Rattle.cs_extent.specs.State.{SpellsExtents, State, extents_of, need_of, shape}
@@ -11,7 +12,7 @@ use Rattle.cs_extent.specs.State.{SpellsExtents, State, extents_of, need_of, sha
 -- write is kept that wasn't kept before. Chunks and runs lie apart or not.
 pub record IsAppendedBy (apart : Bool) (x : State) (g : GraphState) (reason : Reason) (frame : List (List ℕ)) (l : Locator) (y : State) (h : GraphState) : Type 0 where
   pub placed : Goes (shape x) apart (extents_of x) reason (length frame) l.extent
-  pub place : l ≡ next_place (extents_of x) l.extent
+  pub place : l ≡ next_place (extents_of x) l.extent (mark_of (shape x) frame)
   pub extents : extents_of y ≡ taken_by (shape x) apart reason (extents_of x) l.extent (length frame)
   pub same_shape : shape y ≡ shape x
   pub staged : IsFrameStaged g.staging h.staging (shape x).pages_first (shape x).sections ((shape x).section l.extent) (length frame)

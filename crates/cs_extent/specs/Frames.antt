@@ -18,9 +18,9 @@ abbrev pub family_of : (section : ℕ) → ℕ
 family_of zero = 0
 family_of (suc j) = suc (suc j)
 
--- where a frame begins that goes to e
-abbrev pub next_place : Extents → ℕ → Locator
-next_place x e = record { extent = e; page = x.pointer e; generation = x.generation e }
+-- where a frame of this mark begins that goes to e
+abbrev pub next_place : Extents → ℕ → (mark : ℕ) → Locator
+next_place x e mark = record { extent = e; page = x.pointer e; generation = x.generation e; mark = mark }
 
 -- the greatest of the numbers below n
 abbrev pub greatest : (ℕ → ℕ) → ℕ → ℕ

@@ -3,6 +3,7 @@ ghost use Rattle.std.specs.Prelude.{◌≡◌, ℕ, ◌+◌, ◌-◌, ◌*◌, �
 ghost use Rattle.cs_deps.specs.declared.elements.Element.{Element as Item};
 ghost use Rattle.cs_deps.specs.Named.{Names};
 ghost use Rattle.cs_deps.specs.State.{write_of};
+ghost use Rattle.cs_model.specs.Device.{mark_of};
 ghost use Rattle.cs_model.specs.Geometry.{apart_in};
 ghost use Rattle.cs_model.specs.Extents.{Fits, IsFirstEmpty, Placed, empties, marked, taken};
 ghost use Rattle.cs_extent.specs.Appended.{IsAppended};
@@ -21,7 +22,7 @@ use crate::purposes::Purpose;
 use crate::supplies::Supply;
 use crate::ways::{Way, are_versions_worn, are_writes_worn, count};
 use cs_deps::{Dependency, Graph, LAST_NUMBER, Refusal};
-use cs_frame::{Geometry, Locator, Superblock, encode_section};
+use cs_frame::{Geometry, Locator, Superblock, encode_section, frame_mark};
 use std::alloc::{AllocError, Global};
 use std::marker::Model;
 
@@ -348,16 +349,26 @@ impl Extents {
         None
     }
 
+    /// The mark of a frame, 0 in a format that has no marks.
+    fn mark_of(&self, frame: &[[u8; 4096]]) -> u64
+        requires { 1 ≤ length frame.now }
+        ensures { result ≡ mark_of (shape self.now) frame.now }
+    {
+        frame_mark(self.geometry().format(), &frame[0])
+    }
+
     /// Where a frame begins that goes to an extent.
-    fn next_place(&self, extent: usize) -> Locator
-        requires { extent < (shape self.now).extents }
-        ensures { result ≡ next_place (extents_of self.now) extent }
+    fn next_place(&self, extent: usize, frame: &[[u8; 4096]]) -> Locator
+        requires exists { extent < (shape self.now).extents }
+        requires some { 1 ≤ length frame.now }
+        ensures { result ≡ next_place (extents_of self.now) extent (mark_of (shape self.now) frame.now) }
     {
         let (page, generation) = self.written[extent];
         Locator {
             extent: extent as u16,
             page,
             generation,
+            mark: self.mark_of(frame),
         }
     }
 
@@ -438,7 +449,7 @@ impl Extents {
         requires resets { AreResetsStaged (extents_of self.old) graph.old.staging }
         requires numbers { ¬ IsWorn graph.old.staging ((shape self.old).section extent) (length frame.now) }
         requires room { length frame.now + 1 ≤ graph.old.room }
-        ensures locator { result.0 ≡ next_place (extents_of self.old) extent }
+        ensures locator { result.0 ≡ next_place (extents_of self.old) extent (mark_of (shape self.old) frame.now) }
         ensures extents { extents_of self.new ≡ taken (shape self.old) (extents_of self.old) extent (length frame.now) }
         ensures shape { shape self.new ≡ shape self.old }
         ensures staged { IsFrameStaged graph.old.staging graph.new.staging (shape self.old).pages_first (shape self.old).sections ((shape self.old).section extent) (length frame.now) ((extents_of self.old).reset extent) (need_of self.old ((shape self.old).section extent)) }
@@ -452,7 +463,7 @@ impl Extents {
         ensures left { graph.old.room ≤ graph.new.room + (length frame.now + 1) }
     {
         let alloc = *self.resets.allocator();
-        let locator = self.next_place(extent);
+        let locator = self.next_place(extent, frame);
         let first = self.first_page(extent);
         let root = self.root_of(extent);
         let geometry = self.geometry();
@@ -503,7 +514,7 @@ impl Extents {
 
         // The frame lies behind the pointer of an extent that may take it.
         ensures placed { IfOk result (λ r. Placed (shape self.old) (extents_of self.old) (reason_of purpose) (length frame.now) r.0.extent) }
-        ensures locator { IfOk result (λ r. r.0 ≡ next_place (extents_of self.old) r.0.extent) }
+        ensures locator { IfOk result (λ r. r.0 ≡ next_place (extents_of self.old) r.0.extent (mark_of (shape self.old) frame.now)) }
         ensures extents { IfOk result (λ r. extents_of self.new ≡ taken (shape self.old) (extents_of self.old) r.0.extent (length frame.now)) }
         ensures shape { shape self.new ≡ shape self.old }
 

@@ -1,5 +1,5 @@
 -- What the machine's model asks of its formats, of these.
-use Rattle.std.proofs.Common.{◌≡◌, ◌≢◌, inl, inr, ℕ, zero, suc, ◌+◌, ◌-◌, ◌*◌, ◌/◌, ◌%◌, ◌≤◌, ◌<◌, ◌^◌, ◌==◌, ◌&&◌, true, false, Bool, List, [], ◌∷◌, ◌++◌, length, take, drop, map, None, refl, sym, subst, ap, ap₂, ◌∙◌, arith, append_assoc, append-nil, length-append, le_refl, le_trans, nat_le, nat_lt, if◌then◌else◌}
+use Rattle.std.proofs.Common.{le_of_eq, le_trans, ◌≡◌, ◌≢◌, inl, inr, ℕ, zero, suc, ◌+◌, ◌-◌, ◌*◌, ◌/◌, ◌%◌, ◌≤◌, ◌<◌, ◌^◌, ◌==◌, ◌&&◌, true, false, Bool, List, [], ◌∷◌, ◌++◌, length, take, drop, map, None, refl, sym, subst, ap, ap₂, ◌∙◌, arith, append_assoc, append-nil, length-append, le_refl, le_trans, nat_le, nat_lt, if◌then◌else◌}
 use Rattle.std.specs.Prelude.{option_map, reverse}
 use Rattle.std.specs.List.{AllByRecursion, list_all, flat_map}
 use Rattle.std.specs.Int.{bytes_high_first}
@@ -15,7 +15,7 @@ use Rattle.cs_model.specs.Device.{Page, Shape}
 use Rattle.cs_model.specs.Element.{Entry as NamedEntry, Locator as Place}
 use Rattle.cs_model.specs.Formats.{Formats, Stand, pages_from}
 use Rattle.cs_model.specs.Frames.{IsFormat, most_staged}
-use Rattle.cs_model.specs.Geometry.{shape_of}
+use Rattle.cs_model.specs.Geometry.{greatest_mark_in, marks_in, shape_of}
 use Rattle.cs_model.specs.Index.{Ascending, InRange, IsRunList}
 use Rattle.cs_model.specs.Lists.{◌∈◌}
 use Rattle.cs_frame.specs.declared.locators.Locator.{Locator}
@@ -24,14 +24,16 @@ use Rattle.cs_frame.specs.Formats.{as_entry, as_locator, extents_of, fits_entry,
 use Rattle.cs_frame.specs.Frames.{SpellsFrame, frame_bytes, frame_fault, page_count, spelled_frame}
 use Rattle.cs_frame.specs.FirstFormat.{spelled_first_format}
 use Rattle.cs_frame.specs.Geometries.{IsGeometry, section_size}
-use Rattle.cs_frame.specs.Locators.{FitsLocator, spelled_locators}
+use Rattle.cs_frame.specs.Locators.{FitsLocator, most_mark, spelled_locators}
 use Rattle.cs_frame.specs.Roots.{FitsRoot, greatest_runs, spelled_root}
-use Rattle.cs_frame.specs.Runs.{Entry, FitsRun, entries_in, spelled_entry, spelled_run}
+use Rattle.cs_frame.specs.PackedRuns.{packed_run}
+use Rattle.cs_frame.specs.Runs.{Entry, FitsRun, entries_in, plain_run, spelled_entry}
 use Rattle.cs_frame.specs.Superblocks.{spelled_superblock}
 use Rattle.cs_frame.proofs.GeometryLaws.{Bounds, bounds}
 use Rattle.cs_frame.proofs.FrameLaws.{frame_fault-spelled, payload_is_read}
 use Rattle.cs_frame.proofs.LocatorLaws.{length-spelled_locators}
 use Rattle.cs_frame.proofs.Pieces.{length-first_chunks}
+use Rattle.cs_frame.proofs.PackedLaws.{HasFields, one_packing}
 use Rattle.cs_frame.proofs.RootLaws.{HasRoom, fewest_runs, one_reading}
 use Rattle.cs_frame.proofs.RunLaws.{run_is_read}
 use Rattle.cs_frame.proofs.TellingLaws.{tells}
@@ -86,7 +88,7 @@ stands_there S F img e i n kind payload few fits stand =
 -- ---- locators and roots
 
 one_locator : (l m : Place) → as_locator l ≡ as_locator m → l ≡ m
-one_locator l m is = λ i. record { extent = (is i).extent; page = (is i).page; generation = (is i).generation; mark = tt }
+one_locator l m is = λ i. record { extent = (is i).extent; page = (is i).page; generation = (is i).generation; mark = (is i).mark }
 
 one_list : (ls ms : List Place) → map as_locator ls ≡ map as_locator ms → ls ≡ ms
 one_list [] [] is = refl
@@ -98,21 +100,22 @@ one_list (l ∷ ls) (m ∷ ms) is =
     let more : map as_locator ls ≡ map as_locator ms = cc in
     ap₂ (λ (x : Place) (xs : List Place). x ∷ xs) (one_locator l m here) (one_list ls ms more)
 
-fits_of : (l : Place) → fits_locator l ≡ true → FitsLocator (as_locator l)
-fits_of l h =
-    let p = and_parts (nat_lt l.extent (2 ^ 16) && nat_lt l.page (2 ^ 16)) (nat_lt l.generation (2 ^ 32)) h in
+fits_of : (marked : Bool) (l : Place) → fits_locator marked l ≡ true → FitsLocator marked (as_locator l)
+fits_of marked l h =
+    let o = and_parts (nat_lt l.extent (2 ^ 16) && nat_lt l.page (2 ^ 16) && nat_lt l.generation (2 ^ 32)) (nat_le l.mark (most_mark marked)) h in
+    let p = and_parts (nat_lt l.extent (2 ^ 16) && nat_lt l.page (2 ^ 16)) (nat_lt l.generation (2 ^ 32)) o.0 in
     let q = and_parts (nat_lt l.extent (2 ^ 16)) (nat_lt l.page (2 ^ 16)) p.0 in
-    record { extent = ltb-true _ _ q.0; page = ltb-true _ _ q.1; generation = ltb-true _ _ p.1 }
+    record { extent = ltb-true _ _ q.0; page = ltb-true _ _ q.1; generation = ltb-true _ _ p.1; mark = leb-true _ _ o.1 }
 
-all_fit : (ls : List Place) → list_all fits_locator ls ≡ true → AllByRecursion FitsLocator (map as_locator ls)
-all_fit [] h = tt
-all_fit (l ∷ ls) h =
-    let both = and_parts (fits_locator l) (list_all fits_locator ls) h in
-    (fits_of l both.0, all_fit ls both.1)
+all_fit : (marked : Bool) (ls : List Place) → list_all (fits_locator marked) ls ≡ true → AllByRecursion (FitsLocator marked) (map as_locator ls)
+all_fit marked [] h = tt
+all_fit marked (l ∷ ls) h =
+    let both = and_parts (fits_locator marked l) (list_all (fits_locator marked) ls) h in
+    (fits_of marked l both.0, all_fit marked ls both.1)
 
 root_of : (format v n : ℕ) (ls : List Place) → fits_root format v n ls ≡ true → HasRoom format v n (map as_locator ls)
 root_of format v n ls h =
-    let a = and_parts _ (list_all fits_locator ls) h in
+    let a = and_parts _ (list_all (fits_locator (marks_in format)) ls) h in
     let b = and_parts _ (nat_le (length ls) (greatest_runs format)) a.0 in
     let c = and_parts _ (nat_lt n (2 ^ 63)) b.0 in
     let d = and_parts (nat_le 1 v) (nat_lt v (2 ^ 63)) c.0 in
@@ -122,7 +125,7 @@ root_of format v n ls h =
       last_version = ltb-true _ _ d.1;
       last_command = ltb-true _ _ c.1;
       count = omega (arith, length-map ls as_locator, few);
-      each = all_fit ls a.1;
+      each = all_fit (marks_in format) ls a.1;
     }
 
 one_page_one_list : (format v w n k : ℕ) (xs ys : List Place) → fits_root format v n xs ≡ true → fits_root format w k ys ≡ true
@@ -133,19 +136,19 @@ one_page_one_list format v w n k xs ys fx fy is =
     (sym x.of_commands ∙ y.of_commands, one_list xs ys (sym x.of_runs ∙ y.of_runs))
 
 -- a page lists the runs in the other order
-all_fit_reversed : (ls : List Place) → list_all fits_locator ls ≡ true → list_all fits_locator (reverse ls) ≡ true
-all_fit_reversed [] h = refl
-all_fit_reversed (l ∷ ls) h =
-    let both = and_parts (fits_locator l) (list_all fits_locator ls) h in
-    subst (λ (xs : List Place). list_all fits_locator xs ≡ true) (sym (reverse_onto ls l []))
-    (list_all-append fits_locator (reverse ls) (l ∷ [])
-    ∙ and_from (list_all fits_locator (reverse ls)) (fits_locator l && true) (all_fit_reversed ls both.1) (and_from (fits_locator l) true both.0 refl))
+all_fit_reversed : (marked : Bool) (ls : List Place) → list_all (fits_locator marked) ls ≡ true → list_all (fits_locator marked) (reverse ls) ≡ true
+all_fit_reversed marked [] h = refl
+all_fit_reversed marked (l ∷ ls) h =
+    let both = and_parts (fits_locator marked l) (list_all (fits_locator marked) ls) h in
+    subst (λ (xs : List Place). list_all (fits_locator marked) xs ≡ true) (sym (reverse_onto ls l []))
+    (list_all-append (fits_locator marked) (reverse ls) (l ∷ [])
+    ∙ and_from (list_all (fits_locator marked) (reverse ls)) (fits_locator marked l && true) (all_fit_reversed marked ls both.1) (and_from (fits_locator marked l) true both.0 refl))
 
 fits_reversed : (format v n : ℕ) (ls : List Place) → fits_root format v n ls ≡ true → fits_root format v n (reverse ls) ≡ true
 fits_reversed format v n ls h =
-    let a = and_parts _ (list_all fits_locator ls) h in
+    let a = and_parts _ (list_all (fits_locator (marks_in format)) ls) h in
     let b = and_parts _ (nat_le (length ls) (greatest_runs format)) a.0 in
-    and_from _ _ (and_from _ _ b.0 (subst (λ (k : ℕ). nat_le k (greatest_runs format) ≡ true) (sym (length-reverse ls)) b.1)) (all_fit_reversed ls a.1)
+    and_from _ _ (and_from _ _ b.0 (subst (λ (k : ℕ). nat_le k (greatest_runs format) ≡ true) (sym (length-reverse ls)) b.1)) (all_fit_reversed (marks_in format) ls a.1)
 
 one_page_one_root : (format v w n k : ℕ) (xs ys : List Place) → fits_root format v n xs ≡ true → fits_root format w k ys ≡ true
     → spelled_root format v n (map as_locator (reverse xs)) ≡ spelled_root format w k (map as_locator (reverse ys)) → (n ≡ k) × (xs ≡ ys)
@@ -154,18 +157,18 @@ one_page_one_root format v w n k xs ys fx fy is =
     (both.0, sym (reverse-reverse xs) ∙ ap (λ (ls : List Place). reverse ls) both.1 ∙ reverse-reverse ys)
 
 -- a root that can be spelled fits
-all_fit_back : (ls : List Place) → AllByRecursion FitsLocator (map as_locator ls) → list_all fits_locator ls ≡ true
-all_fit_back [] all = refl
-all_fit_back (l ∷ ls) all =
-    and_from (fits_locator l) (list_all fits_locator ls)
-    (and_from _ _ (and_from _ _ (lt-ltb l.extent (2 ^ 16) all.0.extent) (lt-ltb l.page (2 ^ 16) all.0.page)) (lt-ltb l.generation (2 ^ 32) all.0.generation))
-    (all_fit_back ls all.1)
+all_fit_back : (marked : Bool) (ls : List Place) → AllByRecursion (FitsLocator marked) (map as_locator ls) → list_all (fits_locator marked) ls ≡ true
+all_fit_back marked [] all = refl
+all_fit_back marked (l ∷ ls) all =
+    and_from (fits_locator marked l) (list_all (fits_locator marked) ls)
+    (and_from _ _ (and_from _ _ (and_from _ _ (lt-ltb l.extent (2 ^ 16) all.0.extent) (lt-ltb l.page (2 ^ 16) all.0.page)) (lt-ltb l.generation (2 ^ 32) all.0.generation)) (le-leb l.mark (most_mark marked) all.0.mark))
+    (all_fit_back marked ls all.1)
 
 pub root_fits_from : (format v n : ℕ) (ls : List Place) → FitsRoot format v n (map as_locator (reverse ls)) → fits_root format v n ls ≡ true
 root_fits_from format v n ls fits =
     let few : length ls ≤ greatest_runs format = omega (arith, fits.count, length-map (reverse ls) as_locator, length-reverse ls) in
-    let each : list_all fits_locator ls ≡ true =
-    subst (λ (xs : List Place). list_all fits_locator xs ≡ true) (reverse-reverse ls) (all_fit_reversed (reverse ls) (all_fit_back (reverse ls) fits.each)) in
+    let each : list_all (fits_locator (marks_in format)) ls ≡ true =
+    subst (λ (xs : List Place). list_all (fits_locator (marks_in format)) xs ≡ true) (reverse-reverse ls) (all_fit_reversed (marks_in format) (reverse ls) (all_fit_back (marks_in format) (reverse ls) fits.each)) in
     and_from _ _
     (and_from _ _
     (and_from _ _ (and_from _ _ (le-leb 1 v fits.first_version) (lt-ltb v (2 ^ 63) fits.last_version)) (lt-ltb n (2 ^ 63) fits.last_command))
@@ -173,13 +176,13 @@ root_fits_from format v n ls fits =
     each
 
 -- what is there has numbers that fit
-in_range : (extents pages g : ℕ) (l : Place) → extents ≤ 7680 → pages ≤ 65535 → g < 2 ^ 32 → l.extent < extents → l.page < pages
-    → l.generation ≤ g → fits_locator l ≡ true
-in_range extents pages g l few short old a b c =
+in_range : (marked : Bool) (extents pages g : ℕ) (l : Place) → extents ≤ 7680 → pages ≤ 65535 → g < 2 ^ 32 → l.extent < extents → l.page < pages
+    → l.generation ≤ g → l.mark ≤ most_mark marked → fits_locator marked l ≡ true
+in_range marked extents pages g l few short old a b c d =
     let extent : nat_lt l.extent (2 ^ 16) ≡ true = lt-ltb l.extent (2 ^ 16) (omega (arith, a, few)) in
     let page : nat_lt l.page (2 ^ 16) ≡ true = lt-ltb l.page (2 ^ 16) (omega (arith, b, short)) in
     let generation : nat_lt l.generation (2 ^ 32) ≡ true = lt-ltb l.generation (2 ^ 32) (omega (arith, c, old)) in
-    and_from _ _ (and_from _ _ extent page) generation
+    and_from _ _ (and_from _ _ (and_from _ _ extent page) generation) (le-leb l.mark (most_mark marked) d)
 
 all_of : {X : Type 0} (test : X → Bool) (xs : List X) → ((x : X) → x ∈ xs → test x ≡ true) → list_all test xs ≡ true
 all_of test [] h = refl
@@ -257,13 +260,13 @@ one_split a b rest other size is = (
 
 -- what follows the identifier in an entry
 abbrev tail_of : List Locator → List ℕ
-tail_of ls = (length ls ∷ []) ++ (spelled_locators ls ++ zeros (64 - 8 * length ls))
+tail_of ls = (length ls ∷ []) ++ (spelled_locators false ls ++ zeros (64 - 8 * length ls))
 
 grouped : (id k ls rest : List ℕ) → id ++ k ++ ls ++ rest ≡ id ++ (k ++ (ls ++ rest))
 grouped id k ls rest = simp append_assoc
 
 entry_is : (e : Entry) → spelled_entry e ≡ e.id ++ tail_of e.locators
-entry_is e = grouped e.id (length e.locators ∷ []) (spelled_locators e.locators) (zeros (64 - 8 * length e.locators))
+entry_is e = grouped e.id (length e.locators ∷ []) (spelled_locators false e.locators) (zeros (64 - 8 * length e.locators))
 
 length-entry : (e : Entry) → length e.id ≡ 16 → length e.locators ≤ 8 → length (spelled_entry e) ≡ 81
 length-entry e size few =
@@ -271,9 +274,9 @@ length-entry e size few =
     omega (
       arith,
       ap length (entry_is e),
-      length-append e.id (length e.locators ∷ spelled_locators e.locators ++ zeros left),
-      length-append (spelled_locators e.locators) (zeros left),
-      length-spelled_locators e.locators,
+      length-append e.id (length e.locators ∷ spelled_locators false e.locators ++ zeros left),
+      length-append (spelled_locators false e.locators) (zeros left),
+      length-spelled_locators false e.locators,
       length-replicate {A = ℕ} left 0,
       size,
       few,
@@ -285,13 +288,13 @@ bytes_of_zeros (suc n) zero = omega arith
 bytes_of_zeros (suc n) (suc i) = bytes_of_zeros n i
 
 -- one tail has one list of locators: it is read in a run of one entry
-one_tail : (ls ms : List Locator) → length ls ≤ 8 → length ms ≤ 8 → AllByRecursion FitsLocator ls → AllByRecursion FitsLocator ms
+one_tail : (ls ms : List Locator) → length ls ≤ 8 → length ms ≤ 8 → AllByRecursion (FitsLocator false) ls → AllByRecursion (FitsLocator false) ms
     → tail_of ls ≡ tail_of ms → ls ≡ ms
 one_tail ls ms few few' fit fit' is =
     let same : spelled_entry (entry ms) ≡ spelled_entry (entry ls) = entry_is (entry ms) ∙ ap (λ (t : List ℕ). zeros 16 ++ t) (sym is) ∙ sym (entry_is (entry ls)) in
-    let payload : List ℕ = spelled_run (entry ms ∷ []) in
-    let x : entries_in (spelled_run (entry ms ∷ [])) ≡ entry ls ∷ [] = run_is_read _ (entry ls ∷ []) (record { fits = fits ls few fit; spelled = ap (λ (b : List ℕ). big_bytes 4 1 ++ (b ++ [])) same }) in
-    let y : entries_in (spelled_run (entry ms ∷ [])) ≡ entry ms ∷ [] = run_is_read _ (entry ms ∷ []) (record { fits = fits ms few' fit'; spelled = refl }) in
+    let payload : List ℕ = plain_run (entry ms ∷ []) in
+    let x : entries_in (plain_run (entry ms ∷ [])) ≡ entry ls ∷ [] = run_is_read _ (entry ls ∷ []) (record { fits = fits ls few fit; spelled = ap (λ (b : List ℕ). big_bytes 4 1 ++ (b ++ [])) same }) in
+    let y : entries_in (plain_run (entry ms ∷ [])) ≡ entry ms ∷ [] = run_is_read _ (entry ms ∷ []) (record { fits = fits ms few' fit'; spelled = refl }) in
     ap of_first (sym x ∙ y)
   where
     entry : List Locator → Entry
@@ -301,7 +304,7 @@ one_tail ls ms few few' fit fit' is =
     of_first [] = []
     of_first (e ∷ es) = e.locators
 
-    fits : (ls : List Locator) → length ls ≤ 8 → AllByRecursion FitsLocator ls → FitsRun (entry ls ∷ [])
+    fits : (ls : List Locator) → length ls ≤ 8 → AllByRecursion (FitsLocator false) ls → FitsRun false (entry ls ∷ [])
     fits ls few fit = record {
       some = omega arith;
       most = omega arith;
@@ -311,15 +314,15 @@ one_tail ls ms few few' fit fit' is =
 
 record Fits (x : NamedEntry) : Type 0 where
   count : length (map as_locator x.locators) ≤ 8
-  each : AllByRecursion FitsLocator (map as_locator x.locators)
+  each : AllByRecursion (FitsLocator false) (map as_locator x.locators)
   size : length (spelled_entry (as_entry x)) ≡ 81
 
-fits_from : (x : NamedEntry) → fits_entry x ≡ true → Fits x
+fits_from : (x : NamedEntry) → fits_entry false x ≡ true → Fits x
 fits_from x h =
-    let both = and_parts (nat_le (length x.locators) 8) (list_all fits_locator x.locators) h in
+    let both = and_parts (nat_le (length x.locators) 8) (list_all (fits_locator false) x.locators) h in
     let few : length x.locators ≤ 8 = leb-true _ _ both.0 in
     let count : length (map as_locator x.locators) ≤ 8 = omega (arith, length-map x.locators as_locator, few) in
-    record { count = count; each = all_fit x.locators both.1; size = length-entry (as_entry x) refl count }
+    record { count = count; each = all_fit false x.locators both.1; size = length-entry (as_entry x) refl count }
 
 one_entry : (x y : NamedEntry) → Fits x → Fits y → spelled_entry (as_entry x) ≡ spelled_entry (as_entry y) → x ≡ y
 one_entry x y fx fy is =
@@ -330,25 +333,62 @@ one_entry x y fx fy is =
     (one_tail (map as_locator x.locators) (map as_locator y.locators) fx.count fy.count fx.each fy.each split.1) in
     λ i. record { id = id i; locators = locators i }
 
-one_entries : (xs ys : List NamedEntry) → list_all fits_entry xs ≡ true → list_all fits_entry ys ≡ true
+one_entries : (xs ys : List NamedEntry) → list_all (fits_entry false) xs ≡ true → list_all (fits_entry false) ys ≡ true
     → flat_map spelled_entry (map as_entry xs) ≡ flat_map spelled_entry (map as_entry ys) → xs ≡ ys
 one_entries [] [] fx fy is = refl
 one_entries [] (y ∷ ys) fx fy is =
-    let b = fits_from y (and_parts (fits_entry y) (list_all fits_entry ys) fy).0 in
+    let b = fits_from y (and_parts (fits_entry false y) (list_all (fits_entry false) ys) fy).0 in
     absurd (omega (arith, ap length is, length-append (spelled_entry (as_entry y)) (flat_map spelled_entry (map as_entry ys)), b.size))
 one_entries (x ∷ xs) [] fx fy is =
-    let a = fits_from x (and_parts (fits_entry x) (list_all fits_entry xs) fx).0 in
+    let a = fits_from x (and_parts (fits_entry false x) (list_all (fits_entry false) xs) fx).0 in
     absurd (omega (arith, ap length is, length-append (spelled_entry (as_entry x)) (flat_map spelled_entry (map as_entry xs)), a.size))
 one_entries (x ∷ xs) (y ∷ ys) fx fy is =
-    let fx' = and_parts (fits_entry x) (list_all fits_entry xs) fx in
-    let fy' = and_parts (fits_entry y) (list_all fits_entry ys) fy in
+    let fx' = and_parts (fits_entry false x) (list_all (fits_entry false) xs) fx in
+    let fy' = and_parts (fits_entry false y) (list_all (fits_entry false) ys) fy in
     let a = fits_from x fx'.0 in
     let b = fits_from y fy'.0 in
     let split = one_split (spelled_entry (as_entry x)) (spelled_entry (as_entry y)) (flat_map spelled_entry (map as_entry xs)) (flat_map spelled_entry (map as_entry ys)) (a.size ∙ sym b.size) is in
     ap₂ (λ (z : NamedEntry) (zs : List NamedEntry). z ∷ zs) (one_entry x y a b split.0) (one_entries xs ys fx'.1 fy'.1 split.1)
 
-entries_fit : (xs : List NamedEntry) → fits_run xs ≡ true → list_all fits_entry xs ≡ true
-entries_fit xs h = (and_parts _ (list_all fits_entry xs) (and_parts _ (rises xs) h).0).1
+entries_fit : (xs : List NamedEntry) → fits_run false xs ≡ true → list_all (fits_entry false) xs ≡ true
+entries_fit xs h = (and_parts _ (list_all (fits_entry false) xs) (and_parts _ (rises xs) h).0).1
+
+-- ---- packed runs
+
+one_named : (x y : NamedEntry) → as_entry x ≡ as_entry y → x ≡ y
+one_named x y is =
+    let id : x.id ≡ y.id = one_id x.id y.id (ap (λ (e : Entry). e.id) is) in
+    let locators : x.locators ≡ y.locators = one_list x.locators y.locators (ap (λ (e : Entry). e.locators) is) in
+    λ i. record { id = id i; locators = locators i }
+
+all_named : (xs ys : List NamedEntry) → map as_entry xs ≡ map as_entry ys → xs ≡ ys
+all_named [] [] is = refl
+all_named [] (y ∷ ys) is = cc
+all_named (x ∷ xs) [] is = cc
+all_named (x ∷ xs) (y ∷ ys) is =
+    let e : as_entry x ∷ map as_entry xs ≡ as_entry y ∷ map as_entry ys = is in
+    let here : as_entry x ≡ as_entry y = cc in
+    let more : map as_entry xs ≡ map as_entry ys = cc in
+    ap₂ (λ (z : NamedEntry) (zs : List NamedEntry). z ∷ zs) (one_named x y here) (all_named xs ys more)
+
+have_fields : (xs : List NamedEntry) → list_all (fits_entry true) xs ≡ true → AllByRecursion HasFields (map as_entry xs)
+have_fields [] h = tt
+have_fields (x ∷ xs) h =
+    let both = and_parts (fits_entry true x) (list_all (fits_entry true) xs) h in
+    let of_entry = and_parts (nat_le (length x.locators) 8) (list_all (fits_locator true) x.locators) both.0 in
+    (record { size = refl; each = all_fit true x.locators of_entry.1 }, have_fields xs both.1)
+
+one_packed : (xs ys : List NamedEntry) → fits_run true xs ≡ true → fits_run true ys ≡ true
+    → packed_run (map as_entry xs) ≡ packed_run (map as_entry ys) → xs ≡ ys
+one_packed xs ys fx fy is =
+    let a = (and_parts _ (rises xs) fx).0 in
+    let b = (and_parts _ (rises ys) fy).0 in
+    let c = and_parts (nat_le 1 (length xs) && nat_lt (length xs) (2 ^ 32)) (list_all (fits_entry true) xs) a in
+    let d = and_parts (nat_le 1 (length ys) && nat_lt (length ys) (2 ^ 32)) (list_all (fits_entry true) ys) b in
+    let few = ltb-true _ _ (and_parts (nat_le 1 (length xs)) (nat_lt (length xs) (2 ^ 32)) c.0).1 in
+    let few' = ltb-true _ _ (and_parts (nat_le 1 (length ys)) (nat_lt (length ys) (2 ^ 32)) d.0).1 in
+    all_named xs ys (one_packing (map as_entry xs) (map as_entry ys) (omega (arith, length-map xs as_entry, few)) (omega (arith, length-map ys as_entry, few'))
+    (have_fields xs c.1) (have_fields ys d.1) is)
 
 it_rises : (xs : List NamedEntry) → Ascending xs → rises xs ≡ true
 it_rises [] h = refl
@@ -358,6 +398,12 @@ it_rises (x ∷ y ∷ xs) h = and_from (nat_lt x.id y.id) (rises (y ∷ xs)) (lt
 some_entry : (xs : List NamedEntry) → xs ≢ [] → 1 ≤ length xs
 some_entry [] h = absurd (h refl)
 some_entry (x ∷ xs) h = omega arith
+
+one_run_by : (marked : Bool) (xs ys : List NamedEntry) → fits_run marked xs ≡ true → fits_run marked ys ≡ true
+    → (if marked then packed_run (map as_entry xs) else plain_run (map as_entry xs))
+    ≡ (if marked then packed_run (map as_entry ys) else plain_run (map as_entry ys)) → xs ≡ ys
+one_run_by true xs ys fx fy is = one_packed xs ys fx fy is
+one_run_by false xs ys fx fy is = one_entries xs ys (entries_fit xs fx) (entries_fit ys fy) (ap (drop 4) is)
 
 -- ---- all of it
 
@@ -375,8 +421,16 @@ module _ (f extents pages sections format : ℕ) (is : IsGeometry f extents page
   few : pages ≤ 65535
   few = limits.most_pages
 
-  fits : (l : Place) → InRange S l → fits_locator l ≡ true
-  fits l r = in_range extents pages 4294967295 l limits.most_extents limits.most_pages (omega arith) r.0.0 r.0.1 r.1
+  same_greatest : greatest_mark_in format ≡ most_mark (marks_in format)
+  same_greatest = go (marks_in format)
+    where
+      go : (b : Bool) → (if b then 18446744073709551615 else 0) ≡ most_mark b
+      go true = refl
+      go false = refl
+
+  fits : (l : Place) → InRange S l → fits_locator (marks_in format) l ≡ true
+  fits l r = in_range (marks_in format) extents pages 4294967295 l limits.most_extents limits.most_pages (omega arith) r.0.0 r.0.1 r.1
+      (le_trans r.2 (le_of_eq same_greatest))
 
   -- no more runs are staged than a root may have
   staged_few : most_staged S ≤ greatest_runs format
@@ -392,14 +446,19 @@ module _ (f extents pages sections format : ℕ) (is : IsGeometry f extents page
       (and_from _ _
       (and_from _ _ (and_from _ _ (le-leb _ _ some) (lt-ltb _ _ (omega (arith, high)))) (lt-ltb _ _ (omega (arith, last))))
       (le-leb _ _ (le_trans count staged_few)))
-      (all_of fits_locator ls (λ l there. fits l (each l there)))
+      (all_of (fits_locator (marks_in format)) ls (λ l there. fits l (each l there)))
 
-  run_fits : (entries : List NamedEntry) → IsRunList S entries → fits_run entries ≡ true
+  -- there are few entries, however many bytes one may take
+  few_entries : (marked : Bool) (n : ℕ) → n ≤ (4096 * pages - 45) / (if marked then 145 else 81) → n < 2 ^ 32
+  few_entries true n low = omega (arith, low, few)
+  few_entries false n low = omega (arith, low, few)
+
+  run_fits : (entries : List NamedEntry) → IsRunList S entries → fits_run (marks_in format) entries ≡ true
   run_fits entries list = and_from _ _
       (and_from _ _
-      (and_from _ _ (le-leb _ _ (some_entry entries list.some)) (lt-ltb _ _ (omega (arith, list.few, few))))
-      (all_of fits_entry entries (λ x there. and_from _ _ (le-leb _ _ (list.locators x there).0)
-      (all_of fits_locator x.locators (λ l has. fits l ((list.locators x there).1 l has))))))
+      (and_from _ _ (le-leb _ _ (some_entry entries list.some)) (lt-ltb _ _ (few_entries (marks_in format) (length entries) list.few)))
+      (all_of (fits_entry (marks_in format)) entries (λ x there. and_from _ _ (le-leb _ _ (list.locators x there).0)
+      (all_of (fits_locator (marks_in format)) x.locators (λ l has. fits l ((list.locators x there).1 l has))))))
       (it_rises entries list.ascending)
 
   one_payload : (img : ℕ → Page) (e i kind : ℕ) (a b : List ℕ)
@@ -426,7 +485,7 @@ module _ (f extents pages sections format : ℕ) (is : IsGeometry f extents page
         ap (λ (es : List (ℕ × ℕ)). if (k == 1) && (format == 2) && (sections == 1) then spelled_first_format v pages es else spelled_superblock format v extents pages sections j es) (one_section S.section p g q h j 0 extents same);
     some_page = λ kind payload. omega (arith, length-spelled_frame (kind_number kind) payload);
     one_root = one_page_one_root format;
-    one_run = λ xs ys fx fy same. one_entries xs ys (entries_fit xs fx) (entries_fit ys fy) (ap (drop 4) same);
+    one_run = λ xs ys fx fy same. one_run_by (marks_in format) xs ys fx fy same;
     one_payload = λ img e i kind. one_payload img e i (kind_number kind);
     root_fits = root_fits;
     run_fits = run_fits;

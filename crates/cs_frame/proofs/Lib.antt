@@ -11,6 +11,8 @@ pub mod FirstFormatLaws
 pub mod FrameLaws
 pub mod RunLaws
 pub mod PackedLaws
+pub mod FormatRunLaws
+pub mod RunSizes
 pub mod TellingLaws
 pub mod FormatLaws
 pub mod MarkLaws

@@ -1,23 +1,34 @@
 -- The mark of a frame is the first eight bytes of its payload's digest.
-use Rattle.std.proofs.Common.{◌≡◌, ℕ, ◌+◌, ◌^◌, ◌<◌, List, ◌++◌, take, drop, slice_index, refl, sym, ap, ◌∙◌, arith, append_assoc}
+use Rattle.std.proofs.Common.{◌≡◌, ◌==◌, ℕ, zero, suc, ◌+◌, ◌^◌, ◌<◌, ◌≤◌, Bool, true, false, List, [], ◌∷◌, ◌++◌, take, drop, slice_index, length, ◌⊎◌, inl, inr, Option, Some, None, option_map, if◌then◌else◌, eqb-true, eq-eqb, refl, sym, ap, subst, ◌∙◌, arith, append_assoc}
 use Rattle.std.proofs.lemmas.List.{get_or-drop, get_or-take, length-take-le, take-append-drop}
-use Rattle.byteorder.specs.Endian.{big_bytes}
-use Rattle.sha2.specs.Sha256.{sha256}
+use Rattle.std.proofs.lemmas.Option.{same_Some}
+use Rattle.byteorder.specs.Endian.{big_bytes, big_number}
+use Rattle.byteorder.specs.Numbers.{big_from-lt}
+use Rattle.sha2.specs.Sha256.{digest_bytes, final_hash, initial_hash_256, sha256}
 use Rattle.sha2.proofs.Facts256.{length-sha256}
+use Rattle.std.specs.Int.{to_be_bytes, w32}
+use Rattle.std.specs.Simd.{first_chunks}
 use Rattle.cs_frame.specs.Bytes.{IsBytes, IsPage, field, number}
-use Rattle.cs_frame.specs.Frames.{SpellsFrame, first_page, frame_bytes}
-use Rattle.cs_frame.proofs.Fields.{field_8, field_at, number_below}
+use Rattle.cs_frame.specs.declared.faults.FormatFault.{FormatFault}
+use Rattle.cs_frame.specs.declared.faults.FormatFault.TheVariants as fault
+use Rattle.cs_frame.specs.Faults.{first_fault, unless}
+use Rattle.cs_frame.specs.Formats.{formats_of, kind_number, refusal_of}
+use Rattle.cs_frame.specs.Frames.{SpellsFrame, first_page, frame_bytes, frame_fault, meant_fault, page_count, payload_mark, spelled_frame}
+use Rattle.cs_frame.proofs.Fields.{IsBytes-field, field_8, field_at, field_of_take}
 use Rattle.cs_frame.proofs.FrameLaws.{at_digest_of, first_front}
-use Rattle.cs_model.specs.Geometry.{digest_number}
+use Rattle.cs_model.specs.Device.{Shape, mark_of}
+use Rattle.cs_model.specs.Formats.{FrameKind, fault_for, refused_or}
+use Rattle.cs_model.specs.Geometry.{digest_number, mark_in, marks_in}
+use Rattle.cs_model.specs.Refusal.{Misplaced, Refusal}
 
 -- byte k of the eight behind the ninth
 digit : (page : List ℕ) (k : ℕ) → k < 8 → slice_index page (9 + k) ≡ slice_index (field 9 17 page) k
 digit page k low = sym (get_or-drop 9 page k 0) ∙ sym (get_or-take 8 (drop 9 page) k 0 low)
 
 -- the number that the bytes from 9 to 17 spell
-pub number_is_read : (page : List ℕ) → IsBytes page → digest_number page ≡ number 9 17 page
+number_is_read : (page : List ℕ) → IsBytes (field 9 17 page) → digest_number page ≡ number 9 17 page
 number_is_read page are =
-    let low : number 9 17 page < 2 ^ 64 = number_below page 9 17 are in
+    let low : number 9 17 page < 2 ^ 64 = big_from-lt 0 8 (field 9 17 page) are in
     let digit_0 = digit page 0 (omega arith) in
     let digit_1 = digit page 1 (omega arith) in
     let digit_2 = digit page 2 (omega arith) in
@@ -45,9 +56,115 @@ pub one_digest : (kind other_kind : ℕ) (pages others : List (List ℕ)) (paylo
     → digest_number (first_page pages) ≡ digest_number (first_page others) → take 8 (sha256 payload) ≡ take 8 (sha256 other)
 one_digest kind other_kind pages others payload other a b page other_page same =
     let numbers : number 9 17 (first_page pages) ≡ number 9 17 (first_page others) =
-    sym (number_is_read (first_page pages) page.bytes) ∙ same ∙ number_is_read (first_page others) other_page.bytes in
+    sym (number_is_read (first_page pages) (IsBytes-field (first_page pages) 9 17 page.bytes)) ∙ same
+    ∙ number_is_read (first_page others) (IsBytes-field (first_page others) 9 17 other_page.bytes) in
     sym (in_page kind pages payload a)
     ∙ field_8 (first_page pages) 9 17 refl (omega (arith, page.size)) page.bytes
     ∙ ap (big_bytes 8) numbers
     ∙ sym (field_8 (first_page others) 9 17 refl (omega (arith, other_page.size)) other_page.bytes)
     ∙ in_page other_kind others other b
+
+-- ---- marks of payloads
+
+-- a digest's bytes are bytes
+IsBytes-append : (xs ys : List ℕ) → IsBytes xs → IsBytes ys → IsBytes (xs ++ ys)
+IsBytes-append [] ys hx hy i = hy i
+IsBytes-append (x ∷ xs) ys hx hy zero = hx zero
+IsBytes-append (x ∷ xs) ys hx hy (suc i) = IsBytes-append xs ys (λ k. hx (suc k)) hy i
+
+word : (n : ℕ) → IsBytes (to_be_bytes w32 n)
+word n zero = omega arith
+word n (suc zero) = omega arith
+word n (suc (suc zero)) = omega arith
+word n (suc (suc (suc zero))) = omega arith
+word n (suc (suc (suc (suc i)))) = omega arith
+
+digest_are : (h : List ℕ) (n : ℕ) → IsBytes (digest_bytes h n)
+unfolding digest_bytes
+digest_are h zero i = omega arith
+digest_are h (suc n) i = IsBytes-append (digest_bytes h n) (to_be_bytes w32 (slice_index h n)) (digest_are h n) (word (slice_index h n)) i
+
+bytes-sha256 : (payload : List ℕ) → IsBytes (sha256 payload)
+unfolding sha256
+bytes-sha256 payload = digest_are (final_hash initial_hash_256 payload) 8
+
+-- payloads of one mark have digests that agree in the first eight bytes
+pub one_front : (payload other : List ℕ) → payload_mark payload ≡ payload_mark other → take 8 (sha256 payload) ≡ take 8 (sha256 other)
+one_front payload other same =
+    field_8 (sha256 payload) 0 8 refl (omega (arith, length-sha256 payload)) (bytes-sha256 payload)
+    ∙ ap (big_bytes 8) same
+    ∙ sym (field_8 (sha256 other) 0 8 refl (omega (arith, length-sha256 other)) (bytes-sha256 other))
+
+front_of_chunks : (n : ℕ) (bytes : List ℕ) → 1 ≤ n → first_page (first_chunks 4096 n bytes) ≡ take 4096 bytes
+front_of_chunks zero bytes some = absurd (omega arith)
+front_of_chunks (suc n) bytes some = refl
+
+in_frame : (kind : ℕ) (payload : List ℕ) → field 9 17 (first_page (spelled_frame kind payload)) ≡ take 8 (sha256 payload)
+in_frame kind payload =
+    let digest : List ℕ = sha256 payload in
+    let behind = at_digest_of kind payload in
+    ap (field 9 17) (front_of_chunks (page_count (length payload)) (frame_bytes kind payload) (omega arith))
+    ∙ field_of_take (frame_bytes kind payload) 9 17 4096 (omega arith) (omega arith)
+    ∙ field_at (frame_bytes kind payload) (take 8 digest) (drop 8 digest ++ behind.0) 9 17
+    (behind.1 ∙ ap (λ (xs : List ℕ). xs ++ behind.0) (sym (take-append-drop 8 digest)) ∙ append_assoc (take 8 digest) (drop 8 digest) behind.0)
+    (omega (arith, length-take-le 8 digest (omega (arith, length-sha256 payload))))
+
+-- the mark of a frame is that of its payload
+pub mark_of_frame : (format kind : ℕ) (payload : List ℕ) → marks_in format ≡ true
+    → mark_in format (first_page (spelled_frame kind payload)) ≡ payload_mark payload
+mark_of_frame format kind payload on =
+    let first : List ℕ = first_page (spelled_frame kind payload) in
+    let are : IsBytes (field 9 17 first) = subst IsBytes (sym (in_frame kind payload)) (IsBytes-field (sha256 payload) 0 8 (bytes-sha256 payload)) in
+    ap (λ (b : Bool). if b then digest_number first else 0) on
+    ∙ number_is_read first are ∙ ap (big_number 8) (in_frame kind payload)
+
+-- ---- the frame that is meant
+
+-- the machine's mark of pages is that of the first
+pub mark_of_pages : (S : Shape) (format : ℕ) → S.mark ≡ mark_in format → (pages : List (List ℕ)) → mark_of S pages ≡ mark_in format (first_page pages)
+mark_of_pages S format is [] = none (marks_in format)
+  where
+    none : (b : Bool) → 0 ≡ (if b then digest_number [] else 0)
+    none true = refl
+    none false = refl
+mark_of_pages S format is (page ∷ pages) = ap (λ (m : List ℕ → ℕ). m page) is
+
+-- what is wrong with a frame that is meant is what the machine says
+pub fault_of_meant : (S : Shape) → S.mark ≡ mark_in S.format → (kind : FrameKind) (m : ℕ) (pages : List (List ℕ))
+    → option_map refusal_of (meant_fault S.format (kind_number kind) m pages) ≡ fault_for S (formats_of S) kind m pages
+fault_of_meant S is kind m pages =
+    subst (λ (n : ℕ). option_map refusal_of (meant_fault S.format (kind_number kind) m pages) ≡ told (n == m)) (sym (mark_of_pages S S.format is pages))
+    (by (frame_fault (kind_number kind) pages) (mark_in S.format (first_page pages) == m))
+  where
+    told : Bool → Option Refusal
+    told b = if b then (formats_of S).fault kind pages else Some (refused_or ((formats_of S).fault kind pages) Misplaced)
+
+    by : (found : Option FormatFault) (b : Bool) → option_map refusal_of (first_fault (found ∷ unless b fault.Misplaced ∷ []))
+        ≡ (if b then option_map refusal_of found else Some (refused_or (option_map refusal_of found) Misplaced))
+    by None true = refl
+    by None false = refl
+    by (Some f) true = refl
+    by (Some f) false = refl
+
+-- where nothing is wrong the frame is there, and it is the one that is meant
+pub meant_passes : (found : Option FormatFault) (n m : ℕ) → first_fault (found ∷ unless (n == m) fault.Misplaced ∷ []) ≡ None → (found ≡ None) × (n ≡ m)
+meant_passes None n m h = (refl, eqb-true n m (passes (n == m) h))
+  where
+    passes : (b : Bool) → first_fault (unless b fault.Misplaced ∷ []) ≡ None → b ≡ true
+    passes true h = refl
+    passes false h = cc
+meant_passes (Some f) n m h = absurd (cc h)
+
+pub passes_meant : (found : Option FormatFault) (n m : ℕ) → found ≡ None → n ≡ m → first_fault (found ∷ unless (n == m) fault.Misplaced ∷ []) ≡ None
+passes_meant None n m none same = ap (λ (b : Bool). first_fault (unless b fault.Misplaced ∷ [])) (eq-eqb n m same)
+passes_meant (Some f) n m none same = absurd (cc none)
+
+-- what is found is the frame's own fault, or that it is another one
+pub meant_finds : (found : Option FormatFault) (b : Bool) (f : FormatFault) → first_fault (found ∷ unless b fault.Misplaced ∷ []) ≡ Some f → (found ≡ Some f) ⊎ ((found ≡ None) × (f ≡ fault.Misplaced))
+meant_finds None true f h = absurd (cc h)
+meant_finds None false f h = inr (refl, sym (same_Some fault.Misplaced f h))
+meant_finds (Some g) b f h = inl h
+
+pub finds_meant : (found : Option FormatFault) (test : Option FormatFault) (f : FormatFault) → found ≡ Some f → first_fault (found ∷ test ∷ []) ≡ Some f
+finds_meant None test f h = absurd (cc h)
+finds_meant (Some g) test f h = h

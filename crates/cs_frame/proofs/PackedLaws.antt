@@ -8,7 +8,7 @@ use Rattle.cs_frame.specs.declared.faults.FormatFault.{FormatFault}
 use Rattle.cs_frame.specs.declared.faults.FormatFault.TheVariants.{BadLength, OutOfMemory, OutOfOrder}
 use Rattle.cs_frame.specs.Bytes.{IsBytes, field, number}
 use Rattle.cs_frame.specs.Faults.{first_fault, unless}
-use Rattle.cs_frame.specs.Locators.{locators_in, spelled_locators}
+use Rattle.cs_frame.specs.Locators.{FitsLocator, locators_in, spelled_locators}
 use Rattle.cs_frame.specs.PackedRuns.{AreThere, SpellsPacked, head_test, locators_test, packed_count_test, packed_end, packed_entries_in, packed_entry, packed_entry_in, packed_entry_tests, packed_fault, packed_in, packed_run, packed_size, packed_sizes, packed_tests}
 use Rattle.cs_frame.specs.Runs.{Entry, FitsEntry, Rises, count_test, greatest_chunks, id_in, is_before, order_test}
 use Rattle.cs_frame.proofs.Fields.{IsBytes-drop, IsBytes-field, IsBytes-take, after_field, byte_at_front, field_1, field_4, field_at, length-field, number_at, number_below, take_more}
@@ -148,7 +148,7 @@ are_there (suc count) previous bytes h =
 
 -- the first entry is spelled by the bytes up to its end, and fits
 first_spelled : (previous : Option (List ℕ)) (count : ℕ) (bytes : List ℕ) → IsBytes bytes → IsSoundHead previous count bytes
-    → (packed_entry (packed_entry_in bytes) ≡ take (packed_end bytes) bytes) × FitsEntry (packed_entry_in bytes)
+    → (packed_entry (packed_entry_in bytes) ≡ take (packed_end bytes) bytes) × FitsEntry true (packed_entry_in bytes)
 first_spelled previous count bytes is it =
     let c : ℕ = slice_index bytes 16 in
     let head : 17 ≤ length bytes = it.head in
@@ -156,17 +156,17 @@ first_spelled previous count bytes is it =
     let inside : packed_end bytes ≤ length bytes = it.end in
     let part : List ℕ = field 17 (packed_end bytes) bytes in
     let are : IsBytes part = IsBytes-field bytes 17 (packed_end bytes) is in
-    let long : length part ≡ 8 * c = length-field bytes 17 (packed_end bytes) (omega arith) inside ∙ omega arith in
-    let spelled : spelled_locators (locators_in part) ≡ part = spelled-locators_in c part are long in
-    let k : length (locators_in part) ≡ c = length-locators_in c part long in
-    let counted : take 17 bytes ≡ id_in bytes ++ length (locators_in part) ∷ [] = take_more bytes _ _ 16 17 (omega arith) refl (field_1 bytes 16 17 refl (omega arith) ∙ ap (λ (b : ℕ). b ∷ []) (sym k)) in
-    let front : take (packed_end bytes) bytes ≡ id_in bytes ++ length (locators_in part) ∷ [] ++ spelled_locators (locators_in part) = take_more bytes _ _ 17 (packed_end bytes) (omega arith) counted (sym spelled) in (
+    let long : length part ≡ 16 * c = length-field bytes 17 (packed_end bytes) (omega arith) inside ∙ omega arith in
+    let spelled : spelled_locators true (locators_in true part) ≡ part = spelled-locators_in true c part are long in
+    let k : length (locators_in true part) ≡ c = length-locators_in true c part long in
+    let counted : take 17 bytes ≡ id_in bytes ++ length (locators_in true part) ∷ [] = take_more bytes _ _ 16 17 (omega arith) refl (field_1 bytes 16 17 refl (omega arith) ∙ ap (λ (b : ℕ). b ∷ []) (sym k)) in
+    let front : take (packed_end bytes) bytes ≡ id_in bytes ++ length (locators_in true part) ∷ [] ++ spelled_locators true (locators_in true part) = take_more bytes _ _ 17 (packed_end bytes) (omega arith) counted (sym spelled) in (
       sym front,
       record {
         size = length-take-le 16 bytes (omega arith);
         bytes = IsBytes-take 16 bytes is;
         count = omega (arith, k, few);
-        each = fit-locators_in c part are long;
+        each = fit-locators_in true c part are long;
       },
     )
 
@@ -176,7 +176,7 @@ no_bytes (b ∷ bytes) none = absurd (omega (arith, none))
 
 -- the bytes are spelled by the entries that are read from them, which fit
 all_spelled : (count : ℕ) (previous : Option (List ℕ)) (bytes : List ℕ) → IsBytes bytes → first_fault (packed_tests count previous bytes) ≡ None
-    → (flat_map packed_entry (packed_in count bytes) ≡ bytes) × AllByRecursion FitsEntry (packed_in count bytes)
+    → (flat_map packed_entry (packed_in count bytes) ≡ bytes) × AllByRecursion (FitsEntry true) (packed_in count bytes)
 all_spelled zero previous bytes is h =
     let none : length bytes ≡ 0 = eqb-true (length bytes) 0 (passed (length bytes == 0) BadLength [] h).0 in
     (sym (no_bytes bytes none), tt)
@@ -256,18 +256,30 @@ spells payload entries are h e =
 entry_grouped : (id k ls rest : List ℕ) → (id ++ k ++ ls) ++ rest ≡ id ++ (k ++ (ls ++ rest))
 entry_grouped id k ls rest = simp append_assoc
 
+-- what reading asks of an entry: an identifier of 16 bytes, whatever they are, and locators that fit
+pub record HasFields (e : Entry) : Type 0 where
+  pub size : length e.id ≡ 16
+  pub each : AllByRecursion (FitsLocator true) e.locators
+
+fields_of : (e : Entry) → FitsEntry true e → HasFields e
+fields_of e fits = record { size = fits.size; each = fits.each }
+
+all_fields : (es : List Entry) → AllByRecursion (FitsEntry true) es → AllByRecursion HasFields es
+all_fields [] fits = tt
+all_fields (e ∷ es) fits = (fields_of e fits.0, all_fields es fits.1)
+
 -- an entry before other bytes
-module _ (e : Entry) (fits : FitsEntry e) (rest : List ℕ) where
+module _ (e : Entry) (fits : HasFields e) (rest : List ℕ) where
   bytes : List ℕ
   bytes = packed_entry e ++ rest
 
-  all : drop 0 (packed_entry e ++ rest) ≡ e.id ++ (length e.locators ∷ spelled_locators e.locators ++ rest)
-  all = entry_grouped e.id (length e.locators ∷ []) (spelled_locators e.locators) rest
+  all : drop 0 (packed_entry e ++ rest) ≡ e.id ++ (length e.locators ∷ spelled_locators true e.locators ++ rest)
+  all = entry_grouped e.id (length e.locators ∷ []) (spelled_locators true e.locators) rest
 
-  at_count : drop 16 (packed_entry e ++ rest) ≡ length e.locators ∷ spelled_locators e.locators ++ rest
+  at_count : drop 16 (packed_entry e ++ rest) ≡ length e.locators ∷ spelled_locators true e.locators ++ rest
   at_count = after_field (packed_entry e ++ rest) e.id _ 0 16 all (omega (arith, fits.size))
 
-  at_locators : drop 17 (packed_entry e ++ rest) ≡ spelled_locators e.locators ++ rest
+  at_locators : drop 17 (packed_entry e ++ rest) ≡ spelled_locators true e.locators ++ rest
   at_locators = after_field (packed_entry e ++ rest) (length e.locators ∷ []) _ 16 17 at_count refl
 
   id_is_read : id_in (packed_entry e ++ rest) ≡ e.id
@@ -276,25 +288,25 @@ module _ (e : Entry) (fits : FitsEntry e) (rest : List ℕ) where
   count_is_read : slice_index (packed_entry e ++ rest) 16 ≡ length e.locators
   count_is_read = byte_at_front (packed_entry e ++ rest) _ 16 (length e.locators) at_count
 
-  end_is_read : 17 + length (spelled_locators e.locators) ≡ packed_end (packed_entry e ++ rest)
-  end_is_read = omega (arith, length-spelled_locators e.locators, count_is_read)
+  end_is_read : 17 + length (spelled_locators true e.locators) ≡ packed_end (packed_entry e ++ rest)
+  end_is_read = omega (arith, length-spelled_locators true e.locators, count_is_read)
 
   rest_is_left : drop (packed_end (packed_entry e ++ rest)) (packed_entry e ++ rest) ≡ rest
-  rest_is_left = after_field (packed_entry e ++ rest) (spelled_locators e.locators) rest 17 (packed_end (packed_entry e ++ rest)) at_locators end_is_read
+  rest_is_left = after_field (packed_entry e ++ rest) (spelled_locators true e.locators) rest 17 (packed_end (packed_entry e ++ rest)) at_locators end_is_read
 
   entry_is_read : packed_entry_in (packed_entry e ++ rest) ≡ e
   entry_is_read =
-      let locators : locators_in (field 17 (packed_end (packed_entry e ++ rest)) (packed_entry e ++ rest)) ≡ e.locators =
-      ap locators_in (field_at (packed_entry e ++ rest) (spelled_locators e.locators) rest 17 (packed_end (packed_entry e ++ rest)) at_locators end_is_read)
-      ∙ locators_in-spelled e.locators fits.each in
+      let locators : locators_in true (field 17 (packed_end (packed_entry e ++ rest)) (packed_entry e ++ rest)) ≡ e.locators =
+      ap (locators_in true) (field_at (packed_entry e ++ rest) (spelled_locators true e.locators) rest 17 (packed_end (packed_entry e ++ rest)) at_locators end_is_read)
+      ∙ locators_in-spelled true e.locators fits.each in
       λ i. record { id = id_is_read i; locators = locators i }
 
   long : length (packed_entry e ++ rest) ≡ packed_size (length e.locators) + length rest
   long = ap length all ∙ omega (
     arith,
-    length-append e.id (length e.locators ∷ spelled_locators e.locators ++ rest),
-    length-append (spelled_locators e.locators) rest,
-    length-spelled_locators e.locators,
+    length-append e.id (length e.locators ∷ spelled_locators true e.locators ++ rest),
+    length-append (spelled_locators true e.locators) rest,
+    length-spelled_locators true e.locators,
     fits.size,
   )
 
@@ -302,17 +314,27 @@ module _ (e : Entry) (fits : FitsEntry e) (rest : List ℕ) where
   end_is = ap packed_size count_is_read
 
 -- so many bytes
-pub length-packed : (es : List Entry) → AllByRecursion FitsEntry es → length (flat_map packed_entry es) ≡ packed_sizes es
+pub length-packed : (es : List Entry) → AllByRecursion HasFields es → length (flat_map packed_entry es) ≡ packed_sizes es
 length-packed [] fits = refl
 length-packed (e ∷ es) fits = omega (arith, long e fits.0 (flat_map packed_entry es), length-packed es fits.1)
 
-entries_are_read : (es : List Entry) → AllByRecursion FitsEntry es → packed_in (length es) (flat_map packed_entry es) ≡ es
+entries_are_read : (es : List Entry) → AllByRecursion HasFields es → packed_in (length es) (flat_map packed_entry es) ≡ es
 entries_are_read [] fits = refl
 entries_are_read (e ∷ es) fits =
     let rest : List ℕ = flat_map packed_entry es in
     ap (λ (x : Entry). x ∷ packed_in (length es) (drop (packed_end (packed_entry e ++ rest)) (packed_entry e ++ rest))) (entry_is_read e fits.0 rest)
     ∙ ap (λ (xs : List ℕ). e ∷ packed_in (length es) xs) (rest_is_left e fits.0 rest)
     ∙ ap (λ (xs : List Entry). e ∷ xs) (entries_are_read es fits.1)
+
+-- two lists of entries that are spelled alike are one
+pub one_packing : (xs ys : List Entry) → length xs < 2 ^ 32 → length ys < 2 ^ 32 → AllByRecursion HasFields xs → AllByRecursion HasFields ys
+    → packed_run xs ≡ packed_run ys → xs ≡ ys
+one_packing xs ys few few' fx fy is =
+    let count : length xs ≡ length ys =
+    sym (number_at (packed_run xs) (flat_map packed_entry xs) 0 4 4 (length xs) refl refl refl (omega (arith, few)))
+    ∙ ap (number 0 4) is ∙ number_at (packed_run ys) (flat_map packed_entry ys) 0 4 4 (length ys) refl refl refl (omega (arith, few')) in
+    sym (entries_are_read xs fx) ∙ ap (λ (n : ℕ). packed_in n (flat_map packed_entry xs)) count
+    ∙ ap (λ (b : List ℕ). packed_in (length ys) (drop 4 b)) is ∙ entries_are_read ys fy
 
 -- the order of the first entry passes
 abbrev Follows : Option (List ℕ) → List Entry → Type 0
@@ -332,23 +354,23 @@ pass : (tests : List (Option FormatFault)) (o : Option FormatFault) → o ≡ No
 pass tests None is h = h
 pass tests (Some f) is h = cc
 
-pass_all : (es : List Entry) (previous : Option (List ℕ)) → AllByRecursion FitsEntry es → Rises es → Follows previous es
+pass_all : (es : List Entry) (previous : Option (List ℕ)) → AllByRecursion (FitsEntry true) es → Rises es → Follows previous es
     → first_fault (packed_tests (length es) previous (flat_map packed_entry es)) ≡ None
 pass_all [] previous fits rising after = refl
 pass_all (e ∷ es) previous fits rising after =
     let rest : List ℕ = flat_map packed_entry es in
-    let size = long e fits.0 rest in
-    let count = count_is_read e fits.0 rest in
-    let end = end_is e fits.0 rest in
+    let size = long e (fields_of e fits.0) rest in
+    let count = count_is_read e (fields_of e fits.0) rest in
+    let end = end_is e (fields_of e fits.0) rest in
     let few = fits.0.count in
     let head : nat_le 17 (length (packed_entry e ++ rest)) ≡ true = le-leb _ _ (omega (arith, size)) in
     let short : nat_le (slice_index (packed_entry e ++ rest) 16) greatest_chunks ≡ true = le-leb _ _ (omega (arith, count, few)) in
     let inside : nat_le (packed_end (packed_entry e ++ rest)) (length (packed_entry e ++ rest)) ≡ true = le-leb _ _ (omega (arith, size, end)) in
-    let id = id_is_read e fits.0 rest in
+    let id = id_is_read e (fields_of e fits.0) rest in
     let order : order_test previous (id_in (packed_entry e ++ rest)) ≡ None = ap (order_test previous) id ∙ after in
     let others : first_fault (packed_tests (length es) (Some (id_in (packed_entry e ++ rest))) (drop (packed_end (packed_entry e ++ rest)) (packed_entry e ++ rest))) ≡ None =
     ap (λ (x : List ℕ). first_fault (packed_tests (length es) (Some x) (drop (packed_end (packed_entry e ++ rest)) (packed_entry e ++ rest)))) id
-    ∙ ap (λ (xs : List ℕ). first_fault (packed_tests (length es) (Some e.id) xs)) (rest_is_left e fits.0 rest)
+    ∙ ap (λ (xs : List ℕ). first_fault (packed_tests (length es) (Some e.id) xs)) (rest_is_left e (fields_of e fits.0) rest)
     ∙ pass_all es (Some e.id) fits.1 (rising_rest e es rising) (follows e es rising) in
     let tests = packed_tests (length es) (Some (id_in (packed_entry e ++ rest))) (drop (packed_end (packed_entry e ++ rest)) (packed_entry e ++ rest)) in
     pass (order_test previous (id_in (packed_entry e ++ rest)) ∷ count_test (packed_entry e ++ rest) ∷ locators_test (packed_entry e ++ rest) ∷ tests)
@@ -366,11 +388,11 @@ module _ (payload : List ℕ) (es : List Entry) (it : SpellsPacked payload es) w
   number_is_read = number_at payload (flat_map packed_entry es) 0 4 4 (length es) it.spelled refl refl (omega (arith, it.fits.most))
 
   pub packed_length : length payload ≡ 4 + packed_sizes es
-  packed_length = omega (arith, ap length it.spelled, length-append (big_bytes 4 (length es)) (flat_map packed_entry es), length-packed es it.fits.each)
+  packed_length = omega (arith, ap length it.spelled, length-append (big_bytes 4 (length es)) (flat_map packed_entry es), length-packed es (all_fields es it.fits.each))
 
   -- what is spelled is read again
   pub run_is_read : packed_entries_in payload ≡ es
-  run_is_read = ap (λ (n : ℕ). packed_in n (drop 4 payload)) number_is_read ∙ ap (packed_in (length es)) rest ∙ entries_are_read es it.fits.each
+  run_is_read = ap (λ (n : ℕ). packed_in n (drop 4 payload)) number_is_read ∙ ap (packed_in (length es)) rest ∙ entries_are_read es (all_fields es it.fits.each)
 
   -- and has no fault
   pub fault-spelled : packed_fault payload ≡ None

@@ -10,7 +10,8 @@ use Rattle.cs_frame.specs.declared.faults.FormatFault.TheVariants.{BadMagic, Bad
 use Rattle.cs_frame.specs.declared.locators.Locator.{Locator}
 use Rattle.cs_frame.specs.Bytes.{IsBytes, IsPage, all_zero, field, number, zeros}
 use Rattle.cs_frame.specs.Geometries.{IsKnown}
-use Rattle.cs_frame.specs.Locators.{FitsLocator, locators_in, spelled_locators}
+use Rattle.cs_frame.specs.Locators.{FitsLocator, locator_size, locators_in, spelled_locators}
+use Rattle.cs_model.specs.Geometry.{marks_in}
 use Rattle.cs_frame.specs.Pages.{padded, sealed, digest_test, digit_test, padding_test}
 use Rattle.cs_frame.specs.Roots.{FitsRoot, SpellsRoot, greatest_runs, root_digit, root_end, root_fault, root_fields, root_length_test, root_range_test, root_tests, runs_in, spelled_root}
 use Rattle.cs_frame.proofs.Fields.{after_field, byte_at_front, field_1, field_8, field_at, number_at, take_more, length-field, IsBytes-field}
@@ -35,28 +36,39 @@ fewest_runs format = go (nat_le format 2)
     go true = omega arith
     go false = omega arith
 
+-- so many runs and the digest behind them are on the page
+pub fits_page : (format count : ℕ) → count ≤ greatest_runs format → 21 + locator_size (marks_in format) * count + 32 ≤ 4096
+fits_page format count few = go (marks_in format) (omega (arith, few, most_runs format))
+  where
+    go : (marked : Bool) → count ≤ 24 → 21 + locator_size marked * count + 32 ≤ 4096
+    go true low = omega (arith, low)
+    go false low = omega (arith, low)
+
+behind : (n : ℕ) → 21 + n - 21 ≡ n
+behind n = omega arith
+
 -- what the tests of a root say
 pub record IsSoundRoot (format : ℕ) (page : List ℕ) : Type 0 where
   pub magic : take 4 page ≡ codes "CSR" ++ root_digit format ∷ []
   pub count : slice_index page 20 ≤ greatest_runs format
-  pub digest : field (root_end page) (root_end page + 32) page ≡ sha256 (take (root_end page) page)
+  pub digest : field (root_end format page) (root_end format page + 32) page ≡ sha256 (take (root_end format page) page)
   pub first_version : 1 ≤ number 4 12 page
   pub last_version : number 4 12 page < 2 ^ 63
   pub last_command : number 12 20 page < 2 ^ 63
-  pub padding : all_zero (drop (root_end page + 32) page) ≡ true
+  pub padding : all_zero (drop (root_end format page + 32) page) ≡ true
 
 -- all of them but the first two, in order
 abbrev later_tests : (format : ℕ) → List ℕ → List (Option FormatFault)
-later_tests format page = root_length_test format page ∷ digest_test (root_end page) page ∷ root_range_test page ∷ padding_test (root_end page + 32) page ∷ []
+later_tests format page = root_length_test format page ∷ digest_test (root_end format page) page ∷ root_range_test page ∷ padding_test (root_end format page + 32) page ∷ []
 
 pub sound : (format : ℕ) (page : List ℕ) → length page ≡ 4096 → root_fault format page ≡ None → IsSoundRoot format page
 sound format page size h =
     let p = passed (bytes_eq (field 0 3 page) (codes "CSR")) BadMagic (digit_test (root_digit format) page ∷ later_tests format page) h in
     let q = passed (slice_index page 3 == root_digit format) BadVersion _ p.1 in
     let r = passed (nat_le (slice_index page 20) (greatest_runs format)) BadLength _ q.1 in
-    let s = passed (bytes_eq (field (root_end page) (root_end page + 32) page) (sha256 (take (root_end page) page))) BadDigest _ r.1 in
+    let s = passed (bytes_eq (field (root_end format page) (root_end format page + 32) page) (sha256 (take (root_end format page) page))) BadDigest _ r.1 in
     let t = passed (nat_le 1 (number 4 12 page) && nat_lt (number 4 12 page) (2 ^ 63) && nat_lt (number 12 20 page) (2 ^ 63)) BadVersion _ s.1 in
-    let u = passed (all_zero (drop (root_end page + 32) page)) BadPadding _ t.1 in
+    let u = passed (all_zero (drop (root_end format page + 32) page)) BadPadding _ t.1 in
     let low = and_parts _ _ t.0 in
     let high = and_parts _ _ low.0 in
     record {
@@ -90,28 +102,29 @@ one_digit format f known also = for_known (λ a. root_digit a ≡ root_digit f �
     (for_known (λ b. 51 ≡ root_digit b → 3 ≡ b) (λ is. absurd (omega (arith, is))) (λ is. refl) f also) format known
 
 -- a page without a fault is spelled by what is read from it
-pub root_is_spelled : (format : ℕ) (page : List ℕ) → length page ≡ 4096 → IsBytes page → root_fault format page ≡ None → page ≡ spelled_root format (number 4 12 page) (number 12 20 page) (runs_in page)
+pub root_is_spelled : (format : ℕ) (page : List ℕ) → length page ≡ 4096 → IsBytes page → root_fault format page ≡ None → page ≡ spelled_root format (number 4 12 page) (number 12 20 page) (runs_in format page)
 root_is_spelled format page size bytes h =
     let it = sound format page size h in
     let magic : List ℕ = codes "CSR" ++ root_digit format ∷ [] in
     let count : ℕ = slice_index page 20 in
-    let bound : root_end page + 32 ≤ 4096 = omega (arith, it.count, most_runs format) in
-    let runs : List ℕ = field 21 (root_end page) page in
-    let long : length runs ≡ 8 * count = length-field page 21 (root_end page) (omega arith) (omega arith) ∙ omega arith in
-    let spelled : spelled_locators (runs_in page) ≡ runs = spelled-locators_in count runs (IsBytes-field page 21 (root_end page) bytes) long in
-    let k : slice_index page 20 ≡ length (runs_in page) = omega (arith, long, ap length spelled, length-spelled_locators (runs_in page)) in
+    let bound : root_end format page + 32 ≤ 4096 = fits_page format (slice_index page 20) it.count in
+    let front : 21 ≤ root_end format page = omega arith in
+    let runs : List ℕ = field 21 (root_end format page) page in
+    let long : length runs ≡ locator_size (marks_in format) * count = length-field page 21 (root_end format page) front (omega (arith, bound, size)) ∙ behind (locator_size (marks_in format) * count) in
+    let spelled : spelled_locators (marks_in format) (runs_in format page) ≡ runs = spelled-locators_in (marks_in format) count runs (IsBytes-field page 21 (root_end format page) bytes) long in
+    let k : slice_index page 20 ≡ length (runs_in format page) = sym (length-locators_in (marks_in format) count runs long) in
     let version : take 12 page ≡ magic ++ big_bytes 8 (number 4 12 page) = take_more page _ _ 4 12 (omega arith) it.magic (field_8 page 4 12 refl (omega arith) bytes) in
     let commands : take 20 page ≡ magic ++ big_bytes 8 (number 4 12 page) ++ big_bytes 8 (number 12 20 page) = take_more page _ _ 12 20 (omega arith) version (field_8 page 12 20 refl (omega arith) bytes) in
-    let counted : take 21 page ≡ magic ++ big_bytes 8 (number 4 12 page) ++ big_bytes 8 (number 12 20 page) ++ length (runs_in page) ∷ [] = take_more page _ _ 20 21 (omega arith) commands (field_1 page 20 21 refl (omega arith) ∙ ap (λ (b : ℕ). b ∷ []) k) in
-    let fields : take (root_end page) page ≡ root_fields format (number 4 12 page) (number 12 20 page) (runs_in page) = take_more page _ _ 21 (root_end page) (omega arith) counted (sym spelled) in
-    page_is_padded page (root_end page) size bound it.digest it.padding ∙ ap (λ (xs : List ℕ). padded (sealed xs)) fields
+    let counted : take 21 page ≡ magic ++ big_bytes 8 (number 4 12 page) ++ big_bytes 8 (number 12 20 page) ++ length (runs_in format page) ∷ [] = take_more page _ _ 20 21 (omega arith) commands (field_1 page 20 21 refl (omega arith) ∙ ap (λ (b : ℕ). b ∷ []) k) in
+    let fields : take (root_end format page) page ≡ root_fields format (number 4 12 page) (number 12 20 page) (runs_in format page) = take_more page _ _ 21 (root_end format page) front counted (sym spelled) in
+    page_is_padded page (root_end format page) size bound it.digest it.padding ∙ ap (λ (xs : List ℕ). padded (sealed xs)) fields
 
 -- a list of five parts, from the left
 from_left : (m v c k ls rest : List ℕ) → m ++ v ++ c ++ k ++ ls ++ rest ≡ m ++ (v ++ (c ++ (k ++ (ls ++ rest))))
 from_left m v c k ls rest = simp append_assoc
 
-pub length-root_fields : (format version commands : ℕ) (runs : List Locator) → length (root_fields format version commands runs) ≡ 21 + 8 * length runs
-length-root_fields format version commands runs = omega (arith, length-append (codes "CSR" ++ root_digit format ∷ [] ++ big_bytes 8 version ++ big_bytes 8 commands ++ length runs ∷ []) (spelled_locators runs), length-spelled_locators runs)
+pub length-root_fields : (format version commands : ℕ) (runs : List Locator) → length (root_fields format version commands runs) ≡ 21 + locator_size (marks_in format) * length runs
+length-root_fields format version commands runs = omega (arith, length-append (codes "CSR" ++ root_digit format ∷ [] ++ big_bytes 8 version ++ big_bytes 8 commands ++ length runs ∷ []) (spelled_locators (marks_in format) runs), length-spelled_locators (marks_in format) runs)
 
 -- where the parts of a page stand
 record HasParts (page m v c ls rest : List ℕ) (k : ℕ) : Type 0 where
@@ -141,7 +154,7 @@ pub record HasRoom (format version commands : ℕ) (runs : List Locator) : Type 
   pub last_version : version < 2 ^ 63
   pub last_command : commands < 2 ^ 63
   pub count : length runs ≤ greatest_runs format
-  pub each : AllByRecursion FitsLocator runs
+  pub each : AllByRecursion (FitsLocator (marks_in format)) runs
 
 pub has_room : (format version commands : ℕ) (runs : List Locator) → FitsRoot format version commands runs → HasRoom format version commands runs
 has_room format version commands runs fits = record {
@@ -160,11 +173,11 @@ module _ (format version commands : ℕ) (runs : List Locator) (fits : HasRoom f
   few = omega (arith, fits.count, most_runs format)
 
   short : length (root_fields format version commands runs) + 32 ≤ 4096
-  short = omega (arith, length-root_fields format version commands runs, few)
+  short = omega (arith, length-root_fields format version commands runs, fits_page format (length runs) fits.count)
 
-  here : HasParts (spelled_root format version commands runs) magic (big_bytes 8 version) (big_bytes 8 commands) (spelled_locators runs)
+  here : HasParts (spelled_root format version commands runs) magic (big_bytes 8 version) (big_bytes 8 commands) (spelled_locators (marks_in format) runs)
       (sha256 (root_fields format version commands runs) ++ zeros (4096 - length (sealed (root_fields format version commands runs)))) (length runs)
-  here = parts (spelled_root format version commands runs) magic (big_bytes 8 version) (big_bytes 8 commands) (spelled_locators runs) _ (length runs) (append_assoc (root_fields format version commands runs) (sha256 (root_fields format version commands runs)) (zeros (4096 - length (sealed (root_fields format version commands runs))))) refl refl refl
+  here = parts (spelled_root format version commands runs) magic (big_bytes 8 version) (big_bytes 8 commands) (spelled_locators (marks_in format) runs) _ (length runs) (append_assoc (root_fields format version commands runs) (sha256 (root_fields format version commands runs)) (zeros (4096 - length (sealed (root_fields format version commands runs))))) refl refl refl
 
   -- what is spelled is read again
   pub version_is_read : number 4 12 (spelled_root format version commands runs) ≡ version
@@ -176,13 +189,14 @@ module _ (format version commands : ℕ) (runs : List Locator) (fits : HasRoom f
   count_is_read : slice_index (spelled_root format version commands runs) 20 ≡ length runs
   count_is_read = byte_at_front (spelled_root format version commands runs) _ 20 (length runs) here.at_count
 
-  end_is_read : length (root_fields format version commands runs) ≡ root_end (spelled_root format version commands runs)
-  end_is_read = omega (arith, length-root_fields format version commands runs, count_is_read)
+  end_is_read : length (root_fields format version commands runs) ≡ root_end format (spelled_root format version commands runs)
+  end_is_read = length-root_fields format version commands runs ∙ ap (λ (n : ℕ). 21 + locator_size (marks_in format) * n) (sym count_is_read)
 
-  pub runs_are_read : runs_in (spelled_root format version commands runs) ≡ runs
+  pub runs_are_read : runs_in format (spelled_root format version commands runs) ≡ runs
   runs_are_read =
-      ap locators_in (field_at (spelled_root format version commands runs) (spelled_locators runs) _ 21 (root_end (spelled_root format version commands runs)) here.at_runs (omega (arith, length-spelled_locators runs, count_is_read)))
-      ∙ locators_in-spelled runs fits.each
+      ap (locators_in (marks_in format)) (field_at (spelled_root format version commands runs) (spelled_locators (marks_in format) runs) _ 21 (root_end format (spelled_root format version commands runs)) here.at_runs
+      (ap (λ (n : ℕ). 21 + n) (length-spelled_locators (marks_in format) runs) ∙ ap (λ (n : ℕ). 21 + locator_size (marks_in format) * n) (sym count_is_read)))
+      ∙ locators_in-spelled (marks_in format) runs fits.each
 
   -- and has no fault
   pub root_fault-spelled : root_fault format (spelled_root format version commands runs) ≡ None
@@ -197,9 +211,9 @@ module _ (format version commands : ℕ) (runs : List Locator) (fits : HasRoom f
       and_passes _ BadMagic _ (equal_bytes (field 0 3 page) (codes "CSR") (sym (take-take 3 4 page (omega arith)) ∙ ap (take 3) here.front))
       (and_passes _ BadVersion _ (eq-eqb (slice_index page 3) (root_digit format) (sym (get_or-take 4 page 3 0 (omega arith)) ∙ ap (λ (xs : List ℕ). slice_index xs 3) here.front))
       (and_passes _ BadLength _ (le-leb (slice_index page 20) (greatest_runs format) (omega (arith, count_is_read, fits.count)))
-      (and_passes _ BadDigest _ (equal_bytes _ _ (digest_of_padded text short (root_end page) end))
+      (and_passes _ BadDigest _ (equal_bytes _ _ (digest_of_padded text short (root_end format page) end))
       (and_passes _ BadVersion _ (and_from _ _ (and_from _ _ low high) last)
-      (and_passes _ BadPadding _ (zeros_of_padded text short (root_end page) end) no_test))))) in
+      (and_passes _ BadPadding _ (zeros_of_padded text short (root_end format page) end) no_test))))) in
       all.none
 
 -- what spells a root has no fault
@@ -207,13 +221,14 @@ pub spelled_has_none : (page : List ℕ) (format version commands : ℕ) (runs :
 spelled_has_none page format version commands runs s = ap (root_fault format) s.spelled ∙ root_fault-spelled format version commands runs (has_room format version commands runs s.fits)
 
 -- a page without a fault spells what is read from it
-spells_itself : (format : ℕ) (page : List ℕ) → IsKnown format → IsPage page → root_fault format page ≡ None → SpellsRoot page format (number 4 12 page) (number 12 20 page) (runs_in page)
+spells_itself : (format : ℕ) (page : List ℕ) → IsKnown format → IsPage page → root_fault format page ≡ None → SpellsRoot page format (number 4 12 page) (number 12 20 page) (runs_in format page)
 spells_itself format page known p h =
     let it = sound format page p.size h in
-    let bound : root_end page + 32 ≤ 4096 = omega (arith, it.count, most_runs format) in
-    let part : List ℕ = field 21 (root_end page) page in
-    let long : length part ≡ 8 * slice_index page 20 = length-field page 21 (root_end page) (omega arith) (omega arith) ∙ omega arith in
-    let count : length (runs_in page) ≤ greatest_runs format = omega (arith, length-locators_in (slice_index page 20) part long, it.count) in
+    let bound : root_end format page + 32 ≤ 4096 = fits_page format (slice_index page 20) it.count in
+    let front : 21 ≤ root_end format page = omega arith in
+    let part : List ℕ = field 21 (root_end format page) page in
+    let long : length part ≡ locator_size (marks_in format) * slice_index page 20 = length-field page 21 (root_end format page) front (omega (arith, bound, p.size)) ∙ behind (locator_size (marks_in format) * slice_index page 20) in
+    let count : length (runs_in format page) ≤ greatest_runs format = omega (arith, length-locators_in (marks_in format) (slice_index page 20) part long, it.count) in
     record {
       fits = record {
         known = known;
@@ -221,13 +236,13 @@ spells_itself format page known p h =
         last_version = it.last_version;
         last_command = it.last_command;
         count = count;
-        each = fit-locators_in (slice_index page 20) part (IsBytes-field page 21 (root_end page) p.bytes) long;
+        each = fit-locators_in (marks_in format) (slice_index page 20) part (IsBytes-field page 21 (root_end format page) p.bytes) long;
       };
       spelled = root_is_spelled format page p.size p.bytes h;
     }
 
 pub spells : (page : List ℕ) (format of_page version commands : ℕ) (runs : List Locator) → IsKnown format → IsPage page → root_fault format page ≡ None
-    → of_page ≡ format → version ≡ number 4 12 page → commands ≡ number 12 20 page → runs ≡ runs_in page → SpellsRoot page of_page version commands runs
+    → of_page ≡ format → version ≡ number 4 12 page → commands ≡ number 12 20 page → runs ≡ runs_in format page → SpellsRoot page of_page version commands runs
 spells page format of_page version commands runs known p h f v c r =
     subst (λ (n : ℕ). SpellsRoot page n version commands runs) (sym f)
     (subst (λ (n : ℕ). SpellsRoot page format n commands runs) (sym v)
@@ -235,20 +250,20 @@ spells page format of_page version commands runs known p h f v c r =
     (subst (λ (ls : List Locator). SpellsRoot page format (number 4 12 page) (number 12 20 page) ls) (sym r) (spells_itself format page known p h))))
 
 -- what is read of a page
-pub record IsRead (page : List ℕ) (version commands : ℕ) (runs : List Locator) : Type 0 where
+pub record IsRead (format : ℕ) (page : List ℕ) (version commands : ℕ) (runs : List Locator) : Type 0 where
   pub of_version : number 4 12 page ≡ version
   pub of_commands : number 12 20 page ≡ commands
-  pub of_runs : runs_in page ≡ runs
+  pub of_runs : runs_in format page ≡ runs
 
 -- and nothing else is read
-pub one_reading : (page : List ℕ) (format version commands : ℕ) (runs : List Locator) → HasRoom format version commands runs → page ≡ spelled_root format version commands runs → IsRead page version commands runs
+pub one_reading : (page : List ℕ) (format version commands : ℕ) (runs : List Locator) → HasRoom format version commands runs → page ≡ spelled_root format version commands runs → IsRead format page version commands runs
 one_reading page format version commands runs fits is = record {
   of_version = ap (number 4 12) is ∙ version_is_read format version commands runs fits;
   of_commands = ap (number 12 20) is ∙ commands_are_read format version commands runs fits;
-  of_runs = ap runs_in is ∙ runs_are_read format version commands runs fits;
+  of_runs = ap (runs_in format) is ∙ runs_are_read format version commands runs fits;
 }
 
-pub one_root : (page : List ℕ) (format version commands : ℕ) (runs : List Locator) → SpellsRoot page format version commands runs → IsRead page version commands runs
+pub one_root : (page : List ℕ) (format version commands : ℕ) (runs : List Locator) → SpellsRoot page format version commands runs → IsRead format page version commands runs
 one_root page format version commands runs s = one_reading page format version commands runs (has_room format version commands runs s.fits) s.spelled
 
 -- nor in another format

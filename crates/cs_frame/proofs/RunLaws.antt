@@ -11,7 +11,7 @@ use Rattle.cs_frame.specs.declared.faults.FormatFault.TheVariants.{BadLength, Ba
 use Rattle.cs_frame.specs.Bytes.{IsBytes, all_zero, field, number, zeros}
 use Rattle.cs_frame.specs.Faults.{first_fault, unless}
 use Rattle.cs_frame.specs.Locators.{locators_in, spelled_locators}
-use Rattle.cs_frame.specs.Runs.{Entry, FitsEntry, Rises, SpellsRun, count_test, entries_in, entries_tests, entry_end, entry_in, entry_tests, greatest_chunks, id_in, is_before, order_test, pieces_in, run_fault, run_tests, spelled_entry, spelled_run, zeros_test}
+use Rattle.cs_frame.specs.Runs.{Entry, FitsEntry, Rises, SpellsPlain, count_test, entries_in, entries_tests, entry_end, entry_in, entry_tests, greatest_chunks, id_in, is_before, order_test, pieces_in, plain_fault, plain_tests, spelled_entry, plain_run, zeros_test}
 use Rattle.cs_frame.proofs.Fields.{IsBytes-drop, IsBytes-field, IsBytes-take, after_field, byte_at_front, field_1, field_4, field_at, length-field, number_at, number_below, take_more}
 use Rattle.cs_frame.proofs.FrameLaws.{first_of_more}
 use Rattle.cs_frame.proofs.LocatorLaws.{fit-locators_in, length-locators_in, length-spelled_locators, locators_in-spelled, spelled-locators_in}
@@ -54,7 +54,7 @@ not_of_entries (Some previous) (p ∷ ps) h =
     no_memory _ OutOfOrder (count_test p ∷ zeros_test p ∷ entries_tests (Some (id_in p)) ps) (λ e. cc)
     (no_memory _ BadLength (zeros_test p ∷ entries_tests (Some (id_in p)) ps) (λ e. cc) (no_memory _ BadPadding (entries_tests (Some (id_in p)) ps) (λ e. cc) (not_of_entries (Some (id_in p)) ps))) h
 
-pub not_of_run : (payload : List ℕ) → run_fault payload ≡ Some OutOfMemory → ⊥
+pub not_of_run : (payload : List ℕ) → plain_fault payload ≡ Some OutOfMemory → ⊥
 not_of_run payload h = no_memory _ BadLength (entries_tests None (pieces_in payload)) (λ e. cc) (not_of_entries None (pieces_in payload)) h
 
 -- ---- a payload without a fault
@@ -92,7 +92,7 @@ pub record IsPiece (piece : List ℕ) : Type 0 where
   pub bytes : IsBytes piece
   pub size : length piece ≡ 81
 
-spelled-entry_in : (piece : List ℕ) → IsPiece piece → IsSoundPiece piece → (spelled_entry (entry_in piece) ≡ piece) × FitsEntry (entry_in piece)
+spelled-entry_in : (piece : List ℕ) → IsPiece piece → IsSoundPiece piece → (spelled_entry (entry_in piece) ≡ piece) × FitsEntry false (entry_in piece)
 spelled-entry_in piece is it =
     let c : ℕ = slice_index piece 16 in
     let end : ℕ = entry_end piece in
@@ -101,25 +101,25 @@ spelled-entry_in piece is it =
     let part : List ℕ = field 17 (entry_end piece) piece in
     let are : IsBytes part = IsBytes-field piece 17 (entry_end piece) is.bytes in
     let long : length part ≡ 8 * c = length-field piece 17 (entry_end piece) (omega arith) (omega arith) ∙ omega arith in
-    let spelled : spelled_locators (locators_in part) ≡ part = spelled-locators_in c part are long in
-    let k : length (locators_in part) ≡ c = length-locators_in c part long in
-    let counted : take 17 piece ≡ id_in piece ++ length (locators_in part) ∷ [] = take_more piece _ _ 16 17 (omega arith) refl (field_1 piece 16 17 refl (omega arith) ∙ ap (λ (b : ℕ). b ∷ []) (sym k)) in
-    let front : take (entry_end piece) piece ≡ id_in piece ++ length (locators_in part) ∷ [] ++ spelled_locators (locators_in part) = take_more piece _ _ 17 (entry_end piece) (omega arith) counted (sym spelled) in
-    let rest : length (drop (entry_end piece) piece) ≡ 64 - 8 * length (locators_in part) = omega (arith, length-drop (entry_end piece) piece, k) in
-    let padding : drop (entry_end piece) piece ≡ zeros (64 - 8 * length (locators_in part)) = all_zeros (drop (entry_end piece) piece) it.padding ∙ ap zeros rest in (
-      ap (λ (xs : List ℕ). xs ++ zeros (64 - 8 * length (locators_in part))) (sym front)
+    let spelled : spelled_locators false (locators_in false part) ≡ part = spelled-locators_in false c part are long in
+    let k : length (locators_in false part) ≡ c = length-locators_in false c part long in
+    let counted : take 17 piece ≡ id_in piece ++ length (locators_in false part) ∷ [] = take_more piece _ _ 16 17 (omega arith) refl (field_1 piece 16 17 refl (omega arith) ∙ ap (λ (b : ℕ). b ∷ []) (sym k)) in
+    let front : take (entry_end piece) piece ≡ id_in piece ++ length (locators_in false part) ∷ [] ++ spelled_locators false (locators_in false part) = take_more piece _ _ 17 (entry_end piece) (omega arith) counted (sym spelled) in
+    let rest : length (drop (entry_end piece) piece) ≡ 64 - 8 * length (locators_in false part) = omega (arith, length-drop (entry_end piece) piece, k) in
+    let padding : drop (entry_end piece) piece ≡ zeros (64 - 8 * length (locators_in false part)) = all_zeros (drop (entry_end piece) piece) it.padding ∙ ap zeros rest in (
+      ap (λ (xs : List ℕ). xs ++ zeros (64 - 8 * length (locators_in false part))) (sym front)
           ∙ ap (λ (xs : List ℕ). take (entry_end piece) piece ++ xs) (sym padding)
           ∙ take-append-drop (entry_end piece) piece,
       record {
         size = length-take-le 16 piece (omega arith);
         bytes = IsBytes-take 16 piece is.bytes;
         count = omega (arith, k, few);
-        each = fit-locators_in c part are long;
+        each = fit-locators_in false c part are long;
       },
     )
 
 -- a payload without a fault spells what is read from it
-pub spells : (payload : List ℕ) (entries : List Entry) → IsBytes payload → run_fault payload ≡ None → entries ≡ entries_in payload → SpellsRun payload entries
+pub spells : (payload : List ℕ) (entries : List Entry) → IsBytes payload → plain_fault payload ≡ None → entries ≡ entries_in payload → SpellsPlain payload entries
 spells payload entries are h e =
     let p = passed (nat_le 4 (length payload) && nat_le 1 (number 0 4 payload) && length payload == 4 + 81 * number 0 4 payload) BadLength (entries_tests None (pieces_in payload)) h in
     let sizes = and_parts (nat_le 4 (length payload) && nat_le 1 (number 0 4 payload)) (length payload == 4 + 81 * number 0 4 payload) p.0 in
@@ -134,27 +134,27 @@ spells payload entries are h e =
     let sound : AllByRecursion IsSoundPiece (first_chunks 81 n rest) = subst (λ (ps : List (List ℕ)). AllByRecursion IsSoundPiece ps) pieces (each_is_sound None (pieces_in payload) p.1) in
     let whole : AllByRecursion IsPiece (first_chunks 81 n rest) = each_piece IsPiece 81 n rest (λ piece is l. record { bytes = is; size = l }) (IsBytes-drop 4 payload are) size in
     let spelled : AllByRecursion (λ (piece : List ℕ). spelled_entry (entry_in piece) ≡ piece) (first_chunks 81 n rest) = AllByRecursion-and IsPiece IsSoundPiece (λ (piece : List ℕ). spelled_entry (entry_in piece) ≡ piece) (λ piece a b. (spelled-entry_in piece a b).0) (first_chunks 81 n rest) whole sound in
-    let fit : AllByRecursion (λ (piece : List ℕ). FitsEntry (entry_in piece)) (first_chunks 81 n rest) = AllByRecursion-and IsPiece IsSoundPiece (λ (piece : List ℕ). FitsEntry (entry_in piece)) (λ piece a b. (spelled-entry_in piece a b).1) (first_chunks 81 n rest) whole sound in
+    let fit : AllByRecursion (λ (piece : List ℕ). FitsEntry false (entry_in piece)) (first_chunks 81 n rest) = AllByRecursion-and IsPiece IsSoundPiece (λ (piece : List ℕ). FitsEntry false (entry_in piece)) (λ piece a b. (spelled-entry_in piece a b).1) (first_chunks 81 n rest) whole sound in
     let count : length (map entry_in (first_chunks 81 n rest)) ≡ n = length-map (first_chunks 81 n rest) entry_in ∙ length-first_chunks 81 n rest in
     let front : take 4 payload ≡ big_bytes 4 n = field_4 payload 0 4 refl (omega (arith, long)) are in
-    let bytes : payload ≡ spelled_run (map entry_in (first_chunks 81 n rest)) =
+    let bytes : payload ≡ plain_run (map entry_in (first_chunks 81 n rest)) =
     sym (take-append-drop 4 payload)
     ∙ ap (λ (xs : List ℕ). xs ++ drop 4 payload) (front ∙ ap (big_bytes 4) (sym count))
     ∙ ap (λ (xs : List ℕ). big_bytes 4 (length (map entry_in (first_chunks 81 n rest))) ++ xs) (sym (spelled_pieces spelled_entry entry_in 81 n rest spelled size)) in
     let below : n < 2 ^ 32 = number_below payload 0 4 are in
-    let it : SpellsRun payload (map entry_in (first_chunks 81 n rest)) = record {
+    let it : SpellsPlain payload (map entry_in (first_chunks 81 n rest)) = record {
       fits = record {
         some = subst (λ (k : ℕ). 1 ≤ k) (sym count) some;
         most = subst (λ (k : ℕ). k < 2 ^ 32) (sym count) below;
-        each = AllByRecursion-map FitsEntry entry_in (first_chunks 81 n rest) fit;
+        each = AllByRecursion-map (FitsEntry false) entry_in (first_chunks 81 n rest) fit;
         rising = subst (λ (ps : List (List ℕ)). Rises (map entry_in ps)) pieces (rises (pieces_in payload) p.1);
       };
       spelled = bytes;
     } in
-    subst (λ (es : List Entry). SpellsRun payload es) (sym (e ∙ ap (λ (ps : List (List ℕ)). map entry_in ps) pieces)) it
+    subst (λ (es : List Entry). SpellsPlain payload es) (sym (e ∙ ap (λ (ps : List (List ℕ)). map entry_in ps) pieces)) it
 
 -- each count of a payload without a fault is at most 8
-pub counts : (payload : List ℕ) → run_fault payload ≡ None → (i : ℕ) → i < length (pieces_in payload) → slice_index (get_or (pieces_in payload) i []) 16 ≤ greatest_chunks
+pub counts : (payload : List ℕ) → plain_fault payload ≡ None → (i : ℕ) → i < length (pieces_in payload) → slice_index (get_or (pieces_in payload) i []) 16 ≤ greatest_chunks
 counts payload h i inside =
     let p = passed (nat_le 4 (length payload) && nat_le 1 (number 0 4 payload) && length payload == 4 + 81 * number 0 4 payload) BadLength (entries_tests None (pieces_in payload)) h in
     at (pieces_in payload) i (each_is_sound None (pieces_in payload) p.1) inside
@@ -169,31 +169,31 @@ counts payload h i inside =
 entry_grouped : (id k ls rest : List ℕ) → id ++ k ++ ls ++ rest ≡ id ++ (k ++ (ls ++ rest))
 entry_grouped id k ls rest = simp append_assoc
 
-length-spelled_entry : (e : Entry) → FitsEntry e → length (spelled_entry e) ≡ 81
+length-spelled_entry : (e : Entry) → FitsEntry false e → length (spelled_entry e) ≡ 81
 length-spelled_entry e fits =
     let left : ℕ = 64 - 8 * length e.locators in
     omega (
       arith,
-      ap length (entry_grouped e.id (length e.locators ∷ []) (spelled_locators e.locators) (zeros left)),
-      length-append e.id (length e.locators ∷ spelled_locators e.locators ++ zeros left),
-      length-append (spelled_locators e.locators) (zeros left),
-      length-spelled_locators e.locators,
+      ap length (entry_grouped e.id (length e.locators ∷ []) (spelled_locators false e.locators) (zeros left)),
+      length-append e.id (length e.locators ∷ spelled_locators false e.locators ++ zeros left),
+      length-append (spelled_locators false e.locators) (zeros left),
+      length-spelled_locators false e.locators,
       length-replicate {A = ℕ} left 0,
       fits.size,
       fits.count,
     )
 
-module _ (e : Entry) (fits : FitsEntry e) where
+module _ (e : Entry) (fits : FitsEntry false e) where
   piece : List ℕ
   piece = spelled_entry e
 
-  all : drop 0 (spelled_entry e) ≡ e.id ++ (length e.locators ∷ spelled_locators e.locators ++ zeros (64 - 8 * length e.locators))
-  all = entry_grouped e.id (length e.locators ∷ []) (spelled_locators e.locators) (zeros (64 - 8 * length e.locators))
+  all : drop 0 (spelled_entry e) ≡ e.id ++ (length e.locators ∷ spelled_locators false e.locators ++ zeros (64 - 8 * length e.locators))
+  all = entry_grouped e.id (length e.locators ∷ []) (spelled_locators false e.locators) (zeros (64 - 8 * length e.locators))
 
-  at_count : drop 16 (spelled_entry e) ≡ length e.locators ∷ spelled_locators e.locators ++ zeros (64 - 8 * length e.locators)
+  at_count : drop 16 (spelled_entry e) ≡ length e.locators ∷ spelled_locators false e.locators ++ zeros (64 - 8 * length e.locators)
   at_count = after_field (spelled_entry e) e.id _ 0 16 all (omega (arith, fits.size))
 
-  at_locators : drop 17 (spelled_entry e) ≡ spelled_locators e.locators ++ zeros (64 - 8 * length e.locators)
+  at_locators : drop 17 (spelled_entry e) ≡ spelled_locators false e.locators ++ zeros (64 - 8 * length e.locators)
   at_locators = after_field (spelled_entry e) (length e.locators ∷ []) _ 16 17 at_count refl
 
   id_is_read : id_in (spelled_entry e) ≡ e.id
@@ -202,11 +202,11 @@ module _ (e : Entry) (fits : FitsEntry e) where
   count_is_read : slice_index (spelled_entry e) 16 ≡ length e.locators
   count_is_read = byte_at_front (spelled_entry e) _ 16 (length e.locators) at_count
 
-  end_is_read : 17 + length (spelled_locators e.locators) ≡ entry_end (spelled_entry e)
-  end_is_read = omega (arith, length-spelled_locators e.locators, count_is_read)
+  end_is_read : 17 + length (spelled_locators false e.locators) ≡ entry_end (spelled_entry e)
+  end_is_read = omega (arith, length-spelled_locators false e.locators, count_is_read)
 
-  locators_are_read : locators_in (field 17 (entry_end (spelled_entry e)) (spelled_entry e)) ≡ e.locators
-  locators_are_read = ap locators_in (field_at (spelled_entry e) (spelled_locators e.locators) _ 17 (entry_end (spelled_entry e)) at_locators end_is_read) ∙ locators_in-spelled e.locators fits.each
+  locators_are_read : locators_in false (field 17 (entry_end (spelled_entry e)) (spelled_entry e)) ≡ e.locators
+  locators_are_read = ap (locators_in false) (field_at (spelled_entry e) (spelled_locators false e.locators) _ 17 (entry_end (spelled_entry e)) at_locators end_is_read) ∙ locators_in-spelled false e.locators fits.each
 
   entry_is_read : entry_in (spelled_entry e) ≡ e
   entry_is_read = λ i. record { id = id_is_read i; locators = locators_are_read i }
@@ -214,15 +214,15 @@ module _ (e : Entry) (fits : FitsEntry e) where
   is_sound : IsSoundPiece (spelled_entry e)
   is_sound = record {
     count = omega (arith, count_is_read, fits.count);
-    padding = ap all_zero (after_field (spelled_entry e) (spelled_locators e.locators) (zeros (64 - 8 * length e.locators)) 17 (entry_end (spelled_entry e)) at_locators end_is_read) ∙ all_zero-zeros (64 - 8 * length e.locators);
+    padding = ap all_zero (after_field (spelled_entry e) (spelled_locators false e.locators) (zeros (64 - 8 * length e.locators)) 17 (entry_end (spelled_entry e)) at_locators end_is_read) ∙ all_zero-zeros (64 - 8 * length e.locators);
   }
 
-entries_are_read : (es : List Entry) → AllByRecursion FitsEntry es → map entry_in (map spelled_entry es) ≡ es
+entries_are_read : (es : List Entry) → AllByRecursion (FitsEntry false) es → map entry_in (map spelled_entry es) ≡ es
 entries_are_read [] fits = refl
 entries_are_read (e ∷ es) fits = ap (λ (x : Entry). x ∷ map entry_in (map spelled_entry es)) (entry_is_read e fits.0) ∙ ap (λ (xs : List Entry). e ∷ xs) (entries_are_read es fits.1)
 
 -- the tests of an entry after its order, and of those after it
-pass_after : (e : Entry) (es : List Entry) → FitsEntry e → AllByRecursion FitsEntry es → Rises (e ∷ es) → Passes (count_test (spelled_entry e) ∷ zeros_test (spelled_entry e) ∷ entries_tests (Some (id_in (spelled_entry e))) (map spelled_entry es))
+pass_after : (e : Entry) (es : List Entry) → FitsEntry false e → AllByRecursion (FitsEntry false) es → Rises (e ∷ es) → Passes (count_test (spelled_entry e) ∷ zeros_test (spelled_entry e) ∷ entries_tests (Some (id_in (spelled_entry e))) (map spelled_entry es))
 pass_after e [] fits others rising =
     let it = is_sound e fits in
     and_passes _ BadLength _ (le-leb _ _ it.count) (and_passes _ BadPadding _ it.padding no_test)
@@ -233,30 +233,30 @@ pass_after e (f ∷ es) fits others rising =
     (and_passes _ BadPadding _ it.padding
     (and_passes _ OutOfOrder _ order (pass_after f es others.0 others.1 rising.1)))
 
-pass_all : (es : List Entry) → AllByRecursion FitsEntry es → Rises es → first_fault (entries_tests None (map spelled_entry es)) ≡ None
+pass_all : (es : List Entry) → AllByRecursion (FitsEntry false) es → Rises es → first_fault (entries_tests None (map spelled_entry es)) ≡ None
 pass_all [] fits rising = refl
 pass_all (e ∷ es) fits rising = (pass_after e es fits.0 fits.1 rising).none
 
-module _ (payload : List ℕ) (es : List Entry) (it : SpellsRun payload es) where
+module _ (payload : List ℕ) (es : List Entry) (it : SpellsPlain payload es) where
   rest : drop 4 payload ≡ flat_map spelled_entry es
   rest = ap (drop 4) it.spelled
 
   size : length (flat_map spelled_entry es) ≡ 81 * length es
-  size = length-spelled_fit spelled_entry 81 FitsEntry length-spelled_entry es it.fits.each
+  size = length-spelled_fit spelled_entry 81 (FitsEntry false) length-spelled_entry es it.fits.each
 
   pieces : pieces_in payload ≡ map spelled_entry es
   pieces =
       let quotient : length (flat_map spelled_entry es) / 81 ≡ length es = omega (arith, size) in
       ap (λ (xs : List ℕ). first_chunks 81 (length xs / 81) xs) rest
       ∙ ap (λ (n : ℕ). first_chunks 81 n (flat_map spelled_entry es)) quotient
-      ∙ cut_spelled spelled_entry 81 FitsEntry length-spelled_entry es it.fits.each
+      ∙ cut_spelled spelled_entry 81 (FitsEntry false) length-spelled_entry es it.fits.each
 
   -- what is spelled is read again
   pub run_is_read : entries_in payload ≡ es
   run_is_read = ap (map entry_in) pieces ∙ entries_are_read es it.fits.each
 
   -- and has no fault
-  pub run_fault-spelled : run_fault payload ≡ None
+  pub run_fault-spelled : plain_fault payload ≡ None
   run_fault-spelled =
       let counted : number 0 4 payload ≡ length es = number_at payload (flat_map spelled_entry es) 0 4 4 (length es) it.spelled refl refl (omega (arith, it.fits.most)) in
       let long : length payload ≡ 4 + 81 * length es = omega (arith, ap length it.spelled, length-append (big_bytes 4 (length es)) (flat_map spelled_entry es), size) in
@@ -264,5 +264,5 @@ module _ (payload : List ℕ) (es : List Entry) (it : SpellsRun payload es) wher
       let some : nat_le 1 (number 0 4 payload) ≡ true = le-leb _ _ (omega (arith, counted, it.fits.some)) in
       let exact : (length payload == 4 + 81 * number 0 4 payload) ≡ true = eq-eqb _ _ (omega (arith, long, counted)) in
       let others : Passes (entries_tests None (pieces_in payload)) = record { none = ap (λ (ps : List (List ℕ)). first_fault (entries_tests None ps)) pieces ∙ pass_all es it.fits.each it.fits.rising } in
-      let every : Passes (run_tests payload) = and_passes _ BadLength (entries_tests None (pieces_in payload)) (and_from _ _ (and_from _ _ low some) exact) others in
+      let every : Passes (plain_tests payload) = and_passes _ BadLength (entries_tests None (pieces_in payload)) (and_from _ _ (and_from _ _ low some) exact) others in
       every.none

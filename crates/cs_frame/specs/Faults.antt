@@ -1,7 +1,7 @@
 -- The number of each fault, tests made in order, and how a decoder's result says which failed first.
 use Rattle.std.specs.Prelude.{◌≡◌, ◌≢◌, ◌↔◌, ℕ, MatchResult, Bool, List, [], ◌∷◌, Option, Some, None, Result, Ok, Err, if◌then◌else◌}
 use Rattle.cs_frame.specs.declared.faults.FormatFault.{FormatFault}
-use Rattle.cs_frame.specs.declared.faults.FormatFault.TheVariants.{BadGeometry, OutOfMemory, BadMagic, BadDigest, BadLength, BadPadding, BadVersion, OutOfOrder}
+use Rattle.cs_frame.specs.declared.faults.FormatFault.TheVariants.{BadGeometry, OutOfMemory, BadMagic, BadDigest, BadLength, BadPadding, BadVersion, OutOfOrder, Misplaced}
 
 -- the number under which a fault is reported
 abbrev pub fault_number : FormatFault → ℕ
@@ -13,6 +13,7 @@ fault_number BadLength = 22
 fault_number BadPadding = 23
 fault_number BadVersion = 24
 fault_number OutOfOrder = 25
+fault_number Misplaced = 26
 
 -- what a test finds: nothing where it passes, else this fault
 abbrev pub unless : Bool → FormatFault → Option FormatFault

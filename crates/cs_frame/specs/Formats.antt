@@ -5,14 +5,17 @@ use Rattle.byteorder.specs.Endian.{big_bytes}
 use Rattle.cs_model.specs.Device.{Shape}
 use Rattle.cs_model.specs.Element.{Entry as NamedEntry, Locator as Place}
 use Rattle.cs_model.specs.Formats.{Formats, FrameKind, ChunkFrame, RunFrame}
-use Rattle.cs_model.specs.Refusal.{Refusal, BadMagic, BadDigest, BadLength, BadPadding, BadVersion}
+use Rattle.cs_model.specs.Refusal.{Refusal, BadMagic, BadDigest, BadLength, BadPadding, BadVersion, Misplaced}
 use Rattle.cs_frame.specs.declared.faults.FormatFault.{FormatFault}
 use Rattle.cs_frame.specs.declared.faults.FormatFault.TheVariants as fault
 use Rattle.cs_frame.specs.declared.locators.Locator.{Locator}
 use Rattle.cs_frame.specs.FirstFormat.{spelled_first_format}
 use Rattle.cs_frame.specs.Frames.{frame_fault, spelled_frame}
 use Rattle.cs_frame.specs.Roots.{greatest_runs, spelled_root}
-use Rattle.cs_frame.specs.Runs.{Entry, spelled_run}
+use Rattle.cs_frame.specs.FormatRuns.{spelled_run}
+use Rattle.cs_frame.specs.Locators.{most_mark}
+use Rattle.cs_frame.specs.Runs.{Entry}
+use Rattle.cs_model.specs.Geometry.{marks_in}
 use Rattle.cs_frame.specs.Superblocks.{spelled_superblock}
 
 -- the byte of a kind of frame
@@ -27,11 +30,11 @@ id_bytes id = id / 256 ^ 15 ∷ big_bytes 15 id
 
 -- a locator of the machine as it is spelled here
 abbrev pub as_locator : Place → Locator
-as_locator l = record { extent = l.extent; page = l.page; generation = l.generation }
+as_locator l = record { extent = l.extent; page = l.page; generation = l.generation; mark = l.mark }
 
--- a locator as the machine has it: none has a mark
+-- a locator as the machine has it
 abbrev pub place_of : Locator → Place
-place_of l = record { extent = l.extent; page = l.page; generation = l.generation; mark = tt }
+place_of l = record { extent = l.extent; page = l.page; generation = l.generation; mark = l.mark }
 
 -- an entry of the machine as a run spells it
 abbrev pub as_entry : NamedEntry → Entry
@@ -52,22 +55,24 @@ refusal_of fault.BadDigest = BadDigest
 refusal_of fault.BadLength = BadLength
 refusal_of fault.BadPadding = BadPadding
 refusal_of fault.BadVersion = BadVersion
+refusal_of fault.Misplaced = Misplaced
 refusal_of fault.BadGeometry = BadLength
 refusal_of fault.OutOfMemory = BadLength
 refusal_of fault.OutOfOrder = BadLength
 
 -- each number of a locator fits its field
-abbrev pub fits_locator : Place → Bool
-fits_locator l = nat_lt l.extent (2 ^ 16) && nat_lt l.page (2 ^ 16) && nat_lt l.generation (2 ^ 32)
+abbrev pub fits_locator : (marked : Bool) → Place → Bool
+fits_locator marked l =
+    nat_lt l.extent (2 ^ 16) && nat_lt l.page (2 ^ 16) && nat_lt l.generation (2 ^ 32) && nat_le l.mark (most_mark marked)
 
 -- a root has a spelling
 abbrev pub fits_root : (format version commands : ℕ) → List Place → Bool
 fits_root format version commands runs =
-    nat_le 1 version && nat_lt version (2 ^ 63) && nat_lt commands (2 ^ 63) && nat_le (length runs) (greatest_runs format) && list_all fits_locator runs
+    nat_le 1 version && nat_lt version (2 ^ 63) && nat_lt commands (2 ^ 63) && nat_le (length runs) (greatest_runs format) && list_all (fits_locator (marks_in format)) runs
 
 -- an entry has at most eight locators, which fit
-abbrev pub fits_entry : NamedEntry → Bool
-fits_entry x = nat_le (length x.locators) 8 && list_all fits_locator x.locators
+abbrev pub fits_entry : (marked : Bool) → NamedEntry → Bool
+fits_entry marked x = nat_le (length x.locators) 8 && list_all (fits_locator marked) x.locators
 
 -- each identifier is greater than the one before
 abbrev pub rises : List NamedEntry → Bool
@@ -76,13 +81,12 @@ rises (x ∷ []) = true
 rises (x ∷ y ∷ entries) = nat_lt x.id y.id && rises (y ∷ entries)
 
 -- a run has a spelling; the model sets no bound to an identifier's number, and here there is none
-abbrev pub fits_run : List NamedEntry → Bool
-fits_run entries =
-    nat_le 1 (length entries) && nat_lt (length entries) (2 ^ 32) && list_all fits_entry entries && rises entries
+abbrev pub fits_run : (marked : Bool) → List NamedEntry → Bool
+fits_run marked entries =
+    nat_le 1 (length entries) && nat_lt (length entries) (2 ^ 32) && list_all (fits_entry marked) entries && rises entries
 
 -- the formats of a store of this shape: in a store of format 2 a superblock of one section may be one page for all extents, in format 1, and any
 -- other is in sections as the store's format has them; a root lists its runs oldest first, which the machine has newest first
--- no locator has a mark, so that no frame is misplaced, whatever that would be told as
 abbrev pub formats_of : Shape → Formats
 formats_of S = record {
   superblock = λ format section version pointers generations.
@@ -93,8 +97,7 @@ formats_of S = record {
   root = λ version commands runs. spelled_root S.format version commands (map as_locator (reverse runs));
   frame = λ kind payload. spelled_frame (kind_number kind) payload;
   fault = λ kind pages. option_map refusal_of (frame_fault (kind_number kind) pages);
-  misplaced = BadDigest;
-  run = λ entries. spelled_run (map as_entry entries);
+  run = λ entries. spelled_run S.format (map as_entry entries);
   fits_root = fits_root S.format;
-  fits_run = fits_run;
+  fits_run = fits_run (marks_in S.format);
 }

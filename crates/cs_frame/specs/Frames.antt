@@ -4,12 +4,13 @@ use Rattle.std.specs.Simd.{first_chunks}
 use Rattle.byteorder.specs.Endian.{big_bytes}
 use Rattle.sha2.specs.Sha256.{sha256}
 use Rattle.cs_frame.specs.declared.faults.FormatFault.{FormatFault}
-use Rattle.cs_frame.specs.declared.faults.FormatFault.TheVariants.{BadDigest, BadLength, BadPadding, BadVersion}
+use Rattle.cs_frame.specs.declared.faults.FormatFault.TheVariants.{BadDigest, BadLength, BadPadding, BadVersion, Misplaced}
 use Rattle.cs_frame.specs.declared.frames.FrameKind.{FrameKind}
 use Rattle.cs_frame.specs.declared.frames.FrameKind.TheVariants.{Chunk, Run}
 use Rattle.cs_frame.specs.Bytes.{all_zero, field, number, zeros}
 use Rattle.cs_frame.specs.Faults.{first_fault, unless}
 use Rattle.cs_frame.specs.Pages.{magic_test, version_test}
+use Rattle.cs_model.specs.Geometry.{mark_in}
 
 -- the byte of a kind
 abbrev pub kind_byte : FrameKind → ℕ
@@ -97,3 +98,24 @@ frame_tests kind pages = header_tests kind (first_page pages) (length pages) ++ 
 -- what is wrong with these pages, which lie from the first as far as it may reach, as a frame of this kind
 abbrev pub frame_fault : (kind : ℕ) → List (List ℕ) → Option FormatFault
 frame_fault kind pages = first_fault (frame_tests kind pages)
+
+-- the frame that begins with this page has the mark, where the format has marks
+abbrev pub mark_test : (format mark : ℕ) → (first : List ℕ) → Option FormatFault
+mark_test format mark first = unless (mark_in format first == mark) Misplaced
+
+-- what is wrong with a first page as that of the frame that a locator of this mark means: what is wrong with the header, else that
+-- it is another frame's
+abbrev pub meant_header_fault : (format kind mark : ℕ) → (first : List ℕ) → (there : ℕ) → Option FormatFault
+meant_header_fault format kind mark first there = first_fault (header_fault kind first there ∷ mark_test format mark first ∷ [])
+
+-- so with all its pages
+abbrev pub meant_fault : (format kind mark : ℕ) → List (List ℕ) → Option FormatFault
+meant_fault format kind mark pages = first_fault (frame_fault kind pages ∷ mark_test format mark (first_page pages) ∷ [])
+
+-- the first eight bytes of a payload's digest
+abbrev pub digest_front : (payload : List ℕ) → List ℕ
+digest_front payload = take 8 (sha256 payload)
+
+-- the mark of the frame with this payload, in a format that has marks
+abbrev pub payload_mark : (payload : List ℕ) → ℕ
+payload_mark payload = number 0 8 (sha256 payload)

@@ -1,4 +1,5 @@
 -- The dimensions of a store, the bounds of them, and which extents a section of its superblock has. A bound is that of a format.
+use Rattle.cs_model.specs.Geometry.{most_entry_bytes}
 use Rattle.std.specs.Prelude.{◌≡◌, ◌⊎◌, ℕ, zero, suc, ◌+◌, ◌-◌, ◌*◌, ◌/◌, ◌<◌, ◌≤◌, ◌&&◌, ◌==◌, min, Bool, if◌then◌else◌, nat_le, nat_lt}
 
 -- the formats in which a store is written
@@ -86,8 +87,8 @@ abbrev pub run_bytes : (entries : ℕ) → ℕ
 run_bytes entries = 4 + 81 * entries
 
 -- how many entries a run has room for that takes one whole extent: a frame's header has 41 bytes, a run's count 4, and an entry 81
-abbrev pub named_limit : (pages : ℕ) → ℕ
-named_limit pages = (4096 * pages - 45) / 81
+abbrev pub named_limit : (format pages : ℕ) → ℕ
+named_limit format pages = (4096 * pages - 45) / most_entry_bytes format
 
 -- so many extents of so many pages, where the greatest number of extents is this
 abbrev pub in_bounds : (format greatest extents pages : ℕ) → Bool

@@ -11,5 +11,6 @@ pub mod Superblocks
 pub mod FirstFormat
 pub mod Frames
 pub mod Runs
+pub mod FormatRuns
 pub mod Geometries
 pub mod Formats

@@ -1,5 +1,5 @@
 -- The payload of a run whose entries stand one behind the other, each in the bytes that it needs, and the tests of its decoder in order.
-use Rattle.std.specs.Prelude.{◌≡◌, ℕ, zero, suc, ◌+◌, ◌*◌, ◌≤◌, ◌&&◌, ◌==◌, List, [], ◌∷◌, ◌++◌, length, drop, flat_map, Option, Some, None, nat_le, slice_index, ⊤}
+use Rattle.std.specs.Prelude.{◌≡◌, ℕ, zero, suc, ◌+◌, ◌*◌, ◌≤◌, ◌&&◌, ◌==◌, true, List, [], ◌∷◌, ◌++◌, length, drop, flat_map, Option, Some, None, nat_le, slice_index, ⊤}
 use Rattle.byteorder.specs.Endian.{big_bytes}
 use Rattle.cs_frame.specs.declared.faults.FormatFault.{FormatFault}
 use Rattle.cs_frame.specs.declared.faults.FormatFault.TheVariants.{BadLength}
@@ -10,13 +10,13 @@ use Rattle.cs_frame.specs.Runs.{Entry, FitsRun, count_test, greatest_chunks, id_
 
 -- |  0 | 16    | identifier                           |
 -- | 16 | 1     | c, the number of locators, at most 8 |
--- | 17 | 8 * c | locators in order of the chunks      |
+-- | 17 | 16 * c | locators in order of the chunks     |
 abbrev pub packed_entry : Entry → List ℕ
-packed_entry entry = entry.id ++ length entry.locators ∷ [] ++ spelled_locators entry.locators
+packed_entry entry = entry.id ++ length entry.locators ∷ [] ++ spelled_locators true entry.locators
 
 -- so many bytes
 abbrev pub packed_size : (chunks : ℕ) → ℕ
-packed_size chunks = 17 + 8 * chunks
+packed_size chunks = 17 + 16 * chunks
 
 -- | 0 | 4 | n, the number of entries |
 -- | 4 |   | entries                  |
@@ -30,7 +30,7 @@ packed_sizes (entry ∷ entries) = packed_size (length entry.locators) + packed_
 
 -- the bytes are the spelling of these
 pub record SpellsPacked (bytes : List ℕ) (entries : List Entry) : Type 0 where
-  pub fits : FitsRun entries
+  pub fits : FitsRun true entries
   pub spelled : bytes ≡ packed_run entries
 
 -- where the entry ends with which these bytes begin
@@ -39,7 +39,7 @@ packed_end bytes = packed_size (slice_index bytes 16)
 
 -- the entry with which they begin
 abbrev pub packed_entry_in : List ℕ → Entry
-packed_entry_in bytes = record { id = id_in bytes; locators = locators_in (field 17 (packed_end bytes) bytes) }
+packed_entry_in bytes = record { id = id_in bytes; locators = locators_in true (field 17 (packed_end bytes) bytes) }
 
 -- so many entries, one behind the other
 abbrev pub packed_in : (count : ℕ) → List ℕ → List Entry

@@ -9,7 +9,8 @@ use Rattle.cs_frame.specs.declared.roots.Root.{Root}
 use Rattle.cs_frame.specs.Bytes.{field, number}
 use Rattle.cs_frame.specs.Faults.{first_fault, unless}
 use Rattle.cs_frame.specs.Geometries.{IsKnown}
-use Rattle.cs_frame.specs.Locators.{FitsLocator, locators_in, spelled_locators}
+use Rattle.cs_frame.specs.Locators.{FitsLocator, KeepFormat, locator_size, locators_in, spelled_locators}
+use Rattle.cs_model.specs.Geometry.{marks_in}
 use Rattle.cs_frame.specs.Pages.{digest_test, digit_test, magic_test, padded, padding_test, sealed}
 
 -- the greatest number of runs of a root
@@ -25,13 +26,13 @@ root_digit format = if format == 3 then 51 else 49
 -- |  4 | 8     | version                                      |
 -- | 12 | 8     | number of commands                           |
 -- | 20 | 1     | k, the number of runs                        |
--- | 21 | 8 * k | locators of the runs, oldest first           |
+-- | 21 | s * k | locators of the runs, oldest first, of s bytes |
 abbrev pub root_fields : (format version commands : ℕ) → List Locator → List ℕ
 root_fields format version commands runs =
-    codes "CSR" ++ root_digit format ∷ [] ++ big_bytes 8 version ++ big_bytes 8 commands ++ length runs ∷ [] ++ spelled_locators runs
+    codes "CSR" ++ root_digit format ∷ [] ++ big_bytes 8 version ++ big_bytes 8 commands ++ length runs ∷ [] ++ spelled_locators (marks_in format) runs
 
--- | 21 + 8 * k | 32 | digest of all bytes before |
--- | 53 + 8 * k |    | zeros to the end           |
+-- | 21 + s * k | 32 | digest of all bytes before |
+-- | 53 + s * k |    | zeros to the end           |
 abbrev pub spelled_root : (format version commands : ℕ) → List Locator → List ℕ
 spelled_root format version commands runs = padded (sealed (root_fields format version commands runs))
 
@@ -42,7 +43,7 @@ pub record FitsRoot (format version commands : ℕ) (runs : List Locator) : Type
   pub last_version : version < 2 ^ 63
   pub last_command : commands < 2 ^ 63
   pub count : length runs ≤ greatest_runs format
-  pub each : AllByRecursion FitsLocator runs
+  pub each : AllByRecursion (FitsLocator (marks_in format)) runs
 
 -- the bytes are the spelling of these
 pub record SpellsRoot (bytes : List ℕ) (format version commands : ℕ) (runs : List Locator) : Type 0 where
@@ -56,14 +57,15 @@ pub record IsRoot (root : Root) : Type 0 where
   pub last_version : root.version < 2 ^ 63
   pub last_command : root.commands < 2 ^ 63
   pub count : length root.runs.items ≤ greatest_runs root.format
+  pub marks : KeepFormat root.format root.runs.items
 
 -- where the digest begins
-abbrev pub root_end : List ℕ → ℕ
-root_end bytes = 21 + 8 * slice_index bytes 20
+abbrev pub root_end : (format : ℕ) → List ℕ → ℕ
+root_end format bytes = 21 + locator_size (marks_in format) * slice_index bytes 20
 
 -- the locators that the bytes spell
-abbrev pub runs_in : List ℕ → List Locator
-runs_in bytes = locators_in (field 21 (root_end bytes) bytes)
+abbrev pub runs_in : (format : ℕ) → List ℕ → List Locator
+runs_in format bytes = locators_in (marks_in format) (field 21 (root_end format bytes) bytes)
 
 -- not too many runs
 abbrev pub root_length_test : (format : ℕ) → List ℕ → Option FormatFault
@@ -80,9 +82,9 @@ root_tests format bytes =
     magic_test (codes "CSR") bytes
     ∷ digit_test (root_digit format) bytes
     ∷ root_length_test format bytes
-    ∷ digest_test (root_end bytes) bytes
+    ∷ digest_test (root_end format bytes) bytes
     ∷ root_range_test bytes
-    ∷ padding_test (root_end bytes + 32) bytes
+    ∷ padding_test (root_end format bytes + 32) bytes
     ∷ []
 
 -- what is wrong with a page as the root of a store of this format

@@ -1,5 +1,5 @@
 -- The payload of a run, entry by entry, and the tests of its decoder in order.
-use Rattle.std.specs.Prelude.{◌≡◌, ℕ, ◌+◌, ◌-◌, ◌*◌, ◌/◌, ◌^◌, ◌<◌, ◌≤◌, ◌&&◌, ◌==◌, Bool, true, List, [], ◌∷◌, ◌++◌, length, take, drop, map, flat_map, Option, Some, None, nat_le, slice_index, ⊤}
+use Rattle.std.specs.Prelude.{◌≡◌, ℕ, ◌+◌, ◌-◌, ◌*◌, ◌/◌, ◌^◌, ◌<◌, ◌≤◌, ◌&&◌, ◌==◌, Bool, true, false, List, [], ◌∷◌, ◌++◌, length, take, drop, map, flat_map, Option, Some, None, nat_le, slice_index, ⊤}
 use Rattle.std.specs.List.{AllByRecursion}
 use Rattle.std.specs.Simd.{first_chunks}
 use Rattle.std.specs.Cmp.Lexicographic.{slice_cmp}
@@ -13,7 +13,7 @@ use Rattle.cs_frame.specs.declared.runs.Run.{Run}
 use Rattle.cs_frame.specs.Bytes.{IsBytes, all_zero, field, number, zeros}
 use Rattle.cs_frame.specs.Faults.{first_fault, unless}
 use Rattle.cs_frame.specs.Geometries.{run_bytes}
-use Rattle.cs_frame.specs.Locators.{FitsLocator, locators_in, spelled_locators}
+use Rattle.cs_frame.specs.Locators.{FitsLocator, KeepFormat, locators_in, spelled_locators}
 use Rattle.cs_frame.specs.Places.{Listed}
 
 -- the greatest number of chunks of a shard
@@ -39,12 +39,12 @@ entries_of entries = map entry_of entries
 -- | 17 + 8 * c | 64 - 8 * c | zeros                                  |
 abbrev pub spelled_entry : Entry → List ℕ
 spelled_entry entry =
-    entry.id ++ length entry.locators ∷ [] ++ spelled_locators entry.locators ++ zeros (64 - 8 * length entry.locators)
+    entry.id ++ length entry.locators ∷ [] ++ spelled_locators false entry.locators ++ zeros (64 - 8 * length entry.locators)
 
 -- | 0 | 4      | n, the number of entries |
 -- | 4 | 81 * n | entries                  |
-abbrev pub spelled_run : List Entry → List ℕ
-spelled_run entries = big_bytes 4 (length entries) ++ flat_map spelled_entry entries
+abbrev pub plain_run : List Entry → List ℕ
+plain_run entries = big_bytes 4 (length entries) ++ flat_map spelled_entry entries
 
 -- one identifier is less than another, by bytes
 abbrev pub is_before : List ℕ → List ℕ → Bool
@@ -56,31 +56,32 @@ Rises [] = ⊤
 Rises (x ∷ []) = ⊤
 Rises (x ∷ y ∷ entries) = (is_before x.id y.id ≡ true) × Rises (y ∷ entries)
 
--- an entry that has a spelling
-pub record FitsEntry (entry : Entry) : Type 0 where
+-- an entry that has a spelling, where locators have marks or not
+pub record FitsEntry (marked : Bool) (entry : Entry) : Type 0 where
   pub size : length entry.id ≡ 16
   pub bytes : IsBytes entry.id
   pub count : length entry.locators ≤ greatest_chunks
-  pub each : AllByRecursion FitsLocator entry.locators
+  pub each : AllByRecursion (FitsLocator marked) entry.locators
 
 -- what has a spelling
-pub record FitsRun (entries : List Entry) : Type 0 where
+pub record FitsRun (marked : Bool) (entries : List Entry) : Type 0 where
   pub some : 1 ≤ length entries
   pub most : length entries < 2 ^ 32
-  pub each : AllByRecursion FitsEntry entries
+  pub each : AllByRecursion (FitsEntry marked) entries
   pub rising : Rises entries
 
 -- the bytes are the spelling of these
-pub record SpellsRun (bytes : List ℕ) (entries : List Entry) : Type 0 where
-  pub fits : FitsRun entries
-  pub spelled : bytes ≡ spelled_run entries
+pub record SpellsPlain (bytes : List ℕ) (entries : List Entry) : Type 0 where
+  pub fits : FitsRun false entries
+  pub spelled : bytes ≡ plain_run entries
 
--- a run that can be spelled: what its type doesn't say of its entries
-pub record IsRun (run : Run) : Type 0 where
+-- a run that can be spelled in this format: what its type doesn't say of its entries
+pub record IsRun (format : ℕ) (run : Run) : Type 0 where
   pub some : 1 ≤ length run.entries.items
   pub most : length run.entries.items < 2 ^ 32
   pub counts : AllByRecursion (λ entry. length entry.1.items ≤ greatest_chunks) run.entries.items
   pub rising : Rises (entries_of run.entries.items)
+  pub marks : AllByRecursion (λ entry. KeepFormat format entry.1.items) run.entries.items
 
 -- the pieces of 81 bytes, one for each entry
 abbrev pub pieces_in : List ℕ → List (List ℕ)
@@ -96,7 +97,7 @@ entry_end piece = 17 + 8 * slice_index piece 16
 
 -- the entry that a piece spells
 abbrev pub entry_in : List ℕ → Entry
-entry_in piece = record { id = id_in piece; locators = locators_in (field 17 (entry_end piece) piece) }
+entry_in piece = record { id = id_in piece; locators = locators_in false (field 17 (entry_end piece) piece) }
 
 -- the entries that a payload spells
 abbrev pub entries_in : List ℕ → List Entry
@@ -130,9 +131,9 @@ entries_tests previous [] = []
 entries_tests previous (piece ∷ pieces) = entry_tests previous piece ++ entries_tests (Some (id_in piece)) pieces
 
 -- the tests of a run in order
-abbrev pub run_tests : List ℕ → List (Option FormatFault)
-run_tests payload = run_length_test payload ∷ entries_tests None (pieces_in payload)
+abbrev pub plain_tests : List ℕ → List (Option FormatFault)
+plain_tests payload = run_length_test payload ∷ entries_tests None (pieces_in payload)
 
 -- what is wrong with a payload as a run
-abbrev pub run_fault : List ℕ → Option FormatFault
-run_fault payload = first_fault (run_tests payload)
+abbrev pub plain_fault : List ℕ → Option FormatFault
+plain_fault payload = first_fault (plain_tests payload)

@@ -33,6 +33,9 @@ pub enum FormatFault {
     /// 25: the identifiers of a run don't rise.
     #[error("identifiers out of order")]
     OutOfOrder,
+    /// 26: a whole frame lies there, and it isn't the one that is meant.
+    #[error("another frame")]
+    Misplaced,
 }
 
 impl FormatFault {
@@ -51,6 +54,7 @@ impl FormatFault {
             FormatFault::BadPadding => 23,
             FormatFault::BadVersion => 24,
             FormatFault::OutOfOrder => 25,
+            FormatFault::Misplaced => 26,
         }
     }
 }

@@ -3,10 +3,11 @@
 ghost use Rattle.std.specs.Prelude.{◌≡◌, ◌+◌, ◌^◌, ◌<◌, ◌≤◌, ℕ, List, None, Ok, Err, IfOk, length, vec_len};
 ghost use Rattle.cs_frame.specs.Bytes.{EachHas, IsBytes};
 ghost use Rattle.cs_frame.specs.Faults.{HasFault, OkUnlessMemory, fault_in};
-ghost use Rattle.cs_model.specs.Geometry.{digest_number};
-ghost use Rattle.cs_frame.specs.Frames.{SpellsFrame, bytes_in, first_page, frame_count, frame_fault, header_fault, kind_byte, page_count, payload_in, payload_length, spelled_frame};
+ghost use Rattle.cs_model.specs.Geometry.{digest_number, mark_in};
+ghost use Rattle.cs_frame.specs.Frames.{SpellsFrame, bytes_in, first_page, frame_count, frame_fault, header_fault, kind_byte, mark_test, meant_header_fault, page_count, payload_in, payload_length, spelled_frame};
 
 use crate::faults::FormatFault;
+use crate::locators::has_marks;
 use crate::pages::{check_magic, check_version, is_zero};
 use byteorder::{BigEndian, ByteOrder};
 use sha2::{Digest, Sha256};
@@ -103,11 +104,50 @@ pub fn decode_frame_header(
     Ok(header)
 }
 
-/// The mark of the frame whose first page this is: the first eight bytes of the digest there.
-pub fn frame_mark(first: &[u8; 4096]) -> u64
+/// The first eight bytes of the digest in a frame's first page.
+fn digest_front(first: &[u8; 4096]) -> u64
     ensures { result ≡ digest_number first.now }
 {
     BigEndian::read_u64(&first[9..17])
+}
+
+/// The mark of the frame whose first page this is, 0 in a format that has no marks.
+pub fn frame_mark(format: u8, first: &[u8; 4096]) -> u64
+    ensures { result ≡ mark_in format first.now }
+{
+    if has_marks(format) {
+        digest_front(first)
+    } else {
+        0
+    }
+}
+
+/// That the frame whose first page this is has a mark: else it is another one, 26 Misplaced.
+pub(crate) fn check_mark(format: u8, mark: u64, first: &[u8; 4096]) -> Result<(), FormatFault>
+    ensures { fault_in result ≡ mark_test format mark first.now }
+{
+    if frame_mark(format, first) == mark {
+        Ok(())
+    } else {
+        Err(FormatFault::Misplaced)
+    }
+}
+
+/// As `decode_frame_header`, and then that it is the header of the frame of this mark: else 26 Misplaced.
+pub fn decode_meant_header(
+    format: u8,
+    kind: FrameKind,
+    mark: u64,
+    first: &[u8; 4096],
+    there: usize,
+) -> Result<FrameHeader, FormatFault>
+    ensures fault { fault_in result ≡ meant_header_fault format (kind_byte kind) mark first.now there }
+    ensures length { IfOk result (λ header. header.payload_len ≡ payload_length first.now) }
+    ensures room { IfOk result (λ header. page_count header.payload_len ≤ there) }
+{
+    let header = decode_frame_header(kind, first, there)?;
+    check_mark(format, mark, first)?;
+    Ok(header)
 }
 
 /// The payload in the pages of a frame. Makes the tests in order.

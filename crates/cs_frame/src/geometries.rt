@@ -1,9 +1,11 @@
 //! How many extents a store has, of how many pages, which of them each section of its superblock has, and where all of it lies.
 
 ghost use Rattle.std.specs.Prelude.{◌≡◌, ◌↔◌, ◌+◌, ◌-◌, ◌*◌, ◌/◌, ◌^◌, ◌<◌, ◌≤◌, ◌==◌, if◌then◌else◌, IfOk, IfErr, IsOk, IsTrue, unwrap_or};
+ghost use Rattle.cs_model.specs.Geometry.{most_entry_bytes};
 ghost use Rattle.cs_frame.specs.Geometries.{Dimensions, IsGeometry, IsKnown, device_pages, greatest_extents, greatest_pages, greatest_sections, in_bounds, is_divided, kept_pages, least_extents, named_limit, section_length, section_size, section_start, sections_needed};
 
 use crate::faults::FormatFault;
+use crate::locators::has_marks;
 use std::marker::Model;
 
 /// The format in which stores are made where none is asked for.
@@ -156,6 +158,14 @@ impl Model for Geometry {
     ghost inverse = { λ d. record { format = d.format; extents = d.extents; pages = d.pages; sections = d.sections } };
 }
 
+/// How many bytes an entry of a run takes at most.
+fn most_entry_bytes(format: u8) -> usize
+    ensures value { result ≡ most_entry_bytes format }
+    ensures some { 81 ≤ result }
+{
+    if has_marks(format) { 145 } else { 81 }
+}
+
 impl Geometry {
     /// A store of a format, 2 or 3, of `extents` extents of `pages` pages each, whose superblock has `sections` sections, or as few as it
     /// may. All sections but the last have as many extents, at most 512, and the last has what is left, which is at least one.
@@ -300,10 +310,10 @@ impl Geometry {
     }
 
     /// How many identifiers the index can name: the entries of a run that takes one whole extent. A frame's header has 41 bytes, a
-    /// run's count 4, and an entry 81.
+    /// run's count 4, and an entry 81, in a format that has marks at most 145.
     pub fn named_limit(self) -> usize
-        ensures { result ≡ named_limit self.pages }
+        ensures { result ≡ named_limit self.format self.pages }
     {
-        (4096 * usize::from(self.pages) - 45) / 81
+        (4096 * usize::from(self.pages) - 45) / most_entry_bytes(self.format)
     }
 }

@@ -1,25 +1,24 @@
 //! The laws of the formats: a page without a fault is one value's spelling and no other's, and what is
 //! spelled has no fault.
 
-ghost use Rattle.std.specs.Prelude.{◌≡◌, ◌≢◌, ◌↔◌, ◌+◌, ◌/◌, ◌^◌, ◌<◌, ◌≤◌, ◌++◌, ℕ, List, Some, None, length, take};
+ghost use Rattle.std.specs.Prelude.{◌≡◌, ◌≢◌, ◌↔◌, ◌+◌, ◌/◌, ◌^◌, ◌<◌, ◌≤◌, ◌++◌, ℕ, List, Some, None, length, take, true};
 ghost use Rattle.byteorder.specs.Endian.{big_bytes, big_number};
-ghost use Rattle.sha2.specs.Sha256.{sha256};
 ghost use Rattle.cs_model.specs.Element.{Entry as NamedEntry};
 ghost use Rattle.cs_model.specs.Formats.{ChunkFrame, RunFrame};
 ghost use Rattle.cs_model.specs.Frames.{IsFormat};
-ghost use Rattle.cs_model.specs.Geometry.{HasExtentsApart, IsGeometry as IsModelGeometry, digest_number, shape_of};
+ghost use Rattle.cs_model.specs.Geometry.{HasExtentsApart, IsGeometry as IsModelGeometry, digest_number, mark_in, marks_in, shape_of};
 ghost use Rattle.cs_model.specs.Index.{IsRunList};
 ghost use Rattle.cs_model.specs.Safe.{FitsExtent};
 ghost use Rattle.cs_frame.specs.declared.faults.FormatFault.{FormatFault as Fault};
 ghost use Rattle.cs_frame.specs.declared.locators.Locator.{Locator as Place};
 ghost use Rattle.cs_frame.specs.Bytes.{EachHas, IsBytes, IsPage};
 ghost use Rattle.cs_frame.specs.Formats.{formats_of, id_bytes};
-ghost use Rattle.cs_frame.specs.Frames.{SpellsFrame, bytes_in, first_page, frame_count, frame_fault, header_fault, payload_in, spelled_frame};
+ghost use Rattle.cs_frame.specs.Frames.{SpellsFrame, bytes_in, digest_front, first_page, frame_count, frame_fault, header_fault, payload_in, payload_mark, spelled_frame};
 ghost use Rattle.cs_frame.specs.FirstFormat.{IsOfFirstFormat, SpellsFirstFormat, SpellsPageZero, first_format_fault, page_zero_fault};
 ghost use Rattle.cs_frame.specs.Geometries.{IsGeometry, IsKnown, lengths_below, section_length, section_size, section_start};
-ghost use Rattle.cs_frame.specs.PackedRuns.{SpellsPacked, packed_fault, packed_sizes};
+ghost use Rattle.cs_frame.specs.FormatRuns.{SpellsRun, run_fault, run_size};
 ghost use Rattle.cs_frame.specs.Roots.{SpellsRoot, root_fault};
-ghost use Rattle.cs_frame.specs.Runs.{Entry, SpellsRun, run_fault};
+ghost use Rattle.cs_frame.specs.Runs.{Entry};
 ghost use Rattle.cs_frame.specs.Superblocks.{SpellsSuperblock, superblock_fault};
 
 /// In each format a page is a superblock section's spelling exactly where no test fails, and of one section alone.
@@ -86,27 +85,20 @@ pub fn formats_are_apart()
         → root_fault f page ≡ Some Fault.BadVersion }
 {}
 
-/// A payload is a run's spelling exactly where no test fails, and of one run alone.
+/// In each format a payload is a run's spelling exactly where no test fails, and of one run alone.
 pub fn run_has_one_spelling()
-    ensures exact { (payload : List ℕ) → IsBytes payload
-        → (run_fault payload ≡ None) ↔ ((entries : List Entry) × SpellsRun payload entries) }
-    ensures one_payload { (payload other : List ℕ) (entries : List Entry)
-        → SpellsRun payload entries → SpellsRun other entries → payload ≡ other }
-    ensures one_run { (payload : List ℕ) (entries es : List Entry)
-        → SpellsRun payload entries → SpellsRun payload es → entries ≡ es }
+    ensures exact { (format : ℕ) (payload : List ℕ) → IsBytes payload
+        → (run_fault format payload ≡ None) ↔ ((entries : List Entry) × SpellsRun payload format entries) }
+    ensures one_payload { (format : ℕ) (payload other : List ℕ) (entries : List Entry)
+        → SpellsRun payload format entries → SpellsRun other format entries → payload ≡ other }
+    ensures one_run { (format : ℕ) (payload : List ℕ) (entries es : List Entry)
+        → SpellsRun payload format entries → SpellsRun payload format es → entries ≡ es }
 {}
 
-/// The same of a run whose entries take the bytes that they need.
-pub fn packed_run_has_one_spelling()
-    ensures exact { (payload : List ℕ) → IsBytes payload
-        → (packed_fault payload ≡ None) ↔ ((entries : List Entry) × SpellsPacked payload entries) }
-    ensures one_payload { (payload other : List ℕ) (entries : List Entry)
-        → SpellsPacked payload entries → SpellsPacked other entries → payload ≡ other }
-    ensures one_run { (payload : List ℕ) (entries es : List Entry)
-        → SpellsPacked payload entries → SpellsPacked payload es → entries ≡ es }
-    // It has as many bytes as its entries say.
-    ensures size { (payload : List ℕ) (entries : List Entry)
-        → SpellsPacked payload entries → length payload ≡ 4 + packed_sizes entries }
+/// The payload of a run has as many bytes as its entries say.
+pub fn runs_have_sizes()
+    ensures { (payload : List ℕ) (format : ℕ) (entries : List Entry)
+        → SpellsRun payload format entries → length payload ≡ run_size format entries }
 {}
 
 /// Pages begin with a frame of a kind exactly where no test fails, and with one payload alone.
@@ -136,11 +128,16 @@ pub fn frame_is_read_by_its_header()
 
 /// A frame's mark is the first eight bytes of its payload's digest: two frames of one mark have payloads whose digests agree there.
 pub fn marks_tell_digests()
-    ensures { (kind other_kind : ℕ) (pages others : List (List ℕ)) (payload other : List ℕ)
+    ensures pages { (kind other_kind : ℕ) (pages others : List (List ℕ)) (payload other : List ℕ)
         → SpellsFrame kind pages payload → SpellsFrame other_kind others other
         → IsPage (first_page pages) → IsPage (first_page others)
         → digest_number (first_page pages) ≡ digest_number (first_page others)
-        → take 8 (sha256 payload) ≡ take 8 (sha256 other) }
+        → digest_front payload ≡ digest_front other }
+    // So it is of the frames of two payloads.
+    ensures payloads { (payload other : List ℕ) → payload_mark payload ≡ payload_mark other
+        → digest_front payload ≡ digest_front other }
+    ensures mark { (format kind : ℕ) (payload : List ℕ) → marks_in format ≡ true
+        → mark_in format (first_page (spelled_frame kind payload)) ≡ payload_mark payload }
 {}
 
 /// These formats keep what the machine's model asks of the spelling of its pages.

@@ -5,6 +5,7 @@
 #![tactic(auto)]
 
 mod faults;
+mod format_runs;
 mod frames;
 mod geometries;
 mod identifiers;
@@ -21,9 +22,10 @@ mod runs;
 mod superblocks;
 
 pub use faults::FormatFault;
+pub use format_runs::{decode_run, encode_run, run_size};
 pub use frames::{
-    FrameHeader, FrameKind, decode_frame, decode_frame_header, encode_frame, frame_mark,
-    frame_pages,
+    FrameHeader, FrameKind, decode_frame, decode_frame_header, decode_meant_header, encode_frame,
+    frame_mark, frame_pages,
 };
 pub use geometries::{
     FORMAT, GREATEST_SECTION_EXTENTS, GREATEST_SUPERBLOCK_EXTENTS, Geometry, LEAST_PAGES,
@@ -33,15 +35,14 @@ pub use identifiers::ShardId;
 pub use laws::{
     first_format_has_one_spelling, formats_are_apart, frame_has_one_spelling,
     frame_is_read_by_its_header, frames_fit_on_an_extent, marks_tell_digests,
-    packed_run_has_one_spelling, page_zero_has_one_spelling, root_has_one_spelling,
-    run_has_one_spelling, sections_have_all_extents, sections_tell_pointers,
-    superblock_has_one_spelling, these_formats_are_formats,
+    page_zero_has_one_spelling, root_has_one_spelling, run_has_one_spelling, runs_have_sizes,
+    sections_have_all_extents, sections_tell_pointers, superblock_has_one_spelling,
+    these_formats_are_formats,
 };
-pub use locators::Locator;
-pub use packed_runs::{decode_packed_run, encode_packed_run};
+pub use locators::{Locator, has_marks};
 pub use page_zero::decode_superblock;
 pub use places::Places;
 pub use read_frames::{ReadFrame, read_frame_in};
 pub use roots::{Root, decode_root, encode_root, greatest_runs};
-pub use runs::{GREATEST_CHUNKS, Run, decode_run, encode_run, run_bytes};
+pub use runs::{GREATEST_CHUNKS, Run, run_bytes};
 pub use superblocks::{Superblock, decode_section, encode_section, encode_superblock};

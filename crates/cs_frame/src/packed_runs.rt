@@ -1,15 +1,18 @@
-//! Runs of the index whose entries take the bytes that they need. No store has such runs yet.
+//! Runs of the index whose entries take the bytes that they need, as a format has them in which locators have marks.
 
-ghost use Rattle.std.specs.Prelude.{◌≡◌, ◌+◌, ◌≤◌, ◌++◌, ℕ, List, None, Ok, Err, IfOk, OnOk, drop, length, option_map, slice_index};
+ghost use Rattle.std.specs.Prelude.{◌≡◌, ◌+◌, ◌*◌, ◌^◌, ◌<◌, ◌≤◌, ◌++◌, ℕ, List, None, Ok, Err, IfOk, OnOk, drop, length, option_map, slice_index, true};
 ghost use Rattle.cs_frame.specs.Bytes.{IsBytes, number};
 ghost use Rattle.cs_frame.specs.Faults.{HasFault, OkUnlessMemory, fault_in, first_fault};
-ghost use Rattle.cs_frame.specs.PackedRuns.{AreThere, SpellsPacked, packed_count_test, packed_end, packed_entry, packed_entry_in, packed_entry_tests, packed_fault, packed_in, packed_tests};
+ghost use Rattle.std.specs.List.{AllByRecursion};
+ghost use Rattle.cs_frame.specs.Locators.{FitsLocator, spelled_locators};
+ghost use Rattle.cs_frame.specs.PackedRuns.{AreThere, SpellsPacked, packed_count_test, packed_end, packed_entry, packed_entry_in, packed_entry_tests, packed_fault, packed_in, packed_size, packed_sizes, packed_tests};
 ghost use Rattle.cs_frame.specs.Runs.{Entry, FitsEntry, IsRun, entries_of, entry_of, greatest_chunks, id_in};
 
 use crate::faults::FormatFault;
 use crate::identifiers::ShardId;
-use crate::places::{Places, places_from};
-use crate::runs::{GREATEST_CHUNKS, Run, append_locators, check_order};
+use crate::locators::Locator;
+use crate::places::{Places, marked_places_from};
+use crate::runs::{GREATEST_CHUNKS, Run, check_order};
 use byteorder::{BigEndian, ByteOrder};
 use std::alloc::{AllocError, Global};
 
@@ -36,7 +39,7 @@ fn first_end(bytes: &[u8]) -> usize
     requires { 17 ≤ length bytes.now }
     ensures { result ≡ packed_end bytes.now }
 {
-    17 + 8 * usize::from(bytes[16])
+    17 + 16 * usize::from(bytes[16])
 }
 
 /// Makes the tests of the entry with which these bytes begin, after one with this identifier, and gives its identifier and where it ends.
@@ -103,7 +106,7 @@ fn entry_from(alloc: Global, bytes: &[u8]) -> Result<(ShardId, Places), AllocErr
     requires end { packed_end bytes.now ≤ length bytes.now }
     ensures { IfOk result (λ entry. entry_of entry ≡ packed_entry_in bytes.now) }
 {
-    let places = places_from(alloc, &bytes[17..first_end(bytes)])?;
+    let places = marked_places_from(alloc, &bytes[17..first_end(bytes)])?;
     Ok((first_id(bytes), places))
 }
 
@@ -125,10 +128,43 @@ fn entries_from(
     Ok(entries)
 }
 
+/// How many bytes an entry takes.
+fn packed_size(entry: &(ShardId, Places)) -> usize
+    requires { length entry.now.1.items ≤ greatest_chunks }
+    ensures { result ≡ packed_size (length entry.now.1.items) }
+{
+    let (_, places) = entry;
+    17 + 16 * places.as_slice().len()
+}
+
+/// How many bytes these entries take together.
+pub(crate) fn packed_sizes(entries: &[(ShardId, Places)]) -> usize
+    requires few { AllByRecursion (λ entry. length entry.1.items ≤ greatest_chunks) entries.now }
+    requires most { length entries.now < 2 ^ 32 }
+    ensures value { result ≡ packed_sizes (entries_of entries.now) }
+    ensures small { result ≤ 145 * length entries.now }
+{
+    let mut size: usize = 0;
+    for entry in entries {
+        size += packed_size(entry);
+    }
+    size
+}
+
+fn append_locators(payload: &mut Vec<u8>, locators: &[Locator]) -> Result<(), AllocError>
+    ensures spelled { OnOk result (payload.new.items ≡ payload.old.items ++ spelled_locators true locators.now) }
+    ensures fit { OnOk result (AllByRecursion (FitsLocator true) locators.now) }
+{
+    for locator in locators {
+        payload.extend_from_slice(&locator.marked_bytes())?;
+    }
+    Ok(())
+}
+
 fn append_entry(payload: &mut Vec<u8>, entry: &(ShardId, Places)) -> Result<(), AllocError>
     requires { length entry.now.1.items ≤ greatest_chunks }
     ensures spelled { OnOk result (payload.new.items ≡ payload.old.items ++ packed_entry (entry_of entry.now)) }
-    ensures fits { OnOk result (FitsEntry (entry_of entry.now)) }
+    ensures fits { OnOk result (FitsEntry true (entry_of entry.now)) }
 {
     let (id, places) = entry;
     let locators = places.as_slice();
@@ -138,8 +174,8 @@ fn append_entry(payload: &mut Vec<u8>, entry: &(ShardId, Places)) -> Result<(), 
 }
 
 /// The payload that spells a run in this way.
-pub fn encode_packed_run(alloc: Global, run: &Run) -> Result<Vec<u8>, AllocError>
-    requires { IsRun run.now }
+pub(crate) fn encode_packed_run(alloc: Global, run: &Run) -> Result<Vec<u8>, AllocError>
+    requires { IsRun 3 run.now }
     ensures { IfOk result (λ payload. SpellsPacked payload.items (entries_of run.now.entries.items)) }
 {
     let mut payload = Vec::new(alloc);
@@ -152,7 +188,7 @@ pub fn encode_packed_run(alloc: Global, run: &Run) -> Result<Vec<u8>, AllocError
 
 /// The run that a payload spells in this way. The first test that fails is answered: 22 BadLength, then of each entry 22, 25 OutOfOrder
 /// and 22, and 22 for what follows; 9 OutOfMemory only for a payload that spells a run.
-pub fn decode_packed_run(alloc: Global, payload: &[u8]) -> Result<Run, FormatFault>
+pub(crate) fn decode_packed_run(alloc: Global, payload: &[u8]) -> Result<Run, FormatFault>
     // What is read is spelled by the payload.
     ensures spelled { IfOk result (λ run. SpellsPacked payload.now (entries_of run.entries.items)) }
     // What the payload spells is read, unless memory runs out.

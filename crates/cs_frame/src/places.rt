@@ -1,9 +1,9 @@
 //! Where the chunks of a shard lie.
-ghost use Rattle.std.specs.Prelude.{◌≡◌, ◌<◌, ◌≤◌, ◌++◌, ◌∷◌, [], IfOk, IsOk, length, slice_set};
+ghost use Rattle.std.specs.Prelude.{◌≡◌, ◌<◌, ◌≤◌, ◌++◌, ◌∷◌, [], false, true, IfOk, IsOk, length, slice_set};
 ghost use Rattle.cs_frame.specs.Locators.{locators_in};
 ghost use Rattle.cs_frame.specs.Places.{HasPlaceFor};
 
-use crate::locators::{Locator, locator_from};
+use crate::locators::{Locator, locator_from, marked_from};
 use std::alloc::{AllocError, Global};
 use std::marker::Model;
 use std::{fmt, slice};
@@ -107,12 +107,24 @@ impl Places {
 
 /// The locators that these bytes spell, 8 bytes each.
 pub(crate) fn places_from(alloc: Global, bytes: &[u8]) -> Result<Places, AllocError>
-    ensures { IfOk result (λ places. places.items ≡ locators_in bytes.now) }
+    ensures { IfOk result (λ places. places.items ≡ locators_in false bytes.now) }
 {
     let (spelled, _) = bytes.as_chunks::<8>();
     let mut places = Places::with_room(alloc, spelled.len())?;
     for bytes in spelled {
         places.push_reserved(locator_from(bytes));
+    }
+    Ok(places)
+}
+
+/// The locators that these bytes spell, 16 bytes each.
+pub(crate) fn marked_places_from(alloc: Global, bytes: &[u8]) -> Result<Places, AllocError>
+    ensures { IfOk result (λ places. places.items ≡ locators_in true bytes.now) }
+{
+    let (spelled, _) = bytes.as_chunks::<16>();
+    let mut places = Places::with_room(alloc, spelled.len())?;
+    for bytes in spelled {
+        places.push_reserved(marked_from(bytes));
     }
     Ok(places)
 }

@@ -1,10 +1,10 @@
 //! Frames that were read.
 ghost use Rattle.std.specs.Prelude.{◌≡◌, ◌<◌, IfOk, length};
 ghost use Rattle.cs_frame.specs.Faults.{fault_in};
-ghost use Rattle.cs_frame.specs.Frames.{SpellsFrame, frame_fault, kind_byte};
+ghost use Rattle.cs_frame.specs.Frames.{SpellsFrame, frame_fault, kind_byte, meant_fault};
 
 use crate::faults::FormatFault;
-use crate::frames::{FrameKind, frame_pages, payload_of};
+use crate::frames::{FrameKind, check_mark, frame_pages, payload_of};
 use std::marker::Model;
 
 /// The payload of a frame, in the pages that were read of it: it isn't copied.
@@ -37,7 +37,7 @@ impl ReadFrame {
 }
 
 /// As `decode_frame`, but the payload stays in these pages, so that no memory is asked for.
-pub fn read_frame_in(kind: FrameKind, pages: Vec<[u8; 4096]>) -> Result<ReadFrame, FormatFault>
+fn whole_frame_in(kind: FrameKind, pages: Vec<[u8; 4096]>) -> Result<ReadFrame, FormatFault>
     requires { 0 < length pages.items }
     ensures spelled { IfOk result (λ payload. SpellsFrame (kind_byte kind) pages.items payload) }
     ensures fault { fault_in result ≡ frame_fault (kind_byte kind) pages.items }
@@ -47,4 +47,22 @@ pub fn read_frame_in(kind: FrameKind, pages: Vec<[u8; 4096]>) -> Result<ReadFram
         Err(fault) => return Err(fault),
     };
     Ok(ReadFrame { pages, size })
+}
+
+/// The frame of a mark in these pages, which the payload stays in. Tested as by `decode_frame`, and then its mark, 26 Misplaced where it
+/// is another frame's; no memory is asked for.
+pub fn read_frame_in(
+    format: u8,
+    kind: FrameKind,
+    mark: u64,
+    pages: Vec<[u8; 4096]>,
+) -> Result<ReadFrame, FormatFault>
+    requires { 0 < length pages.items }
+    ensures spelled { IfOk result (λ payload. SpellsFrame (kind_byte kind) pages.items payload) }
+    ensures fault { fault_in result ≡ meant_fault format (kind_byte kind) mark pages.items }
+{
+    let meant = check_mark(format, mark, &pages[0]);
+    let frame = whole_frame_in(kind, pages)?;
+    meant?;
+    Ok(frame)
 }

@@ -1,6 +1,8 @@
 //! The root: the runs of the index, and how many commands they include.
 
-ghost use Rattle.std.specs.Prelude.{◌≡◌, ℕ, List, None, Ok, Err, IfOk, ◌≤◌, slice_index};
+ghost use Rattle.std.specs.Prelude.{◌≡◌, ℕ, List, None, Ok, Err, IfOk, ◌+◌, ◌*◌, ◌≤◌, slice_index};
+ghost use Rattle.cs_frame.specs.Locators.{locator_size};
+ghost use Rattle.cs_model.specs.Geometry.{marks_in};
 ghost use Rattle.cs_frame.specs.declared.locators.Locator.{Locator as Place};
 ghost use Rattle.cs_frame.specs.Faults.{HasFault, OkUnlessMemory, fault_in};
 ghost use Rattle.cs_frame.specs.Geometries.{IsKnown};
@@ -8,7 +10,7 @@ ghost use Rattle.cs_frame.specs.Roots.{IsRoot, SpellsRoot, greatest_runs, root_d
 ghost use Rattle.cs_frame.specs.Bytes.{IsPage, number};
 
 use crate::faults::FormatFault;
-use crate::locators::{Locator, append_locators, locators_from};
+use crate::locators::{Locator, append_locators, has_marks, locators_from};
 use crate::pages::{PageBuffer, check_digest, check_digit, check_magic, check_padding};
 use byteorder::{BigEndian, ByteOrder};
 use std::alloc::{AllocError, Global};
@@ -51,9 +53,23 @@ pub fn encode_root(root: &Root) -> [u8; 4096]
     page.append(&root.version.to_be_bytes());
     page.append(&root.commands.to_be_bytes());
     page.append(&[root.runs.len() as u8]);
-    append_locators(&mut page, &root.runs);
+    append_locators(&mut page, root.format, &root.runs);
     page.seal();
     page.finish()
+}
+
+/// Where the runs of a root end, if there are so many.
+fn runs_end(format: u8, count: usize) -> usize
+    requires { count ≤ greatest_runs format }
+    ensures value { result ≡ 21 + locator_size (marks_in format) * count }
+    ensures inside { result + 32 ≤ 4096 }
+    ensures behind { 21 ≤ result }
+{
+    if has_marks(format) {
+        21 + 16 * count
+    } else {
+        21 + 8 * count
+    }
 }
 
 /// Version and number of commands are in range.
@@ -80,7 +96,7 @@ fn check_root(page: &[u8; 4096], format: u8) -> Result<(), FormatFault>
     if count > greatest_runs(format) {
         return Err(FormatFault::BadLength);
     }
-    let end = 21 + 8 * count;
+    let end = runs_end(format, count);
     check_digest(page, end)?;
     check_range(page)?;
     check_padding(page, end + 32)
@@ -88,14 +104,14 @@ fn check_root(page: &[u8; 4096], format: u8) -> Result<(), FormatFault>
 
 /// The root that a page without a fault spells.
 fn root_from(alloc: Global, page: &[u8; 4096], format: u8) -> Result<Root, AllocError>
-    requires { slice_index page.now 20 ≤ 24 }
+    requires { slice_index page.now 20 ≤ greatest_runs format }
     ensures format { IfOk result (λ root. root.format ≡ format) }
     ensures version { IfOk result (λ root. root.version ≡ number 4 12 page.now) }
     ensures commands { IfOk result (λ root. root.commands ≡ number 12 20 page.now) }
-    ensures runs { IfOk result (λ root. root.runs.items ≡ runs_in page.now) }
+    ensures runs { IfOk result (λ root. root.runs.items ≡ runs_in format page.now) }
 {
-    let end = 21 + 8 * usize::from(page[20]);
-    let runs = locators_from(alloc, &page[21..end])?;
+    let end = runs_end(format, usize::from(page[20]));
+    let runs = locators_from(alloc, format, &page[21..end])?;
     Ok(Root {
         format,
         version: BigEndian::read_u64(&page[4..12]),

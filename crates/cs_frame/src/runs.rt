@@ -1,12 +1,12 @@
 //! Runs of the index.
 
-ghost use Rattle.std.specs.Prelude.{◌≡◌, ◌+◌, ◌-◌, ◌^◌, ◌<◌, ◌≤◌, ◌++◌, ℕ, List, Some, None, Ok, Err, IfOk, OnOk, length, map, option_map, slice_index, slice_index_or, []};
+ghost use Rattle.std.specs.Prelude.{◌≡◌, ◌+◌, ◌-◌, ◌^◌, ◌<◌, ◌≤◌, ◌++◌, false, ℕ, List, Some, None, Ok, Err, IfOk, OnOk, length, map, option_map, slice_index, slice_index_or, []};
 ghost use Rattle.cs_frame.specs.Bytes.{IsBytes};
-ghost use Rattle.cs_frame.specs.Locators.{FitsLocator, spelled_locators};
+ghost use Rattle.cs_frame.specs.Locators.{AreUnmarked, FitsLocator, spelled_locators};
 ghost use Rattle.std.specs.List.{AllByRecursion};
 ghost use Rattle.cs_frame.specs.Faults.{HasFault, OkUnlessMemory, fault_in, first_fault};
 ghost use Rattle.cs_frame.specs.Geometries.{run_bytes};
-ghost use Rattle.cs_frame.specs.Runs.{Entry, FitsEntry, IsRun, SpellsRun, entries_of, entries_tests, entry_in, entry_of, entry_tests, greatest_chunks, id_in, order_test, pieces_in, run_fault, run_length_test, spelled_entry};
+ghost use Rattle.cs_frame.specs.Runs.{Entry, FitsEntry, IsRun, SpellsPlain, entries_of, entries_tests, entry_in, entry_of, entry_tests, greatest_chunks, id_in, order_test, pieces_in, plain_fault, run_length_test, spelled_entry};
 
 use crate::faults::FormatFault;
 use crate::identifiers::ShardId;
@@ -115,7 +115,7 @@ fn pieces_of(payload: &[u8]) -> &[[u8; 81]]
 
 /// Makes the tests of a run in order.
 fn check_run(payload: &[u8]) -> Result<(), FormatFault>
-    ensures fault { fault_in result ≡ run_fault payload.now }
+    ensures fault { fault_in result ≡ plain_fault payload.now }
     ensures bytes { IsBytes payload.now }
     ensures size { IfOk result (λ _. 4 ≤ length payload.now) }
 {
@@ -143,9 +143,10 @@ fn entries_from(alloc: Global, pieces: &[[u8; 81]]) -> Result<Vec<(ShardId, Plac
     Ok(entries)
 }
 
-pub(crate) fn append_locators(payload: &mut Vec<u8>, locators: &[Locator]) -> Result<(), AllocError>
-    ensures spelled { OnOk result (payload.new.items ≡ payload.old.items ++ spelled_locators locators.now) }
-    ensures fit { OnOk result (AllByRecursion FitsLocator locators.now) }
+fn append_locators(payload: &mut Vec<u8>, locators: &[Locator]) -> Result<(), AllocError>
+    requires { AreUnmarked locators.now }
+    ensures spelled { OnOk result (payload.new.items ≡ payload.old.items ++ spelled_locators false locators.now) }
+    ensures fit { OnOk result (AllByRecursion (FitsLocator false) locators.now) }
 {
     for locator in locators {
         payload.extend_from_slice(&locator.bytes())?;
@@ -154,9 +155,10 @@ pub(crate) fn append_locators(payload: &mut Vec<u8>, locators: &[Locator]) -> Re
 }
 
 fn append_entry(payload: &mut Vec<u8>, entry: &(ShardId, Places)) -> Result<(), AllocError>
-    requires { length entry.now.1.items ≤ greatest_chunks }
+    requires few { length entry.now.1.items ≤ greatest_chunks }
+    requires unmarked { AreUnmarked entry.now.1.items }
     ensures spelled { OnOk result (payload.new.items ≡ payload.old.items ++ spelled_entry (entry_of entry.now)) }
-    ensures fits { OnOk result (FitsEntry (entry_of entry.now)) }
+    ensures fits { OnOk result (FitsEntry false (entry_of entry.now)) }
 {
     let (id, places) = entry;
     let locators = places.as_slice();
@@ -168,9 +170,9 @@ fn append_entry(payload: &mut Vec<u8>, entry: &(ShardId, Places)) -> Result<(), 
 }
 
 /// The payload that spells a run.
-pub fn encode_run(alloc: Global, run: &Run) -> Result<Vec<u8>, AllocError>
-    requires { IsRun run.now }
-    ensures { IfOk result (λ payload. SpellsRun payload.items (entries_of run.now.entries.items)) }
+pub(crate) fn encode_plain_run(alloc: Global, run: &Run) -> Result<Vec<u8>, AllocError>
+    requires { IsRun 2 run.now }
+    ensures { IfOk result (λ payload. SpellsPlain payload.items (entries_of run.now.entries.items)) }
 {
     let mut payload = Vec::new(alloc);
     payload.extend_from_slice(&(run.entries.len() as u32).to_be_bytes())?;
@@ -182,15 +184,15 @@ pub fn encode_run(alloc: Global, run: &Run) -> Result<Vec<u8>, AllocError>
 
 /// The run that a payload spells. The first test that fails is answered: 22 BadLength, then of each entry 25 OutOfOrder, 22 and
 /// 23 BadPadding; 9 OutOfMemory only for a payload that spells a run.
-pub fn decode_run(alloc: Global, payload: &[u8]) -> Result<Run, FormatFault>
+pub(crate) fn decode_plain_run(alloc: Global, payload: &[u8]) -> Result<Run, FormatFault>
     // What is read is spelled by the payload.
-    ensures spelled { IfOk result (λ run. SpellsRun payload.now (entries_of run.entries.items)) }
+    ensures spelled { IfOk result (λ run. SpellsPlain payload.now (entries_of run.entries.items)) }
     // What the payload spells is read, unless memory runs out.
-    ensures read { (entries : List Entry) → SpellsRun payload.now entries
+    ensures read { (entries : List Entry) → SpellsPlain payload.now entries
         → OkUnlessMemory result (λ run. entries_of run.entries.items ≡ entries) }
     // Each other fault is that of the first test that fails.
-    ensures fault { HasFault result (run_fault payload.now) }
-    ensures memory { result ≡ Err FormatFault.OutOfMemory → run_fault payload.now ≡ None }
+    ensures fault { HasFault result (plain_fault payload.now) }
+    ensures memory { result ≡ Err FormatFault.OutOfMemory → plain_fault payload.now ≡ None }
 {
     check_run(payload)?;
     let entries = entries_from(alloc, pieces_of(payload))?;

@@ -4,7 +4,6 @@ use Rattle.std.proofs.lemmas.Bool.{cases_Bool, cases_eq, cases_lt}
 use Rattle.cs_model.proofs.AnsweredStages.{stages_or_full, stages_young}
 use Rattle.cs_model.proofs.AnsweredSweeps.{copied_to, left_one, move_one, retire_one, same_read, some_left, undamaged}
 use Rattle.cs_model.proofs.Limits.{past_decided, worn_or_not, not_past}
-use Rattle.cs_model.proofs.Meant.{mark_or_not}
 use Rattle.cs_model.proofs.Outcomes.{Answers, chosen_found, clears, ends, frame_generations_by, frame_or_full, not_true, of_nth}
 use Rattle.cs_model.proofs.Rules.{apart_rule, rule_apart}
 use Rattle.cs_model.proofs.Settling.{settled_alike}
@@ -19,7 +18,6 @@ use Rattle.cs_model.specs.Frames.{IsFormat}
 use Rattle.cs_model.specs.Grounds.{DamagedFirst, NoRoomApart, NoRoomForRun, NoRoomToMove, WouldPass}
 use Rattle.cs_model.specs.Index.{NothingLive, live_at}
 use Rattle.cs_model.specs.Lists.{nth, ◌∈◌}
-use Rattle.cs_model.specs.Meant.{are_marked}
 use Rattle.cs_model.specs.Refusal.{Full, Halted, NotSweepable, Refusal, StillLive, WornOut}
 use Rattle.cs_model.specs.Sound.{Bounded, Sound}
 use Rattle.cs_model.specs.State.{BeginSweep, MoveOne, Moved, NoneLive, Refused, Retire, Retired, State, Sweeping, index_now}
@@ -31,7 +29,7 @@ same_locator l m = elim (cases_eq l.extent m.extent) [
     | inr other ↦ inr (λ is. other (ap (λ (x : Locator). x.page) is))
     | inl p ↦ elim (cases_eq l.generation m.generation) [
       | inr other ↦ inr (λ is. other (ap (λ (x : Locator). x.generation) is))
-      | inl g ↦ elim (mark_or_not are_marked l.mark m.mark) [
+      | inl g ↦ elim (cases_eq l.mark m.mark) [
         | inr other ↦ inr (λ is. other (ap (λ (x : Locator). x.mark) is))
         | inl k ↦ inl (λ i. record { extent = e i; page = p i; generation = g i; mark = k i })
       ]

@@ -26,7 +26,6 @@ use Rattle.cs_model.specs.Grounds.{PastLimit, WouldPass}
 use Rattle.cs_model.specs.Index.{if_live, live_at, lookup}
 use Rattle.cs_model.specs.Lists.{nth}
 use Rattle.cs_model.specs.Machine.{World}
-use Rattle.cs_model.specs.Meant.{are_marked}
 use Rattle.cs_model.specs.Open.{opened_state}
 use Rattle.cs_model.specs.Recovery.{IsNew, Recovers}
 use Rattle.cs_model.specs.Refusal.{Full, Halted, IndexFull, NotSweepable, StillLive, TooLarge, WornOut}
@@ -279,7 +278,7 @@ moves = (
     inside = omega arith;
     within = omega arith;
     stand = (refl, tt);
-    marked = own_mark are_marked (mark_of example_apart ([] ∷ []));
+    marked = own_mark (mark_of example_apart ([] ∷ []));
   },
   (world4, appends s3.world ForMove ([] ∷ []) 2 copy_goes, refl),
   refl,

@@ -5,8 +5,6 @@ use Rattle.cs_model.specs.Device.{Shape}
 use Rattle.cs_model.specs.Element.{Entry, Locator}
 use Rattle.cs_model.specs.Example.{example_format, flat_entries, flat_locators, telling_format, told}
 use Rattle.cs_model.specs.Frames.{IsFormat}
-use Rattle.cs_model.specs.Meant.{are_marked, number_by}
-use Rattle.cs_model.proofs.Meant.{one_number}
 
 one_flat_locators : (ls ms : List Locator) (k j : List ℕ) → length ls ≡ length ms
     → flat_locators ls k ≡ flat_locators ms j → (ls ≡ ms) × (k ≡ j)
@@ -14,16 +12,15 @@ one_flat_locators [] [] k j same is = (refl, is)
 one_flat_locators [] (m ∷ ms) k j same is = absurd (omega arith)
 one_flat_locators (l ∷ ls) [] k j same is = absurd (omega arith)
 one_flat_locators (l ∷ ls) (m ∷ ms) k j same is =
-    let e : l.extent ∷ l.page ∷ l.generation ∷ number_by are_marked l.mark ∷ flat_locators ls k
-    ≡ m.extent ∷ m.page ∷ m.generation ∷ number_by are_marked m.mark ∷ flat_locators ms j = is in
+    let e : l.extent ∷ l.page ∷ l.generation ∷ l.mark ∷ flat_locators ls k
+    ≡ m.extent ∷ m.page ∷ m.generation ∷ m.mark ∷ flat_locators ms j = is in
     let a : l.extent ≡ m.extent = cc in
     let b : l.page ≡ m.page = cc in
     let c : l.generation ≡ m.generation = cc in
-    let d : number_by are_marked l.mark ≡ number_by are_marked m.mark = cc in
-    let marks : l.mark ≡ m.mark = one_number are_marked l.mark m.mark d in
+    let d : l.mark ≡ m.mark = cc in
     let rest : flat_locators ls k ≡ flat_locators ms j = cc in
     let more = one_flat_locators ls ms k j (omega arith) rest in
-    let here : l ≡ m = (λ i. record { extent = a i; page = b i; generation = c i; mark = marks i }) in
+    let here : l ≡ m = (λ i. record { extent = a i; page = b i; generation = c i; mark = d i }) in
     (ap₂ (λ (x : Locator) (xs : List Locator). x ∷ xs) here more.0, more.1)
 
 one_flat_entries : (xs ys : List Entry) → flat_entries xs ≡ flat_entries ys → xs ≡ ys

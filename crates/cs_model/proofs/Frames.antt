@@ -11,7 +11,6 @@ use Rattle.cs_model.specs.Frames.{IsFormat}
 use Rattle.cs_model.specs.Index.{Chunks, Reads}
 use Rattle.cs_model.specs.Lists.{◌∈◌}
 use Rattle.cs_model.specs.Machine.{World}
-use Rattle.cs_model.specs.Meant.{are_marked}
 use Rattle.cs_model.specs.Sound.{IsFilledUp, Sound}
 use Rattle.cs_model.specs.State.{State, map_now}
 use Rattle.cs_model.proofs.Parts.{with_same}
@@ -136,7 +135,7 @@ module _ (S : Shape) (F : Formats) (shape : IsShape S) (format : IsFormat S F) w
         inside = fits;
         within = may_reach S.fills refl;
         stand = fr.stand;
-        marked = own_mark are_marked (mark_of S (F.frame kind payload));
+        marked = own_mark (mark_of S (F.frame kind payload));
       };
     }
       where

@@ -82,7 +82,7 @@ module _ (S : Shape) (F : Formats) {opening : Opening} (shape : IsShape S) (form
       )
 
   -- a page that the root found frozen is as it was at open
-  pub frozen_there : (e i : ℕ) → opening.frozen e i (exact.root.0.generations e) ≡ true → 0 < exact.root.0.pointers e
+  frozen_there : (e i : ℕ) → opening.frozen e i (exact.root.0.generations e) ≡ true → 0 < exact.root.0.pointers e
       → Inside S e i
       → img (S.address e i) ≡ page_as_staged S exact.root.0 opened (writes_of w.elements) (S.address e i)
   frozen_there e i fz some inside =
@@ -104,35 +104,55 @@ module _ (S : Shape) (F : Formats) {opening : Opening} (shape : IsShape S) (form
   extents_small e = (safe.superblocks_fit (exact.superblock (S.section e))
       (exact.superblocks (S.section e) (shape.section e)).0).2 e
 
-  pub recovers : RecoversBut S F (λ a b. opening) img exact.root.0.commands exact.root.0.map
-  recovers = record {
+  -- an image with the same root and sections, and with what the root names and what it found frozen, gives the same
+  pub record Alike (other : ℕ → Page) : Type 0 where
+    pub root : other S.root_page ≡ img S.root_page
+    pub sections : (j : ℕ) → j < S.sections → other (S.section_page j) ≡ img (S.section_page j)
+    pub named : (e i : ℕ) → i < exact.root.0.pointers e → Inside S e i → other (S.address e i) ≡ img (S.address e i)
+    pub frozen : (e i : ℕ) → opening.frozen e i (exact.root.0.generations e) ≡ true → 0 < exact.root.0.pointers e
+        → Inside S e i → other (S.address e i) ≡ img (S.address e i)
+
+  pub recovers_alike : (other : ℕ → Page) → Alike other
+      → RecoversBut S F (λ a b. opening) other exact.root.0.commands exact.root.0.map
+  recovers_alike other alike = record {
     formats = λ j. (exact.superblock j).format;
     versions = λ j. (exact.superblock j).version;
     pointers = pointers_of;
     generations = generations_of;
-    superblock = section_there;
+    superblock = λ j lt. alike.sections j lt ∙ section_there j lt;
     version = exact.root.0.version;
     runs = exact.root.0.runs;
-    root = root_there;
+    root = alike.root ∙ root_there;
     root_fits = (safe.good exact.root.0 exact.root.1).1;
     runs_fit = (safe.good exact.root.0 exact.root.1).2;
     bounds = (safe.good exact.root.0 exact.root.1).3;
     extents_fit = extents_small;
     versions_fit = λ j lt. (let u = safe.superblocks_fit (exact.superblock j) (exact.superblocks j lt).0 in (u.0, u.1));
-    gives = carry S F opening img
+    gives = carry S F opening other
         (page_as_staged S exact.root.0 opened (writes_of w.elements)) exact.root.0.pointers exact.root.0.generations
-        pointers_of generations_of frames_there frozen_there
+        pointers_of generations_of
+        (λ e i below inside. let there = frames_there e i below inside in
+        (alike.named e i below inside ∙ there.0, there.1, there.2))
+        (λ e i fz some inside. alike.frozen e i fz some inside ∙ frozen_there e i fz some inside)
         [] exact.root.0.runs exact.root.0.map (safe.good exact.root.0 exact.root.1).0;
   }
 
   -- by that root's version and runs
-  pub recovers_root : (recovers.version ≡ exact.root.0.version) × (recovers.runs ≡ exact.root.0.runs)
-  unfolding recovers
-  recovers_root = (refl, refl)
+  pub alike_root : (other : ℕ → Page) (alike : Alike other) → ((recovers_alike other alike).version ≡ exact.root.0.version)
+      × ((recovers_alike other alike).runs ≡ exact.root.0.runs)
+  unfolding recovers_alike
+  alike_root other alike = (refl, refl)
 
-  -- what it has of the pages below the root's pointers
-  pub recovers_frames : (e i : ℕ) → i < exact.root.0.pointers e → Inside S e i
-      → (img (S.address e i) ≡ page_as_staged S exact.root.0 opened (writes_of w.elements) (S.address e i))
-      × (recovers.generations e ≡ exact.root.0.generations e) × (i < recovers.pointers e)
-  unfolding recovers
-  recovers_frames e i below inside = frames_there e i below inside
+  -- what it has of the pages below the root's pointers, and of those that the root found frozen
+  pub alike_frames : (other : ℕ → Page) (alike : Alike other) (e i : ℕ) → i < exact.root.0.pointers e → Inside S e i
+      → (other (S.address e i) ≡ page_as_staged S exact.root.0 opened (writes_of w.elements) (S.address e i))
+      × ((recovers_alike other alike).generations e ≡ exact.root.0.generations e)
+      × (i < (recovers_alike other alike).pointers e)
+  unfolding recovers_alike
+  alike_frames other alike e i below inside =
+      let there = frames_there e i below inside in (alike.named e i below inside ∙ there.0, there.1, there.2)
+
+  pub alike_frozen : (other : ℕ → Page) → Alike other → (e i : ℕ) → opening.frozen e i (exact.root.0.generations e) ≡ true
+      → 0 < exact.root.0.pointers e → Inside S e i
+      → other (S.address e i) ≡ page_as_staged S exact.root.0 opened (writes_of w.elements) (S.address e i)
+  alike_frozen other alike e i fz some inside = alike.frozen e i fz some inside ∙ frozen_there e i fz some inside

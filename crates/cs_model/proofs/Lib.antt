@@ -66,6 +66,7 @@ pub mod SuperblockMoves
 pub mod Taking
 pub mod Tallies
 pub mod Tests
+pub mod Torn
 pub mod TwoRounds
 pub mod Unique
 pub mod Waiting

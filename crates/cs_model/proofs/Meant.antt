@@ -1,29 +1,16 @@
--- Marks of frames, where locators have marks and where they have none.
-use Rattle.std.proofs.Common.{◌==◌, ◌≡◌, ◌≢◌, ◌⊎◌, inl, ℕ, zero, suc, ◌+◌, ◌<◌, ◌≤◌, ◌%◌, Bool, true, false, List, [], ◌∷◌, length, Some, None, if◌then◌else◌, eq-eqb, eqb-true, le_refl, refl, ap, ◌∙◌, arith, ◌&&◌, subst}
-use Rattle.std.proofs.lemmas.Bool.{cases_eq}
+-- Marks of frames.
+use Rattle.std.proofs.Common.{◌==◌, ◌≡◌, ℕ, zero, suc, ◌+◌, ◌<◌, ◌≤◌, ◌%◌, Bool, true, false, List, [], ◌∷◌, length, Some, None, if◌then◌else◌, eq-eqb, eqb-true, le_refl, refl, ap, ◌∙◌, arith, ◌&&◌, subst}
 use Rattle.cs_model.specs.Element.{Locator}
 use Rattle.cs_model.specs.Apart.{same_place}
 use Rattle.cs_model.proofs.Carries.{and_left, and_right, and_true}
 use Rattle.cs_model.specs.Device.{FitsMark, IsShape, Page, Shape, is_meant, mark_of}
 use Rattle.cs_model.specs.Formats.{Formats, FrameKind, Stand, fault_for, pages_from, refused_or}
 use Rattle.cs_model.specs.Frames.{IsFormat}
-use Rattle.cs_model.specs.Meant.{FitsBy, Mark, MarkBy, are_marked, first_by, mark_by, number_by, same_by, same_mark}
+use Rattle.cs_model.specs.Meant.{Mark, first_mark, same_mark}
+use Rattle.cs_model.specs.Refusal.{Misplaced}
 
-pub one_mark : (marked : Bool) (a b : MarkBy marked) → same_by marked a b ≡ true → a ≡ b
-one_mark false a b is = refl
-one_mark true a b is = eqb-true a b is
-
-pub mark_or_not : (marked : Bool) (a b : MarkBy marked) → (a ≡ b) ⊎ (a ≢ b)
-mark_or_not false a b = inl refl
-mark_or_not true a b = cases_eq a b
-
-pub own_mark : (marked : Bool) (a : MarkBy marked) → same_by marked a a ≡ true
-own_mark false a = refl
-own_mark true a = eq-eqb a a refl
-
-pub one_number : (marked : Bool) (a b : MarkBy marked) → number_by marked a ≡ number_by marked b → a ≡ b
-one_number false a b is = refl
-one_number true a b is = is
+pub own_mark : (a : Mark) → same_mark a a ≡ true
+own_mark a = eq-eqb a a refl
 
 -- two locators are one where each of their numbers is one
 pub one_place : (a b : Locator) → same_place a b ≡ true → a ≡ b
@@ -34,38 +21,29 @@ one_place a b is =
     let e : a.extent ≡ b.extent = eqb-true _ _ (and_left (a.extent == b.extent) _ all) in
     let p : a.page ≡ b.page = eqb-true _ _ (and_left (a.page == b.page) _ rest) in
     let g : a.generation ≡ b.generation = eqb-true _ _ (and_right (a.page == b.page) _ rest) in
-    let m : a.mark ≡ b.mark = one_mark are_marked a.mark b.mark (and_left (same_mark a.mark b.mark) numbers is) in
+    let m : a.mark ≡ b.mark = eqb-true a.mark b.mark (and_left (same_mark a.mark b.mark) numbers is) in
     λ i. record { extent = e i; page = p i; generation = g i; mark = m i }
 
 pub own_place : (a b : Locator) → a ≡ b → same_place a b ≡ true
 own_place a b is = subst (λ (l : Locator). same_place a l ≡ true) is
-    (and_true (same_mark a.mark a.mark) _ (own_mark are_marked a.mark)
+    (and_true (same_mark a.mark a.mark) _ (own_mark a.mark)
     (and_true (a.extent == a.extent) _ (eq-eqb a.extent a.extent refl)
     (and_true (a.page == a.page) (a.generation == a.generation) (eq-eqb a.page a.page refl)
     (eq-eqb a.generation a.generation refl))))
 
 -- the number of eight bytes, where locators say it, is no greater than it may be
-pub digest_fits : (marked said : Bool) (n : ℕ) → FitsBy marked (if said then 18446744073709551615 else 0)
-    (mark_by marked (if said then n % 18446744073709551616 else 0))
-digest_fits false said n = tt
-digest_fits true false n = le_refl _
-digest_fits true true n = omega arith
+pub digest_fits : (said : Bool) (n : ℕ) → (if said then n % 18446744073709551616 else 0) ≤ (if said then 18446744073709551615 else 0)
+digest_fits false n = le_refl _
+digest_fits true n = omega arith
 
-first_fits : (marked : Bool) (greatest : ℕ) (mark : Page → MarkBy marked)
-    → ((page : Page) → FitsBy marked greatest (mark page)) → (pages : List Page)
-    → FitsBy marked greatest (first_by marked mark pages)
-first_fits false greatest mark fits pages = tt
-first_fits true greatest mark fits [] = omega arith
-first_fits true greatest mark fits (page ∷ pages) = fits page
-
-first_same : (marked : Bool) (mark : Page → MarkBy marked) (x y : Page) (xs ys : List Page) → x ≡ y
-    → first_by marked mark (x ∷ xs) ≡ first_by marked mark (y ∷ ys)
-first_same false mark x y xs ys is = refl
-first_same true mark x y xs ys is = ap mark is
+first_fits : (greatest : ℕ) (mark : Page → Mark) → ((page : Page) → mark page ≤ greatest) → (pages : List Page)
+    → first_mark mark pages ≤ greatest
+first_fits greatest mark fits [] = omega arith
+first_fits greatest mark fits (page ∷ pages) = fits page
 
 -- the mark of a frame can be
 pub frame_fits : (S : Shape) → IsShape S → (pages : List Page) → FitsMark S (mark_of S pages)
-frame_fits S shape pages = first_fits are_marked S.greatest_mark S.mark shape.marks pages
+frame_fits S shape pages = first_fits S.greatest_mark S.mark shape.marks pages
 
 -- the pages that begin with a frame have its mark
 pub stands_first : (S : Shape) (F : Formats) (img : ℕ → Page) (e i count : ℕ) (bs : List Page) → 0 < length bs
@@ -73,7 +51,7 @@ pub stands_first : (S : Shape) (F : Formats) (img : ℕ → Page) (e i count : �
 stands_first S F img e i count [] some fits stand = absurd (omega arith)
 stands_first S F img e i zero (b ∷ bs) some fits stand = absurd (omega arith)
 stands_first S F img e i (suc count) (b ∷ bs) some fits stand =
-    first_same are_marked S.mark (img (S.address e i)) b (pages_from S F img e (suc i) count) bs stand.0
+    ap S.mark stand.0
 
 if_true : {A : Type 0} (b : Bool) (x y : A) → b ≡ true → (if b then x else y) ≡ x
 if_true b x y is = rw is refl
@@ -85,7 +63,7 @@ pub none_for : (S : Shape) (F : Formats) → IsFormat S F → (img : ℕ → Pag
     → fault_for S F kind m (pages_from S F img e i count) ≡ None
 none_for S F format img e i count kind payload m fits inside stand meant =
     let pages : List Page = pages_from S F img e i count in
-    if_true (is_meant S m pages) (F.fault kind pages) (Some (refused_or (F.fault kind pages) F.misplaced))
-    (ap (λ (a : Mark). same_by are_marked a m)
+    if_true (is_meant S m pages) (F.fault kind pages) (Some (refused_or (F.fault kind pages) Misplaced))
+    (ap (λ (a : Mark). same_mark a m)
     (stands_first S F img e i count (F.frame kind payload) (format.some_page kind payload) fits stand) ∙ meant)
     ∙ format.no_fault img e i count kind payload fits inside stand

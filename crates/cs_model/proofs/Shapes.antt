@@ -5,7 +5,6 @@ use Rattle.std.proofs.lemmas.Bool.Decides.{nat_tests}
 use Rattle.std.proofs.lemmas.Nat.{div-mul-add, mod-mul-add, div_below}
 use Rattle.cs_model.specs.Device.{FramePage, IsShape, RootPage, SectionPage, Shape}
 use Rattle.cs_model.specs.Geometry.{HasExtentsApart, IsGeometry, apart_in, by_size_in, hidden_stand_in, marks_in, most_run_extents, number_at, shape_of}
-use Rattle.cs_model.specs.Meant.{are_marked}
 use Rattle.cs_model.proofs.Meant.{digest_fits}
 
 -- in a format in which chunks and runs lie apart hidden entries don't stand, and merges go by size
@@ -84,7 +83,7 @@ module _ (E P N Q f : ℕ) (g : IsGeometry E P N Q) where
       | inr many ↦ rw many (omega arith)
     ];
     fills = λ on. on;
-    marks = λ page. digest_fits are_marked (marks_in f) (number_at 9 8 page);
+    marks = λ page. digest_fits (marks_in f) (number_at 9 8 page);
     apart = λ on. ((rules_apart f on).0, (rules_apart f on).1, some_run_extents E, wide on);
     some_byte = (let p : 0 < P = g.some_page in omega arith);
     section_only = only_section;

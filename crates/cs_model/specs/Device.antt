@@ -1,6 +1,6 @@
 -- The device: its pages, what lies on each, and the limits of a store.
 use Rattle.std.specs.Prelude.{◌≡◌, ◌+◌, ◌<◌, ◌≤◌, ℕ, Bool, true, false, List}
-use Rattle.cs_model.specs.Meant.{FitsBy, Mark, are_marked, first_by, same_mark}
+use Rattle.cs_model.specs.Meant.{Mark, first_mark, same_mark}
 
 -- the bytes of a page
 abbrev pub Page : Type 0
@@ -61,11 +61,11 @@ Inside S e i = (e < S.extents) × (i < S.pages)
 
 -- a mark that can be
 abbrev pub FitsMark : Shape → Mark → Type 0
-FitsMark S m = FitsBy are_marked S.greatest_mark m
+FitsMark S m = m ≤ S.greatest_mark
 
 -- the mark of a frame of these pages; such a frame is the one that a locator of this mark means
 abbrev pub mark_of : Shape → List Page → Mark
-mark_of S pages = first_by are_marked S.mark pages
+mark_of S pages = first_mark S.mark pages
 
 abbrev pub is_meant : Shape → Mark → List Page → Bool
 is_meant S m pages = same_mark (mark_of S pages) m

@@ -3,14 +3,12 @@ use Rattle.std.specs.Prelude.{◌∷◌, ◌==◌, ℕ, zero, suc, true, List, l
 use Rattle.cs_model.specs.Device.{Shape}
 use Rattle.cs_model.specs.Element.{Entry, Locator}
 use Rattle.cs_model.specs.Formats.{Formats}
-use Rattle.cs_model.specs.Meant.{are_marked, number_by}
-use Rattle.cs_model.specs.Refusal.{BadDigest}
 
 -- the numbers of these locators, and what follows
 abbrev pub flat_locators : List Locator → List ℕ → List ℕ
 flat_locators [] rest = rest
 flat_locators (l ∷ ls) rest =
-    l.extent ∷ l.page ∷ l.generation ∷ number_by are_marked l.mark ∷ flat_locators ls rest
+    l.extent ∷ l.page ∷ l.generation ∷ l.mark ∷ flat_locators ls rest
 
 -- the numbers of these entries
 abbrev pub flat_entries : List Entry → List ℕ
@@ -24,7 +22,6 @@ example_format = record {
   root = λ v n ls. v ∷ n ∷ length ls ∷ flat_locators ls [];
   frame = λ kind payload. payload ∷ [];
   fault = λ kind pages. None;
-  misplaced = BadDigest;
   run = flat_entries;
   fits_root = λ v n ls. true;
   fits_run = λ es. true;

@@ -6,7 +6,7 @@ use Rattle.cs_model.specs.Element.{Entry, Locator, Log, Opening, Run}
 use Rattle.cs_model.specs.Extents.{first_found, reach}
 use Rattle.cs_model.specs.Lists.{latest}
 use Rattle.cs_model.specs.Meant.{Mark}
-use Rattle.cs_model.specs.Refusal.{Refusal}
+use Rattle.cs_model.specs.Refusal.{Misplaced, Refusal}
 
 -- what a frame holds: a chunk of a shard, or a run of the index
 pub data FrameKind : Type 0 where
@@ -20,8 +20,6 @@ pub record Formats : Type 0 where
   pub frame : FrameKind → List ℕ → List Page
   -- why no frame of that kind stands at the head of these pages, all to which it may reach; None where one does
   pub fault : FrameKind → List Page → Option Refusal
-  -- why a frame isn't read that isn't the one which a locator means
-  pub misplaced : Refusal
   -- the payload of a run
   pub run : List Entry → List ℕ
   -- these can be spelled
@@ -66,7 +64,7 @@ module _ (S : Shape) (F : Formats) where
   -- that it is another one
   abbrev pub fault_for : FrameKind → Mark → List Page → Option Refusal
   fault_for kind m pages = if is_meant S m pages then F.fault kind pages
-      else Some (refused_or (F.fault kind pages) F.misplaced)
+      else Some (refused_or (F.fault kind pages) Misplaced)
 
   -- how far the frame at a locator may reach, under a superblock: of another generation nothing was found
   abbrev pub limit_in : (pointers generations : ℕ → ℕ) → Locator → ℕ

@@ -1,7 +1,7 @@
 -- Where everything lies on the device, for a superblock of any number of sections.
-use Rattle.std.specs.Prelude.{◌≡◌, ◌+◌, ◌*◌, ◌-◌, ◌/◌, ◌%◌, ◌<◌, ◌≤◌, ◌^◌, ◌==◌, ◌&&◌, ℕ, zero, suc, Bool, true, List, slice_index, nat_le, nat_lt, if◌then◌else◌}
+use Rattle.std.specs.Prelude.{◌≡◌, ◌+◌, ◌*◌, ◌-◌, ◌/◌, ◌%◌, ◌<◌, ◌≤◌, ◌^◌, ◌==◌, ℕ, zero, suc, Bool, true, List, slice_index, nat_le, nat_lt, if◌then◌else◌}
 use Rattle.cs_model.specs.Device.{FramePage, Page, RootPage, SectionPage, Shape}
-use Rattle.cs_model.specs.Meant.{Mark, are_marked, mark_by}
+use Rattle.cs_model.specs.Meant.{Mark}
 
 -- The rules that a format goes by:
 -- up to format 2 a version of the superblock needs the page writes that it counts; in format 3 a root needs all page writes
@@ -24,9 +24,9 @@ apart_in format = nat_lt 2 format
 abbrev pub fills_in : (format : ℕ) → Bool
 fills_in format = nat_lt 2 format
 
--- a locator has the mark of the frame that it means: where locators have marks, in format 3
+-- a locator has the mark of the frame that it means
 abbrev pub marks_in : (format : ℕ) → Bool
-marks_in format = are_marked && nat_lt 2 format
+marks_in format = nat_lt 2 format
 
 -- the number in so many bytes from one on, high byte first
 abbrev pub number_at : (first count : ℕ) → List ℕ → ℕ
@@ -39,10 +39,14 @@ digest_number page = number_at 9 8 page % 18446744073709551616
 
 -- which is a frame's mark, and 0 in a format that has no marks
 abbrev pub mark_in : (format : ℕ) → Page → Mark
-mark_in format page = mark_by are_marked (if marks_in format then digest_number page else 0)
+mark_in format page = if marks_in format then digest_number page else 0
 
 abbrev pub greatest_mark_in : (format : ℕ) → ℕ
 greatest_mark_in format = if marks_in format then 18446744073709551615 else 0
+
+-- how many bytes an entry of a run takes at most
+abbrev pub most_entry_bytes : (format : ℕ) → ℕ
+most_entry_bytes format = if marks_in format then 145 else 81
 
 -- how many extents may hold runs where they do
 abbrev pub most_run_extents : (extents : ℕ) → ℕ
@@ -78,7 +82,7 @@ shape_of extents pages sections per_section format = record {
   section = λ e. if nat_lt e extents then e / per_section else 0;
   chunk_bytes = 4096 * pages - 41;
   most_chunks = 8;
-  most_names = (4096 * pages - 45) / 81;
+  most_names = (4096 * pages - 45) / most_entry_bytes format;
   most_runs = if nat_le format 2 then 4 else 24;
   greatest_number = 9223372036854775807;
   greatest_generation = 4294967295;

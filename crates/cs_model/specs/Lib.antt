@@ -34,3 +34,4 @@ pub mod State
 pub mod Stays
 pub mod Step
 pub mod Tally
+pub mod Torn

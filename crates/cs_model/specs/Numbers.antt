@@ -1,6 +1,6 @@
 -- The numbers of the refusals, as operators see them.
 use Rattle.std.specs.Prelude.{ℕ}
-use Rattle.cs_model.specs.Refusal.{BadDigest, BadLength, BadMagic, BadPadding, BadVersion, DeviceFault, Full, Halted, InFlight, IndexFull, NoRound, NotSweepable, Refusal, StillLive, TooLarge, WornOut}
+use Rattle.cs_model.specs.Refusal.{BadDigest, BadLength, BadMagic, BadPadding, BadVersion, DeviceFault, Full, Halted, InFlight, IndexFull, Misplaced, NoRound, NotSweepable, Refusal, StillLive, TooLarge, WornOut}
 
 -- the number of a refusal
 abbrev pub number_of : Refusal → ℕ
@@ -11,6 +11,7 @@ number_of BadDigest = 21
 number_of BadLength = 22
 number_of BadPadding = 23
 number_of BadVersion = 24
+number_of Misplaced = 26
 number_of Full = 30
 number_of TooLarge = 31
 number_of IndexFull = 32

@@ -9,6 +9,8 @@ pub data Refusal : Type 0 where
   InFlight : Refusal
   -- 20 to 24: a frame that was read is damaged
   BadMagic BadDigest BadLength BadPadding BadVersion : Refusal
+  -- 26: a whole frame lies there, and it isn't the one that the locator means
+  Misplaced : Refusal
   -- 30: no room for a frame; 31: too many bytes for a shard; 32: no room for another identifier
   Full TooLarge IndexFull : Refusal
   -- 33: the extent can't be swept, or isn't being swept; 34: a live chunk is on it; 35: a number would pass its

@@ -93,9 +93,13 @@ module _ (S : Shape) (F : Formats) where
   crashed s mask = applied (image S F s.world.persistent s.opened (log_of s.world.elements))
       (kept_of mask (page_writes S F s.issued))
 
-  -- a crash now leaves the map after some number of commands between the frontier and all of them; in the image's own
-  -- terms where no shard was damaged at open, else by what is known of the image at open
+  -- the image gives the map after the first n commands, and none of the frontier's is missing; in the image's own terms where no
+  -- shard was damaged at open, else by what is known of the image at open
+  abbrev pub GivesFirst : State → (ℕ → Page) → ℕ → Type 0
+  GivesFirst s img n = (n ≤ length s.commands) × ((f : ℕ) → IsFrontier S F s f → f ≤ n)
+      × RecoversBut S F (λ p g. s.opening) img (s.count + n) (map_after s.start s.commands n)
+      × (NoneDamaged s.start → Recovers S F img (s.count + n) (map_after s.start s.commands n))
+
+  -- a crash now leaves the map after some number of commands between the frontier and all of them
   abbrev pub LeavesPrefix : State → List Bool → Type 0
-  LeavesPrefix s mask = (n : ℕ) × (n ≤ length s.commands) × ((f : ℕ) → IsFrontier S F s f → f ≤ n)
-      × RecoversBut S F (λ p g. s.opening) (crashed s mask) (s.count + n) (map_after s.start s.commands n)
-      × (NoneDamaged s.start → Recovers S F (crashed s mask) (s.count + n) (map_after s.start s.commands n))
+  LeavesPrefix s mask = (n : ℕ) × GivesFirst s (crashed s mask) n

@@ -1,16 +1,20 @@
 //! What every event keeps, and the map that a crash leaves.
 ghost use Rattle.cs_model.specs.Checkpoint.{AtRest, LegalFrom};
-ghost use Rattle.cs_model.specs.Device.{IsShape, Page, Shape};
-ghost use Rattle.cs_model.specs.Element.{Map};
+ghost use Rattle.cs_model.specs.Device.{IsShape, Page, Place, Shape};
+ghost use Rattle.cs_model.specs.Element.{A_write, Map, Root, Write, roots_of};
 ghost use Rattle.cs_model.specs.Events.{IsFrontier};
 ghost use Rattle.cs_model.specs.Formats.{Formats};
 ghost use Rattle.cs_model.specs.Frames.{IsFormat};
+ghost use Rattle.cs_model.specs.Guard.{Covers};
+ghost use Rattle.cs_model.specs.Lists.{◌∈◌};
 ghost use Rattle.cs_model.specs.Open.{opened_state};
 ghost use Rattle.cs_model.specs.Recovery.{Recovers};
-ghost use Rattle.cs_model.specs.Sound.{Bounded, LeavesPrefix, Sound};
+ghost use Rattle.cs_model.specs.Round.{IsMember};
+ghost use Rattle.cs_model.specs.Sound.{Bounded, GivesFirst, LeavesPrefix, Sound, crashed};
 ghost use Rattle.cs_model.specs.State.{Event, Reply, State};
 ghost use Rattle.cs_model.specs.Step.{History, Step};
-ghost use Rattle.std.specs.Prelude.{◌≡◌, ◌+◌, [], ℕ, Bool, List, length};
+ghost use Rattle.cs_model.specs.Torn.{LeavesPrefixTorn, TornFrom};
+ghost use Rattle.std.specs.Prelude.{◌≡◌, ◌≢◌, ◌≤◌, ◌↔◌, ◌+◌, [], ℕ, Bool, List, length};
 
 /// Every event keeps a state sound.
 pub fn every_event_keeps()
@@ -42,6 +46,35 @@ pub fn every_history_is_safe()
         (history : List (Event × Reply)) (t : State) (mask : List Bool)
         → IsShape S → IsFormat S F → History S F (opened_state S F img n m gives) history t
         → LeavesPrefix S F t mask }
+{}
+
+/// What a crash makes of the pages of frames that are being written isn't read: no root that it may leave names one of them.
+pub fn torn_pages_are_not_read()
+    // Neither the persistent root nor a newer one of the round that is out names a page that the round writes.
+    ensures named { (S : Shape) (F : Formats) (s : State) (root : Root) (place : Place) (write : Write) → Sound S F s
+        → root ∈ roots_of s.world.elements → s.world.persistent.root ≤ root.version
+        → root.version ≤ s.world.round.root → Covers S root place
+        → IsMember S s.world (A_write write) → write.page ≢ place.page }
+    // So an image on which they are torn gives the map after the first commands exactly where the image does that has them whole.
+    ensures same { (S : Shape) (F : Formats) (s : State) (mask : List Bool) (img : ℕ → Page) (n : ℕ)
+        → IsShape S → IsFormat S F → Sound S F s → TornFrom S F s mask img
+        → GivesFirst S F s img n ↔ GivesFirst S F s (crashed S F s mask) n }
+{}
+
+/// A crash that tears pages of frames leaves the map after some commands, no fewer than the frontier's, as one does that tears none.
+pub fn a_crash_that_tears_leaves_a_prefix()
+    // In each sound state.
+    ensures state { (S : Shape) (F : Formats) (s : State) (mask : List Bool)
+        → IsShape S → IsFormat S F → Sound S F s → LeavesPrefixTorn S F s mask }
+    // At any moment of an event.
+    ensures moment { (S : Shape) (F : Formats) (s t : State) (event : Event) (reply : Reply) (mask : List Bool)
+        → IsShape S → IsFormat S F → Sound S F s → Bounded S F s → Step S F s event reply t
+        → LeavesPrefixTorn S F s mask × LeavesPrefixTorn S F t mask }
+    // After any history of a store that was opened on an image that gives a map.
+    ensures history { (S : Shape) (F : Formats) (img : ℕ → Page) (n : ℕ) (m : Map) (gives : Recovers S F img n m)
+        (history : List (Event × Reply)) (t : State) (mask : List Bool)
+        → IsShape S → IsFormat S F → History S F (opened_state S F img n m gives) history t
+        → LeavesPrefixTorn S F t mask }
 {}
 
 /// A history that is kept from a checkpoint on is as safe as a whole one, and a checkpoint comes where all commands are

@@ -22,8 +22,8 @@ pub use allocation::{
     what_is_appended_by_either_rule_is_read, what_is_appended_is_read,
 };
 pub use crashes::{
-    a_crash_leaves_a_prefix, any_moment_of_an_event, checkpoints_are_safe, every_event_keeps,
-    every_history_is_safe,
+    a_crash_leaves_a_prefix, a_crash_that_tears_leaves_a_prefix, any_moment_of_an_event,
+    checkpoints_are_safe, every_event_keeps, every_history_is_safe, torn_pages_are_not_read,
 };
 pub use events::{
     all_is_persistent_at_rest, commands_go_on, each_member_is_issued_once,

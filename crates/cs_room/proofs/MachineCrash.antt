@@ -5,14 +5,16 @@ use Rattle.std.proofs.lemmas.List.{append_assoc}
 use Rattle.cs_model.proofs.Carries.{carry_reads}
 use Rattle.cs_model.proofs.ClosedSets.{gt-leb}
 use Rattle.cs_model.proofs.Filled.{damage_here, limit_here, own_reads, reach_off, reads_own}
-use Rattle.cs_model.proofs.Images.{frozen_there, recovers, recovers_frames, recovers_root}
+use Rattle.cs_model.proofs.Crash.{untorn}
+use Rattle.cs_model.proofs.Images.{Alike, alike_frames, alike_frozen, alike_root, recovers_alike}
 use Rattle.cs_model.proofs.LocalRecovery.{live_passes}
 use Rattle.cs_model.proofs.Rounds.{Between, kept_image}
+use Rattle.cs_model.proofs.Torn.{alike}
 use Rattle.cs_model.proofs.Unique.{same_entries}
 use Rattle.cs_model.specs.Cut.{Cut, Exact, Within, held_by, page_in, section_of}
 use Rattle.cs_model.specs.Device.{Inside, IsShape, Page, Shape}
 use Rattle.cs_model.specs.Element.{Entry, Locator, Map, Opening, Root as StagedRoot, Run, Write, log_of, writes_of}
-use Rattle.cs_model.specs.Formats.{ChunkFrame, Formats, RunFrame, image, limit_in, opening_in, pages_from, places, fault_for}
+use Rattle.cs_model.specs.Formats.{ChunkFrame, Formats, RunFrame, limit_in, opening_in, pages_from, places, fault_for}
 use Rattle.cs_model.specs.Frames.{IsFormat}
 use Rattle.cs_model.specs.Guard.{page_as_staged}
 use Rattle.cs_model.specs.Index.{Passes, Reads, entries_of, live_at}
@@ -22,6 +24,7 @@ use Rattle.cs_model.specs.Recovery.{Recovers, RecoversBut}
 use Rattle.cs_model.specs.Refusal.{Refusal}
 use Rattle.cs_model.specs.Sound.{Sound, crashed}
 use Rattle.cs_model.specs.State.{State}
+use Rattle.cs_model.specs.Torn.{TornFrom}
 use Rattle.cs_room.proofs.Chunks.{any_of, has_of}
 use Rattle.cs_room.proofs.MachineChunks.{chunks_move}
 use Rattle.cs_room.proofs.OpenedRoots.{opened_roomy}
@@ -69,13 +72,11 @@ module _ (S : Shape) (F : Formats) (shape : IsShape S) (format : IsFormat S F) (
   abbrev sound : Sound S F s
   sound = roomy.room.sound
 
-  -- a set between what is persistent and the round, and what its image gives
+  -- a set between what is persistent and the round, and what an image gives that is like its own where its root looks
   module _ (X : Cut) (low : Within s.world.persistent X) (high : Within X s.world.round)
-      (exact : Exact S.sections (log_of s.world.elements) X) (n : ℕ) (m : Map)
-      (gives : Recovers S F (image S F X s.opened (log_of s.world.elements)) n m) where
-    abbrev img : ℕ → Page
-    img = image S F X s.opened (log_of s.world.elements)
-
+      (exact : Exact S.sections (log_of s.world.elements) X) (img : ℕ → Page)
+      (like : Alike S F shape format s.opened s.world X sound.safe low high exact img) (n : ℕ) (m : Map)
+      (gives : Recovers S F img n m) where
     abbrev q : StagedRoot
     q = exact.root.0
 
@@ -83,7 +84,7 @@ module _ (S : Shape) (F : Formats) (shape : IsShape S) (format : IsFormat S F) (
     staged_page = page_as_staged S q s.opened (writes_of s.world.elements)
 
     abbrev given : RecoversBut S F (λ a b. s.opening) img q.commands q.map
-    given = recovers S F shape format s.opened s.world X sound.safe low high exact
+    given = recovers_alike S F shape format s.opened s.world X sound.safe low high exact img like
 
     abbrev opening : Opening
     opening = opening_in S F img gives.pointers gives.generations
@@ -92,7 +93,7 @@ module _ (S : Shape) (F : Formats) (shape : IsShape S) (format : IsFormat S F) (
     thawed on = (sound.filled on).thawed
 
     runs_are : given.runs ≡ q.runs
-    runs_are = (recovers_root S F shape format s.opened s.world X sound.safe low high exact).1
+    runs_are = (alike_root S F shape format s.opened s.world X sound.safe low high exact img like).1
 
     given_agree : places given.runs ≡ places gives.runs
     given_agree = (format.one_root given.version gives.version q.commands n (places given.runs) (places gives.runs)
@@ -128,15 +129,15 @@ module _ (S : Shape) (F : Formats) (shape : IsShape S) (format : IsFormat S F) (
     pointer_below : (e k : ℕ) → e < S.extents → k ≤ q.pointers e → k ≤ S.pages → k ≤ gives.pointers e
     pointer_below e zero lt low_enough fits = omega arith
     pointer_below e (suc k) lt low_enough fits =
-        let there : k < given.pointers e = (recovers_frames S F shape format s.opened s.world X sound.safe low high exact
-        e k low_enough (lt, fits)).2 in
+        let there : k < given.pointers e = (alike_frames S F shape format s.opened s.world X sound.safe low high exact
+        img like e k low_enough (lt, fits)).2 in
         let same : given.pointers e ≡ gives.pointers e = pointers_agree e lt in omega arith
 
     -- a page that is frozen is as it was found
     page_found : (e i : ℕ) → s.opening.frozen e i (q.generations e) ≡ true → 0 < q.pointers e → Inside S e i
         → img (S.address e i) ≡ s.opened (S.address e i)
     page_found e i fz some inside =
-        frozen_there S F shape format s.opened s.world X sound.safe low high exact e i fz some inside
+        alike_frozen S F shape format s.opened s.world X sound.safe low high exact img like e i fz some inside
         ∙ page_none (held_by q (section_of S (S.address e i))) s.opened (writes_of s.world.elements) (S.address e i)
         (λ x there at. (let ext : S.extent (S.address e i) ≡ e = shape.extent e i inside in
         let idx : S.index (S.address e i) ≡ i = shape.index e i inside in
@@ -249,8 +250,8 @@ module _ (S : Shape) (F : Formats) (shape : IsShape S) (format : IsFormat S F) (
         → HasPages S F opening img gives.pointers gives.generations l k
     has_pages id l k there (inl (payload, reads, size)) =
         let moved = carry_reads S F s.opening img staged_page q.pointers q.generations given.pointers given.generations
-        (recovers_frames S F shape format s.opened s.world X sound.safe low high exact)
-        (frozen_there S F shape format s.opened s.world X sound.safe low high exact) l (F.frame ChunkFrame payload) reads in
+        (alike_frames S F shape format s.opened s.world X sound.safe low high exact img like)
+        (alike_frozen S F shape format s.opened s.world X sound.safe low high exact img like) l (F.frame ChunkFrame payload) reads in
         inl (payload, reads_there l (F.frame ChunkFrame payload) (passes id l there) moved, size)
     has_pages id l k there (inr (f, bad, lasts, none)) = inr (
       f,
@@ -287,19 +288,22 @@ module _ (S : Shape) (F : Formats) (shape : IsShape S) (format : IsFormat S F) (
           opened_roomy S F apart img n m gives p.0 is shape young,
         )
 
-  pub crash_room : (mask : List Bool) (n : ℕ) (m : Map) (gives : Recovers S F (crashed S F s mask) n m)
-      → NoneWorn S (opened_state S F (crashed S F s mask) n m gives)
+  pub crash_torn : (mask : List Bool) (img : ℕ → Page) → TornFrom S F s mask img → (n : ℕ) (m : Map)
+      (gives : Recovers S F img n m) → NoneWorn S (opened_state S F img n m gives)
       → (p : Root) × Does S S.run_extents r (Open p gives.pointers) (opened p gives.pointers)
-      × IsRoomy S F (opened_state S F (crashed S F s mask) n m gives) (opened p gives.pointers)
-  crash_room mask n m gives young =
+      × IsRoomy S F (opened_state S F img n m gives) (opened p gives.pointers)
+  crash_torn mask img torn n m gives young =
       let between : Between S F shape s.opened s.world sound.safe s.world.persistent = record {
         low = record { writes = λ k it. it; superblocks = λ j. le_refl _; root = le_refl _ };
         high = sound.safe.within;
         exact = sound.safe.exact;
       } in
       let kept = kept_image S F shape s.opened s.world sound.safe s.issued s.world.persistent sound.issued between mask in
-      let same : crashed S F s mask ≡ image S F kept.0 s.opened (log_of s.world.elements) = λ i p. kept.2 p i in
-      subst (λ (f : ℕ → Page). (g : Recovers S F f n m) → NoneWorn S (opened_state S F f n m g)
-      → (p : Root) × Does S S.run_extents r (Open p g.pointers) (opened p g.pointers)
-      × IsRoomy S F (opened_state S F f n m g) (opened p g.pointers)) (sym same)
-      (λ g worn. opened_there kept.0 kept.1.low kept.1.high kept.1.exact n m g worn) gives young
+      opened_there kept.0 kept.1.low kept.1.high kept.1.exact img
+      (alike S F shape format s sound mask img torn kept.0 kept.1 kept.2) n m gives young
+
+  pub crash_room : (mask : List Bool) (n : ℕ) (m : Map) (gives : Recovers S F (crashed S F s mask) n m)
+      → NoneWorn S (opened_state S F (crashed S F s mask) n m gives)
+      → (p : Root) × Does S S.run_extents r (Open p gives.pointers) (opened p gives.pointers)
+      × IsRoomy S F (opened_state S F (crashed S F s mask) n m gives) (opened p gives.pointers)
+  crash_room mask n m gives young = crash_torn mask (crashed S F s mask) (untorn S F shape format s sound mask) n m gives young

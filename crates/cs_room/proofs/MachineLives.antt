@@ -65,7 +65,7 @@ module _ (S : Shape) (F : Formats) (shape : IsShape S) (format : IsFormat S F) (
         space = opened after.0 gives.pointers;
         roomy = after.2;
         whole = same_whole _ m (one_recovery S F shape format (crashed S F s kept) (s.count + prefix.0) n _ m
-            (prefix.4 alive.whole) gives).1 (whole_map s.start s.commands prefix.0 alive.whole);
+            (prefix.1.3 alive.whole) gives).1 (whole_map s.start s.commands prefix.0 alive.whole);
       }
 
   act_alive : (s t : State) (act : Act) → Acts S F s act t → NoneWorn S t → IsAlive s → IsAlive t
@@ -120,7 +120,7 @@ module _ (S : Shape) (F : Formats) (shape : IsShape S) (format : IsFormat S F) (
 
     pub life_opens : (kept : List Bool) → (n : ℕ) × (m : Map) × Recovers S F (crashed S F t kept) n m
     life_opens kept = let prefix = leaves_prefix S F shape format t alive.roomy.room.sound kept in
-        (t.count + prefix.0, _, prefix.4 alive.whole)
+        (t.count + prefix.0, _, prefix.1.3 alive.whole)
 
     -- a put finds room behind sweeps of enough pairs
     pub life_puts : (u : State) (id n : ℕ) (bytes : List ℕ) (chunks : List (List ℕ)) → ChunksFit S F → any_swept S t ≡ false

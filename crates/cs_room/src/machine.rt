@@ -12,6 +12,7 @@ ghost use Rattle.cs_model.specs.Refusal.{Full};
 ghost use Rattle.cs_model.specs.Sound.{crashed};
 ghost use Rattle.cs_model.specs.State.{Event, Put, Reply, State};
 ghost use Rattle.cs_model.specs.Step.{History, Step};
+ghost use Rattle.cs_model.specs.Torn.{TornFrom};
 ghost use Rattle.cs_room.specs.Events.{Does, Open, opened};
 ghost use Rattle.cs_room.specs.Example.{new_room};
 ghost use Rattle.cs_room.specs.Lives.{Act, IsFormatWithRoom, IsMade, Lives};
@@ -75,11 +76,17 @@ pub fn an_image_has_one_root()
 /// After a crash, whichever of the issued writes it keeps, a store that is opened on what it left has room: that of an opening of room
 /// at one of its roots.
 pub fn a_crash_has_room()
-    ensures { (S : Shape) (F : Formats) (s : State) (r : Room) (kept : List Bool) (n : ℕ) (m : Map)
+    ensures whole { (S : Shape) (F : Formats) (s : State) (r : Room) (kept : List Bool) (n : ℕ) (m : Map)
         (gives : Recovers S F (crashed S F s kept) n m) → IsShape S → IsFormat S F → TellsPointers S F → S.apart ≡ true
         → IsRoomy S F s r → NoneWorn S (opened_state S F (crashed S F s kept) n m gives)
         → (p : Root) × Does S S.run_extents r (Open p gives.pointers) (opened p gives.pointers)
         × IsRoomy S F (opened_state S F (crashed S F s kept) n m gives) (opened p gives.pointers) }
+    // So it is whatever the crash makes of the pages of frames that are being written.
+    ensures torn { (S : Shape) (F : Formats) (s : State) (r : Room) (kept : List Bool) (img : ℕ → Page) (n : ℕ) (m : Map)
+        (gives : Recovers S F img n m) → IsShape S → IsFormat S F → TellsPointers S F → S.apart ≡ true
+        → IsRoomy S F s r → TornFrom S F s kept img → NoneWorn S (opened_state S F img n m gives)
+        → (p : Root) × Does S S.run_extents r (Open p gives.pointers) (opened p gives.pointers)
+        × IsRoomy S F (opened_state S F img n m gives) (opened p gives.pointers) }
 {}
 
 /// A whole sweep is one of room, with the syncs behind it.

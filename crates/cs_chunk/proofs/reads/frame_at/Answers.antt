@@ -1,23 +1,29 @@
 use Rattle.std.proofs.Common.{List, ℕ, Err, arith}
 use Rattle.cs_chunk.specs.Chunks.{end_in}
 use Rattle.cs_extent.specs.State.{shape}
-use Rattle.cs_chunk.proofs.Framed.{all_fit, answers, end_low, frames_there, reads_it}
+use Rattle.cs_frame.specs.Frames.{kind_byte}
+use Rattle.cs_chunk.proofs.Framed.{all_fit, all_meant, answers, end_low, frames_there, of_format, reads_it}
 use Rattle.cs_chunk.proofs.reads.frame_at.Goals as goal
+
+pub returns-in-Ok-clause-meant : goal.returns-in-Ok-clause-meant
+returns-in-Ok-clause-meant g c =
+    all_meant c.args.extents.now c.args.kind c.args.locator c.in-Ok.pages.items (λ v. v) c.framed.result c.framed.ensures.spelled
+    (of_format c.format_of.result c.args.extents.now.format (kind_byte c.args.kind) c.args.locator.mark c.in-Ok.pages.items c.framed.result c.format_of.ensures c.framed.ensures.fault)
 
 pub returns-in-Ok-clause-payload : goal.returns-in-Ok-clause-payload
 returns-in-Ok-clause-payload g c = λ h view are.
     frames_there c.args.extents.now c.in-Ok.ensures.whole view c.args.kind c.args.locator c.requires.page c.in-Ok.pages.items (c.in-Ok.ensures.pages h view are) (λ v. v) c.framed.result c.framed.ensures.spelled
+    (returns-in-Ok-clause-meant g c)
 
 pub returns-in-Ok-clause-fault : goal.returns-in-Ok-clause-fault
 returns-in-Ok-clause-fault g c = λ h view are.
-    answers c.args.extents.now c.in-Ok.ensures.whole view c.args.kind c.args.locator c.requires.page c.in-Ok.pages.items (c.in-Ok.ensures.pages h view are) c.framed.result c.framed.ensures.fault
+    answers c.args.extents.now c.in-Ok.ensures.whole view c.args.kind c.args.locator c.requires.page c.in-Ok.pages.items (c.in-Ok.ensures.pages h view are) c.framed.result
+    (of_format c.format_of.result c.args.extents.now.format (kind_byte c.args.kind) c.args.locator.mark c.in-Ok.pages.items c.framed.result c.format_of.ensures c.framed.ensures.fault)
 
 pub returns-in-Ok-clause-read : goal.returns-in-Ok-clause-read
 returns-in-Ok-clause-read g c = λ h view payload are there.
-    let front = c.in-Ok.ensures.pages h view are in
     reads_it c.args.extents.now c.in-Ok.ensures.whole view c.args.kind c.args.locator c.requires.page (λ v. v) c.framed.result payload
-    (answers c.args.extents.now c.in-Ok.ensures.whole view c.args.kind c.args.locator c.requires.page c.in-Ok.pages.items front c.framed.result c.framed.ensures.fault)
-    (frames_there c.args.extents.now c.in-Ok.ensures.whole view c.args.kind c.args.locator c.requires.page c.in-Ok.pages.items front (λ v. v) c.framed.result c.framed.ensures.spelled) there
+    (returns-in-Ok-clause-fault g c h view are) (returns-in-Ok-clause-payload g c h view are) there
 
 pub returns-in-Err-clause-read : goal.returns-in-Err-clause-read
 returns-in-Err-clause-read g c = λ h view payload are there.

@@ -1,5 +1,5 @@
 use Rattle.std.proofs.Common.{◌+◌, ◌≤◌, List, ℕ, length}
-use Rattle.cs_chunk.specs.Chunks.{IsFrameIn, end_in, kind_of}
+use Rattle.cs_chunk.specs.Chunks.{IsFrameIn, IsMeant, end_in, kind_of}
 use Rattle.cs_chunk.specs.Reads.{fault_in}
 use Rattle.cs_extent.specs.State.{shape}
 use Rattle.cs_frame.specs.Formats.{formats_of}
@@ -30,3 +30,7 @@ pub returns-in-Ok-clause-size : goal.returns-in-Ok-clause-size
 returns-in-Ok-clause-size g c =
     let S = shape c.args.extents.now in
     copied_ok c.in-Ok.frame (λ v. v.items) (λ (payload : List ℕ). c.args.locator.page + length ((formats_of S).frame (kind_of c.args.kind) payload) ≤ S.pages) c.copied.result c.in-Ok.ensures.size c.copied.ensures.same
+
+pub returns-in-Ok-clause-meant : goal.returns-in-Ok-clause-meant
+returns-in-Ok-clause-meant g c =
+    copied_ok c.in-Ok.frame (λ v. v.items) (IsMeant (shape c.args.extents.now) (kind_of c.args.kind) c.args.locator) c.copied.result c.in-Ok.ensures.meant c.copied.ensures.same

@@ -3,16 +3,17 @@ use Rattle.std.proofs.lemmas.List.{get_or_default}
 use Rattle.std.proofs.lemmas.Option.{slice_get_within, get_or_from_slice_get}
 use Rattle.cs_chunk.specs.Newest.{AreNewest}
 use Rattle.cs_disk.specs.Disk.{State, seen}
+use Rattle.cs_extent.specs.State.{shape}
 use Rattle.cs_frame.specs.declared.locators.Locator.{Locator}
 use Rattle.cs_chunk.proofs.OnlyRead.{reads_on}
-use Rattle.cs_chunk.proofs.Sharded.{AreInside, all_read, one_more, reads_all, refused_at}
+use Rattle.cs_chunk.proofs.Sharded.{AreInside, all_read, meant_all, one_meant_more, one_more, reads_all, refused_at}
 use Rattle.cs_chunk.proofs.shards.read_chunks.Goals as goal
 use Rattle.cs_chunk.proofs.shards.read_chunks.Goals.{After-extent_count, After-read_frame}
 use Rattle.cs_chunk.proofs.shards.read_chunks.Given.{Over}
 
 -- the locator at a place
 abbrev at_place : List Locator → ℕ → Locator
-at_place ls k = get_or ls k (record { extent = 0; page = 0; generation = 0 })
+at_place ls k = get_or ls k (record { extent = 0; page = 0; generation = 0; mark = 0 })
 
 -- what a page reads as is the same after reads
 view_here : (g : Over) (c : After-read_frame g) → g.D.PageDisk.honest c.args.disk.now → (view : ℕ → List ℕ) → AreNewest c.args.graph.now (seen (g.D.PageDisk.state c.args.disk.now)) view → AreNewest c.args.graph.now (seen (g.D.PageDisk.state c.loop-k.disk)) view
@@ -29,6 +30,9 @@ loop-k-preserved g c =
           one_more c.args.extents.now view c.args.locators.now c.loop-k.k (at_place c.args.locators.now c.loop-k.k) c.loop-k.bytes.items c.extend_from_slice.new.self.items c.in-Ok.chunk.items c.deref.result.now
           c.loop-k-test.true (get_or_default c.args.locators.now c.loop-k.k _ _ c.loop-k-test.true) (c.loop-k.invariant.read h view are)
           (c.in-Ok.ensures.payload (c.loop-k.invariant.disk.honesty.0 h) view (view_here g r h view are)) c.deref.ensures.value c.in_ok-extend_from_slice-in-Ok.ensures.items;
+      meant =
+          one_meant_more (shape c.args.extents.now) c.args.locators.now c.loop-k.k (at_place c.args.locators.now c.loop-k.k) c.loop-k.bytes.items c.extend_from_slice.new.self.items c.in-Ok.chunk.items c.deref.result.now
+          c.loop-k-test.true (get_or_default c.args.locators.now c.loop-k.k _ _ c.loop-k-test.true) c.loop-k.invariant.meant c.in-Ok.ensures.meant c.deref.ensures.value c.in_ok-extend_from_slice-in-Ok.ensures.items;
     }
 
 pub returns-in_err-extend_from_slice-in-Ok-clause-disk : goal.returns-in_err-extend_from_slice-in-Ok-clause-disk
@@ -55,3 +59,6 @@ pub returns-clause-read : goal.returns-clause-read
 returns-clause-read g c = λ h view cs are there.
     reads_all c.args.extents.now c.extent_count.ensures.whole view {V = List ℕ} (λ v. v) (Ok c.loop-k.bytes.items) c.args.locators.now cs (inside g (goal.at.returns-clause-read g c).After-extent_count)
     (all_read c.args.extents.now view c.args.locators.now c.loop-k.k c.loop-k.bytes.items c.loop-k-test.false (c.loop-k.invariant.read h view are)) there
+
+pub returns-clause-meant : goal.returns-clause-meant
+returns-clause-meant g c = meant_all (shape c.args.extents.now) c.args.locators.now c.loop-k.k c.loop-k.bytes.items c.loop-k-test.false c.loop-k.invariant.meant

@@ -11,7 +11,7 @@ use Rattle.cs_chunk.proofs.shards.read_lengths.Given.{Over}
 
 -- the locator at a place
 abbrev at_place : List Locator → ℕ → Locator
-at_place ls k = get_or ls k (record { extent = 0; page = 0; generation = 0 })
+at_place ls k = get_or ls k (record { extent = 0; page = 0; generation = 0; mark = 0 })
 
 -- what a page reads as is the same after reads
 view_here : (g : Over) (c : After-read_length g) → g.D.PageDisk.honest c.args.disk.now → (view : ℕ → List ℕ) → AreNewest c.args.graph.now (seen (g.D.PageDisk.state c.args.disk.now)) view → AreNewest c.args.graph.now (seen (g.D.PageDisk.state c.loop-k.disk)) view

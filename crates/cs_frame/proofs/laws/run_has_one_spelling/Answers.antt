@@ -1,10 +1,8 @@
-use Rattle.std.proofs.Common.{refl, sym, ◌∙◌}
-use Rattle.cs_frame.specs.Runs.{entries_in}
-use Rattle.cs_frame.proofs.RunLaws.{run_fault-spelled, run_is_read, spells}
+use Rattle.cs_frame.proofs.FormatRunLaws.{fault-spelled, one_run, spells_some}
 use Rattle.cs_frame.proofs.laws.run_has_one_spelling.Goals as goal
 
 pub returns-clause-exact : goal.returns-clause-exact
-returns-clause-exact c = λ payload are. ((λ h. (entries_in payload, spells payload (entries_in payload) are h refl)), (λ s. run_fault-spelled payload s.0 s.1))
+returns-clause-exact c = λ format payload are. ((λ h. spells_some format payload are h), (λ s. fault-spelled format payload s.0 s.1))
 
 pub returns-clause-one_run : goal.returns-clause-one_run
-returns-clause-one_run c = λ payload entries es a b. sym (run_is_read payload entries a) ∙ run_is_read payload es b
+returns-clause-one_run c = λ format payload entries es a b. one_run format payload entries es a b

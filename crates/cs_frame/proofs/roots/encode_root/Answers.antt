@@ -7,7 +7,8 @@ use Rattle.std.specs.List.{AllByRecursion}
 use Rattle.std.proofs.Common.{subst, List}
 use Rattle.cs_frame.specs.declared.locators.Locator.{Locator}
 use Rattle.cs_frame.proofs.Fields.{wrote}
-use Rattle.cs_frame.proofs.RootLaws.{length-root_fields, most_runs}
+use Rattle.cs_frame.proofs.RootLaws.{fits_page, length-root_fields}
+use Rattle.cs_model.specs.Geometry.{marks_in}
 use Rattle.cs_frame.proofs.roots.encode_root.Goals as goal
 
 pub seal-requires : goal.seal-requires
@@ -18,8 +19,8 @@ seal-requires c =
     let version = wrote digit c.append-3.ensures c.to_be_bytes.ensures in
     let commands = wrote version c.append-4.ensures c.to_be_bytes-2.ensures in
     let count = wrote commands c.append-5.ensures (ap (λ (n : ℕ). n ∷ []) (c.len.ensures ∙ root.runs.ok.0)) in
-    let text : text_of c.append_locators.new.page ≡ root_fields root.format root.version root.commands root.runs.items = wrote count c.append_locators.ensures.text (ap spelled_locators c.deref.ensures.value) in
-    omega (arith, ap length text, length-root_fields root.format root.version root.commands root.runs.items, c.requires.count, most_runs root.format)
+    let text : text_of c.append_locators.new.page ≡ root_fields root.format root.version root.commands root.runs.items = wrote count c.append_locators.ensures.text (ap (spelled_locators (marks_in root.format)) c.deref.ensures.value) in
+    omega (arith, ap length text, length-root_fields root.format root.version root.commands root.runs.items, fits_page root.format (length root.runs.items) c.requires.count)
 
 pub returns : goal.returns
 returns c =
@@ -29,7 +30,7 @@ returns c =
     let version = wrote digit c.append-3.ensures c.to_be_bytes.ensures in
     let commands = wrote version c.append-4.ensures c.to_be_bytes-2.ensures in
     let count = wrote commands c.append-5.ensures (ap (λ (n : ℕ). n ∷ []) (c.len.ensures ∙ root.runs.ok.0)) in
-    let text : text_of c.append_locators.new.page ≡ root_fields root.format root.version root.commands root.runs.items = wrote count c.append_locators.ensures.text (ap spelled_locators c.deref.ensures.value) in
+    let text : text_of c.append_locators.new.page ≡ root_fields root.format root.version root.commands root.runs.items = wrote count c.append_locators.ensures.text (ap (spelled_locators (marks_in root.format)) c.deref.ensures.value) in
     record {
       fits = record {
         known = c.requires.known;
@@ -37,7 +38,7 @@ returns c =
         last_version = c.requires.last_version;
         last_command = c.requires.last_command;
         count = c.requires.count;
-        each = subst (λ (ls : List Locator). AllByRecursion FitsLocator ls) c.deref.ensures.value c.append_locators.ensures.fit;
+        each = subst (λ (ls : List Locator). AllByRecursion (FitsLocator (marks_in root.format)) ls) c.deref.ensures.value c.append_locators.ensures.fit;
       };
       spelled = c.finish.ensures ∙ ap padded (c.seal.ensures ∙ ap sealed text);
     }

@@ -3,7 +3,7 @@ use Rattle.std.proofs.lemmas.Result.{err_from_is_err_and}
 use Rattle.cs_frame.specs.Runs.{entry_in}
 use Rattle.cs_frame.proofs.RunLaws.{counts, not_of_run, run_fault-spelled, run_is_read, spells}
 use Rattle.cs_frame.proofs.TestLaws.{some_and_none, same_fault}
-use Rattle.cs_frame.proofs.runs.decode_run.Goals as goal
+use Rattle.cs_frame.proofs.runs.decode_plain_run.Goals as goal
 
 pub returns-in_err-check_run-clause-read : goal.returns-in_err-check_run-clause-read
 returns-in_err-check_run-clause-read c = λ entries s. some_and_none c.in_err-check_run.ensures.fault (run_fault-spelled c.args.payload.now entries s)

@@ -1,7 +1,7 @@
 use Rattle.std.proofs.Common.{refl, subst, sym, List, ℕ}
 use Rattle.cs_frame.specs.Frames.{SpellsFrame, kind_byte, payload_in}
 use Rattle.cs_frame.proofs.FrameLaws.{spells}
-use Rattle.cs_frame.proofs.read_frames.read_frame_in.Goals as goal
+use Rattle.cs_frame.proofs.read_frames.whole_frame_in.Goals as goal
 
 pub returns-clause-spelled : goal.returns-clause-spelled
 returns-clause-spelled c =

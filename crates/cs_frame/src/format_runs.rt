@@ -1,0 +1,58 @@
+//! Runs of the index, as a format has them.
+
+ghost use Rattle.std.specs.Prelude.{◌≡◌, ◌^◌, ◌<◌, ◌≤◌, List, None, Err, IfOk, length};
+ghost use Rattle.std.specs.List.{AllByRecursion};
+ghost use Rattle.cs_frame.specs.Faults.{HasFault, OkUnlessMemory};
+ghost use Rattle.cs_frame.specs.FormatRuns.{SpellsRun, run_fault, run_size};
+ghost use Rattle.cs_frame.specs.Runs.{Entry, IsRun, entries_of, greatest_chunks};
+
+use crate::faults::FormatFault;
+use crate::locators::has_marks;
+use crate::packed_runs::{decode_packed_run, encode_packed_run, packed_sizes};
+use crate::runs::{Run, decode_plain_run, encode_plain_run, run_bytes};
+use std::alloc::{AllocError, Global};
+
+/// How many bytes the payload has that spells a run in a format.
+pub fn run_size(format: u8, run: &Run) -> usize
+    requires few { AllByRecursion (λ entry. length entry.1.items ≤ greatest_chunks) run.now.entries.items }
+    requires most { length run.now.entries.items < 2 ^ 32 }
+    ensures { result ≡ run_size format (entries_of run.now.entries.items) }
+{
+    if has_marks(format) {
+        4 + packed_sizes(&run.entries)
+    } else {
+        run_bytes(run.entries.len())
+    }
+}
+
+/// The payload that spells a run in a format.
+pub fn encode_run(alloc: Global, format: u8, run: &Run) -> Result<Vec<u8>, AllocError>
+    requires { IsRun format run.now }
+    ensures { IfOk result (λ payload. SpellsRun payload.items format (entries_of run.now.entries.items)) }
+{
+    if has_marks(format) {
+        encode_packed_run(alloc, run)
+    } else {
+        encode_plain_run(alloc, run)
+    }
+}
+
+/// The run that a payload spells in a format. The first test that fails is answered: up to format 2 22 BadLength, then of each entry 25
+/// OutOfOrder, 22 and 23 BadPadding; in a format that has marks 22, then of each entry 22, 25 and 22, and 22 for what follows; 9
+/// OutOfMemory only for a payload that spells a run.
+pub fn decode_run(alloc: Global, format: u8, payload: &[u8]) -> Result<Run, FormatFault>
+    // What is read is spelled by the payload.
+    ensures spelled { IfOk result (λ run. SpellsRun payload.now format (entries_of run.entries.items)) }
+    // What the payload spells is read, unless memory runs out.
+    ensures read { (entries : List Entry) → SpellsRun payload.now format entries
+        → OkUnlessMemory result (λ run. entries_of run.entries.items ≡ entries) }
+    // Each other fault is that of the first test that fails.
+    ensures fault { HasFault result (run_fault format payload.now) }
+    ensures memory { result ≡ Err FormatFault.OutOfMemory → run_fault format payload.now ≡ None }
+{
+    if has_marks(format) {
+        decode_packed_run(alloc, payload)
+    } else {
+        decode_plain_run(alloc, payload)
+    }
+}
