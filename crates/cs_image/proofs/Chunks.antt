@@ -1,5 +1,5 @@
 -- What lies at a place that is located: a chunk, or a damaged one.
-use Rattle.std.proofs.Common.{◌≡◌, ◌⊎◌, inl, inr, ℕ, zero, suc, ◌+◌, ◌-◌, ◌<◌, ◌≤◌, List, [], ◌∷◌, length, take, Option, Some, None, length-take, refl, ap, ◌∙◌, arith}
+use Rattle.std.proofs.Common.{◌≡◌, ◌⊎◌, inl, inr, ℕ, zero, suc, ◌+◌, ◌-◌, ◌<◌, ◌≤◌, List, [], ◌∷◌, length, take, Option, Some, None, length-take, Bool, true, false, if◌then◌else◌, refl, sym, ap, subst, ◌∙◌, arith}
 use Rattle.std.specs.Prelude.{option_map}
 use Rattle.std.specs.List.{AllByRecursion}
 use Rattle.cs_frame.proofs.FrameLaws.{spells}
@@ -9,10 +9,12 @@ use Rattle.cs_frame.specs.Bytes.{IsPage}
 use Rattle.cs_frame.specs.Formats.{formats_of, refusal_of}
 use Rattle.cs_frame.specs.Frames.{SpellsFrame, frame_bytes, frame_count, frame_fault, page_count, payload_in, spelled_frame}
 use Rattle.cs_index.proofs.Sorted.{all_take}
-use Rattle.cs_model.specs.Device.{Page, Shape}
-use Rattle.cs_model.specs.Formats.{ChunkFrame, Formats, Stand, pages_from}
+use Rattle.cs_model.proofs.Meant.{stands_first}
+use Rattle.cs_model.specs.Device.{Page, Shape, is_meant, mark_of}
+use Rattle.cs_model.specs.Formats.{ChunkFrame, Formats, Stand, fault_for, pages_from, refused_or}
+use Rattle.cs_model.specs.Meant.{same_mark}
 use Rattle.cs_model.specs.Local.{LiesBelow}
-use Rattle.cs_model.specs.Refusal.{Refusal}
+use Rattle.cs_model.specs.Refusal.{Misplaced, Refusal}
 use Rattle.cs_image.specs.Reads.{ArePages}
 use Rattle.cs_image.proofs.Listed.{bytes_joined, each_has}
 
@@ -53,20 +55,37 @@ module _ (S : Shape) (view : ℕ → Page) (count : ℕ) (below : LiesBelow S co
             (ap (λ (k : ℕ). take k (pages_from S (formats_of S) view e i (end - i))) size ∙ it.spelled),
       )
 
-  pub chunk_or_fault : (e i end : ℕ) → e < S.extents → i < end → end ≤ S.pages
-      → ((payload : List ℕ) × (i + length ((formats_of S).frame ChunkFrame payload) ≤ end) × Stand S (formats_of S) view e i ((formats_of S).frame ChunkFrame payload))
-      ⊎ ((f : Refusal) × ((formats_of S).fault ChunkFrame (pages_from S (formats_of S) view e i (end - i)) ≡ Some f))
-  chunk_or_fault e i end there above low = go (frame_fault 0 (pages_from S (formats_of S) view e i (end - i))) refl
+  -- a chunk stands there that is meant, or it is told why none does
+  abbrev ChunkThere : (e i end m : ℕ) → Type 0
+  ChunkThere e i end m = (payload : List ℕ) × (i + length ((formats_of S).frame ChunkFrame payload) ≤ end)
+      × Stand S (formats_of S) view e i ((formats_of S).frame ChunkFrame payload) × (is_meant S m ((formats_of S).frame ChunkFrame payload) ≡ true)
+
+  pub chunk_or_fault : (e i end m : ℕ) → e < S.extents → i < end → end ≤ S.pages
+      → ChunkThere e i end m ⊎ ((f : Refusal) × (fault_for S (formats_of S) ChunkFrame m (pages_from S (formats_of S) view e i (end - i)) ≡ Some f))
+  chunk_or_fault e i end m there above low = by (is_meant S m (pages_from S (formats_of S) view e i (end - i))) refl
     where
       all : AllByRecursion IsPage (pages_from S (formats_of S) view e i (end - i))
       all = pages_there e i (end - i) there (omega (arith, above, low))
 
-      go : (found : Option FormatFault) → frame_fault 0 (pages_from S (formats_of S) view e i (end - i)) ≡ found
-          → ((payload : List ℕ) × (i + length ((formats_of S).frame ChunkFrame payload) ≤ end) × Stand S (formats_of S) view e i ((formats_of S).frame ChunkFrame payload))
-          ⊎ ((f : Refusal) × ((formats_of S).fault ChunkFrame (pages_from S (formats_of S) view e i (end - i)) ≡ Some f))
-      go None none =
+      -- what is told of the frame, where the mark of its pages is the one that is meant or not
+      told : Bool → Option Refusal
+      told b = if b then (formats_of S).fault ChunkFrame (pages_from S (formats_of S) view e i (end - i))
+          else Some (refused_or ((formats_of S).fault ChunkFrame (pages_from S (formats_of S) view e i (end - i))) Misplaced)
+
+      go : (found : Option FormatFault) → frame_fault 0 (pages_from S (formats_of S) view e i (end - i)) ≡ found → is_meant S m (pages_from S (formats_of S) view e i (end - i)) ≡ true
+          → ChunkThere e i end m ⊎ ((f : Refusal) × (told true ≡ Some f))
+      go None none meant =
           let pages : List Page = pages_from S (formats_of S) view e i (end - i) in
           let stands = frame_stands e i end 0 (payload_in pages) above
           (spells 0 pages (payload_in pages) (each_has pages all) (bytes_joined (take (frame_count pages) pages) (all_take IsPage (frame_count pages) pages all)) none refl) in
-          inl (payload_in pages, stands.0, stands.1)
-      go (Some f) is = inr (refusal_of f, ap (option_map refusal_of) is)
+          let size : length (spelled_frame 0 (payload_in pages)) ≡ page_count (length (payload_in pages)) = length-first_chunks 4096 (page_count (length (payload_in pages))) (frame_bytes 0 (payload_in pages)) in
+          let first : mark_of S pages ≡ mark_of S (spelled_frame 0 (payload_in pages)) =
+          stands_first S (formats_of S) view e i (end - i) (spelled_frame 0 (payload_in pages)) (omega (arith, size)) (omega (arith, stands.0, above)) stands.1 in
+          inl (payload_in pages, stands.0, stands.1, ap (λ (n : ℕ). same_mark n m) (sym first) ∙ meant)
+      go (Some f) is meant = inr (refusal_of f, ap (option_map refusal_of) is)
+
+      by : (b : Bool) → is_meant S m (pages_from S (formats_of S) view e i (end - i)) ≡ b
+          → ChunkThere e i end m ⊎ ((f : Refusal) × (told (is_meant S m (pages_from S (formats_of S) view e i (end - i))) ≡ Some f))
+      by true is = subst (λ (b : Bool). ChunkThere e i end m ⊎ ((f : Refusal) × (told b ≡ Some f))) (sym is)
+          (go (frame_fault 0 (pages_from S (formats_of S) view e i (end - i))) refl is)
+      by false is = inr (refused_or ((formats_of S).fault ChunkFrame (pages_from S (formats_of S) view e i (end - i))) Misplaced, ap told is)

@@ -9,6 +9,8 @@ use Rattle.cs_frame.specs.declared.locators.Locator.{Locator}
 use Rattle.cs_frame.proofs.FormatLaws.{root_fits_from}
 use Rattle.cs_frame.specs.Formats.{as_locator, formats_of, place_of}
 use Rattle.cs_frame.specs.Geometries.{device_pages}
+use Rattle.cs_frame.specs.Locators.{FitsLocator, most_mark}
+use Rattle.cs_frame.specs.Runs.{FitsEntry, entries_of as spelled_entries}
 use Rattle.cs_frame.specs.Roots.{FitsRoot, greatest_runs, spelled_root}
 use Rattle.cs_index.proofs.Newest.{all_newest, all_oldest}
 use Rattle.cs_index.proofs.Whole.{length-newest}
@@ -16,10 +18,11 @@ use Rattle.cs_index.specs.declared.runs.StoredRun.{StoredRun}
 use Rattle.cs_index.specs.State.{IsStored, named_entry, newest_first, run_of}
 use Rattle.cs_model.proofs.Filled.{damage_here, limit_here, limit_low, reach_off, reads_own}
 use Rattle.cs_model.specs.Apart.{any_run_on}
-use Rattle.cs_model.specs.Device.{Page}
+use Rattle.cs_model.specs.Device.{Page, is_meant}
 use Rattle.cs_model.specs.Element.{Bytes, Content, Damaged, Entry, Locator as Place, Map, Opening, Run}
 use Rattle.cs_model.specs.Extents.{Extents}
-use Rattle.cs_model.specs.Formats.{ChunkFrame, RunFrame, Stand, limit_in, opening_in, pages_from, places}
+use Rattle.cs_model.specs.Geometry.{greatest_mark_in, marks_in}
+use Rattle.cs_model.specs.Formats.{ChunkFrame, RunFrame, Stand, fault_for, limit_in, opening_in, pages_from, places}
 use Rattle.cs_model.specs.Index.{AllPass, Gives, Holds, InBounds, Passes, Reads, ReadsAs, Value, after, entries_of, live, lookup}
 use Rattle.cs_model.specs.Lists.{◌∈◌}
 use Rattle.cs_model.specs.Recovery.{Recovers}
@@ -29,7 +32,7 @@ use Rattle.cs_image.specs.Reads.{AreExtentsNoted, AreLocated, ArePages, AreVisib
 use Rattle.cs_image.proofs.Chunks.{chunk_or_fault}
 use Rattle.cs_image.proofs.Listed.{found_in, in_all, in_entries, oldest_places}
 use Rattle.cs_image.proofs.Reaches.{end_is_limit}
-use Rattle.cs_image.proofs.Runs.{Stored, stands_reach, stands_read, stored_read}
+use Rattle.cs_image.proofs.Runs.{Stored, stands_meant, stands_reach, stands_read, stored_read}
 use Rattle.cs_image.proofs.Superblocks.{extents_are, extents_fit, extents_with, read_as, read_below, read_fits, read_found, read_listed, read_whole, section_formats, zero_formats}
 
 module _ (view : ℕ → List ℕ) (format : ℕ) (versions : List ℕ) (pages : ℕ) (written : List (ℕ × ℕ)) (root commands : ℕ) (runs : List StoredRun)
@@ -53,12 +56,23 @@ module _ (view : ℕ → List ℕ) (format : ℕ) (versions : List ℕ) (pages :
   fit : (e : ℕ) → (p e ≤ pages) × (g e ≤ 4294967295)
   fit = extents_fit view format versions pages written read.sections
 
-  passes : (l : Locator) → IsLocated x l → Located (place_of l)
-  passes l is = record {
+  -- the mark of a locator that can be spelled is one that can be
+  abbrev Marked : Place → Type 0
+  Marked l = l.mark ≤ greatest_mark_in format
+
+  fits_mark : (l : Locator) → FitsLocator (marks_in format) l → Marked (place_of l)
+  fits_mark l fits = by (marks_in format) fits.mark
+    where
+      by : (b : Bool) → l.mark ≤ most_mark b → l.mark ≤ (if b then 18446744073709551615 else 0)
+      by true low = low
+      by false low = low
+
+  passes : (l : Locator) → IsLocated x l → Marked (place_of l) → Located (place_of l)
+  passes l is can = record {
     generation = is.generation;
     below = is.page;
     inside = (is.extent, (let low : p l.extent ≤ pages = (fit l.extent).0 in let lt : l.page < p l.extent = is.page in omega arith));
-    mark = tt;
+    mark = can;
   }
 
   -- how far a frame may reach
@@ -67,11 +81,11 @@ module _ (view : ℕ → List ℕ) (format : ℕ) (versions : List ℕ) (pages :
 
   -- a frame that reaches no further is read
   reads_so : (l : Place) (bs : List Page) → Located l → l.page + length bs ≤ limit_in (shape x) (formats_of (shape x)) p g l
-      → Stand (shape x) (formats_of (shape x)) view l.extent l.page bs
+      → Stand (shape x) (formats_of (shape x)) view l.extent l.page bs → is_meant (shape x) l.mark bs ≡ true
       → Reads (shape x) (formats_of (shape x)) opening view p g l bs
-  reads_so l bs is end stand = reads_own (shape x) (formats_of (shape x)) view p g l bs is
+  reads_so l bs is end stand meant = reads_own (shape x) (formats_of (shape x)) view p g l bs is
       (λ on. le_trans end (le_of_eq (limit_here (shape x) (formats_of (shape x)) view p g l is on)))
-      (le_trans end (limit_low (shape x) (formats_of (shape x)) p g (λ e. (fit e).0) l)) stand refl
+      (le_trans end (limit_low (shape x) (formats_of (shape x)) p g (λ e. (fit e).0) l)) stand meant
 
   -- ---- runs
 
@@ -83,22 +97,23 @@ module _ (view : ℕ → List ℕ) (format : ℕ) (versions : List ℕ) (pages :
     fits : (formats_of (shape x)).fits_run run.entries ≡ true
     short : AllByRecursion EntryShort run.entries
 
-  run_in : (run : StoredRun) → IsRunRead x view run → IsStored (run_of run) → RunIn (run_of run)
-  run_in run is stored =
+  run_in : (run : StoredRun) → IsRunRead x view run → IsStored (run_of run) → FitsLocator (marks_in format) run.place → RunIn (run_of run)
+  run_in run is stored placed =
+      let there : Located (place_of run.place) = passes run.place is.located (fits_mark run.place placed) in
       let stands = stands_read x (read_whole view format versions pages written read.sections).found_pages view run is stored in
       record {
-        reads = reads_so (place_of run.place) _ (passes run.place is.located)
-            (le_trans (stands_reach x view run is) (le_of_eq (end_there (place_of run.place) (passes run.place is.located)))) stands.stand;
+        reads = reads_so (place_of run.place) _ there (le_trans (stands_reach x view run is) (le_of_eq (end_there (place_of run.place) there))) stands.stand (stands_meant x view run is);
         fits = stands.fits;
         short = stored.2;
       }
 
   runs_in : AllByRecursion RunIn (newest_first runs)
-  runs_in = all_newest RunIn runs (go runs read.runs_read (all_oldest IsStored runs (stored_read x view runs read.runs_read)))
+  runs_in = all_newest RunIn runs (go runs read.runs_read (all_oldest IsStored runs (stored_read x view runs read.runs_read)) read.root_page.fits.each)
     where
-      go : (xs : List StoredRun) → AllByRecursion (IsRunRead x view) xs → AllByRecursion (λ run. IsStored (run_of run)) xs → AllByRecursion (λ run. RunIn (run_of run)) xs
-      go [] a b = tt
-      go (run ∷ xs) a b = (run_in run a.0 b.0, go xs a.1 b.1)
+      go : (xs : List StoredRun) → AllByRecursion (IsRunRead x view) xs → AllByRecursion (λ run. IsStored (run_of run)) xs → AllByRecursion (FitsLocator (marks_in format)) (map (λ run. run.place) xs)
+          → AllByRecursion (λ run. RunIn (run_of run)) xs
+      go [] a b c = tt
+      go (run ∷ xs) a b c = (run_in run a.0 b.0 c.0, go xs a.1 b.1 c.1)
 
   all_short : AllByRecursion EntryShort (entries_of (newest_first runs))
   all_short = in_entries EntryShort (newest_first runs) (go (newest_first runs) runs_in)
@@ -110,10 +125,32 @@ module _ (view : ℕ → List ℕ) (format : ℕ) (versions : List ℕ) (pages :
   few_chunks : (id : ℕ) → length (live (lookup id (entries_of (newest_first runs)))) ≤ 8
   few_chunks = found_in EntryShort (λ (o : Option (List Place)). length (live o) ≤ 8) (omega arith) (λ e is. is) (entries_of (newest_first runs)) all_short
 
+  -- ---- the marks of what was read can be
+
+  abbrev EntryMarked : Entry → Type 0
+  EntryMarked e = (l : Place) → l ∈ e.locators → Marked l
+
+  marked_places : (ls : List Locator) → AllByRecursion (FitsLocator (marks_in format)) ls → (l : Place) → l ∈ map place_of ls → Marked l
+  marked_places [] all l none = absurd none
+  marked_places (k ∷ ls) all l (inl is) = subst Marked (sym is) (fits_mark k all.0)
+  marked_places (k ∷ ls) all l (inr has) = marked_places ls all.1 l has
+
+  marked_entries : (xs : Stored) → AllByRecursion (FitsEntry (marks_in format)) (spelled_entries xs) → AllByRecursion EntryMarked (map named_entry xs)
+  marked_entries [] all = tt
+  marked_entries (e ∷ xs) all = (marked_places e.1.items all.0.each, marked_entries xs all.1)
+
+  marked_runs : (xs : List StoredRun) → AllByRecursion (IsRunRead x view) xs → AllByRecursion (λ run. AllByRecursion EntryMarked (run_of run).entries) xs
+  marked_runs [] all = tt
+  marked_runs (run ∷ xs) all = (marked_entries run.entries.items all.0.spelled.fits.each, marked_runs xs all.1)
+
+  live_marked : (id : ℕ) (l : Place) → l ∈ live (lookup id (entries_of (newest_first runs))) → Marked l
+  live_marked id = found_in EntryMarked (λ (o : Option (List Place)). (l : Place) → l ∈ live o → Marked l) (λ l none. absurd none) (λ e is. is) (entries_of (newest_first runs))
+      (in_entries EntryMarked (newest_first runs) (all_newest (λ run. AllByRecursion EntryMarked run.entries) runs (marked_runs runs read.runs_read))) id
+
   -- ---- what is located
 
   live_pass : (id : ℕ) (l : Place) → l ∈ live (lookup id (entries_of (newest_first runs))) → Located l
-  live_pass id l has = passes (as_locator l) (read.located id l has)
+  live_pass id l has = passes (as_locator l) (read.located id l has) (live_marked id l has)
 
   visible : (id : ℕ) → AllPass (shape x) (formats_of (shape x)) view p g (lookup id (entries_of (newest_first runs)))
   visible id = go (lookup id (entries_of (newest_first runs))) (live_pass id)
@@ -126,21 +163,21 @@ module _ (view : ℕ → List ℕ) (format : ℕ) (versions : List ℕ) (pages :
   abbrev EntryLocated : Entry → Type 0
   EntryLocated e = (l : Place) → l ∈ e.locators → Located l
 
-  located_in : (ls : List Locator) → AllByRecursion (IsLocated x) ls → (l : Place) → l ∈ map place_of ls → Located l
-  located_in [] all l none = absurd none
-  located_in (k ∷ ls) all l (inl is) = subst Located (sym is) (passes k all.0)
-  located_in (k ∷ ls) all l (inr has) = located_in ls all.1 l has
+  located_in : (ls : List Locator) → AllByRecursion (IsLocated x) ls → ((l : Place) → l ∈ map place_of ls → Marked l) → (l : Place) → l ∈ map place_of ls → Located l
+  located_in [] all can l none = absurd none
+  located_in (k ∷ ls) all can l (inl is) = subst Located (sym is) (passes k all.0 (can (place_of k) (inl refl)))
+  located_in (k ∷ ls) all can l (inr has) = located_in ls all.1 (λ j at. can j (inr at)) l has
 
-  entries_in : (xs : Stored) → AllByRecursion (λ entry. AllByRecursion (IsLocated x) entry.1.items) xs → AllByRecursion EntryLocated (map named_entry xs)
-  entries_in [] all = tt
-  entries_in (e ∷ xs) all = (located_in e.1.items all.0, entries_in xs all.1)
+  entries_in : (xs : Stored) → AllByRecursion (λ entry. AllByRecursion (IsLocated x) entry.1.items) xs → AllByRecursion EntryMarked (map named_entry xs) → AllByRecursion EntryLocated (map named_entry xs)
+  entries_in [] all can = tt
+  entries_in (e ∷ xs) all can = (located_in e.1.items all.0 can.0, entries_in xs all.1 can.1)
 
   located_runs : AreLocated x runs → AllByRecursion (λ run. AllByRecursion EntryLocated run.entries) (newest_first runs)
-  located_runs located = all_newest (λ run. AllByRecursion EntryLocated run.entries) runs (go runs located)
+  located_runs located = all_newest (λ run. AllByRecursion EntryLocated run.entries) runs (go runs located (marked_runs runs read.runs_read))
     where
-      go : (xs : List StoredRun) → AreLocated x xs → AllByRecursion (λ run. AllByRecursion EntryLocated (run_of run).entries) xs
-      go [] all = tt
-      go (run ∷ xs) all = (entries_in run.entries.items all.0, go xs all.1)
+      go : (xs : List StoredRun) → AreLocated x xs → AllByRecursion (λ run. AllByRecursion EntryMarked (run_of run).entries) xs → AllByRecursion (λ run. AllByRecursion EntryLocated (run_of run).entries) xs
+      go [] all can = tt
+      go (run ∷ xs) all can = (entries_in run.entries.items all.0 can.0, go xs all.1 can.1)
 
   hidden_pass : (shape x).hidden_stand ≡ true → (run : Run) → run ∈ newest_first runs → (id : ℕ) → AllPass (shape x) (formats_of (shape x)) view p g (lookup id run.entries)
   hidden_pass stand run has id = found_in EntryLocated (AllPass (shape x) (formats_of (shape x)) view p g) tt (λ e is. is) run.entries
@@ -212,11 +249,12 @@ module _ (view : ℕ → List ℕ) (format : ℕ) (versions : List ℕ) (pages :
         ⊎ ((f : Refusal) × (opening.damage l ≡ Some f))
     chunk l is = ⊎_elim
         (λ (c : (payload : List ℕ) × (l.page + length ((formats_of (shape x)).frame ChunkFrame payload) ≤ end_of l)
-        × Stand (shape x) (formats_of (shape x)) view l.extent l.page ((formats_of (shape x)).frame ChunkFrame payload)).
-        inl (c.0, reads_so l ((formats_of (shape x)).frame ChunkFrame c.0) is c.1 c.2))
-        (λ (b : (f : Refusal) × ((formats_of (shape x)).fault ChunkFrame (pages_from (shape x) (formats_of (shape x)) view l.extent l.page (end_of l - l.page)) ≡ Some f)).
+        × Stand (shape x) (formats_of (shape x)) view l.extent l.page ((formats_of (shape x)).frame ChunkFrame payload)
+        × (is_meant (shape x) l.mark ((formats_of (shape x)).frame ChunkFrame payload) ≡ true)).
+        inl (c.0, reads_so l ((formats_of (shape x)).frame ChunkFrame c.0) is c.1 c.2 c.3))
+        (λ (b : (f : Refusal) × (fault_for (shape x) (formats_of (shape x)) ChunkFrame l.mark (pages_from (shape x) (formats_of (shape x)) view l.extent l.page (end_of l - l.page)) ≡ Some f)).
         inr (b.0, damage_here (shape x) (formats_of (shape x)) view p g l is ∙ b.1))
-        (chunk_or_fault (shape x) view (device_pages format (length written) pages (length versions)) (read_below view format versions pages written read.sections) are l.extent l.page (end_of l)
+        (chunk_or_fault (shape x) view (device_pages format (length written) pages (length versions)) (read_below view format versions pages written read.sections) are l.extent l.page (end_of l) l.mark
         is.inside.0 (end_above l is (shape x).fills refl) (limit_low (shape x) (formats_of (shape x)) p g (λ e. (fit e).0) l))
       where
         end_of : Place → ℕ

@@ -1,10 +1,9 @@
 -- What an image recovers can be read.
-use Rattle.std.proofs.Common.{◌≡◌, inl, inr, ℕ, zero, suc, ◌+◌, ◌/◌, ◌<◌, ◌≤◌, List, [], ◌∷◌, ◌++◌, length, map, take, drop, Option, Some, None, true, le_of_eq, le_trans, refl, sym, ap, ◌∙◌, subst, arith}
+use Rattle.std.proofs.Common.{◌≡◌, inl, inr, ℕ, zero, suc, ◌+◌, ◌/◌, ◌<◌, ◌≤◌, List, [], ◌∷◌, ◌++◌, length, map, take, drop, Option, Some, None, Bool, true, false, if◌then◌else◌, le_of_eq, le_trans, refl, sym, ap, ◌∙◌, subst, arith}
 use Rattle.std.specs.Prelude.{reverse, slice_index, slice_index_or}
-use Rattle.std.specs.List.{AllByRecursion, flat_map}
+use Rattle.std.specs.List.{AllByRecursion}
 use Rattle.std.proofs.lemmas.Grind.{reverse_onto}
 use Rattle.std.proofs.lemmas.List.{length-drop, length-map, length-reverse, length-take}
-use Rattle.byteorder.specs.Endian.{big_bytes}
 use Rattle.cs_chunk.specs.Chunks.{end_in}
 use Rattle.cs_extent.proofs.Sections.{all_in_part, part_inside}
 use Rattle.cs_extent.specs.State.{State as ExtentsState, section_rows, shape}
@@ -20,10 +19,10 @@ use Rattle.cs_frame.specs.FirstFormat.{SpellsPageZero}
 use Rattle.cs_frame.specs.Formats.{as_entry, as_locator, extents_of as listed_extents, formats_of, place_of}
 use Rattle.cs_frame.specs.Frames.{bytes_in, first_page, frame_bytes, frame_count, page_count, payload_length, spelled_frame}
 use Rattle.cs_frame.specs.Geometries.{IsGeometry, device_pages, section_length, section_size, section_start}
-use Rattle.cs_frame.specs.Locators.{FitsLocator}
+use Rattle.cs_frame.specs.FormatRuns.{spelled_run}
+use Rattle.cs_frame.specs.Locators.{FitsLocator, most_mark}
 use Rattle.cs_frame.specs.Pointers.{FitsExtent as FitsPair}
 use Rattle.cs_frame.specs.Roots.{SpellsRoot}
-use Rattle.cs_frame.specs.Runs.{spelled_entry, spelled_run}
 use Rattle.cs_frame.specs.Superblocks.{FitsSuperblock, SpellsSuperblock}
 use Rattle.cs_frame.specs.Places.{Listed}
 use Rattle.cs_index.proofs.Newest.{all_oldest}
@@ -34,13 +33,13 @@ use Rattle.cs_model.proofs.Counting.{ascending_lookup}
 use Rattle.cs_model.specs.Device.{Page, Shape}
 use Rattle.cs_model.specs.Element.{Entry, Locator as Place, Map, Run}
 use Rattle.cs_model.specs.Formats.{Stand, limit_in, places}
-use Rattle.cs_model.specs.Geometry.{shape_of}
+use Rattle.cs_model.specs.Geometry.{marks_in, shape_of}
 use Rattle.cs_model.specs.Index.{AllPass, Passes, entries_of, live, live_at, lookup, names}
 use Rattle.cs_model.specs.Lists.{◌∈◌}
 use Rattle.cs_model.specs.Recovery.{Recovers}
 use Rattle.cs_image.specs.Reads.{AreLocated, ArePages, AreSectionsRead, HasRunAt, IsLocated, IsReadable, IsRunRead, IsStoreRead, IsVisibleStoreRead, SpellsAt, extents_at}
-use Rattle.cs_image.proofs.Entries.{named_fit, tests_of}
-use Rattle.cs_image.proofs.Listed.{bytes_back, bytes_joined, to_all}
+use Rattle.cs_image.proofs.Entries.{ids_in_run, named_fit, tests_of}
+use Rattle.cs_image.proofs.Listed.{bytes_joined, to_all}
 use Rattle.cs_image.proofs.Reaches.{end_is_limit}
 use Rattle.cs_image.proofs.Runs.{StandsAt, all_stand, same_listed, same_runs}
 use Rattle.cs_image.proofs.Superblocks.{at_one, from_formats, read_below, read_format, read_found, read_whole, rows_agree, section_listed, section_one, zero_one}
@@ -94,12 +93,17 @@ module _ (format extents pages sections : ℕ) (is : IsGeometry format extents p
   abbrev pub part : ℕ → List (ℕ × ℕ)
   part j = take (section_length extents sections j) (drop (section_start extents sections j) rows)
 
-  pub fits_located : (l : Place) → Passes S (formats_of S) view r.pointers r.generations l → FitsLocator (as_locator l)
+  pub fits_located : (l : Place) → Passes S (formats_of S) view r.pointers r.generations l → FitsLocator (marks_in format) (as_locator l)
   fits_located l passes = record {
     extent = (let few : extents ≤ 7680 = (bounds format extents pages sections is).most_extents in let lt : l.extent < extents = passes.inside.0 in omega (arith, lt));
     page = (let few : pages ≤ 65535 = (bounds format extents pages sections is).most_pages in let lt : l.page < pages = passes.inside.1 in omega (arith, lt));
     generation = (let low : r.generations l.extent ≤ 4294967295 = (r.extents_fit l.extent).1 in let same : r.generations l.extent ≡ l.generation = passes.generation in omega (arith, low, same));
+    mark = by (marks_in format) passes.mark;
   }
+    where
+      by : (b : Bool) → l.mark ≤ (if b then 18446744073709551615 else 0) → l.mark ≤ most_mark b
+      by true low = low
+      by false low = low
 
   rows_length : length rows ≡ extents
   rows_length = length-rows r.pointers r.generations 0 extents
@@ -158,8 +162,8 @@ module _ (format extents pages sections : ℕ) (is : IsGeometry format extents p
       last_version = (let high = r.bounds.version_fits in omega (arith, high));
       last_command = (let high = r.bounds.commands_fit in omega (arith, high));
       count = (let few = r.bounds.few_runs in omega (arith, few, length-map (reverse (places r.runs)) as_locator, length-reverse (places r.runs), length-places r.runs));
-      each = AllByRecursion-map FitsLocator as_locator (reverse (places r.runs)) (all_reverse (λ (l : Place). FitsLocator (as_locator l)) (places r.runs)
-          (all_places (λ (l : Place). FitsLocator (as_locator l)) r.runs (λ run has. fits_located run.place (r.gives.runs_read run has).passes)));
+      each = AllByRecursion-map (FitsLocator (marks_in format)) as_locator (reverse (places r.runs)) (all_reverse (λ (l : Place). FitsLocator (marks_in format) (as_locator l)) (places r.runs)
+          (all_places (λ (l : Place). FitsLocator (marks_in format) (as_locator l)) r.runs (λ run has. fits_located run.place (r.gives.runs_read run has).passes)));
     };
     spelled = r.root;
   }
@@ -221,19 +225,19 @@ module _ (view : ℕ → List ℕ) (format : ℕ) (versions : List ℕ) (pages :
 
   entry_located : (shape x).hidden_stand ≡ true → (run : Run) → run ∈ r.runs → (e : Entry) → e ∈ run.entries → (l : Place) → l ∈ e.locators → Located l
   entry_located stand run has e there = subst (AllPass (shape x) (formats_of (shape x)) view r.pointers r.generations)
-      (ascending_lookup run.entries e (tests_of run.entries (r.runs_fit run has)).ascending there) (r.gives.runs_pass stand run has e.id)
+      (ascending_lookup run.entries e (tests_of (marks_in format) run.entries (r.runs_fit run has)).ascending there) (r.gives.runs_pass stand run has e.id)
 
   pub has_run : (run : Run) → run ∈ r.runs → HasRunAt x view (as_locator run.place) (map as_entry run.entries)
   has_run run has =
       let reads = r.gives.runs_read run has in
       record {
         located = located run.place reads.passes;
-        payload = spelled_run (map as_entry run.entries);
-        frame = (le_trans reads.within (le_of_eq (sym (end_there run.place reads.passes))), reads.stand);
+        payload = spelled_run format (map as_entry run.entries);
+        frame = (le_trans reads.within (le_of_eq (sym (end_there run.place reads.passes))), reads.stand, reads.marked);
         spelled = record {
-          fits = named_fit run.entries (tests_of run.entries (r.runs_fit run has))
-              (bytes_back (big_bytes 4 (length (map as_entry run.entries))) (flat_map spelled_entry (map as_entry run.entries))
-              (payload_bytes run.place.extent run.place.page (spelled_run (map as_entry run.entries)) reads.passes.inside.0 reads.inside reads.stand));
+          fits = named_fit (marks_in format) run.entries (tests_of (marks_in format) run.entries (r.runs_fit run has))
+              (ids_in_run (marks_in format) run.entries
+              (payload_bytes run.place.extent run.place.page (spelled_run format (map as_entry run.entries)) reads.passes.inside.0 reads.inside reads.stand));
           spelled = refl;
         };
       }

@@ -1,5 +1,5 @@
 -- Runs that were read.
-use Rattle.std.proofs.Common.{◌≡◌, ℕ, ◌+◌, ◌≤◌, true, List, [], ◌∷◌, length, map, le_trans, refl, sym, ap, ap₂, ◌∙◌, subst, arith}
+use Rattle.std.proofs.Common.{◌≡◌, ℕ, ◌+◌, ◌≤◌, Bool, false, true, List, [], ◌∷◌, length, map, le_trans, refl, sym, ap, ap₂, ◌∙◌, subst, arith}
 use Rattle.std.specs.Prelude.{reverse}
 use Rattle.std.specs.List.{AllByRecursion}
 use Rattle.std.proofs.lemmas.List.{length-map, reverse-reverse}
@@ -8,7 +8,11 @@ use Rattle.cs_extent.specs.State.{State as ExtentsState, extents_of, shape}
 use Rattle.cs_frame.specs.declared.identifiers.ShardId.{ShardId}
 use Rattle.cs_frame.specs.Formats.{as_locator, formats_of, place_of}
 use Rattle.cs_frame.specs.Frames.{spelled_frame}
-use Rattle.cs_frame.specs.Runs.{FitsEntry, IsRun, SpellsRun, entries_of as spelled_entries, entry_of}
+use Rattle.cs_frame.specs.Roots.{SpellsRoot}
+use Rattle.cs_frame.specs.declared.locators.Locator.{Locator}
+use Rattle.cs_frame.specs.FormatRuns.{SpellsRun}
+use Rattle.cs_frame.specs.Locators.{FitsLocator, KeepFormat}
+use Rattle.cs_frame.specs.Runs.{FitsEntry, IsRun, entries_of as spelled_entries, entry_of}
 use Rattle.cs_frame.specs.Places.{Listed}
 use Rattle.cs_index.proofs.Newest.{all_newest, all_oldest}
 use Rattle.cs_index.proofs.Spelled.{payload_frame}
@@ -17,9 +21,10 @@ use Rattle.cs_index.specs.declared.runs.StoredRun.{StoredRun}
 use Rattle.cs_index.specs.Staged.{run_frame}
 use Rattle.cs_index.specs.State.{IsId, IsStored, named_entry, newest_first, run_of}
 use Rattle.cs_model.proofs.Filled.{reach_low}
-use Rattle.cs_model.specs.Device.{Page, Shape}
+use Rattle.cs_model.specs.Device.{Page, Shape, is_meant}
 use Rattle.cs_model.specs.Element.{Locator as Place, Run}
 use Rattle.cs_model.specs.Formats.{RunFrame, Stand, places}
+use Rattle.cs_model.specs.Geometry.{marks_in}
 use Rattle.cs_model.specs.Frames.{IsFormat}
 use Rattle.cs_image.specs.Reads.{IsRunRead}
 use Rattle.cs_image.proofs.Entries.{spelled_fit}
@@ -30,35 +35,51 @@ Stored = List (ShardId × Listed)
 
 -- ---- a run that is spelled can be held by an index
 
-ids_of : (xs : Stored) → AllByRecursion FitsEntry (spelled_entries xs) → AllByRecursion (λ entry. IsId entry.0) xs
-ids_of [] all = tt
-ids_of (x ∷ xs) all = (record { bytes = all.0.bytes; size = all.0.size }, ids_of xs all.1)
+ids_of : (marked : Bool) (xs : Stored) → AllByRecursion (FitsEntry marked) (spelled_entries xs) → AllByRecursion (λ entry. IsId entry.0) xs
+ids_of marked [] all = tt
+ids_of marked (x ∷ xs) all = (record { bytes = all.0.bytes; size = all.0.size }, ids_of marked xs all.1)
 
-counts_of : (xs : Stored) → AllByRecursion FitsEntry (spelled_entries xs) → AllByRecursion (λ entry. length entry.1.items ≤ 8) xs
-counts_of [] all = tt
-counts_of (x ∷ xs) all = (all.0.count, counts_of xs all.1)
+counts_of : (marked : Bool) (xs : Stored) → AllByRecursion (FitsEntry marked) (spelled_entries xs) → AllByRecursion (λ entry. length entry.1.items ≤ 8) xs
+counts_of marked [] all = tt
+counts_of marked (x ∷ xs) all = (all.0.count, counts_of marked xs all.1)
 
-is_run : (run : StoredRun) (payload : List ℕ) → SpellsRun payload (spelled_entries run.entries.items) → IsRun (record { entries = run.entries })
-is_run run payload is = record {
+unmarked : (ls : List Locator) → AllByRecursion (FitsLocator false) ls → AllByRecursion (λ l. l.mark ≡ 0) ls
+unmarked [] all = tt
+unmarked (l ∷ ls) all = ((let low : l.mark ≤ 0 = all.0.mark in omega arith), unmarked ls all.1)
+
+-- locators that have a spelling keep to the format
+fits_keep : (format : ℕ) (ls : List Locator) → AllByRecursion (FitsLocator (marks_in format)) ls → KeepFormat format ls
+fits_keep format ls all = λ off. unmarked ls (subst (λ (b : Bool). AllByRecursion (FitsLocator b) ls) off all)
+
+pub places_keep : (page : List ℕ) (format version commands : ℕ) (ls : List Locator) → SpellsRoot page format version commands ls → KeepFormat format ls
+places_keep page format version commands ls is = fits_keep format ls is.fits.each
+
+marks_of : (format : ℕ) (xs : Stored) → AllByRecursion (FitsEntry (marks_in format)) (spelled_entries xs) → AllByRecursion (λ entry. KeepFormat format entry.1.items) xs
+marks_of format [] all = tt
+marks_of format (x ∷ xs) all = (fits_keep format x.1.items all.0.each, marks_of format xs all.1)
+
+is_run : (format : ℕ) (run : StoredRun) (payload : List ℕ) → SpellsRun payload format (spelled_entries run.entries.items) → IsRun format (record { entries = run.entries })
+is_run format run payload is = record {
   some = (let e : length (spelled_entries run.entries.items) ≡ length run.entries.items = length-map run.entries.items entry_of in let some : 1 ≤ length (spelled_entries run.entries.items) = is.fits.some in omega arith);
   most = (let e : length (spelled_entries run.entries.items) ≡ length run.entries.items = length-map run.entries.items entry_of in omega (arith, is.fits.most, e));
-  counts = counts_of run.entries.items is.fits.each;
+  counts = counts_of (marks_in format) run.entries.items is.fits.each;
   rising = is.fits.rising;
+  marks = marks_of format run.entries.items is.fits.each;
 }
 
 pub are_runs : (x : ExtentsState) (view : ℕ → List ℕ) (runs : List StoredRun) → AllByRecursion (IsRunRead x view) runs
-    → AllByRecursion (λ run. IsRun (record { entries = run.entries })) runs
+    → AllByRecursion (λ run. IsRun x.format (record { entries = run.entries })) runs
 are_runs x view [] all = tt
-are_runs x view (run ∷ runs) all = (is_run run all.0.payload all.0.spelled, are_runs x view runs all.1)
+are_runs x view (run ∷ runs) all = (is_run x.format run all.0.payload all.0.spelled, are_runs x view runs all.1)
 
 are_ids : (x : ExtentsState) (view : ℕ → List ℕ) (runs : List StoredRun) → AllByRecursion (IsRunRead x view) runs
     → AllByRecursion (λ run. AllByRecursion (λ entry. IsId entry.0) run.entries.items) runs
 are_ids x view [] all = tt
-are_ids x view (run ∷ runs) all = (ids_of run.entries.items all.0.spelled.fits.each, are_ids x view runs all.1)
+are_ids x view (run ∷ runs) all = (ids_of (marks_in x.format) run.entries.items all.0.spelled.fits.each, are_ids x view runs all.1)
 
 pub stored_read : (x : ExtentsState) (view : ℕ → List ℕ) (runs : List StoredRun) → AllByRecursion (IsRunRead x view) runs
     → AllByRecursion IsStored (newest_first runs)
-stored_read x view runs read = stored_runs runs (are_ids x view runs read) (are_runs x view runs read)
+stored_read x view runs read = stored_runs x.format runs (are_ids x view runs read) (are_runs x view runs read)
 
 -- ---- a run stands where its place says
 
@@ -72,15 +93,22 @@ pub stands_reach : (x : ExtentsState) (view : ℕ → List ℕ) (run : StoredRun
     → run.place.page + length ((formats_of (shape x)).frame RunFrame ((formats_of (shape x)).run (run_of run).entries)) ≤ end_in x run.place
 unfolding run_frame
 stands_reach x view run is = subst (λ (bs : List Page). run.place.page + length bs ≤ end_in x run.place)
-    (payload_frame run.entries.items is.payload is.payload refl is.spelled x) is.frame.0
+    (payload_frame x.format run.entries.items is.payload is.payload refl is.spelled x refl) is.frame.0
+
+-- and it is the one that its place means
+pub stands_meant : (x : ExtentsState) (view : ℕ → List ℕ) (run : StoredRun) → IsRunRead x view run
+    → is_meant (shape x) run.place.mark ((formats_of (shape x)).frame RunFrame ((formats_of (shape x)).run (run_of run).entries)) ≡ true
+unfolding run_frame
+stands_meant x view run is = subst (λ (bs : List Page). is_meant (shape x) run.place.mark bs ≡ true)
+    (payload_frame x.format run.entries.items is.payload is.payload refl is.spelled x refl) is.frame.2
 
 pub stands_read : (x : ExtentsState) → ((e : ℕ) → (extents_of x).found e ≤ (shape x).pages) → (view : ℕ → List ℕ) (run : StoredRun)
     → IsRunRead x view run → IsStored (run_of run) → StandsAt (shape x) view (run_of run)
 unfolding run_frame
 stands_read x low view run is stored =
-    let frame : spelled_frame 1 is.payload ≡ run_frame x (map named_entry run.entries.items) = payload_frame run.entries.items is.payload is.payload refl is.spelled x in
+    let frame : spelled_frame 1 is.payload ≡ run_frame x (map named_entry run.entries.items) = payload_frame x.format run.entries.items is.payload is.payload refl is.spelled x refl in
     record {
-      fits = spelled_fit run.entries.items is.spelled.fits stored.0;
+      fits = spelled_fit (marks_in x.format) run.entries.items is.spelled.fits stored.0;
       inside = le_trans (stands_reach x view run is)
           (reach_low (shape x) ((extents_of x).found run.place.extent) run.place.page (low run.place.extent));
       stand = subst (λ (bs : List Page). Stand (shape x) (formats_of (shape x)) view run.place.extent run.place.page bs) frame is.frame.1;

@@ -30,9 +30,9 @@ graph_at versions root = record {
   room = 0;
 }
 
--- the index of these runs, newest first, with an empty table
-abbrev pub index_at : (runs : List Run) → (limit : ℕ) → IndexState
-index_at runs limit = record { table = []; runs = runs; limit = limit; room = 0 }
+-- the index of these runs, newest first, with an empty table, in a store of this format
+abbrev pub index_at : (runs : List Run) → (format limit : ℕ) → IndexState
+index_at runs format limit = record { table = []; runs = runs; format = format; limit = limit; room = 0 }
 
 -- the page of each section of a store of this format and of so many extents, which are all empty, spells version 1 of it
 abbrev pub AreNewSections : (view : ℕ → List ℕ) → (format extents pages sections : ℕ) → Type 0

@@ -9,7 +9,8 @@ use Rattle.cs_frame.specs.FirstFormat.{SpellsPageZero}
 use Rattle.cs_frame.specs.Formats.{as_locator}
 use Rattle.cs_frame.specs.Geometries.{IsGeometry, device_pages}
 use Rattle.cs_frame.specs.Roots.{SpellsRoot}
-use Rattle.cs_frame.specs.Runs.{Entry, SpellsRun, entries_of as spelled_entries}
+use Rattle.cs_frame.specs.FormatRuns.{SpellsRun}
+use Rattle.cs_frame.specs.Runs.{Entry, entries_of as spelled_entries}
 use Rattle.cs_frame.specs.Superblocks.{SpellsSuperblock}
 use Rattle.cs_index.specs.declared.runs.StoredRun.{StoredRun}
 use Rattle.cs_index.specs.State.{newest_first}
@@ -70,7 +71,7 @@ pub record HasRunAt (x : ExtentsState) (view : ℕ → List ℕ) (place : Locato
   pub located : IsLocated x place
   pub payload : List ℕ
   pub frame : IsFrameIn x view RunFrame place payload
-  pub spelled : SpellsRun payload entries
+  pub spelled : SpellsRun payload x.format entries
 
 -- a frame at this place has a run
 abbrev pub IsReadable : ExtentsState → (view : ℕ → List ℕ) → Locator → Type 0

@@ -3,6 +3,8 @@ ghost use Rattle.std.specs.Prelude.{◌≡◌, ◌≢◌, ◌↔◌, ◌∷◌, 
 ghost use Rattle.std.specs.List.{AllByRecursion};
 ghost use Rattle.cs_extent.specs.State.{IsWhole, State as ExtentsState, shape};
 ghost use Rattle.cs_frame.specs.declared.locators.Locator.{Locator};
+ghost use Rattle.cs_frame.specs.Locators.{KeepFormat};
+ghost use Rattle.cs_frame.specs.Roots.{SpellsRoot};
 ghost use Rattle.cs_frame.specs.Runs.{IsRun};
 ghost use Rattle.cs_image.specs.Counts.{HasCount};
 ghost use Rattle.cs_image.specs.Reads.{AreRunsRead, IsLocated, IsRunRead};
@@ -25,9 +27,12 @@ pub fn runs_are_read_one_by_one()
     ensures all { (x : ExtentsState) (view : ℕ → List ℕ) (places : List Locator) (runs : List StoredRun)
         → AreRunsRead x view places runs → length runs ≡ length places
         → (map (λ run. run.place) runs ≡ places) × AllByRecursion (IsRunRead x view) runs }
-    // Each run that was read has some entries, of at most eight locators each, by rising identifiers.
+    // Each run that was read has some entries, of at most eight locators each that keep to the store's format, by rising identifiers.
     ensures loads { (x : ExtentsState) (view : ℕ → List ℕ) (runs : List StoredRun) → AllByRecursion (IsRunRead x view) runs
-        → AllByRecursion (λ run. IsRun (record { entries = run.entries })) runs }
+        → AllByRecursion (λ run. IsRun x.format (record { entries = run.entries })) runs }
+    // The places of a root keep to its format.
+    ensures places { (page : List ℕ) (format version commands : ℕ) (places : List Locator) → SpellsRoot page format version commands places
+        → KeepFormat format places }
     // Of a place that is located extent and page are there.
     ensures inside { (x : ExtentsState) (place : Locator) → IsWhole x → IsLocated x place
         → (place.extent < (shape x).extents) × (place.page < (shape x).pages) }

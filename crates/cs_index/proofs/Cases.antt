@@ -45,6 +45,7 @@ module _ (s : State) (x : ExtentsState) (g : GraphState) (reason : Reason) (v co
     appended = by staged.appended;
     root = staged.root;
     table = staged.table;
+    format = staged.format;
     limit = staged.limit;
   }
     where
@@ -58,6 +59,7 @@ module _ (s : State) (x : ExtentsState) (g : GraphState) (reason : Reason) (v co
     appended = by staged.appended;
     root = staged.root;
     table = staged.table;
+    format = staged.format;
     limit = staged.limit;
   }
     where
@@ -93,6 +95,7 @@ module _ (s : State) where
       appended = inl (staged.entries, staged.place, some_entries s.table staged.entries some staged.run, run_of_table staged.entries staged.run, staged.staged.1, staged.runs);
       root = subst (λ (rs : List Run). IsRootStaged x.format staged.staged.0 h v commands rs) (sym staged.runs) staged.staged.2;
       table = staged.table;
+      format = staged.format;
       limit = staged.limit;
     }
 
@@ -107,6 +110,7 @@ module _ (s : State) where
           staged = (staged.between, m.4, subst (λ (rs : List Run). IsRootStaged x.format staged.between h v commands rs) m.5 staged.root);
           table = staged.table;
           runs = m.5;
+          format = staged.format;
           limit = staged.limit;
         }
         by (inr m) = absurd (let wrong : false ≡ true = goes_where_none false s 0 [] refl m.0 (inr some) in cc)

@@ -252,21 +252,23 @@ module _ (s : State) (x : ExtentsState) (none : s.table ≡ []) where
 
 module _ (go : Bool) (k : ℕ) (s : State) (x : ExtentsState) (g : GraphState) (reason : Reason) (v commands : ℕ) (t : State) (y : ExtentsState) (h : GraphState) (E : List Entry) (run : IsRunOf go (part s k) E) where
   pub one_staged : (place : Place) → E ≢ [] → IsRunStagedBy true x g reason E (drop k s.runs) place v commands y h
-      → t ≡ record { table = []; runs = record { place = place; entries = E } ∷ drop k s.runs; limit = s.limit; room = 0 } → IsPartStagedBy true go k s x g reason v commands t y h
+      → t ≡ record { table = []; runs = record { place = place; entries = E } ∷ drop k s.runs; format = s.format; limit = s.limit; room = 0 } → IsPartStagedBy true go k s x g reason v commands t y h
   one_staged place some staged is = subst (λ (u : State). IsPartStagedBy true go k s x g reason v commands u y h) (sym is) (record {
     between = staged.0;
     appended = inl (E, place, some, run, staged.1, refl);
     root = staged.2;
     table = refl;
+    format = refl;
     limit = refl;
   })
 
-  pub none_staged : E ≡ [] → drop k s.runs ≡ [] → IsRootOver x.format (pages_first_in x.format) g h v commands [] → t ≡ record { table = []; runs = []; limit = s.limit; room = 0 } → IsPartStagedBy true go k s x g reason v commands t x h
+  pub none_staged : E ≡ [] → drop k s.runs ≡ [] → IsRootOver x.format (pages_first_in x.format) g h v commands [] → t ≡ record { table = []; runs = []; format = s.format; limit = s.limit; room = 0 } → IsPartStagedBy true go k s x g reason v commands t x h
   none_staged none alone root is = subst (λ (u : State). IsPartStagedBy true go k s x g reason v commands u x h) (sym is) (record {
     between = g;
     appended = inr (subst (λ (es : List Entry). IsRunOf go (part s k) es) none run, refl, refl, sym alone);
     root = root;
     table = refl;
+    format = refl;
     limit = refl;
   })
 
@@ -282,6 +284,7 @@ same_part go s x g v commands h none root = record {
   appended = inr (nothing_of go s none, refl, refl, refl);
   root = root;
   table = none;
+  format = refl;
   limit = refl;
 }
 

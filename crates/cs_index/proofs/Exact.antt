@@ -75,21 +75,23 @@ part_none go s k E es none run writes = writes.1 (part_writes go s k E es run wr
 
 module _ (go : Bool) (k : ℕ) (s : State) (x : ExtentsState) (g : GraphState) (reason : Reason) (v commands : ℕ) (t : State) (y : ExtentsState) (h : GraphState) (E : List Entry) (run : IsRunOf go (part s k) E) where
   pub part_one : (place : Place) → E ≢ [] → IsRunStaged x g reason E (drop k s.runs) place v commands y h
-      → t ≡ record { table = []; runs = record { place = place; entries = E } ∷ drop k s.runs; limit = s.limit; room = 0 } → IsPartStaged go k s x g reason v commands t y h
+      → t ≡ record { table = []; runs = record { place = place; entries = E } ∷ drop k s.runs; format = s.format; limit = s.limit; room = 0 } → IsPartStaged go k s x g reason v commands t y h
   part_one place some staged is = subst (λ (u : State). IsPartStaged go k s x g reason v commands u y h) (sym is) (record {
     between = staged.0;
     appended = inl (E, place, some, run, staged.1, refl);
     root = staged.2;
     table = refl;
+    format = refl;
     limit = refl;
   })
 
-  pub part_empty : E ≡ [] → drop k s.runs ≡ [] → IsRootOver x.format (pages_first_in x.format) g h v commands [] → t ≡ record { table = []; runs = []; limit = s.limit; room = 0 } → IsPartStaged go k s x g reason v commands t x h
+  pub part_empty : E ≡ [] → drop k s.runs ≡ [] → IsRootOver x.format (pages_first_in x.format) g h v commands [] → t ≡ record { table = []; runs = []; format = s.format; limit = s.limit; room = 0 } → IsPartStaged go k s x g reason v commands t x h
   part_empty none alone root is = subst (λ (u : State). IsPartStaged go k s x g reason v commands u x h) (sym is) (record {
     between = g;
     appended = inr (subst (λ (es : List Entry). IsRunOf go (part s k) es) none run, refl, refl, sym alone);
     root = root;
     table = refl;
+    format = refl;
     limit = refl;
   })
 

@@ -7,6 +7,7 @@ pub mod Whole
 pub mod Spelled
 pub mod Rooted
 pub mod Merged
+pub mod Marks
 pub mod Shards
 pub mod Living
 pub mod Staging

@@ -7,6 +7,7 @@ use Rattle.std.proofs.lemmas.List.{length-map}
 use Rattle.cs_deps.specs.State.{State as GraphState}
 use Rattle.cs_extent.specs.State.{State as ExtentsState}
 use Rattle.cs_frame.specs.Formats.{place_of}
+use Rattle.cs_frame.specs.Locators.{KeepFormat}
 use Rattle.cs_index.specs.declared.runs.StoredRun.{StoredRun}
 use Rattle.cs_model.proofs.Counting.{ascending_names, lookup_here, names_le}
 use Rattle.cs_model.proofs.Gives.{lookup_append}
@@ -16,7 +17,8 @@ use Rattle.cs_model.specs.Index.{Ascending, entries_of, if_live, live, live_at, 
 use Rattle.cs_model.specs.Merges.{IsRunOf}
 use Rattle.cs_index.specs.Merges.{part}
 use Rattle.cs_index.specs.Staged.{IsPartAppendedBy, IsPartStagedBy}
-use Rattle.cs_index.specs.State.{IsShort, IsStored, IsWhole, State, index_of, named_entry, newest_first, run_of, state_of}
+use Rattle.cs_index.specs.State.{IsShort, IsStored, IsWhole, KeepTo, RunsKeepTo, State, index_of, named_entry, newest_first, run_of, state_of}
+use Rattle.cs_index.proofs.Marks.{left_keep, newer_keep, places_keep, run_keeps}
 use Rattle.cs_index.proofs.Merged.{left, live_left, run_few, some_left}
 use Rattle.cs_index.proofs.Names.{names_of_lookups}
 use Rattle.cs_index.proofs.Newest.{all_newest, all_oldest, lookup_first}
@@ -67,6 +69,9 @@ module _ (runs : List StoredRun) (n k : ℕ) (split : n + k ≡ length runs) whe
       let e : length (newest_first (take n runs)) ≡ length (take n runs) = length-newest (take n runs) in
       let same : length (newest_first (take n runs)) ≡ length (drop k (newest_first runs)) = ap length newest_left in
       omega (arith, e, same, few)
+
+  pub left_places : (format : ℕ) → RunsKeepTo format (newest_first runs) → KeepFormat format (map (λ run. run.place) (take n runs))
+  left_places format keep = places_keep format (take n runs) (subst (RunsKeepTo format) (sym newest_left) (left_keep format k (newest_first runs) keep))
 
   pub stored_newest : AllByRecursion IsStored (newest_first runs) → AllByRecursion IsStored (newest_first (drop n runs))
   stored_newest all = all_newest IsStored (drop n runs) (all_drop (λ (r : StoredRun). IsStored (run_of r)) n runs (all_oldest IsStored runs all))
@@ -125,6 +130,10 @@ goes_where_none false s k xs none run some = ⊎_elim (λ (is : false ≡ true).
     has [] some nothing = some refl
     has (e ∷ es) some nothing = let wrong : Some e.locators ≡ None = sym (lookup_here e (es ++ entries_of (take k s.runs)) e.id refl) ∙ nothing e.id in cc
 
+-- and its entries keep to the format
+pub part_keeps : (go : Bool) (s : State) (k : ℕ) (xs : List Entry) → IsWhole s → IsRunOf go (part s k) xs → AllByRecursion (λ x. KeepTo s.format x.locators) xs
+part_keeps go s k xs whole run = run_keeps s.format go (part s k) (entries_of (drop k s.runs)) xs run (λ id. subst (λ (es : List Entry). KeepTo s.format (live_at es id)) (index_cut s k) (whole.marks id))
+
 -- ---- an index in which a part is one run
 
 module _ {apart : Bool} (go : Bool) (k : ℕ) (s : State) (x : ExtentsState) (g : GraphState) (reason : Reason) (v commands : ℕ) (t : State) (y : ExtentsState) (h : GraphState)
@@ -157,37 +166,40 @@ module _ (xs empty : Entries) (runs kept news : List StoredRun) (r : StoredRun) 
   pub parted_runs : newest_first news ≡ record { place = place_of r.place; entries = map named_entry r.entries.items } ∷ drop k (newest_first runs)
   parted_runs = ap newest_first (is ∙ ap (λ (rs : List StoredRun). rs ++ r ∷ []) same) ∙ newest_push (take n runs) r ∙ ap (λ (rs : List Run). run_of r ∷ rs) (newest_left runs n k split)
 
-  pub parted_state : (limit : ℕ)
-      → state_of empty news limit 0 ≡ record { table = []; runs = record { place = place_of r.place; entries = map named_entry r.entries.items } ∷ drop k (newest_first runs); limit = limit; room = 0 }
-  parted_state limit =
+  pub parted_state : (format limit : ℕ)
+      → state_of empty news format limit 0 ≡ record { table = []; runs = record { place = place_of r.place; entries = map named_entry r.entries.items } ∷ drop k (newest_first runs); format = format; limit = limit; room = 0 }
+  parted_state format limit =
       let table : map named_entry empty ≡ [] = ap (map named_entry) none in
-      λ i. record { table = table i; runs = parted_runs i; limit = limit; room = 0 }
+      λ i. record { table = table i; runs = parted_runs i; format = format; limit = limit; room = 0 }
 
-  parted_index : (limit : ℕ) → index_of (state_of empty news limit 0) ≡ map named_entry r.entries.items ++ entries_of (drop k (newest_first runs))
-  parted_index limit = ap (λ (es : Entries). map named_entry es ++ entries_of (newest_first news)) none ∙ ap entries_of parted_runs
+  parted_index : (format limit : ℕ) → index_of (state_of empty news format limit 0) ≡ map named_entry r.entries.items ++ entries_of (drop k (newest_first runs))
+  parted_index format limit = ap (λ (es : Entries). map named_entry es ++ entries_of (newest_first news)) none ∙ ap entries_of parted_runs
 
-  module _ (limit room : ℕ) (go : Bool) (run : IsRunOf go (part (state_of xs runs limit room) k) (map named_entry r.entries.items)) (all : go ≡ true → drop k (newest_first runs) ≡ []) where
-    parted_lookup : (id : ℕ) → lookup id (index_of (state_of empty news limit 0)) ≡ left go (lookup id (index_of (state_of xs runs limit room)))
-    parted_lookup id = ap (lookup id) (parted_index limit) ∙ part_lookup go (state_of xs runs limit room) k (map named_entry r.entries.items) all run id
+  module _ (format limit room : ℕ) (go : Bool) (run : IsRunOf go (part (state_of xs runs format limit room) k) (map named_entry r.entries.items)) (all : go ≡ true → drop k (newest_first runs) ≡ []) where
+    parted_lookup : (id : ℕ) → lookup id (index_of (state_of empty news format limit 0)) ≡ left go (lookup id (index_of (state_of xs runs format limit room)))
+    parted_lookup id = ap (lookup id) (parted_index format limit) ∙ part_lookup go (state_of xs runs format limit room) k (map named_entry r.entries.items) all run id
 
-    pub parted_live : (id : ℕ) → live_at (index_of (state_of empty news limit 0)) id ≡ live_at (index_of (state_of xs runs limit room)) id
-    parted_live id = ap live (parted_lookup id) ∙ live_left go (lookup id (index_of (state_of xs runs limit room)))
+    pub parted_live : (id : ℕ) → live_at (index_of (state_of empty news format limit 0)) id ≡ live_at (index_of (state_of xs runs format limit room)) id
+    parted_live id = ap live (parted_lookup id) ∙ live_left go (lookup id (index_of (state_of xs runs format limit room)))
 
-    pub parted_names : (named before : ℕ) → before ≡ names (index_of (state_of xs runs limit room)) → named ≡ (if go then length r.entries.items else before)
-        → named ≡ names (index_of (state_of empty news limit 0))
+    pub parted_names : (named before : ℕ) → before ≡ names (index_of (state_of xs runs format limit room)) → named ≡ (if go then length r.entries.items else before)
+        → named ≡ names (index_of (state_of empty news format limit 0))
     parted_names named before was count =
-        count_then go (map named_entry r.entries.items) (index_of (state_of xs runs limit room)) (index_of (state_of empty news limit 0)) (drop k (newest_first runs)) named before
-        (parted_index limit) all run.0 parted_lookup was (count ∙ ap (λ (m : ℕ). if go then m else before) (sym (length-map r.entries.items named_entry)))
+        count_then go (map named_entry r.entries.items) (index_of (state_of xs runs format limit room)) (index_of (state_of empty news format limit 0)) (drop k (newest_first runs)) named before
+        (parted_index format limit) all run.0 parted_lookup was (count ∙ ap (λ (m : ℕ). if go then m else before) (sym (length-map r.entries.items named_entry)))
 
-    pub parted_whole : map named_entry r.entries.items ≢ [] → AllByRecursion IsShort (map named_entry r.entries.items) → length (drop k (newest_first runs)) < 24
-        → IsWhole (state_of xs runs limit room) → IsWhole (state_of empty news limit 0)
-    parted_whole some short few whole = record {
+    pub parted_whole : map named_entry r.entries.items ≢ [] → AllByRecursion IsShort (map named_entry r.entries.items) → length (drop k (newest_first runs)) < 24 → KeepTo format (place_of r.place ∷ [])
+        → IsWhole (state_of xs runs format limit room) → IsWhole (state_of empty news format limit 0)
+    parted_whole some short few keep whole = record {
       ascending = subst (λ (es : Entries). Ascending (map named_entry es)) (sym none) tt;
       short = subst (λ (es : Entries). AllByRecursion IsShort (map named_entry es)) (sym none) tt;
       runs = subst (AllByRecursion IsStored) (sym parted_runs) ((run.0, some, short), all_drop IsStored k (newest_first runs) whole.runs);
       few = (let e : length (newest_first news) ≡ suc (length (drop k (newest_first runs))) = ap length parted_runs in omega arith);
       named = le_trans
-          (names_le (index_of (state_of empty news limit 0)) (index_of (state_of xs runs limit room))
-          (λ id some_now. some_left go (lookup id (index_of (state_of xs runs limit room))) (ap (λ (o : Option (List Place)). is_some o) (sym (parted_lookup id)) ∙ some_now)))
+          (names_le (index_of (state_of empty news format limit 0)) (index_of (state_of xs runs format limit room))
+          (λ id some_now. some_left go (lookup id (index_of (state_of xs runs format limit room))) (ap (λ (o : Option (List Place)). is_some o) (sym (parted_lookup id)) ∙ some_now)))
           whole.named;
+      marks = λ id. subst (λ (ls : List Place). KeepTo format ls) (sym (parted_live id)) (whole.marks id);
+      placed = subst (RunsKeepTo format) (sym parted_runs)
+          (newer_keep format (record { place = place_of r.place; entries = map named_entry r.entries.items }) (drop k (newest_first runs)) keep (left_keep format k (newest_first runs) whole.placed));
     }

@@ -1,5 +1,5 @@
 -- An index once copies count.
-use Rattle.std.proofs.Common.{◌≡◌, ◌∙◌, ℕ, zero, suc, ◌+◌, ◌<◌, ◌≤◌, Bool, true, false, ◌==◌, List, [], ◌∷◌, ◌++◌, Option, Some, get_or, set, length, map, take, refl, sym, ap, subst, arith, if◌then◌else◌}
+use Rattle.std.proofs.Common.{◌≡◌, ◌∙◌, ℕ, zero, suc, ◌+◌, ◌<◌, ◌≤◌, Bool, true, false, ◌==◌, ◌&&◌, List, [], ◌∷◌, ◌++◌, Option, Some, get_or, set, length, map, take, refl, sym, ap, subst, arith, if◌then◌else◌}
 use Rattle.cs_frame.specs.declared.locators.Locator.{Locator}
 use Rattle.cs_frame.specs.Formats.{place_of}
 use Rattle.std.specs.List.{AllByRecursion}
@@ -7,9 +7,9 @@ use Rattle.cs_index.specs.declared.copies.ChunkCopy.{ChunkCopy}
 use Rattle.cs_index.specs.declared.runs.StoredRun.{StoredRun}
 use Rattle.cs_index.proofs.Whole.{Entries}
 use Rattle.cs_index.specs.Copies.{IsSettled, copy_of, newest_copies, settle_in, settle_table}
-use Rattle.cs_index.specs.State.{IsSet, IsShort, IsStored, IsWhole, State, index_of, named_entry, newest_first, state_of}
+use Rattle.cs_index.specs.State.{IsSet, IsShort, IsStored, IsWhole, KeepTo, RunsKeepTo, State, index_of, named_entry, newest_first, state_of}
 use Rattle.cs_model.proofs.Gives.{lookup_append}
-use Rattle.cs_model.specs.Apart.{is_place}
+use Rattle.cs_model.specs.Apart.{is_place, same_place}
 use Rattle.cs_model.specs.Element.{Copy, Entry, Locator as Place, Run}
 use Rattle.cs_model.specs.Index.{Ascending, entries_of, live, live_at, lookup, names}
 use Rattle.cs_model.specs.Lists.{nth, replaced}
@@ -25,6 +25,7 @@ settled_not s c not = record {
   table = λ d. sym (ap (λ (b : Bool). lookup d (then_in (entries_of s.runs) s.table c b)) not);
   index = λ d. sym (ap (λ (b : Bool). lookup d (then_in (entries_of s.runs) s.table c b ++ entries_of s.runs)) not);
   runs = refl;
+  format = refl;
   limit = refl;
 }
 
@@ -35,6 +36,7 @@ settled_set s t c ls there are put = record {
   index = λ d. put.index d ∙ ap (λ (ms : List Place). if c.id == d then Some ms else lookup d (index_of s)) are
       ∙ sym (ap (λ (b : Bool). lookup d (then_in (entries_of s.runs) s.table c b ++ entries_of s.runs)) there);
   runs = put.runs;
+  format = put.format;
   limit = put.limit;
 }
 
@@ -58,6 +60,7 @@ settled_more s t u cs c was more = record {
       ∙ lookup_append d (settle_in (entries_of s.runs) t.table c) (settle_in (entries_of s.runs) (settle_table (entries_of s.runs) s.table cs) c) (entries_of s.runs)
       (settle_alike (entries_of s.runs) t.table (settle_table (entries_of s.runs) s.table cs) c was.table d);
   runs = more.runs ∙ was.runs;
+  format = more.format ∙ was.format;
   limit = more.limit ∙ was.limit;
 }
   where
@@ -67,19 +70,20 @@ settled_more s t u cs c was more = record {
         ∙ settle_alike (entries_of s.runs) t.table (settle_table (entries_of s.runs) s.table cs) c was.table d
 
 pub settled_none : (s : State) → IsSettled s [] s
-settled_none s = record { table = λ d. refl; index = λ d. refl; runs = refl; limit = refl }
+settled_none s = record { table = λ d. refl; index = λ d. refl; runs = refl; format = refl; limit = refl }
 
 -- the index whose table is just that
 pub settled_so : (s : State) (cs : List Copy) → IsSettled s cs (record s { table = settle_table (entries_of s.runs) s.table cs })
-settled_so s cs = record { table = λ d. refl; index = λ d. refl; runs = refl; limit = refl }
+settled_so s cs = record { table = λ d. refl; index = λ d. refl; runs = refl; format = refl; limit = refl }
 
 -- whatever room there was
-pub settled_from : (s t u : State) (cs : List Copy) → t.table ≡ s.table → t.runs ≡ s.runs → t.limit ≡ s.limit → IsSettled t cs u → IsSettled s cs u
-settled_from s t u cs tables runs limits done = record {
+pub settled_from : (s t u : State) (cs : List Copy) → t.table ≡ s.table → t.runs ≡ s.runs → t.format ≡ s.format → t.limit ≡ s.limit → IsSettled t cs u → IsSettled s cs u
+settled_from s t u cs tables runs formats limits done = record {
   table = λ d. done.table d ∙ ap (λ (rs : List Run). lookup d (settle_table (entries_of rs) t.table cs)) runs ∙ ap (λ (es : List Entry). lookup d (settle_table (entries_of s.runs) es cs)) tables;
   index = λ d. done.index d ∙ ap (λ (rs : List Run). lookup d (settle_table (entries_of rs) t.table cs ++ entries_of rs)) runs
       ∙ ap (λ (es : List Entry). lookup d (settle_table (entries_of s.runs) es cs ++ entries_of s.runs)) tables;
   runs = done.runs ∙ runs;
+  format = done.format ∙ formats;
   limit = done.limit ∙ limits;
 }
 
@@ -108,17 +112,37 @@ lies_inside [] k p is = absurd (let wrong : false ≡ true = is in cc)
 lies_inside (l ∷ ls) zero p is = omega arith
 lies_inside (l ∷ ls) (suc k) p is = let lt : k < length ls = lies_inside ls k p is in omega arith
 
+-- the comparison of two locators, its last part first
+and_false : (b : Bool) → (b && false) ≡ false
+and_false true = refl
+and_false false = refl
+
+and_true : (b : Bool) → (b && true) ≡ b
+and_true true = refl
+and_true false = refl
+
+last_first : (a b c d : Bool) → (a && (b && (c && d))) ≡ (d && (a && (b && c)))
+last_first false b c d = sym (and_false d)
+last_first true false c d = sym (and_false d)
+last_first true true false d = sym (and_false d)
+last_first true true true d = sym (and_true d)
+
+pub one_place : (a b : Locator) → ((a.extent == b.extent) && ((a.page == b.page) && ((a.generation == b.generation) && (a.mark == b.mark)))) ≡ same_place (place_of a) (place_of b)
+one_place a b = last_first (a.extent == b.extent) (a.page == b.page) (a.generation == b.generation) (a.mark == b.mark)
+
 -- ---- an index with another table of the same entries
 
-module _ (xs ys : Entries) (runs rs : List StoredRun) (limit room : ℕ) (same : map named_entry ys ≡ map named_entry xs) (are : newest_first rs ≡ newest_first runs) where
-  pub table_is : index_of (state_of ys rs limit 0) ≡ index_of (state_of xs runs limit room)
+module _ (xs ys : Entries) (runs rs : List StoredRun) (format limit room : ℕ) (same : map named_entry ys ≡ map named_entry xs) (are : newest_first rs ≡ newest_first runs) where
+  pub table_is : index_of (state_of ys rs format limit 0) ≡ index_of (state_of xs runs format limit room)
   table_is = ap (λ (es : List Entry). es ++ entries_of (newest_first rs)) same ∙ ap (λ (ns : List Run). map named_entry xs ++ entries_of ns) are
 
-  pub whole_again : IsWhole (state_of xs runs limit room) → IsWhole (state_of ys rs limit 0)
+  pub whole_again : IsWhole (state_of xs runs format limit room) → IsWhole (state_of ys rs format limit 0)
   whole_again whole = record {
     ascending = subst (λ (es : List Entry). Ascending es) (sym same) whole.ascending;
     short = subst (λ (es : List Entry). AllByRecursion IsShort es) (sym same) whole.short;
     runs = subst (λ (ns : List Run). AllByRecursion IsStored ns) (sym are) whole.runs;
     few = subst (λ (ns : List Run). length ns ≤ 24) (sym are) whole.few;
     named = subst (λ (es : List Entry). names es ≤ limit) (sym table_is) whole.named;
+    marks = λ id. subst (λ (es : List Entry). KeepTo format (live_at es id)) (sym table_is) (whole.marks id);
+    placed = subst (λ (ns : List Run). RunsKeepTo format ns) (sym are) whole.placed;
   }

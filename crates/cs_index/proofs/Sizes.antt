@@ -94,8 +94,8 @@ smaller (run ∷ runs) limit small all = (
   smaller runs limit small all.1,
 )
 
-pub runs_small : (xs : Entries) (runs : List StoredRun) (limit room : ℕ) → limit < 2 ^ 32 → IsWhole (state_of xs runs limit room) → AllByRecursion (λ (run : StoredRun). length run.entries.items < 2 ^ 32) runs
-runs_small xs runs limit room small whole =
+pub runs_small : (xs : Entries) (runs : List StoredRun) (format limit room : ℕ) → limit < 2 ^ 32 → IsWhole (state_of xs runs format limit room) → AllByRecursion (λ (run : StoredRun). length run.entries.items < 2 ^ 32) runs
+runs_small xs runs format limit room small whole =
     smaller runs limit small (all_oldest (λ (run : Run). length run.entries ≤ limit) runs (lengths_in (map named_entry xs) (newest_first runs) limit whole.runs whole.named))
 
 -- ---- how many a Stage takes

@@ -1,5 +1,5 @@
 -- How a run is spelled.
-use Rattle.std.proofs.Common.{◌≡◌, ℕ, ◌-◌, ◌*◌, List, [], ◌∷◌, ◌++◌, length, length-append, map, refl, sym, ap, ap₂, ◌∙◌, arith}
+use Rattle.std.proofs.Common.{◌≡◌, ◌≤◌, ℕ, ◌+◌, ◌-◌, ◌*◌, ◌/◌, Bool, true, false, List, [], ◌∷◌, ◌++◌, length, length-append, map, refl, sym, ap, ap₂, ◌∙◌, arith, if◌then◌else◌}
 use Rattle.std.specs.List.{AllByRecursion, flat_map}
 use Rattle.std.proofs.lemmas.List.{length-map, length-replicate}
 use Rattle.byteorder.specs.Endian.{big_bytes}
@@ -8,45 +8,35 @@ use Rattle.cs_extent.specs.State.{State as ExtentsState}
 use Rattle.cs_frame.proofs.LocatorLaws.{length-spelled_locators}
 use Rattle.cs_frame.proofs.Pieces.{length-first_chunks}
 use Rattle.cs_frame.specs.Bytes.{zeros}
+use Rattle.cs_frame.specs.FormatRuns.{SpellsRun, run_size, spelled_run}
 use Rattle.cs_frame.specs.Formats.{as_entry, as_locator, id_bytes, place_of}
 use Rattle.cs_frame.specs.Frames.{frame_bytes, page_count, spelled_frame}
-use Rattle.cs_frame.specs.Geometries.{run_bytes}
+use Rattle.cs_frame.specs.Geometries.{named_limit, run_bytes}
 use Rattle.cs_frame.specs.Locators.{spelled_locators}
-use Rattle.cs_frame.specs.Runs.{Entry as SpelledEntry, FitsEntry, FitsRun, SpellsRun, entries_of as spelled_entries, entry_of, spelled_entry, spelled_run}
+use Rattle.cs_frame.specs.PackedRuns.{packed_entry, packed_run, packed_size, packed_sizes}
+use Rattle.cs_frame.specs.Runs.{FitsEntry, entries_of as spelled_entries, entry_of, plain_run, spelled_entry}
 use Rattle.cs_frame.specs.declared.identifiers.ShardId.{ShardId}
 use Rattle.cs_frame.specs.declared.locators.Locator.{Locator}
 use Rattle.cs_frame.specs.Places.{Listed}
 use Rattle.cs_index.specs.Staged.{run_frame}
 use Rattle.cs_model.specs.Element.{Entry}
+use Rattle.cs_model.specs.Geometry.{marks_in}
 use Rattle.cs_index.specs.State.{IsShort, id_number, named_entry}
 use Rattle.cs_index.proofs.Numbers.{bytes_are}
 
-length-entry : (e : SpelledEntry) → FitsEntry e → length (spelled_entry e) ≡ 81
-length-entry e fits =
-    let left : ℕ = 64 - 8 * length e.locators in
-    omega (
-      arith,
-      length-append (e.id ++ length e.locators ∷ [] ++ spelled_locators e.locators) (zeros left),
-      length-append (e.id ++ length e.locators ∷ []) (spelled_locators e.locators),
-      length-append e.id (length e.locators ∷ []),
-      length-spelled_locators e.locators,
-      length-replicate {A = ℕ} left 0,
-      fits.size,
-      fits.count,
-    )
+-- ---- the lengths alone, of entries as the machine has them
 
--- the lengths alone, of entries as the machine has them
 long_entry : (x : Entry) → IsShort x → length (spelled_entry (as_entry x)) ≡ 81
 long_entry x short =
     let ls : List Locator = map as_locator x.locators in
     let left : ℕ = 64 - 8 * length ls in
     omega (
       arith,
-      length-append (id_bytes x.id ++ length ls ∷ [] ++ spelled_locators ls) (zeros left),
-      length-append (id_bytes x.id ++ length ls ∷ []) (spelled_locators ls),
+      length-append (id_bytes x.id ++ length ls ∷ [] ++ spelled_locators false ls) (zeros left),
+      length-append (id_bytes x.id ++ length ls ∷ []) (spelled_locators false ls),
       length-append (id_bytes x.id) (length ls ∷ []),
       length-bytes_high_first 15 x.id,
-      length-spelled_locators ls,
+      length-spelled_locators false ls,
       length-replicate {A = ℕ} left 0,
       length-map x.locators as_locator,
       short,
@@ -56,8 +46,8 @@ long_entries : (xs : List Entry) → AllByRecursion IsShort xs → length (flat_
 long_entries [] all = refl
 long_entries (x ∷ xs) all = omega (arith, length-append (spelled_entry (as_entry x)) (flat_map spelled_entry (map as_entry xs)), long_entry x all.0, long_entries xs all.1)
 
-long_run : (xs : List Entry) → AllByRecursion IsShort xs → length (spelled_run (map as_entry xs)) ≡ run_bytes (length xs)
-long_run xs all =
+long_plain : (xs : List Entry) → AllByRecursion IsShort xs → length (plain_run (map as_entry xs)) ≡ run_bytes (length xs)
+long_plain xs all =
     omega (
       arith,
       length-append (big_bytes 4 (length (map as_entry xs))) (flat_map spelled_entry (map as_entry xs)),
@@ -65,38 +55,97 @@ long_run xs all =
       long_entries xs all,
     )
 
+-- and of packed ones
+long_packed_entry : (x : Entry) → length (packed_entry (as_entry x)) ≡ packed_size (length (map as_locator x.locators))
+long_packed_entry x =
+    let ls : List Locator = map as_locator x.locators in
+    omega (
+      arith,
+      length-append (id_bytes x.id ++ length ls ∷ []) (spelled_locators true ls),
+      length-append (id_bytes x.id) (length ls ∷ []),
+      length-bytes_high_first 15 x.id,
+      length-spelled_locators true ls,
+    )
+
+long_packed_entries : (xs : List Entry) → length (flat_map packed_entry (map as_entry xs)) ≡ packed_sizes (map as_entry xs)
+long_packed_entries [] = refl
+long_packed_entries (x ∷ xs) = omega (arith, length-append (packed_entry (as_entry x)) (flat_map packed_entry (map as_entry xs)), long_packed_entry x, long_packed_entries xs)
+
+long_packed : (xs : List Entry) → length (packed_run (map as_entry xs)) ≡ 4 + packed_sizes (map as_entry xs)
+long_packed xs =
+    omega (
+      arith,
+      length-append (big_bytes 4 (length (map as_entry xs))) (flat_map packed_entry (map as_entry xs)),
+      length-bytes_high_first 4 (length (map as_entry xs)),
+      long_packed_entries xs,
+    )
+
+-- ---- of entries as the code has them
+
+same_sizes : (xs : List (ShardId × Listed)) → packed_sizes (map as_entry (map named_entry xs)) ≡ packed_sizes (spelled_entries xs)
+same_sizes [] = refl
+same_sizes (x ∷ xs) = omega (arith, length-map (map place_of x.1.items) as_locator, length-map x.1.items place_of, same_sizes xs)
+
+long_run : (format : ℕ) (xs : List (ShardId × Listed)) → AllByRecursion IsShort (map named_entry xs) → length (spelled_run format (map as_entry (map named_entry xs))) ≡ run_size format (spelled_entries xs)
+long_run format xs all = by (marks_in format)
+  where
+    by : (b : Bool) → length (if b then packed_run (map as_entry (map named_entry xs)) else plain_run (map as_entry (map named_entry xs))) ≡ (if b then 4 + packed_sizes (spelled_entries xs) else run_bytes (length (spelled_entries xs)))
+    by true = omega (arith, long_packed (map named_entry xs), same_sizes xs)
+    by false = omega (arith, long_plain (map named_entry xs) all, length-map xs named_entry, length-map xs entry_of)
+
 -- how many pages the frame of a run has
-pub run_pages : (x : ExtentsState) (xs : List Entry) → AllByRecursion IsShort xs → length (run_frame x xs) ≡ page_count (run_bytes (length xs))
+pub run_pages : (x : ExtentsState) (xs : List (ShardId × Listed)) → AllByRecursion IsShort (map named_entry xs) → length (run_frame x (map named_entry xs)) ≡ page_count (run_size x.format (spelled_entries xs))
 unfolding run_frame
-run_pages x xs all = length-first_chunks 4096 (page_count (length (spelled_run (map as_entry xs)))) (frame_bytes 1 (spelled_run (map as_entry xs))) ∙ ap page_count (long_run xs all)
+run_pages x xs all =
+    let payload : List ℕ = spelled_run x.format (map as_entry (map named_entry xs)) in
+    length-first_chunks 4096 (page_count (length payload)) (frame_bytes 1 payload) ∙ ap page_count (long_run x.format xs all)
 
-length-entries : (es : List SpelledEntry) → AllByRecursion FitsEntry es → length (flat_map spelled_entry es) ≡ 81 * length es
-length-entries [] all = refl
-length-entries (e ∷ es) all = omega (arith, length-append (spelled_entry e) (flat_map spelled_entry es), length-entry e all.0, length-entries es all.1)
+-- no more than an extent, of as many entries as may be named
+packed_most : (xs : List (ShardId × Listed)) → AllByRecursion IsShort (map named_entry xs) → packed_sizes (spelled_entries xs) ≤ 145 * length xs
+packed_most [] all = omega arith
+packed_most (x ∷ xs) all = let short : length (map place_of x.1.items) ≤ 8 = all.0 in omega (arith, short, length-map x.1.items place_of, packed_most xs all.1)
 
-length-run : (es : List SpelledEntry) → FitsRun es → length (spelled_run es) ≡ run_bytes (length es)
-length-run es fits =
-    omega (arith, length-append (big_bytes 4 (length es)) (flat_map spelled_entry es), length-bytes_high_first 4 (length es), length-entries es fits.each)
+pub size_most : (format pages : ℕ) (xs : List (ShardId × Listed)) → AllByRecursion IsShort (map named_entry xs) → 2 ≤ pages → length xs ≤ named_limit format pages → run_size format (spelled_entries xs) ≤ 4096 * pages - 41
+size_most format pages xs all two few = by (marks_in format) few
+  where
+    by : (b : Bool) → length xs ≤ (4096 * pages - 45) / (if b then 145 else 81) → (if b then 4 + packed_sizes (spelled_entries xs) else run_bytes (length (spelled_entries xs))) ≤ 4096 * pages - 41
+    by true few = omega (arith, few, two, packed_most xs all)
+    by false few = omega (arith, few, two, length-map xs entry_of)
+
+pub pages_most : (format pages : ℕ) (xs : List (ShardId × Listed)) → AllByRecursion IsShort (map named_entry xs) → 2 ≤ pages → length xs ≤ named_limit format pages
+    → (1 ≤ page_count (run_size format (spelled_entries xs))) × (page_count (run_size format (spelled_entries xs)) ≤ pages)
+pages_most format pages xs all two few =
+    let most : run_size format (spelled_entries xs) ≤ 4096 * pages - 41 = size_most format pages xs all two few in
+    (omega arith, omega (arith, most, two))
+
+-- ---- what is encoded
 
 same_locators : (ls : List Locator) → map as_locator (map place_of ls) ≡ ls
 same_locators [] = refl
 same_locators (l ∷ ls) = ap (λ ms. l ∷ ms) (same_locators ls)
 
-same_entry : (x : ShardId × Listed) → FitsEntry (entry_of x) → as_entry (named_entry x) ≡ entry_of x
+same_entry : {marked : Bool} (x : ShardId × Listed) → FitsEntry marked (entry_of x) → as_entry (named_entry x) ≡ entry_of x
 same_entry x fits =
     let id : id_bytes (id_number x.0) ≡ x.0.0 = bytes_are x.0 (record { bytes = fits.bytes; size = fits.size }) in
     let locators : map as_locator (map place_of x.1.items) ≡ x.1.items = same_locators x.1.items in
     λ i. record { id = id i; locators = locators i }
 
-same_entries : (xs : List (ShardId × Listed)) → AllByRecursion FitsEntry (spelled_entries xs) → map as_entry (map named_entry xs) ≡ spelled_entries xs
-same_entries [] all = refl
-same_entries (x ∷ xs) all = ap₂ (λ e es. e ∷ es) (same_entry x all.0) (same_entries xs all.1)
+same_entries : (marked : Bool) (xs : List (ShardId × Listed)) → AllByRecursion (FitsEntry marked) (spelled_entries xs) → map as_entry (map named_entry xs) ≡ spelled_entries xs
+same_entries marked [] all = refl
+same_entries marked (x ∷ xs) all = ap₂ (λ e es. e ∷ es) (same_entry {marked = marked} x all.0) (same_entries marked xs all.1)
+
+short_entries : (marked : Bool) (xs : List (ShardId × Listed)) → AllByRecursion (FitsEntry marked) (spelled_entries xs) → AllByRecursion IsShort (map named_entry xs)
+short_entries marked [] all = tt
+short_entries marked (x ∷ xs) all = ((let few : length x.1.items ≤ 8 = all.0.count in omega (arith, few, length-map x.1.items place_of)), short_entries marked xs all.1)
 
 -- a payload that spells these entries, and the pages of its frame
-module _ (xs : List (ShardId × Listed)) (payload bytes : List ℕ) (same : payload ≡ bytes) (spells : SpellsRun bytes (spelled_entries xs)) where
-  pub payload_length : length payload ≡ run_bytes (length xs)
-  payload_length = ap length (same ∙ spells.spelled) ∙ length-run (spelled_entries xs) spells.fits ∙ ap run_bytes (length-map xs entry_of)
+module _ (format : ℕ) (xs : List (ShardId × Listed)) (payload bytes : List ℕ) (same : payload ≡ bytes) (spells : SpellsRun bytes format (spelled_entries xs)) where
+  payload_is : payload ≡ spelled_run format (map as_entry (map named_entry xs))
+  payload_is = same ∙ spells.spelled ∙ ap (spelled_run format) (sym (same_entries (marks_in format) xs spells.fits.each))
 
-  pub payload_frame : (x : ExtentsState) → spelled_frame 1 payload ≡ run_frame x (map named_entry xs)
+  pub payload_length : length payload ≡ run_size format (spelled_entries xs)
+  payload_length = ap length payload_is ∙ long_run format xs (short_entries (marks_in format) xs spells.fits.each)
+
+  pub payload_frame : (x : ExtentsState) → x.format ≡ format → spelled_frame 1 payload ≡ run_frame x (map named_entry xs)
   unfolding run_frame
-  payload_frame x = ap (spelled_frame 1) (same ∙ spells.spelled ∙ ap spelled_run (sym (same_entries xs spells.fits.each)))
+  payload_frame x is = ap (spelled_frame 1) (payload_is ∙ ap (λ (f : ℕ). spelled_run f (map as_entry (map named_entry xs))) (sym is))

@@ -1,5 +1,5 @@
 -- What a staged index keeps.
-use Rattle.std.proofs.Common.{◌≡◌, ◌≢◌, ℕ, suc, ◌<◌, ◌≤◌, true, false, List, [], ◌∷◌, ◌++◌, length, map, Option, Some, None, refl, sym, ap, subst, ◌∙◌, arith, append-nil}
+use Rattle.std.proofs.Common.{◌≡◌, ◌≢◌, ◌*◌, ◌-◌, ◌/◌, Bool, if◌then◌else◌, ℕ, suc, ◌<◌, ◌≤◌, true, false, List, [], ◌∷◌, ◌++◌, length, map, Option, Some, None, refl, sym, ap, subst, ◌∙◌, arith, append-nil}
 use Rattle.std.specs.Prelude.{is_some}
 use Rattle.std.specs.List.{AllByRecursion}
 use Rattle.std.proofs.lemmas.Bool.{lt-ltb}
@@ -9,10 +9,12 @@ use Rattle.cs_frame.specs.Runs.{IsRun, Rises, entries_of as spelled_entries}
 use Rattle.cs_index.specs.declared.runs.StoredRun.{StoredRun}
 use Rattle.cs_model.proofs.Counting.{ascending_names, names_le}
 use Rattle.cs_model.specs.Element.{Entry, Locator as Place}
-use Rattle.cs_model.specs.Index.{Ascending, entries_of, lookup, names}
+use Rattle.cs_model.specs.Geometry.{marks_in}
+use Rattle.cs_model.specs.Index.{Ascending, entries_of, live_at, lookup, names}
 use Rattle.cs_frame.specs.Formats.{place_of}
 use Rattle.cs_frame.specs.Geometries.{named_limit}
-use Rattle.cs_index.specs.State.{IsId, IsShort, IsStored, IsWhole, id_number, index_of, named_entry, newest_first, run_of, state_of}
+use Rattle.cs_index.specs.State.{IsId, IsShort, IsStored, IsWhole, KeepTo, RunsKeepTo, id_number, index_of, named_entry, newest_first, run_of, state_of}
+use Rattle.cs_index.proofs.Marks.{keep_entries, newer_keep, run_keeps}
 use Rattle.cs_index.proofs.Newest.{lookup_first}
 use Rattle.cs_index.proofs.Numbers.{before_is}
 use Rattle.cs_index.proofs.Whole.{Entries}
@@ -25,7 +27,7 @@ rises_of (x ∷ []) ids order = tt
 rises_of (x ∷ y ∷ xs) ids order =
     (before_is x.0 y.0 ids.0 ids.1.0 ∙ lt-ltb (id_number x.0) (id_number y.0) order.0, rises_of (y ∷ xs) ids.1 order.1)
 
-counts_of : (xs : Entries) → AllByRecursion IsShort (map named_entry xs) → AllByRecursion (λ entry. length entry.1.items ≤ 8) xs
+pub counts_of : (xs : Entries) → AllByRecursion IsShort (map named_entry xs) → AllByRecursion (λ entry. length entry.1.items ≤ 8) xs
 counts_of [] all = tt
 counts_of (x ∷ xs) all = ((let e : length (map place_of x.1.items) ≡ length x.1.items = length-map x.1.items place_of in let few : length (map place_of x.1.items) ≤ 8 = all.0 in omega arith), counts_of xs all.1)
 
@@ -33,13 +35,22 @@ some_of : (xs : Entries) → map named_entry xs ≢ [] → 1 ≤ length xs
 some_of [] some = absurd (some refl)
 some_of (x ∷ xs) some = omega arith
 
-pub is_run : (run : SpelledRun) (pages : ℕ) → AllByRecursion (λ entry. IsId entry.0) run.entries.items → Ascending (map named_entry run.entries.items) → AllByRecursion IsShort (map named_entry run.entries.items)
-    → map named_entry run.entries.items ≢ [] → pages ≤ 65535 → length run.entries.items ≤ named_limit pages → IsRun run
-is_run run pages ids order short some most few = record {
+-- no more identifiers than bytes may be named
+pub limit_most : (format pages : ℕ) → named_limit format pages ≤ 4096 * pages
+limit_most format pages = by (marks_in format)
+  where
+    by : (b : Bool) → (4096 * pages - 45) / (if b then 145 else 81) ≤ 4096 * pages
+    by true = omega arith
+    by false = omega arith
+
+pub is_run : (run : SpelledRun) (format pages : ℕ) → AllByRecursion (λ entry. IsId entry.0) run.entries.items → Ascending (map named_entry run.entries.items) → AllByRecursion IsShort (map named_entry run.entries.items)
+    → map named_entry run.entries.items ≢ [] → pages ≤ 65535 → length run.entries.items ≤ named_limit format pages → AllByRecursion (λ x. KeepTo format x.locators) (map named_entry run.entries.items) → IsRun format run
+is_run run format pages ids order short some most few keep = record {
   some = some_of run.entries.items some;
-  most = omega (arith, most, few);
+  most = (let le : named_limit format pages ≤ 4096 * pages = limit_most format pages in omega (arith, most, few, le));
   counts = counts_of run.entries.items short;
   rising = rises_of run.entries.items ids order;
+  marks = keep_entries format run.entries.items keep;
 }
 
 has_more : (id : ℕ) (xs ys : List Entry) (o : Option (List Place)) → lookup id xs ≡ o → is_some o ≡ true → is_some (lookup id (xs ++ ys)) ≡ true
@@ -47,14 +58,18 @@ has_more id xs ys None is some = absurd (let e : false ≡ true = some in cc)
 has_more id xs ys (Some ls) is some = ap (λ (o : Option (List Place)). is_some o) (lookup_first id xs ys ls is)
 
 -- a table has no more entries than identifiers are named
-pub table_few : (xs : Entries) (runs : List StoredRun) (limit room : ℕ) → IsWhole (state_of xs runs limit room) → length xs ≤ limit
-table_few xs runs limit room whole =
+pub table_few : (xs : Entries) (runs : List StoredRun) (format limit room : ℕ) → IsWhole (state_of xs runs format limit room) → length xs ≤ limit
+table_few xs runs format limit room whole =
     let rest : List Entry = entries_of (newest_first runs) in
     let le : names (map named_entry xs) ≤ names (map named_entry xs ++ rest) = names_le (map named_entry xs) (map named_entry xs ++ rest) (λ id is. has_more id (map named_entry xs) rest _ refl is) in
     let count : names (map named_entry xs) ≡ length (map named_entry xs) = ascending_names (map named_entry xs) whole.ascending in
     let most : names (map named_entry xs ++ rest) ≤ limit = whole.named in
     let long : length (map named_entry xs) ≡ length xs = length-map xs named_entry in
     omega arith
+
+-- the table's entries keep to the format
+pub table_keeps : (xs : Entries) (runs : List StoredRun) (format limit room : ℕ) → IsWhole (state_of xs runs format limit room) → AllByRecursion (λ x. KeepTo format x.locators) (map named_entry xs)
+table_keeps xs runs format limit room whole = run_keeps format false (map named_entry xs) (entries_of (newest_first runs)) (map named_entry xs) (whole.ascending, λ id. refl) whole.marks
 
 -- ---- a run more
 
@@ -68,17 +83,19 @@ module _ (xs empty : Entries) (runs before news : List StoredRun) (r : StoredRun
       ap newest_first (is ∙ ap (λ rs. rs ++ r ∷ []) same) ∙ newest_push runs r
       ∙ ap (λ (es : Entries). record { place = place_of r.place; entries = map named_entry es } ∷ newest_first runs) its
 
-  pub pushed_index : (limit room : ℕ) → index_of (state_of empty news limit 0) ≡ index_of (state_of xs runs limit room)
-  pushed_index limit room =
+  pub pushed_index : (format limit room : ℕ) → index_of (state_of empty news format limit 0) ≡ index_of (state_of xs runs format limit room)
+  pushed_index format limit room =
       ap (λ (es : Entries). map named_entry es ++ entries_of (newest_first news)) none ∙ ap entries_of pushed_runs
 
-  pub pushed_whole : (limit room : ℕ) → map named_entry xs ≢ [] → length (newest_first runs) < 24 → IsWhole (state_of xs runs limit room) → IsWhole (state_of empty news limit 0)
-  pushed_whole limit room some few whole = record {
+  pub pushed_whole : (format limit room : ℕ) → map named_entry xs ≢ [] → length (newest_first runs) < 24 → KeepTo format (place_of r.place ∷ []) → IsWhole (state_of xs runs format limit room) → IsWhole (state_of empty news format limit 0)
+  pushed_whole format limit room some few keep whole = record {
     ascending = subst (λ (es : Entries). Ascending (map named_entry es)) (sym none) tt;
     short = subst (λ (es : Entries). AllByRecursion IsShort (map named_entry es)) (sym none) tt;
     runs = subst (AllByRecursion IsStored) (sym pushed_runs) ((whole.ascending, some, whole.short), whole.runs);
     few = (let e : length (newest_first news) ≡ suc (length (newest_first runs)) = ap length pushed_runs in omega arith);
-    named = subst (λ (es : List Entry). names es ≤ limit) (sym (pushed_index limit room)) whole.named;
+    named = subst (λ (es : List Entry). names es ≤ limit) (sym (pushed_index format limit room)) whole.named;
+    marks = λ id. subst (λ (es : List Entry). KeepTo format (live_at es id)) (sym (pushed_index format limit room)) (whole.marks id);
+    placed = subst (RunsKeepTo format) (sym pushed_runs) (newer_keep format (record { place = place_of r.place; entries = map named_entry xs }) (newest_first runs) keep whole.placed);
   }
 
 -- ---- one run

@@ -262,9 +262,9 @@ none_lives go s k E none goes alone run id =
     ∙ sym (ap live (part_lookup go s k [] (λ g. alone) (subst (λ (es : List Entry). IsRunOf go (part s k) es) none run) id))
     ∙ ap (λ (rs : List Run). live_at (entries_of rs) id) alone
 
-pub nothing_counts : (on : List ℕ) (old : List Entry) (xs : Entries) (runs : List StoredRun) (limit : ℕ) → xs ≡ [] → runs ≡ [] → ((id : ℕ) → live_at old id ≡ []) → AreCounts on old → AreCounts on (index_of (state_of xs runs limit 0))
-nothing_counts on old xs runs limit none alone dead was =
-    counts_as on old (index_of (state_of xs runs limit 0))
+pub nothing_counts : (on : List ℕ) (old : List Entry) (xs : Entries) (runs : List StoredRun) (format limit : ℕ) → xs ≡ [] → runs ≡ [] → ((id : ℕ) → live_at old id ≡ []) → AreCounts on old → AreCounts on (index_of (state_of xs runs format limit 0))
+nothing_counts on old xs runs format limit none alone dead was =
+    counts_as on old (index_of (state_of xs runs format limit 0))
     (λ id. ap (λ (es : Entries). live_at (map named_entry es ++ entries_of (newest_first runs)) id) none ∙ ap (λ (rs : List StoredRun). live_at (entries_of (newest_first rs)) id) alone ∙ sym (dead id))
     was
 

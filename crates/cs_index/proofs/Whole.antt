@@ -11,12 +11,14 @@ use Rattle.cs_frame.specs.Runs.{IsRun, Rises, entries_of as spelled_entries}
 use Rattle.cs_index.specs.declared.runs.StoredRun.{StoredRun}
 use Rattle.cs_model.proofs.Counting.{lookup_here, lookup_there}
 use Rattle.cs_model.specs.Element.{Entry, Locator as Place, Run}
-use Rattle.cs_model.specs.Index.{Ascending, entries_of, lookup, names}
+use Rattle.cs_model.specs.Index.{Ascending, entries_of, live, live_at, lookup, names}
 use Rattle.cs_model.specs.Tally.{shards}
 use Rattle.cs_index.specs.Sorted.{IsPut}
 use Rattle.cs_frame.specs.Formats.{place_of}
+use Rattle.cs_frame.specs.Locators.{KeepFormat}
 use Rattle.cs_frame.specs.Places.{Listed}
-use Rattle.cs_index.specs.State.{IsId, IsSet, IsShort, IsStored, IsWhole, State, id_number, index_of, named_entry, newest_first, run_of, state_of}
+use Rattle.cs_index.specs.State.{IsId, IsSet, IsShort, IsStored, IsWhole, KeepTo, RunsKeepTo, State, id_number, index_of, named_entry, newest_first, run_of, state_of}
+use Rattle.cs_index.proofs.Marks.{keep_locators, set_keeps}
 use Rattle.cs_index.proofs.Names.{names_of_lookups}
 use Rattle.cs_index.proofs.Newest.{all_newest, lookup_first, lookup_second, names_here, names_more}
 use Rattle.cs_index.proofs.Numbers.{before_is}
@@ -54,7 +56,7 @@ short_lookup s id ls whole is = short_found_in s.table s.runs id ls whole.short 
 -- ---- places
 
 one_place : (l m : Locator) → place_of l ≡ place_of m → l ≡ m
-one_place l m is = λ i. record { extent = (is i).extent; page = (is i).page; generation = (is i).generation }
+one_place l m is = λ i. record { extent = (is i).extent; page = (is i).page; generation = (is i).generation; mark = (is i).mark }
 
 pub one_places : (ls ms : List Locator) → map place_of ls ≡ map place_of ms → ls ≡ ms
 one_places [] [] is = refl
@@ -74,7 +76,7 @@ ascending_of (x ∷ []) ids rises = tt
 ascending_of (x ∷ y ∷ xs) ids rises =
     (ltb-true (id_number x.0) (id_number y.0) (sym (before_is x.0 y.0 ids.0 ids.1.0) ∙ rises.0), ascending_of (y ∷ xs) ids.1 rises.1)
 
-short_of : (xs : Entries) → AllByRecursion (λ entry. length entry.1.items ≤ 8) xs → AllByRecursion IsShort (map named_entry xs)
+pub short_of : (xs : Entries) → AllByRecursion (λ entry. length entry.1.items ≤ 8) xs → AllByRecursion IsShort (map named_entry xs)
 short_of [] all = tt
 short_of (x ∷ xs) all = ((let e : length (map place_of x.1.items) ≡ length x.1.items = length-map x.1.items place_of in let few : length x.1.items ≤ 8 = all.0 in omega arith), short_of xs all.1)
 
@@ -82,21 +84,21 @@ some_of : (xs : Entries) → 1 ≤ length xs → map named_entry xs ≢ []
 some_of [] some is = omega arith
 some_of (x ∷ xs) some is = cc
 
-stored_of : (runs : List StoredRun) → AllByRecursion (λ run. AllByRecursion (λ entry. IsId entry.0) run.entries.items) runs
-    → AllByRecursion (λ run. IsRun (record { entries = run.entries })) runs → AllByRecursion (λ run. IsStored (run_of run)) runs
-stored_of [] ids all = tt
-stored_of (run ∷ runs) ids all = (
+stored_of : (format : ℕ) (runs : List StoredRun) → AllByRecursion (λ run. AllByRecursion (λ entry. IsId entry.0) run.entries.items) runs
+    → AllByRecursion (λ run. IsRun format (record { entries = run.entries })) runs → AllByRecursion (λ run. IsStored (run_of run)) runs
+stored_of format [] ids all = tt
+stored_of format (run ∷ runs) ids all = (
   (ascending_of run.entries.items ids.0 all.0.rising, some_of run.entries.items all.0.some, short_of run.entries.items all.0.counts),
-  stored_of runs ids.1 all.1,
+  stored_of format runs ids.1 all.1,
 )
 
-pub stored_runs : (runs : List StoredRun) → AllByRecursion (λ run. AllByRecursion (λ entry. IsId entry.0) run.entries.items) runs
-    → AllByRecursion (λ run. IsRun (record { entries = run.entries })) runs → AllByRecursion IsStored (newest_first runs)
-stored_runs runs ids all = all_newest IsStored runs (stored_of runs ids all)
+pub stored_runs : (format : ℕ) (runs : List StoredRun) → AllByRecursion (λ run. AllByRecursion (λ entry. IsId entry.0) run.entries.items) runs
+    → AllByRecursion (λ run. IsRun format (record { entries = run.entries })) runs → AllByRecursion IsStored (newest_first runs)
+stored_runs format runs ids all = all_newest IsStored runs (stored_of format runs ids all)
 
-pub lengths_of : (runs : List StoredRun) → AllByRecursion (λ run. IsRun (record { entries = run.entries })) runs → AllByRecursion (λ run. length run.entries.items < 2 ^ 32) runs
-lengths_of [] all = tt
-lengths_of (run ∷ runs) all = (all.0.most, lengths_of runs all.1)
+pub lengths_of : (format : ℕ) (runs : List StoredRun) → AllByRecursion (λ run. IsRun format (record { entries = run.entries })) runs → AllByRecursion (λ run. length run.entries.items < 2 ^ 32) runs
+lengths_of format [] all = tt
+lengths_of format (run ∷ runs) all = (all.0.most, lengths_of format runs all.1)
 
 -- ---- an entry is put into the table
 
@@ -135,39 +137,42 @@ within : (known : Bool) (named more limit : ℕ) (P : Type 0) (Q : Type 0) → M
 within true named more limit P Q is lt le count = omega (arith, count, le)
 within false named more limit P Q is lt le count = omega (arith, count, lt is)
 
-module _ (xs ys : Entries) (runs : List StoredRun) (limit room left : ℕ) where
+module _ (xs ys : Entries) (runs : List StoredRun) (format limit room left : ℕ) where
   abbrev old : State
-  old = state_of xs runs limit room
+  old = state_of xs runs format limit room
 
   abbrev new : State
-  new = state_of ys runs limit left
+  new = state_of ys runs format limit left
 
-  pub enter_set : (id : ℕ) (ls : List Place) → IsPut (map named_entry xs) id ls (map named_entry ys) → IsSet (state_of xs runs limit room) id ls (state_of ys runs limit left)
+  pub enter_set : (id : ℕ) (ls : List Place) → IsPut (map named_entry xs) id ls (map named_entry ys) → IsSet (state_of xs runs format limit room) id ls (state_of ys runs format limit left)
   enter_set id ls put = record {
     table = put.lookups;
     index = λ d. put_index (map named_entry xs) (map named_entry ys) (entries_of (newest_first runs)) id ls d put;
     runs = refl;
+    format = refl;
     limit = refl;
   }
 
-  pub enter_count : (id named more : ℕ) (ls : List Place) (known : Bool) → IsPut (map named_entry xs) id ls (map named_entry ys) → named ≡ names (index_of (state_of xs runs limit room))
-      → MatchBool known (lookup id (index_of (state_of xs runs limit room)) ≢ None) (lookup id (index_of (state_of xs runs limit room)) ≡ None)
-      → more ≡ (if known then named else named + 1) → more ≡ names (index_of (state_of ys runs limit left))
+  pub enter_count : (id named more : ℕ) (ls : List Place) (known : Bool) → IsPut (map named_entry xs) id ls (map named_entry ys) → named ≡ names (index_of (state_of xs runs format limit room))
+      → MatchBool known (lookup id (index_of (state_of xs runs format limit room)) ≢ None) (lookup id (index_of (state_of xs runs format limit room)) ≡ None)
+      → more ≡ (if known then named else named + 1) → more ≡ names (index_of (state_of ys runs format limit left))
   enter_count id named more ls known put was is count = put_names (map named_entry xs) (map named_entry ys) (entries_of (newest_first runs)) id named more ls known put was is count
 
-  pub enter_whole : (id named more : ℕ) (ls : List Place) (known : Bool) → IsPut (map named_entry xs) id ls (map named_entry ys) → length ls ≤ 8 → named ≡ names (index_of (state_of xs runs limit room))
-      → MatchBool known (lookup id (index_of (state_of xs runs limit room)) ≢ None) (lookup id (index_of (state_of xs runs limit room)) ≡ None)
-      → (lookup id (index_of (state_of xs runs limit room)) ≡ None → names (index_of (state_of xs runs limit room)) < limit)
-      → more ≡ (if known then named else named + 1) → IsWhole (state_of xs runs limit room) → IsWhole (state_of ys runs limit left)
-  enter_whole id named more ls known put few was is lt count whole =
-      let n : more ≡ names (index_of (state_of ys runs limit left)) = enter_count id named more ls known put was is count in
-      let most : more ≤ limit = within known named more limit _ _ is (λ none. (let l : names (index_of (state_of xs runs limit room)) < limit = lt none in omega arith)) (let w : names (index_of (state_of xs runs limit room)) ≤ limit = whole.named in omega arith) count in
+  pub enter_whole : (id named more : ℕ) (ls : List Place) (known : Bool) → IsPut (map named_entry xs) id ls (map named_entry ys) → length ls ≤ 8 → KeepTo format ls → named ≡ names (index_of (state_of xs runs format limit room))
+      → MatchBool known (lookup id (index_of (state_of xs runs format limit room)) ≢ None) (lookup id (index_of (state_of xs runs format limit room)) ≡ None)
+      → (lookup id (index_of (state_of xs runs format limit room)) ≡ None → names (index_of (state_of xs runs format limit room)) < limit)
+      → more ≡ (if known then named else named + 1) → IsWhole (state_of xs runs format limit room) → IsWhole (state_of ys runs format limit left)
+  enter_whole id named more ls known put few keep was is lt count whole =
+      let n : more ≡ names (index_of (state_of ys runs format limit left)) = enter_count id named more ls known put was is count in
+      let most : more ≤ limit = within known named more limit _ _ is (λ none. (let l : names (index_of (state_of xs runs format limit room)) < limit = lt none in omega arith)) (let w : names (index_of (state_of xs runs format limit room)) ≤ limit = whole.named in omega arith) count in
       record {
         ascending = put.ascending;
         short = put.short whole.short few;
         runs = whole.runs;
         few = whole.few;
         named = omega arith;
+        marks = set_keeps format id ls (index_of (state_of xs runs format limit room)) (index_of (state_of ys runs format limit left)) (enter_set id ls put).index keep whole.marks;
+        placed = whole.placed;
       }
 
 -- ---- what is looked up in the table and then in the runs
@@ -180,16 +185,19 @@ pub index_second : (s : State) (xs : Entries) (runs : List StoredRun) (id : ℕ)
 index_second s xs runs id o same same' not is =
     is ∙ ap (λ (rs : List Run). lookup id (entries_of rs)) same' ∙ sym (lookup_second id s.table (entries_of s.runs) (ap (lookup id) (sym same) ∙ sym not))
 
-pub empty_whole : (runs : List StoredRun) (limit named : ℕ) (xs : Entries) → xs ≡ [] → AllByRecursion IsStored (newest_first runs) → length runs ≤ 24 → named ≡ names (entries_of (newest_first runs)) → named ≤ limit
-    → IsWhole (state_of xs runs limit 0) × (named ≡ names (index_of (state_of xs runs limit 0)))
-empty_whole runs limit named xs none stored few is le =
-    subst (λ (ys : Entries). IsWhole (state_of ys runs limit 0) × (named ≡ names (index_of (state_of ys runs limit 0)))) (sym none) (
+pub empty_whole : (runs : List StoredRun) (format limit named : ℕ) (xs : Entries) → xs ≡ [] → AllByRecursion IsStored (newest_first runs) → length runs ≤ 24 → named ≡ names (entries_of (newest_first runs)) → named ≤ limit
+    → ((id : ℕ) → KeepTo format (live_at (entries_of (newest_first runs)) id)) → RunsKeepTo format (newest_first runs)
+    → IsWhole (state_of xs runs format limit 0) × (named ≡ names (index_of (state_of xs runs format limit 0)))
+empty_whole runs format limit named xs none stored few is le marks placed =
+    subst (λ (ys : Entries). IsWhole (state_of ys runs format limit 0) × (named ≡ names (index_of (state_of ys runs format limit 0)))) (sym none) (
       record {
         ascending = tt;
         short = tt;
         runs = stored;
         few = (let e : length (newest_first runs) ≡ length runs = length-newest runs in omega arith);
         named = omega arith;
+        marks = marks;
+        placed = placed;
       },
       is,
     )
@@ -209,30 +217,43 @@ short_found s id (Some ls) whole is = short_lookup s id ls.now whole is
 pub no_ids : (xs : Entries) → xs ≡ [] → AllByRecursion (λ entry. IsId entry.0) xs
 no_ids xs is = subst (λ (ys : Entries). AllByRecursion (λ entry. IsId entry.0) ys) (sym is) tt
 
+-- what is looked up keeps to the format
+pub marks_lookup : (s : State) (id : ℕ) (ls : List Locator) → IsWhole s → Some (map place_of ls) ≡ lookup id (index_of s) → KeepFormat s.format ls
+marks_lookup s id ls whole is = keep_locators s.format ls (subst (λ (o : Option (List Place)). KeepTo s.format (live o)) (sym is) (whole.marks id))
+
+pub marks_found : (s : State) (id : ℕ) (o : Option (Bor (List Locator))) → IsWhole s → option_map (map place_of) (option_copied o) ≡ lookup id (index_of s) → IfSome o (λ ls. KeepFormat s.format ls.now)
+marks_found s id None whole is = tt
+marks_found s id (Some ls) whole is = marks_lookup s id ls.now whole is
+
 -- an index of nothing
-pub nothing_whole : (xs : Entries) (runs : List StoredRun) (limit : ℕ) → xs ≡ [] → runs ≡ []
-    → IsWhole (state_of xs runs limit 0) × (0 ≡ names (index_of (state_of xs runs limit 0))) × (0 ≡ shards (index_of (state_of xs runs limit 0)))
-nothing_whole xs runs limit none alone =
-    let whole = empty_whole runs limit 0 xs none
+pub nothing_whole : (xs : Entries) (runs : List StoredRun) (format limit : ℕ) → xs ≡ [] → runs ≡ []
+    → IsWhole (state_of xs runs format limit 0) × (0 ≡ names (index_of (state_of xs runs format limit 0))) × (0 ≡ shards (index_of (state_of xs runs format limit 0)))
+nothing_whole xs runs format limit none alone =
+    let whole = empty_whole runs format limit 0 xs none
     (subst (λ (rs : List StoredRun). AllByRecursion IsStored (newest_first rs)) (sym alone) tt)
     (let e : length runs ≡ 0 = ap length alone in omega arith)
     (ap (λ (rs : List StoredRun). names (entries_of (newest_first rs))) (sym alone))
-    (omega arith) in (
+    (omega arith)
+    (λ id. subst (λ (rs : List StoredRun). KeepTo format (live_at (entries_of (newest_first rs)) id)) (sym alone) (λ off. tt))
+    (subst (λ (rs : List StoredRun). RunsKeepTo format (newest_first rs)) (sym alone) (λ off. tt)) in (
       whole.0,
       whole.1,
       ap (λ (ys : Entries). shards (map named_entry ys ++ entries_of (newest_first []))) (sym none) ∙ ap (λ (rs : List StoredRun). shards (map named_entry xs ++ entries_of (newest_first rs))) (sym alone),
     )
 
 -- the comparison of two locators decides whether they are the same
-pub locators_decide : (a b : Locator) → (((a.extent == b.extent) && ((a.page == b.page) && (a.generation == b.generation))) ≡ true → a ≡ b)
-    × (a ≡ b → ((a.extent == b.extent) && ((a.page == b.page) && (a.generation == b.generation))) ≡ true)
+pub locators_decide : (a b : Locator) → (((a.extent == b.extent) && ((a.page == b.page) && ((a.generation == b.generation) && (a.mark == b.mark)))) ≡ true → a ≡ b)
+    × (a ≡ b → ((a.extent == b.extent) && ((a.page == b.page) && ((a.generation == b.generation) && (a.mark == b.mark)))) ≡ true)
 locators_decide a b = (
-  (λ h. let first = and_parts (a.extent == b.extent) ((a.page == b.page) && (a.generation == b.generation)) h in
-      let second = and_parts (a.page == b.page) (a.generation == b.generation) first.1 in
+  (λ h. let first = and_parts (a.extent == b.extent) ((a.page == b.page) && ((a.generation == b.generation) && (a.mark == b.mark))) h in
+      let second = and_parts (a.page == b.page) ((a.generation == b.generation) && (a.mark == b.mark)) first.1 in
+      let third = and_parts (a.generation == b.generation) (a.mark == b.mark) second.1 in
       let extent : a.extent ≡ b.extent = eqb-true a.extent b.extent first.0 in
       let page : a.page ≡ b.page = eqb-true a.page b.page second.0 in
-      let generation : a.generation ≡ b.generation = eqb-true a.generation b.generation second.1 in
-      λ i. record { extent = extent i; page = page i; generation = generation i }),
+      let generation : a.generation ≡ b.generation = eqb-true a.generation b.generation third.0 in
+      let mark : a.mark ≡ b.mark = eqb-true a.mark b.mark third.1 in
+      λ i. record { extent = extent i; page = page i; generation = generation i; mark = mark i }),
   (λ is. and_from _ _ (eq-eqb a.extent b.extent (ap (λ (l : Locator). l.extent) is))
-      (and_from _ _ (eq-eqb a.page b.page (ap (λ (l : Locator). l.page) is)) (eq-eqb a.generation b.generation (ap (λ (l : Locator). l.generation) is)))),
+      (and_from _ _ (eq-eqb a.page b.page (ap (λ (l : Locator). l.page) is))
+      (and_from _ _ (eq-eqb a.generation b.generation (ap (λ (l : Locator). l.generation) is)) (eq-eqb a.mark b.mark (ap (λ (l : Locator). l.mark) is))))),
 )

@@ -33,6 +33,7 @@ pub record IsSettled (old : State) (copies : List Copy) (new : State) : Type 0 w
   pub table : (d : ℕ) → lookup d new.table ≡ lookup d (settle_table (entries_of old.runs) old.table copies)
   pub index : (d : ℕ) → lookup d (index_of new) ≡ lookup d (settle_table (entries_of old.runs) old.table copies ++ entries_of old.runs)
   pub runs : new.runs ≡ old.runs
+  pub format : new.format ≡ old.format
   pub limit : new.limit ≡ old.limit
 
 -- the number of a shard and of a chunk

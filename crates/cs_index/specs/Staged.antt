@@ -66,6 +66,7 @@ pub record IsTableStaged (s : State) (x : ExtentsState) (g : GraphState) (v comm
   pub staged : IsRunStaged x g ForRun entries s.runs place v commands y h
   pub table : t.table ≡ []
   pub runs : t.runs ≡ record { place = place; entries = entries } ∷ s.runs
+  pub format : t.format ≡ s.format
   pub limit : t.limit ≡ s.limit
 
 -- one run of all that is live was appended, or none where nothing is
@@ -81,6 +82,7 @@ pub record IsMergeStaged (s : State) (x : ExtentsState) (g : GraphState) (reason
   pub appended : IsMergeAppended (index_of s) x g reason t.runs y between
   pub root : IsRootStaged x.format between h v commands t.runs
   pub table : t.table ≡ []
+  pub format : t.format ≡ s.format
   pub limit : t.limit ≡ s.limit
 
 -- the run of the table and of the newest k runs was appended in front of the others, or none where it would have no entry
@@ -100,6 +102,7 @@ pub record IsPartStagedBy (apart go : Bool) (k : ℕ) (s : State) (x : ExtentsSt
   pub appended : IsPartAppendedBy apart go s k x g reason t.runs y between
   pub root : IsRootStaged x.format between h v commands t.runs
   pub table : t.table ≡ []
+  pub format : t.format ≡ s.format
   pub limit : t.limit ≡ s.limit
 
 abbrev pub IsPartStaged : (go : Bool) → (k : ℕ) → State → ExtentsState → GraphState → Reason → (v commands : ℕ) → State → ExtentsState → GraphState → Type 0

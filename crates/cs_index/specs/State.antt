@@ -1,5 +1,5 @@
 -- What an index is, in the words of the store's machine.
-use Rattle.std.specs.Prelude.{◌≡◌, ◌≢◌, ℕ, ◌<◌, ◌≤◌, ◌==◌, List, [], ◌∷◌, ◌++◌, Option, Some, None, length, map, if◌then◌else◌}
+use Rattle.std.specs.Prelude.{◌≡◌, ◌≢◌, false, ℕ, ◌<◌, ◌≤◌, ◌==◌, List, [], ◌∷◌, ◌++◌, Option, Some, None, length, map, if◌then◌else◌}
 use Rattle.std.specs.List.{AllByRecursion}
 use Rattle.byteorder.specs.Endian.{big_number}
 use Rattle.cs_frame.specs.Bytes.{IsBytes}
@@ -8,7 +8,8 @@ use Rattle.cs_frame.specs.Formats.{place_of}
 use Rattle.cs_frame.specs.Places.{Listed}
 use Rattle.cs_index.specs.declared.runs.StoredRun.{StoredRun}
 use Rattle.cs_model.specs.Element.{Entry, Locator as Place, Run}
-use Rattle.cs_model.specs.Index.{Ascending, entries_of, lookup, names}
+use Rattle.cs_model.specs.Geometry.{marks_in}
+use Rattle.cs_model.specs.Index.{Ascending, entries_of, live_at, lookup, names}
 
 -- an identifier as a number, its first byte the highest
 unfoldable pub id_number : ShardId → ℕ
@@ -38,6 +39,8 @@ pub record State : Type 0 where
   pub table : List Entry
   -- the runs, newest first
   pub runs : List Run
+  -- the format of the store
+  pub format : ℕ
   -- how many identifiers may be named
   pub limit : ℕ
   -- so many more entries of the table will ask for no memory
@@ -55,6 +58,14 @@ IsShort x = length x.locators ≤ 8
 abbrev pub IsStored : Run → Type 0
 IsStored run = Ascending run.entries × (run.entries ≢ []) × AllByRecursion IsShort run.entries
 
+-- these places keep to a format: up to format 2 none has a mark
+abbrev pub KeepTo : (format : ℕ) → List Place → Type 0
+KeepTo format ls = marks_in format ≡ false → AllByRecursion (λ l. l.mark ≡ 0) ls
+
+-- and so do the places of these runs
+abbrev pub RunsKeepTo : (format : ℕ) → List Run → Type 0
+RunsKeepTo format runs = marks_in format ≡ false → AllByRecursion (λ run. run.place.mark ≡ 0) runs
+
 -- what every index keeps
 pub record IsWhole (s : State) : Type 0 where
   pub ascending : Ascending s.table
@@ -62,12 +73,16 @@ pub record IsWhole (s : State) : Type 0 where
   pub runs : AllByRecursion IsStored s.runs
   pub few : length s.runs ≤ 24
   pub named : names (index_of s) ≤ s.limit
+  -- what is looked up keeps to the format, and so do the runs' own places
+  pub marks : (id : ℕ) → KeepTo s.format (live_at (index_of s) id)
+  pub placed : RunsKeepTo s.format s.runs
 
 -- An identifier has other locators, in the table and so in the whole index, and nothing else changed but the room.
 pub record IsSet (old : State) (id : ℕ) (locators : List Place) (new : State) : Type 0 where
   pub table : (d : ℕ) → lookup d new.table ≡ (if id == d then Some locators else lookup d old.table)
   pub index : (d : ℕ) → lookup d (index_of new) ≡ (if id == d then Some locators else lookup d (index_of old))
   pub runs : new.runs ≡ old.runs
+  pub format : new.format ≡ old.format
   pub limit : new.limit ≡ old.limit
 
 -- d comes after an identifier, every one where there is none
@@ -82,6 +97,6 @@ IsNext index after (Some x) =
     IsAfter after x.id × (lookup x.id index ≡ Some x.locators) × ((d : ℕ) → IsAfter after d → d < x.id → lookup d index ≡ None)
 
 -- the value of an index with these fields
-abbrev pub state_of : List (ShardId × Listed) → List StoredRun → (limit room : ℕ) → State
-state_of table runs limit room =
-    record { table = map named_entry table; runs = newest_first runs; limit = limit; room = room }
+abbrev pub state_of : List (ShardId × Listed) → List StoredRun → (format limit room : ℕ) → State
+state_of table runs format limit room =
+    record { table = map named_entry table; runs = newest_first runs; format = format; limit = limit; room = room }

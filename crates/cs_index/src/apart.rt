@@ -50,6 +50,7 @@ impl Index {
         graph: &mut Graph,
         commands: u64,
     ) -> Result<u64, Refusal>
+        requires format { self.old.format ≡ (shape extents.old).format }
         requires limit { self.old.limit ≡ (shape extents.old).most_names }
         requires runs { length self.old.runs ≤ (shape extents.old).most_runs }
         requires families { length graph.old.staging.latest ≡ 1 + (shape extents.old).sections }
@@ -89,6 +90,7 @@ impl Index {
         commands: u64,
         last: bool,
     ) -> Result<u64, Refusal>
+        requires format { self.old.format ≡ (shape extents.old).format }
         requires limit { self.old.limit ≡ (shape extents.old).most_names }
         requires runs { length self.old.runs ≤ (shape extents.old).most_runs }
         requires families { length graph.old.staging.latest ≡ 1 + (shape extents.old).sections }
@@ -132,6 +134,7 @@ impl Index {
         commands: u64,
     ) -> Result<u64, Refusal>
         requires none { self.now.table ≡ [] }
+        requires format { self.now.format ≡ (shape extents.now).format }
         requires runs { length self.now.runs ≤ (shape extents.now).most_runs }
         requires families { length graph.old.staging.latest ≡ 1 + (shape extents.now).sections }
         requires resets { AreResetsStaged (extents_of extents.now) graph.old.staging }
@@ -221,6 +224,7 @@ impl Index {
         requires left { length (drop chosen.portion.newest self.old.runs) < (shape extents.old).most_runs }
         requires placed { (map named_entry chosen.run.entries.items ≡ [])
             ⊎ ((e : ℕ) × GoesApart (shape extents.old) (extents_of extents.old) (reason_of chosen.purpose) (length (run_frame extents.old (map named_entry chosen.run.entries.items))) e) }
+        requires format { self.old.format ≡ (shape extents.old).format }
         requires limit { self.old.limit ≡ (shape extents.old).most_names }
         requires families { length graph.old.staging.latest ≡ 1 + (shape extents.old).sections }
         requires resets { AreResetsStaged (extents_of extents.old) graph.old.staging }
@@ -267,13 +271,14 @@ impl Index {
         requires ids { AllByRecursion (λ entry. IsId entry.0) chosen.run.entries.items }
         requires few { length chosen.run.entries.items ≤ self.old.limit }
         requires placed { (e : ℕ) × GoesApart (shape extents.old) (extents_of extents.old) (reason_of chosen.purpose) (length (run_frame extents.old (map named_entry chosen.run.entries.items))) e }
+        requires format { self.old.format ≡ (shape extents.old).format }
         requires limit { self.old.limit ≡ (shape extents.old).most_names }
         requires families { length graph.old.staging.latest ≡ 1 + (shape extents.old).sections }
         requires resets { AreResetsStaged (extents_of extents.old) graph.old.staging }
         requires commands { commands < 2 ^ 63 }
         ensures staged { IfOk result (λ v. (place : Place)
             × IsRunStagedBy true extents.old graph.old (reason_of chosen.purpose) (map named_entry chosen.run.entries.items) (drop chosen.portion.newest self.old.runs) place v commands extents.new graph.new
-            × (self.new ≡ record { table = []; runs = record { place = place; entries = map named_entry chosen.run.entries.items } ∷ drop chosen.portion.newest self.old.runs; limit = self.old.limit; room = 0 })) }
+            × (self.new ≡ record { table = []; runs = record { place = place; entries = map named_entry chosen.run.entries.items } ∷ drop chosen.portion.newest self.old.runs; format = self.old.format; limit = self.old.limit; room = 0 })) }
         ensures resets { AreResetsStaged (extents_of extents.new) graph.new.staging }
         ensures families { length graph.new.staging.latest ≡ length graph.old.staging.latest }
         ensures why { IsExact result ⊥ (IsRootWorn graph.old.staging ⊎ IsFrameWornBy true extents.old (reason_of chosen.purpose) graph.old.staging (length (run_frame extents.old (map named_entry chosen.run.entries.items)))) }

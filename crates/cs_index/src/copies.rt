@@ -4,6 +4,7 @@ ghost use Rattle.cs_extent.specs.Frames.{AreResetsStaged};
 ghost use Rattle.cs_extent.specs.State.{extents_of, shape};
 ghost use Rattle.cs_frame.specs.Formats.{place_of};
 ghost use Rattle.cs_model.specs.Apart.{is_place};
+ghost use Rattle.cs_model.specs.Geometry.{marks_in};
 ghost use Rattle.cs_model.specs.Index.{live_at};
 ghost use Rattle.cs_model.specs.Lists.{nth, replaced};
 ghost use Rattle.cs_index.specs.Apart.{IsStageFullApart, IsStageWornApart, IsStagedApart};
@@ -81,6 +82,8 @@ impl Index {
         copies: &[ChunkCopy],
         last: bool,
     ) -> Result<u64, Refusal>
+        requires apart { (shape extents.old).apart ≡ true }
+        requires format { self.old.format ≡ (shape extents.old).format }
         requires limit { self.old.limit ≡ (shape extents.old).most_names }
         requires runs { length self.old.runs ≤ (shape extents.old).most_runs }
         requires families { length graph.old.staging.latest ≡ 1 + (shape extents.old).sections }
@@ -132,6 +135,8 @@ impl Index {
         requires counts { AreCounts on.items (index_of self.old) }
         requires copy { IsRunOf false (part self.old 0) (map named_entry table.entries.items) }
         requires ids { AllByRecursion (λ entry. IsId entry.0) table.entries.items }
+        requires apart { (shape extents.old).apart ≡ true }
+        requires format { self.old.format ≡ (shape extents.old).format }
         requires limit { self.old.limit ≡ (shape extents.old).most_names }
         requires runs { length self.old.runs ≤ (shape extents.old).most_runs }
         requires families { length graph.old.staging.latest ≡ 1 + (shape extents.old).sections }
@@ -154,6 +159,7 @@ impl Index {
             named: self.named,
             living: self.living,
             on,
+            format: self.format,
             limit: self.limit,
             room: 0,
             cleared: NONE_KNOWN,
@@ -186,6 +192,8 @@ impl Index {
         copies: &[ChunkCopy],
         last: bool,
     ) -> Result<u64, Refusal>
+        requires apart { (shape extents.old).apart ≡ true }
+        requires format { self.old.format ≡ (shape extents.old).format }
         requires limit { self.old.limit ≡ (shape extents.old).most_names }
         requires runs { length self.old.runs ≤ (shape extents.old).most_runs }
         requires families { length graph.old.staging.latest ≡ 1 + (shape extents.old).sections }
@@ -208,6 +216,7 @@ impl Index {
 
     /// Lets these copies count, the oldest first. Where memory is refused some count.
     fn settle(&mut self, copies: &[ChunkCopy]) -> Result<(), AllocError>
+        requires { marks_in self.old.format ≡ true }
         ensures settled { OnOk result (IsSettled self.old (newest_copies copies.now) self.new) }
         ensures runs { self.new.runs ≡ self.old.runs }
     {
@@ -219,6 +228,7 @@ impl Index {
 
     /// Lets a copy count, where its chunk still lies where it was copied from.
     fn settle_one(&mut self, copy: ChunkCopy) -> Result<(), AllocError>
+        requires { marks_in self.old.format ≡ true }
         ensures settled { OnOk result (IsSettled self.old (copy_of copy ∷ []) self.new) }
         ensures runs { self.new.runs ≡ self.old.runs }
     {

@@ -1,6 +1,7 @@
 //! The index of a store.
 ghost use Rattle.std.specs.Prelude.{◌≡◌, ◌≢◌, ℕ, ◌+◌, ◌<◌, ◌≤◌, ◌^◌, ◌⊎◌, ◌↔◌, ◌==◌, [], IfErr, IfOk, IfSome, IsOk, IsTrue, MatchOption, OnErr, OnOk, None, Some, MatchBool, length, map, option_copied, option_map, true, false};
 ghost use Rattle.std.specs.List.{AllByRecursion};
+ghost use Rattle.cs_frame.specs.Locators.{KeepFormat};
 ghost use Rattle.cs_frame.specs.Runs.{IsRun};
 ghost use Rattle.cs_model.specs.Index.{FirstLive, NothingLive, entries_of, live_at, lookup, names};
 ghost use Rattle.cs_model.specs.Tally.{lives_on, one_if_some};
@@ -30,6 +31,8 @@ pub struct Index {
     pub(crate) living: usize,
     /// How many chunks live on each extent that a store can have.
     pub(crate) on: Vec<u32>,
+    /// The format of the store.
+    pub(crate) format: u8,
     /// How many may have one.
     pub(crate) limit: usize,
     /// So many more entries of the table have their place already.
@@ -45,22 +48,28 @@ impl Model for Index {
 
     ghost Value = { State };
 
-    ghost view = { λ x. state_of x.table.entries.items x.runs.items x.limit x.room };
+    ghost view = { λ x. state_of x.table.entries.items x.runs.items x.format x.limit x.room };
 
-    ghost invariant = { λ x. IsHeld (state_of x.table.entries.items x.runs.items x.limit x.room) x.table.entries.items x.named x.living x.on.items (vec_len x.table.entries) (vec_capacity x.table.entries) x.cleared };
+    ghost invariant = { λ x. IsHeld (state_of x.table.entries.items x.runs.items x.format x.limit x.room) x.table.entries.items x.named x.living x.on.items (vec_len x.table.entries) (vec_capacity x.table.entries) x.cleared };
 }
 
 impl Index {
-    /// The index of these runs, oldest first, with an empty table. `limit` is how many identifiers may have an entry:
-    /// as many as one run in one extent can have.
+    /// The index of these runs, oldest first, with an empty table, in a store of this format. `limit` is how many identifiers may have an
+    /// entry: as many as one run in one extent can have.
     ///
     /// 43 `NotAStore` where the runs name more, then 9 `OutOfMemory`. Asks for the memory of a number for each extent that a store can
     /// have. Seeks each entry among the older runs, and then reads all in order.
-    pub fn load(alloc: Global, limit: usize, runs: Vec<StoredRun>) -> Result<Index, Refusal>
+    pub fn load(
+        alloc: Global,
+        format: u8,
+        limit: usize,
+        runs: Vec<StoredRun>,
+    ) -> Result<Index, Refusal>
         requires few { length runs.items ≤ 24 }
-        requires runs { AllByRecursion (λ run. IsRun (record { entries = run.entries })) runs.items }
+        requires runs { AllByRecursion (λ run. IsRun format (record { entries = run.entries })) runs.items }
+        requires places { KeepFormat format (map (λ run. run.place) runs.items) }
         requires limit { limit < 2 ^ 29 }
-        ensures loaded { IfOk result (λ x. x ≡ record { table = []; runs = newest_first runs.items; limit = limit; room = 0 }) }
+        ensures loaded { IfOk result (λ x. x ≡ record { table = []; runs = newest_first runs.items; format = format; limit = limit; room = 0 }) }
         ensures full { (result ≡ Err Refusal.NotAStore) ↔ (limit < names (entries_of (newest_first runs.items))) }
         ensures refusals { IfErr result (λ r. (r ≡ Refusal.NotAStore) ⊎ (r ≡ Refusal.OutOfMemory)) }
     {
@@ -79,6 +88,7 @@ impl Index {
             named,
             living,
             on,
+            format,
             limit,
             room: 0,
             cleared: NONE_KNOWN,
@@ -90,6 +100,7 @@ impl Index {
     pub fn lookup(&self, id: ShardId) -> Option<&[Locator]>
         ensures last { option_map (map place_of) (option_copied result) ≡ lookup (id_number id) (index_of self.now) }
         ensures short { IfSome result (λ locators. length locators.now ≤ 8) }
+        ensures marks { IfSome result (λ locators. KeepFormat self.now.format locators.now) }
     {
         match find(&self.table.entries, id) {
             Some(locators) => Some(locators),
@@ -146,6 +157,13 @@ impl Index {
         ensures { result ≡ self.now.limit }
     {
         self.limit
+    }
+
+    /// The format of the store.
+    pub fn format(&self) -> u8
+        ensures { result ≡ self.now.format }
+    {
+        self.format
     }
 
     /// How many runs there are, at most 24.
@@ -216,6 +234,7 @@ impl Index {
     /// Gives an identifier other locators in the table.
     pub(crate) fn enter(&mut self, id: ShardId, locators: Places) -> Result<(), AllocError>
         requires short { length locators.items ≤ 8 }
+        requires marks { KeepFormat self.old.format locators.items }
         requires limit { lookup (id_number id) (index_of self.old) ≡ None → names (index_of self.old) < self.old.limit }
         ensures entered { OnOk result (IsSet self.old (id_number id) (map place_of locators.items) self.new) }
         ensures room { self.old.room ≤ self.new.room + 1 }
@@ -250,7 +269,8 @@ impl Index {
     /// 32 `IndexFull` where it has no entry and as many have one as may, then 9 `OutOfMemory`, only where `reserve` left no room and memory
     /// is refused. Costs a search of the table and of each run.
     pub fn set(&mut self, id: ShardId, locators: Places) -> Result<(), Refusal>
-        requires { (1 ≤ length locators.items) × (length locators.items ≤ 8) }
+        requires some { (1 ≤ length locators.items) × (length locators.items ≤ 8) }
+        requires marks { KeepFormat self.old.format locators.items }
         ensures entered { OnOk result (IsSet self.old (id_number id) (map place_of locators.items) self.new) }
         ensures full { (result ≡ Err Refusal.IndexFull) ↔ ((lookup (id_number id) (index_of self.old) ≡ None) × (self.old.limit ≤ names (index_of self.old))) }
         ensures refusals { IfErr result (λ r. (r ≡ Refusal.IndexFull) ⊎ (r ≡ Refusal.OutOfMemory)) }
@@ -312,7 +332,8 @@ impl Index {
         old: &[Locator],
         new: Places,
     ) -> Result<bool, AllocError>
-        requires { (1 ≤ length new.items) × (length new.items ≤ 8) }
+        requires some { (1 ≤ length new.items) × (length new.items ≤ 8) }
+        requires marks { KeepFormat self.old.format new.items }
         ensures answer { IfOk result (λ replaced. IsTrue replaced ↔ (lookup (id_number id) (index_of self.old) ≡ Some (map place_of old.now))) }
         ensures entered { result ≡ Ok true → IsSet self.old (id_number id) (map place_of new.items) self.new }
         ensures kept { result ≡ Ok false → self.new ≡ self.old }

@@ -6,8 +6,9 @@ ghost use Rattle.cs_model.specs.Extents.{ForMerge, ForRun, GoesApart, IsFirst, I
 ghost use Rattle.cs_index.specs.Staged.{run_frame};
 ghost use Rattle.cs_index.specs.State.{IsShort, named_entry};
 
+use crate::stagings::run_pages;
 use cs_extent::Extents;
-use cs_frame::{Run, frame_pages, run_bytes};
+use cs_frame::Run;
 
 /// Whether so many pages fit behind the runs on an extent, which may be filled up.
 fn takes_run(extents: &Extents, pages: usize, extent: usize) -> bool
@@ -86,12 +87,10 @@ pub fn run_goes(extents: &Extents, run: &Run) -> bool
         ((map named_entry run.now.entries.items ≡ []) ⊎ ((e : ℕ) × GoesApart (shape extents.now) (extents_of extents.now) ForRun (length (run_frame extents.now (map named_entry run.now.entries.items))) e))
         ((map named_entry run.now.entries.items ≢ []) × ((e : ℕ) → ¬ GoesApart (shape extents.now) (extents_of extents.now) ForRun (length (run_frame extents.now (map named_entry run.now.entries.items))) e)) }
 {
-    let _extents = extents.extent_count();
     if run.entries.is_empty() {
         return true;
     }
-    let pages = frame_pages(run_bytes(run.entries.len()));
-    run_place(extents, pages).is_some()
+    run_place(extents, run_pages(extents, run)).is_some()
 }
 
 /// The same of one run of all.
@@ -102,10 +101,8 @@ pub fn merge_goes(extents: &Extents, run: &Run) -> bool
         ((map named_entry run.now.entries.items ≡ []) ⊎ ((e : ℕ) × GoesApart (shape extents.now) (extents_of extents.now) ForMerge (length (run_frame extents.now (map named_entry run.now.entries.items))) e))
         ((map named_entry run.now.entries.items ≢ []) × ((e : ℕ) → ¬ GoesApart (shape extents.now) (extents_of extents.now) ForMerge (length (run_frame extents.now (map named_entry run.now.entries.items))) e)) }
 {
-    let _extents = extents.extent_count();
     if run.entries.is_empty() {
         return true;
     }
-    let pages = frame_pages(run_bytes(run.entries.len()));
-    merge_place(extents, pages).is_some()
+    merge_place(extents, run_pages(extents, run)).is_some()
 }

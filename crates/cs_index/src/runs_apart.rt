@@ -8,6 +8,7 @@ ghost use Rattle.cs_extent.specs.State.{extents_of, shape};
 ghost use Rattle.cs_extent.specs.Worn.{IsFrameWornBy};
 ghost use Rattle.cs_frame.specs.Formats.{place_of};
 ghost use Rattle.cs_frame.specs.Geometries.{IsKnown};
+ghost use Rattle.cs_frame.specs.Locators.{KeepFormat};
 ghost use Rattle.cs_frame.specs.Roots.{greatest_runs};
 ghost use Rattle.cs_frame.specs.Runs.{IsRun};
 ghost use Rattle.cs_model.specs.Extents.{GoesApart};
@@ -46,7 +47,7 @@ fn prepare_apart(
     run: &Run,
     older: &[StoredRun],
 ) -> Result<(Vec<[u8; 4096]>, Vec<Locator>), Refusal>
-    requires run { IsRun run.now }
+    requires run { IsRun extents.now.format run.now }
     requires most { length run.now.entries.items ≤ (shape extents.now).most_names }
     requires few { length older.now ≤ 24 }
     requires families { root_family < length graph.old.staging.latest }
@@ -59,7 +60,7 @@ fn prepare_apart(
     ensures rest { graph.new ≡ record graph.old { room = graph.new.room } }
 {
     let _extents = extents.extent_count();
-    let frame = frame_of(alloc, run)?;
+    let frame = frame_of(alloc, extents.geometry().format(), run)?;
     let places = places_above(alloc, older)?;
     if is_last_root(graph) {
         return Err(Refusal::WornOut);
@@ -86,6 +87,7 @@ fn write_apart(
     requires room { length frame.now + 2 ≤ graph.old.room }
     requires commands { commands < 2 ^ 63 }
     requires few { length places.items < greatest_runs extents.old.format }
+    requires marks { KeepFormat extents.old.format places.items }
     requires spare { vec_len places < vec_capacity places }
     ensures staged { IfOk result (λ made. (between : GraphState)
         × IsAppendedBy true extents.old graph.old (reason_of purpose) frame.now made.0 extents.new between
@@ -121,9 +123,10 @@ pub fn stage_run_apart(
     commands: u64,
     purpose: Purpose,
 ) -> Result<(Locator, u64), Refusal>
-    requires run { IsRun run.now }
+    requires run { IsRun extents.old.format run.now }
     requires most { length run.now.entries.items ≤ (shape extents.old).most_names }
     requires few { length older.now < greatest_runs extents.old.format }
+    requires marks { KeepFormat extents.old.format (map (λ run. run.place) older.now) }
     requires placed { (e : ℕ) × GoesApart (shape extents.old) (extents_of extents.old) (reason_of purpose) (length (run_frame extents.old (map named_entry run.now.entries.items))) e }
     requires families { length graph.old.staging.latest ≡ 1 + (shape extents.old).sections }
     requires resets { AreResetsStaged (extents_of extents.old) graph.old.staging }
@@ -155,6 +158,7 @@ pub fn stage_over(
     requires families { root_family < length graph.old.staging.latest }
     requires few { length graph.old.staging.latest ≤ 16 }
     requires runs { length runs.now ≤ greatest_runs format }
+    requires marks { KeepFormat format (map (λ run. run.place) runs.now) }
     requires commands { commands < 2 ^ 63 }
     ensures staged { IfOk result (λ v. IsRootOver format pages_first graph.old graph.new v commands (map (λ run. run.place) runs.now)) }
     ensures families { length graph.new.staging.latest ≡ length graph.old.staging.latest }

@@ -93,6 +93,7 @@ impl Index {
         graph: &mut Graph,
         commands: u64,
     ) -> Result<Option<u64>, Refusal>
+        requires format { self.old.format ≡ (shape extents.old).format }
         requires limit { self.old.limit ≡ (shape extents.old).most_names }
         requires families { length graph.old.staging.latest ≡ 1 + (shape extents.old).sections }
         requires resets { AreResetsStaged (extents_of extents.old) graph.old.staging }
@@ -138,6 +139,7 @@ impl Index {
         requires inside { portion.newest ≤ length self.old.runs }
         requires left { length (drop portion.newest self.old.runs) < greatest_runs extents.old.format }
         requires alone { portion.without_deletions ≡ true → drop portion.newest self.old.runs ≡ [] }
+        requires format { self.old.format ≡ (shape extents.old).format }
         requires limit { self.old.limit ≡ (shape extents.old).most_names }
         requires families { length graph.old.staging.latest ≡ 1 + (shape extents.old).sections }
         requires resets { AreResetsStaged (extents_of extents.old) graph.old.staging }
@@ -166,6 +168,7 @@ impl Index {
     ) -> Result<u64, Refusal>
         requires some { self.old.table ≢ [] }
         requires few { length self.old.runs < greatest_runs extents.old.format }
+        requires format { self.old.format ≡ (shape extents.old).format }
         requires limit { self.old.limit ≡ (shape extents.old).most_names }
         requires families { length graph.old.staging.latest ≡ 1 + (shape extents.old).sections }
         requires resets { AreResetsStaged (extents_of extents.old) graph.old.staging }
@@ -213,6 +216,7 @@ impl Index {
         commands: u64,
         purpose: Purpose,
     ) -> Result<u64, Refusal>
+        requires format { self.old.format ≡ (shape extents.old).format }
         requires limit { self.old.limit ≡ (shape extents.old).most_names }
         requires families { length graph.old.staging.latest ≡ 1 + (shape extents.old).sections }
         requires resets { AreResetsStaged (extents_of extents.old) graph.old.staging }
@@ -252,6 +256,7 @@ impl Index {
         requires inside { portion.newest ≤ length self.old.runs }
         requires left { length (drop portion.newest self.old.runs) < greatest_runs extents.old.format }
         requires alone { portion.without_deletions ≡ true → drop portion.newest self.old.runs ≡ [] }
+        requires format { self.old.format ≡ (shape extents.old).format }
         requires limit { self.old.limit ≡ (shape extents.old).most_names }
         requires families { length graph.old.staging.latest ≡ 1 + (shape extents.old).sections }
         requires resets { AreResetsStaged (extents_of extents.old) graph.old.staging }
@@ -336,13 +341,14 @@ impl Index {
         requires short { AllByRecursion IsShort (map named_entry run.entries.items) }
         requires ids { AllByRecursion (λ entry. IsId entry.0) run.entries.items }
         requires few { length run.entries.items ≤ self.old.limit }
+        requires format { self.old.format ≡ (shape extents.old).format }
         requires limit { self.old.limit ≡ (shape extents.old).most_names }
         requires families { length graph.old.staging.latest ≡ 1 + (shape extents.old).sections }
         requires resets { AreResetsStaged (extents_of extents.old) graph.old.staging }
         requires commands { commands < 2 ^ 63 }
         ensures staged { IfOk result (λ v. (place : Place)
             × IsRunStaged extents.old graph.old (reason_of purpose) (map named_entry run.entries.items) (drop portion.newest self.old.runs) place v commands extents.new graph.new
-            × (self.new ≡ record { table = []; runs = record { place = place; entries = map named_entry run.entries.items } ∷ drop portion.newest self.old.runs; limit = self.old.limit; room = 0 })) }
+            × (self.new ≡ record { table = []; runs = record { place = place; entries = map named_entry run.entries.items } ∷ drop portion.newest self.old.runs; format = self.old.format; limit = self.old.limit; room = 0 })) }
         ensures resets { AreResetsStaged (extents_of extents.new) graph.new.staging }
         ensures families { length graph.new.staging.latest ≡ length graph.old.staging.latest }
         ensures why { IsExact result (NoPlace (shape extents.old) (extents_of extents.old) (reason_of purpose) (length (run_frame extents.old (map named_entry run.entries.items))))
@@ -385,7 +391,7 @@ impl Index {
     /// Lets all entries go, of which none lives.
     pub(crate) fn become_empty(&mut self, alloc: Global)
         requires { (id : ℕ) → live_at (index_of self.old) id ≡ [] }
-        ensures { self.new ≡ record { table = []; runs = []; limit = self.old.limit; room = 0 } }
+        ensures { self.new ≡ record { table = []; runs = []; format = self.old.format; limit = self.old.limit; room = 0 } }
     {
         self.table = Run {
             entries: Vec::new(alloc),

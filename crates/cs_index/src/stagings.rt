@@ -5,12 +5,14 @@ ghost use Rattle.cs_deps.specs.State.{State as GraphState};
 ghost use Rattle.cs_extent.specs.Appended.{IsAppended};
 ghost use Rattle.cs_extent.specs.Frames.{AreResetsStaged, root_family};
 ghost use Rattle.cs_extent.specs.Purposes.{reason_of};
-ghost use Rattle.cs_extent.specs.State.{extents_of, shape};
+ghost use Rattle.cs_extent.specs.State.{State as ExtentsState, extents_of, shape};
 ghost use Rattle.cs_extent.specs.Worn.{IsFrameWorn};
+ghost use Rattle.cs_frame.specs.FormatRuns.{run_size};
 ghost use Rattle.cs_frame.specs.Frames.{page_count};
-ghost use Rattle.cs_frame.specs.Geometries.{IsKnown, run_bytes};
+ghost use Rattle.cs_frame.specs.Geometries.{IsKnown};
+ghost use Rattle.cs_frame.specs.Locators.{KeepFormat};
 ghost use Rattle.cs_frame.specs.Roots.{greatest_runs};
-ghost use Rattle.cs_frame.specs.Runs.{IsRun};
+ghost use Rattle.cs_frame.specs.Runs.{IsRun, entries_of};
 ghost use Rattle.cs_model.specs.Extents.{NoPlace, Placed};
 ghost use Rattle.cs_model.specs.Geometry.{pages_first_in};
 ghost use Rattle.cs_index.specs.Staged.{IsExact, IsRootOver, IsRootWorn, IsRunStaged, IsWhy, run_frame};
@@ -21,7 +23,7 @@ use crate::runs::StoredRun;
 use cs_deps::{Graph, LAST_NUMBER, Refusal};
 use cs_extent::{Extents, Purpose, ROOT, root_needs};
 use cs_frame::{
-    FrameKind, Locator, Root, Run, encode_frame, encode_root, encode_run, frame_pages, run_bytes,
+    FrameKind, Locator, Root, Run, encode_frame, encode_root, encode_run, frame_pages, run_size,
 };
 use std::alloc::{AllocError, Global};
 
@@ -50,6 +52,7 @@ pub fn stage_root(
     requires number { ¬ IsRootWorn graph.old.staging }
     requires commands { commands < 2 ^ 63 }
     requires places { length places.items ≤ greatest_runs format }
+    requires marks { KeepFormat format places.items }
     ensures staged { IsRootOver format pages_first graph.old graph.new result commands places.items }
     ensures families { length graph.new.staging.latest ≡ length graph.old.staging.latest }
     ensures rises { slice_index graph.old.staging.latest root_family ≤ slice_index graph.new.staging.latest root_family }
@@ -69,14 +72,14 @@ pub fn stage_root(
     }
 }
 
-/// The pages that spell a run.
-pub fn frame_of(alloc: Global, run: &Run) -> Result<Vec<[u8; 4096]>, AllocError>
-    requires run { IsRun run.now }
-    requires most { run_bytes (length run.now.entries.items) < 2 ^ 32 }
-    ensures frame { IfOk result (λ frame. (x : _) → frame.items ≡ run_frame x (map named_entry run.now.entries.items)) }
-    ensures count { IfOk result (λ frame. length frame.items ≡ page_count (run_bytes (length run.now.entries.items))) }
+/// The pages that spell a run in this format.
+pub fn frame_of(alloc: Global, format: u8, run: &Run) -> Result<Vec<[u8; 4096]>, AllocError>
+    requires run { IsRun format run.now }
+    requires most { run_size format (entries_of run.now.entries.items) < 2 ^ 32 }
+    ensures frame { IfOk result (λ frame. (x : ExtentsState) → x.format ≡ format → frame.items ≡ run_frame x (map named_entry run.now.entries.items)) }
+    ensures count { IfOk result (λ frame. length frame.items ≡ page_count (run_size format (entries_of run.now.entries.items))) }
 {
-    let payload = encode_run(alloc, run)?;
+    let payload = encode_run(alloc, format, run)?;
     encode_frame(alloc, FrameKind::Run, &payload)
 }
 
@@ -101,6 +104,16 @@ fn has_place(extents: &Extents, pages: usize, purpose: Purpose) -> bool
     extents.fits(&[pages], purpose)
 }
 
+/// How many pages the frame of a run has.
+pub fn run_pages(extents: &Extents, run: &Run) -> usize
+    requires short { AllByRecursion IsShort (map named_entry run.now.entries.items) }
+    requires most { length run.now.entries.items ≤ (shape extents.now).most_names }
+    ensures count { result ≡ length (run_frame extents.now (map named_entry run.now.entries.items)) }
+    ensures fits { (1 ≤ result) × (result ≤ (shape extents.now).pages) }
+{
+    frame_pages(run_size(extents.geometry().format(), run))
+}
+
 /// Whether an extent takes the frame of a run.
 pub fn run_fits(extents: &Extents, run: &Run, purpose: Purpose) -> bool
     requires some { 1 ≤ length run.now.entries.items }
@@ -108,9 +121,7 @@ pub fn run_fits(extents: &Extents, run: &Run, purpose: Purpose) -> bool
     requires most { length run.now.entries.items ≤ (shape extents.now).most_names }
     ensures { MatchBool result ((e : ℕ) × Placed (shape extents.now) (extents_of extents.now) (reason_of purpose) (length (run_frame extents.now (map named_entry run.now.entries.items))) e) (NoPlace (shape extents.now) (extents_of extents.now) (reason_of purpose) (length (run_frame extents.now (map named_entry run.now.entries.items)))) }
 {
-    let _extents = extents.extent_count();
-    let pages = frame_pages(run_bytes(run.entries.len()));
-    has_place(extents, pages, purpose)
+    has_place(extents, run_pages(extents, run), purpose)
 }
 
 /// Makes what is written with a run: the pages of its frame, the places of the older runs with room for one more, and
@@ -125,7 +136,7 @@ fn prepare(
     older: &[StoredRun],
     purpose: Purpose,
 ) -> Result<(Vec<[u8; 4096]>, Vec<Locator>), Refusal>
-    requires run { IsRun run.now }
+    requires run { IsRun extents.now.format run.now }
     requires most { length run.now.entries.items ≤ (shape extents.now).most_names }
     requires few { length older.now < greatest_runs extents.now.format }
     requires families { root_family < length graph.old.staging.latest }
@@ -140,7 +151,7 @@ fn prepare(
     ensures rest { graph.new ≡ record graph.old { room = graph.new.room } }
 {
     let _extents = extents.extent_count();
-    let frame = frame_of(alloc, run)?;
+    let frame = frame_of(alloc, extents.geometry().format(), run)?;
     let places = places_of(alloc, older)?;
     if !has_place(extents, frame.len(), purpose) {
         return Err(Refusal::Full);
@@ -170,6 +181,7 @@ fn write_run(
     requires room { length frame.now + 2 ≤ graph.old.room }
     requires commands { commands < 2 ^ 63 }
     requires few { length places.items < greatest_runs extents.old.format }
+    requires marks { KeepFormat extents.old.format places.items }
     requires spare { vec_len places < vec_capacity places }
     ensures staged { IfOk result (λ made. (between : GraphState)
         × IsAppended extents.old graph.old (reason_of purpose) frame.now made.0 extents.new between
@@ -206,9 +218,10 @@ pub fn stage_run(
     commands: u64,
     purpose: Purpose,
 ) -> Result<(Locator, u64), Refusal>
-    requires run { IsRun run.now }
+    requires run { IsRun extents.old.format run.now }
     requires most { length run.now.entries.items ≤ (shape extents.old).most_names }
     requires few { length older.now < greatest_runs extents.old.format }
+    requires marks { KeepFormat extents.old.format (map (λ run. run.place) older.now) }
     requires families { length graph.old.staging.latest ≡ 1 + (shape extents.old).sections }
     requires resets { AreResetsStaged (extents_of extents.old) graph.old.staging }
     requires commands { commands < 2 ^ 63 }

@@ -6,7 +6,7 @@ use Rattle.cs_chunk.proofs.Appends.{frame_begins, has_writes, newest_begins}
 use Rattle.cs_chunk.proofs.Newest.{reads_newest, stand_of}
 use Rattle.cs_chunk.proofs.Putting.{end_behind}
 use Rattle.cs_chunk.proofs.Staying.{stays_appended}
-use Rattle.cs_chunk.specs.Chunks.{AreChunksIn, IsFrameIn, end_in}
+use Rattle.cs_chunk.specs.Chunks.{AreChunksIn, IsFrameIn, IsMeant, end_in}
 use Rattle.cs_chunk.specs.Newest.{AreNewest}
 use Rattle.cs_chunk.specs.Stays.{IsBelow}
 use Rattle.cs_deps.specs.State.{IsWhole, State as Graph}
@@ -19,7 +19,7 @@ use Rattle.cs_frame.specs.Formats.{as_locator, formats_of, place_of}
 use Rattle.cs_index.specs.State.{State, index_of}
 use Rattle.cs_model.proofs.Filled.{reach_low}
 use Rattle.cs_model.proofs.Places.{goes_inside}
-use Rattle.cs_model.specs.Device.{Shape}
+use Rattle.cs_model.specs.Device.{Shape, is_meant, mark_of}
 use Rattle.cs_model.specs.Element.{Locator as Place}
 use Rattle.cs_model.specs.Extents.{Extents, ForMove, reach}
 use Rattle.cs_model.specs.Formats.{ChunkFrame, Stand}
@@ -46,6 +46,7 @@ module _ (x y : ExtentsState) (l : Locator) (c : List ℕ) (same : shape y ≡ s
   in_still view now was stand = (
     omega (arith, was.0, one_end, ap (λ (S : Shape). length ((formats_of S).frame ChunkFrame c)) same),
     subst (λ (S : Shape). Stand S (formats_of S) now l.extent l.page ((formats_of S).frame ChunkFrame c)) (sym same) stand,
+    subst (λ (S : Shape). IsMeant S ChunkFrame l c) (sym same) was.2,
   )
 
   -- and it is below the pointer where it was
@@ -72,8 +73,8 @@ module _ {apart_by : Bool} (x y : ExtentsState) (g h : Graph) (frame : List (Lis
   -- what was appended is there
   pub begins : (c : List ℕ) → frame ≡ chunk_frame x c → IsChunkThere y now to c
   begins c is =
-      let at = subst (λ (f : List (List ℕ)). ((to.page + length f ≤ end_in x to) × Stands f) × IsBelow (extents_of y) to f) is (
-        (omega (arith, (goes_inside (shape x) apart_by (extents_of x) ForMove (length frame) to.extent a.placed).1, page, end), stand),
+      let at = subst (λ (f : List (List ℕ)). ((to.page + length f ≤ end_in x to) × Stands f × (is_meant (shape x) to.mark f ≡ true)) × IsBelow (extents_of y) to f) is (
+        (omega (arith, (goes_inside (shape x) apart_by (extents_of x) ForMove (length frame) to.extent a.placed).1, page, end), stand, eq-eqb (mark_of (shape x) frame) to.mark (sym (ap (λ (l : Locator). l.mark) a.place))),
         (ap (λ (l : Locator). l.generation) a.place ∙ sym (ap (λ (z : Extents). z.generation to.extent) a.extents), (frame_begins x g ForMove frame to y h a (has_writes h kept) whole.found_given).given),
       ) in
       there_still x y to c a.same_shape (found_same to.extent) now now at.0 at.0.1 at.1

@@ -122,6 +122,7 @@ module _ (go : Bool) (k : ℕ) (s t : IndexState) (x y : ExtentsState) (g h : Gr
           was.0.0,
           stand_of (shape x) (formats_of (shape x)) now l.extent l.page (chunk_frame x c)
               (λ i lt. same ((shape x).address l.extent (l.page + i)) ∙ of_stand (shape x) (formats_of (shape x)) view l.extent l.page (chunk_frame x c) was.0.1 i lt),
+          was.0.2,
         ),
         was.1,
       ))

@@ -3,7 +3,9 @@ use Rattle.std.proofs.Common.{◌≡◌, ◌∙◌, ⊎_elim, ℕ, zero, suc, �
 use Rattle.std.proofs.lemmas.Option.{same_Some}
 use Rattle.cs_frame.specs.declared.locators.Locator.{Locator}
 use Rattle.std.specs.Prelude.{MatchOption, false, is_some, slice_set, true}
+use Rattle.std.specs.List.{AllByRecursion}
 use Rattle.cs_frame.specs.Formats.{place_of}
+use Rattle.cs_frame.specs.Locators.{KeepFormat}
 use Rattle.cs_index.proofs.Living.{nth_in}
 use Rattle.cs_index.specs.State.{IsSet, State}
 use Rattle.cs_model.specs.Element.{Entry, Locator as Place}
@@ -26,13 +28,22 @@ replaced_map [] k p = refl
 replaced_map (q ∷ ps) zero p = refl
 replaced_map (q ∷ ps) (suc k) p = ap (λ ls. place_of q ∷ ls) (replaced_map ps k p)
 
+-- with another place that keeps to the format the places of a shard keep to it
+pub replaced_keeps : (format : ℕ) (ps : List Locator) (k : ℕ) (p : Locator) → KeepFormat format ps → KeepFormat format (p ∷ []) → KeepFormat format (slice_set ps k p)
+replaced_keeps format ps k p keep here = λ off. go ps k (keep off) (here off).0
+  where
+    go : (qs : List Locator) (j : ℕ) → AllByRecursion (λ q. q.mark ≡ 0) qs → p.mark ≡ 0 → AllByRecursion (λ q. q.mark ≡ 0) (slice_set qs j p)
+    go [] j all is = tt
+    go (q ∷ qs) zero all is = (is, all.1)
+    go (q ∷ qs) (suc j) all is = (all.0, go qs j all.1 is)
+
 -- what is set after room was made is set
 pub set_from : (s u t : State) (id : ℕ) (ls ms : List Place) → u ≡ record s { room = u.room } → ls ≡ ms → IsSet u id ls t → IsSet s id ms t
 set_from s u t id ls ms is same set =
     roomy u.room (subst (λ (v : State). IsSet v id ms t) is (subst (λ (ps : List Place). IsSet u id ps t) same set))
   where
     roomy : (room : ℕ) → IsSet (record s { room = room }) id ms t → IsSet s id ms t
-    roomy room h = record { table = h.table; index = h.index; runs = h.runs; limit = h.limit }
+    roomy room h = record { table = h.table; index = h.index; runs = h.runs; format = h.format; limit = h.limit }
 
 -- ---- the first live chunk is one
 

@@ -4,7 +4,8 @@ use Rattle.std.proofs.lemmas.Option.{same_Some}
 use Rattle.cs_chunk.proofs.Chunkings.{length-spelled}
 use Rattle.cs_chunk.specs.Reads.{IsCaused, IsReadRefusal}
 use Rattle.cs_deps.specs.declared.refusals.Refusal.{Refusal}
-use Rattle.cs_deps.specs.declared.refusals.Refusal.TheVariants.{DeviceFault, Full, OutOfMemory, WornOut}
+use Rattle.cs_deps.specs.declared.refusals.Refusal.TheVariants.{DeviceFault, Full, Misplaced, OutOfMemory, WornOut}
+use Rattle.cs_deps.specs.Refusals.{number_of}
 use Rattle.cs_deps.specs.Staging.{Staging}
 use Rattle.cs_deps.specs.State.{State as GraphState}
 use Rattle.cs_extent.specs.Appended.{IsAppended}
@@ -64,13 +65,13 @@ module _ (apart : Bool) (x : ExtentsState) (s : Staging) where
 pub not_full : (r : Refusal) → IsReadRefusal r → r ≡ Full → ⊥
 not_full r read is = elim (subst IsReadRefusal is read) [
   | inl none ↦ ⊎_elim (λ (e : Full ≡ DeviceFault). absurd (cc e)) (λ (e : Full ≡ OutOfMemory). absurd (cc e)) none
-  | inr some ↦ absurd (omega (arith, some.1))
+  | inr some ↦ ⊎_elim (λ (n : (20 ≤ number_of Full) × (number_of Full ≤ 24)). absurd (omega (arith, n.1))) (λ (e : Full ≡ Misplaced). absurd (cc e)) some
 ]
 
 pub not_worn : (r : Refusal) → IsReadRefusal r → r ≡ WornOut → ⊥
 not_worn r read is = elim (subst IsReadRefusal is read) [
   | inl none ↦ ⊎_elim (λ (e : WornOut ≡ DeviceFault). absurd (cc e)) (λ (e : WornOut ≡ OutOfMemory). absurd (cc e)) none
-  | inr some ↦ absurd (omega (arith, some.1))
+  | inr some ↦ ⊎_elim (λ (n : (20 ≤ number_of WornOut) × (number_of WornOut ≤ 24)). absurd (omega (arith, n.1))) (λ (e : WornOut ≡ Misplaced). absurd (cc e)) some
 ]
 
 -- ---- what was moved

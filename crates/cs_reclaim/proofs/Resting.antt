@@ -111,6 +111,12 @@ module _ (s t : State) (x y : ExtentsState) (g h : Graph) (v commands : ℕ) (st
       (λ (all : IsFullApart (WritesNewest (shape x) s (takes_apart (shape x) s)) x ForRun × IsNewestStagedApart (length s.runs) s x g ForMerge v commands t y h). all.1.limit)
       staged
 
+  pub staged_format : t.format ≡ s.format
+  staged_format = ⊎_elim
+      (λ (one : IsNewestStagedApart (takes_apart (shape x) s) s x g ForRun v commands t y h). one.format)
+      (λ (all : IsFullApart (WritesNewest (shape x) s (takes_apart (shape x) s)) x ForRun × IsNewestStagedApart (length s.runs) s x g ForMerge v commands t y h). all.1.format)
+      staged
+
   pub staged_root : root_family < length h.staging.latest → slice_index h.staging.latest root_family ≡ v
   staged_root families = ⊎_elim
       (λ (one : IsNewestStagedApart (takes_apart (shape x) s) s x g ForRun v commands t y h).

@@ -127,7 +127,7 @@ impl Copies {
     /// bytes with `Purpose::Move`, and notes where it is. The chunk counts where it lay. Answers the identifier and the number of the
     /// chunk, counted from 0, or None where all are copied. The search goes on in the index behind the last copy.
     ///
-    /// 1 `DeviceFault` and 20 to 24 as `read_frame`, then 30 `Full`, then 35 `WornOut`; 9 `OutOfMemory` may come instead of
+    /// 1 `DeviceFault`, 20 to 24 and 26 as `read_frame`, then 30 `Full`, then 35 `WornOut`; 9 `OutOfMemory` may come instead of
     /// any. After a refusal nothing has changed but room for more.
     pub fn copy_one<D: PageDisk>(
         &mut self,

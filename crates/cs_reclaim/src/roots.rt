@@ -33,6 +33,7 @@ impl Copies {
         graph: &mut Graph,
         commands: u64,
     ) -> Result<Option<u64>, Refusal>
+        requires format { index.old.format ≡ (shape extents.old).format }
         requires limit { index.old.limit ≡ (shape extents.old).most_names }
         requires runs { length index.old.runs ≤ (shape extents.old).most_runs }
         requires families { length graph.old.staging.latest ≡ 1 + (shape extents.old).sections }
@@ -51,6 +52,7 @@ impl Copies {
         ensures resets { AreResetsStaged (extents_of extents.new) graph.new.staging }
         ensures families { length graph.new.staging.latest ≡ length graph.old.staging.latest }
         ensures shape { shape extents.new ≡ shape extents.old }
+        ensures format { index.new.format ≡ index.old.format }
         ensures limit { index.new.limit ≡ index.old.limit }
 
         ensures why { IsExact result (MayStageRoot (shape extents.old) (extents_of extents.old) index.old self.old × IsStageFullApart index.old extents.old)
@@ -77,6 +79,7 @@ impl Copies {
         graph: &mut Graph,
         commands: u64,
     ) -> Result<u64, Refusal>
+        requires format { index.old.format ≡ (shape extents.old).format }
         requires limit { index.old.limit ≡ (shape extents.old).most_names }
         requires runs { length index.old.runs ≤ (shape extents.old).most_runs }
         requires families { length graph.old.staging.latest ≡ 1 + (shape extents.old).sections }
@@ -87,6 +90,7 @@ impl Copies {
         ensures resets { AreResetsStaged (extents_of extents.new) graph.new.staging }
         ensures families { length graph.new.staging.latest ≡ length graph.old.staging.latest }
         ensures shape { shape extents.new ≡ shape extents.old }
+        ensures format { index.new.format ≡ index.old.format }
         ensures limit { index.new.limit ≡ index.old.limit }
         ensures why { IsExact result (IsStageFullApart index.old extents.old) (IsStageWornApart index.old extents.old graph.old.staging) }
         ensures refused { OnErr result (index.new ≡ index.old) }
@@ -144,6 +148,8 @@ impl Copies {
         requires swept { IsSweptApart (shape extents.old) (extents_of extents.old) extent }
         requires order { AreInOrder self.old }
         requires up_to { AllUpTo (index_of index.old) self.old extent }
+        requires apart { (shape extents.old).apart ≡ true }
+        requires format { index.old.format ≡ (shape extents.old).format }
         requires limit { index.old.limit ≡ (shape extents.old).most_names }
         requires runs { length index.old.runs ≤ (shape extents.old).most_runs }
         requires families { length graph.old.staging.latest ≡ 1 + (shape extents.old).sections }
@@ -166,6 +172,7 @@ impl Copies {
         ensures resets { AreResetsStaged (extents_of extents.new) graph.new.staging }
         ensures families { length graph.new.staging.latest ≡ length graph.old.staging.latest }
         ensures shape { shape extents.new ≡ shape extents.old }
+        ensures format { index.new.format ≡ index.old.format }
         ensures limit { index.new.limit ≡ index.old.limit }
     {
         // Called for its contract alone: what all extents keep.
@@ -194,6 +201,8 @@ impl Copies {
         commands: u64,
         last: bool,
     ) -> Result<u64, Refusal>
+        requires apart { (shape extents.old).apart ≡ true }
+        requires format { index.old.format ≡ (shape extents.old).format }
         requires limit { index.old.limit ≡ (shape extents.old).most_names }
         requires runs { length index.old.runs ≤ (shape extents.old).most_runs }
         requires families { length graph.old.staging.latest ≡ 1 + (shape extents.old).sections }
@@ -209,6 +218,7 @@ impl Copies {
         ensures resets { AreResetsStaged (extents_of extents.new) graph.new.staging }
         ensures families { length graph.new.staging.latest ≡ length graph.old.staging.latest }
         ensures shape { shape extents.new ≡ shape extents.old }
+        ensures format { index.new.format ≡ index.old.format }
         ensures limit { index.new.limit ≡ index.old.limit }
     {
         let root = match index.stage_settled(extents, graph, commands, &self.made, last) {

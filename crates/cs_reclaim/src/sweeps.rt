@@ -11,6 +11,7 @@ ghost use Rattle.cs_extent.specs.Worn.{IsFrameWorn};
 ghost use Rattle.cs_frame.specs.declared.frames.FrameKind.TheVariants.{Chunk};
 ghost use Rattle.cs_frame.specs.declared.locators.Locator.{Locator as Spot};
 ghost use Rattle.cs_frame.specs.Formats.{as_locator, place_of};
+ghost use Rattle.cs_frame.specs.Locators.{KeepFormat};
 ghost use Rattle.cs_index.specs.Staged.{IsExact, IsWhy};
 ghost use Rattle.cs_index.specs.State.{IsSet, id_number, index_of};
 ghost use Rattle.cs_model.specs.Element.{Locator as Place};
@@ -87,7 +88,7 @@ impl Sweep {
     /// counted from 0, or None where nothing is live there. Frames of other extents aren't read. The search goes on in the
     /// index from where the last one on this extent ended, as `Index::first_live` does.
     ///
-    /// 1 `DeviceFault` and 20 to 24 as `read_frame`, then 30 `Full`, then 35 `WornOut`; 9 `OutOfMemory` may come instead of
+    /// 1 `DeviceFault`, 20 to 24 and 26 as `read_frame`, then 30 `Full`, then 35 `WornOut`; 9 `OutOfMemory` may come instead of
     /// any. After a refusal nothing has changed but room for more.
     pub fn move_one<D: PageDisk>(
         &self,
@@ -98,6 +99,7 @@ impl Sweep {
         disk: &mut D,
     ) -> Result<Option<(ShardId, usize)>, Refusal>
         requires swept { IsSwept (shape extents.old) (extents_of extents.old) self.now }
+        requires format { index.old.format ≡ (shape extents.old).format }
         requires there { (id : ℕ) (l : Place) → l ∈ live_at (index_of index.old) id → (l.extent < (shape extents.old).extents) × (l.page < (shape extents.old).pages) }
         requires device { 2 + (shape extents.old).extents * (shape extents.old).pages ≤ D.page_count disk.old }
         requires families { length graph.old.staging.latest ≡ 1 + (shape extents.old).sections }
@@ -131,6 +133,7 @@ impl Sweep {
         ensures resets { AreResetsStaged (extents_of extents.new) graph.new.staging }
         ensures families { length graph.new.staging.latest ≡ length graph.old.staging.latest }
         ensures shape { shape extents.new ≡ shape extents.old }
+        ensures format { index.new.format ≡ index.old.format }
         ensures limit { index.new.limit ≡ index.old.limit }
 
         // The disk is only read.
@@ -161,6 +164,7 @@ impl Sweep {
         commands: u64,
     ) -> Result<u64, (Refusal, Sweep)>
         requires swept { IsSwept (shape extents.old) (extents_of extents.old) self }
+        requires format { index.old.format ≡ (shape extents.old).format }
         requires limit { index.old.limit ≡ (shape extents.old).most_names }
         requires families { length graph.old.staging.latest ≡ 1 + (shape extents.old).sections }
         requires resets { AreResetsStaged (extents_of extents.old) graph.old.staging }
@@ -185,6 +189,7 @@ impl Sweep {
         ensures resets { AreResetsStaged (extents_of extents.new) graph.new.staging }
         ensures families { length graph.new.staging.latest ≡ length graph.old.staging.latest }
         ensures shape { shape extents.new ≡ shape extents.old }
+        ensures format { index.new.format ≡ index.old.format }
         ensures limit { index.new.limit ≡ index.old.limit }
     {
         match retire_extent(self.extent, index, extents, graph, commands) {
@@ -224,6 +229,7 @@ fn move_live<D: PageDisk>(
     live: &LiveChunk,
 ) -> Result<(), Refusal>
     requires there { nth (live_at (index_of index.old) (id_number live.now.id)) live.now.chunk ≡ Some (place_of live.now.place) }
+    requires format { index.old.format ≡ (shape extents.old).format }
     requires extent { live.now.place.extent < (shape extents.old).extents }
     requires page { live.now.place.page < (shape extents.old).pages }
     requires device { 2 + (shape extents.old).extents * (shape extents.old).pages ≤ D.page_count disk.old }
@@ -244,6 +250,7 @@ fn move_live<D: PageDisk>(
     ensures resets { AreResetsStaged (extents_of extents.new) graph.new.staging }
     ensures families { length graph.new.staging.latest ≡ length graph.old.staging.latest }
     ensures shape { shape extents.new ≡ shape extents.old }
+    ensures format { index.new.format ≡ index.old.format }
     ensures limit { index.new.limit ≡ index.old.limit }
     ensures disk { OnlyReads D.PageDisk disk.old disk.new }
     ensures cause { IsCaused (D.failure_count disk.old) (D.failure_count disk.new) result }
@@ -268,6 +275,7 @@ fn move_to(
     frame: &[[u8; 4096]],
 ) -> Result<(), Refusal>
     requires there { nth (live_at (index_of index.old) (id_number live.now.id)) live.now.chunk ≡ Some (place_of live.now.place) }
+    requires format { index.old.format ≡ (shape extents.old).format }
     requires pages { (1 ≤ length frame.now) × (length frame.now ≤ (shape extents.old).pages) }
     requires families { length graph.old.staging.latest ≡ 1 + (shape extents.old).sections }
     requires resets { AreResetsStaged (extents_of extents.old) graph.old.staging }
@@ -279,6 +287,7 @@ fn move_to(
     ensures resets { AreResetsStaged (extents_of extents.new) graph.new.staging }
     ensures families { length graph.new.staging.latest ≡ length graph.old.staging.latest }
     ensures shape { shape extents.new ≡ shape extents.old }
+    ensures format { index.new.format ≡ index.old.format }
     ensures limit { index.new.limit ≡ index.old.limit }
 {
     let before = match places_with_room(alloc, index, live.id) {
@@ -323,6 +332,7 @@ fn append_moved(
 fn point_at(index: &mut Index, id: ShardId, before: &[Locator], after: Places)
     requires before { lookup (id_number id) (index_of index.old) ≡ Some (map place_of before.now) }
     requires after { (1 ≤ length after.items) × (length after.items ≤ 8) }
+    requires marks { KeepFormat index.old.format after.items }
     requires room { 0 < index.old.room }
     ensures { IsSet index.old (id_number id) (map place_of after.items) index.new }
 {
@@ -336,6 +346,7 @@ fn point_at(index: &mut Index, id: ShardId, before: &[Locator], after: Places)
 fn places_with_room(alloc: Global, index: &mut Index, id: ShardId) -> Result<Places, Refusal>
     ensures places { IfOk result (λ places. map place_of places.items ≡ live_at (index_of index.old) (id_number id)) }
     ensures short { IfOk result (λ places. length places.items ≤ 8) }
+    ensures marks { IfOk result (λ places. KeepFormat index.old.format places.items) }
     ensures room { OnOk result (0 < index.new.room) }
     ensures rest { index.new ≡ record index.old { room = index.new.room } }
     ensures refusals { IfErr result (λ r. r ≡ Refusal.OutOfMemory) }
@@ -348,6 +359,7 @@ fn places_with_room(alloc: Global, index: &mut Index, id: ShardId) -> Result<Pla
 fn places_of(alloc: Global, index: &Index, id: ShardId) -> Result<Places, Refusal>
     ensures places { IfOk result (λ places. map place_of places.items ≡ live_at (index_of index.now) (id_number id)) }
     ensures short { IfOk result (λ places. length places.items ≤ 8) }
+    ensures marks { IfOk result (λ places. KeepFormat index.now.format places.items) }
     ensures refusals { IfErr result (λ r. r ≡ Refusal.OutOfMemory) }
 {
     match index.lookup(id) {
@@ -365,6 +377,7 @@ fn retire_extent(
     commands: u64,
 ) -> Result<u64, Refusal>
     requires swept { IsSwept (shape extents.old) (extents_of extents.old) extent }
+    requires format { index.old.format ≡ (shape extents.old).format }
     requires limit { index.old.limit ≡ (shape extents.old).most_names }
     requires families { length graph.old.staging.latest ≡ 1 + (shape extents.old).sections }
     requires resets { AreResetsStaged (extents_of extents.old) graph.old.staging }
@@ -381,6 +394,7 @@ fn retire_extent(
     ensures resets { AreResetsStaged (extents_of extents.new) graph.new.staging }
     ensures families { length graph.new.staging.latest ≡ length graph.old.staging.latest }
     ensures shape { shape extents.new ≡ shape extents.old }
+    ensures format { index.new.format ≡ index.old.format }
     ensures limit { index.new.limit ≡ index.old.limit }
 {
     let _extents = extents.extent_count();

@@ -8,7 +8,7 @@ use Rattle.cs_index.proofs.counts.add_places.Goals as goal
 
 -- a place that stands for none
 abbrev nowhere : Locator
-nowhere = record { extent = 0; page = 0; generation = 0 }
+nowhere = record { extent = 0; page = 0; generation = 0; mark = 0 }
 
 pub loop-k-init : goal.loop-k-init
 loop-k-init c = record { size = refl; each = λ e lt. omega arith }

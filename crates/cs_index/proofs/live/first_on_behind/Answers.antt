@@ -6,7 +6,7 @@ use Rattle.cs_index.proofs.live.first_on_behind.Goals as goal
 
 -- a place that stands for none
 abbrev nowhere : Locator
-nowhere = record { extent = 0; page = 0; generation = 0 }
+nowhere = record { extent = 0; page = 0; generation = 0; mark = 0 }
 
 pub returns-then-is_on_behind : goal.returns-then-is_on_behind
 returns-then-is_on_behind c = found_between c.args.places.now c.loop-k.k c.args.last c.args.extent nowhere c.loop-k-test.true (c.is_on_behind.ensures.0 c.if-is_on_behind.true) c.loop-k.invariant

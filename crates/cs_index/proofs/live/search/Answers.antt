@@ -26,8 +26,8 @@ offset_bounds-places-chunk c =
 
 pub returns-in-Some-first_on-clause-found : goal.returns-in-Some-first_on-clause-found
 returns-in-Some-first_on-clause-found c =
-    subst (λ (es : List Entry). FirstLive es c.args.extent (id_number c.in-Some.id) c.in-Some-first_on.chunk (place_of (slice_index_or c.in-Some.places.now c.in-Some-first_on.chunk (record { extent = 0; page = 0; generation = 0 })))) c.loop-id.invariant.index
-    (first_there c.loop-id.read.index c.loop-id.read.after c.args.extent c.loop-id.invariant.none (id_number c.in-Some.id) c.in-Some.places.now c.in-Some.ensures.next c.in-Some-first_on.chunk (record { extent = 0; page = 0; generation = 0 }) c.in-Some-first_on.ensures)
+    subst (λ (es : List Entry). FirstLive es c.args.extent (id_number c.in-Some.id) c.in-Some-first_on.chunk (place_of (slice_index_or c.in-Some.places.now c.in-Some-first_on.chunk (record { extent = 0; page = 0; generation = 0; mark = 0 })))) c.loop-id.invariant.index
+    (first_there c.loop-id.read.index c.loop-id.read.after c.args.extent c.loop-id.invariant.none (id_number c.in-Some.id) c.in-Some.places.now c.in-Some.ensures.next c.in-Some-first_on.chunk (record { extent = 0; page = 0; generation = 0; mark = 0 }) c.in-Some-first_on.ensures)
 
 pub loop-id-preserved : goal.loop-id-preserved
 loop-id-preserved c = rw (c.in-Some.ensures.read) (record {

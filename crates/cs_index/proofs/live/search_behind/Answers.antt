@@ -29,7 +29,7 @@ pub returns-in-Some-first_on : goal.returns-in-Some-first_on
 returns-in-Some-first_on c =
     first_after_there c.args.entries.index (option_map id_number c.args.after) c.loop-id.read.after c.args.extent c.loop-id.invariant.none c.loop-id.invariant.later (id_number c.in-Some.id) c.in-Some.places.now
     (subst (λ (es : List Entry). IsNext es c.loop-id.read.after (Some (record { id = id_number c.in-Some.id; locators = map place_of c.in-Some.places.now }))) c.loop-id.invariant.index c.in-Some.ensures.next)
-    c.in-Some-first_on.chunk (record { extent = 0; page = 0; generation = 0 }) (first_inside c.in-Some.places.now c.args.extent c.in-Some-first_on.chunk c.in-Some-first_on.ensures) c.in-Some-first_on.ensures
+    c.in-Some-first_on.chunk (record { extent = 0; page = 0; generation = 0; mark = 0 }) (first_inside c.in-Some.places.now c.args.extent c.in-Some-first_on.chunk c.in-Some-first_on.ensures) c.in-Some-first_on.ensures
 
 pub loop-id-preserved : goal.loop-id-preserved
 loop-id-preserved c =

@@ -1,4 +1,4 @@
-use Rattle.std.proofs.Common.{◌≡◌, ap, arith, length, subst, List}
+use Rattle.std.proofs.Common.{◌≡◌, ap, arith, length, subst, sym, List}
 use Rattle.std.specs.Prelude.{slice_index}
 use Rattle.std.proofs.lemmas.Bool.{false≢true}
 use Rattle.std.proofs.lemmas.List.{length-map}
@@ -6,6 +6,7 @@ use Rattle.cs_deps.specs.State.{State as GraphState}
 use Rattle.cs_extent.specs.Frames.{root_family}
 use Rattle.cs_frame.proofs.RootLaws.{most_runs}
 use Rattle.cs_frame.specs.declared.locators.Locator.{Locator}
+use Rattle.cs_frame.specs.Locators.{KeepFormat}
 use Rattle.cs_index.specs.Staged.{IsRootOver}
 use Rattle.cs_index.proofs.Rooted.{root_over}
 use Rattle.cs_index.proofs.runs_apart.stage_over.Goals as goal
@@ -31,3 +32,6 @@ returns-then-is_last_root-clause-why c = ((λ none. none), c.is_last_root.ensure
 
 pub returns-clause-why : goal.returns-clause-why
 returns-clause-why c = ((λ none. none), (λ worn. false≢true (c.if-is_last_root.ensures.1 worn)))
+
+pub stage_root-requires-clause-marks : goal.stage_root-requires-clause-marks
+stage_root-requires-clause-marks c = subst (λ (ls : List Locator). KeepFormat c.args.format ls) (sym c.in_ok-places.ensures.places) c.requires.marks

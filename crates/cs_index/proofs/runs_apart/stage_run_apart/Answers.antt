@@ -1,4 +1,4 @@
-use Rattle.std.proofs.Common.{◌∙◌, ap, arith, inl, length, map, subst, sym, true, ℕ}
+use Rattle.std.proofs.Common.{◌∙◌, ap, arith, inl, length, map, subst, sym, true, ℕ, List}
 use Rattle.std.proofs.lemmas.List.{length-map}
 use Rattle.std.proofs.lemmas.Result.{IfOk-weaker, err_from_is_err_and}
 use Rattle.cs_deps.specs.Staging.{Staging}
@@ -7,6 +7,8 @@ use Rattle.cs_extent.specs.Purposes.{reason_of}
 use Rattle.cs_extent.specs.State.{extents_of, shape}
 use Rattle.cs_extent.specs.Worn.{IsFrameWornBy}
 use Rattle.cs_frame.proofs.RootLaws.{most_runs}
+use Rattle.cs_frame.specs.declared.locators.Locator.{Locator}
+use Rattle.cs_frame.specs.Locators.{KeepFormat}
 use Rattle.cs_model.specs.Extents.{GoesApart}
 use Rattle.cs_index.specs.Staged.{IsExact, IsRootWorn, run_frame}
 use Rattle.cs_index.proofs.Chosen.{written_apart}
@@ -45,3 +47,6 @@ returns-clause-why c =
     written_apart c.write_apart.result (IsRootWorn c.args.graph.now.staging) (IsFrameWornBy true c.args.extents.now reason c.args.graph.now.staging (length frame)) c.in_ok-frame.ensures.why.1
     (subst (λ (s : Staging). IsExact c.write_apart.result ⊥ (IsFrameWornBy true c.args.extents.now reason s (length frame))) (ap (λ (h : GraphState). h.staging) c.in_ok-frame.ensures.rest)
     (subst (λ (k : ℕ). IsExact c.write_apart.result ⊥ (IsFrameWornBy true c.args.extents.now reason c.prepare_apart.new.graph.staging k)) (ap length (c.deref.ensures.value ∙ c.in_ok-frame.ensures.frame)) c.write_apart.ensures.why))
+
+pub write_apart-requires-clause-marks : goal.write_apart-requires-clause-marks
+write_apart-requires-clause-marks c = subst (λ (ls : List Locator). KeepFormat c.args.extents.now.format ls) (sym c.in_ok-frame.ensures.places) c.requires.marks

@@ -2,6 +2,7 @@ use Rattle.std.proofs.Common.{List, ap, arith, length, subst}
 use Rattle.cs_frame.specs.declared.locators.Locator.{Locator}
 use Rattle.cs_frame.proofs.RootLaws.{fewest_runs}
 use Rattle.cs_index.specs.Staged.{IsRootOver}
+use Rattle.cs_index.proofs.Marks.{none_keep}
 use Rattle.cs_index.proofs.Rooted.{root_over}
 use Rattle.cs_index.proofs.stagings.stage_empty.Goals as goal
 
@@ -12,3 +13,6 @@ returns-clause-staged c =
 
 pub stage_root-requires-clause-places : goal.stage_root-requires-clause-places
 stage_root-requires-clause-places c = omega (arith, ap length c.new.ensures.items, fewest_runs c.args.format)
+
+pub stage_root-requires-clause-marks : goal.stage_root-requires-clause-marks
+stage_root-requires-clause-marks c = none_keep c.args.format c.new.result.items c.new.ensures.items

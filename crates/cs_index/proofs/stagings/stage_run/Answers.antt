@@ -1,4 +1,4 @@
-use Rattle.std.proofs.Common.{◌≡◌, ◌∙◌, ap, inl, length, map, subst, sym, ℕ, MatchResult}
+use Rattle.std.proofs.Common.{◌≡◌, ◌∙◌, ap, inl, length, map, subst, sym, ℕ, List, MatchResult}
 use Rattle.std.proofs.lemmas.Result.{IfOk-weaker, err_from_is_err_and}
 use Rattle.cs_deps.specs.declared.refusals.Refusal.TheVariants.{WornOut}
 use Rattle.cs_deps.specs.Staging.{Staging}
@@ -6,6 +6,8 @@ use Rattle.cs_deps.specs.State.{State as GraphState}
 use Rattle.cs_extent.specs.Purposes.{reason_of}
 use Rattle.cs_extent.specs.State.{extents_of, shape}
 use Rattle.cs_extent.specs.Worn.{IsFrameWorn}
+use Rattle.cs_frame.specs.declared.locators.Locator.{Locator}
+use Rattle.cs_frame.specs.Locators.{KeepFormat}
 use Rattle.cs_model.specs.Extents.{NoPlace, Placed}
 use Rattle.cs_index.specs.Staged.{IsRootWorn, run_frame}
 use Rattle.cs_index.proofs.Exact.{why_same, written_why}
@@ -38,3 +40,6 @@ returns-clause-why c =
     c.in_ok-frame.ensures.why.0 c.in_ok-frame.ensures.why.1
     (subst (λ (s : Staging). MatchResult c.write_run.result (λ _. IsFrameWorn c.args.extents.now reason s (length frame) → ⊥) (λ f. (f ≡ WornOut) × IsFrameWorn c.args.extents.now reason s (length frame))) (ap (λ (h : GraphState). h.staging) c.in_ok-frame.ensures.rest)
     (subst (λ (k : ℕ). MatchResult c.write_run.result (λ _. IsFrameWorn c.args.extents.now reason c.prepare.new.graph.staging k → ⊥) (λ f. (f ≡ WornOut) × IsFrameWorn c.args.extents.now reason c.prepare.new.graph.staging k)) (ap length (c.deref.ensures.value ∙ c.in_ok-frame.ensures.frame)) c.write_run.ensures.worn))
+
+pub write_run-requires-clause-marks : goal.write_run-requires-clause-marks
+write_run-requires-clause-marks c = subst (λ (ls : List Locator). KeepFormat c.args.extents.now.format ls) (sym c.in_ok-frame.ensures.places) c.requires.marks

@@ -1,11 +1,14 @@
-use Rattle.std.proofs.Common.{◌≡◌, ◌∙◌, ap, arith, length, subst, sym, ℕ}
+use Rattle.std.proofs.Common.{◌≡◌, ◌∙◌, [], ◌∷◌, ◌++◌, List, ap, arith, length, subst, sym, ℕ}
 use Rattle.cs_extent.specs.Purposes.{reason_of}
 use Rattle.cs_extent.specs.State.{extents_of, shape}
 use Rattle.cs_extent.specs.Worn.{IsFrameWorn}
 use Rattle.cs_model.specs.Extents.{Placed}
+use Rattle.cs_frame.specs.declared.locators.Locator.{Locator}
 use Rattle.cs_frame.specs.Geometries.{IsKnown}
+use Rattle.cs_frame.specs.Locators.{KeepFormat}
 use Rattle.cs_frame.specs.Roots.{greatest_runs}
 use Rattle.cs_index.proofs.Exact.{append_worn}
+use Rattle.cs_index.proofs.Marks.{more_keep, placed_keeps}
 use Rattle.cs_index.proofs.Rooted.{frame_below}
 use Rattle.cs_index.proofs.stagings.write_run.Goals as goal
 
@@ -30,3 +33,9 @@ pub stage_root-version-requires-clause-places : goal.stage_root-version-requires
 stage_root-version-requires-clause-places c =
     let same : greatest_runs c.format-format.result ≡ greatest_runs c.args.extents.now.format = ap (λ (f : ℕ). greatest_runs f) (c.format-format.ensures.format ∙ c.geometry.ensures.format) in
     omega (arith, c.requires.few, c.push_reserved.ensures.len, c.push_reserved.new.self.ok.0, c.args.places.ok.0, same)
+
+pub stage_root-version-requires-clause-marks : goal.stage_root-version-requires-clause-marks
+stage_root-version-requires-clause-marks c =
+    subst (λ (ls : List Locator). KeepFormat c.format-format.result ls) (sym c.push_reserved.ensures.items)
+    (subst (λ (f : ℕ). KeepFormat f (c.args.places.items ++ c.in-Ok.place ∷ [])) (sym (c.format-format.ensures.format ∙ c.geometry.ensures.format))
+    (more_keep c.args.extents.now.format c.args.places.items c.in-Ok.place c.requires.marks (placed_keeps c.args.extents.now c.args.frame.now c.in-Ok.place c.in-Ok.ensures.locator)))

@@ -1,10 +1,13 @@
-use Rattle.std.proofs.Common.{◌≡◌, ◌∙◌, List, ap, map}
+use Rattle.std.proofs.Common.{◌≡◌, ◌∙◌, List, [], ◌∷◌, ap, map, subst, sym, ℕ}
+use Rattle.cs_frame.specs.declared.locators.Locator.{Locator}
 use Rattle.cs_frame.specs.Formats.{place_of}
-use Rattle.cs_index.specs.State.{id_number, index_of}
+use Rattle.cs_frame.specs.Locators.{KeepFormat}
+use Rattle.cs_index.proofs.Marks.{placed_keeps}
+use Rattle.cs_index.specs.State.{State, id_number, index_of}
 use Rattle.cs_model.specs.Element.{Locator as Place}
 use Rattle.cs_model.specs.Index.{live_at}
 use Rattle.cs_model.specs.Lists.{replaced}
-use Rattle.cs_reclaim.proofs.Living.{replaced_map, set_from}
+use Rattle.cs_reclaim.proofs.Living.{replaced_keeps, replaced_map, set_from}
 use Rattle.cs_reclaim.proofs.sweeps.move_to.Goals as goal
 
 pub returns-clause-moved : goal.returns-clause-moved
@@ -21,3 +24,13 @@ returns-clause-moved c =
           (ap (map place_of) c.set.ensures ∙ replaced_map c.in_ok-after.after.items k p ∙ ap (λ (ls : List Place). replaced ls k (place_of p)) before)
           c.point_at.ensures,
     )
+
+pub point_at-requires-clause-marks : goal.point_at-requires-clause-marks
+point_at-requires-clause-marks c =
+    let p = c.in-Ok-append_moved.place in
+    let before = subst (λ (ls : List Locator). KeepFormat c.args.index.now.format ls) (sym (c.in_ok-after.ensures.same ∙ c.as_slice.ensures.value)) c.in-Ok.ensures.marks in
+    let here = subst (λ (f : ℕ). KeepFormat f (c.in-Ok-append_moved.place ∷ [])) (sym c.requires.format)
+    (placed_keeps c.args.extents.now c.args.frame.now c.in-Ok-append_moved.place c.in-Ok-append_moved.ensures.appended.place) in
+    subst (λ (f : ℕ). KeepFormat f c.set.new.self.items) (sym (ap (λ (s : State). s.format) c.places_with_room.ensures.rest))
+    (subst (λ (ls : List Locator). KeepFormat c.args.index.now.format ls) (sym c.set.ensures)
+    (replaced_keeps c.args.index.now.format c.in_ok-after.after.items c.args.live.now.chunk p before here))

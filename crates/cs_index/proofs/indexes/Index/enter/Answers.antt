@@ -4,6 +4,7 @@ use Rattle.std.proofs.lemmas.List.{length-map}
 use Rattle.cs_model.specs.Index.{entries_of, live, live_at, lookup, names}
 use Rattle.cs_model.specs.Tally.{one_if_some, shards}
 use Rattle.cs_frame.specs.Formats.{place_of}
+use Rattle.cs_frame.specs.Locators.{KeepFormat}
 use Rattle.cs_frame.specs.declared.locators.Locator.{Locator}
 use Rattle.cs_index.specs.declared.runs.StoredRun.{StoredRun}
 use Rattle.cs_index.specs.Held.{AreCounts}
@@ -11,6 +12,7 @@ use Rattle.cs_index.specs.Live.{NoneOn}
 use Rattle.cs_index.specs.contracts.indexes.Index.{the_view}
 use Rattle.cs_index.specs.State.{IsAfter, IsSet, State, id_number, index_of, newest_first, state_of}
 use Rattle.cs_index.proofs.Living.{still_clear}
+use Rattle.cs_index.proofs.Marks.{keep_places}
 use Rattle.cs_index.proofs.Shards.{counted_no_more, lives_then, shards_few}
 use Rattle.cs_index.specs.Sorted.{IsPut}
 use Rattle.cs_index.specs.State.{named_entry}
@@ -24,13 +26,13 @@ abbrev before_put : After-count_after-self-inside → State
 before_put c = the_view c.self.inside
 
 abbrev after_put : After-count_after-self-inside → State
-after_put c = state_of c.put.new.entries.items c.self.inside.runs.items c.self.inside.limit c.in-Ok.left
+after_put c = state_of c.put.new.entries.items c.self.inside.runs.items c.self.inside.format c.self.inside.limit c.in-Ok.left
 
 put_there : (c : After-count_after-self-inside) → IsPut (map named_entry c.self.inside.table.entries.items) (id_number c.args.id) (map place_of c.args.locators.items) (map named_entry c.put.new.entries.items)
 put_there c = subst (λ (xs : Entries). IsPut (map named_entry xs) (id_number c.args.id) (map place_of c.args.locators.items) (map named_entry c.put.new.entries.items)) c.in_ok-reserve.ensures.items c.in-Ok.ensures.put
 
 set_there : (c : After-count_after-self-inside) → IsSet (before_put c) (id_number c.args.id) (map place_of c.args.locators.items) (after_put c)
-set_there c = enter_set c.self.inside.table.entries.items c.put.new.entries.items c.self.inside.runs.items c.self.inside.limit c.self.inside.room c.in-Ok.left (id_number c.args.id) (map place_of c.args.locators.items) (put_there c)
+set_there c = enter_set c.self.inside.table.entries.items c.put.new.entries.items c.self.inside.runs.items c.self.inside.format c.self.inside.limit c.self.inside.room c.in-Ok.left (id_number c.args.id) (map place_of c.args.locators.items) (put_there c)
 
 lived : (c : After-count_after-self-inside) → c.standing-standing.result.1 ≡ one_if_some (live_at (index_of (before_put c)) (id_number c.args.id))
 lived c = subst (λ (s : State). c.standing-standing.result.1 ≡ one_if_some (live_at (index_of s) (id_number c.args.id))) (sym c.self.view_is) c.standing-standing.ensures.lives
@@ -44,10 +46,11 @@ lives_there c = lives_then (index_of (before_put c)) (index_of (after_put c)) (i
 few_there : (c : After-count_after-self-inside) → names (index_of (after_put c)) ≤ c.self.inside.limit
 few_there c =
     let i = c.self.inside in
+    let keep = keep_places i.format c.args.locators.items (subst (λ (s : State). KeepFormat s.format c.args.locators.items) (sym c.self.view_is) c.requires.marks) in
     let known = subst (λ (s : State). MatchBool c.standing-standing.result.0 (lookup (id_number c.args.id) (index_of s) ≢ None) (lookup (id_number c.args.id) (index_of s) ≡ None)) (sym c.self.view_is) c.standing-standing.ensures.known in
     let limit = subst (λ (s : State). lookup (id_number c.args.id) (index_of s) ≡ None → names (index_of s) < s.limit) (sym c.self.view_is) c.requires.limit in
-    let whole = enter_whole i.table.entries.items c.put.new.entries.items i.runs.items i.limit i.room c.in-Ok.left (id_number c.args.id) i.named c.count_after-self-inside.result (map place_of c.args.locators.items) c.standing-standing.result.0
-    (put_there c) (omega (arith, length-map c.args.locators.items place_of, c.requires.short)) c.self.invariant.count known limit c.count_after-self-inside.ensures c.self.invariant.whole in
+    let whole = enter_whole i.table.entries.items c.put.new.entries.items i.runs.items i.format i.limit i.room c.in-Ok.left (id_number c.args.id) i.named c.count_after-self-inside.result (map place_of c.args.locators.items) c.standing-standing.result.0
+    (put_there c) (omega (arith, length-map c.args.locators.items place_of, c.requires.short)) keep c.self.invariant.count known limit c.count_after-self-inside.ensures c.self.invariant.whole in
     whole.named
 
 pub living_after-self-inside-requires-clause-less : goal.living_after-self-inside-requires-clause-less
@@ -94,13 +97,14 @@ recount-requires-clause-few c =
 pub invariant_of-self-in-Ok : goal.invariant_of-self-in-Ok
 invariant_of-self-in-Ok c =
     let i = c.self.inside in
+    let keep = keep_places i.format c.args.locators.items (subst (λ (s : State). KeepFormat s.format c.args.locators.items) (sym c.self.view_is) c.requires.marks) in
     let known = subst (λ (s : State). MatchBool c.standing-standing.result.0 (lookup (id_number c.args.id) (index_of s) ≢ None) (lookup (id_number c.args.id) (index_of s) ≡ None)) (sym c.self.view_is) c.standing-standing.ensures.known in
     let limit = subst (λ (s : State). lookup (id_number c.args.id) (index_of s) ≡ None → names (index_of s) < s.limit) (sym c.self.view_is) c.requires.limit in
     record {
-      whole = enter_whole i.table.entries.items c.put.new.entries.items i.runs.items i.limit i.room c.in-Ok.left (id_number c.args.id) i.named c.count_after-self-inside.result (map place_of c.args.locators.items) c.standing-standing.result.0
-          (subst (λ (xs : Entries). IsPut (map named_entry xs) (id_number c.args.id) (map place_of c.args.locators.items) (map named_entry c.put.new.entries.items)) c.in_ok-reserve.ensures.items c.in-Ok.ensures.put) (omega (arith, length-map c.args.locators.items place_of, c.requires.short)) c.self.invariant.count known limit c.count_after-self-inside.ensures c.self.invariant.whole;
+      whole = enter_whole i.table.entries.items c.put.new.entries.items i.runs.items i.format i.limit i.room c.in-Ok.left (id_number c.args.id) i.named c.count_after-self-inside.result (map place_of c.args.locators.items) c.standing-standing.result.0
+          (subst (λ (xs : Entries). IsPut (map named_entry xs) (id_number c.args.id) (map place_of c.args.locators.items) (map named_entry c.put.new.entries.items)) c.in_ok-reserve.ensures.items c.in-Ok.ensures.put) (omega (arith, length-map c.args.locators.items place_of, c.requires.short)) keep c.self.invariant.count known limit c.count_after-self-inside.ensures c.self.invariant.whole;
       ids = c.in-Ok.ensures.ids;
-      count = enter_count i.table.entries.items c.put.new.entries.items i.runs.items i.limit i.room c.in-Ok.left (id_number c.args.id) i.named c.count_after-self-inside.result (map place_of c.args.locators.items) c.standing-standing.result.0
+      count = enter_count i.table.entries.items c.put.new.entries.items i.runs.items i.format i.limit i.room c.in-Ok.left (id_number c.args.id) i.named c.count_after-self-inside.result (map place_of c.args.locators.items) c.standing-standing.result.0
           (subst (λ (xs : Entries). IsPut (map named_entry xs) (id_number c.args.id) (map place_of c.args.locators.items) (map named_entry c.put.new.entries.items)) c.in_ok-reserve.ensures.items c.in-Ok.ensures.put) c.self.invariant.count known c.count_after-self-inside.ensures;
       lives = c.living_after-self-inside.ensures ∙ lives_there (goal.at.invariant_of-self-in-Ok c).After-count_after-self-inside;
       counts = counts_back i.on.len c.recount.new.on _ (index_of (after_put (goal.at.invariant_of-self-in-Ok c).After-count_after-self-inside)) (omega (arith, c.recount.ensures.0, c.self.invariant.counts.0, i.on.ok.0))
@@ -109,8 +113,8 @@ invariant_of-self-in-Ok c =
           (recounted (goal.at.invariant_of-self-in-Ok c).After-count_after-self-inside));
       small = c.self.invariant.small;
       fits = c.in-Ok.ensures.fits;
-      clear = still_clear (index_of (state_of i.table.entries.items i.runs.items i.limit i.room)) (index_of (state_of c.put.new.entries.items i.runs.items i.limit c.in-Ok.left)) (id_number c.args.id) (map place_of c.args.locators.items)
-          (enter_set i.table.entries.items c.put.new.entries.items i.runs.items i.limit i.room c.in-Ok.left (id_number c.args.id) (map place_of c.args.locators.items) (subst (λ (xs : Entries). IsPut (map named_entry xs) (id_number c.args.id) (map place_of c.args.locators.items) (map named_entry c.put.new.entries.items)) c.in_ok-reserve.ensures.items c.in-Ok.ensures.put)).index
+      clear = still_clear (index_of (state_of i.table.entries.items i.runs.items i.format i.limit i.room)) (index_of (state_of c.put.new.entries.items i.runs.items i.format i.limit c.in-Ok.left)) (id_number c.args.id) (map place_of c.args.locators.items)
+          (enter_set i.table.entries.items c.put.new.entries.items i.runs.items i.format i.limit i.room c.in-Ok.left (id_number c.args.id) (map place_of c.args.locators.items) (subst (λ (xs : Entries). IsPut (map named_entry xs) (id_number c.args.id) (map place_of c.args.locators.items) (map named_entry c.put.new.entries.items)) c.in_ok-reserve.ensures.items c.in-Ok.ensures.put)).index
           i.cleared c.still_cleared-cleared.result
           (subst (λ (ls : List Locator). ((c.still_cleared-cleared.result ≡ i.cleared) × (IsAfter (option_map id_number i.cleared.up_to) (id_number c.args.id) ⊎ NoneOn (map place_of ls) i.cleared.extent)) ⊎ (c.still_cleared-cleared.result.up_to ≡ None))
           c.as_slice-2.ensures.value c.still_cleared-cleared.ensures)
@@ -120,4 +124,4 @@ invariant_of-self-in-Ok c =
 pub returns-clause-entered : goal.returns-clause-entered
 returns-clause-entered c =
     let i = c.self.inside in
-    rw (← c.self.view_is) (enter_set i.table.entries.items c.put.new.entries.items i.runs.items i.limit i.room c.in-Ok.left (id_number c.args.id) (map place_of c.args.locators.items) (subst (λ (xs : Entries). IsPut (map named_entry xs) (id_number c.args.id) (map place_of c.args.locators.items) (map named_entry c.put.new.entries.items)) c.in_ok-reserve.ensures.items c.in-Ok.ensures.put))
+    rw (← c.self.view_is) (enter_set i.table.entries.items c.put.new.entries.items i.runs.items i.format i.limit i.room c.in-Ok.left (id_number c.args.id) (map place_of c.args.locators.items) (subst (λ (xs : Entries). IsPut (map named_entry xs) (id_number c.args.id) (map place_of c.args.locators.items) (map named_entry c.put.new.entries.items)) c.in_ok-reserve.ensures.items c.in-Ok.ensures.put))

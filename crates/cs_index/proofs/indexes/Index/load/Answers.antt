@@ -6,6 +6,7 @@ use Rattle.cs_model.specs.Tally.{shards}
 use Rattle.cs_index.specs.Held.{AreCounts}
 use Rattle.cs_index.specs.State.{IsId, IsStored, index_of, named_entry, newest_first, state_of}
 use Rattle.cs_index.proofs.Living.{none_at_first}
+use Rattle.cs_index.proofs.Marks.{loaded_keep, runs_keep}
 use Rattle.cs_index.proofs.Tallies.{counts_back}
 use Rattle.cs_index.proofs.Whole.{Entries, empty_whole, lengths_of, no_ids, stored_runs}
 use Rattle.cs_index.proofs.indexes.Index.load.Goals as goal
@@ -13,7 +14,7 @@ use Rattle.cs_index.proofs.indexes.Index.load.Goals.{After-deref-2}
 
 stored : (c : After-deref-2) → AllByRecursion IsStored (newest_first c.args.runs.items)
 stored c =
-    stored_runs c.args.runs.items
+    stored_runs c.args.format c.args.runs.items
     (subst (λ (runs : List StoredRun). AllByRecursion (λ run. AllByRecursion (λ entry. IsId entry.0) run.entries.items) runs) c.deref.ensures.value c.are_ids.ensures) c.requires.runs
 
 pub count_names-named-requires-clause-stored : goal.count_names-named-requires-clause-stored
@@ -21,7 +22,7 @@ count_names-named-requires-clause-stored c = subst (λ (runs : List StoredRun). 
 
 pub count_names-named-requires-clause-short : goal.count_names-named-requires-clause-short
 count_names-named-requires-clause-short c =
-    subst (λ (runs : List StoredRun). AllByRecursion (λ run. length run.entries.items < 2 ^ 32) runs) (sym c.deref-2.ensures.value) (lengths_of c.args.runs.items c.requires.runs)
+    subst (λ (runs : List StoredRun). AllByRecursion (λ run. length run.entries.items < 2 ^ 32) runs) (sym c.deref-2.ensures.value) (lengths_of c.args.format c.args.runs.items c.requires.runs)
 
 pub count_living-living-requires-clause-readable : goal.count_living-living-requires-clause-readable
 count_living-living-requires-clause-readable c = rw (c.deref-3.ensures.value) (record {
@@ -38,8 +39,9 @@ count_living-living-requires-clause-few c =
 
 pub invariant_of-result : goal.invariant_of-result
 invariant_of-result c =
-    let all = empty_whole c.args.runs.items c.args.limit c.count_names-named.result c.new.result.items c.new.ensures.items (stored (goal.at.invariant_of-result c).After-deref-2) c.requires.few
-    (c.count_names-named.ensures ∙ ap (λ (runs : List StoredRun). names (entries_of (newest_first runs))) c.deref-2.ensures.value) c.if-limit-named.false in
+    let all = empty_whole c.args.runs.items c.args.format c.args.limit c.count_names-named.result c.new.result.items c.new.ensures.items (stored (goal.at.invariant_of-result c).After-deref-2) c.requires.few
+    (c.count_names-named.ensures ∙ ap (λ (runs : List StoredRun). names (entries_of (newest_first runs))) c.deref-2.ensures.value) c.if-limit-named.false
+    (loaded_keep c.args.format c.args.runs.items c.requires.runs) (runs_keep c.args.format c.args.runs.items c.requires.places) in
     record {
       whole = all.0;
       ids = no_ids c.new.result.items c.new.ensures.items;
@@ -47,10 +49,10 @@ invariant_of-result c =
       lives = c.count_living-living.ensures.living
           ∙ ap (λ (runs : List StoredRun). shards (map named_entry [] ++ entries_of (newest_first runs))) c.deref-3.ensures.value
           ∙ ap (λ (xs : Entries). shards (map named_entry xs ++ entries_of (newest_first c.args.runs.items))) (sym c.new.ensures.items);
-      counts = counts_back c.in_ok-on.on.len c.count_living-living.new.on _ (index_of (state_of c.new.result.items c.args.runs.items c.args.limit 0)) (omega (arith, c.count_living-living.ensures.counts.0, c.in_ok-on.ensures.len))
+      counts = counts_back c.in_ok-on.on.len c.count_living-living.new.on _ (index_of (state_of c.new.result.items c.args.runs.items c.args.format c.args.limit 0)) (omega (arith, c.count_living-living.ensures.counts.0, c.in_ok-on.ensures.len))
           (subst (λ (xs : Entries). AreCounts c.count_living-living.new.on (map named_entry xs ++ entries_of (newest_first c.args.runs.items))) (sym c.new.ensures.items)
           (subst (λ (runs : List StoredRun). AreCounts c.count_living-living.new.on (map named_entry [] ++ entries_of (newest_first runs))) c.deref-3.ensures.value c.count_living-living.ensures.counts));
       small = c.requires.limit;
       fits = omega (arith, c.new.ensures.len);
-      clear = none_at_first (index_of (state_of c.new.result.items c.args.runs.items c.args.limit 0)) 0;
+      clear = none_at_first (index_of (state_of c.new.result.items c.args.runs.items c.args.format c.args.limit 0)) 0;
     }

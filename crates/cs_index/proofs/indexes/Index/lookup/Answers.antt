@@ -6,7 +6,7 @@ use Rattle.cs_model.specs.Index.{lookup}
 use Rattle.cs_frame.specs.Formats.{place_of}
 use Rattle.cs_frame.specs.Places.{Listed}
 use Rattle.cs_index.specs.State.{id_number, index_of, named_entry, newest_first}
-use Rattle.cs_index.proofs.Whole.{index_first, index_second, short_found, short_lookup}
+use Rattle.cs_index.proofs.Whole.{index_first, index_second, marks_found, marks_lookup, short_found, short_lookup}
 use Rattle.cs_index.proofs.indexes.Index.lookup.Goals as goal
 use Rattle.cs_index.proofs.indexes.Index.lookup.Goals.{In-Some, After-find_in_runs}
 
@@ -31,3 +31,9 @@ returns-in-None-clause-last c = rw (← c.self.view_is) (runs_last c)
 
 pub returns-in-None-clause-short : goal.returns-in-None-clause-short
 returns-in-None-clause-short c = short_found (the_view c.self.inside) (id_number c.args.id) c.find_in_runs.result c.self.invariant.whole (runs_last c)
+
+pub returns-in-Some-clause-marks : goal.returns-in-Some-clause-marks
+returns-in-Some-clause-marks c = rw (← c.self.view_is) (marks_lookup (the_view c.self.inside) (id_number c.args.id) c.in-Some.locators.now c.self.invariant.whole (found_last c))
+
+pub returns-in-None-clause-marks : goal.returns-in-None-clause-marks
+returns-in-None-clause-marks c = rw (← c.self.view_is) (marks_found (the_view c.self.inside) (id_number c.args.id) c.find_in_runs.result c.self.invariant.whole (runs_last c))

@@ -30,7 +30,7 @@ pub newest_reached-requires-clause-short : goal.newest_reached-requires-clause-s
 newest_reached-requires-clause-short c =
     let small = rw (← c.self.view_is) at c.requires in
     let i = c.self.inside in
-    subst (λ (rs : List StoredRun). AllByRecursion (λ (run : StoredRun). length run.entries.items < 2 ^ 32) rs) (sym c.deref.ensures.value) (runs_small i.table.entries.items i.runs.items i.limit i.room small c.self.invariant.whole)
+    subst (λ (rs : List StoredRun). AllByRecursion (λ (run : StoredRun). length run.entries.items < 2 ^ 32) rs) (sym c.deref.ensures.value) (runs_small i.table.entries.items i.runs.items i.format i.limit i.room small c.self.invariant.whole)
 
 pub newest_reached-requires-clause-few : goal.newest_reached-requires-clause-few
 newest_reached-requires-clause-few c =
@@ -40,7 +40,7 @@ pub newest_reached-requires-clause-entries : goal.newest_reached-requires-clause
 newest_reached-requires-clause-entries c =
     let small = rw (← c.self.view_is) at c.requires in
     let i = c.self.inside in
-    omega (arith, small, c.len-2.ensures, i.table.entries.ok.0, table_few i.table.entries.items i.runs.items i.limit i.room c.self.invariant.whole)
+    omega (arith, small, c.len-2.ensures, i.table.entries.ok.0, table_few i.table.entries.items i.runs.items i.format i.limit i.room c.self.invariant.whole)
 
 pub returns : goal.returns
 returns c = rw (← c.self.view_is) (λ S names_is most_is.

@@ -1,5 +1,6 @@
-use Rattle.std.proofs.Common.{subst, sym, take, take_all, List}
+use Rattle.std.proofs.Common.{◌∙◌, ap, subst, sym, take, take_all, List}
 use Rattle.cs_model.specs.Element.{Copy}
+use Rattle.cs_model.specs.Geometry.{marks_in}
 use Rattle.cs_index.specs.declared.copies.ChunkCopy.{ChunkCopy}
 use Rattle.cs_index.specs.Copies.{IsSettled, newest_copies}
 use Rattle.cs_index.proofs.Settled.{copies_more, settled_more, settled_none}
@@ -16,3 +17,6 @@ loop-k-preserved c =
 pub returns-clause-settled : goal.returns-clause-settled
 returns-clause-settled c =
     subst (λ (cs : List ChunkCopy). IsSettled c.args.self.now (newest_copies cs) c.loop-k.self) (take_all c.loop-k.k c.args.copies.now c.loop-k-test.false) c.loop-k.invariant
+
+pub settle_one-requires : goal.settle_one-requires
+settle_one-requires c = ap marks_in c.loop-k.invariant.format ∙ c.requires

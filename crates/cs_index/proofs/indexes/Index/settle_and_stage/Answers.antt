@@ -1,12 +1,19 @@
 use Rattle.std.proofs.Common.{◌∙◌, ap, arith, length}
 use Rattle.std.proofs.lemmas.Result.{IfOk-weaker}
 use Rattle.cs_index.specs.Copies.{newest_copies, settle_table}
+use Rattle.cs_model.specs.Geometry.{marks_in}
 use Rattle.cs_model.specs.Index.{entries_of}
 use Rattle.cs_index.proofs.Settled.{settled_so}
 use Rattle.cs_index.proofs.indexes.Index.settle_and_stage.Goals as goal
 
 pub stage_unless-requires-clause-limit : goal.stage_unless-requires-clause-limit
 stage_unless-requires-clause-limit c = c.in-Ok.ensures.settled.limit ∙ c.requires.limit
+
+pub stage_unless-requires-clause-format : goal.stage_unless-requires-clause-format
+stage_unless-requires-clause-format c = c.in-Ok.ensures.settled.format ∙ c.requires.format
+
+pub settle-requires : goal.settle-requires
+settle-requires c = ap marks_in c.requires.format ∙ c.requires.apart
 
 pub stage_unless-requires-clause-runs : goal.stage_unless-requires-clause-runs
 stage_unless-requires-clause-runs c = omega (arith, c.requires.runs, ap length c.in-Ok.ensures.settled.runs)

@@ -29,17 +29,17 @@ pub invariant_of-settled : goal.invariant_of-settled
 invariant_of-settled c =
     let i = c.self.inside in
     let at = (goal.at.invariant_of-settled c).After-replace-runs in
-    let is : index_of (state_of c.args.table.entries.items c.replace-runs.result.items i.limit 0) ≡ index_of (state_of i.table.entries.items i.runs.items i.limit i.room)
-    = table_is i.table.entries.items c.args.table.entries.items i.runs.items c.replace-runs.result.items i.limit i.room (same at) (ap newest_first (taken at)) in
+    let is : index_of (state_of c.args.table.entries.items c.replace-runs.result.items i.format i.limit 0) ≡ index_of (state_of i.table.entries.items i.runs.items i.format i.limit i.room)
+    = table_is i.table.entries.items c.args.table.entries.items i.runs.items c.replace-runs.result.items i.format i.limit i.room (same at) (ap newest_first (taken at)) in
     record {
-      whole = whole_again i.table.entries.items c.args.table.entries.items i.runs.items c.replace-runs.result.items i.limit i.room (same at) (ap newest_first (taken at)) c.self.invariant.whole;
+      whole = whole_again i.table.entries.items c.args.table.entries.items i.runs.items c.replace-runs.result.items i.format i.limit i.room (same at) (ap newest_first (taken at)) c.self.invariant.whole;
       ids = c.requires.ids;
       count = c.self.invariant.count ∙ ap (λ (es : List Entry). names es) (sym is);
       lives = c.self.invariant.lives ∙ ap (λ (es : List Entry). shards es) (sym is);
-      counts = (let counts = rw (← c.self.view_is) at c.requires.counts in counts_as c.args.on.items (index_of (the_view c.self.inside)) (index_of (state_of c.args.table.entries.items c.replace-runs.result.items i.limit 0)) (λ id. ap (λ (es : List Entry). live_at es id) is) counts);
+      counts = (let counts = rw (← c.self.view_is) at c.requires.counts in counts_as c.args.on.items (index_of (the_view c.self.inside)) (index_of (state_of c.args.table.entries.items c.replace-runs.result.items i.format i.limit 0)) (λ id. ap (λ (es : List Entry). live_at es id) is) counts);
       small = c.self.invariant.small;
       fits = omega (arith, c.args.table.entries.ok.1);
-      clear = none_at_first (index_of (state_of c.args.table.entries.items c.replace-runs.result.items i.limit 0)) 0;
+      clear = none_at_first (index_of (state_of c.args.table.entries.items c.replace-runs.result.items i.format i.limit 0)) 0;
     }
 
 pub returns-in-Ok-clause-settled : goal.returns-in-Ok-clause-settled
@@ -48,7 +48,7 @@ returns-in-Ok-clause-settled c =
     let done = c.in-Ok.ensures.settled in
     rw (← c.self.view_is) (
       done.0,
-      settled_from (the_view c.self.inside) _ done.0 (newest_copies c.args.copies.now) (same at) (ap newest_first (taken at)) refl done.1,
+      settled_from (the_view c.self.inside) _ done.0 (newest_copies c.args.copies.now) (same at) (ap newest_first (taken at)) refl refl done.1,
       subst (λ (t : State). IsStagedApart c.in-Ok.ensures.settled.0 c.args.extents.now c.args.graph.now c.in-Ok.version c.args.commands t c.settle_and_stage.new.extents c.settle_and_stage.new.graph × ((id : ℕ) → live_at (index_of t) id ≡ live_at (index_of c.in-Ok.ensures.settled.0) id))
           (sym c.settled.view_is) done.2,
       done.3,
@@ -58,4 +58,4 @@ pub returns-in-Err-clause-settled : goal.returns-in-Err-clause-settled
 returns-in-Err-clause-settled c =
     let at = (goal.at.returns-in-Err-clause-settled c).After-replace-runs in
     let done = c.in-Err.ensures.settled in
-    rw (← c.self.view_is) (done.0, settled_from (the_view c.self.inside) _ done.0 (newest_copies c.args.copies.now) (same at) (ap newest_first (taken at)) refl done.1, done.2, done.3)
+    rw (← c.self.view_is) (done.0, settled_from (the_view c.self.inside) _ done.0 (newest_copies c.args.copies.now) (same at) (ap newest_first (taken at)) refl refl done.1, done.2, done.3)

@@ -2,13 +2,15 @@ use Rattle.std.proofs.Common.{◌≡◌, ◌∙◌, Bool, ap, arith, length, ref
 use Rattle.std.proofs.lemmas.Result.{IfOk-weaker}
 use Rattle.cs_extent.specs.State.{shape}
 use Rattle.cs_frame.specs.Geometries.{IsKnown}
+use Rattle.cs_frame.specs.Locators.{KeepFormat}
 use Rattle.cs_frame.specs.Roots.{greatest_runs}
 use Rattle.cs_index.specs.declared.runs.StoredRun.{StoredRun}
 use Rattle.cs_index.specs.contracts.indexes.Index.{the_view}
 use Rattle.cs_index.specs.Merges.{deletions_go}
 use Rattle.cs_index.specs.Staged.{IsRootOver}
-use Rattle.cs_index.specs.State.{newest_first}
+use Rattle.cs_index.specs.State.{RunsKeepTo, newest_first}
 use Rattle.cs_index.proofs.Chosen.{same_part, same_staged, same_why}
+use Rattle.cs_index.proofs.Marks.{places_keep}
 use Rattle.cs_index.proofs.Rooted.{root_same}
 use Rattle.cs_index.proofs.Whole.{length-newest}
 use Rattle.cs_index.proofs.indexes.Index.stage_same.Goals as goal
@@ -38,3 +40,10 @@ pub returns-clause-why : goal.returns-clause-why
 returns-clause-why c =
     let none = rw (← c.self.view_is) at c.requires.none in
     rw (← c.self.view_is) (same_why (the_view c.self.inside) c.args.extents.now none c.args.graph.now.staging c.stage_over.result c.stage_over.ensures.why)
+
+pub stage_over-requires-clause-marks : goal.stage_over-requires-clause-marks
+stage_over-requires-clause-marks c =
+    let format = rw (← c.self.view_is) at c.requires.format in
+    subst (λ (rs : List StoredRun). KeepFormat c.format-format.result (map (λ run. run.place) rs)) (sym c.deref.ensures.value)
+    (places_keep c.format-format.result c.self.inside.runs.items
+    (subst (λ (f : ℕ). RunsKeepTo f (newest_first c.self.inside.runs.items)) (format ∙ sym (c.format-format.ensures.format ∙ c.geometry.ensures.format)) c.self.invariant.whole.placed))

@@ -1,4 +1,5 @@
 use Rattle.std.proofs.Common.{◌∙◌, ◌≡◌, ◌≢◌, ◌<◌, ◌≤◌, [], ◌∷◌, Ok, Err, false, arith, ap, length, map, subst, sym, List, ℕ, Vec, vec_len}
+use Rattle.std.specs.List.{AllByRecursion}
 use Rattle.std.specs.declared.alloc.Global.{Global}
 use Rattle.cs_frame.specs.declared.identifiers.ShardId.{ShardId}
 use Rattle.cs_model.specs.Element.{Entry, Run}
@@ -9,14 +10,17 @@ use Rattle.cs_frame.proofs.RootLaws.{most_runs}
 use Rattle.cs_frame.specs.Roots.{greatest_runs}
 use Rattle.cs_model.specs.Tally.{shards}
 use Rattle.cs_index.specs.contracts.indexes.Index.{the_view}
+use Rattle.cs_index.specs.declared.runs.StoredRun.{StoredRun}
 use Rattle.cs_frame.specs.Formats.{place_of}
+use Rattle.cs_frame.specs.Locators.{KeepFormat}
 use Rattle.cs_frame.specs.Places.{Listed}
 use Rattle.cs_index.specs.Held.{AreCounts}
 use Rattle.cs_index.specs.Live.{IsClear}
 use Rattle.cs_index.specs.Staged.{IsRunStaged}
-use Rattle.cs_index.specs.State.{index_of, named_entry, newest_first, state_of}
+use Rattle.cs_index.specs.State.{KeepTo, RunsKeepTo, index_of, named_entry, newest_first, state_of}
+use Rattle.cs_index.proofs.Marks.{places_keep, run_placed}
 use Rattle.cs_index.proofs.Exact.{exact_table, part_one, table_run}
-use Rattle.cs_index.proofs.Staging.{is_run, pushed_index, pushed_runs, pushed_whole, table_few}
+use Rattle.cs_index.proofs.Staging.{is_run, pushed_index, pushed_runs, pushed_whole, table_few, table_keeps}
 use Rattle.cs_index.proofs.Whole.{length-newest, no_ids}
 use Rattle.cs_index.proofs.indexes.Index.stage_table.Goals as goal
 use Rattle.cs_index.proofs.indexes.Index.stage_table.Goals.{After-deref, After-push_reserved}
@@ -28,13 +32,22 @@ some_entries : (c : After-deref) → map named_entry c.self.inside.table.entries
 some_entries c = rw (← c.self.view_is) at c.requires.some
 
 most_entries : (c : After-deref) → length c.self.inside.table.entries.items ≤ c.self.inside.limit
-most_entries c = table_few c.self.inside.table.entries.items c.self.inside.runs.items c.self.inside.limit c.self.inside.room c.self.invariant.whole
+most_entries c = table_few c.self.inside.table.entries.items c.self.inside.runs.items c.self.inside.format c.self.inside.limit c.self.inside.room c.self.invariant.whole
 
 pub stage_run-requires-clause-run : goal.stage_run-requires-clause-run
 stage_run-requires-clause-run c =
     let limit = rw (← c.self.view_is) at c.requires.limit in
-    is_run (record { entries = c.self.inside.table.entries }) c.args.extents.now.pages c.self.invariant.ids c.self.invariant.whole.ascending c.self.invariant.whole.short (some_entries c)
+    let format = rw (← c.self.view_is) at c.requires.format in
+    let i = c.self.inside in
+    is_run (record { entries = c.self.inside.table.entries }) c.args.extents.now.format c.args.extents.now.pages c.self.invariant.ids c.self.invariant.whole.ascending c.self.invariant.whole.short (some_entries c)
     (bounds _ _ _ _ c.extent_count-extents.ensures.whole.geometry).most_pages (omega (arith, most_entries c, limit))
+    (subst (λ (f : ℕ). AllByRecursion (λ x. KeepTo f x.locators) (map named_entry i.table.entries.items)) format (table_keeps i.table.entries.items i.runs.items i.format i.limit i.room c.self.invariant.whole))
+
+pub stage_run-requires-clause-marks : goal.stage_run-requires-clause-marks
+stage_run-requires-clause-marks c =
+    let format = rw (← c.self.view_is) at c.requires.format in
+    subst (λ (rs : List StoredRun). KeepFormat c.args.extents.now.format (map (λ run. run.place) rs)) (sym (c.deref.ensures.value ∙ c.in_ok-reserve.ensures.items))
+    (places_keep c.args.extents.now.format c.self.inside.runs.items (subst (λ (f : ℕ). RunsKeepTo f (newest_first c.self.inside.runs.items)) format c.self.invariant.whole.placed))
 
 pub stage_run-requires-clause-most : goal.stage_run-requires-clause-most
 stage_run-requires-clause-most c =
@@ -60,27 +73,30 @@ runs_are c =
     pushed_runs c.self.inside.table.entries.items c.replace-entries.new.dest.items c.self.inside.runs.items c.reserve.new.self.items c.push_reserved.new.self.items (record { place = c.in-Ok.place; entries = c.replace-entries.result })
     c.push_reserved.ensures.items c.in_ok-reserve.ensures.items (taken c) (none_left c)
 
-index_is : (c : After-push_reserved) → index_of (state_of c.replace-entries.new.dest.items c.push_reserved.new.self.items c.self.inside.limit 0) ≡ index_of (state_of c.self.inside.table.entries.items c.self.inside.runs.items c.self.inside.limit c.self.inside.room)
+index_is : (c : After-push_reserved) → index_of (state_of c.replace-entries.new.dest.items c.push_reserved.new.self.items c.self.inside.format c.self.inside.limit 0) ≡ index_of (state_of c.self.inside.table.entries.items c.self.inside.runs.items c.self.inside.format c.self.inside.limit c.self.inside.room)
 index_is c =
     pushed_index c.self.inside.table.entries.items c.replace-entries.new.dest.items c.self.inside.runs.items c.reserve.new.self.items c.push_reserved.new.self.items (record { place = c.in-Ok.place; entries = c.replace-entries.result })
-    c.push_reserved.ensures.items c.in_ok-reserve.ensures.items (taken c) (none_left c) c.self.inside.limit c.self.inside.room
+    c.push_reserved.ensures.items c.in_ok-reserve.ensures.items (taken c) (none_left c) c.self.inside.format c.self.inside.limit c.self.inside.room
 
-state_is : (c : After-push_reserved) → state_of c.replace-entries.new.dest.items c.push_reserved.new.self.items c.self.inside.limit 0
-    ≡ record { table = []; runs = record { place = place_of c.in-Ok.place; entries = map named_entry c.self.inside.table.entries.items } ∷ newest_first c.self.inside.runs.items; limit = c.self.inside.limit; room = 0 }
+state_is : (c : After-push_reserved) → state_of c.replace-entries.new.dest.items c.push_reserved.new.self.items c.self.inside.format c.self.inside.limit 0
+    ≡ record { table = []; runs = record { place = place_of c.in-Ok.place; entries = map named_entry c.self.inside.table.entries.items } ∷ newest_first c.self.inside.runs.items; format = c.self.inside.format; limit = c.self.inside.limit; room = 0 }
 state_is c =
     let table : map named_entry c.replace-entries.new.dest.items ≡ [] = ap (map named_entry) (none_left c) in
     let runs = runs_are c in
-    λ i. record { table = table i; runs = runs i; limit = c.self.inside.limit; room = 0 }
+    λ i. record { table = table i; runs = runs i; format = c.self.inside.format; limit = c.self.inside.limit; room = 0 }
 
 pub invariant_of-self-in-Ok : goal.invariant_of-self-in-Ok
 invariant_of-self-in-Ok c =
     let i = c.self.inside in
     let at = (goal.at.invariant_of-self-in-Ok c).After-push_reserved in
     let some = rw (← c.self.view_is) at c.requires.some in
+    let format = rw (← c.self.view_is) at c.requires.format in
+    let placed = subst (λ (f : ℕ). KeepTo f (place_of c.in-Ok.place ∷ [])) (sym format)
+    (run_placed false c.args.extents.now c.args.graph.now ForRun (map named_entry c.self.inside.table.entries.items) (place_of c.in-Ok.place) c.stage_run.new.extents c.in-Ok.ensures.staged.0 c.in-Ok.ensures.staged.1) in
     let few : length (newest_first i.runs.items) < 24 = omega (arith, few_runs (goal.at.invariant_of-self-in-Ok c).After-deref, most_runs c.args.extents.now.format) in
     record {
       whole = pushed_whole i.table.entries.items c.replace-entries.new.dest.items i.runs.items c.reserve.new.self.items c.push_reserved.new.self.items (record { place = c.in-Ok.place; entries = c.replace-entries.result })
-          c.push_reserved.ensures.items c.in_ok-reserve.ensures.items (taken at) (none_left at) i.limit i.room some few c.self.invariant.whole;
+          c.push_reserved.ensures.items c.in_ok-reserve.ensures.items (taken at) (none_left at) i.format i.limit i.room some few placed c.self.invariant.whole;
       ids = no_ids c.replace-entries.new.dest.items (none_left at);
       count = c.self.invariant.count ∙ ap (λ (es : List Entry). names es) (sym (index_is at));
       lives = c.self.invariant.lives ∙ ap (λ (es : List Entry). shards es) (sym (index_is at));
@@ -95,7 +111,7 @@ returns-in-Ok-clause-staged c =
     let at = (goal.at.returns-in-Ok-clause-staged c).After-push_reserved in
     let was = (goal.at.returns-in-Ok-clause-staged c).After-deref in
     rw (← c.self.view_is) (part_one false 0 (the_view c.self.inside) c.args.extents.now c.args.graph.now ForRun c.in-Ok.version c.args.commands
-    (state_of c.replace-entries.new.dest.items c.push_reserved.new.self.items c.self.inside.limit 0) c.stage_run.new.extents c.stage_run.new.graph (map named_entry c.self.inside.table.entries.items) (table_run (the_view c.self.inside) c.self.invariant.whole.ascending)
+    (state_of c.replace-entries.new.dest.items c.push_reserved.new.self.items c.self.inside.format c.self.inside.limit 0) c.stage_run.new.extents c.stage_run.new.graph (map named_entry c.self.inside.table.entries.items) (table_run (the_view c.self.inside) c.self.invariant.whole.ascending)
     (place_of c.in-Ok.place) (some_entries was)
     (subst (λ (rs : List Run). IsRunStaged c.args.extents.now c.args.graph.now ForRun (map named_entry c.self.inside.table.entries.items) rs (place_of c.in-Ok.place) c.in-Ok.version c.args.commands c.stage_run.new.extents c.stage_run.new.graph)
     (ap newest_first (c.deref.ensures.value ∙ c.in_ok-reserve.ensures.items)) c.in-Ok.ensures.staged)

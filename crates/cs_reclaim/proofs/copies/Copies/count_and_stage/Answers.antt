@@ -6,7 +6,7 @@ use Rattle.cs_index.specs.Copies.{IsSettled, newest_copies}
 use Rattle.cs_model.specs.Device.{Shape}
 use Rattle.cs_model.specs.Element.{Copy}
 use Rattle.cs_reclaim.specs.Rooted.{IsRootedApart}
-use Rattle.cs_reclaim.proofs.Resting.{none_rest, staged_limit, staged_root, staged_shape, staged_small}
+use Rattle.cs_reclaim.proofs.Resting.{none_rest, staged_format, staged_limit, staged_root, staged_shape, staged_small}
 use Rattle.cs_reclaim.proofs.copies.Copies.count_and_stage.Goals as goal
 
 pub end_root-requires : goal.end_root-requires
@@ -47,6 +47,11 @@ pub returns-clause-limit : goal.returns-clause-limit
 returns-clause-limit c =
     let s = c.in-Ok.ensures.settled in
     staged_limit s.0 c.stage_settled.new.self c.args.extents.now c.stage_settled.new.extents c.args.graph.now c.stage_settled.new.graph c.in-Ok.root c.args.commands s.2.0 ∙ s.1.limit
+
+pub returns-clause-format : goal.returns-clause-format
+returns-clause-format c =
+    let s = c.in-Ok.ensures.settled in
+    staged_format s.0 c.stage_settled.new.self c.args.extents.now c.stage_settled.new.extents c.args.graph.now c.stage_settled.new.graph c.in-Ok.root c.args.commands s.2.0 ∙ s.1.format
 
 pub returns-clause-resets : goal.returns-clause-resets
 returns-clause-resets c =

@@ -39,6 +39,12 @@ all_copied c =
 pub count_and_stage-requires-clause-limit : goal.count_and_stage-requires-clause-limit
 count_and_stage-requires-clause-limit c = c.requires.limit ∙ ap (λ (S : Shape). S.most_names) (sym c.unmark.ensures.same_shape)
 
+pub count_and_stage-requires-clause-format : goal.count_and_stage-requires-clause-format
+count_and_stage-requires-clause-format c = c.requires.format ∙ ap (λ (S : Shape). S.format) (sym c.unmark.ensures.same_shape)
+
+pub count_and_stage-requires-clause-apart : goal.count_and_stage-requires-clause-apart
+count_and_stage-requires-clause-apart c = ap (λ (S : Shape). S.apart) c.unmark.ensures.same_shape ∙ c.requires.apart
+
 pub count_and_stage-requires-clause-runs : goal.count_and_stage-requires-clause-runs
 count_and_stage-requires-clause-runs c = subst (λ (S : Shape). length c.args.index.now.runs ≤ S.most_runs) (sym c.unmark.ensures.same_shape) c.requires.runs
 

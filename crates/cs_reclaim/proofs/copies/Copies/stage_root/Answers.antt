@@ -2,7 +2,7 @@ use Rattle.std.proofs.Common.{◌∙◌, ap, arith}
 use Rattle.std.specs.Prelude.{slice_index}
 use Rattle.cs_extent.specs.Frames.{root_family}
 use Rattle.cs_model.specs.Device.{Shape}
-use Rattle.cs_reclaim.proofs.Resting.{staged_limit, staged_root, staged_shape, staged_small}
+use Rattle.cs_reclaim.proofs.Resting.{staged_format, staged_limit, staged_root, staged_shape, staged_small}
 use Rattle.cs_reclaim.proofs.copies.Copies.stage_root.Goals as goal
 
 pub returns-clause-staged : goal.returns-clause-staged
@@ -20,6 +20,9 @@ returns-clause-shape c =
 
 pub returns-clause-limit : goal.returns-clause-limit
 returns-clause-limit c = staged_limit c.args.index.now c.stage_apart.new.self c.args.extents.now c.stage_apart.new.extents c.args.graph.now c.stage_apart.new.graph c.in-Ok.root c.args.commands c.in-Ok.ensures.staged
+
+pub returns-clause-format : goal.returns-clause-format
+returns-clause-format c = staged_format c.args.index.now c.stage_apart.new.self c.args.extents.now c.stage_apart.new.extents c.args.graph.now c.stage_apart.new.graph c.in-Ok.root c.args.commands c.in-Ok.ensures.staged
 
 pub returns-clause-resets : goal.returns-clause-resets
 returns-clause-resets c =
