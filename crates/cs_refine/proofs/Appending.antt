@@ -5,7 +5,7 @@ use Rattle.cs_deps.specs.Staging.{Staging}
 use Rattle.cs_deps.specs.State.{State as GraphState}
 use Rattle.cs_model.specs.Append.{Append, AppendBy, IsNeed, appended_by, stage_pages}
 use Rattle.cs_model.specs.Cut.{section_of}
-use Rattle.cs_model.specs.Device.{IsShape, Page, Shape}
+use Rattle.cs_model.specs.Device.{IsShape, Page, Shape, mark_of}
 use Rattle.cs_model.specs.Element.{A_write, Superblock, Write, superblocks_of, writes_of}
 use Rattle.cs_model.specs.Extents.{Extents, Goes, Purpose as Reason, taken_by}
 use Rattle.cs_model.specs.Lists.{◌∈◌}
@@ -225,7 +225,7 @@ module _ (x : State) (g : GraphState) (w : World) (geometry : IsGeometry x.forma
         need = need_of x j;
         placed = placed;
         needs = is_need l.extent;
-        at = ap place_of a.place ∙ ap (λ (z : Extents). place_of (next_place z l.extent)) (sym is.extents);
+        at = ap place_of a.place ∙ ap (λ (z : Extents). place_of (next_place z l.extent (mark_of (shape x) frame))) (sym is.extents);
         after = refl;
       },
       record {

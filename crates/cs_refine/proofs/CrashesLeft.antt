@@ -1,24 +1,30 @@
 -- What a crash leaves of a disk is recovered.
-use Rattle.std.proofs.Common.{◌≡◌, ℕ, ◌+◌, ◌≤◌, Bool, true, nat_le, List, [], ◌∷◌, ◌++◌, length, le-leb, le_trans, length-append, refl, sym, ap, ◌∙◌, subst, arith}
+use Rattle.std.proofs.Common.{◌≡◌, inl, inr, ⊎_elim, ℕ, zero, suc, ◌+◌, ◌<◌, ◌≤◌, Bool, true, false, nat_le, nat_lt, if◌then◌else◌, List, [], ◌∷◌, ◌++◌, length, Some, None, le-leb, lt-ltb, le_trans, length-append, refl, sym, ap, ◌∙◌, subst, arith}
+use Rattle.std.proofs.lemmas.Bool.{cases_lt}
+use Rattle.std.proofs.lemmas.Bool.Decides.{nat_tests}
+use Rattle.std.specs.Prelude.{slice_get}
 use Rattle.cs_disk.proofs.Images.{length-applied}
-use Rattle.cs_disk.specs.Disk.{Image, MayLeave, State as DiskState, kept, page}
+use Rattle.cs_disk.specs.Disk.{Image, MayLeave, State as DiskState, Write, kept, page}
 use Rattle.cs_extent.specs.State.{IsWhole, State as ExtentsState, shape}
 use Rattle.cs_frame.proofs.GeometryLaws.{lies_in_device}
 use Rattle.cs_frame.specs.Formats.{formats_of}
-use Rattle.cs_frame.specs.Geometries.{section_size}
 use Rattle.cs_image.specs.Reads.{page_total}
-use Rattle.cs_model.proofs.Crash.{leaves_prefix}
+use Rattle.cs_model.proofs.Crash.{leaves_torn}
 use Rattle.cs_model.proofs.LocalRecovery.{recovers_alike, recovers_alike_but}
 use Rattle.cs_model.proofs.Unique.{one_recovery}
-use Rattle.cs_model.specs.Device.{Page, Shape}
-use Rattle.cs_model.specs.Element.{Map}
+use Rattle.cs_model.specs.Device.{FramePage, IsShape, Page, RootPage, SectionPage, Shape}
+use Rattle.cs_model.specs.Disk.{page_write, page_writes}
+use Rattle.cs_model.specs.Element.{A_root, A_superblock, A_write, Element, Map}
 use Rattle.cs_model.specs.Events.{IsFrontier}
+use Rattle.cs_model.specs.Formats.{Formats}
 use Rattle.cs_model.specs.Index.{NoneDamaged}
+use Rattle.cs_model.specs.Lists.{◌∈◌}
 use Rattle.cs_model.specs.Local.{AgreeBelow, LiesBelow}
 use Rattle.cs_model.specs.Recovery.{Recovers}
-use Rattle.cs_model.specs.Sound.{LeavesPrefix, Sound, crashed}
+use Rattle.cs_model.specs.Sound.{GivesFirst, Sound, crashed}
 use Rattle.cs_model.specs.State.{Command, State, map_after}
-use Rattle.cs_refine.specs.Crashes.{IsPrefix, LeavesPrefixOn}
+use Rattle.cs_model.specs.Torn.{IsBeingWritten, TornFrom}
+use Rattle.cs_refine.specs.Crashes.{HasWaitingWrite, IsPrefix, IsTornFrom, LeavesPrefixOn}
 use Rattle.cs_refine.specs.Devices.{IsDiskOf}
 use Rattle.cs_refine.proofs.Disks.{crash}
 use Rattle.cs_refine.proofs.Shapes.{store_format, store_shape}
@@ -30,45 +36,105 @@ same_size disk left may = ap length may.2 ∙ length-applied disk.durable (kept 
 pub store_below : (x : ExtentsState) → IsWhole x → LiesBelow (shape x) (page_total (shape x))
 store_below x whole = lies_in_device x.format (length x.written) x.pages x.sections whole.geometry
 
-module _ (x : ExtentsState) (s : State) (disk : DiskState) (left : Image) (whole : IsWhole x)
-    (sound : Sound (shape x) (formats_of (shape x)) s) (is : IsDiskOf (shape x) (formats_of (shape x)) s disk)
-    (sized : length disk.durable ≡ page_total (shape x)) (may : MayLeave disk left) where
-  below : LiesBelow (shape x) (length left)
-  below = subst (λ (n : ℕ). LiesBelow (shape x) n) (sym (same_size disk left may ∙ sized)) (store_below x whole)
+-- a page of frames to which a write isn't flushed is one that is being written in the machine
+element_of : (S : Shape) (F : Formats) (ms : List Element) (i : ℕ) (w : Write) → slice_get (page_writes S F ms) i ≡ Some w
+    → (m : Element) × (m ∈ ms) × (page_write S F m ≡ w)
+element_of S F [] i w is = absurd (let e : None ≡ Some w = is in cc)
+element_of S F (m ∷ ms) zero w is = (m, inl refl, (let e : Some (page_write S F m) ≡ Some w = is in cc))
+element_of S F (m ∷ ms) (suc i) w is = let rest = element_of S F ms i w is in (rest.0, inr rest.1, rest.2)
 
-  by_mask : (mask : List Bool) → AgreeBelow (length left) (crashed (shape x) (formats_of (shape x)) s mask) (page left)
-      → LeavesPrefixOn (shape x) (formats_of (shape x)) s left
+pub being_written : (S : Shape) (F : Formats) (s : State) (disk : DiskState) → IsShape S → Sound S F s → IsDiskOf S F s disk
+    → (p : ℕ) → S.kind p ≡ FramePage → HasWaitingWrite disk p → IsBeingWritten s p
+being_written S F s disk store sound is p frame waits =
+    let found = element_of S F s.issued waits.0 waits.1 (ap (λ (ws : List Write). slice_get ws waits.0) (sym is.volatile) ∙ waits.2) in
+    go found.0 found.1 (ap (λ (w : Write). w.0) found.2 ∙ waits.3)
+  where
+    go : (m : Element) → m ∈ s.issued → (page_write S F m).0 ≡ p → IsBeingWritten s p
+    go (A_write y) has at = (y, has, at)
+    go (A_superblock u) has at = absurd (let e : SectionPage u.section ≡ FramePage =
+        sym (store.section_kind u.section (sound.safe.sections_there u (sound.issued (A_superblock u) has).0)) ∙ ap S.kind at ∙ frame in cc)
+    go (A_root r) has at = absurd (let e : RootPage ≡ FramePage = sym store.root_kind ∙ ap S.kind at ∙ frame in cc)
+
+pub untorn : (S : Shape) (disk : DiskState) (left : Image) → IsTornFrom S disk left left
+untorn S disk left = record { size = refl; each = λ p inside. inl refl }
+
+module _ (x : ExtentsState) (s : State) (disk : DiskState) (left image : Image) (whole : IsWhole x)
+    (sound : Sound (shape x) (formats_of (shape x)) s) (is : IsDiskOf (shape x) (formats_of (shape x)) s disk)
+    (sized : length disk.durable ≡ page_total (shape x)) (may : MayLeave disk left)
+    (torn : IsTornFrom (shape x) disk left image) where
+  below : LiesBelow (shape x) (length image)
+  below = subst (λ (n : ℕ). LiesBelow (shape x) n) (sym (torn.size ∙ same_size disk left may ∙ sized)) (store_below x whole)
+
+  -- the image, and behind it what the machine has there
+  all_pages : (mask : List Bool) → ℕ → Page
+  all_pages mask p = if nat_lt p (length image) then page image p else crashed (shape x) (formats_of (shape x)) s mask p
+
+  alike : (mask : List Bool) → AgreeBelow (length image) (all_pages mask) (page image)
+  unfolding all_pages
+  alike mask p inside = let test : nat_lt p (length image) ≡ true = lt-ltb p (length image) inside in rw test refl
+
+  is_torn : (mask : List Bool) → ((p : ℕ) → p < length left → page left p ≡ crashed (shape x) (formats_of (shape x)) s mask p)
+      → TornFrom (shape x) (formats_of (shape x)) s mask (all_pages mask)
+  unfolding all_pages
+  is_torn mask agree p = elim (cases_lt p (length image)) [
+    | inl inside ↦
+        let test : nat_lt p (length image) ≡ true = lt-ltb p (length image) inside in
+        let there : p < length left = subst (λ (n : ℕ). p < n) torn.size inside in
+        rw test (⊎_elim (λ (same : page image p ≡ page left p). inr (same ∙ agree p there))
+        (λ written. inl (being_written (shape x) (formats_of (shape x)) s disk (store_shape x whole) sound is p written.0 written.1))
+        (torn.each p there))
+    | inr past ↦ let test : nat_lt p (length image) ≡ false = grind (arith, nat_tests) in rw test (inr refl)
+  ]
+
+  by_mask : (mask : List Bool) → ((p : ℕ) → p < length left → page left p ≡ crashed (shape x) (formats_of (shape x)) s mask p)
+      → LeavesPrefixOn (shape x) (formats_of (shape x)) s image
   by_mask mask agree =
-      let p : LeavesPrefix (shape x) (formats_of (shape x)) s mask = leaves_prefix (shape x) (formats_of (shape x)) (store_shape x whole) (store_format x whole) s sound mask in (
-        p.0,
-        p.1,
-        p.2,
-        recovers_alike_but (shape x) (formats_of (shape x)) (length left) (crashed (shape x) (formats_of (shape x)) s mask) (page left) below agree
-            (λ p g. s.opening) (λ p g. s.opening) (s.count + p.0) (map_after s.start s.commands p.0) (λ q g fits l pass. refl) (λ q g e i k fz. fz) (λ q g l. refl) p.3,
-        λ undamaged. recovers_alike (shape x) (formats_of (shape x)) (length left) (crashed (shape x) (formats_of (shape x)) s mask) (page left) below agree
-            (s.count + p.0) (map_after s.start s.commands p.0) (p.4 undamaged),
+      let some = leaves_torn (shape x) (formats_of (shape x)) (store_shape x whole) (store_format x whole) s sound mask in
+      let p : GivesFirst (shape x) (formats_of (shape x)) s (all_pages mask) some.0 = some.1 (all_pages mask) (is_torn mask agree) in (
+        some.0,
+        (
+          p.0,
+          p.1,
+          recovers_alike_but (shape x) (formats_of (shape x)) (length image) (all_pages mask) (page image) below (alike mask)
+              (λ p g. s.opening) (λ p g. s.opening) (s.count + some.0) (map_after s.start s.commands some.0) (λ q g fits l pass. refl) (λ q g e i k fz. fz) (λ q g l. refl) p.2,
+          λ undamaged. recovers_alike (shape x) (formats_of (shape x)) (length image) (all_pages mask) (page image) below (alike mask)
+              (s.count + some.0) (map_after s.start s.commands some.0) (p.3 undamaged),
+        ),
       )
 
-  pub leaves : LeavesPrefixOn (shape x) (formats_of (shape x)) s left
-  leaves = let c = crash (shape x) (formats_of (shape x)) s disk is left may in by_mask c.0 (λ p inside. sym (c.1 p inside))
+  pub torn_leaves : LeavesPrefixOn (shape x) (formats_of (shape x)) s image
+  torn_leaves = let c = crash (shape x) (formats_of (shape x)) s disk is left may in by_mask c.0 c.1
 
-  pub leaves_from : (f : ℕ) → Recovers (shape x) (formats_of (shape x)) s.opened s.count s.start → IsFrontier (shape x) (formats_of (shape x)) s f
-      → IsPrefix (shape x) s.opened s.commands f (length s.commands) left
-  leaves_from f gives front count start again undamaged =
+  pub torn_leaves_from : (f : ℕ) → Recovers (shape x) (formats_of (shape x)) s.opened s.count s.start → IsFrontier (shape x) (formats_of (shape x)) s f
+      → IsPrefix (shape x) s.opened s.commands f (length s.commands) image
+  torn_leaves_from f gives front count start again undamaged =
       let same = one_recovery (shape x) (formats_of (shape x)) (store_shape x whole) (store_format x whole) s.opened s.count count s.start start gives again in
       go count start same.0 (λ i id. same.1 id i) undamaged
     where
       go : (count : ℕ) (start : Map) → s.count ≡ count → s.start ≡ start → NoneDamaged start
           → (n : ℕ) × (f ≤ n) × (n ≤ length s.commands)
-          × Recovers (shape x) (formats_of (shape x)) (page left) (count + n) (map_after start s.commands n)
-      go count start counts starts undamaged = let l = leaves in (
+          × Recovers (shape x) (formats_of (shape x)) (page image) (count + n) (map_after start s.commands n)
+      go count start counts starts undamaged = let l = torn_leaves in (
         l.0,
-        l.2 f front,
-        l.1,
-        subst (λ (k : ℕ). Recovers (shape x) (formats_of (shape x)) (page left) (k + l.0) (map_after start s.commands l.0)) counts
-            (subst (λ (m : Map). Recovers (shape x) (formats_of (shape x)) (page left) (s.count + l.0) (map_after m s.commands l.0)) starts
-            (l.4 (subst (λ (m : Map). NoneDamaged m) (sym starts) undamaged))),
+        l.1.1 f front,
+        l.1.0,
+        subst (λ (k : ℕ). Recovers (shape x) (formats_of (shape x)) (page image) (k + l.0) (map_after start s.commands l.0)) counts
+            (subst (λ (m : Map). Recovers (shape x) (formats_of (shape x)) (page image) (s.count + l.0) (map_after m s.commands l.0)) starts
+            (l.1.3 (subst (λ (m : Map). NoneDamaged m) (sym starts) undamaged))),
       )
+
+-- where no page is torn
+pub leaves : (x : ExtentsState) (s : State) (disk : DiskState) (left : Image) → IsWhole x → Sound (shape x) (formats_of (shape x)) s
+    → IsDiskOf (shape x) (formats_of (shape x)) s disk → length disk.durable ≡ page_total (shape x) → MayLeave disk left
+    → LeavesPrefixOn (shape x) (formats_of (shape x)) s left
+leaves x s disk left whole sound is sized may = torn_leaves x s disk left left whole sound is sized may (untorn (shape x) disk left)
+
+pub leaves_from : (x : ExtentsState) (s : State) (disk : DiskState) (left : Image) → IsWhole x → Sound (shape x) (formats_of (shape x)) s
+    → IsDiskOf (shape x) (formats_of (shape x)) s disk → length disk.durable ≡ page_total (shape x) → MayLeave disk left
+    → (f : ℕ) → Recovers (shape x) (formats_of (shape x)) s.opened s.count s.start → IsFrontier (shape x) (formats_of (shape x)) s f
+    → IsPrefix (shape x) s.opened s.commands f (length s.commands) left
+leaves_from x s disk left whole sound is sized may f gives front =
+    torn_leaves_from x s disk left left whole sound is sized may (untorn (shape x) disk left) f gives front
 
 -- the first commands are the first of more
 first_of_more : (start : Map) (more commands : List Command) (n : ℕ) → n ≤ length commands

@@ -9,15 +9,17 @@ use Rattle.cs_frame.specs.declared.faults.FormatFault.{FormatFault}
 use Rattle.cs_frame.specs.declared.frames.FrameKind.TheVariants.{Chunk}
 use Rattle.cs_frame.specs.declared.locators.Locator.{Locator}
 use Rattle.cs_frame.specs.Formats.{as_locator, formats_of, refusal_of}
-use Rattle.cs_frame.specs.Frames.{frame_fault}
+use Rattle.cs_frame.proofs.MarkLaws.{fault_of_meant}
+use Rattle.cs_frame.specs.Frames.{meant_fault}
 use Rattle.cs_index.specs.State.{State as IndexState, index_of}
 use Rattle.cs_model.proofs.Filled.{reach_above, reach_low, reach_off}
 use Rattle.cs_model.proofs.Frozen.{damage_stays, reach_now, within_now}
+use Rattle.cs_model.proofs.Meant.{none_for}
 use Rattle.cs_model.specs.Device.{Inside, Page, PageKind}
 use Rattle.cs_model.specs.Element.{Bytes, Content, Damaged, Locator as Place}
 use Rattle.cs_model.specs.Events.{ReadsNow, newest_page}
 use Rattle.cs_model.specs.Extents.{reach}
-use Rattle.cs_model.specs.Formats.{ChunkFrame, Stand, pages_from}
+use Rattle.cs_model.specs.Formats.{ChunkFrame, Stand, fault_for, pages_from}
 use Rattle.cs_model.specs.Index.{AllPass, Holds, Passes, ReadsAs, Value, after, joined, live, live_at, lookup}
 use Rattle.cs_model.specs.Lists.{◌∈◌}
 use Rattle.cs_model.specs.Refusal.{Refusal}
@@ -74,22 +76,23 @@ module _ (x : ExtentsState) (s : State) (held : Image) (whole : IsWhole x) (soun
 
   -- the machine's refusal of what lies at a place
   abbrev refused : Place → Option Refusal
-  refused l = (formats_of (shape x)).fault ChunkFrame (pages_from (shape x) (formats_of (shape x)) (newest_page s) l.extent l.page (end_in x (as_locator l) - l.page))
+  refused l = fault_for (shape x) (formats_of (shape x)) ChunkFrame l.mark (pages_from (shape x) (formats_of (shape x)) (newest_page s) l.extent l.page (end_in x (as_locator l) - l.page))
 
   fault_same : (l : Place) → IsLocated l → option_map refusal_of (fault_in x view Chunk (as_locator l)) ≡ refused l
-  fault_same l passes = ap (λ (bs : List Page). option_map refusal_of (frame_fault 0 bs))
+  fault_same l passes = ap (λ (bs : List Page). option_map refusal_of (meant_fault (shape x).format 0 l.mark bs))
       (pages_same l.extent l.page (end_in x (as_locator l) - l.page) passes.inside.0 (omega (arith, above l passes, low l)))
+      ∙ fault_of_meant (shape x) refl ChunkFrame l.mark (pages_from (shape x) (formats_of (shape x)) (newest_page s) l.extent l.page (end_in x (as_locator l) - l.page))
 
   chunk_whole : (l : Place) (payload : List ℕ) → ReadsNow (shape x) (formats_of (shape x)) s l ChunkFrame payload → refused l ≡ None
   chunk_whole l payload reads =
       let reaches : l.page + length ((formats_of (shape x)).frame ChunkFrame payload) ≤ end_in x (as_locator l) =
       le_trans (within_now (shape x) (formats_of (shape x)) s sound l ((formats_of (shape x)).frame ChunkFrame payload) reads) (le_of_eq (sym (same_end l))) in
-      (store_format x whole).no_fault (newest_page s) l.extent l.page (end_in x (as_locator l) - l.page) ChunkFrame payload
-      (omega (arith, reaches)) (omega (arith, reaches, low l)) reads.stand
+      none_for (shape x) (formats_of (shape x)) (store_format x whole) (newest_page s) l.extent l.page (end_in x (as_locator l) - l.page) ChunkFrame payload l.mark
+      (omega (arith, reaches)) (omega (arith, reaches, low l)) reads.stand reads.marked
 
   damage_refused : (l : Place) (f : Refusal) → IsLocated l → s.opening.damage l ≡ Some f → refused l ≡ Some f
   damage_refused l f passes is =
-      ap (λ (n : ℕ). (formats_of (shape x)).fault ChunkFrame (pages_from (shape x) (formats_of (shape x)) (newest_page s) l.extent l.page (n - l.page))) (same_end l)
+      ap (λ (n : ℕ). fault_for (shape x) (formats_of (shape x)) ChunkFrame l.mark (pages_from (shape x) (formats_of (shape x)) (newest_page s) l.extent l.page (n - l.page))) (same_end l)
       ∙ damage_stays (shape x) (formats_of (shape x)) (store_shape x whole) s sound l f is passes
 
   -- a frame that is read is the one that the machine has there
@@ -98,11 +101,11 @@ module _ (x : ExtentsState) (s : State) (held : Image) (whole : IsWhole x) (soun
       (let inside = reads.inside in omega arith) (omega (arith, frame.0, low l)) reads.stand
       (stand_now l.extent l.page ((formats_of (shape x)).frame ChunkFrame b) passes.inside.0 (omega (arith, frame.0, low l)) frame.1)
 
-  -- nor is it damaged
+  -- nor is it damaged, or another one
   frame_whole : (l : Place) (payload : List ℕ) → IsLocated l → IsFrameIn x view ChunkFrame (as_locator l) payload → refused l ≡ None
-  frame_whole l payload passes frame = (store_format x whole).no_fault (newest_page s) l.extent l.page (end_in x (as_locator l) - l.page) ChunkFrame payload
+  frame_whole l payload passes frame = none_for (shape x) (formats_of (shape x)) (store_format x whole) (newest_page s) l.extent l.page (end_in x (as_locator l) - l.page) ChunkFrame payload l.mark
       (omega (arith, frame.0)) (omega (arith, above l passes, low l))
-      (stand_now l.extent l.page ((formats_of (shape x)).frame ChunkFrame payload) passes.inside.0 (omega (arith, frame.0, low l)) frame.1)
+      (stand_now l.extent l.page ((formats_of (shape x)).frame ChunkFrame payload) passes.inside.0 (omega (arith, frame.0, low l)) frame.1) frame.2
 
   not_damaged : (l : Place) (f : Refusal) → IsLocated l → refused l ≡ None → s.opening.damage l ≡ Some f → ⊥
   not_damaged l f passes none is = let e : Some f ≡ None = sym (damage_refused l f passes is) ∙ none in cc

@@ -80,7 +80,7 @@ module _ (x : ExtentsState) (F : Formats) (img : ℕ → Page) (n : ℕ) (m : Ma
   pub persistent_as_read : (p : ℕ) → persistent_image (shape x) F start p ≡ img p
   persistent_as_read p = by_kind p ((shape x).kind p) refl
 
-module _ (x : ExtentsState) (image : Image) (versions : List ℕ) (root limit n : ℕ) (runs : List Run) (m : Map)
+module _ (x : ExtentsState) (image : Image) (versions : List ℕ) (root format limit n : ℕ) (runs : List Run) (m : Map)
     (found : Recovers (shape x) (formats_of (shape x)) (page image) n m) (whole : IsWhole x)
     (as_found : IsFoundAs (shape x) (formats_of (shape x)) (page image) n m found x versions root runs) (together : (shape x).apart ≡ false) where
   -- nothing is reset as the store is opened
@@ -90,7 +90,7 @@ module _ (x : ExtentsState) (image : Image) (versions : List ℕ) (root limit n 
         else extents_read (shape x) (formats_of (shape x)) (page image) n m found;
   }) (sym together)
 
-  pub started : IsStartOf x (graph_at versions root) (index_at runs limit) image (opened_state (shape x) (formats_of (shape x)) (page image) n m found)
+  pub started : IsStartOf x (graph_at versions root) (index_at runs format limit) image (opened_state (shape x) (formats_of (shape x)) (page image) n m found)
   started = record {
     sound = opens_sound (shape x) (formats_of (shape x)) (store_shape x whole) (page image) n m found;
     bounded = opens_bounded (shape x) (formats_of (shape x)) (store_shape x whole) (page image) n m found;
@@ -111,9 +111,9 @@ module _ (image : Image) (format : ℕ) (versions : List ℕ) (pages : ℕ) (wri
   read_extents = extents_at format pages (length versions) written
 
   pub read_started : (shape read_extents).apart ≡ false → (m : Map) × (found : Recovers (shape read_extents) (formats_of (shape read_extents)) (page image) commands m)
-      × IsStartOf read_extents (graph_at versions root) (index_at (newest_first runs) limit) image (opened_state (shape read_extents) (formats_of (shape read_extents)) (page image) commands m found)
+      × IsStartOf read_extents (graph_at versions root) (index_at (newest_first runs) format limit) image (opened_state (shape read_extents) (formats_of (shape read_extents)) (page image) commands m found)
   read_started together = let f = read_recovers (page image) format versions pages written root commands runs read together are in
-      (f.0, f.1, started read_extents image versions root limit commands (newest_first runs) f.0 f.1 (read_whole (page image) format versions pages written read.sections) f.2 together)
+      (f.0, f.1, started read_extents image versions root format limit commands (newest_first runs) f.0 f.1 (read_whole (page image) format versions pages written read.sections) f.2 together)
 
 -- ---- the pages of a disk
 

@@ -31,10 +31,10 @@ use Rattle.cs_refine.proofs.Shapes.{some_sections, store_shape}
 use Rattle.cs_refine.proofs.StagesApart.{lies_apart}
 use Rattle.cs_refine.proofs.Started.{persistent_as_read}
 
-module _ (x y : ExtentsState) (image : Image) (versions : List ℕ) (root limit n : ℕ) (runs : List Run) (m : Map)
+module _ (x y : ExtentsState) (image : Image) (versions : List ℕ) (root format limit n : ℕ) (runs : List Run) (m : Map)
     (found : Recovers (shape x) (formats_of (shape x)) (page image) n m) (on : (shape x).apart ≡ true) (whole : IsWhole x)
     (as_found : IsFoundAs (shape x) (formats_of (shape x)) (page image) n m found x versions root runs)
-    (same : shape y ≡ shape x) (extents : extents_of y ≡ freed_under (shape x) (extents_of x) (index_at runs limit) [] root) where
+    (same : shape y ≡ shape x) (extents : extents_of y ≡ freed_under (shape x) (extents_of x) (index_at runs format limit) [] root) where
   abbrev S : Shape
   S = shape x
 
@@ -69,10 +69,10 @@ module _ (x y : ExtentsState) (image : Image) (versions : List ℕ) (root limit 
       (after_others x y (graph_at versions root) (opened_world S (formats_of S) (page image) n m found) world_read same then_freed
       (reset_each S as_read.world.extents as_read.world.root (is_blank S as_read) S.extents) are_freed)
 
-  parts : ArePartsOf y (graph_at versions root) (index_at runs limit) start
+  parts : ArePartsOf y (graph_at versions root) (index_at runs format limit) start
   parts = record { world = world_freed; index = record { lookups = λ id. refl; same_runs = sym as_found.same_runs } }
 
-  pub started : IsStartOf y (graph_at versions root) (index_at runs limit) image start × AreAllPartsOf y (graph_at versions root) (index_at runs limit) [] start
+  pub started : IsStartOf y (graph_at versions root) (index_at runs format limit) image start × AreAllPartsOf y (graph_at versions root) (index_at runs format limit) [] start
   started = (
     record {
       sound = subst (λ (T : Shape). Sound T (formats_of T) start) (sym same) (opens_sound S (formats_of S) (store_shape x whole) (page image) n m found);
@@ -92,8 +92,8 @@ module _ (image : Image) (format : ℕ) (versions : List ℕ) (pages : ℕ) (wri
 
   abbrev Starts : ExtentsState → Shape → Type 0
   Starts y T = (m : Map) × (found : Recovers T (formats_of T) (page image) commands m)
-      × IsStartOf y (graph_at versions root) (index_at (newest_first runs) limit) image (opened_state T (formats_of T) (page image) commands m found)
-      × AreAllPartsOf y (graph_at versions root) (index_at (newest_first runs) limit) [] (opened_state T (formats_of T) (page image) commands m found)
+      × IsStartOf y (graph_at versions root) (index_at (newest_first runs) format limit) image (opened_state T (formats_of T) (page image) commands m found)
+      × AreAllPartsOf y (graph_at versions root) (index_at (newest_first runs) format limit) [] (opened_state T (formats_of T) (page image) commands m found)
 
   abbrev IsFound : ExtentsState → Shape → Type 0
   IsFound noted T = (m : Map) × (found : Recovers T (formats_of T) (page image) commands m)
@@ -101,10 +101,10 @@ module _ (image : Image) (format : ℕ) (versions : List ℕ) (pages : ℕ) (wri
 
   pub read_started : (noted y : ExtentsState) → (shape there).hidden_stand ≡ false → (shape there).apart ≡ true → IsWhole noted
       → AreExtentsNoted there (newest_first runs) noted → shape y ≡ shape noted
-      → extents_of y ≡ freed_under (shape noted) (extents_of noted) (index_at (newest_first runs) limit) [] root → Starts y (shape there)
+      → extents_of y ≡ freed_under (shape noted) (extents_of noted) (index_at (newest_first runs) format limit) [] root → Starts y (shape there)
   read_started noted y not on whole is same extents =
       let f = subst (λ (T : Shape). IsFound noted T) (sym is.same_shape)
       (noted_recovers (page image) format versions pages written root commands runs read (λ stand. absurd (true≢false (sym stand ∙ not))) are noted on is) in
-      let s = started noted y image versions root limit commands (newest_first runs) f.0 f.1
+      let s = started noted y image versions root format limit commands (newest_first runs) f.0 f.1
       (subst (λ (T : Shape). T.apart ≡ true) (sym is.same_shape) on) whole f.2 same extents in
       subst (λ (T : Shape). Starts y T) is.same_shape (f.0, f.1, s.0, s.1)

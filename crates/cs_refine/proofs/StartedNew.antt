@@ -56,13 +56,13 @@ module _ (image : Image) (format extents pages sections limit : ℕ) (geometry :
       not_blank e = ap (λ (p : ℕ). (nat_lt 0 p && nat_le (lives_on e []) 0) && rest e) (none_given e)
 
   pub new_started : (found : Recovers (shape new_extents) (formats_of (shape new_extents)) (page image) 0 (λ id. None))
-      × IsStartOf new_extents (graph_at (replicate sections 1) 1) (index_at [] limit) image (opened_state (shape new_extents) (formats_of (shape new_extents)) (page image) 0 (λ id. None) found)
+      × IsStartOf new_extents (graph_at (replicate sections 1) 1) (index_at [] format limit) image (opened_state (shape new_extents) (formats_of (shape new_extents)) (page image) 0 (λ id. None) found)
   new_started = let f = new_found (page image) format extents pages sections geometry superblocks root in (
     f.0,
     elim (cases_Bool (shape new_extents).apart) [
-      | inl on ↦ (started_apart new_extents new_extents image (replicate sections 1) 1 limit 0 [] (λ id. None) f.0 on
+      | inl on ↦ (started_apart new_extents new_extents image (replicate sections 1) 1 format limit 0 [] (λ id. None) f.0 on
           (new_whole (page image) format extents pages sections geometry superblocks root) f.1 refl (none_freed (shape new_extents).extents)).0
-      | inr not ↦ started new_extents image (replicate sections 1) 1 limit 0 [] (λ id. None) f.0
+      | inr not ↦ started new_extents image (replicate sections 1) 1 format limit 0 [] (λ id. None) f.0
           (new_whole (page image) format extents pages sections geometry superblocks root) f.1 not
     ],
   )
@@ -91,7 +91,7 @@ module _ (old : DiskState) (writes : List PageWrite) (format extents pages secti
   pub written_started : AreNewSections view format extents pages sections → SpellsRoot (view 1) format 1 0 []
       → (let x = extents_at format pages sections (replicate extents (0, 0)) in
       (found : Recovers (shape x) (formats_of (shape x)) (page image) 0 (λ id. None))
-      × IsStartOf x (graph_at (replicate sections 1) 1) (index_at [] limit) image (opened_state (shape x) (formats_of (shape x)) (page image) 0 (λ id. None) found))
+      × IsStartOf x (graph_at (replicate sections 1) 1) (index_at [] format limit) image (opened_state (shape x) (formats_of (shape x)) (page image) 0 (λ id. None) found))
   written_started superblocks root = new_started image format extents pages sections limit geometry
       (λ j lt. subst (λ (b : Page). SpellsSuperblock b format 1 extents pages sections j (replicate (section_length extents sections j) (0, 0)))
       (sym (as_viewed ((shape_of extents pages sections (section_size extents sections) format).section_page j) (below.sections j lt))) (superblocks j lt))

@@ -1,21 +1,27 @@
 -- What a crash may leave of a store's disk.
-use Rattle.std.specs.Prelude.{◌+◌, ◌≤◌, ℕ, List, length}
-use Rattle.cs_disk.specs.Disk.{Image, page}
+use Rattle.std.specs.Prelude.{◌≡◌, ◌⊎◌, ◌+◌, ◌<◌, ◌≤◌, ℕ, List, Some, length, slice_get}
+use Rattle.cs_disk.specs.Disk.{Image, State as DiskState, Write, page}
 use Rattle.cs_frame.specs.Formats.{formats_of}
-use Rattle.cs_model.specs.Device.{Page, Shape}
+use Rattle.cs_model.specs.Device.{FramePage, Page, Shape}
 use Rattle.cs_model.specs.Element.{Map}
-use Rattle.cs_model.specs.Events.{IsFrontier}
 use Rattle.cs_model.specs.Formats.{Formats}
 use Rattle.cs_model.specs.Index.{NoneDamaged}
-use Rattle.cs_model.specs.Recovery.{Recovers, RecoversBut}
+use Rattle.cs_model.specs.Recovery.{Recovers}
+use Rattle.cs_model.specs.Sound.{GivesFirst}
 use Rattle.cs_model.specs.State.{Command, State, map_after}
 
--- the image gives the map after some number of the state's commands between the frontier and all of them; in the image's
--- own terms where no shard was damaged at open, else by what is known of the image at open
+-- the image gives the map after some number of the state's commands between the frontier and all of them
 abbrev pub LeavesPrefixOn : Shape → Formats → State → Image → Type 0
-LeavesPrefixOn S F s left = (n : ℕ) × (n ≤ length s.commands) × ((f : ℕ) → IsFrontier S F s f → f ≤ n)
-    × RecoversBut S F (λ p g. s.opening) (page left) (s.count + n) (map_after s.start s.commands n)
-    × (NoneDamaged s.start → Recovers S F (page left) (s.count + n) (map_after s.start s.commands n))
+LeavesPrefixOn S F s image = (n : ℕ) × GivesFirst S F s (page image) n
+
+-- a write that isn't flushed goes to the page
+abbrev pub HasWaitingWrite : DiskState → (page : ℕ) → Type 0
+HasWaitingWrite disk p = (i : ℕ) × (w : Write) × (slice_get disk.volatile i ≡ Some w) × (w.0 ≡ p)
+
+-- The image is what a crash left, but that each page of frames to which a write wasn't flushed may hold anything.
+pub record IsTornFrom (S : Shape) (disk : DiskState) (left image : Image) : Type 0 where
+  pub size : length image ≡ length left
+  pub each : (p : ℕ) → p < length left → (page image p ≡ page left p) ⊎ ((S.kind p ≡ FramePage) × HasWaitingWrite disk p)
 
 -- Where a store was opened on an image in which no shard is damaged, this image gives the map after the first n of these
 -- commands, which are listed newest first, and counts n more than that one. n lies between these numbers.

@@ -2,7 +2,7 @@
 use Rattle.std.specs.Prelude.{}
 use Rattle.cs_deps.specs.declared.refusals.Refusal.{Refusal}
 use Rattle.cs_deps.specs.declared.refusals.Refusal.TheVariants as refusal
-use Rattle.cs_model.specs.Refusal.{BadDigest, BadLength, BadMagic, BadPadding, BadVersion, DeviceFault, Full, Halted, InFlight, IndexFull, NoRound, NotSweepable, Refusal as Ground, StillLive, TooLarge, WornOut}
+use Rattle.cs_model.specs.Refusal.{BadDigest, BadLength, BadMagic, BadPadding, BadVersion, DeviceFault, Full, Halted, InFlight, IndexFull, Misplaced, NoRound, NotSweepable, Refusal as Ground, StillLive, TooLarge, WornOut}
 
 -- the refusal that an event gives which is refused in the machine
 abbrev pub refusal_for : Ground → Refusal
@@ -13,6 +13,7 @@ refusal_for BadDigest = refusal.BadDigest
 refusal_for BadLength = refusal.BadLength
 refusal_for BadPadding = refusal.BadPadding
 refusal_for BadVersion = refusal.BadVersion
+refusal_for Misplaced = refusal.Misplaced
 refusal_for Full = refusal.Full
 refusal_for TooLarge = refusal.TooLarge
 refusal_for IndexFull = refusal.IndexFull

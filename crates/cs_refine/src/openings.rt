@@ -17,10 +17,10 @@ ghost use Rattle.cs_model.specs.Recovery.{Recovers};
 /// Where chunks and runs may lie on one extent what is found on an image is the start of the machine: the extents, a graph of the
 /// versions that were read, and an index of the runs are the parts of the state at open, the disk is its disk, and no command is counted.
 pub fn what_is_found_is_the_start()
-    ensures { (x : ExtentsState) (image : Image) (versions : List ℕ) (root limit n : ℕ) (runs : List Run) (m : Map)
+    ensures { (x : ExtentsState) (image : Image) (versions : List ℕ) (root format limit n : ℕ) (runs : List Run) (m : Map)
         (found : Recovers (shape x) (formats_of (shape x)) (page image) n m)
         → (shape x).apart ≡ false → IsWhole x → IsFoundAs (shape x) (formats_of (shape x)) (page image) n m found x versions root runs
-        → IsStartOf x (graph_at versions root) (index_at runs limit) image
+        → IsStartOf x (graph_at versions root) (index_at runs format limit) image
         (opened_state (shape x) (formats_of (shape x)) (page image) n m found) }
 {}
 
@@ -34,14 +34,14 @@ pub fn new_store_refines_start()
         → (let x = extents_at format pages sections (replicate extents (0, 0)) in
         let image = (flushed (record { durable = old.durable; volatile = old.volatile ++ writes })).durable in
         (found : Recovers (shape x) (formats_of (shape x)) (page image) 0 (λ id. None))
-        × IsStartOf x (graph_at (replicate sections 1) 1) (index_at [] limit) image
+        × IsStartOf x (graph_at (replicate sections 1) 1) (index_at [] format limit) image
         (opened_state (shape x) (formats_of (shape x)) (page image) 0 (λ id. None) found)) }
     // Of an image that has such pages.
     ensures image { (image : Image) (format extents pages sections limit : ℕ) → IsGeometry format extents pages sections
         → AreNewSections (page image) format extents pages sections → SpellsRoot (page image 1) format 1 0 []
         → (let x = extents_at format pages sections (replicate extents (0, 0)) in
         (found : Recovers (shape x) (formats_of (shape x)) (page image) 0 (λ id. None))
-        × IsStartOf x (graph_at (replicate sections 1) 1) (index_at [] limit) image
+        × IsStartOf x (graph_at (replicate sections 1) 1) (index_at [] format limit) image
         (opened_state (shape x) (formats_of (shape x)) (page image) 0 (λ id. None) found)) }
 {}
 
@@ -53,7 +53,7 @@ pub fn read_store_refines_start()
         → IsStoreRead (page image) format versions pages written root commands runs
         → (let x = extents_at format pages (length versions) written in
         (m : Map) × (found : Recovers (shape x) (formats_of (shape x)) (page image) commands m)
-        × IsStartOf x (graph_at versions root) (index_at (newest_first runs) limit) image
+        × IsStartOf x (graph_at versions root) (index_at (newest_first runs) format limit) image
         (opened_state (shape x) (formats_of (shape x)) (page image) commands m found)) }
 {}
 

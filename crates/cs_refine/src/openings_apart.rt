@@ -18,12 +18,12 @@ ghost use Rattle.cs_refine.specs.Openings.{IsStartOf};
 /// Where chunks and runs lie apart, what is found on an image is the start of the machine once the blank extents are freed under the root
 /// that was read: the extents then, a graph of the versions, an index of the runs and no copy are the parts of the state at open.
 pub fn stores_apart_refine_start()
-    ensures found { (x y : ExtentsState) (image : Image) (versions : List ℕ) (root limit n : ℕ) (runs : List Run) (m : Map)
+    ensures found { (x y : ExtentsState) (image : Image) (versions : List ℕ) (root format limit n : ℕ) (runs : List Run) (m : Map)
         (found : Recovers (shape x) (formats_of (shape x)) (page image) n m)
         → (shape x).apart ≡ true → IsWhole x → IsFoundAs (shape x) (formats_of (shape x)) (page image) n m found x versions root runs
-        → shape y ≡ shape x → extents_of y ≡ freed_under (shape x) (extents_of x) (index_at runs limit) [] root
-        → IsStartOf y (graph_at versions root) (index_at runs limit) image (opened_state (shape x) (formats_of (shape x)) (page image) n m found)
-        × AreAllPartsOf y (graph_at versions root) (index_at runs limit) [] (opened_state (shape x) (formats_of (shape x)) (page image) n m found) }
+        → shape y ≡ shape x → extents_of y ≡ freed_under (shape x) (extents_of x) (index_at runs format limit) [] root
+        → IsStartOf y (graph_at versions root) (index_at runs format limit) image (opened_state (shape x) (formats_of (shape x)) (page image) n m found)
+        × AreAllPartsOf y (graph_at versions root) (index_at runs format limit) [] (opened_state (shape x) (formats_of (shape x)) (page image) n m found) }
     // A store that was read, of which a hidden entry may name what is gone, and of which it is noted on which extents runs lie.
     ensures read { (image : Image) (format : ℕ) (versions : List ℕ) (pages : ℕ) (written : List (ℕ × ℕ)) (root commands limit : ℕ)
         (runs : List StoredRun) (noted y : ExtentsState)
@@ -31,8 +31,8 @@ pub fn stores_apart_refine_start()
         → IsVisibleStoreRead (page image) format versions pages written root commands runs
         → (let x = extents_at format pages (length versions) written in
         (shape x).hidden_stand ≡ false → (shape x).apart ≡ true → IsWhole noted → AreExtentsNoted x (newest_first runs) noted
-        → shape y ≡ shape noted → extents_of y ≡ freed_under (shape noted) (extents_of noted) (index_at (newest_first runs) limit) [] root
+        → shape y ≡ shape noted → extents_of y ≡ freed_under (shape noted) (extents_of noted) (index_at (newest_first runs) format limit) [] root
         → (m : Map) × (found : Recovers (shape x) (formats_of (shape x)) (page image) commands m)
-        × IsStartOf y (graph_at versions root) (index_at (newest_first runs) limit) image (opened_state (shape x) (formats_of (shape x)) (page image) commands m found)
-        × AreAllPartsOf y (graph_at versions root) (index_at (newest_first runs) limit) [] (opened_state (shape x) (formats_of (shape x)) (page image) commands m found)) }
+        × IsStartOf y (graph_at versions root) (index_at (newest_first runs) format limit) image (opened_state (shape x) (formats_of (shape x)) (page image) commands m found)
+        × AreAllPartsOf y (graph_at versions root) (index_at (newest_first runs) format limit) [] (opened_state (shape x) (formats_of (shape x)) (page image) commands m found)) }
 {}
