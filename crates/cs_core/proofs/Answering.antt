@@ -6,12 +6,14 @@ use Rattle.cs_deps.specs.declared.refusals.Refusal.{Refusal as Code}
 use Rattle.cs_deps.specs.declared.refusals.Refusal.TheVariants as code
 use Rattle.cs_deps.specs.declared.refusals.Refusal.TheVariants.{DeviceFault, InFlight, NoRound}
 use Rattle.cs_frame.specs.declared.identifiers.ShardId.{ShardId}
+use Rattle.cs_index.specs.State.{id_number}
 use Rattle.cs_core.specs.declared.events.Event.{Event}
 use Rattle.cs_core.specs.declared.events.Event.TheVariants.{Abandon, Begin, BeginSweep, Delete, End, Get, Issue, MoveOne, Put, Retire, Settle, Stage}
 use Rattle.cs_core.specs.declared.events.OutOfMemory.{OutOfMemory}
 use Rattle.cs_core.specs.declared.events.Reply.{Reply}
 use Rattle.cs_core.specs.declared.events.Reply.TheVariants.{Abandoned, Absent, Accepted, Begun, Ended, Found, Issued, Moved, NoneLive, NotYet, Nothing, Persistent, Refused, Retired, Staged, Sweeping, Unchanged}
-use Rattle.cs_core.specs.Answered.{IsAlone, IsAnswered, IsForDevice, IsLimited}
+use Rattle.cs_core.specs.Answered.{IsAlone, IsAnswered, IsForDevice, IsLimited, TellsMeant}
+use Rattle.cs_core.specs.Lookups.{AreMeantBytes}
 use Rattle.cs_core.specs.Replies.{MayAnswer, MayRefuse}
 use Rattle.cs_core.specs.Stored.{Stored}
 use Rattle.cs_core.specs.Writebacks.{AddsCommand, IsMemberIssued, IsRoundBegun, IsRoundEnded, KeepsRound, KeepsStaging, Stages, StaysRefused, WritesBack}
@@ -20,6 +22,11 @@ use Rattle.cs_core.proofs.Refusing.{limited, may_refuse}
 -- what an answer that isn't a refusal says
 pub ok_of : {A B : Type 0} (P : Type 0) (r : Result A B) (x : A) → r ≡ Ok x → OnOk r P → P
 ok_of {A} {B} P r x is p = subst (λ (k : Result A B). OnOk k P) is p
+
+-- a refusal tells no bytes
+pub no_bytes : (v : Stored) (event : Event) (r : Code) → TellsMeant v event (Refused r)
+no_bytes v (Get id) r = tt
+no_bytes v event r = tt
 
 -- events that may be refused, where no refusal halts or says what is out
 abbrev pub IsPlain : Event → Type 0
@@ -37,91 +44,91 @@ module _ (v w : Stored) where
   refused_alone Issue plain r may known same = absurd plain
   refused_alone End plain r may known same = absurd plain
   refused_alone (Settle n) plain r may known same = absurd plain
-  refused_alone event plain r may known same = (may_refuse event r may known, same)
+  refused_alone event plain r may known same = (may_refuse event r may known, same, no_bytes v event r)
 
   pub begin_refused_so : (r : Code) → (r ≡ code.OutOfMemory) ⊎ MayRefuse Begin r → r ≢ code.OutOfMemory → StaysRefused Begin r v w → IsAnswered v Begin (Refused r) w
   unfolding IsAnswered
-  begin_refused_so r may known stays = (may_refuse Begin r may known, stays)
+  begin_refused_so r may known stays = (may_refuse Begin r may known, stays, tt)
 
   pub issue_refused_so : (r : Code) → (r ≡ code.OutOfMemory) ⊎ MayRefuse Issue r → r ≢ code.OutOfMemory → StaysRefused Issue r v w → IsAnswered v Issue (Refused r) w
   unfolding IsAnswered
-  issue_refused_so r may known stays = (may_refuse Issue r may known, stays)
+  issue_refused_so r may known stays = (may_refuse Issue r may known, stays, tt)
 
   pub end_refused_so : (r : Code) → (r ≡ code.OutOfMemory) ⊎ MayRefuse End r → r ≢ code.OutOfMemory → StaysRefused End r v w → IsAnswered v End (Refused r) w
   unfolding IsAnswered
-  end_refused_so r may known stays = (may_refuse End r may known, stays)
+  end_refused_so r may known stays = (may_refuse End r may known, stays, tt)
 
   pub put_so : (id : ShardId) (bytes : List ℕ) (n : ℕ) → AddsCommand n v w → KeepsRound v w → Stages v w → IsAnswered v (Put id bytes) (Accepted n) w
   unfolding IsAnswered
-  put_so id bytes n adds round behind = (omega (arith, adds.0), (adds, round, behind))
+  put_so id bytes n adds round behind = (omega (arith, adds.0), (adds, round, behind), tt)
 
   pub delete_so : (id : ShardId) (n : ℕ) → AddsCommand n v w → KeepsRound v w → KeepsStaging v w → IsAnswered v (Delete id) (Accepted n) w
   unfolding IsAnswered
-  delete_so id n adds round same = (omega (arith, adds.0), (adds, round, same))
+  delete_so id n adds round same = (omega (arith, adds.0), (adds, round, same), tt)
 
   pub delete_absent_so : (id : ShardId) → w ≡ v → IsAnswered v (Delete id) Absent w
   unfolding IsAnswered
-  delete_absent_so id same = (tt, same)
+  delete_absent_so id same = (tt, same, tt)
 
-  pub get_found_so : (id : ShardId) (bytes : List ℕ) → w ≡ v → IsAnswered v (Get id) (Found bytes) w
+  pub get_found_so : (id : ShardId) (bytes : List ℕ) → AreMeantBytes v (id_number id) bytes → w ≡ v → IsAnswered v (Get id) (Found bytes) w
   unfolding IsAnswered
-  get_found_so id bytes same = (tt, same)
+  get_found_so id bytes meant same = (tt, same, meant)
 
   pub get_absent_so : (id : ShardId) → w ≡ v → IsAnswered v (Get id) Absent w
   unfolding IsAnswered
-  get_absent_so id same = (tt, same)
+  get_absent_so id same = (tt, same, tt)
 
   pub stage_so : (n : ℕ) → w.index.table ≡ [] → KeepsRound v w → Stages v w → IsAnswered v Stage (Staged n) w
   unfolding IsAnswered
-  stage_so n table round behind = (tt, (table, round, behind))
+  stage_so n table round behind = (tt, (table, round, behind), tt)
 
   pub stage_none_so : (v.index.table ≡ []) × (w ≡ v) → IsAnswered v Stage Unchanged w
   unfolding IsAnswered
-  stage_none_so same = (tt, same)
+  stage_none_so same = (tt, same, tt)
 
   pub begin_so : (round : List Name) → IsRoundBegun round v w → IsAnswered v Begin (Begun round) w
   unfolding IsAnswered
-  begin_so round begun = (tt, begun)
+  begin_so round begun = (tt, begun, tt)
 
   pub begin_none_so : (v.graph.staging.pending.waiting ≡ []) × (v.out ≡ None) × (w ≡ v) → IsAnswered v Begin Nothing w
   unfolding IsAnswered
-  begin_none_so same = (tt, same)
+  begin_none_so same = (tt, same, tt)
 
   pub issue_so : (x : Name) (page : ℕ) → IsMemberIssued x v w → IsAnswered v Issue (Issued x page) w
   unfolding IsAnswered
-  issue_so x page issued = (tt, issued)
+  issue_so x page issued = (tt, issued, tt)
 
   pub end_so : (n : ℕ) → IsRoundEnded n v w → IsAnswered v End (Ended n) w
   unfolding IsAnswered
-  end_so n ended = (tt, ended)
+  end_so n ended = (tt, ended, tt)
 
   pub begin_sweep_so : (e : ℕ) → KeepsRound v w → KeepsStaging v w → IsAnswered v (BeginSweep e) Sweeping w
   unfolding IsAnswered
-  begin_sweep_so e round same = (tt, (round, same))
+  begin_sweep_so e round same = (tt, (round, same), tt)
 
   pub move_so : (e : ℕ) (id : ShardId) (chunk : ℕ) → KeepsRound v w → Stages v w → IsAnswered v (MoveOne e) (Moved id chunk) w
   unfolding IsAnswered
-  move_so e id chunk round behind = (tt, (round, behind))
+  move_so e id chunk round behind = (tt, (round, behind), tt)
 
   pub move_none_so : (e : ℕ) → w ≡ v → IsAnswered v (MoveOne e) NoneLive w
   unfolding IsAnswered
-  move_none_so e same = (tt, same)
+  move_none_so e same = (tt, same, tt)
 
   pub retire_so : (e n : ℕ) → w.index.table ≡ [] → KeepsRound v w → Stages v w → IsAnswered v (Retire e) (Retired n) w
   unfolding IsAnswered
-  retire_so e n table round behind = (tt, (table, round, behind))
+  retire_so e n table round behind = (tt, (table, round, behind), tt)
 
   pub abandon_so : (e : ℕ) → KeepsRound v w → KeepsStaging v w → IsAnswered v (Abandon e) Abandoned w
   unfolding IsAnswered
-  abandon_so e round same = (tt, (round, same))
+  abandon_so e round same = (tt, (round, same), tt)
 
   pub persistent_so : (n : ℕ) → 1 ≤ n → w ≡ v → IsAnswered v (Settle n) Persistent w
   unfolding IsAnswered
-  persistent_so n some same = (some, same)
+  persistent_so n some same = (some, same, tt)
 
   pub not_yet_so : (n f : ℕ) → (n ≡ 0) ⊎ (f < n) → w ≡ v → IsAnswered v (Settle n) (NotYet f) w
   unfolding IsAnswered
-  not_yet_so n f below same = (below, same)
+  not_yet_so n f below same = (below, same, tt)
 
   -- the reply is that of a refusal
   pub if_refused_so : (event : Event) (r : Code) (result : Result (Reply × Reply) OutOfMemory)
@@ -143,6 +150,10 @@ module _ (v w : Stored) where
   pub answered_writes : (event : Event) (reply : Reply) → IsAnswered v event reply w → WritesBack v event reply w
   unfolding IsAnswered
   answered_writes event reply is = is.1
+
+  pub answered_meant : (event : Event) (reply : Reply) → IsAnswered v event reply w → TellsMeant v event reply
+  unfolding IsAnswered
+  answered_meant event reply is = is.2
 
 -- a full history
 pub full_shape : (event : Event) → IsLimited event → MayAnswer event (Refused code.HistoryFull)
@@ -189,10 +200,10 @@ pub halted_so : (v : Stored) (e : Event) → ((id : ShardId) → e ≡ Get id �
 unfolding IsAnswered
 halted_so v (Get id) get settle = absurd (get id refl)
 halted_so v (Settle n) get settle = absurd (settle n refl)
-halted_so v Begin get settle = (tt, refl)
-halted_so v Issue get settle = (tt, refl)
-halted_so v End get settle = (tt, refl)
-halted_so v e get settle = (tt, refl)
+halted_so v Begin get settle = (tt, refl, tt)
+halted_so v Issue get settle = (tt, refl, tt)
+halted_so v End get settle = (tt, refl, tt)
+halted_so v e get settle = (tt, refl, tt)
 
 -- there is no other
 pub no_other : (e : Event) → IsAlone e → ((id : ShardId) (bytes : List ℕ) → e ≡ Put id bytes → ⊥) → ((id : ShardId) → e ≡ Delete id → ⊥) → (e ≡ Stage → ⊥) → (e ≡ Begin → ⊥) → ((n : ℕ) → e ≡ BeginSweep n → ⊥)

@@ -9,7 +9,7 @@ use Rattle.cs_extent.specs.State.{IsWhole, State as ExtentsState, section_rows, 
 use Rattle.cs_frame.proofs.FirstFormatLaws.{spelled_has_none as first_has_none, zero_of_first, zero_of_section}
 use Rattle.cs_frame.proofs.GeometryLaws.{bounds}
 use Rattle.cs_frame.proofs.RootLaws as roots
-use Rattle.cs_frame.proofs.RunLaws.{run_fault-spelled}
+use Rattle.cs_frame.proofs.FormatRunLaws.{fault-spelled}
 use Rattle.cs_frame.proofs.SuperblockLaws as superblocks
 use Rattle.cs_frame.specs.declared.faults.FormatFault.{FormatFault}
 use Rattle.cs_frame.specs.declared.frames.FrameKind.TheVariants.{Run}
@@ -18,7 +18,7 @@ use Rattle.cs_frame.specs.FirstFormat.{SpellsPageZero, page_zero_fault}
 use Rattle.cs_frame.specs.Formats.{formats_of}
 use Rattle.cs_frame.specs.Geometries.{IsGeometry, device_pages, section_size}
 use Rattle.cs_frame.specs.Roots.{root_fault}
-use Rattle.cs_frame.specs.Runs.{run_fault}
+use Rattle.cs_frame.specs.FormatRuns.{run_fault}
 use Rattle.cs_frame.specs.Superblocks.{SpellsSuperblock, superblock_fault}
 use Rattle.cs_image.proofs.OneByOne.{place_inside}
 use Rattle.cs_image.proofs.Readable.{all_readable, part, root_spelled, section_spelled, store_read, visible_store_read, zero_same}
@@ -44,7 +44,7 @@ read_there x whole view place r has (inr (inl broken)) =
     no_fault (fault_in x view Run place) r (no_fault_there x whole view Run place (place_inside x place whole has.1.located).1 has.1.payload has.1.frame) broken.1
 read_there x whole view place r has (inr (inr spoiled)) =
     let same : has.1.payload ≡ spoiled.1.0 = one_frame x whole view Run place (place_inside x place whole has.1.located).1 has.1.payload spoiled.1.0 has.1.frame spoiled.1.1 in
-    no_fault (run_fault spoiled.1.0) r (ap run_fault (sym same) ∙ run_fault-spelled has.1.payload has.0 has.1.spelled) spoiled.1.2
+    no_fault (run_fault x.format spoiled.1.0) r (ap (run_fault x.format) (sym same) ∙ fault-spelled x.format has.1.payload has.0 has.1.spelled) spoiled.1.2
 
 -- a section that page 0 spells has no fault there
 no_zero_fault : (page : List ℕ) (format version extents pages sections section : ℕ) (rows : List (ℕ × ℕ)) → SpellsPageZero page format version extents pages sections section rows → page_zero_fault page ≡ None

@@ -39,4 +39,8 @@ module _ (x : ExtentsState) (s : State) (same : s.world.extents ≡ extents_of x
 
     -- a frame that the newest pages have is read
     pub frame_read : (l : Place) (payload : List ℕ) → ReadsNow (shape x) (formats_of (shape x)) s l ChunkFrame payload → IsFrameIn x (pages_now (shape x) s held) ChunkFrame (as_locator l) payload
-    frame_read l payload reads = (within l payload reads, read_back l.extent l.page ((formats_of (shape x)).frame ChunkFrame payload) reads.passes.inside.0 reads.inside reads.stand)
+    frame_read l payload reads = (
+      within l payload reads,
+      read_back l.extent l.page ((formats_of (shape x)).frame ChunkFrame payload) reads.passes.inside.0 reads.inside reads.stand,
+      reads.marked,
+    )

@@ -2,7 +2,7 @@
 use Rattle.std.proofs.Common.{◌≡◌, ◌≢◌, ◌⊎◌, inl, inr, ℕ, ◌+◌, ◌*◌, ◌≤◌, ◌==◌, true, false, eqb-true, eq-eqb, List, [], ◌∷◌, Some, None, Ok, Err, length, map, refl, sym, ap, ◌∙◌, subst, arith}
 use Rattle.std.specs.Prelude.{◌↔◌, Vec, slice_get, take}
 use Rattle.std.specs.declared.alloc.Global.{Global}
-use Rattle.cs_chunk.specs.Chunks.{AreChunksIn}
+use Rattle.cs_chunk.specs.Chunks.{AreChunksIn, AreMeant}
 use Rattle.cs_chunk.specs.Newest.{AreNewest}
 use Rattle.cs_chunk.specs.Reads.{IsOfChunkIn, IsReadRefusal}
 use Rattle.cs_deps.specs.declared.refusals.Refusal.{Refusal as Code}
@@ -23,6 +23,7 @@ use Rattle.cs_refine.proofs.Indexes.{absent}
 use Rattle.cs_refine.proofs.FoundShards.{get_damaged, get_found}
 use Rattle.cs_refine.proofs.PagesRead.{pages_read}
 use Rattle.cs_refine.specs.Devices.{IsDiskOf, pages_now}
+use Rattle.cs_core.specs.Lookups.{AreMeantBytes}
 use Rattle.cs_core.specs.Reads.{DeclinesOn, GetAnswers}
 use Rattle.cs_core.specs.States.{IsStateOf}
 use Rattle.cs_core.specs.Stored.{Stored}
@@ -61,6 +62,12 @@ some_left ls e none = let f : false ≡ true = e ∙ eq-eqb (length ls) 0 (ap le
 -- where places were found some are live
 pub found_live : (v : Stored) (id : ℕ) (ls : List Locator) → live_at (index_of v.index) id ≡ map place_of ls → ls ≢ [] → live_at (index_of v.index) id ≢ []
 found_live v id ls found some none = some_places ls some (sym found ∙ none)
+
+-- what is read at the places that were found is what they mean
+pub meant_found : (v : Stored) (id : ℕ) (ls : List Locator) → live_at (index_of v.index) id ≡ map place_of ls → (bytes : List ℕ)
+    → (cs : List (List ℕ)) × AreMeant (shape v.extents) ls cs × (bytes ≡ joined cs) → AreMeantBytes v id bytes
+meant_found v id ls found bytes meant =
+    (meant.0, subst (λ (ks : List Locator). AreMeant (shape v.extents) ks meant.0) (sym (ap (map as_locator) found ∙ there_and_back ls)) meant.1, meant.2)
 
 module _ (v : Stored) (id : ℕ) (disk : DiskState) where
   map_of : (s : State) → IsStateOf v s → (live_at (index_of v.index) id ≡ []) ↔ (map_now s id ≡ None)

@@ -66,6 +66,9 @@ pub found_there : (S : Shape) (i : IndexState) (id : ℕ) (ls : List Locator) �
 found_there S i id ls inside is k d lt = inside id (place_of (slice_index_or ls k d)) (subst (λ (o : Option (List Place)). place_of (slice_index_or ls k d) ∈ live o) is (in_places ls k d lt))
 
 -- other room in the table changes nothing else
+pub same_format : (i j : IndexState) → j ≡ record i { room = j.room } → j.format ≡ i.format
+same_format i j e = ap (λ (u : IndexState). u.format) e
+
 pub same_limit : (i j : IndexState) → j ≡ record i { room = j.room } → j.limit ≡ i.limit
 same_limit i j e = ap (λ (u : IndexState). u.limit) e
 
@@ -178,13 +181,14 @@ noted_staged s kept graph h v adds roots same =
 
 -- SOUNDNESS
 pub kept_on : (s w : Stored) → IsKept s → KeepsDevice s.extents s.graph w.extents w.graph → AreResetsStaged (extents_of w.extents) w.graph.staging
-    → length w.graph.staging.latest ≡ length s.graph.staging.latest → w.index.limit ≡ s.index.limit → AreInside (shape s.extents) w.index
+    → length w.graph.staging.latest ≡ length s.graph.staging.latest → w.index.format ≡ s.index.format → w.index.limit ≡ s.index.limit → AreInside (shape s.extents) w.index
     → w.out ≡ s.out → w.issued ≡ s.issued → w.base + w.accepted < 2 ^ 63 → AreSwept w.extents → ((shape w.extents).apart ≡ true → IsKeptApart w.extents w.index w.copies)
     → AreNoted (slice_index s.graph.staging.pending.persistent root_family) (last_root w.graph) w.roots w.frontier w.accepted → IsKept w
-kept_on s w kept moves resets families limit inside out issued numbers swept apart noted = record {
+kept_on s w kept moves resets families format limit inside out issued numbers swept apart noted = record {
   families = families ∙ kept.families ∙ ap (λ (S : Shape). 1 + S.sections) (sym moves.same_shape);
   resets = resets;
   writes = subst (λ (S : Shape). AreWithin (page_total S) w.graph) (sym moves.same_shape) (moves.within kept.writes);
+  format = format ∙ kept.format ∙ ap (λ (S : Shape). S.format) (sym moves.same_shape);
   limit = limit ∙ kept.limit ∙ ap (λ (S : Shape). S.most_names) (sym moves.same_shape);
   places = subst (λ (S : Shape). AreInside S w.index) (sym moves.same_shape) inside;
   round = out ∙ kept.round ∙ sym moves.round;
@@ -225,7 +229,7 @@ marked_resets x y g e b old is = subst (λ (u : Extents). AreResetsStaged u g) (
 pub kept_marked : (s : Stored) → IsKept s → (y : ExtentsState) (e : ℕ) (b : Bool) → shape y ≡ shape s.extents → extents_of y ≡ marked (extents_of s.extents) e b
     → (b ≡ true → ((shape y).apart ≡ false) × IsSwept (shape y) (extents_of y) e) → IsKept (record s { extents = y })
 kept_marked s kept y e b same extents here = kept_on s (record s { extents = y }) kept (moves_extents s.extents s.graph y same) (marked_resets s.extents y s.graph.staging e b kept.resets extents)
-    refl refl kept.places refl refl kept.numbers
+    refl refl refl kept.places refl refl kept.numbers
     (swept_marked s.extents y e b same extents kept.swept (λ t. let swept = here t in ((λ before. swept.1), (λ apart. absurd (not_both (shape y).apart swept.0 apart)))))
     (kept_apart_marked s.extents y s.index s.copies e b same extents (λ t. (here t).0) kept.apart) kept.noted
 
@@ -237,6 +241,7 @@ kept_round s kept g latest none out is issued few roots frontier noted = record 
   families = ap length latest ∙ kept.families;
   resets = subst (λ (vs : List ℕ). (e : ℕ) → (extents_of s.extents).reset e ≤ slice_index vs 1) (sym latest) kept.resets;
   writes = λ x w there. kept.writes x w (none x w there);
+  format = kept.format;
   limit = kept.limit;
   places = kept.places;
   round = is;

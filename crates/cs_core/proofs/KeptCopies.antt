@@ -43,7 +43,7 @@ module _ (v : Stored) (kept : IsKept v) (apart : (shape v.extents).apart ≡ tru
 
     kept_one : IsKept (record v { extents = y })
     kept_one = kept_on v (record v { extents = y }) kept (moves_extents v.extents v.graph y same)
-        (subst (λ (u : Extents). AreResetsStaged u v.graph.staging) (sym begun) kept.resets) refl refl kept.places refl refl kept.numbers
+        (subst (λ (u : Extents). AreResetsStaged u v.graph.staging) (sym begun) kept.resets) refl refl refl kept.places refl refl kept.numbers
         (only_apart y apart_then (λ d is. subst (λ (k : ℕ). IsSweptApart (shape y) (extents_of y) k) (sym (only_one d is)) swept))
         (λ rule. record {
           runs = subst (λ (S : Shape). length v.index.runs ≤ S.most_runs) (sym same) (kept.apart apart).runs;
@@ -90,7 +90,7 @@ module _ (v : Stored) (kept : IsKept v) (apart : (shape v.extents).apart ≡ tru
 
   kept_copy : (id k : ℕ) (payload : List ℕ) → IsCopyMade v.index v.extents v.graph v.copies e id k payload after y h → IsKept (record v { extents = y; graph = h; copies = after })
   kept_copy id k payload made = kept_on v (record v { extents = y; graph = h; copies = after }) kept
-      (moves_appended true v.extents v.graph ForMove (chunk_frame v.extents payload) made.to y h made.appended) resets families refl kept.places
+      (moves_appended true v.extents v.graph ForMove (chunk_frame v.extents payload) made.to y h made.appended) resets families refl refl kept.places
       refl refl kept.numbers
       (swept_appended true v.extents y v.graph h ForMove (chunk_frame v.extents payload) made.to apart made.appended kept.swept)
       (λ rule. kept_copies (λ d is. sym (ap (λ (u : Extents). u.swept d) made.appended.extents) ∙ is) (copies_there v.extents v.graph v.index v.copies e id k payload after y h made (kept.apart apart).placed))
@@ -106,7 +106,7 @@ module _ (v : Stored) (kept : IsKept v) (apart : (shape v.extents).apart ≡ tru
       (subst (λ (k : ExtentsState). IsKept (record v { extents = k; graph = h })) (sym u.1) (subst (λ (k : GraphState). IsKept (record v { graph = k })) (sym u.2) kept))
   kept_copied (Ok (Some (id, k))) unchanged copied refused unwritten unstaged = let c = copied id k refl in kept_copy (id_number id) k c.0 c.1
   kept_copied (Err r) unchanged copied refused unwritten unstaged = kept_on v (record v { extents = y; graph = h; copies = after }) kept
-      (moves_refused v.extents v.graph y h unwritten unstaged) resets families refl kept.places refl refl kept.numbers
+      (moves_refused v.extents v.graph y h unwritten unstaged) resets families refl refl kept.places refl refl kept.numbers
       (subst (λ (x : ExtentsState). AreSwept x) (sym unwritten) kept.swept)
       (λ rule. kept_copies (λ d is. ap (λ (x : ExtentsState). (extents_of x).swept d) (sym unwritten) ∙ is)
       (λ c among. (kept.apart apart).placed c (subst (λ (cs : List Copy). c ∈ cs) refused among)))

@@ -5,10 +5,13 @@ use Rattle.cs_extent.specs.Appended.{AreAppendedBy}
 use Rattle.cs_extent.specs.State.{State as ExtentsState, extents_of, shape}
 use Rattle.cs_frame.specs.declared.locators.Locator.{Locator}
 use Rattle.cs_frame.specs.Formats.{place_of}
+use Rattle.cs_frame.specs.Locators.{KeepFormat}
+use Rattle.cs_index.proofs.Marks.{placed_keeps}
 use Rattle.cs_index.specs.State.{IsSet, State as IndexState, index_of}
 use Rattle.cs_model.specs.Device.{Inside, Shape}
 use Rattle.cs_model.specs.Element.{Copy, Locator as Place}
 use Rattle.cs_model.specs.Extents.{Extents, ForPut, Purpose as Reason}
+use Rattle.cs_model.specs.Geometry.{marks_in}
 use Rattle.cs_model.specs.Lists.{nth}
 use Rattle.cs_reclaim.proofs.Copying.{up_to_put}
 use Rattle.cs_reclaim.proofs.Marking.{elsewhere_apart}
@@ -27,6 +30,16 @@ places_off x y g h r (f ∷ fs) (l ∷ ls) e all swept zero p is =
 places_off x y g h r (f ∷ fs) (l ∷ ls) e all swept (suc k) p is = places_off all.0 y all.1 h r fs ls e all.3 (append_stays_apart x all.0 g all.1 r f l e all.2 swept) k p is
 places_off x y g h r [] (l ∷ ls) e all swept k p is = absurd all
 places_off x y g h r (f ∷ fs) [] e all swept k p is = absurd all
+
+-- the places of frames that are appended keep to the store's format
+pub placed_all : (b : Bool) (x y : ExtentsState) (g h : GraphState) (r : Reason) (frames : List (List (List ℕ))) (ls : List Locator) → AreAppendedBy b x g r frames ls y h → KeepFormat x.format ls
+placed_all b x y g h r [] [] all = λ off. tt
+placed_all b x y g h r (f ∷ fs) (l ∷ ls) all = λ off. (
+  (placed_keeps x f l all.2.place off).0,
+  placed_all b all.0 y all.1 h r fs ls all.3 (ap (λ (S : Shape). marks_in S.format) all.2.same_shape ∙ off),
+)
+placed_all b x y g h r [] (l ∷ ls) all = absurd all
+placed_all b x y g h r (f ∷ fs) [] all = absurd all
 
 -- frames that are appended mark nothing, and the shape is the same
 marks_all : (b : Bool) (x y : ExtentsState) (g h : GraphState) (r : Reason) (frames : List (List (List ℕ))) (ls : List Locator) → AreAppendedBy b x g r frames ls y h

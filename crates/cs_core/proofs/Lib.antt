@@ -23,6 +23,7 @@ pub mod Leaving
 pub mod Living
 pub mod Loading
 pub mod Looking
+pub mod Meant
 pub mod Members
 pub mod MoveGrounds
 pub mod MoveSteps
@@ -50,6 +51,7 @@ pub mod StagesApart
 pub mod Starting
 pub mod SweepSteps
 pub mod Sweepable
+pub mod TornCrashes
 pub mod Unstaged
 pub mod Versions
 pub mod Causes

@@ -39,7 +39,7 @@ use Rattle.cs_core.proofs.Readying.{hidden_gone, hidden_stand}
 use Rattle.cs_core.proofs.RootsRead.{noted, read_alone}
 
 module _ (image : Image) (format : ℕ) (versions : List ℕ) (pages : ℕ) (written : List (ℕ × ℕ)) (root commands : ℕ) (runs : List StoredRun) (y : ExtentsState)
-    (opened : AreExtentsOpened (extents_at format pages (length versions) written) (index_at (newest_first runs) (named_limit pages)) root y)
+    (opened : AreExtentsOpened (extents_at format pages (length versions) written) (index_at (newest_first runs) format (named_limit format pages)) root y)
     (are : ArePages (device_pages format (length written) pages (length versions)) (page image)) (read : IsStoreReadBy (page image) format versions pages written root commands runs) where
   abbrev x : ExtentsState
   x = extents_at format pages (length versions) written
@@ -47,17 +47,22 @@ module _ (image : Image) (format : ℕ) (versions : List ℕ) (pages : ℕ) (wri
   -- the start of the machine, by extents and shape
   abbrev Starts : ExtentsState → Shape → Type 0
   Starts z T = (m : Map) × (found : Recovers T (formats_of T) (page image) commands m)
-      × IsStartOf z (graph_at versions root) (index_at (newest_first runs) (named_limit z.pages)) image (opened_state T (formats_of T) (page image) commands m found)
+      × IsStartOf z (graph_at versions root) (index_at (newest_first runs) z.format (named_limit z.format z.pages)) image (opened_state T (formats_of T) (page image) commands m found)
 
   -- by either rule what was read is one
   starts : Starts y (shape y)
   starts = elim (cases_Bool (shape x).apart) [
     | inl on ↦ (let noted = opened.apart on in
-        let s = read_apart image format versions pages written root commands (named_limit y.pages) runs are (read.visible (hidden_gone x on)) noted.0 y (hidden_gone x on) on noted.1 noted.2
+        let same : y.format ≡ format = ap (λ (S : Shape). S.format) opened.same_shape in
+        let s = read_apart image format versions pages written root commands (named_limit y.format y.pages) runs are (read.visible (hidden_gone x on)) noted.0 y (hidden_gone x on) on noted.1 noted.2
         (opened.same_shape ∙ sym noted.2.same_shape) noted.3 in
-        subst (λ (T : Shape). Starts y T) (sym opened.same_shape) (s.0, s.1, s.2))
+        subst (λ (T : Shape). Starts y T) (sym opened.same_shape) (
+          s.0,
+          s.1,
+          subst (λ (f : ℕ). IsStartOf y (graph_at versions root) (index_at (newest_first runs) f (named_limit y.format y.pages)) image (opened_state (shape x) (formats_of (shape x)) (page image) commands s.0 s.1)) (sym same) s.2,
+        ))
     | inr not ↦ subst (λ (z : ExtentsState). Starts z (shape z)) (sym (opened.together not))
-        (read_started image format versions pages written root commands (named_limit pages) runs are (read.whole (hidden_stand x not)) not)
+        (read_started image format versions pages written root commands (named_limit format pages) runs are (read.whole (hidden_stand x not)) not)
   ]
 
   -- the sections of the superblock

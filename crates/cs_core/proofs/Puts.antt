@@ -173,7 +173,7 @@ module _ (v : Stored) (s : State) (whole : IsWhole v.extents) (is : IsStateOf v 
 -- room for the entry alone has changed
 pub set_from : (id : ℕ) (i k j : IndexState) (ls : List Locator) → k ≡ record i { room = k.room } → IsSet k id ls j → IsSet i id ls j
 set_from id i k j ls e set = let there : IsSet (record i { room = k.room }) id ls j = subst (λ (u : IndexState). IsSet u id ls j) e set in
-    record { table = there.table; index = there.index; runs = there.runs; limit = there.limit }
+    record { table = there.table; index = there.index; runs = there.runs; format = there.format; limit = there.limit }
 
 -- ---- refusals of the calls
 module _ (v w : Stored) (whole : IsWhole v.extents) (b : Bool) (rule : (shape v.extents).apart ≡ b) (limit : v.index.limit ≡ (shape v.extents).most_names) (runs : v.halted ≡ false) (same : but_for_room w ≡ but_for_room v) (id : ℕ) (bytes : List ℕ) (r : Code) where

@@ -1,20 +1,24 @@
 -- The numbers under which an opening is refused.
-use Rattle.std.proofs.Common.{◌≡◌, ◌⊎◌, inl, inr, ℕ, ◌+◌, ◌*◌, ◌^◌, ◌≤◌, Bool, true, false, List, [], ◌∷◌, ◌++◌, codes, length, drop, Option, Some, None, arith, refl, sym, subst, bytes_eq, nat_le, if◌then◌else◌}
+use Rattle.std.proofs.Common.{◌≡◌, ◌⊎◌, inl, inr, ℕ, zero, suc, ◌+◌, ◌^◌, ◌≤◌, Bool, true, false, List, [], ◌∷◌, ◌++◌, codes, length, drop, Option, Some, None, arith, refl, sym, subst, bytes_eq, nat_le, if◌then◌else◌}
 use Rattle.std.specs.Prelude.{◌==◌, ◌&&◌, nat_lt, slice_index}
 use Rattle.std.proofs.lemmas.Option.{same_Some}
-use Rattle.cs_chunk.specs.Reads.{IsOfFault, refusal_for}
+use Rattle.cs_chunk.specs.Reads.{IsOfFault, IsReadRefusal, refusal_for}
 use Rattle.cs_deps.specs.declared.refusals.Refusal.{Refusal}
 use Rattle.cs_deps.specs.declared.refusals.Refusal.TheVariants.{OutOfMemory as NoMemory}
 use Rattle.cs_deps.specs.Refusals.{number_of}
 use Rattle.cs_frame.specs.declared.faults.FormatFault.{FormatFault}
-use Rattle.cs_frame.specs.declared.faults.FormatFault.TheVariants.{BadDigest, BadGeometry, BadLength, BadMagic, BadPadding, BadVersion, OutOfMemory, OutOfOrder}
+use Rattle.cs_frame.specs.declared.faults.FormatFault.TheVariants.{BadDigest, BadGeometry, BadLength, BadMagic, BadPadding, BadVersion, Misplaced, OutOfMemory, OutOfOrder}
 use Rattle.cs_frame.specs.Bytes.{all_zero, field, number}
 use Rattle.cs_frame.specs.Faults.{fault_number, first_fault, unless}
 use Rattle.cs_frame.specs.FirstFormat.{first_format_end, first_format_fault, first_format_tests, page_zero_fault, zero_format}
+use Rattle.cs_frame.specs.FormatRuns.{run_fault}
+use Rattle.cs_frame.specs.Geometries.{run_bytes}
+use Rattle.cs_frame.specs.PackedRuns.{packed_end, packed_fault, packed_tests}
 use Rattle.cs_frame.specs.Pages.{digest_test}
 use Rattle.cs_frame.specs.Roots.{greatest_runs, root_digit, root_end, root_fault, root_tests}
-use Rattle.cs_frame.specs.Runs.{entries_tests, entry_end, id_in, is_before, order_test, pieces_in, run_fault, run_tests}
+use Rattle.cs_frame.specs.Runs.{entries_tests, entry_end, id_in, is_before, order_test, pieces_in, plain_fault, plain_tests}
 use Rattle.cs_frame.specs.Superblocks.{superblock_end, superblock_fault, superblock_tests}
+use Rattle.cs_model.specs.Geometry.{marks_in}
 use Rattle.cs_core.specs.Openings.{IsOpeningRefusal}
 
 abbrev InRange : FormatFault → Type 0
@@ -108,11 +112,11 @@ root_finds format bytes = first_finds (root_tests format bytes) (
     (
       finds (nat_le (slice_index bytes 20) (greatest_runs format)) BadLength (omega arith, omega arith),
       (
-        digest (root_end bytes) bytes,
+        digest (root_end format bytes) bytes,
         (
           finds (nat_le 1 (number 4 12 bytes) && nat_lt (number 4 12 bytes) (2 ^ 63) && nat_lt (number 12 20 bytes) (2 ^ 63)) BadVersion (omega arith, omega arith),
           (
-            finds (all_zero (drop (root_end bytes + 32) bytes)) BadPadding (omega arith, omega arith),
+            finds (all_zero (drop (root_end format bytes + 32) bytes)) BadPadding (omega arith, omega arith),
             tt,
           ),
         ),
@@ -138,11 +142,40 @@ entries_find previous (piece ∷ pieces) = (
   ),
 )
 
-run_finds : (payload : List ℕ) → FindsInRange (run_fault payload)
-run_finds payload = first_finds (run_tests payload) (
-  finds (nat_le 4 (length payload) && nat_le 1 (number 0 4 payload) && length payload == 4 + 81 * number 0 4 payload) BadLength (omega arith, omega arith),
+plain_finds : (payload : List ℕ) → FindsInRange (plain_fault payload)
+plain_finds payload = first_finds (plain_tests payload) (
+  finds (nat_le 4 (length payload) && nat_le 1 (number 0 4 payload) && length payload == run_bytes (number 0 4 payload)) BadLength (omega arith, omega arith),
   entries_find None (pieces_in payload),
 )
+
+packed_find : (count : ℕ) (previous : Option (List ℕ)) (bytes : List ℕ) → AllFind (packed_tests count previous bytes)
+packed_find zero previous bytes = (finds (length bytes == 0) BadLength (omega arith, omega arith), tt)
+packed_find (suc count) previous bytes = (
+  finds (nat_le 17 (length bytes)) BadLength (omega arith, omega arith),
+  (
+    order_finds previous (id_in bytes),
+    (
+      finds (nat_le (slice_index bytes 16) 8) BadLength (omega arith, omega arith),
+      (
+        finds (nat_le (packed_end bytes) (length bytes)) BadLength (omega arith, omega arith),
+        packed_find count (Some (id_in bytes)) (drop (packed_end bytes) bytes),
+      ),
+    ),
+  ),
+)
+
+packed_finds : (payload : List ℕ) → FindsInRange (packed_fault payload)
+packed_finds payload = first_finds (unless (nat_le 4 (length payload) && nat_le 1 (number 0 4 payload)) BadLength ∷ packed_tests (number 0 4 payload) None (drop 4 payload)) (
+  finds (nat_le 4 (length payload) && nat_le 1 (number 0 4 payload)) BadLength (omega arith, omega arith),
+  packed_find (number 0 4 payload) None (drop 4 payload),
+)
+
+run_finds : (format : ℕ) (payload : List ℕ) → FindsInRange (run_fault format payload)
+run_finds format payload = go (marks_in format)
+  where
+    go : (b : Bool) → FindsInRange (if b then packed_fault payload else plain_fault payload)
+    go true = packed_finds payload
+    go false = plain_finds payload
 
 -- the refusal has the fault's number
 same_number : (f : FormatFault) → number_of (refusal_for f) ≡ fault_number f
@@ -154,13 +187,14 @@ same_number BadLength = refl
 same_number BadPadding = refl
 same_number BadVersion = refl
 same_number OutOfOrder = refl
+same_number Misplaced = refl
 
 of_fault : (found : Option FormatFault) → FindsInRange found → (r : Refusal) → (r ≡ NoMemory) ⊎ IsOfFault found r → IsOpeningRefusal r
 of_fault found range r (inl memory) = inl (inr memory)
 of_fault found range r (inr fault) =
     let there = range fault.0 fault.1 in
     let number : number_of (refusal_for fault.0) ≡ fault_number fault.0 = same_number fault.0 in
-    inr (inl (subst (λ (k : Refusal). (20 ≤ number_of k) × (number_of k ≤ 25)) (sym fault.2) (omega (arith, number, there.0), omega (arith, number, there.1))))
+    inr (inl (subst (λ (k : Refusal). (20 ≤ number_of k) × (number_of k ≤ 26)) (sym fault.2) (omega (arith, number, there.0), omega (arith, number, there.1))))
 
 pub superblock_refused : (format : ℕ) (bytes : List ℕ) (r : Refusal) → (r ≡ NoMemory) ⊎ IsOfFault (superblock_fault format bytes) r → IsOpeningRefusal r
 superblock_refused format bytes r why = of_fault (superblock_fault format bytes) (superblock_finds format bytes) r why
@@ -171,5 +205,11 @@ page_zero_refused bytes r why = of_fault (page_zero_fault bytes) (page_zero_find
 pub root_refused : (format : ℕ) (bytes : List ℕ) (r : Refusal) → (r ≡ NoMemory) ⊎ IsOfFault (root_fault format bytes) r → IsOpeningRefusal r
 root_refused format bytes r why = of_fault (root_fault format bytes) (root_finds format bytes) r why
 
-pub run_refused : (payload : List ℕ) (r : Refusal) → (r ≡ NoMemory) ⊎ IsOfFault (run_fault payload) r → IsOpeningRefusal r
-run_refused payload r why = of_fault (run_fault payload) (run_finds payload) r why
+pub run_refused : (format : ℕ) (payload : List ℕ) (r : Refusal) → (r ≡ NoMemory) ⊎ IsOfFault (run_fault format payload) r → IsOpeningRefusal r
+run_refused format payload r why = of_fault (run_fault format payload) (run_finds format payload) r why
+
+-- a frame is refused so
+pub frame_refused : (r : Refusal) → IsReadRefusal r → IsOpeningRefusal r
+frame_refused r (inl none) = inl none
+frame_refused r (inr (inl range)) = inr (inl (range.0, omega (arith, range.1)))
+frame_refused r (inr (inr is)) = inr (inl (subst (λ (k : Refusal). (20 ≤ number_of k) × (number_of k ≤ 26)) (sym is) (omega arith, omega arith)))

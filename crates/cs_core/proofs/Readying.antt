@@ -60,9 +60,9 @@ module _ {T : Type 0} (result : Result T Refusal) (P Q : Type 0) where
       go (Err r) from why = ⊎_elim (λ m. inl m) (λ w. inr (w.0, ⊎_elim (λ not. inl (λ q. not (from q))) (λ many. inr many) w.1)) why
 
 -- the extents on which located runs lie are there
-pub runs_there : (x : ExtentsState) (i : IndexState) (runs : List StoredRun) (limit : ℕ) → i ≡ index_at (newest_first runs) limit → AllByRecursion (λ run. IsLocated x run.place) runs
+pub runs_there : (x : ExtentsState) (i : IndexState) (runs : List StoredRun) (format limit : ℕ) → i ≡ index_at (newest_first runs) format limit → AllByRecursion (λ run. IsLocated x run.place) runs
     → AllByRecursion (λ (run : Run). run.place.extent < (shape x).extents) i.runs
-runs_there x i runs limit is all = subst (λ (j : IndexState). AllByRecursion (λ (run : Run). run.place.extent < (shape x).extents) j.runs) (sym is)
+runs_there x i runs format limit is all = subst (λ (j : IndexState). AllByRecursion (λ (run : Run). run.place.extent < (shape x).extents) j.runs) (sym is)
     (all_newest (λ (run : Run). run.place.extent < (shape x).extents) runs (go runs all))
   where
     go : (rs : List StoredRun) → AllByRecursion (λ run. IsLocated x run.place) rs → AllByRecursion (λ run. (run_of run).place.extent < (shape x).extents) rs
@@ -70,7 +70,7 @@ runs_there x i runs limit is all = subst (λ (j : IndexState). AllByRecursion (�
     go (run ∷ rs) each = (each.0.extent, go rs each.1)
 
 -- what an index of runs has is what is visible of the runs
-module _ {T : Type 0} (result : Result T Refusal) (x : ExtentsState) (i : IndexState) (runs : List StoredRun) (limit : ℕ) (is : i ≡ index_at (newest_first runs) limit) where
+module _ {T : Type 0} (result : Result T Refusal) (x : ExtentsState) (i : IndexState) (runs : List StoredRun) (format limit : ℕ) (is : i ≡ index_at (newest_first runs) format limit) where
   pub live_visible : OnOk result (AreLiveLocated x (index_of i)) → OnOk result (AreVisibleLocated x runs)
   live_visible all = ok_by result (AreLiveLocated x (index_of i)) (AreVisibleLocated x runs) (λ live. subst (λ (j : IndexState). AreLiveLocated x (index_of j)) is live) all
 

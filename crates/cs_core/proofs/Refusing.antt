@@ -56,4 +56,5 @@ damaged id r low high = absurd (omega (arith, low, high))
 pub get_refuses : (id : ShardId) (r : Code) → IsReadRefusal r → (r ≡ code.OutOfMemory) ⊎ MayRefuse (Get id) r
 get_refuses id r (inl (inl fault)) = inr (subst (λ (k : Code). MayRefuse (Get id) k) (sym fault) tt)
 get_refuses id r (inl (inr want)) = inl want
-get_refuses id r (inr (low, high)) = inr (damaged id r low high)
+get_refuses id r (inr (inl (low, high))) = inr (damaged id r low high)
+get_refuses id r (inr (inr other)) = inr (subst (λ (k : Code). MayRefuse (Get id) k) (sym other) tt)

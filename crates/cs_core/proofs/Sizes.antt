@@ -13,7 +13,9 @@ use Rattle.cs_frame.specs.declared.locators.Locator.{Locator}
 use Rattle.cs_frame.specs.Formats.{as_locator, formats_of, place_of}
 use Rattle.cs_index.specs.State.{State as IndexState, index_of}
 use Rattle.cs_model.specs.Element.{Bytes, Content, Damaged, Locator as Place}
+use Rattle.cs_model.specs.Device.{Shape}
 use Rattle.cs_model.specs.Events.{newest_page}
+use Rattle.cs_model.specs.Formats.{Formats}
 use Rattle.cs_model.specs.Index.{ReadsAs, Value, joined, live, live_at, lookup}
 use Rattle.cs_model.specs.Sound.{Sound}
 use Rattle.cs_model.specs.State.{State, index_now, map_now}
@@ -28,6 +30,25 @@ use Rattle.cs_core.proofs.Gets.{found_live, newest_there, there_and_back}
 use Rattle.cs_image.specs.Reads.{page_total}
 
 -- ---- the chunks of a shard that the map has
+
+-- reading at its places gives the bytes that the map has
+module _ (S : Shape) (F : Formats) (s : State) (sound : Sound S F s) (i : IndexState) (is : IsIndexOf i s.table s.runs) (id : ℕ) where
+  same_live : live_at (index_of i) id ≡ live_at (index_now s) id
+  same_live = live_same (index_of i) (index_now s) (looked_up i s.table s.runs is) id
+
+  pub reads_there : (bytes : List ℕ) → map_now s id ≡ Some (Bytes bytes)
+      → ReadsAs S F s.opening (newest_page s) s.world.extents.pointer s.world.extents.generation (live_at (index_of i) id) (Bytes bytes)
+  reads_there bytes there =
+      subst (λ (ks : List Place). ReadsAs S F s.opening (newest_page s) s.world.extents.pointer s.world.extents.generation ks (Bytes bytes)) (sym same_live)
+      (go (lookup id (index_now s)) (sound.gives.values id))
+    where
+      go : (o : Option (List Place)) → Value S F s.opening (newest_page s) s.world.extents.pointer s.world.extents.generation o (map_now s id)
+          → ReadsAs S F s.opening (newest_page s) s.world.extents.pointer s.world.extents.generation (live o) (Bytes bytes)
+      go None value = absurd (let e : Some (Bytes bytes) ≡ None = sym there ∙ value in cc)
+      go (Some []) value = absurd (let e : Some (Bytes bytes) ≡ None = sym there ∙ value in cc)
+      go (Some (k ∷ ks)) value =
+          let same : value.0 ≡ Bytes bytes = (let e : Some value.0 ≡ Some (Bytes bytes) = sym value.2 ∙ there in cc) in
+          subst (λ (c : Content). ReadsAs S F s.opening (newest_page s) s.world.extents.pointer s.world.extents.generation (k ∷ ks) c) same value.1
 
 module _ (x : ExtentsState) (s : State) (held : Image) (whole : IsWhole x) (sound : Sound (shape x) (formats_of (shape x)) s) (same : s.world.extents ≡ extents_of x) where
   -- where reading gives bytes, chunks of these bytes are there
@@ -45,24 +66,9 @@ module _ (x : ExtentsState) (s : State) (held : Image) (whole : IsWhole x) (soun
   chunks_read (k ∷ ks) bytes (inl (chunk, Damaged f, reads, more, is)) = absurd (let e : Bytes bytes ≡ Damaged f = is in cc)
   chunks_read (k ∷ ks) bytes (inr (f, damage, is)) = absurd (cc is)
 
-  module _ (i : IndexState) (is : IsIndexOf i s.table s.runs) (id : ℕ) where
-    same_live : live_at (index_of i) id ≡ live_at (index_now s) id
-    same_live = live_same (index_of i) (index_now s) (looked_up i s.table s.runs is) id
-
-    pub chunks_there : (bytes : List ℕ) → map_now s id ≡ Some (Bytes bytes)
-        → (cs : List (List ℕ)) × AreChunksIn x (pages_now (shape x) s held) (map as_locator (live_at (index_of i) id)) cs × (bytes ≡ joined cs)
-    chunks_there bytes there =
-        chunks_read (live_at (index_of i) id) bytes
-        (subst (λ (ks : List Place). ReadsAs (shape x) (formats_of (shape x)) s.opening (newest_page s) s.world.extents.pointer s.world.extents.generation ks (Bytes bytes)) (sym same_live)
-        (go (lookup id (index_now s)) (sound.gives.values id)))
-      where
-        go : (o : Option (List Place)) → Value (shape x) (formats_of (shape x)) s.opening (newest_page s) s.world.extents.pointer s.world.extents.generation o (map_now s id)
-            → ReadsAs (shape x) (formats_of (shape x)) s.opening (newest_page s) s.world.extents.pointer s.world.extents.generation (live o) (Bytes bytes)
-        go None value = absurd (let e : Some (Bytes bytes) ≡ None = sym there ∙ value in cc)
-        go (Some []) value = absurd (let e : Some (Bytes bytes) ≡ None = sym there ∙ value in cc)
-        go (Some (k ∷ ks)) value =
-            let same : value.0 ≡ Bytes bytes = (let e : Some value.0 ≡ Some (Bytes bytes) = sym value.2 ∙ there in cc) in
-            subst (λ (c : Content). ReadsAs (shape x) (formats_of (shape x)) s.opening (newest_page s) s.world.extents.pointer s.world.extents.generation (k ∷ ks) c) same value.1
+  pub chunks_there : (i : IndexState) → IsIndexOf i s.table s.runs → (id : ℕ) (bytes : List ℕ) → map_now s id ≡ Some (Bytes bytes)
+      → (cs : List (List ℕ)) × AreChunksIn x (pages_now (shape x) s held) (map as_locator (live_at (index_of i) id)) cs × (bytes ≡ joined cs)
+  chunks_there i is id bytes there = chunks_read (live_at (index_of i) id) bytes (reads_there (shape x) (formats_of (shape x)) s sound i is id bytes there)
 
 -- ---- what headers say, of places that were found
 

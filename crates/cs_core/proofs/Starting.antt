@@ -51,6 +51,7 @@ kept_new format extents pages sections some = record {
   families = omega (arith, length-by_family (replicate sections 1) 1, length-replicate {A = ℕ} sections 1);
   resets = λ e. let none : slice_index (replicate (length (replicate {A = ℕ × ℕ} extents (0, 0))) 0) e ≡ 0 = all_default (length (replicate {A = ℕ × ℕ} extents (0, 0))) e 0 in omega (arith, none);
   writes = λ x w kept. let clash : None ≡ Some w = kept in absurd (cc clash);
+  format = refl;
   limit = refl;
   places = λ id l among. absurd among;
   round = refl;
@@ -77,7 +78,7 @@ module _ (format extents pages sections : ℕ) (is : IsGeometry format extents p
   x = extents_at format pages sections (replicate extents (0, 0))
 
   pub new_recovers : Recovers (shape x) (formats_of (shape x)) (page now.durable) 0 (λ id. None)
-  new_recovers = (new_started now.durable format extents pages sections (named_limit pages) is on.superblock on.root).0
+  new_recovers = (new_started now.durable format extents pages sections (named_limit format pages) is on.superblock on.root).0
 
   -- nothing is volatile
   quiet : now ≡ record { durable = now.durable; volatile = [] }
@@ -85,7 +86,7 @@ module _ (format extents pages sections : ℕ) (is : IsGeometry format extents p
 
   pub starts : (s : State) × IsStateOf (new_stored format extents pages sections) s × IsDiskOf (shape x) (formats_of (shape x)) s now × IsReached (shape x) (formats_of (shape x)) now.durable [] s
   starts =
-      let start = new_started now.durable format extents pages sections (named_limit pages) is on.superblock on.root in
+      let start = new_started now.durable format extents pages sections (named_limit format pages) is on.superblock on.root in
       let s : State = opened_state (shape x) (formats_of (shape x)) (page now.durable) 0 (λ id. None) start.0 in (
         s,
         record {
@@ -243,10 +244,12 @@ more_new format extents pages sections count items it so_far new_one = record {
       (in_push items it k other at);
 }
 
-pub new_index_is : (format extents pages sections limit : ℕ) (runs : List StoredRun) (i : IndexState) → limit ≡ named_limit pages → runs ≡ [] → i ≡ record { table = []; runs = newest_first runs; limit = limit; room = 0 } → i ≡ (new_stored format extents pages sections).index
-new_index_is format extents pages sections limit runs i same none is = is
-    ∙ ap (λ (k : ℕ). record { table = []; runs = newest_first runs; limit = k; room = 0 }) same
-    ∙ ap (λ (rs : List StoredRun). record { table = []; runs = newest_first rs; limit = named_limit pages; room = 0 }) none
+pub new_index_is : (format extents pages sections its_format limit : ℕ) (runs : List StoredRun) (i : IndexState) → its_format ≡ format → limit ≡ named_limit format pages → runs ≡ []
+    → i ≡ record { table = []; runs = newest_first runs; format = its_format; limit = limit; room = 0 } → i ≡ (new_stored format extents pages sections).index
+new_index_is format extents pages sections its_format limit runs i of_format same none is = is
+    ∙ ap (λ (f : ℕ). record { table = []; runs = newest_first runs; format = f; limit = limit; room = 0 }) of_format
+    ∙ ap (λ (k : ℕ). record { table = []; runs = newest_first runs; format = format; limit = k; room = 0 }) same
+    ∙ ap (λ (rs : List StoredRun). record { table = []; runs = newest_first rs; format = format; limit = named_limit format pages; room = 0 }) none
 
 -- a new store, from its parts
 pub new_is : (format extents pages sections : ℕ) (g : GraphState) (x : ExtentsState) (i : IndexState) (copies : List Copy) (roots : List Noted) → g ≡ (new_stored format extents pages sections).graph → x ≡ (new_stored format extents pages sections).extents

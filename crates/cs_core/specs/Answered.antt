@@ -1,14 +1,22 @@
 -- What the reply to an event says of the store, whatever its disk does.
+use Rattle.cs_index.specs.State.{id_number}
 use Rattle.cs_core.specs.declared.events.Event.{Event}
 use Rattle.cs_core.specs.declared.events.Event.TheVariants.{BeginSweep, Delete, End, Get, Issue, MoveOne, Put, Settle}
 use Rattle.cs_core.specs.declared.events.Reply.{Reply}
+use Rattle.cs_core.specs.declared.events.Reply.TheVariants.{Found}
+use Rattle.cs_core.specs.Lookups.{AreMeantBytes}
 use Rattle.cs_core.specs.Replies.{MayAnswer}
 use Rattle.cs_core.specs.Stored.{Stored}
 use Rattle.cs_core.specs.Writebacks.{WritesBack}
 
--- it is a reply to the event, and the store is as the reply says
+-- The bytes that a Get tells are those that the places of the identifier mean, whatever the disk answered.
+abbrev pub TellsMeant : Stored → Event → Reply → Type 0
+TellsMeant v (Get id) (Found bytes) = AreMeantBytes v (id_number id) bytes
+TellsMeant v event reply = Unit {0}
+
+-- it is a reply to the event, the store is as the reply says, and so is what the reply tells
 unfoldable pub IsAnswered : (old : Stored) → Event → Reply → (new : Stored) → Type 0
-IsAnswered old event reply new = MayAnswer event reply × WritesBack old event reply new
+IsAnswered old event reply new = MayAnswer event reply × WritesBack old event reply new × TellsMeant old event reply
 
 -- events for which the disk is read, written or flushed, of those that a halted store refuses
 abbrev pub IsForDevice : Event → Type 0

@@ -1,14 +1,17 @@
 -- What a core answers outside of its history.
-use Rattle.std.specs.Prelude.{◌≡◌, ◌≢◌, ◌⊎◌, ℕ, List, [], MatchResult, Option, Some, None, Result, Ok, Err, Vec, length}
+use Rattle.std.specs.Prelude.{◌≡◌, ◌≢◌, ◌⊎◌, ℕ, List, [], MatchResult, Option, Some, None, Result, Ok, Err, Vec, length, map}
 use Rattle.std.specs.declared.alloc.Global.{Global}
+use Rattle.cs_chunk.specs.Chunks.{AreMeant}
 use Rattle.cs_chunk.specs.Lengths.{AreHeadersIn, IsHeaderRefusal, IsOfHeaderIn, lengths_at}
 use Rattle.cs_chunk.specs.Reads.{IsNoAnswer}
 use Rattle.cs_deps.specs.declared.refusals.Refusal.{Refusal}
 use Rattle.cs_disk.specs.Disk.{State as DiskState}
 use Rattle.cs_extent.specs.State.{State as ExtentsState, shape}
 use Rattle.cs_frame.specs.declared.locators.Locator.{Locator}
-use Rattle.cs_frame.specs.Formats.{formats_of}
+use Rattle.cs_frame.specs.Formats.{as_locator, formats_of}
+use Rattle.cs_index.specs.State.{index_of}
 use Rattle.cs_model.specs.Element.{Bytes, Content, Damaged}
+use Rattle.cs_model.specs.Index.{joined, live_at}
 use Rattle.cs_model.specs.Refusal.{Refusal as Ground}
 use Rattle.cs_model.specs.State.{State, map_now}
 use Rattle.cs_refine.specs.Devices.{IsDiskOf}
@@ -29,6 +32,10 @@ abbrev pub IsSize : Option Content → Result (Option ℕ) Refusal → Type 0
 IsSize None result = result ≡ Ok None
 IsSize (Some (Bytes bytes)) result = MatchResult result (λ found. found ≡ Some (length bytes)) IsNoAnswer
 IsSize (Some (Damaged f)) result = MatchResult result (λ found. found ≢ None) IsHeaderRefusal
+
+-- bytes that the places of an identifier mean: those of chunks whose frames these are, one by one
+abbrev pub AreMeantBytes : Stored → (id : ℕ) → (bytes : List ℕ) → Type 0
+AreMeantBytes v id bytes = (cs : List (List ℕ)) × AreMeant (shape v.extents) (map as_locator (live_at (index_of v.index) id)) cs × (bytes ≡ joined cs)
 
 -- whichever state store and disk are in, this is told of the size of what its map has
 unfoldable pub TellsSize : Stored → DiskState → (id : ℕ) → Result (Option ℕ) Refusal → Type 0

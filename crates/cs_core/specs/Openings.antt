@@ -13,10 +13,10 @@ use Rattle.cs_frame.specs.declared.frames.FrameKind.TheVariants.{Run}
 use Rattle.cs_frame.specs.declared.locators.Locator.{Locator}
 use Rattle.cs_frame.specs.declared.superblocks.Superblock.{Superblock}
 use Rattle.cs_frame.specs.FirstFormat.{SpellsPageZero, page_zero_fault}
+use Rattle.cs_frame.specs.FormatRuns.{run_fault}
 use Rattle.cs_frame.specs.Formats.{as_locator}
 use Rattle.cs_frame.specs.Geometries.{device_pages, named_limit}
 use Rattle.cs_frame.specs.Roots.{SpellsRoot, root_fault}
-use Rattle.cs_frame.specs.Runs.{run_fault}
 use Rattle.cs_frame.specs.Superblocks.{SpellsSuperblock, superblock_fault}
 use Rattle.cs_image.specs.Counts.{HasCount}
 use Rattle.cs_image.specs.Openings.{graph_at, index_at}
@@ -45,7 +45,7 @@ abbrev pub opened_stored : ExtentsState → (versions : List ℕ) → (root comm
 opened_stored x versions root commands runs = record {
   graph = graph_at versions root;
   extents = x;
-  index = index_at (newest_first runs) (named_limit x.pages);
+  index = index_at (newest_first runs) x.format (named_limit x.format x.pages);
   copies = [];
   roots = record { version = root; commands = 0 } ∷ [];
   out = None;
@@ -59,7 +59,7 @@ opened_stored x versions root commands runs = record {
 -- Of extents as they were read, of runs, and of a graph a store is made: the extents are opened under the root.
 pub record IsLoaded (x : ExtentsState) (g : GraphState) (root commands : ℕ) (runs : List StoredRun) (store : Stored) : Type 0 where
   pub extents : ExtentsState
-  pub opened : AreExtentsOpened x (index_at (newest_first runs) (named_limit x.pages)) root extents
+  pub opened : AreExtentsOpened x (index_at (newest_first runs) x.format (named_limit x.format x.pages)) root extents
   pub made : (versions : List ℕ) → length versions ≡ x.sections → g ≡ graph_at versions root → store ≡ opened_stored extents versions root commands runs
 
 -- A whole store of this format was read: where hidden entries stand what all entries name is there, else what the newest entry of each
@@ -77,7 +77,7 @@ pub record IsOpened (honest : Type 0) (image : Image) (found : ℕ × ℕ) (stor
   pub root : ℕ
   pub runs : List StoredRun
   pub extents : ExtentsState
-  pub opened : AreExtentsOpened (extents_at format pages (length versions) written) (index_at (newest_first runs) (named_limit pages)) root extents
+  pub opened : AreExtentsOpened (extents_at format pages (length versions) written) (index_at (newest_first runs) format (named_limit format pages)) root extents
   pub made : store ≡ opened_stored extents versions root found.0 runs
   pub read : honest → IsStoreReadBy (page image) format versions pages written root found.0 runs
 
@@ -204,7 +204,7 @@ pub record IsRootDamaged (count : ℕ) (view : ℕ → List ℕ) (r : Refusal) :
 abbrev pub IsWhyNotRead : ExtentsState → (view : ℕ → List ℕ) → Locator → Refusal → Type 0
 IsWhyNotRead x view place r = ((¬ IsLocated x place) × (r ≡ NotAStore))
     ⊎ (IsLocated x place × IsOfFault (fault_in x view Run place) r)
-    ⊎ (IsLocated x place × ((payload : List ℕ) × IsFrameIn x view RunFrame place payload × IsOfFault (run_fault payload) r))
+    ⊎ (IsLocated x place × ((payload : List ℕ) × IsFrameIn x view RunFrame place payload × IsOfFault (run_fault x.format payload) r))
 
 -- A run of the root isn't read, after all older ones were.
 pub record IsRunDamaged (count : ℕ) (view : ℕ → List ℕ) (r : Refusal) : Type 0 where
@@ -248,9 +248,9 @@ abbrev pub IsWhyNotOpened : (count : ℕ) → (view : ℕ → List ℕ) → Refu
 IsWhyNotOpened count view r = IsTooSmall count r ⊎ IsSuperblockDamaged count view r ⊎ IsOtherSection count view r ⊎ IsOtherDevice count view r
     ⊎ IsSectionDamaged count view r ⊎ IsRootDamaged count view r ⊎ IsRunDamaged count view r ⊎ IsIndexDamaged count view r
 
--- the refusals of any opening: 1, 9, 20 to 25, and 43
+-- the refusals of any opening: 1, 9, 20 to 26, and 43
 abbrev pub IsOpeningRefusal : Refusal → Type 0
-IsOpeningRefusal r = IsNoAnswer r ⊎ ((20 ≤ number_of r) × (number_of r ≤ 25)) ⊎ (r ≡ NotAStore)
+IsOpeningRefusal r = IsNoAnswer r ⊎ ((20 ≤ number_of r) × (number_of r ≤ 26)) ⊎ (r ≡ NotAStore)
 
 -- ---- what is read on the way
 
@@ -268,7 +268,7 @@ pub record IsStoreMade (honest : Type 0) (view : ℕ → List ℕ) (format : ℕ
   pub root : ℕ
   pub runs : List StoredRun
   pub extents : ExtentsState
-  pub opened : AreExtentsOpened (extents_at format pages (length versions) written) (index_at (newest_first runs) (named_limit pages)) root extents
+  pub opened : AreExtentsOpened (extents_at format pages (length versions) written) (index_at (newest_first runs) format (named_limit format pages)) root extents
   pub made : store ≡ opened_stored extents versions root commands runs
   pub counted : HasCount (λ id. live_at (entries_of (newest_first runs)) id ≢ []) live
   pub read : honest → IsStoreReadBy view format versions pages written root commands runs

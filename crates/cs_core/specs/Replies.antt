@@ -1,7 +1,7 @@
 -- Which replies an event may have.
 use Rattle.std.specs.Prelude.{◌≡◌, ◌⊎◌, ◌<◌, ◌≤◌}
 use Rattle.cs_deps.specs.declared.refusals.Refusal.{Refusal}
-use Rattle.cs_deps.specs.declared.refusals.Refusal.TheVariants.{BadDigest, BadLength, BadMagic, BadPadding, BadVersion, DeviceFault, Full, Halted, HistoryFull, InFlight, IndexFull, NoRound, NotSweepable, StillLive, TooLarge, WornOut}
+use Rattle.cs_deps.specs.declared.refusals.Refusal.TheVariants.{BadDigest, BadLength, BadMagic, BadPadding, BadVersion, DeviceFault, Full, Halted, HistoryFull, InFlight, IndexFull, Misplaced, NoRound, NotSweepable, StillLive, TooLarge, WornOut}
 use Rattle.cs_core.specs.declared.events.Event.{Event}
 use Rattle.cs_core.specs.declared.events.Event.TheVariants.{Abandon, Begin, BeginSweep, Delete, End, Get, Issue, MoveOne, Put, Retire, Settle, Stage}
 use Rattle.cs_core.specs.declared.events.Reply.{Reply}
@@ -21,6 +21,7 @@ MayRefuse (Get id) BadDigest = Unit {0}
 MayRefuse (Get id) BadLength = Unit {0}
 MayRefuse (Get id) BadPadding = Unit {0}
 MayRefuse (Get id) BadVersion = Unit {0}
+MayRefuse (Get id) Misplaced = Unit {0}
 MayRefuse (Get id) HistoryFull = Unit {0}
 MayRefuse (Delete id) WornOut = Unit {0}
 MayRefuse (Delete id) Halted = Unit {0}
@@ -46,6 +47,7 @@ MayRefuse (MoveOne e) BadDigest = Unit {0}
 MayRefuse (MoveOne e) BadLength = Unit {0}
 MayRefuse (MoveOne e) BadPadding = Unit {0}
 MayRefuse (MoveOne e) BadVersion = Unit {0}
+MayRefuse (MoveOne e) Misplaced = Unit {0}
 MayRefuse (MoveOne e) Full = Unit {0}
 MayRefuse (MoveOne e) WornOut = Unit {0}
 MayRefuse (MoveOne e) Halted = Unit {0}

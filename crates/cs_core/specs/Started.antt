@@ -16,7 +16,7 @@ abbrev pub new_stored : (format extents pages sections : ℕ) → Stored
 new_stored format extents pages sections = record {
   graph = graph_at (replicate sections 1) 1;
   extents = extents_at format pages sections (replicate extents (0, 0));
-  index = record { table = []; runs = []; limit = named_limit pages; room = 0 };
+  index = record { table = []; runs = []; format = format; limit = named_limit format pages; room = 0 };
   copies = [];
   roots = record { version = 1; commands = 0 } ∷ [];
   out = None;

@@ -90,6 +90,7 @@ pub record IsKept (s : Stored) : Type 0 where
   pub families : length s.graph.staging.latest ≡ 1 + (shape s.extents).sections
   pub resets : AreResetsStaged (extents_of s.extents) s.graph.staging
   pub writes : AreWithin (page_total (shape s.extents)) s.graph
+  pub format : s.index.format ≡ (shape s.extents).format
   pub limit : s.index.limit ≡ (shape s.extents).most_names
   pub places : AreInside (shape s.extents) s.index
   pub round : s.out ≡ s.graph.round

@@ -19,8 +19,8 @@ impl Store {
     /// Moves the first live chunk off an extent that is being swept, and tells which it was; None where none is live. Where chunks and runs
     /// lie apart it copies the first one that isn't copied, which counts where it lay until the extent is retired; None where all are.
     ///
-    /// Refused 33 NotSweepable where it isn't being swept, 1 DeviceFault, 20 to 24 where the chunk is damaged, 30 Full, 35
-    /// WornOut, and 9 OutOfMemory.
+    /// Refused 33 NotSweepable where it isn't being swept, 1 DeviceFault, 20 to 24 where the chunk is damaged, 26 where
+    /// another frame lies at its place, 30 Full, 35 WornOut, and 9 OutOfMemory.
     pub fn move_one<D: PageDisk>(
         &mut self,
         disk: &mut D,

@@ -2,6 +2,7 @@
 ghost use Rattle.std.specs.Prelude.{◌≡◌, ◌≢◌, ◌+◌, ◌*◌, ◌<◌, ◌≤◌, ◌⊎◌, ◌↔◌, IfErr, IfOk, MatchOption, OnErr, OnOk, None, false, length, map};
 ghost use Rattle.cs_extent.specs.State.{IsWhole, shape};
 ghost use Rattle.cs_frame.specs.Formats.{place_of};
+ghost use Rattle.cs_frame.specs.Locators.{KeepFormat};
 ghost use Rattle.cs_index.specs.State.{IsSet, id_number, index_of};
 ghost use Rattle.cs_model.specs.Index.{lookup, names};
 ghost use Rattle.cs_model.specs.State.{Accepted, Delete, Put};
@@ -118,6 +119,7 @@ fn why_worn(extents: &Extents, bytes: &[u8]) -> Refusal
 /// Points an identifier at the chunks that were put under it.
 fn enter(index: &mut Index, id: ShardId, places: Places)
     requires count { (1 ≤ length places.items) × (length places.items ≤ 8) }
+    requires marks { KeepFormat index.old.format places.items }
     requires limit { lookup (id_number id) (index_of index.old) ≡ None → names (index_of index.old) < index.old.limit }
     requires room { 0 < index.old.room }
     ensures { IsSet index.old (id_number id) (map place_of places.items) index.new }

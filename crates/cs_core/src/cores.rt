@@ -23,6 +23,7 @@ ghost use Rattle.cs_model.specs.Geometry.{shape_of};
 ghost use Rattle.cs_model.specs.Recovery.{Recovers};
 ghost use Rattle.cs_model.specs.State.{State};
 ghost use Rattle.cs_plan.specs.Best.{IsBestPlan};
+ghost use Rattle.cs_core.specs.Answered.{TellsMeant};
 ghost use Rattle.cs_core.specs.Sweepable.{IsUnsweepable};
 ghost use Rattle.cs_core.specs.Checkpoints.{IsNotReplaced, IsSettled, Replaces};
 ghost use Rattle.cs_core.specs.Disks.{CountsCalls, IsDiskAfter};
@@ -137,7 +138,7 @@ impl<D: PageDisk> Core<D> {
     /// pages, before the disk is asked for anything; 20 to 24 for page 0; 43 where it has another section than the first, then
     /// where the disk hasn't the superblock's pages; for each further section 20 to 24 for its page, and 43 where that has
     /// another section, or one of another superblock; 20 to 24 for page 1; for each run, the oldest first, 43 where its locator
-    /// is of no frame, and 20 to 25 for its pages; 43 where a locator of an entry is of no frame, in format 3 one of the newest entry
+    /// is of no frame, and 20 to 26 for its pages; 43 where a locator of an entry is of no frame, in format 3 one of the newest entry
     /// of an identifier, or where more identifiers are named than one run may name. 1 DeviceFault and 9 OutOfMemory may come in place
     /// of any but the first. Of what was read the superblock's pointers, the root's numbers and the index are kept in memory; in format
     /// 3 extents on which nothing that counts lies are emptied there.
@@ -150,7 +151,7 @@ impl<D: PageDisk> Core<D> {
             → (let S = shape_of extents pages sections (section_size extents sections) format in Recovers S (formats_of S) (page (seen (D.state disk))) n m
             → MatchResult result (λ core. (shape core.store.extents ≡ S) × (core.found.0 ≡ n) × HasCount (λ id. m id ≢ None) core.found.1) (λ refused. IsNoAnswer refused.0)) }
         ensures refusals { IfErr result (λ refused. D.honest disk → IsNoAnswer refused.0 ⊎ IsWhyNotOpened (D.page_count disk) (page (seen (D.state disk))) refused.0) }
-        // Whatever the disk answers: 1, 9, 20 to 25, or 43.
+        // Whatever the disk answers: 1, 9, 20 to 26, or 43.
         ensures number { IfErr result (λ refused. IsOpeningRefusal refused.0) }
         ensures small { D.page_count disk < 10 → result ≡ Err (Refusal.NotAStore, disk) }
         // Nothing but a flush is done to the disk, and a crash within leaves what one before it might have left.
@@ -191,6 +192,8 @@ impl<D: PageDisk> Core<D> {
         ensures memory { OnErr result (IsUntouched D.PageDisk self.old self.new) }
         ensures answers { IfOk result (λ reply. MayAnswer event.now reply) }
         ensures writeback { IfOk result (λ reply. WritesBack self.old.store event.now reply self.new.store) }
+        // Whatever the disk answers, the bytes that a Get tells are those that the places of the identifier mean.
+        ensures meant { IfOk result (λ reply. TellsMeant self.old.store event.now reply) }
         ensures rises { self.old.store.frontier ≤ self.new.store.frontier }
         // How many writes and flushes it makes, and which, by what the disk holds then.
         ensures calls { D.honest self.old.disk → IfOk result (λ reply. CountsCalls event.now reply (D.moment self.old.disk) (D.moment self.new.disk)) }

@@ -30,7 +30,8 @@ pub enum Event {
     /// 35 WornOut.
     Put(ShardId, Bytes),
     /// For the bytes of an identifier: `Found` or `Absent`. Refused 20 BadMagic, 21 BadDigest, 22 BadLength, 23 BadPadding
-    /// or 24 BadVersion where a chunk is damaged; 1 DeviceFault.
+    /// or 24 BadVersion where a chunk is damaged, in format 3 26 Misplaced where a whole frame lies there that isn't the chunk's;
+    /// 1 DeviceFault.
     Get(ShardId),
     /// To delete an identifier: `Accepted`, or `Absent` where there is nothing under it. Refused 35 WornOut.
     Delete(ShardId),
@@ -50,8 +51,8 @@ pub enum Event {
     /// there.
     BeginSweep(usize),
     /// To move the first live chunk, by identifier and then by chunk, off an extent that is being swept: `Moved`, or
-    /// `NoneLive`. Refused 33 NotSweepable where it isn't being swept, 20 to 24 as a Get is, then 30 Full, then 35 WornOut;
-    /// 1 DeviceFault.
+    /// `NoneLive`. Refused 33 NotSweepable where it isn't being swept, 20 to 24 and 26 as a Get is, then 30 Full, then 35
+    /// WornOut; 1 DeviceFault.
     MoveOne(usize),
     /// To stage what is live and a root over it, and to empty an extent that is being swept: `Retired`. Refused
     /// 33 NotSweepable where it isn't being swept, then 34 StillLive, then 30 Full, then 35 WornOut.

@@ -56,7 +56,12 @@ fn new_sections(alloc: Global, geometry: Geometry) -> Result<Vec<Superblock>, Al
 fn new_index(alloc: Global, geometry: Geometry) -> Result<Index, AllocError>
     ensures { IfOk result (λ index. index ≡ (new_stored geometry.format geometry.extents geometry.pages geometry.sections).index) }
 {
-    match Index::load(alloc, geometry.named_limit(), Vec::new(alloc)) {
+    match Index::load(
+        alloc,
+        geometry.format(),
+        geometry.named_limit(),
+        Vec::new(alloc),
+    ) {
         Ok(index) => Ok(index),
         Err(_) => Err(AllocError),
     }

@@ -1,24 +1,31 @@
 //! Laws of cores. Each function does nothing; its contract is the law.
-ghost use Rattle.std.specs.Prelude.{◌≡◌, ◌≢◌, ◌↔◌, ◌+◌, ◌<◌, ℕ, List, [], length};
+ghost use Rattle.std.specs.Prelude.{◌≡◌, ◌≢◌, ◌⊎◌, ◌↔◌, ◌+◌, ◌<◌, ℕ, List, [], Some, length, true};
 ghost use Rattle.cs_deps.specs.Chain.{IsHeight};
 ghost use Rattle.cs_deps.specs.declared.elements.Element.{Element as Item};
 ghost use Rattle.cs_deps.specs.Pending.{Waits};
 ghost use Rattle.cs_deps.specs.Staging.{IsKept};
-ghost use Rattle.cs_disk.specs.Disk.{LeavesOnly, page};
+ghost use Rattle.cs_disk.specs.Disk.{Image, LeavesOnly, MayLeave, State as DiskState, page};
 ghost use Rattle.cs_extent.specs.State.{shape};
 ghost use Rattle.cs_frame.specs.Formats.{formats_of};
+ghost use Rattle.cs_frame.specs.Frames.{digest_front};
+ghost use Rattle.cs_frame.specs.Geometries.{IsGeometry};
 ghost use Rattle.cs_model.specs.Apart.{MayStage as MayStageIn, by_rule};
 ghost use Rattle.cs_model.specs.Disk.{page_writes};
-ghost use Rattle.cs_model.specs.State.{State};
-ghost use Rattle.cs_refine.specs.Crashes.{IsPrefix};
+ghost use Rattle.cs_model.specs.Element.{Bytes};
+ghost use Rattle.cs_model.specs.Geometry.{marks_in};
+ghost use Rattle.cs_model.specs.State.{State, map_now};
+ghost use Rattle.cs_refine.specs.Crashes.{IsPrefix, IsTornFrom};
 ghost use Rattle.cs_refine.specs.Devices.{persistent_image};
+ghost use Rattle.cs_core.specs.Lookups.{AreMeantBytes};
 ghost use Rattle.cs_core.specs.Meanings.{commands_said};
 ghost use Rattle.cs_core.specs.Calls.{AreCalls, IsRoundDone};
+ghost use Rattle.cs_core.specs.Disks.{IsDiskAfter};
 ghost use Rattle.cs_core.specs.States.{IsStateOf};
 ghost use Rattle.cs_core.specs.Stored.{Stored};
 ghost use Rattle.cs_core.specs.Unstaged.{MayStage};
-ghost use Rattle.cs_core.specs.Views.{IsCore, IsReached, View};
+ghost use Rattle.cs_core.specs.Views.{Applies, IsCore, IsReached, View};
 
+use crate::events::{Event, Reply};
 use cs_disk::PageDisk;
 
 /// Where nothing waits and the index's table is empty, all accepted commands are persistent.
@@ -31,6 +38,15 @@ pub fn all_accepted_is_persistent_at_rest<D: PageDisk>()
 pub fn what_may_be_staged_agrees()
     ensures { (v : Stored) (s : State) → IsStateOf v s
         → MayStage v ↔ by_rule (shape v.extents).apart (s.table ≢ []) (MayStageIn (shape v.extents) s) }
+{}
+
+/// Of a store in a state of the machine: in a format that has marks, bytes that the places of an identifier mean are those that the map has, or
+/// two different texts agree in the first eight bytes of their digests. The clause `meant` of `Core::apply` says that a Get tells such bytes,
+/// whatever the disk answers to it: a page that was written elsewhere, one that was lost, or an older one.
+pub fn what_places_mean_is_what_the_map_has()
+    ensures { (v : Stored) (s : State) (id : ℕ) (bytes told : List ℕ) → IsStateOf v s → marks_in v.extents.format ≡ true
+        → map_now s id ≡ Some (Bytes bytes) → AreMeantBytes v id told
+        → (told ≡ bytes) ⊎ ((c d : List ℕ) × (c ≢ d) × (digest_front c ≡ digest_front d)) }
 {}
 
 /// A round that begins and ends lowers by one the height of each element that waited as it began and waits still, whatever is
@@ -63,4 +79,27 @@ pub fn disks_hold_what_is_persistent<D: PageDisk>()
         → (s : State) × IsStateOf v.store s × IsReached (shape v.store.extents) (formats_of (shape v.store.extents)) v.opened v.history s
         × ((p : ℕ) → p < length (D.state v.disk).durable → page (D.state v.disk).durable p ≡ persistent_image (shape v.store.extents) (formats_of (shape v.store.extents)) s p)
         × ((D.state v.disk).volatile ≡ page_writes (shape v.store.extents) (formats_of (shape v.store.extents)) s.issued) }
+{}
+
+/// Whatever a crash makes of the pages of frames that were being written, what it leaves of an honest disk recovers the map after the first
+/// n commands, n from the frontier to all; `recovers` of `Core::open` says that it is opened as that. Such a page is one of an extent to which
+/// a write wasn't flushed. Every other page is whole, one of the superblock or of the root too.
+///
+/// A write that the disk refused tears its page only where the disk has it among those that aren't flushed. What is asked of the extents each
+/// core has (`whole` of `Core::progress`).
+pub fn what_a_torn_crash_leaves_is_recovered<D: PageDisk>()
+    // Between two calls.
+    ensures now { (v : View D) (left image : Image) → IsCore D.PageDisk v
+        → IsGeometry v.store.extents.format (length v.store.extents.written) v.store.extents.pages v.store.extents.sections → D.honest v.disk
+        → MayLeave (D.state v.disk) left → IsTornFrom (shape v.store.extents) (D.state v.disk) left image
+        → IsPrefix (shape v.store.extents) (page v.opened) (commands_said v.history) v.store.frontier v.store.accepted image }
+    // Within a call of `apply`, by its clauses `step` and `device`: it makes one write or one flush at most (`calls`), so at each moment the
+    // disk holds what it held before or what it holds after. The numbers are those before the call. One that finds no memory leaves the disk as
+    // it was (`memory`).
+    ensures within { (v w : View D) (event : Event) (reply : Reply) (disk : DiskState) (left image : Image) → IsCore D.PageDisk v
+        → IsGeometry v.store.extents.format (length v.store.extents.written) v.store.extents.pages v.store.extents.sections → D.honest v.disk
+        → Applies D.PageDisk v event reply w → IsDiskAfter v.store (D.state v.disk) event reply (D.state w.disk)
+        → (disk ≡ D.state v.disk) ⊎ (disk ≡ D.state w.disk)
+        → MayLeave disk left → IsTornFrom (shape v.store.extents) disk left image
+        → IsPrefix (shape v.store.extents) (page v.opened) (commands_said v.history) v.store.frontier v.store.accepted image }
 {}

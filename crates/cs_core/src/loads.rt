@@ -3,6 +3,7 @@ ghost use Rattle.std.specs.Prelude.{◌≡◌, ◌≢◌, ◌⊎◌, ◌||◌, �
 ghost use Rattle.std.specs.List.{AllByRecursion};
 ghost use Rattle.cs_extent.specs.State.{extents_of, shape};
 ghost use Rattle.cs_frame.specs.Formats.{place_of};
+ghost use Rattle.cs_frame.specs.Locators.{KeepFormat};
 ghost use Rattle.cs_frame.specs.Runs.{IsRun};
 ghost use Rattle.cs_image.specs.Counts.{HasCount};
 ghost use Rattle.cs_image.specs.Openings.{graph_at, index_at};
@@ -56,14 +57,16 @@ fn live_count(index: &Index) -> usize
 /// The index of runs. Refused 43 NotAStore where they name too many identifiers, and 9 OutOfMemory.
 fn load_runs(alloc: Global, extents: &Extents, runs: Vec<StoredRun>) -> Result<Index, Refusal>
     requires few { length runs.items ≤ 24 }
-    requires runs { AllByRecursion (λ run. IsRun (record { entries = run.entries })) runs.items }
-    ensures loaded { IfOk result (λ index. index ≡ index_at (newest_first runs.items) (shape extents.now).most_names) }
+    requires runs { AllByRecursion (λ run. IsRun (shape extents.now).format (record { entries = run.entries })) runs.items }
+    requires marks { KeepFormat (shape extents.now).format (map (λ run. run.place) runs.items) }
+    ensures loaded { IfOk result (λ index. index ≡ index_at (newest_first runs.items) (shape extents.now).format (shape extents.now).most_names) }
     ensures named { OnOk result (names (entries_of (newest_first runs.items)) ≤ (shape extents.now).most_names) }
     ensures number { IfErr result IsOpeningRefusal }
     ensures why { IfErr result (λ r. (r ≡ Refusal.OutOfMemory) ⊎ ((r ≡ Refusal.NotAStore) × ((shape extents.now).most_names < names (entries_of (newest_first runs.items))))) }
 {
-    let limit = extents.geometry().named_limit();
-    match Index::load(alloc, limit, runs) {
+    let geometry = extents.geometry();
+    let limit = geometry.named_limit();
+    match Index::load(alloc, geometry.format(), limit, runs) {
         Ok(index) => Ok(index),
         Err(refusal) => Err(refusal),
     }
@@ -73,8 +76,9 @@ fn load_runs(alloc: Global, extents: &Extents, runs: Vec<StoredRun>) -> Result<I
 /// identifiers, and 9 OutOfMemory.
 fn load_whole(alloc: Global, extents: &Extents, runs: Vec<StoredRun>) -> Result<Index, Refusal>
     requires few { length runs.items ≤ 24 }
-    requires runs { AllByRecursion (λ run. IsRun (record { entries = run.entries })) runs.items }
-    ensures loaded { IfOk result (λ index. index ≡ index_at (newest_first runs.items) (shape extents.now).most_names) }
+    requires runs { AllByRecursion (λ run. IsRun (shape extents.now).format (record { entries = run.entries })) runs.items }
+    requires marks { KeepFormat (shape extents.now).format (map (λ run. run.place) runs.items) }
+    ensures loaded { IfOk result (λ index. index ≡ index_at (newest_first runs.items) (shape extents.now).format (shape extents.now).most_names) }
     ensures located { OnOk result (AreLocated extents.now runs.items) }
     ensures named { OnOk result (names (entries_of (newest_first runs.items)) ≤ (shape extents.now).most_names) }
     ensures number { IfErr result IsOpeningRefusal }
@@ -93,8 +97,9 @@ fn load_whole(alloc: Global, extents: &Extents, runs: Vec<StoredRun>) -> Result<
 /// where the runs name too many identifiers, and 9 OutOfMemory.
 fn load_visible(alloc: Global, extents: &Extents, runs: Vec<StoredRun>) -> Result<Index, Refusal>
     requires few { length runs.items ≤ 24 }
-    requires runs { AllByRecursion (λ run. IsRun (record { entries = run.entries })) runs.items }
-    ensures loaded { IfOk result (λ index. index ≡ index_at (newest_first runs.items) (shape extents.now).most_names) }
+    requires runs { AllByRecursion (λ run. IsRun (shape extents.now).format (record { entries = run.entries })) runs.items }
+    requires marks { KeepFormat (shape extents.now).format (map (λ run. run.place) runs.items) }
+    ensures loaded { IfOk result (λ index. index ≡ index_at (newest_first runs.items) (shape extents.now).format (shape extents.now).most_names) }
     ensures located { OnOk result (AreVisibleLocated extents.now runs.items) }
     ensures named { OnOk result (names (entries_of (newest_first runs.items)) ≤ (shape extents.now).most_names) }
     ensures number { IfErr result IsOpeningRefusal }
@@ -137,8 +142,9 @@ fn are_live_located(extents: &Extents, index: &Index) -> bool
 /// entry of each identifier. Refused 43 NotAStore where they aren't, or name too many identifiers, and 9 OutOfMemory.
 fn load_index(alloc: Global, extents: &Extents, runs: Vec<StoredRun>) -> Result<Index, Refusal>
     requires few { length runs.items ≤ 24 }
-    requires runs { AllByRecursion (λ run. IsRun (record { entries = run.entries })) runs.items }
-    ensures loaded { IfOk result (λ index. index ≡ index_at (newest_first runs.items) (shape extents.now).most_names) }
+    requires runs { AllByRecursion (λ run. IsRun (shape extents.now).format (record { entries = run.entries })) runs.items }
+    requires marks { KeepFormat (shape extents.now).format (map (λ run. run.place) runs.items) }
+    ensures loaded { IfOk result (λ index. index ≡ index_at (newest_first runs.items) (shape extents.now).format (shape extents.now).most_names) }
     ensures located { OnOk result (AreLocatedBy extents.now runs.items) }
     ensures named { OnOk result (names (entries_of (newest_first runs.items)) ≤ (shape extents.now).most_names) }
     ensures number { IfErr result IsOpeningRefusal }
@@ -189,8 +195,9 @@ fn load_parts(
     runs: Vec<StoredRun>,
 ) -> Result<(Index, VecDeque<Noted>), Refusal>
     requires few { length runs.items ≤ 24 }
-    requires runs { AllByRecursion (λ run. IsRun (record { entries = run.entries })) runs.items }
-    ensures loaded { IfOk result (λ made. made.0 ≡ index_at (newest_first runs.items) (shape extents.now).most_names) }
+    requires runs { AllByRecursion (λ run. IsRun (shape extents.now).format (record { entries = run.entries })) runs.items }
+    requires marks { KeepFormat (shape extents.now).format (map (λ run. run.place) runs.items) }
+    ensures loaded { IfOk result (λ made. made.0 ≡ index_at (newest_first runs.items) (shape extents.now).format (shape extents.now).most_names) }
     ensures noted { IfOk result (λ made. made.1.items ≡ record { version = root.now.version; commands = 0 } ∷ []) }
     ensures located { OnOk result (AreLocatedBy extents.now runs.items) }
     ensures named { OnOk result (names (entries_of (newest_first runs.items)) ≤ (shape extents.now).most_names) }
@@ -223,7 +230,8 @@ pub fn load_store(
     requires version { root.now.version < 2 ^ 63 }
     requires commands { root.now.commands < 2 ^ 63 }
     requires few { length runs.items ≤ 24 }
-    requires runs { AllByRecursion (λ run. IsRun (record { entries = run.entries })) runs.items }
+    requires runs { AllByRecursion (λ run. IsRun (shape extents).format (record { entries = run.entries })) runs.items }
+    requires marks { KeepFormat (shape extents).format (map (λ run. run.place) runs.items) }
     requires places { AllByRecursion (λ run. IsLocated extents run.place) runs.items }
     ensures made { IfOk result (λ found. IsLoaded extents graph root.now.version root.now.commands runs.items found.store) }
     ensures commands { IfOk result (λ found. found.commands ≡ root.now.commands) }

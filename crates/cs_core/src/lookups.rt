@@ -2,11 +2,11 @@
 //!
 //! These calls are no events: nothing is recorded of them, so the history doesn't keep the bytes that they give, and they are answered
 //! however many events are kept, and in a halted core too.
-ghost use Rattle.std.specs.Prelude.{IfErr, IfOk, IsTrue, List, MatchResult, None, [], length, map, ℕ, ◌+◌, ◌<◌, ◌↔◌, ◌≡◌, ◌≢◌, ◌≤◌, ◌⊎◌};
-ghost use Rattle.cs_chunk.specs.Chunks.{IsFrameIn, kind_of};
-ghost use Rattle.cs_chunk.specs.Lengths.{IsHeaderRefusal, header_fault_in, length_at};
+ghost use Rattle.std.specs.Prelude.{IfErr, IfOk, IfSome, IsTrue, List, MatchResult, None, [], length, map, ℕ, ◌+◌, ◌<◌, ◌↔◌, ◌≡◌, ◌≢◌, ◌≤◌, ◌⊎◌};
+ghost use Rattle.cs_chunk.specs.Chunks.{IsFrameIn, IsMeant, kind_of};
+ghost use Rattle.cs_chunk.specs.Lengths.{IsHeaderRefusal, IsOfFaultOrMark, header_fault_in, length_at};
 ghost use Rattle.cs_chunk.specs.Newest.{AreNewest};
-ghost use Rattle.cs_chunk.specs.Reads.{AnswersFault, IsCaused, IsNoAnswer, IsOfFault, IsReadRefusal, OnlyReads, fault_in};
+ghost use Rattle.cs_chunk.specs.Reads.{AnswersFault, IsCaused, IsNoAnswer, IsReadRefusal, OnlyReads, fault_in};
 ghost use Rattle.cs_disk.specs.Disk.{LeavesOnly, page, seen};
 ghost use Rattle.cs_extent.specs.State.{shape};
 ghost use Rattle.cs_frame.specs.Formats.{as_locator, formats_of};
@@ -15,7 +15,7 @@ ghost use Rattle.cs_index.specs.State.{id_number, index_of};
 ghost use Rattle.cs_model.specs.Index.{live_at};
 ghost use Rattle.cs_model.specs.State.{State, map_now};
 ghost use Rattle.cs_refine.specs.Crashes.{IsPrefix};
-ghost use Rattle.cs_core.specs.Lookups.{IsReading, IsSaid, IsSize};
+ghost use Rattle.cs_core.specs.Lookups.{AreMeantBytes, IsReading, IsSaid, IsSize};
 ghost use Rattle.cs_core.specs.Meanings.{commands_said};
 ghost use Rattle.cs_core.specs.Stored.{AreInside};
 ghost use Rattle.cs_core.specs.Views.{IsIn};
@@ -32,11 +32,13 @@ impl<D: PageDisk> Core<D> {
     /// chunk once, from the newest write to it that waits, else from the device. It takes memory for the bytes and for the pages of a chunk.
     ///
     /// Refused 1 DeviceFault where a read failed, 20 BadMagic, 21 BadDigest, 22 BadLength, 23 BadPadding or 24 BadVersion where a chunk is
-    /// damaged, by the first test that fails, and 9 OutOfMemory.
+    /// damaged, by the first test that fails, in format 3 26 Misplaced where a whole frame lies there that isn't the chunk's, and 9 OutOfMemory.
     pub fn read(&mut self, id: ShardId) -> Result<Option<Vec<u8>>, Refusal>
         ensures answer { D.honest self.old.disk → (s : State) → IsIn D.state self.old s → IsReading (map_now s (id_number id)) result }
         // Whatever the disk does, None is answered where the index has no places of the shard's chunks, and nowhere else.
         ensures absent { (result ≡ Ok None) ↔ (live_at (index_of self.old.store.index) (id_number id) ≡ []) }
+        // Whatever it answers, the bytes are those that the places mean.
+        ensures meant { IfOk result (λ found. IfSome found (λ bytes. AreMeantBytes self.old.store (id_number id) bytes.items)) }
         ensures refusals { IfErr result IsReadRefusal }
         ensures same { self.new ≡ record self.old { disk = self.new.disk } }
         ensures disk { OnlyReads D.PageDisk self.old.disk self.new.disk }
@@ -54,7 +56,7 @@ impl<D: PageDisk> Core<D> {
     /// a shard with a damaged chunk may have a size here, though `read` refuses it.
     ///
     /// Refused 1 DeviceFault or 9 OutOfMemory where the disk refused a read so, and 20 BadMagic, 22 BadLength or 24 BadVersion where the header of a
-    /// chunk is damaged, by the first test that fails.
+    /// chunk is damaged, by the first test that fails; in format 3 26 Misplaced where it is another frame's, or its digest is damaged.
     pub fn size_of(&mut self, id: ShardId) -> Result<Option<usize>, Refusal>
         ensures answer { D.honest self.old.disk → (s : State) → IsIn D.state self.old s → IsSize (map_now s (id_number id)) result }
         // Also of a damaged shard what is told is what the headers say.
@@ -87,7 +89,7 @@ impl<D: PageDisk> Core<D> {
     /// page is read. It takes memory for the pages and the payload.
     ///
     /// Refused 20 BadMagic, 21 BadDigest, 22 BadLength, 23 BadPadding or 24 BadVersion, the first test that fails, where no frame of this
-    /// kind begins there; 1 DeviceFault where a read failed; 9 OutOfMemory.
+    /// kind begins there; in format 3 26 Misplaced where one does that the place doesn't mean; 1 DeviceFault where a read failed; 9 OutOfMemory.
     pub fn read_frame(&mut self, kind: FrameKind, place: Locator) -> Result<Vec<u8>, Refusal>
         requires extent { place.extent < (shape self.old.store.extents).extents }
         requires page { place.page < (shape self.old.store.extents).pages }
@@ -101,7 +103,8 @@ impl<D: PageDisk> Core<D> {
         ensures fault { D.honest self.old.disk → (view : ℕ → List ℕ) → AreNewest self.old.store.graph (seen (D.state self.old.disk)) view
             → AnswersFault (fault_in self.old.store.extents view kind place) result }
         ensures refusals { IfErr result IsReadRefusal }
-        // Whatever the disk answers, the frame of what is read lies in the extent.
+        // Whatever the disk answers, what is read is the payload of the frame that the place means, and lies in the extent.
+        ensures meant { IfOk result (λ payload. IsMeant (shape self.old.store.extents) (kind_of kind) place payload.items) }
         ensures size { IfOk result (λ payload. place.page + length ((formats_of (shape self.old.store.extents)).frame (kind_of kind) payload.items) ≤ (shape self.old.store.extents).pages) }
         ensures same { self.new ≡ record self.old { disk = self.new.disk } }
         ensures disk { OnlyReads D.PageDisk self.old.disk self.new.disk }
@@ -118,8 +121,9 @@ impl<D: PageDisk> Core<D> {
     /// that waits, else what the device has. Only the header's tests are made: there is a length also where digest or padding are damaged. It takes
     /// no memory itself.
     ///
-    /// Refused 20 BadMagic, 24 BadVersion or 22 BadLength, the first test that fails, where no header of this kind is there; 1 DeviceFault or
-    /// 9 OutOfMemory where the disk refused the read so.
+    /// Refused 20 BadMagic, 24 BadVersion or 22 BadLength, the first test that fails, where no header of this kind is there; in format 3 26
+    /// Misplaced where one is that isn't of the frame that the place means, or whose digest is damaged; 1 DeviceFault or 9 OutOfMemory where
+    /// the disk refused the read so.
     pub fn read_length(&mut self, kind: FrameKind, place: Locator) -> Result<u32, Refusal>
         requires extent { place.extent < (shape self.old.store.extents).extents }
         requires page { place.page < (shape self.old.store.extents).pages }
@@ -132,9 +136,9 @@ impl<D: PageDisk> Core<D> {
         // Each other refusal is that of the first of the header's tests that fails.
         ensures header { D.honest self.old.disk → (view : ℕ → List ℕ) → AreNewest self.old.store.graph (seen (D.state self.old.disk)) view
             → AnswersFault (header_fault_in self.old.store.extents view kind place) result }
-        // So it is that of the frame's first test that fails.
+        // So it is that of the frame's first test that fails, or 26 of a frame that has a fault.
         ensures fault { D.honest self.old.disk → (view : ℕ → List ℕ) → AreNewest self.old.store.graph (seen (D.state self.old.disk)) view
-            → IfErr result (λ r. IsNoAnswer r ⊎ IsOfFault (fault_in self.old.store.extents view kind place) r) }
+            → IfErr result (λ r. IsNoAnswer r ⊎ IsOfFaultOrMark (fault_in self.old.store.extents view kind place) r) }
         ensures refusals { IfErr result IsHeaderRefusal }
         // Whatever the disk answers, a frame of so many bytes lies in the extent.
         ensures size { IfOk result (λ count. place.page + page_count count ≤ (shape self.old.store.extents).pages) }

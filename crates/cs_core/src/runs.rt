@@ -5,7 +5,9 @@ ghost use Rattle.cs_chunk.specs.Reads.{IsCaused, IsNoAnswer, IsOfFault, OnlyRead
 ghost use Rattle.cs_deps.specs.State.{NoneOn};
 ghost use Rattle.cs_disk.specs.Disk.{page, seen};
 ghost use Rattle.cs_extent.specs.State.{shape};
-ghost use Rattle.cs_frame.specs.Runs.{IsRun, SpellsRun, entries_of, run_fault};
+ghost use Rattle.cs_frame.specs.FormatRuns.{SpellsRun, run_fault};
+ghost use Rattle.cs_frame.specs.Geometries.{IsKnown};
+ghost use Rattle.cs_frame.specs.Runs.{IsRun, entries_of};
 ghost use Rattle.cs_image.specs.Reads.{AreLocated, IsLocated, IsRunRead};
 ghost use Rattle.cs_core.specs.Openings.{IsOpeningRefusal, IsWhyNoRuns, IsWhyNotRead};
 
@@ -66,15 +68,20 @@ pub fn are_located(extents: &Extents, runs: &[StoredRun]) -> bool
     true
 }
 
-/// The run that a payload spells, with its place.
-fn decoded_run(alloc: Global, place: Locator, payload: &[u8]) -> Result<StoredRun, Refusal>
-    ensures spelled { IfOk result (λ run. SpellsRun payload.now (entries_of run.entries.items)) }
+/// The run that a payload spells in this format, with its place.
+fn decoded_run(
+    alloc: Global,
+    format: u8,
+    place: Locator,
+    payload: &[u8],
+) -> Result<StoredRun, Refusal>
+    ensures spelled { IfOk result (λ run. SpellsRun payload.now format (entries_of run.entries.items)) }
     ensures place { IfOk result (λ run. run.place ≡ place) }
-    ensures run { IfOk result (λ run. IsRun (record { entries = run.entries })) }
-    ensures fault { IfErr result (λ r. (r ≡ Refusal.OutOfMemory) ⊎ IsOfFault (run_fault payload.now) r) }
+    ensures run { IfOk result (λ run. IsRun format (record { entries = run.entries })) }
+    ensures fault { IfErr result (λ r. (r ≡ Refusal.OutOfMemory) ⊎ IsOfFault (run_fault format payload.now) r) }
     ensures number { IfErr result IsOpeningRefusal }
 {
-    match decode_run(alloc, payload) {
+    match decode_run(alloc, format, payload) {
         Ok(run) => Ok(StoredRun {
             place,
             entries: run.entries,
@@ -96,7 +103,7 @@ fn read_run<D: PageDisk>(
     ensures read { D.honest disk.old → IfOk result (λ run. IsRunRead extents.now (page (seen (D.state disk.old))) run) }
     ensures place { IfOk result (λ run. run.place ≡ place) }
     ensures located { IfOk result (λ run. IsLocated extents.now run.place) }
-    ensures run { IfOk result (λ run. IsRun (record { entries = run.entries })) }
+    ensures run { IfOk result (λ run. IsRun (shape extents.now).format (record { entries = run.entries })) }
     ensures why { D.honest disk.old → IfErr result (λ r. IsNoAnswer r ⊎ IsWhyNotRead extents.now (page (seen (D.state disk.old))) place r) }
     ensures number { IfErr result IsOpeningRefusal }
     ensures disk { OnlyReads D.PageDisk disk.old disk.new }
@@ -108,7 +115,7 @@ fn read_run<D: PageDisk>(
         return Err(Refusal::NotAStore);
     }
     match frame_at(alloc, extents, graph, disk, FrameKind::Run, place) {
-        Ok(frame) => decoded_run(alloc, place, frame.payload()),
+        Ok(frame) => decoded_run(alloc, extents.geometry().format(), place, frame.payload()),
         Err(refusal) => Err(refusal),
     }
 }
@@ -125,7 +132,8 @@ pub fn read_runs<D: PageDisk>(
     requires none { (p : ℕ) → NoneOn graph.now p }
     ensures read { D.honest disk.old → IfOk result (λ runs. (map (λ run. run.place) runs.items ≡ places.now) × AllByRecursion (IsRunRead extents.now (page (seen (D.state disk.old)))) runs.items) }
     ensures places { IfOk result (λ runs. AllByRecursion (λ run. IsLocated extents.now run.place) runs.items) }
-    ensures runs { IfOk result (λ runs. AllByRecursion (λ run. IsRun (record { entries = run.entries })) runs.items) }
+    ensures runs { IfOk result (λ runs. AllByRecursion (λ run. IsRun (shape extents.now).format (record { entries = run.entries })) runs.items) }
+    ensures listed { IfOk result (λ runs. map (λ run. run.place) runs.items ≡ places.now) }
     ensures count { IfOk result (λ runs. length runs.items ≡ length places.now) }
     ensures why { D.honest disk.old → IfErr result (λ r. IsNoAnswer r ⊎ IsWhyNoRuns extents.now (page (seen (D.state disk.old))) places.now r) }
     ensures number { IfErr result IsOpeningRefusal }

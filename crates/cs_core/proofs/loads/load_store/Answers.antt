@@ -11,7 +11,7 @@ use Rattle.cs_core.proofs.Readying.{runs_there}
 use Rattle.cs_core.proofs.loads.load_store.Goals as goal
 
 pub ready-requires-clause-places : goal.ready-requires-clause-places
-ready-requires-clause-places c = runs_there c.args.extents c.in-Ok.made.0 c.args.runs.items _ c.in-Ok.ensures.loaded c.requires.places
+ready-requires-clause-places c = runs_there c.args.extents c.in-Ok.made.0 c.args.runs.items _ _ c.in-Ok.ensures.loaded c.requires.places
 
 pub invariant_of-result : goal.invariant_of-result
 invariant_of-result c =
@@ -20,19 +20,19 @@ invariant_of-result c =
     let graph = c.requires.graph in
     let root = c.args.root.now.version in
     let same = extents_by x x.format x.pages x.sections x.written graph.0 c.requires.extents graph.1 in
-    let is = loaded_as root c.args.root.now.commands _ c.args.runs.items c.args.graph x y c.in-Ok.made.0 c.none-copies.result c.in-Ok.made.1.items
-    refl c.in-Ok.ensures.loaded c.none-copies.ensures c.in-Ok.ensures.noted c.ready.ensures graph.0 graph.2 in
-    let opened = are_opened root c.args.root.now.commands _ c.args.runs.items c.args.graph x y c.in-Ok.made.0 c.none-copies.result c.in-Ok.made.1.items
-    refl c.in-Ok.ensures.loaded c.none-copies.ensures c.in-Ok.ensures.noted c.ready.ensures in
+    let is = loaded_as root c.args.root.now.commands _ _ c.args.runs.items c.args.graph x y c.in-Ok.made.0 c.none-copies.result c.in-Ok.made.1.items
+    refl refl c.in-Ok.ensures.loaded c.none-copies.ensures c.in-Ok.ensures.noted c.ready.ensures graph.0 graph.2 in
+    let opened = are_opened root c.args.root.now.commands _ _ c.args.runs.items c.args.graph x y c.in-Ok.made.0 c.none-copies.result c.in-Ok.made.1.items
+    refl refl c.in-Ok.ensures.loaded c.none-copies.ensures c.in-Ok.ensures.noted c.ready.ensures in
     subst IsKept (sym is)
     (kept_opened x.format graph.0 x.pages x.written root c.args.root.now.commands c.args.runs.items y (subst IsWhole same c.extent_count.ensures.whole)
-    (subst (λ (z : ExtentsState). AreExtentsOpened z (index_at (newest_first c.args.runs.items) (named_limit x.pages)) root y) same opened)
+    (subst (λ (z : ExtentsState). AreExtentsOpened z (index_at (newest_first c.args.runs.items) x.format (named_limit x.format x.pages)) root y) same opened)
     c.requires.commands c.requires.few (subst (λ (z : ExtentsState). AreLocatedBy z c.args.runs.items) same c.in-Ok.ensures.located))
 
 pub returns-clause-made : goal.returns-clause-made
 returns-clause-made c =
-    is_loaded c.args.root.now.version c.args.root.now.commands _ c.args.runs.items c.args.graph c.args.extents c.ready.new.extents c.in-Ok.made.0 c.none-copies.result c.in-Ok.made.1.items
-    refl c.in-Ok.ensures.loaded c.none-copies.ensures c.in-Ok.ensures.noted c.ready.ensures
+    is_loaded c.args.root.now.version c.args.root.now.commands _ _ c.args.runs.items c.args.graph c.args.extents c.ready.new.extents c.in-Ok.made.0 c.none-copies.result c.in-Ok.made.1.items
+    refl refl c.in-Ok.ensures.loaded c.none-copies.ensures c.in-Ok.ensures.noted c.ready.ensures
 
 pub returns-clause-live : goal.returns-clause-live
-returns-clause-live c = live_in c.in-Ok.made.0 c.args.runs.items _ c.live_count-live.result c.in-Ok.ensures.loaded c.live_count-live.ensures
+returns-clause-live c = live_in c.in-Ok.made.0 c.args.runs.items _ _ c.live_count-live.result c.in-Ok.ensures.loaded c.live_count-live.ensures

@@ -6,10 +6,10 @@ use Rattle.cs_core.proofs.Readying.{live_hidden, live_visible}
 use Rattle.cs_core.proofs.loads.load_visible.Goals as goal
 
 pub returns-in-Ok-clause-located : goal.returns-in-Ok-clause-located
-returns-in-Ok-clause-located c = live_visible c.located_or_none.result c.args.extents.now c.in-Ok.index c.args.runs.items _ c.in-Ok.ensures.loaded c.located_or_none.ensures.located
+returns-in-Ok-clause-located c = live_visible c.located_or_none.result c.args.extents.now c.in-Ok.index c.args.runs.items _ _ c.in-Ok.ensures.loaded c.located_or_none.ensures.located
 
 pub returns-in-Ok-clause-why : goal.returns-in-Ok-clause-why
-returns-in-Ok-clause-why c = live_hidden c.located_or_none.result c.args.extents.now c.in-Ok.index c.args.runs.items _ c.in-Ok.ensures.loaded
+returns-in-Ok-clause-why c = live_hidden c.located_or_none.result c.args.extents.now c.in-Ok.index c.args.runs.items _ _ c.in-Ok.ensures.loaded
     ((shape c.args.extents.now).most_names < names (entries_of (newest_first c.args.runs.items))) c.located_or_none.ensures.why
 
 pub returns-in-Err-clause-number : goal.returns-in-Err-clause-number

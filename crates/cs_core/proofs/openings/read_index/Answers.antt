@@ -8,9 +8,11 @@ use Rattle.cs_frame.specs.Geometries.{device_pages}
 use Rattle.cs_frame.specs.declared.locators.Locator.{Locator}
 use Rattle.cs_frame.specs.declared.superblocks.Superblock.{Superblock}
 use Rattle.cs_frame.proofs.RootLaws.{most_runs}
+use Rattle.cs_frame.specs.Locators.{KeepFormat}
 use Rattle.cs_frame.specs.Roots.{SpellsRoot}
 use Rattle.cs_image.specs.Reads.{extents_at}
 use Rattle.cs_core.proofs.Causes.{caused_loaded}
+use Rattle.cs_core.proofs.Loading.{fits_keep}
 use Rattle.cs_core.proofs.Opening.{extents_again, extents_by, index_damaged, run_damaged, store_made}
 use Rattle.cs_core.proofs.openings.read_index.Given.{Over}
 use Rattle.cs_core.proofs.openings.read_index.Goals as goal
@@ -64,6 +66,12 @@ load_store-requires-clause-commands g c = c.requires.some_root.1.fits.last_comma
 
 pub load_store-requires-clause-version : goal.load_store-requires-clause-version
 load_store-requires-clause-version g c = c.requires.some_root.1.fits.last_version
+
+pub load_store-requires-clause-marks : goal.load_store-requires-clause-marks
+load_store-requires-clause-marks g c =
+    subst (λ (f : ℕ). KeepFormat f (map (λ run. run.place) c.in-Ok-read_runs.runs.items)) (sym (ap (λ (y : ExtentsState). y.format) c.in-Ok.ensures))
+    (subst (λ (ls : List Locator). KeepFormat (format_of c.args.sections.now) ls) (sym (c.in-Ok-read_runs.ensures.listed ∙ c.deref.ensures.value))
+    (fits_keep (format_of c.args.sections.now) c.args.root.now.runs.items c.requires.some_root.1.fits.each))
 
 pub load_store-requires-clause-places : goal.load_store-requires-clause-places
 load_store-requires-clause-places g c = c.in-Ok-read_runs.ensures.places

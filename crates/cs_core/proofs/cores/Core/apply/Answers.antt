@@ -1,11 +1,12 @@
 use Rattle.std.proofs.Common.{◌∙◌, ◌<◌, List, drop, length, sym, subst, inr}
+use Rattle.cs_deps.specs.declared.refusals.Refusal.TheVariants as code
 use Rattle.cs_disk.specs.Disk.{Leaves}
 use Rattle.cs_core.specs.Answered.{IsLimited}
 use Rattle.cs_core.specs.declared.events.Event.{Event as Asked}
 use Rattle.cs_core.specs.declared.events.Reply.{Reply as Told}
 use Rattle.cs_core.specs.Stored.{but_for_room}
 use Rattle.cs_core.specs.Views.{View}
-use Rattle.cs_core.proofs.Answering.{answered_shape, answered_writes, full_shape}
+use Rattle.cs_core.proofs.Answering.{answered_meant, answered_shape, answered_writes, full_shape, no_bytes}
 use Rattle.cs_core.proofs.Applied.{core_of, core_then, core_untouched, crash_then, crash_untouched, kept_is, left_then, left_untouched, step_then}
 use Rattle.cs_core.proofs.Leaving.{LeftBy, left_now, only_left_now}
 use Rattle.cs_core.proofs.cores.Core.apply.Goals as goal
@@ -94,3 +95,9 @@ returns-clause-answers g c = answered_shape (but_for_room c.self.inside.store) (
 
 pub returns-clause-writeback : goal.returns-clause-writeback
 returns-clause-writeback g c = rw (← c.self.view_is) (answered_writes (but_for_room c.self.inside.store) (but_for_room c.serve.new.self) c.args.event.now c.in_ok-reply.reply c.in_ok-reply.ensures.served.answered)
+
+pub returns-then-self-kept-clause-meant : goal.returns-then-self-kept-clause-meant
+returns-then-self-kept-clause-meant g c = rw (← c.self.view_is) (no_bytes (but_for_room c.self.inside.store) c.args.event.now code.HistoryFull)
+
+pub returns-clause-meant : goal.returns-clause-meant
+returns-clause-meant g c = rw (← c.self.view_is) (answered_meant (but_for_room c.self.inside.store) (but_for_room c.serve.new.self) c.args.event.now c.in_ok-reply.reply c.in_ok-reply.ensures.served.answered)

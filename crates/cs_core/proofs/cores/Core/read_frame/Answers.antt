@@ -20,3 +20,6 @@ returns-clause-fault g c = rw (← c.self.view_is) (λ honest view are.
 pub returns-clause-crash : goal.returns-clause-crash
 returns-clause-crash g c = rw (← c.self.view_is) (λ honest.
     crash_read g.D.PageDisk c.self.invariant c.read_frame.new.disk c.read_frame.ensures.disk c.extent_count.ensures.whole honest (g.met.D.PageDisk.sized c.self.inside.disk honest) (λ image since. g.met.D.PageDisk.only_now c.self.inside.disk image honest since))
+
+pub returns-clause-meant : goal.returns-clause-meant
+returns-clause-meant g c = rw (← c.self.view_is) c.read_frame.ensures.meant

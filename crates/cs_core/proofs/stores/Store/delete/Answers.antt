@@ -26,7 +26,7 @@ invariant_of-self c =
     let s : Stored = the_view c.self.inside in
     let set = c.erase.ensures.entered (search rules) in
     let young : s.base + (s.accepted + 1) < 2 ^ 63 = (let few : s.base + s.accepted + 1 < 2 ^ 63 = subst (λ (u : Stored). u.base + u.accepted + 1 < 2 ^ 63) (sym c.self.view_is) c.if-is_worn.ensures in omega arith) in
-    kept_on s (record s { index = c.erase.new.self; accepted = s.accepted + 1 }) c.self.invariant (moves_none s.extents s.graph) c.self.invariant.resets refl set.limit
+    kept_on s (record s { index = c.erase.new.self; accepted = s.accepted + 1 }) c.self.invariant (moves_none s.extents s.graph) c.self.invariant.resets refl set.format set.limit
     (inside_set (shape s.extents) s.index (id_number c.args.id) [] c.erase.new.self c.self.invariant.places set (λ l among. absurd among)) refl refl young c.self.invariant.swept
     (kept_apart_delete s.extents s.index c.erase.new.self s.copies (id_number c.args.id) set c.self.invariant.apart)
     (noted_on s c.self.invariant s.graph refl s.roots refl (s.accepted + 1) (omega arith))

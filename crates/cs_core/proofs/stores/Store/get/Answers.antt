@@ -4,7 +4,7 @@ use Rattle.cs_index.specs.State.{id_number}
 use Rattle.cs_model.specs.Index.{live}
 use Rattle.cs_core.specs.contracts.stores.Store.{the_view}
 use Rattle.cs_core.specs.Stored.{Stored}
-use Rattle.cs_core.proofs.Gets.{found_live, get_absent, get_found_answers, get_refused_answers, none_left, some_left}
+use Rattle.cs_core.proofs.Gets.{found_live, get_absent, get_found_answers, get_refused_answers, meant_found, none_left, some_left}
 use Rattle.cs_core.proofs.Kept.{found_there}
 use Rattle.cs_core.proofs.stores.Store.get.Goals as goal
 use Rattle.cs_image.specs.Reads.{page_total}
@@ -25,6 +25,10 @@ returns-in-Ok-clause-step g c = rw (← c.self.view_is) (λ honest.
     get_found_answers (the_view c.self.inside) (id_number c.args.id) (g.D.PageDisk.state c.args.disk.now) c.extent_count.ensures.whole c.families.ensures.whole
     (le_of_eq (ap (λ (u : Stored). page_total (shape u.extents)) c.self.view_is ∙ c.requires.device ∙ sym (g.met.D.PageDisk.sized c.args.disk.now honest))) c.in-Some.places.now (sym (ap live c.in-Some.ensures.last)) (some_left c.in-Some.places.now c.if-is_empty.ensures)
     c.in-Ok.bytes (c.in-Ok.ensures.bytes honest))
+
+pub returns-in-Ok-clause-meant : goal.returns-in-Ok-clause-meant
+returns-in-Ok-clause-meant g c = rw (← c.self.view_is) (
+    meant_found (the_view c.self.inside) (id_number c.args.id) c.in-Some.places.now (sym (ap live c.in-Some.ensures.last)) c.in-Ok.bytes.items c.in-Ok.ensures.meant)
 
 pub returns-in-Err-clause-step : goal.returns-in-Err-clause-step
 returns-in-Err-clause-step g c = rw (← c.self.view_is) (λ honest.

@@ -21,7 +21,7 @@ invariant_of-self g c =
     let together : (shape v.extents).apart ≡ false = subst (λ (u : Stored). (shape u.extents).apart ≡ false) (sym c.self.view_is) c.requires.rule in
     let same = move_round v.index v.extents v.graph c.in-Some.sweep c.move_one.new.index c.move_one.new.extents c.move_one.new.graph c.move_one.result
     (λ is. let u = d.unchanged is in (u.0, u.1, u.2)) (λ id k is. let m = d.moved id k is in (m.0, m.1)) d.unstaged in
-    round_told (λ (w : Stored). IsKept w) (record v { extents = c.move_one.new.extents; graph = c.move_one.new.graph; index = c.move_one.new.index }) same (kept_moved v c.self.invariant together c.in-Some.sweep c.move_one.new.extents c.move_one.new.graph c.move_one.new.index d.resets d.families d.shape d.limit c.move_one.result
+    round_told (λ (w : Stored). IsKept w) (record v { extents = c.move_one.new.extents; graph = c.move_one.new.graph; index = c.move_one.new.index }) same (kept_moved v c.self.invariant together c.in-Some.sweep c.move_one.new.extents c.move_one.new.graph c.move_one.new.index d.resets d.families d.shape d.format d.limit c.move_one.result
     (λ is. let u = d.unchanged is in (u.0, u.1, u.2)) (λ id k is. let m = d.moved id k is in (m.0, m.1)) d.refused d.unwritten d.unstaged)
 
 pub returns-clause-step : goal.returns-clause-step

@@ -1,9 +1,10 @@
-use Rattle.std.proofs.Common.{◌≡◌, ◌∙◌, Bool, ◌+◌, ◌^◌, ◌≤◌, ◌<◌, Err, ap, arith, refl, sym, subst}
+use Rattle.std.proofs.Common.{◌≡◌, ◌∙◌, Bool, ℕ, ◌+◌, ◌^◌, ◌≤◌, ◌<◌, Err, ap, arith, refl, sym, subst}
 use Rattle.std.specs.Prelude.{map}
 use Rattle.cs_deps.specs.declared.refusals.Refusal.TheVariants as code
 use Rattle.cs_deps.specs.State.{State as GraphState}
 use Rattle.cs_extent.specs.State.{shape}
 use Rattle.cs_frame.specs.Formats.{place_of}
+use Rattle.cs_frame.specs.Locators.{KeepFormat}
 use Rattle.cs_index.specs.State.{id_number}
 use Rattle.cs_model.specs.Extents.{ForPut}
 use Rattle.cs_model.specs.State.{Accepted, Put}
@@ -11,9 +12,9 @@ use Rattle.cs_core.specs.contracts.stores.Store.{the_view}
 use Rattle.cs_core.specs.Steps.{Declines, Steps}
 use Rattle.cs_core.specs.Stored.{AreSwept, Stored}
 use Rattle.cs_core.proofs.Going.{round_told, roomed}
-use Rattle.cs_core.proofs.Kept.{inside_live, inside_set, kept_on, noted_on, places_there, same_limit, same_live, swept_all}
+use Rattle.cs_core.proofs.Kept.{inside_live, inside_set, kept_on, noted_on, places_there, same_format, same_limit, same_live, swept_all}
 use Rattle.cs_core.proofs.KeptApart.{kept_apart_roomed}
-use Rattle.cs_core.proofs.KeptPuts.{kept_apart_put}
+use Rattle.cs_core.proofs.KeptPuts.{kept_apart_put, placed_all}
 use Rattle.cs_core.proofs.Moves.{last_root, moves_all, moves_none, moves_refused, root_all}
 use Rattle.cs_core.proofs.Puts.{chunks_decline, last_declines, ok_not, put_done, set_from, test_declines}
 use Rattle.cs_core.proofs.stores.Store.put.Goals as goal
@@ -37,7 +38,7 @@ invariant_of-self c =
     let s : Stored = the_view c.self.inside in
     let i = c.reserve.new.self in
     let room = c.reserve.ensures.rest in
-    kept_on s (record s { index = i }) c.self.invariant (moves_none s.extents s.graph) c.self.invariant.resets refl (same_limit s.index i room)
+    kept_on s (record s { index = i }) c.self.invariant (moves_none s.extents s.graph) c.self.invariant.resets refl (same_format s.index i room) (same_limit s.index i room)
     (inside_live (shape s.extents) s.index i c.self.invariant.places (same_live s.index i room)) refl refl c.self.invariant.numbers c.self.invariant.swept
     (kept_apart_roomed s.extents s.extents s.index i s.copies refl room c.self.invariant.apart) c.self.invariant.noted
 
@@ -49,7 +50,7 @@ invariant_of-self-in-Err-put_chunks_by c =
     let e = c.in-Err-put_chunks_by.ensures in
     let m = moves_refused s.extents s.graph c.put_chunks_by.new.extents c.put_chunks_by.new.graph e.refused e.unstaged in
     kept_on s (record s { index = i; extents = c.put_chunks_by.new.extents; graph = c.put_chunks_by.new.graph; out = c.put_chunks_by.new.graph.round }) c.self.invariant m
-    c.put_chunks_by.ensures.resets c.put_chunks_by.ensures.families (same_limit s.index i room)
+    c.put_chunks_by.ensures.resets c.put_chunks_by.ensures.families (same_format s.index i room) (same_limit s.index i room)
     (inside_live (shape s.extents) s.index i c.self.invariant.places (same_live s.index i room)) m.round refl c.self.invariant.numbers (subst (λ x. AreSwept x) (sym e.refused) c.self.invariant.swept)
     (kept_apart_roomed s.extents c.put_chunks_by.new.extents s.index i s.copies e.refused room c.self.invariant.apart)
     (noted_on s c.self.invariant c.put_chunks_by.new.graph (ap last_root e.unstaged) s.roots refl s.accepted (omega arith))
@@ -68,11 +69,18 @@ invariant_of-self-in-Ok-put_chunks_by c =
     let young : s.base + (s.accepted + 1) < 2 ^ 63 = (let few : s.base + s.accepted + 1 < 2 ^ 63 = subst (λ (u : Stored). u.base + u.accepted + 1 < 2 ^ 63) (sym c.self.view_is) c.if-is_worn.ensures in omega arith) in
     let m = moves_all b s.extents s.graph ForPut _ ls x g chunks.2 in
     kept_on s (record s { index = c.enter.new.index; extents = x; graph = g; out = g.round; accepted = s.accepted + 1 }) c.self.invariant m
-    c.put_chunks_by.ensures.resets c.put_chunks_by.ensures.families (c.enter.ensures.limit ∙ same_limit s.index i room)
+    c.put_chunks_by.ensures.resets c.put_chunks_by.ensures.families (c.enter.ensures.format ∙ same_format s.index i room) (c.enter.ensures.limit ∙ same_limit s.index i room)
     (inside_set (shape s.extents) i (id_number c.args.id) (map place_of ls) c.enter.new.index (inside_live (shape s.extents) s.index i c.self.invariant.places (same_live s.index i room)) c.enter.ensures
     (λ p among. places_there b s.extents s.graph ForPut (shape s.extents) chunks.0 ls x g refl chunks.2 p among)) m.round refl young (swept_all b s.extents x s.graph g ForPut _ ls rule chunks.2 c.self.invariant.swept)
     (kept_apart_put b s.extents x s.graph g i c.enter.new.index s.copies _ (id_number c.args.id) ls rule chunks.2 c.enter.ensures c.self.invariant.swept (kept_apart_roomed s.extents s.extents s.index i s.copies refl room c.self.invariant.apart))
     (noted_on s c.self.invariant g (root_all b s.extents s.graph ForPut _ ls x g chunks.2) s.roots refl (s.accepted + 1) (omega arith))
+
+pub enter-requires-clause-marks : goal.enter-requires-clause-marks
+enter-requires-clause-marks c =
+    let s : Stored = the_view c.self.inside in
+    let ls = c.in-Ok-put_chunks_by.places.items in
+    subst (λ (f : ℕ). KeepFormat f ls) (sym (same_format s.index c.reserve.new.self c.reserve.ensures.rest ∙ c.self.invariant.format))
+    (placed_all c.is_apart-apart.result s.extents c.put_chunks_by.new.extents s.graph c.put_chunks_by.new.graph ForPut _ ls c.in-Ok-put_chunks_by.ensures.chunks.2)
 
 pub returns-in-Err-put_chunks_by-clause-step : goal.returns-in-Err-put_chunks_by-clause-step
 returns-in-Err-put_chunks_by-clause-step c = rw (← c.self.view_is) (λ runs.

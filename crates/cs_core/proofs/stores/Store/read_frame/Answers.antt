@@ -8,3 +8,6 @@ returns-clause-read g c = rw (← c.self.view_is) c.read_frame.ensures.read
 
 pub returns-clause-fault : goal.returns-clause-fault
 returns-clause-fault g c = rw (← c.self.view_is) c.read_frame.ensures.fault
+
+pub returns-clause-meant : goal.returns-clause-meant
+returns-clause-meant g c = rw (← c.self.view_is) c.read_frame.ensures.meant

@@ -32,7 +32,7 @@ invariant_of-self-in-Ok c =
     let marks = (resumed _ _ c.resume.result c.if-is_none.ensures c.resume.ensures).1.2 in
     let kept = c.self.invariant.apart rule in
     let m = retired_moves s.index s.extents s.graph s.copies c.args.extent c.in-Ok.version _ c.retire.new.index c.retire.new.extents c.retire.new.graph c.retire.new.self done whole.geometry.fewest_sections in
-    kept_on s (record s { extents = c.retire.new.extents; graph = c.retire.new.graph; out = c.retire.new.graph.round; index = c.retire.new.index; copies = c.retire.new.self; roots = c.push_back_reserved.new.self.items }) c.self.invariant m e.resets e.families e.limit
+    kept_on s (record s { extents = c.retire.new.extents; graph = c.retire.new.graph; out = c.retire.new.graph.round; index = c.retire.new.index; copies = c.retire.new.self; roots = c.push_back_reserved.new.self.items }) c.self.invariant m e.resets e.families e.format e.limit
     (retired_inside s.index s.extents s.graph s.copies c.args.extent c.in-Ok.version _ c.retire.new.index c.retire.new.extents c.retire.new.graph c.retire.new.self done kept.placed c.self.invariant.places)
     m.round refl c.self.invariant.numbers
     (retired_swept s.index s.extents s.graph s.copies c.args.extent c.in-Ok.version _ c.retire.new.index c.retire.new.extents c.retire.new.graph c.retire.new.self done kept.one marks)
@@ -47,7 +47,7 @@ invariant_of-self-in-Err c =
     let e = c.retire.ensures in
     let d = c.in-Err.ensures in
     let m = moves_refused s.extents s.graph c.retire.new.extents c.retire.new.graph d.unwritten d.unstaged in
-    kept_on s (record s { extents = c.retire.new.extents; graph = c.retire.new.graph; out = c.retire.new.graph.round; index = c.retire.new.index; copies = c.retire.new.self; roots = c.reserve.new.self.items }) c.self.invariant m e.resets e.families e.limit
+    kept_on s (record s { extents = c.retire.new.extents; graph = c.retire.new.graph; out = c.retire.new.graph.round; index = c.retire.new.index; copies = c.retire.new.self; roots = c.reserve.new.self.items }) c.self.invariant m e.resets e.families e.format e.limit
     (subst (λ (j : IndexState). AreInside (shape s.extents) j) (sym d.refused) c.self.invariant.places) m.round refl c.self.invariant.numbers
     (subst (λ (x : ExtentsState). AreSwept x) (sym d.unwritten) c.self.invariant.swept)
     (kept_same s.extents c.retire.new.extents s.index c.retire.new.index s.copies c.retire.new.self d.unwritten d.refused d.kept c.self.invariant.apart)

@@ -29,7 +29,7 @@ invariant_of-self-in-Ok c =
     let e = c.retire.ensures in
     let done = c.in-Ok.ensures.retired in
     let m = moves_retired s.index s.extents s.graph c.in-Some.sweep c.in-Ok.version _ c.retire.new.index c.retire.new.extents c.retire.new.graph c.extent_count.ensures.whole.geometry.fewest_sections done e.shape in
-    kept_on s (record s { extents = c.retire.new.extents; graph = c.retire.new.graph; out = c.retire.new.graph.round; index = c.retire.new.index; roots = c.push_back_reserved.new.self.items }) c.self.invariant m e.resets e.families e.limit
+    kept_on s (record s { extents = c.retire.new.extents; graph = c.retire.new.graph; out = c.retire.new.graph.round; index = c.retire.new.index; roots = c.push_back_reserved.new.self.items }) c.self.invariant m e.resets e.families e.format e.limit
     (inside_live (shape s.extents) s.index c.retire.new.index c.self.invariant.places e.map) m.round refl c.self.invariant.numbers
     (swept_retired s.index s.extents s.graph c.in-Some.sweep c.in-Ok.version _ c.retire.new.index c.retire.new.extents c.retire.new.graph rule c.extent_count.ensures.whole.geometry.fewest_sections done e.shape c.self.invariant.swept)
     (kept_together s.extents c.retire.new.extents c.retire.new.index s.copies m.same_shape rule)
@@ -44,7 +44,7 @@ invariant_of-self-in-Err c =
     let e = c.retire.ensures in
     let d = c.in-Err.ensures in
     let m = moves_refused s.extents s.graph c.retire.new.extents c.retire.new.graph d.unwritten d.unstaged in
-    kept_on s (record s { extents = c.retire.new.extents; graph = c.retire.new.graph; out = c.retire.new.graph.round; index = c.retire.new.index; roots = c.reserve.new.self.items }) c.self.invariant m e.resets e.families e.limit
+    kept_on s (record s { extents = c.retire.new.extents; graph = c.retire.new.graph; out = c.retire.new.graph.round; index = c.retire.new.index; roots = c.reserve.new.self.items }) c.self.invariant m e.resets e.families e.format e.limit
     (inside_live (shape s.extents) s.index c.retire.new.index c.self.invariant.places e.map) m.round refl c.self.invariant.numbers
     (subst (λ (x : ExtentsState). AreSwept x) (sym d.unwritten) c.self.invariant.swept)
     (kept_together s.extents c.retire.new.extents c.retire.new.index s.copies m.same_shape rule)

@@ -1,10 +1,11 @@
 use Rattle.std.proofs.Common.{rules, ◌≡◌, ◌≢◌, ℕ, Ok, Some, None, refl, subst}
-use Rattle.std.specs.Prelude.{Option, Result, Vec}
+use Rattle.std.specs.Prelude.{IfOk, IfSome, Option, Result, Vec}
 use Rattle.std.specs.declared.alloc.Global.{Global}
 use Rattle.cs_deps.specs.declared.refusals.Refusal.{Refusal as Code}
 use Rattle.cs_deps.specs.declared.refusals.Refusal.TheVariants as code
 use Rattle.cs_index.specs.State.{id_number}
 use Rattle.cs_core.specs.declared.events.Event.TheVariants as asked
+use Rattle.cs_core.specs.Lookups.{AreMeantBytes}
 use Rattle.cs_core.specs.Reads.{GetAnswers}
 use Rattle.cs_core.specs.Stored.{but_for_room}
 use Rattle.cs_core.proofs.Answering.{get_absent_so, get_found_so, if_found_so, if_refused_so, refused_alone}
@@ -33,7 +34,8 @@ pub returns-clause-served : goal.returns-clause-served
 returns-clause-served g c =
     let v = but_for_room c.args.self.now in
     let is_ : c.get.result ≡ Ok (Some c.in-Ok-Some.bytes) = search rules in
-    let answered = get_found_so v v c.args.id c.in-Ok-Some.bytes.items refl in
+    let meant = subst (λ (r : Result (Option (Vec ℕ Global)) Code). IfOk r (λ found. IfSome found (λ bytes. AreMeantBytes c.args.self.now (id_number c.args.id) bytes.items))) is_ c.get.ensures.meant in
+    let answered = get_found_so v v c.args.id c.in-Ok-Some.bytes.items meant refl in
     let step = λ (honest : g.D.PageDisk.honest c.args.disk.now). found_served c.args.self.now (g.D.PageDisk.state c.args.disk.now) (g.D.PageDisk.state c.get.new.disk) c.args.id c.in-Ok-Some.bytes (c.get.ensures.disk.same honest)
     (subst (λ (r : Result (Option (Vec ℕ Global)) Code). GetAnswers c.args.self.now (g.D.PageDisk.state c.args.disk.now) (id_number c.args.id) r) is_ (c.get.ensures.step honest)) in
     search (rules, if_found_so, if_found)

@@ -60,7 +60,7 @@ invariant_of-self-in-Err c =
     let e = c.stage.ensures in
     let d = c.in-Err.ensures in
     let m = moves_refused s.extents s.graph c.stage.new.extents c.stage.new.graph d.unwritten d.unstaged in
-    kept_on s (record s { extents = c.stage.new.extents; graph = c.stage.new.graph; out = c.stage.new.graph.round; index = c.stage.new.index; copies = c.stage.new.self; roots = c.reserve.new.self.items }) c.self.invariant m e.resets e.families e.limit
+    kept_on s (record s { extents = c.stage.new.extents; graph = c.stage.new.graph; out = c.stage.new.graph.round; index = c.stage.new.index; copies = c.stage.new.self; roots = c.reserve.new.self.items }) c.self.invariant m e.resets e.families e.format e.limit
     (inside_live (shape s.extents) s.index c.stage.new.index c.self.invariant.places e.map) m.round refl c.self.invariant.numbers
     (subst (λ (x : ExtentsState). AreSwept x) (sym d.unwritten) c.self.invariant.swept)
     (kept_same s.extents c.stage.new.extents s.index c.stage.new.index s.copies c.stage.new.self d.unwritten d.refused d.kept c.self.invariant.apart)
@@ -74,7 +74,7 @@ invariant_of-self-in-Ok-Some c =
     let e = c.stage.ensures in
     let done = e.staged c.in-Ok-Some.version (search rules) in
     let m = swept_moves s.index s.extents s.graph s.copies c.in-Ok-Some.version _ c.stage.new.index c.stage.new.extents c.stage.new.graph c.stage.new.self done whole.geometry.fewest_sections in
-    kept_on s (record s { extents = c.stage.new.extents; graph = c.stage.new.graph; out = c.stage.new.graph.round; index = c.stage.new.index; copies = c.stage.new.self; roots = c.push_back_reserved.new.self.items }) c.self.invariant m e.resets e.families e.limit
+    kept_on s (record s { extents = c.stage.new.extents; graph = c.stage.new.graph; out = c.stage.new.graph.round; index = c.stage.new.index; copies = c.stage.new.self; roots = c.push_back_reserved.new.self.items }) c.self.invariant m e.resets e.families e.format e.limit
     (inside_live (shape s.extents) s.index c.stage.new.index c.self.invariant.places e.map) m.round refl c.self.invariant.numbers
     (swept_still s.index s.extents s.graph s.copies c.in-Ok-Some.version _ c.stage.new.index c.stage.new.extents c.stage.new.graph c.stage.new.self done rule c.self.invariant.swept)
     (λ apart. swept_kept s.index s.extents s.graph s.copies c.in-Ok-Some.version _ c.stage.new.index c.stage.new.extents c.stage.new.graph c.stage.new.self done whole rule c.self.invariant.swept (c.self.invariant.apart rule))

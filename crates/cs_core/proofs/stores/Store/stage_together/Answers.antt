@@ -40,7 +40,7 @@ invariant_of-self-in-Err c =
     let rule : (shape s.extents).apart ≡ false = subst (λ (u : Stored). (shape u.extents).apart ≡ false) (sym c.self.view_is) c.requires in
     let e = c.stage.ensures in
     let m = stage_moves c.stage.result _ s.index s.extents s.graph c.stage.new.self c.stage.new.extents c.stage.new.graph c.extent_count.ensures.whole.geometry.fewest_sections e.unchanged e.staged e.refused e.unwritten e.unstaged in
-    kept_on s (record s { extents = c.stage.new.extents; graph = c.stage.new.graph; out = c.stage.new.graph.round; index = c.stage.new.self; roots = c.reserve.new.self.items }) c.self.invariant m.0 e.resets e.families m.1
+    kept_on s (record s { extents = c.stage.new.extents; graph = c.stage.new.graph; out = c.stage.new.graph.round; index = c.stage.new.self; roots = c.reserve.new.self.items }) c.self.invariant m.0 e.resets e.families m.1 m.2
     (inside_live (shape s.extents) s.index c.stage.new.self c.self.invariant.places e.map) m.0.round refl c.self.invariant.numbers
     (swept_staged c.stage.result _ s.index s.extents s.graph c.stage.new.self c.stage.new.extents c.stage.new.graph rule e.unchanged e.staged e.unwritten c.self.invariant.swept)
     (kept_together s.extents c.stage.new.extents c.stage.new.self s.copies m.0.same_shape rule)
@@ -52,7 +52,7 @@ invariant_of-self-in-Ok-Some c =
     let rule : (shape s.extents).apart ≡ false = subst (λ (u : Stored). (shape u.extents).apart ≡ false) (sym c.self.view_is) c.requires in
     let e = c.stage.ensures in
     let m = stage_moves c.stage.result _ s.index s.extents s.graph c.stage.new.self c.stage.new.extents c.stage.new.graph c.extent_count.ensures.whole.geometry.fewest_sections e.unchanged e.staged e.refused e.unwritten e.unstaged in
-    kept_on s (record s { extents = c.stage.new.extents; graph = c.stage.new.graph; out = c.stage.new.graph.round; index = c.stage.new.self; roots = c.push_back_reserved.new.self.items }) c.self.invariant m.0 e.resets e.families m.1
+    kept_on s (record s { extents = c.stage.new.extents; graph = c.stage.new.graph; out = c.stage.new.graph.round; index = c.stage.new.self; roots = c.push_back_reserved.new.self.items }) c.self.invariant m.0 e.resets e.families m.1 m.2
     (inside_live (shape s.extents) s.index c.stage.new.self c.self.invariant.places e.map) m.0.round refl c.self.invariant.numbers
     (swept_staged c.stage.result _ s.index s.extents s.graph c.stage.new.self c.stage.new.extents c.stage.new.graph rule e.unchanged e.staged e.unwritten c.self.invariant.swept)
     (kept_together s.extents c.stage.new.extents c.stage.new.self s.copies m.0.same_shape rule)
