@@ -11,8 +11,8 @@ use Rattle.cs_core.specs.declared.events.Reply.TheVariants.{Abandoned, Moved, No
 use Rattle.cs_core.specs.Views.{View}
 use Rattle.cs_drive.specs.Histories.{IsStopped, Went}
 
--- the refusals of a sweep, whatever the disk does: the device or memory refused, a chunk that is to be moved is damaged, there was no
--- place for what is moved, the extent may not be swept or has something live still, a number was worn out, the store was halted, or as
+-- the refusals of a sweep, whatever the disk does: the device or memory refused, a chunk that is to be moved is damaged or another frame lies there, there
+-- was no place for what is moved, the extent may not be swept or has something live still, a number was worn out, the store was halted, or as
 -- many events are kept as may be
 abbrev pub MayRefuseSweep : Refusal → Type 0
 MayRefuseSweep refusal.DeviceFault = Unit {0}
@@ -22,6 +22,7 @@ MayRefuseSweep refusal.BadDigest = Unit {0}
 MayRefuseSweep refusal.BadLength = Unit {0}
 MayRefuseSweep refusal.BadPadding = Unit {0}
 MayRefuseSweep refusal.BadVersion = Unit {0}
+MayRefuseSweep refusal.Misplaced = Unit {0}
 MayRefuseSweep refusal.Full = Unit {0}
 MayRefuseSweep refusal.NotSweepable = Unit {0}
 MayRefuseSweep refusal.StillLive = Unit {0}

@@ -30,7 +30,8 @@ pub struct Swept {
 ///
 /// Refused 33 NotSweepable where the extent is empty, being swept or not there; up to format 2 where it is open, in format 3 where it holds
 /// runs, or another sweep goes on or was given up since the last root; 41 HistoryFull where as many events are kept as may be;
-/// 40 Halted; 20 BadMagic, 21 BadDigest, 22 BadLength, 23 BadPadding or 24 BadVersion where a chunk that is to be moved is damaged; 30 Full;
+/// 40 Halted; 20 BadMagic, 21 BadDigest, 22 BadLength, 23 BadPadding or 24 BadVersion where a chunk that is to be moved is damaged; 26 Misplaced,
+/// in format 3 alone, where another frame lies in its place; 30 Full;
 /// 34 StillLive, by the Retire; 35 WornOut; 1 DeviceFault; and 9 OutOfMemory, also where there was none for the Abandon: the extent is being
 /// swept still then. Whatever the disk does, it is refused for nothing else. It reads each chunk that it moves; what it stages waits until it is
 /// written back.

@@ -79,6 +79,7 @@ module _ (v : Stored) (whole : IsWhole v.extents) (graph : IsWholeGraph v.graph)
   frame_here l payload reads = (
     le_trans (within_now S F s is.sound l (F.frame ChunkFrame payload) reads) (le_of_eq (sym (same_end l))),
     stand_here l.extent l.page (F.frame ChunkFrame payload) reads.passes.inside.0 reads.inside reads.stand,
+    reads.marked,
   )
 
   -- ---- no chunk is damaged
@@ -119,17 +120,17 @@ module _ (v : Stored) (whole : IsWhole v.extents) (graph : IsWholeGraph v.graph)
 
     -- of a chunk that is read its header counts the pages
     head_reads : (l : Place) (payload : List ℕ) → ReadsHere l (F.frame ChunkFrame payload)
-        → pages_counted (view (S.address l.extent l.page)) (end_in x (as_locator l) - l.page) ≡ Some (length (F.frame ChunkFrame payload))
+        → pages_counted S.format l.mark (view (S.address l.extent l.page)) (end_in x (as_locator l) - l.page) ≡ Some (length (F.frame ChunkFrame payload))
     head_reads l payload reads =
         let frame = frame_here l payload reads in
-        ap (λ (first : List ℕ). pages_counted first (end_in x (as_locator l) - l.page)) (same_view (S.address l.extent l.page))
+        ap (λ (first : List ℕ). pages_counted S.format l.mark first (end_in x (as_locator l) - l.page)) (same_view (S.address l.extent l.page))
         ∙ ap (λ (fault : Option FormatFault). unless_fault fault (page_count (length_at S now (as_locator l))))
         (header_there x whole now ChunkKind (as_locator l) payload frame)
         ∙ ap (λ (n : ℕ). Some (page_count n)) (length_there x whole now ChunkKind (as_locator l) payload frame)
         ∙ ap (λ (n : ℕ). Some n) (sym (length-spelled (kind_number ChunkFrame) payload))
 
     abbrev said : Place → Option ℕ
-    said l = pages_counted (view (S.address l.extent l.page)) (end_in x (as_locator l) - l.page)
+    said l = pages_counted S.format l.mark (view (S.address l.extent l.page)) (end_in x (as_locator l) - l.page)
 
     counted_least : (l : Place) (n : ℕ)
         → HasPages S F s.opening (newest_page s) s.world.extents.pointer s.world.extents.generation l n → n ≤ pages_in (said l)

@@ -7,14 +7,14 @@ use Rattle.cs_frame.specs.declared.faults.FormatFault.TheVariants as fault
 use Rattle.cs_frame.specs.Formats.{formats_of, kind_number, refusal_of}
 use Rattle.cs_frame.specs.Frames.{frame_fault}
 use Rattle.cs_model.proofs.Kept.{history_on}
-use Rattle.cs_model.specs.Device.{IsShape, Shape}
+use Rattle.cs_model.specs.Device.{IsShape, Shape, is_meant}
 use Rattle.cs_model.specs.Element.{Map, Opening, Run}
-use Rattle.cs_model.specs.Formats.{ChunkFrame, Formats, limit_in, opening_in, pages_from, places}
+use Rattle.cs_model.specs.Formats.{ChunkFrame, Formats, limit_in, opening_in, pages_from, places, refused_or}
 use Rattle.cs_model.specs.Frames.{IsFormat}
 use Rattle.cs_model.specs.Grounds.{Refuses}
 use Rattle.cs_model.specs.Open.{opened_state}
 use Rattle.cs_model.specs.Recovery.{Recovers}
-use Rattle.cs_model.specs.Refusal.{BadDigest, BadLength, BadMagic, BadPadding, BadVersion, DeviceFault, Full}
+use Rattle.cs_model.specs.Refusal.{BadDigest, BadLength, BadMagic, BadPadding, BadVersion, DeviceFault, Full, Misplaced, Refusal}
 use Rattle.cs_model.specs.State.{End, Event, Issue, Refused, Reply, State}
 use Rattle.cs_model.specs.Step.{History, Step}
 use Rattle.cs_room.proofs.MachineFull.{only_puts}
@@ -38,14 +38,24 @@ never_full fault.BadVersion is = let no : BadVersion ≡ Full = is in cc
 never_full fault.BadGeometry is = let no : BadLength ≡ Full = is in cc
 never_full fault.OutOfMemory is = let no : BadLength ≡ Full = is in cc
 never_full fault.OutOfOrder is = let no : BadLength ≡ Full = is in cc
+never_full fault.Misplaced is = let no : Misplaced ≡ Full = is in cc
 
 no_fault_full : (o : Option FormatFault) → option_map refusal_of o ≡ Some Full → ⊥
 no_fault_full None is = let no : None ≡ Some Full = is in cc
 no_fault_full (Some f) is = never_full f (let same : Some (refusal_of f) ≡ Some Full = is in cc)
 
-no_damage_full : (b : Bool) (o : Option FormatFault) → (if b then option_map refusal_of o else None) ≡ Some Full → ⊥
-no_damage_full true o is = no_fault_full o is
-no_damage_full false o is = let no : None ≡ Some Full = is in cc
+-- nor is it that another frame lies there
+no_other_full : (o : Option Refusal) → (o ≡ Some Full → ⊥) → Some (refused_or o Misplaced) ≡ Some Full → ⊥
+no_other_full None none is = let no : Some Misplaced ≡ Some Full = is in cc
+no_other_full (Some f) none is = none is
+
+no_meant_full : (meant : Bool) (o : Option FormatFault) → (if meant then option_map refusal_of o else Some (refused_or (option_map refusal_of o) Misplaced)) ≡ Some Full → ⊥
+no_meant_full true o is = no_fault_full o is
+no_meant_full false o is = no_other_full (option_map refusal_of o) (no_fault_full o) is
+
+no_damage_full : (there meant : Bool) (o : Option FormatFault) → (if there then if meant then option_map refusal_of o else Some (refused_or (option_map refusal_of o) Misplaced) else None) ≡ Some Full → ⊥
+no_damage_full true meant o is = no_meant_full meant o is
+no_damage_full false meant o is = let no : None ≡ Some Full = is in cc
 
 -- an event that is refused for want of a place is refused by the machine's grounds
 pub refused_full : (S : Shape) (F : Formats) (s t : State) (event : Event) → Step S F s event (Refused Full) t
@@ -99,6 +109,7 @@ module _ (S : Shape) (shape : IsShape S) (format : IsFormat S (formats_of S)) (f
         let same : s.opening ≡ opening_in S F (page image) gives.pointers gives.generations =
         (history_on S F (opened_state S F (page image) n m gives) s history run).opening in
         no_damage_full ((gives.generations l.extent == l.generation) && nat_lt l.page (gives.pointers l.extent))
+        (is_meant S l.mark (pages_from S F (page image) l.extent l.page (limit_in S F gives.pointers gives.generations l - l.page)))
         (frame_fault (kind_number ChunkFrame) (pages_from S F (page image) l.extent l.page
         (limit_in S F gives.pointers gives.generations l - l.page)))
         (sym (ap (λ (o : Opening). o.damage l) same) ∙ bad)

@@ -92,7 +92,7 @@ module _ {D : Type 0} (disks : PageDisk D) where
       same_size (disks.state v.disk) image may ∙ long ∙ roomy.core.device in
       let some : 1 ≤ v.store.extents.sections = roomy.geometry.fewest_sections in
       let but = (leaves_prefix (shape v.store.extents) (formats_of (shape v.store.extents)) (shape_of_store v.store.extents roomy.geometry)
-      (format_is v.store.extents roomy.geometry) s.0 s.1.store.sound left.0).3 in
+      (format_is v.store.extents roomy.geometry) s.0 s.1.store.sound left.0).1.2 in
       by v roomy.geometry (crashed (shape v.store.extents) (formats_of (shape v.store.extents)) s.0 left.0) image
       (sym (left.1 0 (omega (arith, size, some)))) (λ p g. s.0.opening) _ _ but honest found store is there
     where

@@ -48,7 +48,7 @@ fn read_place<D: PageDisk>(
 /// it, and a halted core answers it too.
 ///
 /// Refused 43 NotAStore where the place is on no extent, which no chunk of the core's index is; 20 BadMagic, 21 BadDigest, 22 BadLength,
-/// 23 BadPadding or 24 BadVersion, the first test that fails, where the frame is damaged; 1 DeviceFault where a read failed; 9 OutOfMemory.
+/// 23 BadPadding or 24 BadVersion, the first test that fails, where the frame is damaged; 26 Misplaced, in format 3 alone, where it is whole and another one; 1 DeviceFault where a read failed; 9 OutOfMemory.
 pub fn read_chunk<D: PageDisk>(core: &mut Core<D>, chunk: &LiveChunk) -> Result<(), Refusal>
     ensures told { D.honest core.old.disk → (view : ℕ → List ℕ) → AreNewest core.old.store.graph (seen (D.state core.old.disk)) view
         → TellsFrame core.old.store.extents view FrameKind.Chunk chunk.now.place result }

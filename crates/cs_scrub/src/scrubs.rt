@@ -102,8 +102,8 @@ fn damaged_runs<D: PageDisk>(
 /// scrubbed too. It takes memory for the list of all live chunks, for the damages, and for one frame at a time. Ahead of each chunk it is told how
 /// many of them were read.
 ///
-/// A damage has 20 BadMagic, 21 BadDigest, 22 BadLength, 23 BadPadding or 24 BadVersion, the first test of the frame that fails; 43 NotAStore,
-/// of a run alone, whose place is on no extent; or 1 DeviceFault, where the device refused a read: then the frame may be whole. `AllocError` ends
+/// A damage has 20 BadMagic, 21 BadDigest, 22 BadLength, 23 BadPadding, 24 BadVersion or, in format 3 alone, 26 Misplaced where another
+/// frame lies there, the first test of the frame that fails; 43 NotAStore, of a run alone, whose place is on no extent; or 1 DeviceFault, where the device refused a read: then the frame may be whole. `AllocError` ends
 /// the scrub where memory was asked for and refused.
 pub fn scrub<D: PageDisk, P: Progress>(
     alloc: Global,

@@ -1,11 +1,12 @@
 -- Which extent is chosen to be swept.
-use Rattle.std.proofs.Common.{◌≡◌, ◌-◌, ◌<◌, ◌≤◌, ℕ, List, Option, Some, None, Bool, true, false, ⊎_elim, ◌∙◌, ap, arith, get_or, min, refl, inl, inr, sym, subst}
+use Rattle.std.proofs.Common.{◌≡◌, ◌+◌, ◌*◌, ◌-◌, ◌/◌, ◌<◌, ◌≤◌, ℕ, List, Option, Some, None, Bool, true, false, ⊎_elim, ◌∙◌, ap, arith, get_or, min, refl, inl, inr, sym, subst}
 use Rattle.std.specs.Prelude.{if◌then◌else◌, slice_get}
 use Rattle.std.proofs.lemmas.Bool.{cases_lt}
 use Rattle.std.proofs.lemmas.Option.{get_or_from_slice_get}
 use Rattle.cs_extent.specs.State.{State as Extents, IsWhole, extents_of, shape}
 use Rattle.cs_frame.specs.Frames.{page_count}
 use Rattle.cs_frame.specs.Geometries.{named_limit, run_bytes}
+use Rattle.cs_model.specs.Geometry.{marks_in}
 use Rattle.cs_survey.specs.declared.extent_uses.ExtentUse.{ExtentUse}
 use Rattle.cs_survey.specs.Fewest.{IsFewestLive}
 use Rattle.cs_survey.specs.Uses.{AreExtents, HasNoGarbage, IsMostGarbage, garbage}
@@ -17,11 +18,15 @@ use Rattle.cs_store.specs.Reclaims.{ChoosesApart, ChoosesBy, ChoosesTogether, ru
 pub pages_all : (named limit dead : ℕ) → dead ≤ page_count (run_bytes (min named limit)) → dead ≤ run_pages named
 pages_all named limit dead le = omega (arith, le)
 
+-- where an entry takes as many bytes whatever it has, this is how many may be named
+plain_limit : (format pages limit : ℕ) → marks_in format ≡ false → limit ≡ named_limit format pages → limit ≡ (4096 * pages - 45) / 81
+plain_limit format pages limit plain is = is ∙ ap (λ (marked : Bool). (4096 * pages - 45) / (if marked then 145 else 81)) plain
+
 -- one that has as many entries as it may takes all pages of an extent
-full_run : (pages limit : ℕ) → limit ≡ named_limit pages → pages ≤ page_count (run_bytes limit)
+full_run : (pages limit : ℕ) → limit ≡ (4096 * pages - 45) / 81 → pages ≤ page_count (run_bytes limit)
 full_run pages limit is = omega (arith, is)
 
-pub pages_fewer : (pages named limit dead : ℕ) → limit ≡ named_limit pages → dead ≤ pages → page_count (run_bytes (min named limit)) < dead → run_pages named < dead
+pub pages_fewer : (pages named limit dead : ℕ) → limit ≡ (4096 * pages - 45) / 81 → dead ≤ pages → page_count (run_bytes (min named limit)) < dead → run_pages named < dead
 pages_fewer pages named limit dead is le lt = elim (cases_lt limit named) [
   | inl more ↦ (let same : min named limit ≡ limit = omega (arith, more) in let less : page_count (run_bytes limit) < dead = subst (λ (n : ℕ). page_count (run_bytes n) < dead) same lt in absurd (omega (arith, full_run pages limit is, le, less)))
   | inr few ↦ (let same : min named limit ≡ named = omega (arith, few) in subst (λ (n : ℕ). page_count (run_bytes n) < dead) same lt)
@@ -82,7 +87,7 @@ module _ (x held : Extents) (uses listed : List ExtentUse) (b : Bool) (whole : I
       (subst (λ (l : Option ℕ). ChoosesApart listed l (shape held).pages chosen) (lasts ∙ ap (λ (y : Extents). (extents_of y).last) same)
       (subst (λ (n : ℕ). ChoosesApart listed last n chosen) (given ∙ ap (λ (y : Extents). (shape y).pages) same) goes)))
 
-  module _ (named limit index_pages entries : ℕ) (limited : limit ≡ named_limit x.pages) (pages : index_pages ≡ page_count (run_bytes (min named limit))) (all : named ≡ entries) where
+  module _ (named limit index_pages entries : ℕ) (limited : limit ≡ named_limit x.format x.pages) (pages : index_pages ≡ page_count (run_bytes (min named limit))) (all : named ≡ entries) where
     -- no more pages are dead than an extent has
     dead_within : (extent : ℕ) (used : ExtentUse) → slice_get uses extent ≡ Some used → used.pointer - used.live ≤ x.pages
     dead_within extent used at =
@@ -91,13 +96,13 @@ module _ (x held : Extents) (uses listed : List ExtentUse) (b : Bool) (whole : I
         let within : (extents_of x).pointer extent ≤ x.pages = whole.pointers extent in
         omega (arith, given, within)
 
-    run_chosen : (found : Option (ℕ × ℕ)) → ChoosesTogether uses index_pages found → ChoosesTogether uses (run_pages named) found
-    run_chosen None goes = λ e used at. pages_all named limit (garbage used) (subst (λ (n : ℕ). garbage used ≤ n) pages (goes e used at))
-    run_chosen (Some (extent, dead)) (best, is, lt) =
+    run_chosen : b ≡ false → (found : Option (ℕ × ℕ)) → ChoosesTogether uses index_pages found → ChoosesTogether uses (run_pages named) found
+    run_chosen together None goes = λ e used at. pages_all named limit (garbage used) (subst (λ (n : ℕ). garbage used ≤ n) pages (goes e used at))
+    run_chosen together (Some (extent, dead)) (best, is, lt) =
         let all_of : garbage best.its ≡ best.its.pointer - best.its.live = all_dead best.its best.some in
         let within : best.its.pointer - best.its.live ≤ x.pages = dead_within extent best.its best.there in
-        (best, is, pages_fewer x.pages named limit dead limited (omega (arith, all_of, within, is)) (subst (λ (n : ℕ). n < dead) pages lt))
+        (best, is, pages_fewer x.pages named limit dead (plain_limit x.format x.pages limit (sym rule ∙ together) limited) (omega (arith, all_of, within, is)) (subst (λ (n : ℕ). n < dead) pages lt))
 
     pub by_garbage : (last : Option ℕ) (each : ℕ) → b ≡ false → ChoosesTogether listed index_pages chosen → ChoosesBy (shape held).apart uses (run_pages entries) last each chosen
     by_garbage last each is goes = subst (λ (a : Bool). ChoosesBy a uses (run_pages entries) last each chosen) (sym (rule_held false is))
-        (subst (λ (n : ℕ). ChoosesTogether uses (run_pages n) chosen) all (run_chosen chosen (subst (λ (us : List ExtentUse). ChoosesTogether us index_pages chosen) is_listed goes)))
+        (subst (λ (n : ℕ). ChoosesTogether uses (run_pages n) chosen) all (run_chosen is chosen (subst (λ (us : List ExtentUse). ChoosesTogether us index_pages chosen) is_listed goes)))

@@ -27,6 +27,7 @@ no_ground ground.BadDigest e = cc
 no_ground ground.BadLength e = cc
 no_ground ground.BadPadding e = cc
 no_ground ground.BadVersion e = cc
+no_ground ground.Misplaced e = cc
 no_ground ground.Full e = cc
 no_ground ground.TooLarge e = cc
 no_ground ground.IndexFull e = cc

@@ -90,4 +90,5 @@ get_by_number r low high = absurd (omega (arith, low, high))
 pub get_is : (r : Refusal) → IsReadRefusal r → IsGetRefusal r
 get_is r (inl (inl device)) = subst IsGetRefusal (sym device) tt
 get_is r (inl (inr memory)) = subst IsGetRefusal (sym memory) tt
-get_is r (inr (low, high)) = get_by_number r low high
+get_is r (inr (inl (low, high))) = get_by_number r low high
+get_is r (inr (inr other)) = subst IsGetRefusal (sym other) tt

@@ -43,6 +43,7 @@ get_refusal get.BadDigest = refusal.BadDigest
 get_refusal get.BadLength = refusal.BadLength
 get_refusal get.BadPadding = refusal.BadPadding
 get_refusal get.BadVersion = refusal.BadVersion
+get_refusal get.Misplaced = refusal.Misplaced
 
 -- the refusal that a sync tells by its error
 abbrev pub sync_refusal : SyncError → Refusal
@@ -61,6 +62,7 @@ sweep_refusal sweep.BadDigest = refusal.BadDigest
 sweep_refusal sweep.BadLength = refusal.BadLength
 sweep_refusal sweep.BadPadding = refusal.BadPadding
 sweep_refusal sweep.BadVersion = refusal.BadVersion
+sweep_refusal sweep.Misplaced = refusal.Misplaced
 sweep_refusal sweep.Full = refusal.Full
 sweep_refusal sweep.NotSweepable = refusal.NotSweepable
 sweep_refusal sweep.StillLive = refusal.StillLive
@@ -80,6 +82,7 @@ open_refusal opening.BadLength = refusal.BadLength
 open_refusal opening.BadPadding = refusal.BadPadding
 open_refusal opening.BadVersion = refusal.BadVersion
 open_refusal opening.OutOfOrder = refusal.OutOfOrder
+open_refusal opening.Misplaced = refusal.Misplaced
 open_refusal opening.NotAStore = refusal.NotAStore
 
 -- the refusals that a put may have: 1, 9, 30, 31, 32, 35, 40 and 41
@@ -104,7 +107,7 @@ IsDeleteRefusal refusal.Halted = Unit {0}
 IsDeleteRefusal refusal.HistoryFull = Unit {0}
 IsDeleteRefusal other = ⊥
 
--- the refusals that a get may have: 1, 9, 20, 21, 22, 23 and 24
+-- the refusals that a get may have: 1, 9, 20, 21, 22, 23, 24 and 26
 abbrev pub IsGetRefusal : Refusal → Type 0
 IsGetRefusal refusal.DeviceFault = Unit {0}
 IsGetRefusal refusal.OutOfMemory = Unit {0}
@@ -113,9 +116,10 @@ IsGetRefusal refusal.BadDigest = Unit {0}
 IsGetRefusal refusal.BadLength = Unit {0}
 IsGetRefusal refusal.BadPadding = Unit {0}
 IsGetRefusal refusal.BadVersion = Unit {0}
+IsGetRefusal refusal.Misplaced = Unit {0}
 IsGetRefusal other = ⊥
 
--- the refusals that making or opening a store may have: 1, 6, 7, 9, 20, 21, 22, 23, 24, 25 and 43
+-- the refusals that making or opening a store may have: 1, 6, 7, 9, 20, 21, 22, 23, 24, 25, 26 and 43
 abbrev pub IsOpenRefusal : Refusal → Type 0
 IsOpenRefusal refusal.DeviceFault = Unit {0}
 IsOpenRefusal refusal.OddLength = Unit {0}
@@ -127,5 +131,6 @@ IsOpenRefusal refusal.BadLength = Unit {0}
 IsOpenRefusal refusal.BadPadding = Unit {0}
 IsOpenRefusal refusal.BadVersion = Unit {0}
 IsOpenRefusal refusal.OutOfOrder = Unit {0}
+IsOpenRefusal refusal.Misplaced = Unit {0}
 IsOpenRefusal refusal.NotAStore = Unit {0}
 IsOpenRefusal other = ⊥

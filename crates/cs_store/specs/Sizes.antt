@@ -16,6 +16,7 @@ size_refusal size.OutOfMemory = refusal.OutOfMemory
 size_refusal size.BadMagic = refusal.BadMagic
 size_refusal size.BadLength = refusal.BadLength
 size_refusal size.BadVersion = refusal.BadVersion
+size_refusal size.Misplaced = refusal.Misplaced
 
 -- what is told of an identifier that has this in the map: None where there is nothing; where there are bytes, how many, unless the device or memory
 -- refuses; of a damaged shard some number, or the error of a header

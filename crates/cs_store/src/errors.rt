@@ -151,6 +151,9 @@ pub enum GetError {
     /// 24 BadVersion: a chunk's format has another version, or the frame another kind.
     #[error("a version is wrong")]
     BadVersion,
+    /// 26 Misplaced: a whole frame lies where a chunk should, and it isn't the one that the index means; in stores of format 3 alone.
+    #[error("another frame lies there")]
+    Misplaced,
 }
 
 impl GetError {
@@ -166,6 +169,7 @@ impl GetError {
             GetError::BadLength => Refusal::BadLength,
             GetError::BadPadding => Refusal::BadPadding,
             GetError::BadVersion => Refusal::BadVersion,
+            GetError::Misplaced => Refusal::Misplaced,
         }
     }
 
@@ -182,6 +186,7 @@ impl GetError {
             Refusal::BadLength => GetError::BadLength,
             Refusal::BadPadding => GetError::BadPadding,
             Refusal::BadVersion => GetError::BadVersion,
+            Refusal::Misplaced => GetError::Misplaced,
             _ => unreachable!(),
         }
     }
@@ -261,6 +266,9 @@ pub enum SweepError {
     /// 24 BadVersion: a chunk's format has another version, or the frame another kind.
     #[error("a version is wrong")]
     BadVersion,
+    /// 26 Misplaced: a whole frame lies where a chunk should, and it isn't the one that the index means; in stores of format 3 alone.
+    #[error("another frame lies there")]
+    Misplaced,
     /// 30 Full: no extent has room for what is moved or staged.
     #[error("no extent has room")]
     Full,
@@ -295,6 +303,7 @@ impl SweepError {
             SweepError::BadLength => Refusal::BadLength,
             SweepError::BadPadding => Refusal::BadPadding,
             SweepError::BadVersion => Refusal::BadVersion,
+            SweepError::Misplaced => Refusal::Misplaced,
             SweepError::Full => Refusal::Full,
             SweepError::NotSweepable => Refusal::NotSweepable,
             SweepError::StillLive => Refusal::StillLive,
@@ -317,6 +326,7 @@ impl SweepError {
             Refusal::BadLength => SweepError::BadLength,
             Refusal::BadPadding => SweepError::BadPadding,
             Refusal::BadVersion => SweepError::BadVersion,
+            Refusal::Misplaced => SweepError::Misplaced,
             Refusal::Full => SweepError::Full,
             Refusal::NotSweepable => SweepError::NotSweepable,
             Refusal::StillLive => SweepError::StillLive,
@@ -361,6 +371,9 @@ pub enum OpenError {
     /// 25 OutOfOrder: the identifiers of the index don't rise.
     #[error("the identifiers are out of order")]
     OutOfOrder,
+    /// 26 Misplaced: a whole frame lies where a run of the index should, and it isn't the one that the root means; in stores of format 3 alone.
+    #[error("another frame lies there")]
+    Misplaced,
     /// 43 NotAStore: there is no store of that many pages.
     #[error("the device holds no store")]
     NotAStore,
@@ -382,6 +395,7 @@ impl OpenError {
             OpenError::BadPadding => Refusal::BadPadding,
             OpenError::BadVersion => Refusal::BadVersion,
             OpenError::OutOfOrder => Refusal::OutOfOrder,
+            OpenError::Misplaced => Refusal::Misplaced,
             OpenError::NotAStore => Refusal::NotAStore,
         }
     }
@@ -402,6 +416,7 @@ impl OpenError {
             Refusal::BadPadding => OpenError::BadPadding,
             Refusal::BadVersion => OpenError::BadVersion,
             Refusal::OutOfOrder => OpenError::OutOfOrder,
+            Refusal::Misplaced => OpenError::Misplaced,
             Refusal::NotAStore => OpenError::NotAStore,
             _ => unreachable!(),
         }

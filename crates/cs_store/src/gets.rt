@@ -1,5 +1,5 @@
 //! What is under an identifier.
-ghost use Rattle.std.specs.Prelude.{◌≡◌, ◌≢◌, ◌↔◌, IfErr, IsTrue, None, []};
+ghost use Rattle.std.specs.Prelude.{◌≡◌, ◌≢◌, ◌↔◌, IfErr, IfOk, IfSome, IsTrue, None, []};
 ghost use Rattle.cs_chunk.specs.Reads.{OnlyReads};
 ghost use Rattle.cs_disk.specs.Disk.{LeavesOnly, Rises, page};
 ghost use Rattle.cs_extent.specs.State.{shape};
@@ -7,6 +7,7 @@ ghost use Rattle.cs_index.specs.State.{id_number, index_of};
 ghost use Rattle.cs_model.specs.Element.{Map};
 ghost use Rattle.cs_model.specs.Index.{live_at};
 ghost use Rattle.cs_refine.specs.Crashes.{IsPrefix};
+ghost use Rattle.cs_core.specs.Lookups.{AreMeantBytes};
 ghost use Rattle.cs_core.specs.Meanings.{commands_said};
 ghost use Rattle.cs_store.specs.Gets.{IsGot};
 ghost use Rattle.cs_store.specs.Maps.{HasMap};
@@ -22,9 +23,12 @@ impl<D: PageDisk> Store<D> {
     /// answers it too.
     ///
     /// Refused 1 DeviceFault where a read failed, 20 BadMagic, 21 BadDigest, 22 BadLength, 23 BadPadding or 24 BadVersion where a chunk is
-    /// damaged, by the first test that fails, and 9 OutOfMemory.
+    /// damaged, by the first test that fails, 26 Misplaced, in format 3 alone, where a whole frame lies there that isn't the one that the index means, and 9 OutOfMemory.
     pub fn get(&mut self, id: ShardId) -> Result<Option<Vec<u8>>, GetError>
         ensures answer { (m : Map) → HasMap self.old m → D.honest self.old.disk → IsGot (m (id_number id)) result }
+        // Whatever the disk does, the bytes are those that the places of the shard's chunks mean. In format 3 these are what the map has, or two
+        // different texts agree in the first eight bytes of their digests (`what_places_mean_is_what_the_map_has` of the core).
+        ensures meant { IfOk result (λ found. IfSome found (λ bytes. AreMeantBytes self.old.store (id_number id) bytes.items)) }
         // Whatever the disk does, None is answered where the index has no places of the shard's chunks, and nowhere else.
         ensures absent { (result ≡ Ok None) ↔ (live_at (index_of self.old.store.index) (id_number id) ≡ []) }
         ensures same { self.new ≡ record self.old { disk = self.new.disk } }

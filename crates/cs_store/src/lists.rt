@@ -48,7 +48,7 @@ impl<D: PageDisk> Store<D> {
     }
 
     /// The first chunk that lives on an extent, by identifier and then by number: what a sweep of it moves next; None where none lives there. After a
-    /// sweep was refused 20 BadMagic to 24 BadVersion it is the one that can't be read: put its shard again or delete it, and sweep again. Takes no
+    /// sweep was refused 20 BadMagic to 24 BadVersion or 26 Misplaced it is the one that can't be read: put its shard again or delete it, and sweep again. Takes no
     /// memory, and time for the entries of the index up to it.
     pub fn first_on(&self, extent: usize) -> Option<LiveChunk>
         ensures { MatchOption result (NothingLive (index_of self.now.store.index) extent) (λ found. FirstLive (index_of self.now.store.index) extent (id_number found.id) found.chunk (place_of found.place)) }

@@ -150,7 +150,8 @@ fn worth_sweeping<D: PageDisk>(
     let is_apart = extents.is_apart();
     let last = extents.last_copied();
     let pages = extents.extent_pages();
-    // An index names no more than one run has room for, which takes all pages of an extent then: more of them can't be dead.
+    // An index names no more than one run has room for, which, where chunks and runs may lie on one extent, takes all pages of an extent then: more of
+    // them can't be dead.
     let limit = extents.geometry().named_limit();
     let named = core.index().named_count().min(limit);
     let index_pages = frame_pages(run_bytes(named));

@@ -15,7 +15,7 @@ use cs_scrub::{Nobody, Scrubbed, scrub};
 use std::alloc::AllocError;
 
 impl<D: PageDisk> Store<D> {
-    /// Reads each live chunk and each run of the index, and names those that can't be read, each with its refusal: 20 BadMagic to 24 BadVersion where it is
+    /// Reads each live chunk and each run of the index, and names those that can't be read, each with its refusal: 20 BadMagic to 24 BadVersion or 26 Misplaced where it is
     /// damaged, 1 DeviceFault where the device refused a read, when it may be whole. It goes on after each of them. Each page is read once; it takes
     /// memory for a list of all live chunks, for the damages, and for one chunk at a time. No event is kept of it, and a halted store is scrubbed too.
     ///

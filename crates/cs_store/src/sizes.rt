@@ -38,6 +38,9 @@ pub enum SizeError {
     /// 24 BadVersion: a chunk's header has another version or another kind.
     #[error("a chunk's header has another version or kind")]
     BadVersion,
+    /// 26 Misplaced: the header is of another frame than the one that the index means, or its digest is damaged; in stores of format 3 alone.
+    #[error("another frame lies there")]
+    Misplaced,
 }
 
 impl SizeError {
@@ -51,6 +54,7 @@ impl SizeError {
             SizeError::BadMagic => Refusal::BadMagic,
             SizeError::BadLength => Refusal::BadLength,
             SizeError::BadVersion => Refusal::BadVersion,
+            SizeError::Misplaced => Refusal::Misplaced,
         }
     }
 
@@ -65,6 +69,7 @@ impl SizeError {
             Refusal::BadMagic => SizeError::BadMagic,
             Refusal::BadLength => SizeError::BadLength,
             Refusal::BadVersion => SizeError::BadVersion,
+            Refusal::Misplaced => SizeError::Misplaced,
             _ => unreachable!(),
         }
     }
@@ -83,8 +88,8 @@ impl<D: PageDisk> Store<D> {
     /// from the newest write to it that waits, else from the device. The bytes themselves aren't tested, so a damaged shard may have a size, though
     /// `get` refuses it. No event is kept of it, and a halted store answers it too.
     ///
-    /// Refused 1 DeviceFault or 9 OutOfMemory where the disk refused a read so, and 20 BadMagic, 22 BadLength or 24 BadVersion where the header of a
-    /// chunk is damaged, by the first test that fails.
+    /// Refused 1 DeviceFault or 9 OutOfMemory where the disk refused a read so, 20 BadMagic, 22 BadLength or 24 BadVersion where the header of a
+    /// chunk is damaged, by the first test that fails, and in format 3 26 Misplaced where it is that of another frame, or its digest is damaged.
     pub fn size_of(&mut self, id: ShardId) -> Result<Option<usize>, SizeError>
         ensures answer { (m : Map) → HasMap self.old m → D.honest self.old.disk → IsSized (m (id_number id)) result }
         // Also of a damaged shard what is told is what the headers say.

@@ -126,14 +126,14 @@ module _ (heads read : List Head) (e : ℕ) (said pages : Option ℕ) (a b d : �
 pub heads_step : (x y : Extents) (view : ℕ → List ℕ) (cs : List LiveChunk) (k : ℕ) (c : LiveChunk) (read : List Head) (pages : Option ℕ) (a b d : ℕ) → y ≡ x → slice_get cs k ≡ Some c
     → a ≤ b → b ≤ d
     → AreRead a b (heads_of x view (map chunk_of (take k cs))) read
-    → (pages ≡ pages_counted (view ((shape y).address c.place.extent c.place.page)) (end_in y c.place - c.place.page)) ⊎ ((pages ≡ None) × Rises b d)
+    → (pages ≡ pages_counted (shape y).format c.place.mark (view ((shape y).address c.place.extent c.place.page)) (end_in y c.place - c.place.page)) ⊎ ((pages ≡ None) × Rises b d)
     → AreRead a d (heads_of x view (map chunk_of (take (k + 1) cs))) (read ++ (c.place.extent, pages) ∷ [])
 heads_step x y view cs k c read pages a b d same at le le' was here =
     subst (λ (hs : List Head). AreRead a d hs (read ++ (c.place.extent, pages) ∷ [])) (sym (heads_more x view cs k c at))
-    (one_read (heads_of x view (map chunk_of (take k cs))) read c.place.extent (pages_counted (view ((shape x).address c.place.extent c.place.page)) (end_in x c.place - c.place.page)) pages a b d was
+    (one_read (heads_of x view (map chunk_of (take k cs))) read c.place.extent (pages_counted (shape x).format c.place.mark (view ((shape x).address c.place.extent c.place.page)) (end_in x c.place - c.place.page)) pages a b d was
     (⊎_elim
-    (λ (is : pages ≡ pages_counted (view ((shape y).address c.place.extent c.place.page)) (end_in y c.place - c.place.page)).
-    inl (is ∙ ap (λ (z : Extents). pages_counted (view ((shape z).address c.place.extent c.place.page)) (end_in z c.place - c.place.page)) same))
+    (λ (is : pages ≡ pages_counted (shape y).format c.place.mark (view ((shape y).address c.place.extent c.place.page)) (end_in y c.place - c.place.page)).
+    inl (is ∙ ap (λ (z : Extents). pages_counted (shape z).format c.place.mark (view ((shape z).address c.place.extent c.place.page)) (end_in z c.place - c.place.page)) same))
     (λ (lost : (pages ≡ None) × Rises b d). inr lost)
     here)
     le le')
@@ -146,7 +146,7 @@ none_read a = record { each = tt; lost = risen_none 0 a refl }
 
 module _ (x : Extents) (view : ℕ → List ℕ) (l : Locator) where
   abbrev counted : Option ℕ
-  counted = pages_counted (view ((shape x).address l.extent l.page)) (end_in x l - l.page)
+  counted = pages_counted (shape x).format l.mark (view ((shape x).address l.extent l.page)) (end_in x l - l.page)
 
   pub told_pages : (pages count : ℕ) → pages ≡ page_count count → count ≡ length_at (shape x) view l → header_fault_in x view ChunkKind l ≡ None → Some pages ≡ counted
   told_pages pages count is told none = ap Some (is ∙ ap page_count told) ∙ sym (ap (λ (o : Option FormatFault). unless_fault o (page_count (length_at (shape x) view l))) none)

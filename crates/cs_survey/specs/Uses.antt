@@ -6,7 +6,7 @@ use Rattle.cs_extent.specs.State.{State as ExtentsState, shape}
 use Rattle.cs_frame.specs.declared.faults.FormatFault.{FormatFault}
 use Rattle.cs_frame.specs.declared.frames.FrameKind.TheVariants.{Chunk as ChunkKind}
 use Rattle.cs_frame.specs.Formats.{as_locator}
-use Rattle.cs_frame.specs.Frames.{header_fault, kind_byte, page_count, payload_length}
+use Rattle.cs_frame.specs.Frames.{kind_byte, meant_header_fault, page_count, payload_length}
 use Rattle.cs_model.specs.Extents.{Extents}
 use Rattle.cs_survey.specs.Chunks.{Chunk}
 use Rattle.cs_survey.specs.declared.extent_uses.ExtentUse.{ExtentUse}
@@ -23,13 +23,14 @@ abbrev pub unless_fault : Option FormatFault → ℕ → Option ℕ
 unless_fault None pages = Some pages
 unless_fault (Some f) pages = None
 
--- how many pages the header in this first page counts of a chunk's frame, which may have no more than so many; None where it fails a test
-abbrev pub pages_counted : (first : List ℕ) → (at_most : ℕ) → Option ℕ
-pages_counted first at_most = unless_fault (header_fault (kind_byte ChunkKind) first at_most) (page_count (payload_length first))
+-- how many pages the header in this first page counts of the frame of a chunk that a place of this mark means, which may have no more than so many; None where
+-- it fails a test, or is another frame's
+abbrev pub pages_counted : (format mark : ℕ) → (first : List ℕ) → (at_most : ℕ) → Option ℕ
+pages_counted format mark first at_most = unless_fault (meant_header_fault format (kind_byte ChunkKind) mark first at_most) (page_count (payload_length first))
 
 -- what the header of a chunk says, whose frame reaches no further than it may in these extents
 abbrev pub head_of : ExtentsState → (view : ℕ → List ℕ) → Chunk → Head
-head_of x view c = (c.place.extent, pages_counted (view ((shape x).address c.place.extent c.place.page)) (end_in x (as_locator c.place) - c.place.page))
+head_of x view c = (c.place.extent, pages_counted (shape x).format c.place.mark (view ((shape x).address c.place.extent c.place.page)) (end_in x (as_locator c.place) - c.place.page))
 
 -- what the headers of these chunks say, one after another
 abbrev pub heads_of : ExtentsState → (view : ℕ → List ℕ) → List Chunk → List Head

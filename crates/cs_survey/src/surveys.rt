@@ -83,7 +83,7 @@ fn pages_at<D: PageDisk>(core: &mut Core<D>, place: Locator) -> Result<Option<us
     requires extent { place.extent < (shape core.old.store.extents).extents }
     requires page { place.page < (shape core.old.store.extents).pages }
     ensures read { D.honest core.old.disk → (view : ℕ → List ℕ) → AreNewest core.old.store.graph (seen (D.state core.old.disk)) view
-        → IfOk result (λ pages. (pages ≡ pages_counted (view ((shape core.old.store.extents).address place.extent place.page)) (end_in core.old.store.extents place - place.page))
+        → IfOk result (λ pages. (pages ≡ pages_counted (shape core.old.store.extents).format place.mark (view ((shape core.old.store.extents).address place.extent place.page)) (end_in core.old.store.extents place - place.page))
         ⊎ ((pages ≡ None) × Rises (D.failure_count core.old.disk) (D.failure_count core.new.disk))) }
     ensures same { core.new ≡ record core.old { disk = core.new.disk } }
     ensures disk { OnlyReads D.PageDisk core.old.disk core.new.disk }

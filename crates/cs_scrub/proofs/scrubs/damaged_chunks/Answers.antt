@@ -16,7 +16,7 @@ use Rattle.cs_scrub.proofs.scrubs.damaged_chunks.Goals.{in-Some+in_ok-push, in_d
 
 -- the one at a place
 abbrev at_place : List LiveChunk → ℕ → LiveChunk
-at_place xs k = get_or xs k (record { id = record { 0 = [] }; chunk = 0; place = record { extent = 0; page = 0; generation = 0 } })
+at_place xs k = get_or xs k (record { id = record { 0 = [] }; chunk = 0; place = record { extent = 0; page = 0; generation = 0; mark = 0 } })
 
 -- the items of what was pushed to
 abbrev items : Vec Damage Global → List Damage

@@ -16,7 +16,7 @@ use Rattle.cs_scrub.proofs.scrubs.damaged_runs.Goals.{in-Some+in_ok-push, in_def
 
 -- the one at a place
 abbrev at_place : List Locator → ℕ → Locator
-at_place xs k = get_or xs k (record { extent = 0; page = 0; generation = 0 })
+at_place xs k = get_or xs k (record { extent = 0; page = 0; generation = 0; mark = 0 })
 
 -- the items of what was pushed to
 abbrev items : Vec Damage Global → List Damage

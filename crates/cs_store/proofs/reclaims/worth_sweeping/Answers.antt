@@ -25,7 +25,7 @@ returns-clause-chosen g c = λ honest view chunks are live. record {
   read = c.in_ok-uses.ensures.read honest view chunks are live;
   chooses = by_garbage c.extents-extents.result.now c.args.core.now.store.extents c.in_ok-uses.uses.items c.deref-2.result.now c.is_apart-is_apart.result c.geometry.ensures.whole c.extents-extents.ensures c.in_ok-uses.ensures.extents c.deref-2.ensures.value
       c.is_apart-is_apart.ensures (chosen_extent c.chosen_together.result) c.named_count.result c.named_limit-limit.result c.frame_pages-index_pages.result (names (index_of c.args.core.now.store.index))
-      (c.named_limit-limit.ensures ∙ ap named_limit c.geometry.ensures.pages)
+      (c.named_limit-limit.ensures ∙ ap (λ (f : ℕ). named_limit f c.geometry.result.pages) c.geometry.ensures.format ∙ ap (named_limit c.extents-extents.result.now.format) c.geometry.ensures.pages)
       (c.frame_pages-index_pages.ensures ∙ ap page_count c.run_bytes.ensures ∙ ap (λ (n : ℕ). page_count (run_bytes n)) c.min-named.ensures)
       (c.named_count.ensures.count ∙ ap names (index_shown c.args.core.now.store.index c.index.result.now c.index.ensures.index))
       _ _ c.if-is_apart.false c.chosen_together.ensures;

@@ -20,8 +20,8 @@ offset_bounds-places-chunk c =
 
 pub returns-in-Some-place_on : goal.returns-in-Some-place_on
 returns-in-Some-place_on c =
-    subst (λ (es : List Entry). FirstLive es c.args.extent (id_number c.in-Some.id) c.in-Some-place_on.chunk (place_of (slice_index_or c.in-Some.places.now c.in-Some-place_on.chunk (record { extent = 0; page = 0; generation = 0 })))) c.loop-id.invariant.index
-    (first_there c.loop-id.read.index c.loop-id.read.after c.args.extent c.loop-id.invariant.none (id_number c.in-Some.id) c.in-Some.places.now c.in-Some.ensures.next c.in-Some-place_on.chunk (record { extent = 0; page = 0; generation = 0 }) c.in-Some-place_on.ensures)
+    subst (λ (es : List Entry). FirstLive es c.args.extent (id_number c.in-Some.id) c.in-Some-place_on.chunk (place_of (slice_index_or c.in-Some.places.now c.in-Some-place_on.chunk (record { extent = 0; page = 0; generation = 0; mark = 0 })))) c.loop-id.invariant.index
+    (first_there c.loop-id.read.index c.loop-id.read.after c.args.extent c.loop-id.invariant.none (id_number c.in-Some.id) c.in-Some.places.now c.in-Some.ensures.next c.in-Some-place_on.chunk (record { extent = 0; page = 0; generation = 0; mark = 0 }) c.in-Some-place_on.ensures)
 
 pub loop-id-preserved : goal.loop-id-preserved
 loop-id-preserved c = rw (c.in-Some.ensures.read) (record {

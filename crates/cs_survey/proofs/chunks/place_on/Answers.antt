@@ -5,7 +5,7 @@ use Rattle.cs_survey.proofs.chunks.place_on.Goals as goal
 
 -- a place that stands for none
 abbrev nowhere : Locator
-nowhere = record { extent = 0; page = 0; generation = 0 }
+nowhere = record { extent = 0; page = 0; generation = 0; mark = 0 }
 
 pub returns-then-from-extent : goal.returns-then-from-extent
 returns-then-from-extent c = first_found c.args.places.now c.loop-k.k c.args.extent nowhere c.loop-k-test.true (sym c.from.ensures ∙ c.if-from-extent.true) c.loop-k.invariant

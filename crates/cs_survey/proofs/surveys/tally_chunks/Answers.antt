@@ -11,7 +11,7 @@ use Rattle.cs_survey.proofs.surveys.tally_chunks.Goals as goal
 
 -- the chunk at a place
 abbrev at_place : List LiveChunk → ℕ → LiveChunk
-at_place xs k = get_or xs k (record { id = record { 0 = [] }; chunk = 0; place = record { extent = 0; page = 0; generation = 0 } })
+at_place xs k = get_or xs k (record { id = record { 0 = [] }; chunk = 0; place = record { extent = 0; page = 0; generation = 0; mark = 0 } })
 
 pub loop-k-init : goal.loop-k-init
 loop-k-init g c =

@@ -1,8 +1,9 @@
-use Rattle.std.proofs.Common.{◌≡◌, subst, sym}
+use Rattle.std.proofs.Common.{◌≡◌, IfOk, IfSome, List, subst, sym, ℕ}
 use Rattle.cs_disk.specs.Disk.{Rises}
 use Rattle.cs_extent.specs.State.{IsWhole}
 use Rattle.cs_index.specs.State.{id_number}
 use Rattle.cs_model.specs.State.{map_now}
+use Rattle.cs_core.specs.Lookups.{AreMeantBytes}
 use Rattle.cs_store.specs.declared.errors.GetError.{GetError}
 use Rattle.cs_store.specs.declared.errors.GetError.TheVariants.{DeviceFault}
 use Rattle.cs_store.specs.Gets.{IsGot}
@@ -32,3 +33,9 @@ returns-clause-cause g c = rw (← c.self.view_is) (
       | in-Ok w ↦ refused_ok c.match-read.result w.in-Ok.found caused w.result-is
       | in-Err w ↦ refused_err c.match-read.result w.of.result caused w.result-is (told_cause (g.D.PageDisk.failure_count c.self.inside.core.disk) (g.D.PageDisk.failure_count c.read.new.self.disk) w.in-Err.refusal w.of.result w.in-Err.ensures.cause w.of.ensures)
     ])
+
+pub returns-clause-meant : goal.returns-clause-meant
+returns-clause-meant g c = rw (← c.self.view_is) (elim c.match-read.branch [
+  | in-Ok w ↦ subst (λ r. IfOk r (λ found. IfSome found (λ bytes. AreMeantBytes c.self.inside.core.store (id_number c.args.id) bytes.items))) (sym w.result-is) w.in-Ok.ensures.meant
+  | in-Err w ↦ subst (λ r. IfOk r (λ found. IfSome found (λ bytes. AreMeantBytes c.self.inside.core.store (id_number c.args.id) bytes.items))) (sym w.result-is) tt
+])
