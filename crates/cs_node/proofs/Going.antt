@@ -35,6 +35,7 @@ never_full ground.BadDigest e = cc
 never_full ground.BadLength e = cc
 never_full ground.BadPadding e = cc
 never_full ground.BadVersion e = cc
+never_full ground.Misplaced e = cc
 never_full ground.Full e = cc
 never_full ground.TooLarge e = cc
 never_full ground.IndexFull e = cc

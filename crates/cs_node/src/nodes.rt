@@ -135,7 +135,7 @@ impl<D: PageDisk, K: Naming> Node<D, K> {
 
     /// Reads what is under an identifier, None where there is nothing. The bytes are shared with the history and the purse.
     ///
-    /// Refused 1 DeviceFault, 20 to 24 where a chunk is damaged, which are recorded, and 41 HistoryFull and 9 OutOfMemory, which
+    /// Refused 1 DeviceFault, 20 to 24 where a chunk is damaged, 26 Misplaced where another frame lies there, which are recorded, and 41 HistoryFull and 9 OutOfMemory, which
     /// aren't. It waits while the bytes have the greatest number of owners.
     pub fn get<R: Wait>(
         &self,

@@ -53,6 +53,7 @@ is_fault get.BadDigest is = absurd (cc is)
 is_fault get.BadLength is = absurd (cc is)
 is_fault get.BadPadding is = absurd (cc is)
 is_fault get.BadVersion is = absurd (cc is)
+is_fault get.Misplaced is = absurd (cc is)
 
 pub told_fault : (error : GetError) (q : Refusal) (P : Type 0) → q ≡ get_refusal error → (error ≡ get.DeviceFault → P) → Unread q ≡ Unread refusal.DeviceFault → P
 told_fault error q P is caused told = caused (is_fault error (sym is ∙ same_unread q refusal.DeviceFault told))

@@ -11,6 +11,10 @@ const DEVICE: &str =
 const DAMAGED: &str =
     "A page is damaged. A shard: put it again or delete it, others aren't affected; where the store can't be opened: restore the file from a copy. `scrub` lists what is damaged.";
 
+/// Of a whole frame that isn't the one that its place means.
+const MISPLACED: &str =
+    "A write went to a wrong page, or was lost: look to the device, and to what copies the file. A shard: put it again or delete it, others aren't affected; where the store can't be opened: restore the file from a copy. `scrub` lists what is misplaced.";
+
 /// What whoever meets this refusal does about it, in a sentence. Of the same number each command says the same.
 pub fn advice(refusal: Refusal) -> &'static str
     ensures { 0 < length result.now }
@@ -33,6 +37,7 @@ pub fn advice(refusal: Refusal) -> &'static str
         | Refusal::BadPadding
         | Refusal::BadVersion
         | Refusal::OutOfOrder => DAMAGED,
+        Refusal::Misplaced => MISPLACED,
         Refusal::Full => {
             "`reclaim`, and try again; where that doesn't help `export` the shards into a larger store."
         }
