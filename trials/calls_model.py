@@ -1,6 +1,6 @@
 """The typed store by the rules of docs/API.md, over the store of store_model.py: what its calls answer, with the count of its events, its device calls, of
 which one may fail, and its openings. It answers the lines of crates/calls_trial, and shares nothing with that program."""
-from rules import BAD_GEOMETRY, DEVICE_FAULT, ENTRY, HALTED, HISTORY_FULL, NOT_SWEEPABLE, RULES, Refused, frame_pages, most_names, run_pages
+from rules import BAD_GEOMETRY, DEVICE_FAULT, HALTED, HISTORY_FULL, NOT_SWEEPABLE, RULES, Refused, frame_pages, most_names, run_bytes, run_pages
 from store_model import Store, bytes_of
 
 
@@ -33,7 +33,7 @@ class Calls(Store):
     def payload_of(self, locator):
         """How many bytes a frame's payload has, which its first page says."""
         kind, content = self.content_of(self.page_of(locator))
-        return len(content) if kind == "chunk" else 4 + ENTRY * len(content)
+        return len(content) if kind == "chunk" else run_bytes(self.rules, content)
 
     def content_of(self, page):
         if page in self.newest:
@@ -66,7 +66,7 @@ class Calls(Store):
         self.opened = super().open()
         for entries, locator in self.runs:
             first = self.page_of(locator)
-            self.read_pages(first, run_pages(len(entries)))
+            self.read_pages(first, run_pages(self.rules, entries))
         return self.opened
 
     # ---- events
@@ -197,7 +197,7 @@ class Calls(Store):
         live, unreadable = self.uses()
         lines = [f"{self.look(e)} live {live[e]} dead {self.pointer[e] - live[e]} unreadable {unreadable[e]}" for e in range(self.extents)]
         lines += [f"run extent {extent} page {page} entries {len(entries)}" for entries, (extent, page, _) in self.runs]
-        lines.append(f"empty {self.pointer.count(0)} named {len(self.named())} of {most_names(self.pages)}"
+        lines.append(f"empty {self.pointer.count(0)} named {len(self.named())} of {most_names(self.rules, self.pages)}"
                      f" shards {len(self.live())} chunks {len(self.chunks())}")
         lines.append(f"events {self.events} of {self.limit} accepted {self.accepted} persistent {self.frontier()}")
         return "\n".join(lines)
@@ -263,7 +263,7 @@ class Calls(Store):
         live, _ = self.uses()
         garbage = [0 if e == self.open_extent else self.pointer[e] - live[e] for e in range(self.extents)]
         extent = garbage.index(max(garbage))
-        return (extent, garbage[extent]) if garbage[extent] > run_pages(len(self.named())) else (None, 0)
+        return (extent, garbage[extent]) if garbage[extent] > run_pages(self.rules, self.entries()) else (None, 0)
 
     def worth_apart(self):
         """The extent of chunks with fewest live pages, the first of several, but not the one to which the last copy of a sweep went, where these pages and

@@ -1,9 +1,11 @@
 """A second reader of a store's bytes, written from docs/FORMATS.md alone: what it opens, what it refuses, and which frames it can't read."""
 import hashlib
 import struct
+from typing import NamedTuple
 
 PAGE = 4096
-NAMES = {6: "OddLength", 20: "BadMagic", 21: "BadDigest", 22: "BadLength", 23: "BadPadding", 24: "BadVersion", 25: "OutOfOrder", 43: "NotAStore"}
+NAMES = {6: "OddLength", 20: "BadMagic", 21: "BadDigest", 22: "BadLength", 23: "BadPadding", 24: "BadVersion", 25: "OutOfOrder", 26: "Misplaced",
+         43: "NotAStore"}
 GREATEST = 2**63
 # Of each format the least and the greatest number of extents, the greatest of their pages, of sections and of runs.
 BOUNDS = {2: (4, 2048, 256, 8, 4), 3: (5, 7680, 65535, 15, 24)}
@@ -54,21 +56,41 @@ def section(page, form=None):
     return form, extents, pages, sections, number, records
 
 
+class Place(NamedTuple):
+    """Where a frame lies, and in format 3 the mark of the frame that is meant, the first eight bytes of its digest."""
+
+    extent: int
+    page: int
+    generation: int
+    mark: int | None
+
+
+def place_bytes(form):
+    return 16 if form == 3 else 8
+
+
+def places_in(form, text):
+    """The places that these bytes spell."""
+    size = place_bytes(form)
+    texts = [text[at:at + size] for at in range(0, len(text), size)]
+    return [Place(*struct.unpack(">HHIQ", each)) if form == 3 else Place(*struct.unpack(">HHI", each), None) for each in texts]
+
+
 def root(page, form):
     """How many commands, and where the runs lie, oldest first."""
     must(page[:3] == b"CSR", 20)
     must(page[3:4] == (b"3" if form == 3 else b"1"), 24)
     version, commands, count = struct.unpack(">QQB", page[4:21])
     must(count <= BOUNDS[form][4], 22)
-    end = 21 + 8 * count + 32
+    end = 21 + place_bytes(form) * count + 32
     must(has_digest(page[:end]), 21)
     must(1 <= version < GREATEST and commands < GREATEST, 24)
     must(not any(page[end:]), 23)
-    return commands, [struct.unpack(">HHI", page[21 + 8 * k:29 + 8 * k]) for k in range(count)]
+    return commands, places_in(form, page[21:end - 32])
 
 
-def frame(pages, kind):
-    """The payload of a frame that begins where these bytes begin, which end with its extent."""
+def frame(pages, kind, mark):
+    """The payload of a frame that begins where these bytes begin, which end where it has to, and that is the one of this mark, where there is one."""
     must(pages[:3] == b"CSF", 20)
     must(pages[3:4] == b"1" and pages[4] == kind, 24)
     length = struct.unpack(">I", pages[5:9])[0]
@@ -76,11 +98,31 @@ def frame(pages, kind):
     payload = pages[41:41 + length]
     must(hashlib.sha256(payload).digest() == pages[9:41], 21)
     must(not any(pages[41 + length:-(-(41 + length) // PAGE) * PAGE]), 23)
+    must(mark in (None, struct.unpack(">Q", pages[9:17])[0]), 26)
     return payload
 
 
+def packed_run(payload):
+    """The places of each identifier in a run of format 3, whose entries take the bytes that they need."""
+    must(len(payload) >= 4, 22)
+    count = struct.unpack(">I", payload[:4])[0]
+    must(count >= 1, 22)
+    entries, last, at = {}, b"", 4
+    for _ in range(count):
+        must(at + 17 <= len(payload), 22)
+        name, places = bytes(payload[at:at + 16]), payload[at + 16]
+        must(last < name, 25)
+        must(places <= 8, 22)
+        end = at + 17 + 16 * places
+        must(end <= len(payload), 22)
+        entries[name] = places_in(3, payload[at + 17:end])
+        last, at = name, end
+    must(at == len(payload), 22)
+    return entries
+
+
 def run(payload):
-    """The places of each identifier; none where it was deleted."""
+    """The places of each identifier in a run of format 2; none where it was deleted."""
     must(len(payload) >= 4, 22)
     count = struct.unpack(">I", payload[:4])[0]
     must(count >= 1 and len(payload) == 4 + 81 * count, 22)
@@ -90,7 +132,7 @@ def run(payload):
         must(last < name, 25)
         must(places <= 8, 22)
         must(not any(payload[at + 17 + 8 * places:at + 81]), 23)
-        entries[name] = [struct.unpack(">HHI", payload[at + 17 + 8 * k:at + 25 + 8 * k]) for k in range(places)]
+        entries[name] = places_in(2, payload[at + 17:at + 17 + 8 * places])
         last = name
     return entries
 
@@ -114,9 +156,10 @@ class Store:
         self.entries, held = {}, []
         for place in self.runs:
             must(self.is_there(place), 43)
-            held.append(run(frame(self.rest(place), 1)))
+            payload = frame(self.rest(place), 1, place.mark)
+            held.append(packed_run(payload) if self.form == 3 else run(payload))
             self.entries.update(held[-1])
-        must(len(self.entries) <= (PAGE * self.pages - 45) // 81, 43)
+        must(len(self.entries) <= (PAGE * self.pages - 45) // (145 if self.form == 3 else 81), 43)
         # In format 3 an entry that a newer run hides may name what isn't there any more.
         asked = [self.entries] if self.form == 3 else held
         must(all(self.is_there(place) for entries in asked for places in entries.values() for place in places), 43)
@@ -125,13 +168,13 @@ class Store:
         return self.image[PAGE * number:PAGE * (number + 1)]
 
     def is_there(self, place):
-        extent, page, generation = place
-        return extent < self.extents and page < self.records[extent][0] and generation == self.records[extent][1]
+        return place.extent < self.extents and (place.page < self.records[place.extent][0] and place.generation == self.records[place.extent][1])
 
     def rest(self, place):
-        """The pages of an extent from a place on."""
-        extent, page, _ = place
-        return self.image[PAGE * (2 + extent * self.pages + page):PAGE * (2 + (extent + 1) * self.pages)]
+        """The pages of an extent from a place on, as far as a frame may reach: in format 3 to the pointer."""
+        first = 2 + place.extent * self.pages
+        end = self.records[place.extent][0] if self.form == 3 else self.pages
+        return self.image[PAGE * (first + place.page):PAGE * (first + end)]
 
     def chunks(self):
         """Each chunk of each shard that is there, by rising identifiers."""
@@ -140,7 +183,7 @@ class Store:
     def why_not(self, place, kind):
         """Why a frame can't be read, None where it can."""
         try:
-            frame(self.rest(place), kind)
+            frame(self.rest(place), kind, place.mark)
         except Unread as why:
             return why
         return None
@@ -148,15 +191,15 @@ class Store:
     def damages(self):
         """The lines of a scrub, and which shards are damaged."""
         lines, names = [], []
-        for name, number, (extent, page, generation) in self.chunks():
-            why = self.why_not((extent, page, generation), 0)
+        for name, number, place in self.chunks():
+            why = self.why_not(place, 0)
             if why is not None:
-                lines.append(f"shard {spelled(name)} chunk {number} at extent {extent} page {page} {why}")
+                lines.append(f"shard {spelled(name)} chunk {number} at extent {place.extent} page {place.page} {why}")
                 names.append((spelled(name), str(why)))
-        for extent, page, generation in self.runs:
-            why = self.why_not((extent, page, generation), 1)
+        for place in self.runs:
+            why = self.why_not(place, 1)
             if why is not None:
-                lines.append(f"run at extent {extent} page {page} {why}")
+                lines.append(f"run at extent {place.extent} page {place.page} {why}")
         lines.append(f"read {len(self.chunks())} chunks and {len(self.runs)} runs, {len(lines)} damaged")
         return lines, names
 

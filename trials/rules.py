@@ -3,7 +3,6 @@ from typing import NamedTuple
 
 PAGE = 4096
 HEADER = 41
-ENTRY = 81
 # The families by number: section 0 of the superblock, the root, and the sections behind the first one.
 LETTERS = "srabcdefghijklmn"
 
@@ -25,13 +24,15 @@ class Rules(NamedTuple):
     apart: bool
     # Where they lie apart: an extent that had room left as the store was opened is filled on.
     fills: bool
+    # A run's entry takes its identifier, its count and its places, each with the mark of its frame; else all have the same size.
+    marks: bool
 
 
 RULES = {
     2: Rules(extents=range(4, 2049), pages=range(2, 257), sections=range(1, 9), most_runs=4,
-             pages_first=True, by_size=False, apart=False, fills=False),
+             pages_first=True, by_size=False, apart=False, fills=False, marks=False),
     3: Rules(extents=range(5, 7681), pages=range(2, 65536), sections=range(1, 16), most_runs=24,
-             pages_first=False, by_size=True, apart=True, fills=True),
+             pages_first=False, by_size=True, apart=True, fills=True, marks=True),
 }
 
 
@@ -56,11 +57,21 @@ def frame_pages(payload):
     return -(-(HEADER + payload) // PAGE)
 
 
-def run_pages(entries):
-    """How many pages the run of so many entries has."""
-    return frame_pages(4 + ENTRY * entries)
+def entry_bytes(rules, chunks):
+    """How many bytes an entry of so many chunks takes in a run: an identifier, a count, and a place each; without marks there is room for eight places."""
+    return 17 + 16 * chunks if rules.marks else 17 + 8 * 8
 
 
-def most_names(pages):
-    """How many identifiers a store may name whose extents have so many pages."""
-    return (PAGE * pages - HEADER - 4) // ENTRY
+def run_bytes(rules, entries):
+    """How many bytes the payload of the run has whose entries these are, of each identifier its places."""
+    return 4 + sum(entry_bytes(rules, len(places)) for places in entries.values())
+
+
+def run_pages(rules, entries):
+    """How many pages that run has."""
+    return frame_pages(run_bytes(rules, entries))
+
+
+def most_names(rules, pages):
+    """How many identifiers a store may name whose extents have so many pages: so many entries of eight chunks fit one run in one extent."""
+    return (PAGE * pages - HEADER - 4) // entry_bytes(rules, 8)

@@ -6,7 +6,7 @@ import bisect
 import json
 
 from places import PUT, RUN, MERGE, Places
-from rules import ENTRY, FULL, HEADER, IN_FLIGHT, INDEX_FULL, LETTERS, PAGE, RULES, TOO_LARGE, Refused, frame_pages, most_names
+from rules import FULL, HEADER, IN_FLIGHT, INDEX_FULL, LETTERS, PAGE, RULES, TOO_LARGE, Refused, frame_pages, most_names, run_bytes
 
 
 class BadLine(Exception):
@@ -116,8 +116,12 @@ class Store(Places):
     def named(self):
         return set(self.table).union(*(run for run, _ in self.runs))
 
+    def entries(self):
+        """The newest entry of each identifier, also of one that was deleted."""
+        return {name: self.lookup(name) for name in self.named()}
+
     def live(self):
-        return {name: self.lookup(name) for name in self.named() if self.lookup(name)}
+        return {name: found for name, found in self.entries().items() if found}
 
     # ---- staging
 
@@ -171,7 +175,7 @@ class Store(Places):
         after another, and as many more as a root has no place for; all where a quarter of the names that there may be are of nothing that lives."""
         if not self.rules.by_size:
             return 0 if len(self.runs) < self.rules.most_runs else len(self.runs)
-        if 4 * (len(self.named()) - len(self.live())) >= most_names(self.pages):
+        if 4 * (len(self.named()) - len(self.live())) >= most_names(self.rules, self.pages):
             return len(self.runs)
         count, size = 0, len(self.table)
         for left in range(len(self.runs), 0, -1):
@@ -195,7 +199,7 @@ class Store(Places):
         """Stages a run of these entries in place of the table and of so many of the newest runs, or none where there is no entry."""
         older = self.runs[:len(self.runs) - count]
         if entries:
-            older = older + [(entries, self.append(4 + ENTRY * len(entries), ("run", dict(entries)), purpose))]
+            older = older + [(entries, self.append(run_bytes(self.rules, entries), ("run", dict(entries)), purpose))]
         self.runs, self.table = older, {}
 
     def stage_merged(self, purpose):
@@ -228,7 +232,7 @@ class Store(Places):
         chunks = [data[at:at + size] for at in range(0, len(data), size)] or [b""]
         if len(chunks) > 8:
             raise Refused(*TOO_LARGE)
-        if name not in self.named() and len(self.named()) >= most_names(self.pages):
+        if name not in self.named() and len(self.named()) >= most_names(self.rules, self.pages):
             raise Refused(*INDEX_FULL)
         if self.room(PUT, [frame_pages(len(chunk)) for chunk in chunks]) is None:
             raise Refused(*FULL)

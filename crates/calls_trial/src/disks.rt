@@ -44,6 +44,10 @@ pub fn image_after<D: CrashDisk + Drop, R: AllocGlobal + Print>(
             let image = image_of(rt.alloc(), disk)?;
             Ok(damaged(image, page, byte))
         }
+        Between::Copy { from, to } => {
+            let image = image_of(rt.alloc(), disk)?;
+            Ok(with_copy(image, from, to))
+        }
     }
 }
 
@@ -93,12 +97,28 @@ fn read_page<D: PageDisk>(disk: &mut D, number: u64, page: &mut [u8; 4096]) -> i
     }
 }
 
+/// Where a byte of a page lies.
+fn place_of(page: usize, byte: usize) -> usize {
+    page.saturating_mul(4096).saturating_add(byte)
+}
+
 /// The image with the lowest bit of a byte turned, where it has that byte.
 fn damaged(image: Vec<u8>, page: usize, byte: usize) -> Vec<u8> {
     let mut image = image;
-    let place = page.saturating_mul(4096).saturating_add(byte);
-    if let Some(byte) = image.get_mut(place) {
+    if let Some(byte) = image.get_mut(place_of(page, byte)) {
         *byte ^= 1;
+    }
+    image
+}
+
+/// The image with one page in the place of another too, where it has both.
+fn with_copy(image: Vec<u8>, from: usize, to: usize) -> Vec<u8> {
+    let mut image = image;
+    for byte in 0..4096 {
+        let copied = image.get(place_of(from, byte)).copied();
+        if let (Some(copied), Some(byte)) = (copied, image.get_mut(place_of(to, byte))) {
+            *byte = copied;
+        }
     }
     image
 }

@@ -32,6 +32,8 @@ pub enum Between {
     Crash(Vec<bool>),
     /// The lowest bit of a byte is turned.
     Damage { page: usize, byte: usize },
+    /// A page is written in the place of another too.
+    Copy { from: usize, to: usize },
 }
 
 /// The words of a line.
@@ -101,6 +103,7 @@ fn read_numbers(words: Words) -> Option<Line> {
             fails: number(words.one()?)?,
         }),
         "damage" => read_damage(words),
+        "copy" => read_copy(words),
         _ => Some(Line::Ask(read_call(words)?)),
     }
 }
@@ -172,6 +175,17 @@ fn read_damage(words: Words) -> Option<Line> {
         between: Between::Damage {
             page: place(page)?,
             byte: place(byte)?,
+        },
+        fails: 0,
+    })
+}
+
+fn read_copy(words: Words) -> Option<Line> {
+    let (from, to) = words.two()?;
+    Some(Line::Reopen {
+        between: Between::Copy {
+            from: place(from)?,
+            to: place(to)?,
         },
         fails: 0,
     })

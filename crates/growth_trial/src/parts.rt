@@ -27,11 +27,12 @@ pub fn try_parts<D: PageDisk, R: Print>(rt: &R, alloc: Global, disk: &mut D) -> 
 
 /// Tells what an index has.
 fn try_index<R: Print>(rt: &R, alloc: Global) -> Result<(), Fault> {
-    let mut index = Index::load(alloc, 100, Vec::new(alloc))?;
+    let mut index = Index::load(alloc, 2, 100, Vec::new(alloc))?;
     let place = Locator {
         extent: 0,
         page: 1,
         generation: 0,
+        mark: 0,
     };
     index.set(id(10), Places::from_slice(alloc, &[place])?)?;
     tell_shard(rt, &index)

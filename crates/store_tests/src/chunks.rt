@@ -83,6 +83,7 @@ pub fn said<D: PageDisk>(
         extent: numbers[0],
         page: numbers[1],
         generation: u32::from(numbers[2]),
+        mark: 0,
     };
     match word {
         "zeros" => {
@@ -101,9 +102,9 @@ fn a_chunk_fills_the_frame_of_an_extent(rt: HostRuntime) {
     plays(&rt, 0, FILLS);
 }
 
-const FILLS: &str = "chunk zeros 8151 > Ok([Locator { extent: 0, page: 0, generation: 0 }])
+const FILLS: &str = "chunk zeros 8151 > Ok([Locator { extent: 0, page: 0, generation: 0, mark: 0 }])
 plains > 2
-chunk zeros 8152 > Ok([Locator { extent: 1, page: 0, generation: 0 }, Locator { extent: 2, page: 0, generation: 0 }])
+chunk zeros 8152 > Ok([Locator { extent: 1, page: 0, generation: 0, mark: 0 }, Locator { extent: 2, page: 0, generation: 0, mark: 0 }])
 plains > 5";
 
 #[test]
@@ -120,7 +121,7 @@ fn what_waits_is_read_without_the_device(rt: HostRuntime) {
     plays(&rt, 1, WAITS);
 }
 
-const WAITS: &str = "chunk three > Ok([Locator { extent: 0, page: 0, generation: 0 }])
+const WAITS: &str = "chunk three > Ok([Locator { extent: 0, page: 0, generation: 0, mark: 0 }])
 chunk get 0 0 0 > Ok([7, 8, 9])
 chunk failures > 0";
 
@@ -137,7 +138,8 @@ fn a_frame_of_another_kind_is_refused(rt: HostRuntime) {
     plays(&rt, 0, ANOTHER_KIND);
 }
 
-const ANOTHER_KIND: &str = "chunk zeros 0 > Ok([Locator { extent: 0, page: 0, generation: 0 }])
+const ANOTHER_KIND: &str =
+    "chunk zeros 0 > Ok([Locator { extent: 0, page: 0, generation: 0, mark: 0 }])
 plains > 1
 chunk run 0 0 0 > Err(BadVersion)
 chunk get 0 0 0 > Ok([])";

@@ -56,12 +56,14 @@ const FIRST: Locator = Locator {
     extent: 0,
     page: 0,
     generation: 0,
+    mark: 0,
 };
 
 const SECOND: Locator = Locator {
     extent: 0,
     page: 1,
     generation: 0,
+    mark: 0,
 };
 
 /// The page begins with these bytes, and zeros follow.
@@ -101,7 +103,7 @@ fn roots(rt: HostRuntime) {
 
 /// How a root of one run prints.
 const OF_ONE: &str =
-    "Root { format: 2, version: 2, commands: 1, runs: [Locator { extent: 0, page: 1, generation: 0 }] }";
+    "Root { format: 2, version: 2, commands: 1, runs: [Locator { extent: 0, page: 1, generation: 0, mark: 0 }] }";
 
 /// The pages of a frame.
 fn encoded(rt: &(impl Abort + AllocGlobal), kind: FrameKind, payload: &[u8]) -> Vec<[u8; 4096]> {
@@ -144,6 +146,11 @@ fn is_chunk(rt: &(impl Abort + AllocGlobal), payload: &[u8], start: &[u8]) {
     let pages = encoded(rt, FrameKind::Chunk, payload);
     is_chunk_page(rt, pages.as_slice(), payload.len(), start);
     is_payload(rt, FrameKind::Chunk, pages.as_slice(), payload);
+}
+
+/// The page of the chunk of the byte 61.
+pub fn chunk_page(rt: &impl Abort) -> [u8; 4096] {
+    page_of(rt, &CHUNK)
 }
 
 #[test]
@@ -190,7 +197,7 @@ pub enum Format {
 }
 
 /// The number of a refusal, 0 for none.
-fn number_of<T: Drop>(read: Result<T, FormatFault>) -> u8 {
+pub fn number_of<T: Drop>(read: Result<T, FormatFault>) -> u8 {
     match read {
         Ok(_) => 0,
         Err(fault) => fault.number(),
@@ -273,12 +280,12 @@ fn encoded_run(rt: &(impl Abort + AllocGlobal), id: ShardId) -> Vec<u8> {
     let locators = Places::from_slice(alloc, &[FIRST]).expect(rt, "memory");
     let mut entries = Vec::with_capacity(alloc, 1).expect(rt, "memory");
     entries.push_reserved((id, locators));
-    encode_run(alloc, &Run { entries }).expect(rt, "bytes")
+    encode_run(alloc, 2, &Run { entries }).expect(rt, "bytes")
 }
 
-/// What a payload is read as.
-fn decoded_run(rt: &impl AllocGlobal, payload: &[u8]) -> Result<Run, FormatFault> {
-    decode_run(rt.alloc(), payload)
+/// What a payload is read as in a format.
+fn decoded_run(rt: &impl AllocGlobal, format: u8, payload: &[u8]) -> Result<Run, FormatFault> {
+    decode_run(rt.alloc(), format, payload)
 }
 
 #[test]
@@ -286,13 +293,13 @@ fn runs(rt: HostRuntime) {
     let id = tenth(&rt);
     let payload = encoded_run(&rt, id);
     assert!(rt; payload.as_slice() == &RUN[41..]);
-    let read = decoded_run(&rt, payload.as_slice()).expect(&rt, "a run");
+    let read = decoded_run(&rt, 2, payload.as_slice()).expect(&rt, "a run");
     prints(&rt, &read, ONE_ENTRY);
 }
 
 /// How the run of that identifier prints.
 const ONE_ENTRY: &str =
-    "Run { entries: [(ShardId([0, 0, 0, 0, 0, 0, 0, 0, 0, 0, 0, 0, 0, 0, 0, 10]), [Locator { extent: 0, page: 0, generation: 0 }])] }";
+    "Run { entries: [(ShardId([0, 0, 0, 0, 0, 0, 0, 0, 0, 0, 0, 0, 0, 0, 0, 10]), [Locator { extent: 0, page: 0, generation: 0, mark: 0 }])] }";
 
 /// The faults of two entries of one locator each.
 const TWO_ENTRIES: [(usize, u8); 10] = [
@@ -321,15 +328,25 @@ fn two_entries() -> [u8; 166] {
     payload
 }
 
+/// Asserts why a payload isn't read in a format where the lowest bit of one of its bytes is turned, byte by byte.
+pub fn damaged_run(
+    rt: &(impl Abort + AllocGlobal),
+    format: u8,
+    payload: &[u8],
+    table: &[(usize, u8)],
+) {
+    let mut bytes = Vec::from_slice(rt.alloc(), payload).expect(rt, "memory");
+    for i in 0..bytes.len() {
+        turn(rt, &mut bytes, i);
+        let found = number_of(decoded_run(rt, format, &bytes));
+        assert!(rt; found == expected(table, i), "at {i}");
+        turn(rt, &mut bytes, i);
+    }
+}
+
 #[test]
 fn damaged_runs(rt: HostRuntime) {
-    let mut payload = two_entries();
-    for i in 0..166 {
-        turn(&rt, &mut payload, i);
-        let found = number_of(decoded_run(&rt, &payload));
-        assert!(rt; found == expected(&TWO_ENTRIES, i), "at {i}");
-        turn(&rt, &mut payload, i);
-    }
+    damaged_run(&rt, 2, &two_entries(), &TWO_ENTRIES);
 }
 
 #[test]

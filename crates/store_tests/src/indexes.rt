@@ -1,7 +1,9 @@
 //! Worked rows of the index, and each public function once.
-ghost use Rattle.std.specs.Prelude.{◌<◌, ◌^◌};
+ghost use Rattle.std.specs.Prelude.{◌≡◌, ◌<◌, ◌^◌};
 
-use crate::stores::{Store, assert_families, id, plays_divided, plays_large, plays_small};
+use crate::stores::{
+    Store, assert_families, assert_indexed, id, plays_divided, plays_large, plays_small,
+};
 use crate::texts::{byte, text_of, words_of};
 use cs_deps::{Element, Graph, Refusal};
 use cs_extent::Purpose;
@@ -10,12 +12,15 @@ use cs_index::{Entries, Index};
 use std::alloc::Global;
 use std::process::Abort;
 
-/// The place of a chunk.
-fn place(page: u16) -> Locator {
+/// The place of a chunk, in a format in which places have no marks.
+fn place(page: u16) -> Locator
+    ensures { result.mark ≡ 0 }
+{
     Locator {
         extent: 0,
         page,
         generation: 0,
+        mark: 0,
     }
 }
 
@@ -50,10 +55,7 @@ fn replace(
 fn stage(rt: &impl Abort, store: &mut Store, commands: u64) -> Result<Option<u64>, Refusal>
     requires { commands < 2 ^ 63 }
 {
-    let pages = store.extents.extent_pages();
-    assert!(rt; pages == 2);
-    let limit = store.index.limit();
-    assert!(rt; limit == 100);
+    assert_indexed(rt, &store.index, &store.extents);
     assert_families(rt, &store.extents, &store.graph);
     store
         .index
@@ -64,10 +66,7 @@ fn stage(rt: &impl Abort, store: &mut Store, commands: u64) -> Result<Option<u64
 fn merge(rt: &impl Abort, store: &mut Store, commands: u64) -> Result<u64, Refusal>
     requires { commands < 2 ^ 63 }
 {
-    let pages = store.extents.extent_pages();
-    assert!(rt; pages == 2);
-    let limit = store.index.limit();
-    assert!(rt; limit == 100);
+    assert_indexed(rt, &store.index, &store.extents);
     assert_families(rt, &store.extents, &store.graph);
     store.index.stage_merged(
         &mut store.extents,
@@ -140,7 +139,7 @@ const DELETION: &str = "index reserve 3 > true
 index empty > true
 index set 2 5 > Ok(())
 index set 1 6 > Ok(())
-index at 2 > Some([Locator { extent: 0, page: 5, generation: 0 }])
+index at 2 > Some([Locator { extent: 0, page: 5, generation: 0, mark: 0 }])
 index listed > (Some(1), Some(2), None)
 index erase 2 > true
 index erase 2 > false
@@ -156,10 +155,10 @@ fn other_locators_stay(rt: HostRuntime) {
 
 const OTHERS: &str = "index set 1 5 > Ok(())
 index replace 1 4 6 > false
-index at 1 > Some([Locator { extent: 0, page: 5, generation: 0 }])
+index at 1 > Some([Locator { extent: 0, page: 5, generation: 0, mark: 0 }])
 index replace 2 5 6 > false
 index replace 1 5 6 > true
-index at 1 > Some([Locator { extent: 0, page: 6, generation: 0 }])";
+index at 1 > Some([Locator { extent: 0, page: 6, generation: 0, mark: 0 }])";
 
 #[test]
 fn the_limit_is_for_new_identifiers(rt: HostRuntime) {
@@ -197,7 +196,7 @@ index counts > (4, 4)
 index erase 4 > true
 index stage 5 > Ok(Some(6))
 index counts > (3, 1)
-index at 3 > Some([Locator { extent: 0, page: 5, generation: 0 }])
+index at 3 > Some([Locator { extent: 0, page: 5, generation: 0, mark: 0 }])
 index at 4 > None
 index root > (5, 1)";
 

@@ -93,7 +93,13 @@ pub fn new_extents(rt: &impl Abort, alloc: Global, geometry: Geometry) -> Extent
 fn new_store(rt: &impl Abort, alloc: Global, geometry: Geometry, limit: u16) -> Store {
     let extents = new_extents(rt, alloc, geometry);
     let graph = new_graph(rt, alloc, geometry.sections());
-    let index = Index::load(alloc, usize::from(limit), Vec::new(alloc)).expect(rt, "an index");
+    let index = Index::load(
+        alloc,
+        geometry.format(),
+        usize::from(limit),
+        Vec::new(alloc),
+    )
+    .expect(rt, "an index");
     Store {
         index,
         extents,
@@ -108,6 +114,22 @@ pub fn assert_families(rt: &impl Abort, extents: &Extents, graph: &Graph)
     let families = graph.families();
     let sections = extents.geometry().sections();
     assert!(rt; families == 1 + usize::from(sections));
+}
+
+/// Asserts that the index is that of a store of format 2 whose extents have two pages, so that it names at most a hundred identifiers.
+pub fn assert_indexed(rt: &impl Abort, index: &Index, extents: &Extents)
+    ensures format { index.now.format ≡ (shape extents.now).format }
+    ensures limit { index.now.limit ≡ (shape extents.now).most_names }
+{
+    let geometry = extents.geometry();
+    let pages = extents.extent_pages();
+    assert!(rt; pages == 2);
+    let format = geometry.format();
+    assert!(rt; format == 2);
+    let of_index = index.format();
+    assert!(rt; of_index == 2);
+    let limit = index.limit();
+    assert!(rt; limit == 100);
 }
 
 /// Asserts that a disk has the pages of a store.

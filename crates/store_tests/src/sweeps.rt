@@ -8,13 +8,13 @@ ghost use Rattle.cs_model.specs.Index.{live_at};
 ghost use Rattle.cs_model.specs.Lists.{◌∈◌, nth};
 ghost use Rattle.cs_reclaim.specs.Sweeps.{IsSwept};
 
-use crate::stores::{Store, assert_families, assert_large, id, plays};
+use crate::stores::{Store, assert_families, assert_indexed, assert_large, id, plays};
 use crate::texts::{byte, text_of, words_of};
 use cs_chunk::put_chunks;
 use cs_deps::Refusal;
 use cs_disk::PageDisk;
 use cs_extent::Extents;
-use cs_frame::{Locator, ShardId};
+use cs_frame::{Locator, Places, ShardId};
 use cs_index::Index;
 use cs_reclaim::{Sweep, a_sweep_keeps_every_shard, a_swept_extent_stays};
 use std::alloc::Global;
@@ -31,8 +31,11 @@ fn put(
     assert_families(rt, &store.extents, &store.graph);
     let places = put_chunks(alloc, &mut store.extents, &mut store.graph, &[byte])?;
     let count = places.as_slice().len();
-    assert!(rt; 1 <= count);
-    assert!(rt; count <= 8);
+    assert!(rt; count == 1);
+    // Up to format 2 it has no mark.
+    let place = places.as_slice()[0];
+    assert!(rt; place.mark == 0);
+    let places = Places::from_slice(alloc, &[place]).expect(rt, "memory");
     store.index.set(id(last), places)
 }
 
@@ -114,6 +117,7 @@ fn move_one<D: PageDisk>(
     sweep: &Sweep,
 ) -> Result<Option<(ShardId, usize)>, Refusal> {
     assert_swept(rt, &store.extents, sweep);
+    assert_indexed(rt, &store.index, &store.extents);
     assert_families(rt, &store.extents, &store.graph);
     let extents = store.extents.extent_count();
     let pages = store.extents.extent_pages();
@@ -132,10 +136,7 @@ fn move_one<D: PageDisk>(
 fn retire(rt: &impl Abort, store: &mut Store, sweep: Sweep) -> Result<u64, (Refusal, Sweep)> {
     assert_swept(rt, &store.extents, &sweep);
     assert_families(rt, &store.extents, &store.graph);
-    let pages = store.extents.extent_pages();
-    assert!(rt; pages == 2);
-    let limit = store.index.limit();
-    assert!(rt; limit == 100);
+    assert_indexed(rt, &store.index, &store.extents);
     sweep.retire(&mut store.index, &mut store.extents, &mut store.graph, 2)
 }
 

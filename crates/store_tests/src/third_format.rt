@@ -1,9 +1,11 @@
-//! A section and a root of format 3 by their bytes, and by each byte that is damaged.
-use crate::frames::{Format, damaged, fault_of, is_page};
+//! A section, a root and a run of format 3 by their bytes, and by each byte that is damaged, and the marks of frames.
+use crate::frames::{Format, chunk_page, damaged, damaged_run, fault_of, is_page, number_of};
+use crate::stores::id;
 use crate::texts::prints;
 use cs_frame::{
-    Geometry, Locator, Root, decode_root, decode_section, decode_superblock, encode_root,
-    encode_section,
+    FormatFault, FrameKind, Geometry, Locator, Places, Root, Run, decode_meant_header, decode_root,
+    decode_run, decode_section, decode_superblock, encode_root, encode_run, encode_section,
+    frame_mark, read_frame_in, run_size,
 };
 use std::process::Abort;
 
@@ -19,14 +21,27 @@ const SECOND_OF_THREE: [u8; 62] = [
     0x72, 0x3d, 0x2e, 0x40, 0x12, 0x38, 0x7f, 0xe7, 0xc4, 0x08, 0x10, 0x3e, 0x70, 0xcb,
 ];
 
-// The root of 9 commands over five runs, as version 2.
-const FIVE_RUNS: [u8; 93] = [
+// The root of 9 commands over five runs, as version 2. The first two runs have the marks of the chunks of the byte 61 and of the byte 62, then
+// there are the least marks and the greatest one.
+const FIVE_RUNS: [u8; 133] = [
     0x43, 0x53, 0x52, 0x33, 0x00, 0x00, 0x00, 0x00, 0x00, 0x00, 0x00, 0x02, 0x00, 0x00, 0x00, 0x00,
-    0x00, 0x00, 0x00, 0x09, 0x05, 0x00, 0x00, 0x00, 0x01, 0x00, 0x00, 0x00, 0x00, 0x00, 0x00, 0x00,
-    0x03, 0x00, 0x00, 0x00, 0x00, 0x00, 0x05, 0x00, 0x00, 0x00, 0x00, 0x00, 0x01, 0x00, 0x05, 0x01,
-    0x2b, 0x00, 0x00, 0x00, 0x01, 0x00, 0x04, 0x00, 0x07, 0x00, 0x00, 0x00, 0x00, 0x8b, 0xf7, 0xa1,
-    0x12, 0xc9, 0xee, 0xc1, 0x12, 0xd4, 0xe1, 0x88, 0xaa, 0xd0, 0x72, 0xa6, 0x22, 0xb7, 0x83, 0x44,
-    0x3c, 0xe8, 0x24, 0xd9, 0xb4, 0xc2, 0xdd, 0x06, 0xc5, 0x83, 0xbd, 0xbc, 0xa1,
+    0x00, 0x00, 0x00, 0x09, 0x05, 0x00, 0x00, 0x00, 0x01, 0x00, 0x00, 0x00, 0x00, 0xca, 0x97, 0x81,
+    0x12, 0xca, 0x1b, 0xbd, 0xca, 0x00, 0x00, 0x00, 0x03, 0x00, 0x00, 0x00, 0x00, 0x3e, 0x23, 0xe8,
+    0x16, 0x00, 0x39, 0x59, 0x4a, 0x00, 0x05, 0x00, 0x00, 0x00, 0x00, 0x00, 0x01, 0x00, 0x00, 0x00,
+    0x00, 0x00, 0x00, 0x00, 0x01, 0x00, 0x05, 0x01, 0x2b, 0x00, 0x00, 0x00, 0x01, 0xff, 0xff, 0xff,
+    0xff, 0xff, 0xff, 0xff, 0xff, 0x00, 0x04, 0x00, 0x07, 0x00, 0x00, 0x00, 0x00, 0x00, 0x00, 0x00,
+    0x00, 0x00, 0x00, 0x00, 0x00, 0xbe, 0x69, 0x0c, 0xed, 0x51, 0xc0, 0x4c, 0x40, 0x5f, 0x3d, 0x8c,
+    0xf1, 0xde, 0x13, 0xf7, 0xa0, 0x4b, 0x34, 0x41, 0xdd, 0x94, 0xfe, 0x0b, 0x3b, 0x31, 0xc8, 0x08,
+    0x6c, 0x7d, 0x4d, 0x9e, 0xb4,
+];
+
+// The payload of a run of two entries: 0a was deleted, and 0b has two chunks, of the marks of 61 and 62.
+const TWO_PACKED: [u8; 70] = [
+    0x00, 0x00, 0x00, 0x02, 0x00, 0x00, 0x00, 0x00, 0x00, 0x00, 0x00, 0x00, 0x00, 0x00, 0x00, 0x00,
+    0x00, 0x00, 0x00, 0x0a, 0x00, 0x00, 0x00, 0x00, 0x00, 0x00, 0x00, 0x00, 0x00, 0x00, 0x00, 0x00,
+    0x00, 0x00, 0x00, 0x00, 0x0b, 0x02, 0x00, 0x00, 0x00, 0x00, 0x00, 0x00, 0x00, 0x00, 0xca, 0x97,
+    0x81, 0x12, 0xca, 0x1b, 0xbd, 0xca, 0x00, 0x01, 0x01, 0x2b, 0x00, 0x00, 0x00, 0x07, 0x3e, 0x23,
+    0xe8, 0x16, 0x00, 0x39, 0x59, 0x4a,
 ];
 
 /// How the section prints.
@@ -35,7 +50,11 @@ const SECOND: &str =
 
 /// How the root prints.
 const OF_FIVE: &str =
-    "Root { format: 3, version: 2, commands: 9, runs: [Locator { extent: 0, page: 1, generation: 0 }, Locator { extent: 0, page: 3, generation: 0 }, Locator { extent: 5, page: 0, generation: 1 }, Locator { extent: 5, page: 299, generation: 1 }, Locator { extent: 4, page: 7, generation: 0 }] }";
+    "Root { format: 3, version: 2, commands: 9, runs: [Locator { extent: 0, page: 1, generation: 0, mark: 14598278634844962250 }, Locator { extent: 0, page: 3, generation: 0, mark: 4477677635727087946 }, Locator { extent: 5, page: 0, generation: 1, mark: 1 }, Locator { extent: 5, page: 299, generation: 1, mark: 18446744073709551615 }, Locator { extent: 4, page: 7, generation: 0, mark: 0 }] }";
+
+/// How the run prints.
+const OF_TWO: &str =
+    "Run { entries: [(ShardId([0, 0, 0, 0, 0, 0, 0, 0, 0, 0, 0, 0, 0, 0, 0, 10]), []), (ShardId([0, 0, 0, 0, 0, 0, 0, 0, 0, 0, 0, 0, 0, 0, 0, 11]), [Locator { extent: 0, page: 0, generation: 0, mark: 14598278634844962250 }, Locator { extent: 1, page: 299, generation: 7, mark: 4477677635727087946 }])] }";
 
 /// It is read of page 0 and of another page, and not in format 2.
 #[test]
@@ -51,12 +70,19 @@ fn a_section_of_format_3(rt: HostRuntime) {
     assert!(rt; found == 24);
 }
 
-/// The place of a run.
-fn place(extent: u16, page: u16, generation: u32) -> Locator {
+/// The mark of the chunk of the byte 61, which is the front of its digest.
+const MARK: u64 = 0xca97_8112_ca1b_bdca;
+
+/// That of the byte 62.
+const OTHER_MARK: u64 = 0x3e23_e816_0039_594a;
+
+/// The place of a frame.
+fn place(extent: u16, page: u16, generation: u32, mark: u64) -> Locator {
     Locator {
         extent,
         page,
         generation,
+        mark,
     }
 }
 
@@ -64,11 +90,11 @@ fn place(extent: u16, page: u16, generation: u32) -> Locator {
 #[test]
 fn a_root_over_five_runs(rt: HostRuntime) {
     let runs = vec![in rt.alloc();
-        place(0, 1, 0),
-        place(0, 3, 0),
-        place(5, 0, 1),
-        place(5, 299, 1),
-        place(4, 7, 0),
+        place(0, 1, 0, MARK),
+        place(0, 3, 0, OTHER_MARK),
+        place(5, 0, 1, 1),
+        place(5, 299, 1, u64::MAX),
+        place(4, 7, 0, 0),
     ];
     let root = Root {
         format: 3,
@@ -84,10 +110,65 @@ fn a_root_over_five_runs(rt: HostRuntime) {
     assert!(rt; found == 24);
 }
 
+/// Entries take the bytes that they need.
+#[test]
+fn a_packed_run(rt: HostRuntime) {
+    let alloc = rt.alloc();
+    let chunks = [place(0, 0, 0, MARK), place(1, 299, 7, OTHER_MARK)];
+    let places = Places::from_slice(alloc, &chunks).expect(&rt, "memory");
+    let mut entries = Vec::with_capacity(alloc, 1).expect(&rt, "memory");
+    entries.push_reserved((id(11), places));
+    let run = Run { entries };
+    assert!(rt; run_size(3, &run) == 53);
+    // It is the second entry of the two, behind its own count.
+    let payload = encode_run(alloc, 3, &run).expect(&rt, "bytes");
+    assert!(rt; payload.len() == 53);
+    assert!(rt; payload[..4] == [0, 0, 0, 1]);
+    assert!(rt; payload[4..] == TWO_PACKED[21..]);
+    prints(
+        &rt,
+        &decode_run(alloc, 3, &TWO_PACKED).expect(&rt, "a run"),
+        OF_TWO,
+    );
+}
+
+#[test]
+fn damaged_packed_runs(rt: HostRuntime) {
+    let table = [
+        (4, 22),
+        (20, 25),
+        (21, 22),
+        (36, 0),
+        (37, 25),
+        (38, 22),
+        (70, 0),
+    ];
+    damaged_run(&rt, 3, &TWO_PACKED, &table);
+}
+
+/// A whole frame of another mark is refused, by its header too, and in format 2 none is.
+#[test]
+fn frames_have_marks(rt: HostRuntime) {
+    let page = chunk_page(&rt);
+    assert!(rt; frame_mark(3, &page) == MARK);
+    assert!(rt; frame_mark(2, &page) == 0);
+    assert!(rt; why_not_read(&rt, 3, MARK) == 0);
+    assert!(rt; why_not_read(&rt, 3, OTHER_MARK) == 26);
+    assert!(rt; why_not_read(&rt, 2, 0) == 0);
+    let header = decode_meant_header(3, FrameKind::Chunk, OTHER_MARK, &page, 1);
+    assert!(rt; matches!(header, Err(FormatFault::Misplaced)));
+}
+
+/// Why the chunk of the byte 61 isn't read as a frame of this mark, 0 where it is.
+fn why_not_read(rt: &(impl Abort + AllocGlobal), format: u8, mark: u64) -> u8 {
+    let pages = vec![in rt.alloc(); chunk_page(rt)].expect(rt, "memory");
+    number_of(read_frame_in(format, FrameKind::Chunk, mark, pages))
+}
+
 #[test]
 fn damaged_pages_of_format_3(rt: HostRuntime) {
     let section = [(3, 20), (4, 24), (62, 21), (4096, 23)];
     damaged(&rt, Format::ThirdSection, &SECOND_OF_THREE, &section);
-    let root = [(3, 20), (4, 24), (93, 21), (4096, 23)];
+    let root = [(3, 20), (4, 24), (133, 21), (4096, 23)];
     damaged(&rt, Format::ThirdRoot, &FIVE_RUNS, &root);
 }

@@ -6,8 +6,15 @@ use crate::faults::Fault;
 use sha2::{Digest, Sha256};
 use std::alloc::Global;
 
-/// How many bytes of a root its digest is made of, at most.
-const ROOT: usize = 53;
+/// How many bytes an entry of a shard of one chunk takes in a run of this format.
+fn entry_bytes(form: u64) -> u64 {
+    if form == 3 { 33 } else { 81 }
+}
+
+/// How many bytes the digest of a root over four runs is made of, in this format.
+fn root_bytes(form: u64) -> usize {
+    if form == 3 { 85 } else { 53 }
+}
 
 /// The digests of these texts, each of so many bytes, one of them after another. Gives how many.
 fn digest_texts(alloc: Global, count: u64, bytes: usize) -> Result<u64, Fault> {
@@ -32,10 +39,10 @@ pub fn digest_puts(alloc: Global, counts: Counts, task: Task) -> Result<u64, Fau
     let section = (extents as usize).saturating_mul(6).saturating_add(18);
     let superblocks = digest_texts(alloc, counts.superblocks, section)?;
     let run = (counts.entries / counts.runs.max(1))
-        .saturating_mul(81)
+        .saturating_mul(entry_bytes(task.form))
         .saturating_add(4);
     let runs = digest_texts(alloc, counts.runs, run as usize)?;
-    let roots = digest_texts(alloc, counts.roots, ROOT)?;
+    let roots = digest_texts(alloc, counts.roots, root_bytes(task.form))?;
     Ok(
         chunks
             .saturating_add(superblocks)

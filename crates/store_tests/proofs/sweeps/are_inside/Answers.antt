@@ -7,7 +7,7 @@ use Rattle.store_tests.proofs.sweeps.are_inside.Goals as goal
 
 -- a place that stands for none
 abbrev nowhere : Locator
-nowhere = record { extent = 0; page = 0; generation = 0 }
+nowhere = record { extent = 0; page = 0; generation = 0; mark = 0 }
 
 pub loop-k-preserved : goal.loop-k-preserved
 loop-k-preserved c = have_more (IsThere c.args.extents c.args.pages) c.args.places.now c.loop-k.k nowhere c.loop-k-test.true (c.is_inside.ensures.0 c.if-not-is_inside.false) c.loop-k.invariant
