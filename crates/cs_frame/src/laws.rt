@@ -1,22 +1,25 @@
 //! The laws of the formats: a page without a fault is one value's spelling and no other's, and what is
 //! spelled has no fault.
 
-ghost use Rattle.std.specs.Prelude.{◌≡◌, ◌≢◌, ◌↔◌, ◌+◌, ◌/◌, ◌^◌, ◌<◌, ◌≤◌, ◌++◌, ℕ, List, Some, None, length, take, true};
+ghost use Rattle.std.specs.Prelude.{◌≡◌, ◌≢◌, ◌↔◌, ◌+◌, ◌/◌, ◌^◌, ◌<◌, ◌≤◌, ◌++◌, ℕ, List, Some, None, [], length, map, take, true};
 ghost use Rattle.byteorder.specs.Endian.{big_bytes, big_number};
+ghost use Rattle.cs_model.specs.Device.{Shape};
 ghost use Rattle.cs_model.specs.Element.{Entry as NamedEntry};
 ghost use Rattle.cs_model.specs.Formats.{ChunkFrame, RunFrame};
 ghost use Rattle.cs_model.specs.Frames.{IsFormat};
-ghost use Rattle.cs_model.specs.Geometry.{HasExtentsApart, IsGeometry as IsModelGeometry, digest_number, mark_in, marks_in, shape_of};
-ghost use Rattle.cs_model.specs.Index.{IsRunList};
+ghost use Rattle.cs_model.specs.Geometry.{HasExtentsApart, IsGeometry as IsModelGeometry, digest_number, head_bytes_in, mark_in, marks_in, most_weight_in, shape_of, weigh_in};
+ghost use Rattle.cs_model.specs.Index.{IsRunList, run_weight};
+ghost use Rattle.cs_model.specs.Lists.{◌∈◌};
 ghost use Rattle.cs_model.specs.Safe.{FitsExtent};
 ghost use Rattle.cs_frame.specs.declared.faults.FormatFault.{FormatFault as Fault};
 ghost use Rattle.cs_frame.specs.declared.locators.Locator.{Locator as Place};
 ghost use Rattle.cs_frame.specs.Bytes.{EachHas, IsBytes, IsPage};
-ghost use Rattle.cs_frame.specs.Formats.{formats_of, id_bytes};
-ghost use Rattle.cs_frame.specs.Frames.{SpellsFrame, bytes_in, digest_front, first_page, frame_count, frame_fault, header_fault, payload_in, payload_mark, spelled_frame};
+ghost use Rattle.cs_frame.specs.Formats.{as_entry, formats_of, id_bytes};
+ghost use Rattle.cs_frame.specs.Frames.{SpellsFrame, bytes_in, digest_front, first_page, frame_count, frame_fault, header_fault, page_count, payload_in, payload_mark, spelled_frame};
 ghost use Rattle.cs_frame.specs.FirstFormat.{IsOfFirstFormat, SpellsFirstFormat, SpellsPageZero, first_format_fault, page_zero_fault};
-ghost use Rattle.cs_frame.specs.Geometries.{IsGeometry, IsKnown, lengths_below, section_length, section_size, section_start};
+ghost use Rattle.cs_frame.specs.Geometries.{IsGeometry, IsKnown, lengths_below, section_length, section_size, section_start, weight_bytes};
 ghost use Rattle.cs_frame.specs.FormatRuns.{SpellsRun, run_fault, run_size};
+ghost use Rattle.cs_frame.specs.Heads.{head_in, spelled_head};
 ghost use Rattle.cs_frame.specs.Roots.{SpellsRoot, root_fault};
 ghost use Rattle.cs_frame.specs.Runs.{Entry};
 ghost use Rattle.cs_frame.specs.Superblocks.{SpellsSuperblock, superblock_fault};
@@ -101,6 +104,18 @@ pub fn runs_have_sizes()
         → SpellsRun payload format entries → length payload ≡ run_size format entries }
 {}
 
+/// A run takes what its entries weigh by the rule of the format, and fits on an extent exactly where they weigh no more than they may.
+pub fn runs_take_what_they_weigh()
+    ensures size { (format : ℕ) (entries : List NamedEntry)
+        → run_size format (map as_entry entries) ≡ weight_bytes format (run_weight (weigh_in format) entries) }
+    ensures payload { (extents pages sections per_section format : ℕ) (entries : List NamedEntry)
+        → let S = shape_of extents pages sections per_section format in
+        ((entry : NamedEntry) → entry ∈ entries → length entry.locators ≤ S.most_chunks)
+        → length ((formats_of S).run entries) ≡ weight_bytes format (run_weight S.weigh entries) }
+    ensures pages { (format pages weight : ℕ) → 1 ≤ pages
+        → (page_count (weight_bytes format weight) ≤ pages) ↔ (weight ≤ most_weight_in format pages) }
+{}
+
 /// Pages begin with a frame of a kind exactly where no test fails, and with one payload alone.
 pub fn frame_has_one_spelling()
     ensures exact { (kind : ℕ) (pages : List (List ℕ)) → EachHas 4096 pages → IsBytes (bytes_in pages)
@@ -160,14 +175,27 @@ pub fn sections_tell_pointers()
         → S.section e ≡ j → p e ≡ q e }
 {}
 
-/// Each run that the model may stage, and each chunk, fits on an extent.
+/// Each run that the model may stage, and each chunk with its head, fits on an extent.
 pub fn frames_fit_on_an_extent()
     ensures runs { (extents pages sections format : ℕ) (entries : List NamedEntry) → IsGeometry format extents pages sections
         → let S = shape_of extents pages sections (section_size extents sections) format in
         IsRunList S entries → length ((formats_of S).frame RunFrame ((formats_of S).run entries)) ≤ S.pages }
-    ensures chunks { (extents pages sections format : ℕ) (chunk : List ℕ) → IsGeometry format extents pages sections
-        → let S = shape_of extents pages sections (section_size extents sections) format in
-        length chunk ≤ S.chunk_bytes → length ((formats_of S).frame ChunkFrame chunk) ≤ S.pages }
+    ensures chunks { (extents pages sections format id number count command : ℕ) (piece : List ℕ)
+        → IsGeometry format extents pages sections → let S = shape_of extents pages sections (section_size extents sections) format in
+        length piece ≤ S.chunk_bytes
+        → length ((formats_of S).frame ChunkFrame ((formats_of S).head id number count command ++ piece)) ≤ S.pages }
+{}
+
+/// The head of a chunk has one size in each format, and tells whose chunk it is: one payload begins with one head alone.
+pub fn heads_tell_chunks()
+    ensures size { (format id number count command : ℕ) → length (head_in format id number count command) ≡ head_bytes_in format }
+    ensures one_head { (id number count command other other_number other_count other_command : ℕ) (piece other_piece : List ℕ)
+        → command < 2 ^ 64 → other_command < 2 ^ 64
+        → spelled_head id number count command ++ piece ≡ spelled_head other other_number other_count other_command ++ other_piece
+        → (id ≡ other) × (number ≡ other_number) × (count ≡ other_count) × (command ≡ other_command) × (piece ≡ other_piece) }
+    // Up to format 2 there are no heads, and a chunk's payload is its piece of the bytes.
+    ensures none { (S : Shape) (id number count command : ℕ) (payload : List ℕ) → S.format ≤ 2
+        → ((formats_of S).head id number count command ≡ []) × ((formats_of S).body payload ≡ payload) }
 {}
 
 /// Each extent belongs to one section, and all sections together have all extents.

@@ -195,7 +195,7 @@ module _ (view : ℕ → List ℕ) (format : ℕ) (versions : List ℕ) (pages :
     version_fits = (let lt = read.root_page.fits.last_version in omega (arith, lt));
     commands_fit = (let lt = read.root_page.fits.last_command in omega (arith, lt));
     few_runs = few_runs;
-    named = read.named;
+    weight_fits = read.weight_fits;
     chunks_fit = few_chunks;
   }
 
@@ -349,7 +349,7 @@ module _ (view : ℕ → List ℕ) (format : ℕ) (versions : List ℕ) (pages :
     root_page = read.root_page;
     runs_read = read.runs_read;
     located = visible_of there runs read.located;
-    named = read.named;
+    weight_fits = read.weight_fits;
   }
 
   pub found_as : extents_of there ≡ read_as (shape there).apart there (newest_first runs) → (m : Map) → Gives (shape there) (formats_of (shape there))

@@ -70,7 +70,7 @@ module _ (view : ℕ → List ℕ) (format extents pages sections : ℕ) (is : I
     sections_read = record { geometry = subst (λ (n : ℕ). IsGeometry format (length written) pages n) many new_geometry; each = at }
 
     read : IsStoreRead view format versions pages (replicate extents (0, 0)) 1 0 []
-    read = record { sections = sections_read; root_page = root; runs_read = tt; located = tt; named = omega arith }
+    read = record { sections = sections_read; root_page = root; runs_read = tt; located = tt; weight_fits = omega arith }
 
     found_read : (found : Recovers (shape read_extents) (formats_of (shape read_extents)) view 0 (λ id. None))
         × IsFoundAs (shape read_extents) (formats_of (shape read_extents)) view 0 (λ id. None) found read_extents versions 1 []

@@ -33,8 +33,8 @@ use Rattle.cs_model.proofs.Counting.{ascending_lookup}
 use Rattle.cs_model.specs.Device.{Page, Shape}
 use Rattle.cs_model.specs.Element.{Entry, Locator as Place, Map, Run}
 use Rattle.cs_model.specs.Formats.{Stand, limit_in, places}
-use Rattle.cs_model.specs.Geometry.{marks_in, shape_of}
-use Rattle.cs_model.specs.Index.{AllPass, Passes, entries_of, live, live_at, lookup, names}
+use Rattle.cs_model.specs.Geometry.{marks_in, shape_of, weigh_in}
+use Rattle.cs_model.specs.Index.{AllPass, Passes, entries_of, live, live_at, lookup, named_weight}
 use Rattle.cs_model.specs.Lists.{◌∈◌}
 use Rattle.cs_model.specs.Recovery.{Recovers}
 use Rattle.cs_image.specs.Reads.{AreLocated, ArePages, AreSectionsRead, HasRunAt, IsLocated, IsReadable, IsRunRead, IsStoreRead, IsVisibleStoreRead, SpellsAt, extents_at}
@@ -277,7 +277,7 @@ module _ (view : ℕ → List ℕ) (format : ℕ) (versions : List ℕ) (pages :
       runs_read = read;
       located = λ id l has. located l (each_passes (lookup id (entries_of r.runs)) (r.gives.visible_pass id) l
           (subst (λ (rs : List Run). l ∈ live_at (entries_of rs) id) runs_are has));
-      named = subst (λ (rs : List Run). names (entries_of rs) ≤ (shape x).most_names) (sym runs_are) r.bounds.named;
+      weight_fits = subst (λ (rs : List Run). named_weight (weigh_in format) (entries_of rs) ≤ (shape x).most_weight) (sym runs_are) r.bounds.weight_fits;
     }
 
     abbrev EntryLocated : Entry → Type 0
@@ -302,7 +302,7 @@ module _ (view : ℕ → List ℕ) (format : ℕ) (versions : List ℕ) (pages :
       root_page = root_page;
       runs_read = read;
       located = go runs (all_oldest (λ (run : Run). AllByRecursion EntryLocated run.entries) runs (entries_located stand));
-      named = subst (λ (rs : List Run). names (entries_of rs) ≤ (shape x).most_names) (sym runs_are) r.bounds.named;
+      weight_fits = subst (λ (rs : List Run). named_weight (weigh_in format) (entries_of rs) ≤ (shape x).most_weight) (sym runs_are) r.bounds.weight_fits;
     }
       where
         go : (xs : List StoredRun) → AllByRecursion (λ run. AllByRecursion EntryLocated (run_of run).entries) xs → AreLocated x xs

@@ -18,8 +18,8 @@ use Rattle.cs_model.specs.Apart.{any_run_on}
 use Rattle.cs_model.specs.Device.{Shape}
 use Rattle.cs_model.specs.Element.{Locator as Place, Run}
 use Rattle.cs_model.specs.Formats.{RunFrame}
-use Rattle.cs_model.specs.Geometry.{apart_in}
-use Rattle.cs_model.specs.Index.{entries_of, live_at, names}
+use Rattle.cs_model.specs.Geometry.{apart_in, most_weight_in, weigh_in}
+use Rattle.cs_model.specs.Index.{entries_of, live_at, named_weight}
 use Rattle.cs_model.specs.Lists.{◌∈◌}
 
 -- the extents that so many sections of this format record, one behind the other: none is open, none was reset, none is being swept,
@@ -95,14 +95,14 @@ abbrev pub AreVisibleLocated : ExtentsState → List StoredRun → Type 0
 AreVisibleLocated x runs = (id : ℕ) (l : Place) → l ∈ live_at (entries_of (newest_first runs)) id → IsLocated x (as_locator l)
 
 -- A whole store of this format was read: sections of a superblock with these versions and extents, a root over runs, which are all read, whose
--- entries are all located, and which name no more identifiers than one run may.
+-- entries are all located, and the newest of which weigh no more than those of one run may.
 pub record IsStoreRead (view : ℕ → List ℕ) (format : ℕ) (versions : List ℕ) (pages : ℕ) (written : List (ℕ × ℕ)) (root commands : ℕ)
     (runs : List StoredRun) : Type 0 where
   pub sections : AreSectionsRead view format versions pages written
   pub root_page : SpellsRoot (view 1) format root commands (map (λ run. run.place) runs)
   pub runs_read : AllByRecursion (IsRunRead (extents_at format pages (length versions) written) view) runs
   pub located : AreLocated (extents_at format pages (length versions) written) runs
-  pub named : names (entries_of (newest_first runs)) ≤ (shape (extents_at format pages (length versions) written)).most_names
+  pub weight_fits : named_weight (weigh_in format) (entries_of (newest_first runs)) ≤ most_weight_in format pages
 
 -- The same, where an entry that a newer one hides may name what is gone.
 pub record IsVisibleStoreRead (view : ℕ → List ℕ) (format : ℕ) (versions : List ℕ) (pages : ℕ) (written : List (ℕ × ℕ)) (root commands : ℕ)
@@ -111,7 +111,7 @@ pub record IsVisibleStoreRead (view : ℕ → List ℕ) (format : ℕ) (versions
   pub root_page : SpellsRoot (view 1) format root commands (map (λ run. run.place) runs)
   pub runs_read : AllByRecursion (IsRunRead (extents_at format pages (length versions) written) view) runs
   pub located : AreVisibleLocated (extents_at format pages (length versions) written) runs
-  pub named : names (entries_of (newest_first runs)) ≤ (shape (extents_at format pages (length versions) written)).most_names
+  pub weight_fits : named_weight (weigh_in format) (entries_of (newest_first runs)) ≤ most_weight_in format pages
 
 -- The extents that were read of a store of this shape, where it is noted on which of them the runs lie and that all their pages were found.
 pub record AreExtentsNoted (x : ExtentsState) (runs : List Run) (noted : ExtentsState) : Type 0 where

@@ -8,8 +8,8 @@ use Rattle.cs_frame.specs.Formats.{place_of}
 use Rattle.cs_frame.specs.Places.{Listed}
 use Rattle.cs_index.specs.declared.runs.StoredRun.{StoredRun}
 use Rattle.cs_model.specs.Element.{Entry, Locator as Place, Run}
-use Rattle.cs_model.specs.Geometry.{marks_in}
-use Rattle.cs_model.specs.Index.{Ascending, entries_of, live_at, lookup, names}
+use Rattle.cs_model.specs.Geometry.{marks_in, weigh_in}
+use Rattle.cs_model.specs.Index.{Ascending, entries_of, live_at, lookup, named_weight}
 
 -- an identifier as a number, its first byte the highest
 unfoldable pub id_number : ShardId → ℕ
@@ -41,7 +41,7 @@ pub record State : Type 0 where
   pub runs : List Run
   -- the format of the store
   pub format : ℕ
-  -- how many identifiers may be named
+  -- what the newest entries of all identifiers may weigh together, by the rule of the format
   pub limit : ℕ
   -- so many more entries of the table will ask for no memory
   pub room : ℕ
@@ -72,7 +72,7 @@ pub record IsWhole (s : State) : Type 0 where
   pub short : AllByRecursion IsShort s.table
   pub runs : AllByRecursion IsStored s.runs
   pub few : length s.runs ≤ 24
-  pub named : names (index_of s) ≤ s.limit
+  pub weight_fits : named_weight (weigh_in s.format) (index_of s) ≤ s.limit
   -- what is looked up keeps to the format, and so do the runs' own places
   pub marks : (id : ℕ) → KeepTo s.format (live_at (index_of s) id)
   pub placed : RunsKeepTo s.format s.runs

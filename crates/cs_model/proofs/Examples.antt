@@ -55,6 +55,7 @@ example_is_format S off = record {
   one_run = λ xs ys fx fy is. one_flat_entries xs ys is;
   root_fits = λ v n ls some a b c d. refl;
   run_fits = λ entries is. refl;
+  behind_head = λ id number count command piece. refl;
   no_fault = λ img e i count kind payload fits inside stand. refl;
   tells = λ on. absurd (true≢false (sym on ∙ off));
   one_payload = λ img e i kind a b fa fb sa sb. sym sa.0 ∙ sb.0;
@@ -93,6 +94,7 @@ module _ (S : Shape) where
     one_run = λ xs ys fx fy is. one_flat_entries xs ys is;
     root_fits = λ v n ls some a b c d. refl;
     run_fits = λ entries is. refl;
+    behind_head = λ id number count command piece. refl;
     no_fault = λ img e i count kind payload fits inside stand. refl;
     one_payload = λ img e i kind a b fa fb sa sb. sym sa.0 ∙ sb.0;
     tells = λ on f k j v w p g q h fits also is e lt at. told_here j p q S.extents e is lt at;

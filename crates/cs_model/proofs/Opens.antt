@@ -358,7 +358,7 @@ module _ (S : Shape) (F : Formats) (shape : IsShape S) (img : ℕ → Page) (n :
       version_fits = g.bounds.version_fits;
       commands_fit = (let old : n ≤ S.greatest_number = g.bounds.commands_fit in omega arith);
       few_runs = g.bounds.few_runs;
-      named = g.bounds.named;
+      weight_fits = g.bounds.weight_fits;
       chunks_fit = g.bounds.chunks_fit;
     };
     runs_fit = g.runs_fit;

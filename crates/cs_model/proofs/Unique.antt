@@ -63,7 +63,7 @@ module _ (S : Shape) (F : Formats) (format : IsFormat S F) (img : ℕ → Page) 
         → ReadsAs S F (opening_in S F img q k) img q k ls w → v ≡ w
     same_reading [] v w same a b = a ∙ sym b
     same_reading (l ∷ ls) v w same (inl a) (inl b) = a.4
-        ∙ ap₂ (λ (c : List ℕ) (r : Content). after c r)
+        ∙ ap₂ (λ (c : List ℕ) (r : Content). after (F.body c) r)
         (format.one_payload img l.extent l.page ChunkFrame a.0 b.0 (let x = a.2.inside in omega arith)
         (let x = b.2.inside in omega arith) a.2.stand b.2.stand)
         (same_reading ls a.1 b.1 (λ x has. same x (inr has)) a.3 b.3)
@@ -168,7 +168,7 @@ new_store S F img new = record {
     version_fits = new.some_number;
     commands_fit = omega arith;
     few_runs = omega arith;
-    named = omega arith;
+    weight_fits = omega arith;
     chunks_fit = λ id. omega arith;
   };
   gives = record {

@@ -1,5 +1,5 @@
 -- Formats of pages without bounds: examples, one of which shows that the laws of a format hold together.
-use Rattle.std.specs.Prelude.{◌∷◌, ◌==◌, ℕ, zero, suc, true, List, length, None, [], if◌then◌else◌}
+use Rattle.std.specs.Prelude.{◌∷◌, ◌==◌, ℕ, zero, suc, true, List, drop, length, None, [], if◌then◌else◌}
 use Rattle.cs_model.specs.Device.{Shape}
 use Rattle.cs_model.specs.Element.{Entry, Locator}
 use Rattle.cs_model.specs.Formats.{Formats}
@@ -22,6 +22,8 @@ example_format = record {
   root = λ v n ls. v ∷ n ∷ length ls ∷ flat_locators ls [];
   frame = λ kind payload. payload ∷ [];
   fault = λ kind pages. None;
+  head = λ id number count command. id ∷ number ∷ count ∷ command ∷ [];
+  body = λ payload. drop 4 payload;
   run = flat_entries;
   fits_root = λ v n ls. true;
   fits_run = λ es. true;

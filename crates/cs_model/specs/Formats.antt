@@ -20,6 +20,10 @@ pub record Formats : Type 0 where
   pub frame : FrameKind → List ℕ → List Page
   -- why no frame of that kind stands at the head of these pages, all to which it may reach; None where one does
   pub fault : FrameKind → List Page → Option Refusal
+  -- what a chunk's payload begins with, before its piece of the shard's bytes: whose chunk it is, its number in the shard, how many
+  -- the shard has, and the number of the command that put it; and that piece of a payload. A format may have no heads
+  pub head : (id number count command : ℕ) → List ℕ
+  pub body : (payload : List ℕ) → List ℕ
   -- the payload of a run
   pub run : List Entry → List ℕ
   -- these can be spelled

@@ -1,5 +1,5 @@
 -- The laws of a format.
-use Rattle.std.specs.Prelude.{◌≡◌, ◌+◌, ◌<◌, ◌≤◌, ◌∷◌, ℕ, suc, true, List, length, None, if◌then◌else◌}
+use Rattle.std.specs.Prelude.{◌≡◌, ◌+◌, ◌<◌, ◌≤◌, ◌∷◌, ◌++◌, ℕ, suc, true, List, length, None, if◌then◌else◌}
 use Rattle.cs_model.specs.Device.{Page, Shape}
 use Rattle.cs_model.specs.Element.{Entry, Locator}
 use Rattle.cs_model.specs.Formats.{Formats, FrameKind, Stand, pages_from}
@@ -30,6 +30,8 @@ pub record IsFormat (S : Shape) (F : Formats) : Type 0 where
   pub root_fits : (v n : ℕ) (ls : List Locator) → 1 ≤ v → v ≤ S.greatest_number → n ≤ S.greatest_number
       → length ls ≤ most_staged S → ((l : Locator) → l ∈ ls → InRange S l) → F.fits_root v n ls ≡ true
   pub run_fits : (entries : List Entry) → IsRunList S entries → F.fits_run entries ≡ true
+  -- behind its head a chunk's payload is its piece of the shard's bytes
+  pub behind_head : (id number count command : ℕ) (piece : List ℕ) → F.body (F.head id number count command ++ piece) ≡ piece
   -- where a frame stands there is no fault, however many pages follow
   pub no_fault : (img : ℕ → Page) (e i count : ℕ) (kind : FrameKind) (payload : List ℕ)
       → length (F.frame kind payload) ≤ count → i + count ≤ S.pages → Stand S F img e i (F.frame kind payload)

@@ -31,7 +31,7 @@ module _ (S : Shape) (F : Formats) (apart : S.apart ≡ true) (img : ℕ → Pag
       version_fits = made.some_number;
       commands_fit = omega arith;
       few_runs = omega arith;
-      named = omega arith;
+      weight_fits = omega arith;
       chunks_fit = λ id. omega arith;
     };
     gives = record {

@@ -20,7 +20,7 @@ module _ (S : Shape) where
   }
 
   pub telling_chunks : 1 ≤ S.pages → ChunksFit S (telling_format S)
-  telling_chunks some chunk few = some
+  telling_chunks some id number count command piece few = some
 
   -- what is written when a store is made
   abbrev new_page : (F : Formats) → PageKind → Page

@@ -1,4 +1,4 @@
-use Rattle.std.proofs.Common.{◌≡◌, ◌∙◌, List, [], ◌∷◌, ap, map, subst, sym, ℕ}
+use Rattle.std.proofs.Common.{◌≡◌, ◌∙◌, List, [], ◌∷◌, ap, arith, length, length-set, map, subst, sym, ℕ}
 use Rattle.cs_frame.specs.declared.locators.Locator.{Locator}
 use Rattle.cs_frame.specs.Formats.{place_of}
 use Rattle.cs_frame.specs.Locators.{KeepFormat}
@@ -34,3 +34,12 @@ point_at-requires-clause-marks c =
     subst (λ (f : ℕ). KeepFormat f c.set.new.self.items) (sym (ap (λ (s : State). s.format) c.places_with_room.ensures.rest))
     (subst (λ (ls : List Locator). KeepFormat c.args.index.now.format ls) (sym c.set.ensures)
     (replaced_keeps c.args.index.now.format c.in_ok-after.after.items c.args.live.now.chunk p before here))
+
+pub point_at-requires-clause-no_more : goal.point_at-requires-clause-no_more
+point_at-requires-clause-no_more c =
+    omega (
+      arith,
+      ap (λ (ls : List Locator). length ls) c.set.ensures,
+      length-set c.in_ok-after.after.items c.args.live.now.chunk c.in-Ok-append_moved.place,
+      ap (λ (ls : List Locator). length ls) (c.in_ok-after.ensures.same ∙ c.as_slice.ensures.value ∙ sym c.as_slice-2.ensures.value),
+    )
