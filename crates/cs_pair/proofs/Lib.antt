@@ -1,0 +1,16 @@
+pub mod Roles
+pub mod Shown
+pub mod Leaving
+pub mod OnlyRead
+pub mod Holding
+pub mod Right
+pub mod Writing
+pub mod Over
+pub mod Opening
+pub mod Spelling
+pub mod Twins
+pub mod Tearing
+pub mod Unpaired
+pub mod Becoming
+pub mod Mending
+pub mod Telling
