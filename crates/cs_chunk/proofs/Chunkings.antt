@@ -1,17 +1,22 @@
--- The pieces that bytes are cut in are the chunks of a put, and their frames have these pages.
-use Rattle.std.proofs.Common.{◌≡◌, ◌≢◌, ◌∙◌, ℕ, zero, suc, ◌+◌, ◌-◌, ◌*◌, ◌<◌, ◌≤◌, ◌⊎◌, List, [], ◌∷◌, ◌++◌, length, take, drop, replicate, refl, sym, ap, subst, inl, inr, ⊎_elim, arith}
-use Rattle.std.specs.Prelude.{map}
+-- The pieces that bytes are cut in are those of a put, and their frames have these pages.
+use Rattle.std.proofs.Common.{le_of_eq, le_trans, mul-le-mul_right, ◌≡◌, ◌≢◌, ◌∙◌, ℕ, zero, suc, ◌+◌, ◌-◌, ◌*◌, ◌<◌, ◌≤◌, ◌⊎◌, Bool, true, false, if◌then◌else◌, List, [], ◌∷◌, ◌++◌, length, length-append, take, drop, replicate, refl, sym, ap, subst, inl, inr, ⊎_elim, arith}
+use Rattle.std.specs.Prelude.{map, max}
+use Rattle.std.specs.Int.{div_ceil}
+use Rattle.std.proofs.lemmas.Grind.{div_ceil_times}
 use Rattle.std.proofs.lemmas.List.{take-append-drop, length-take, length-take-le, length-drop, take_all, nil_from_length}
 use Rattle.cs_chunk.specs.declared.cuts.Cut.{Cut}
 use Rattle.cs_chunk.specs.Cuts.{IsCut, pages_of, pieces}
 use Rattle.cs_frame.specs.Formats.{formats_of}
 use Rattle.cs_frame.specs.Frames.{frame_bytes, page_count, spelled_frame}
+use Rattle.cs_frame.proofs.HeadLaws.{length-head}
 use Rattle.cs_frame.proofs.Pieces.{length-first_chunks}
 use Rattle.cs_model.specs.Append.{chunk_frames, page_counts}
 use Rattle.cs_model.specs.Device.{Shape}
-use Rattle.cs_model.specs.Events.{AllFullButLast, Chunked}
+use Rattle.cs_model.specs.Events.{AllFullButLast, ArePayloads, Chunked, with_heads}
+use Rattle.cs_model.specs.Geometry.{chunk_bytes_in, head_bytes_in}
 use Rattle.cs_model.specs.Index.{joined}
 use Rattle.cs_model.proofs.Chunks.{chunked_one}
+use Rattle.cs_model.proofs.Payloads.{payloads_one}
 
 pub length-spelled : (kind : ℕ) (payload : List ℕ) → length (spelled_frame kind payload) ≡ page_count (length payload)
 length-spelled kind payload = length-first_chunks 4096 (page_count (length payload)) (frame_bytes kind payload)
@@ -56,23 +61,69 @@ pub frames_are : (S : Shape) (cs : List (List ℕ)) → chunk_frames S (formats_
 frames_are S [] = refl
 frames_are S (c ∷ cs) = ap (λ fs. spelled_frame 0 c ∷ fs) (frames_are S cs)
 
-counts_are : (size pages : ℕ) → page_count size ≡ pages → (count : ℕ) (bytes : List ℕ) → length bytes ≤ suc count * size → count * size ≤ length bytes
-    → page_counts (map (spelled_frame 0) (pieces size (suc count) bytes)) ≡ replicate count pages ++ page_count (length bytes - count * size) ∷ []
-counts_are size pages full zero bytes enough least =
+pub length-pieces : (size count : ℕ) (bytes : List ℕ) → length (pieces size count bytes) ≡ count
+length-pieces size zero bytes = refl
+length-pieces size (suc count) bytes = ap suc (length-pieces size count (drop size bytes))
+
+-- the pages of the frame of a piece behind its head
+pub pages_of_piece : (S : Shape) (id number total command : ℕ) (piece : List ℕ)
+    → length (spelled_frame 0 ((formats_of S).head id number total command ++ piece)) ≡ page_count (head_bytes_in S.format + length piece)
+pages_of_piece S id number total command piece =
+    length-spelled 0 ((formats_of S).head id number total command ++ piece)
+    ∙ ap page_count (length-append ((formats_of S).head id number total command) piece
+    ∙ ap (λ n. n + length piece) (length-head S.format id number total command))
+
+counts_are : (S : Shape) (id total command size pages : ℕ) → page_count (head_bytes_in S.format + size) ≡ pages → (count number : ℕ) (bytes : List ℕ) → length bytes ≤ suc count * size → count * size ≤ length bytes
+    → page_counts (map (spelled_frame 0) (with_heads (formats_of S) id number total command (pieces size (suc count) bytes)))
+    ≡ replicate count pages ++ page_count (head_bytes_in S.format + (length bytes - count * size)) ∷ []
+counts_are S id total command size pages full zero number bytes enough least =
     let small : length bytes ≤ size = omega arith in
     let same : length bytes ≡ length bytes - 0 * size = omega arith in
-    ap (λ n. n ∷ []) (length-spelled 0 (take size bytes) ∙ ap (λ (xs : List ℕ). page_count (length xs)) (take_all size bytes small) ∙ ap page_count same)
-counts_are size pages full (suc count) bytes enough least =
+    ap (λ n. n ∷ []) (pages_of_piece S id number total command (take size bytes)
+    ∙ ap (λ (xs : List ℕ). page_count (head_bytes_in S.format + length xs)) (take_all size bytes small)
+    ∙ ap (λ n. page_count (head_bytes_in S.format + n)) same)
+counts_are S id total command size pages full (suc count) number bytes enough least =
     let more : suc (suc count) * size ≡ size + suc count * size = omega arith in
     let next : suc count * size ≡ size + count * size = omega arith in
     let front : length (take size bytes) ≡ size = length-take-le size bytes (omega (arith, next, least)) in
-    let rest = counts_are size pages full count (drop size bytes) (omega (arith, length-drop size bytes, more, enough)) (omega (arith, length-drop size bytes, next, least)) in
+    let rest = counts_are S id total command size pages full count (suc number) (drop size bytes) (omega (arith, length-drop size bytes, more, enough)) (omega (arith, length-drop size bytes, next, least)) in
     let left : length (drop size bytes) - count * size ≡ length bytes - suc count * size = omega (arith, length-drop size bytes, next) in
-    ap (λ n. n ∷ page_counts (map (spelled_frame 0) (pieces size (suc count) (drop size bytes)))) (length-spelled 0 (take size bytes) ∙ ap page_count front ∙ full)
-    ∙ ap (λ ns. pages ∷ ns) rest ∙ ap (λ n. pages ∷ (replicate count pages ++ page_count n ∷ [])) left
+    ap (λ n. n ∷ page_counts (map (spelled_frame 0) (with_heads (formats_of S) id (suc number) total command (pieces size (suc count) (drop size bytes)))))
+    (pages_of_piece S id number total command (take size bytes) ∙ ap (λ n. page_count (head_bytes_in S.format + n)) front ∙ full)
+    ∙ ap (λ ns. pages ∷ ns) rest ∙ ap (λ n. pages ∷ (replicate count pages ++ page_count (head_bytes_in S.format + n) ∷ [])) left
 
-module _ (S : Shape) (bytes : List ℕ) (cut : Cut) (is : IsCut S (length bytes) cut) (some_byte : 0 < cut.size) (size_is : S.chunk_bytes ≡ 4096 * S.pages - 41) where
-  pub cut_chunked : Chunked S.chunk_bytes bytes (pieces cut.size cut.count bytes)
+-- a full piece and its head take an extent
+full_pages : (head size pages : ℕ) → size ≡ 4096 * pages - (41 + head) → 0 < size → page_count (head + size) ≡ pages
+full_pages head size pages is some = omega (arith, is, some)
+
+-- what is left for the last piece is no more than a piece
+left_over : (length size count rounded : ℕ) → 0 < size → rounded ≡ div_ceil length size → count ≡ max rounded 1 → length - (count - 1) * size ≤ size
+left_over length size count rounded some is most =
+    let up : rounded ≤ count = omega (arith, most) in
+    let one : count ≡ suc (count - 1) = omega (arith, most) in
+    let whole : length ≤ rounded * size = subst (λ n. length ≤ n * size) (sym is) (div_ceil_times length size some).0 in
+    let times : rounded * size ≤ count * size = mul-le-mul_right size up in
+    let parts : count * size ≡ suc (count - 1) * size = ap (λ n. n * size) one in
+    let next : suc (count - 1) * size ≡ size + (count - 1) * size = omega arith in
+    omega (arith, whole, times, parts, next)
+
+-- so its frame fits on an extent, with its head
+fits_by : (b : Bool) (left size pages : ℕ) → 2 ≤ pages → size ≡ 4096 * pages - (41 + (if b then 26 else 0)) → left ≤ size → page_count ((if b then 26 else 0) + left) ≤ pages
+fits_by true left size pages some is low = omega (arith, some, is, low)
+fits_by false left size pages some is low = omega (arith, some, is, low)
+
+size_some : (b : Bool) (size pages : ℕ) → 2 ≤ pages → size ≡ 4096 * pages - (41 + (if b then 26 else 0)) → 0 < size
+size_some true size pages some is = omega (arith, some, is)
+size_some false size pages some is = omega (arith, some, is)
+
+pub last_fits : (b : Bool) (length size count rounded pages head last : ℕ) → 2 ≤ pages → size ≡ 4096 * pages - (41 + (if b then 26 else 0)) → head ≡ (if b then 26 else 0)
+    → rounded ≡ div_ceil length size → count ≡ max rounded 1 → last ≡ page_count (head + (length - (count - 1) * size)) → last ≤ pages
+last_fits b length size count rounded pages head last some is of rounds most pages_are =
+    le_trans (le_of_eq (pages_are ∙ ap (λ n. page_count (n + (length - (count - 1) * size))) of))
+    (fits_by b (length - (count - 1) * size) size pages some is (left_over length size count rounded (size_some b size pages some is) rounds most))
+
+module _ (S : Shape) (bytes : List ℕ) (cut : Cut) (is : IsCut S (length bytes) cut) (some_byte : 0 < cut.size) (size_is : S.chunk_bytes ≡ chunk_bytes_in S.format S.pages) where
+  cut_chunked : Chunked S.chunk_bytes bytes (pieces cut.size cut.count bytes)
   cut_chunked = (
     joined_pieces cut.size cut.count bytes is.enough,
     counted cut.count is.some,
@@ -86,22 +137,33 @@ module _ (S : Shape) (bytes : List ℕ) (cut : Cut) (is : IsCut S (length bytes)
       turned : (cut.count ≡ 1) ⊎ ((cut.count - 1) * cut.size < length bytes) → (cut.count ≡ 0) ⊎ ((cut.count - 1) * cut.size < length bytes) ⊎ (cut.count ≡ 1)
       turned h = ⊎_elim (λ (o : cut.count ≡ 1). inr (inr o)) (λ (l : (cut.count - 1) * cut.size < length bytes). inr (inl l)) h
 
-  pub cut_pages : page_counts (chunk_frames S (formats_of S) (pieces cut.size cut.count bytes)) ≡ pages_of cut
-  cut_pages =
-      let n : ℕ = cut.count - 1 in
+  -- the pieces behind their heads are the payloads of a put, and there are no others
+  pub cut_payloads : (id command : ℕ) → ArePayloads S (formats_of S) id command bytes (with_heads (formats_of S) id 0 cut.count command (pieces cut.size cut.count bytes))
+  cut_payloads id command = (
+    pieces cut.size cut.count bytes,
+    cut_chunked,
+    ap (λ n. with_heads (formats_of S) id 0 n command (pieces cut.size cut.count bytes)) (sym (length-pieces cut.size cut.count bytes)),
+  )
+
+  pub cut_only : (id command : ℕ) (cs : List (List ℕ)) → ArePayloads S (formats_of S) id command bytes cs → cs ≡ with_heads (formats_of S) id 0 cut.count command (pieces cut.size cut.count bytes)
+  cut_only id command cs are =
+      payloads_one S (formats_of S) id command bytes cs (with_heads (formats_of S) id 0 cut.count command (pieces cut.size cut.count bytes)) are (cut_payloads id command)
+
+  -- there are as many pieces as the cut counts
+  pub cut_count : (ps : List (List ℕ)) → Chunked S.chunk_bytes bytes ps → length ps ≡ cut.count
+  cut_count ps chunked = ap length (chunked_one S.chunk_bytes bytes ps (pieces cut.size cut.count bytes) chunked cut_chunked) ∙ length-pieces cut.size cut.count bytes
+
+  pub cut_pages : (id command : ℕ) → page_counts (chunk_frames S (formats_of S) (with_heads (formats_of S) id 0 cut.count command (pieces cut.size cut.count bytes))) ≡ pages_of cut
+  cut_pages id command =
       let same : cut.count ≡ suc (cut.count - 1) = omega (arith, is.some) in
-      let full : page_count cut.size ≡ cut.pages = omega (arith, is.size, is.pages, size_is, some_byte) in
+      let full : page_count (head_bytes_in S.format + cut.size) ≡ S.pages = full_pages (head_bytes_in S.format) cut.size S.pages (is.size ∙ size_is) some_byte in
       let enough : length bytes ≤ suc (cut.count - 1) * cut.size = subst (λ k. length bytes ≤ k * cut.size) same is.enough in
-      ap page_counts (frames_are S (pieces cut.size cut.count bytes))
-      ∙ ap (λ k. page_counts (map (spelled_frame 0) (pieces cut.size k bytes))) same
-      ∙ counts_are cut.size cut.pages full (cut.count - 1) bytes enough (least_of is.few)
+      ap page_counts (frames_are S (with_heads (formats_of S) id 0 cut.count command (pieces cut.size cut.count bytes)))
+      ∙ ap (λ k. page_counts (map (spelled_frame 0) (with_heads (formats_of S) id 0 cut.count command (pieces cut.size k bytes)))) same
+      ∙ counts_are S id cut.count command cut.size cut.pages (full ∙ sym is.pages) (cut.count - 1) 0 bytes enough (least_of is.few)
       ∙ ap (λ k. replicate (cut.count - 1) cut.pages ++ k ∷ []) (sym is.last)
     where
       least_of : (cut.count ≡ 1) ⊎ ((cut.count - 1) * cut.size < length bytes) → (cut.count - 1) * cut.size ≤ length bytes
       least_of h = ⊎_elim
           (λ (o : cut.count ≡ 1). let none : cut.count - 1 ≡ 0 = omega (arith, o) in let zeros : (cut.count - 1) * cut.size ≡ 0 = ap (λ k. k * cut.size) none ∙ (let z : 0 * cut.size ≡ 0 = omega arith in z) in omega (arith, zeros))
           (λ (l : (cut.count - 1) * cut.size < length bytes). omega (arith, l)) h
-
-  -- there are no other chunks
-  pub cut_only : (cs : List (List ℕ)) → Chunked S.chunk_bytes bytes cs → cs ≡ pieces cut.size cut.count bytes
-  cut_only cs chunked = chunked_one S.chunk_bytes bytes cs (pieces cut.size cut.count bytes) chunked cut_chunked

@@ -1,5 +1,5 @@
 -- What marks tell of chunks.
-use Rattle.std.proofs.Common.{◌≡◌, ◌≢◌, ◌∙◌, ◌⊎◌, ℕ, Bool, true, false, List, [], ◌∷◌, ◌++◌, bytes_eq, eqb-true, refl, sym, ap, inl, inr, ⊎_elim}
+use Rattle.std.proofs.Common.{◌≡◌, ◌≢◌, ◌∙◌, ◌⊎◌, ℕ, Bool, true, false, List, [], ◌∷◌, bytes_eq, eqb-true, refl, sym, ap₂, inl, inr, ⊎_elim}
 use Rattle.std.proofs.lemmas.Slice.Eq.{bytes_eq-Decides}
 use Rattle.cs_chunk.specs.Chunks.{AgreeInDigests, AreMeant, IsMeant}
 use Rattle.cs_extent.specs.State.{State, shape}
@@ -9,7 +9,6 @@ use Rattle.cs_frame.proofs.MarkLaws.{mark_of_frame, mark_of_pages, one_front}
 use Rattle.cs_model.specs.Device.{mark_of}
 use Rattle.cs_model.specs.Formats.{ChunkFrame}
 use Rattle.cs_model.specs.Geometry.{marks_in}
-use Rattle.cs_model.specs.Index.{joined}
 
 -- a place whose frame has this payload has its mark
 mark_is : (x : State) (l : Locator) (c : List ℕ) → marks_in x.format ≡ true → IsMeant (shape x) ChunkFrame l c → payload_mark c ≡ l.mark
@@ -37,11 +36,11 @@ same_or_not c d = go (bytes_eq c d) refl
     go true is = inl ((bytes_eq-Decides c d).0 is)
     go false is = inr (λ e. let on : bytes_eq c d ≡ true = (bytes_eq-Decides c d).1 e in cc (on, is))
 
-pub one_or_two : (cs ds : List (List ℕ)) → AgreeInDigests cs ds → (joined cs ≡ joined ds) ⊎ TwoAgree
+pub one_or_two : (cs ds : List (List ℕ)) → AgreeInDigests cs ds → (cs ≡ ds) ⊎ TwoAgree
 one_or_two [] [] are = inl refl
 one_or_two (c ∷ cs) (d ∷ ds) are = ⊎_elim
     (λ (same : c ≡ d). ⊎_elim
-    (λ (rest : joined cs ≡ joined ds). inl (ap (λ (ys : List ℕ). ys ++ joined cs) same ∙ ap (λ (ys : List ℕ). d ++ ys) rest))
+    (λ (rest : cs ≡ ds). inl (ap₂ (λ (y : List ℕ) (ys : List (List ℕ)). y ∷ ys) same rest))
     (λ (two : TwoAgree). inr two)
     (one_or_two cs ds are.1))
     (λ (other : c ≢ d). inr (c, d, other, are.0))

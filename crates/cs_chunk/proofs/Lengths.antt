@@ -1,11 +1,11 @@
 -- What first pages of frames tell.
-use Rattle.std.proofs.Common.{◌≡◌, ◌∙◌, ℕ, zero, suc, ◌+◌, ◌-◌, ◌^◌, ◌<◌, ◌≤◌, ◌⊎◌, Bool, true, false, List, [], ◌∷◌, ◌++◌, codes, length, length-append, take, drop, get_or, slice_get, slice_index, Option, Some, None, Result, Ok, Err, MatchResult, IfOk, refl, sym, ap, subst, inl, inr, ⊎_elim, arith, bytes_eq, nat_le, ◌==◌, take_all}
+use Rattle.std.proofs.Common.{◌≡◌, ◌∙◌, ℕ, zero, suc, ◌+◌, ◌-◌, ◌^◌, ◌<◌, ◌≤◌, ◌⊎◌, Bool, true, false, List, [], ◌∷◌, ◌++◌, codes, length, length-append, take, drop, get_or, slice_get, slice_index, Option, Some, None, Result, Ok, Err, MatchResult, IfOk, refl, sym, ap, ap₂, subst, inl, inr, ⊎_elim, arith, bytes_eq, nat_le, ◌==◌, take_all}
 use Rattle.std.specs.Simd.{first_chunks}
-use Rattle.std.proofs.lemmas.List.{take_more}
+use Rattle.std.proofs.lemmas.List.{length-drop, take_more}
 use Rattle.std.proofs.lemmas.List.Sums.{sum_by-append, sum_by-cons}
 use Rattle.std.proofs.lemmas.Option.{same_Some}
 use Rattle.cs_chunk.specs.Chunks.{AreChunksIn, IsFrameIn, end_in, kind_of}
-use Rattle.cs_chunk.specs.Lengths.{AreHeadersIn, IsHeaderRefusal, IsOfFaultOrMark, IsOfHeaderIn, header_fault_in, length_at, lengths_at}
+use Rattle.cs_chunk.specs.Lengths.{AreHeadersIn, IsHeaderRefusal, IsOfFaultOrMark, IsOfHeaderIn, body_length_at, header_fault_in, length_at, lengths_at}
 use Rattle.cs_chunk.specs.Newest.{AreNewest, IsReadAs}
 use Rattle.cs_chunk.specs.Reads.{AnswersFault, IsCaused, IsNoAnswer, IsOfFault, fault_in, pages_in, refusal_for}
 use Rattle.cs_chunk.proofs.Chunkings.{length-spelled}
@@ -31,8 +31,9 @@ use Rattle.cs_frame.specs.Pages.{version_test}
 use Rattle.cs_frame.proofs.Fields.{number_at}
 use Rattle.cs_frame.proofs.MarkLaws.{meant_finds, meant_passes, passes_meant}
 use Rattle.cs_frame.proofs.GeometryLaws.{bounds}
-use Rattle.cs_model.specs.Geometry.{mark_in}
-use Rattle.cs_model.specs.Index.{joined}
+use Rattle.cs_model.specs.Formats.{Formats}
+use Rattle.cs_model.specs.Geometry.{head_bytes_in, mark_in}
+use Rattle.cs_model.specs.Index.{joined_bodies}
 
 -- ---- the refusals of a header
 
@@ -175,15 +176,16 @@ module _ (x : State) (whole : IsWhole x) (view : ℕ → List ℕ) where
   headers_more [] l are is = (is, tt)
   headers_more (k ∷ ls) l are is = (are.0, headers_more ls l are.1 is)
 
-  lengths_more : (ls : List Locator) (l : Locator) → lengths_at (shape x) view (ls ++ l ∷ []) ≡ lengths_at (shape x) view ls + length_at (shape x) view l
-  lengths_more ls l = sum_by-append (length_at (shape x) view) ls (l ∷ []) ∙ ap (λ n. lengths_at (shape x) view ls + n) (sum_by-cons (length_at (shape x) view) l [] ∙ add_zero (length_at (shape x) view l))
+  lengths_more : (ls : List Locator) (l : Locator) → lengths_at (shape x) view (ls ++ l ∷ []) ≡ lengths_at (shape x) view ls + body_length_at (shape x) view l
+  lengths_more ls l = sum_by-append (body_length_at (shape x) view) ls (l ∷ []) ∙ ap (λ n. lengths_at (shape x) view ls + n) (sum_by-cons (body_length_at (shape x) view) l [] ∙ add_zero (body_length_at (shape x) view l))
 
-  pub told_more : (ls : List Locator) (k : ℕ) (l : Locator) (total n new : ℕ) → k < length ls → l ≡ get_or ls k l → AreTold x view ls k total → header_fault_in x view Chunk l ≡ None
-      → n ≡ length_at (shape x) view l → new ≡ total + n → AreTold x view ls (k + 1) new
-  told_more ls k l total n new lt at was is told added =
+  pub told_more : (ls : List Locator) (k : ℕ) (l : Locator) (total n head new : ℕ) → k < length ls → l ≡ get_or ls k l → AreTold x view ls k total → header_fault_in x view Chunk l ≡ None
+      → n ≡ length_at (shape x) view l → head ≡ head_bytes_in (shape x).format → new ≡ total + (n - head) → AreTold x view ls (k + 1) new
+  told_more ls k l total n head new lt at was is told of added =
       let longer : take (k + 1) ls ≡ take k ls ++ l ∷ [] = take_more ls k l lt ∙ ap (λ (m : Locator). take k ls ++ m ∷ []) (sym at) in (
         subst (AreHeadersIn x view) (sym longer) (headers_more (take k ls) l was.0 is),
-        (let count : total + n ≡ lengths_at (shape x) view (take k ls ++ l ∷ []) = omega (arith, was.1, told, lengths_more (take k ls) l) in
+        (let body : n - head ≡ body_length_at (shape x) view l = ap₂ (λ (a b : ℕ). a - b) told of in
+            let count : total + (n - head) ≡ lengths_at (shape x) view (take k ls ++ l ∷ []) = ap₂ (λ (a b : ℕ). a + b) was.1 body ∙ sym (lengths_more (take k ls) l) in
             added ∙ count ∙ ap (lengths_at (shape x) view) (sym longer)),
       )
 
@@ -198,18 +200,20 @@ module _ (x : State) (whole : IsWhole x) (view : ℕ → List ℕ) where
       (λ (f : IsOfFault (header_fault_in x view Chunk l) r). inr (k, l, at_place ls k l lt at, was.0, f))
       h
 
-  lengths_joined : (ls : List Locator) (cs : List (List ℕ)) → AreChunksIn x view ls cs → lengths_at (shape x) view ls ≡ length (joined cs)
+  lengths_joined : (ls : List Locator) (cs : List (List ℕ)) → AreChunksIn x view ls cs → lengths_at (shape x) view ls ≡ length (joined_bodies (formats_of (shape x)) cs)
   lengths_joined [] [] are = refl
   lengths_joined (l ∷ ls) (c ∷ cs) are =
-      let here : length_at (shape x) view l ≡ length c = length_there Chunk l c are.0 in
-      let rest : lengths_at (shape x) view ls ≡ length (joined cs) = lengths_joined ls cs are.1 in
-      sum_by-cons (length_at (shape x) view) l ls ∙ both _ _ _ _ here rest ∙ sym (length-append c (joined cs))
+      let F : Formats = formats_of (shape x) in
+      let here : body_length_at (shape x) view l ≡ length (F.body c) =
+      ap (λ n. n - head_bytes_in (shape x).format) (length_there Chunk l c are.0) ∙ sym (length-drop (head_bytes_in (shape x).format) c) in
+      let rest : lengths_at (shape x) view ls ≡ length (joined_bodies F cs) = lengths_joined ls cs are.1 in
+      sum_by-cons (body_length_at (shape x) view) l ls ∙ both _ _ _ _ here rest ∙ sym (length-append (F.body c) (joined_bodies F cs))
   lengths_joined [] (c ∷ cs) are = absurd are
   lengths_joined (l ∷ ls) [] are = absurd are
 
   -- what is there is told
   pub tells_all : (result : Result ℕ Refusal) (ls : List Locator) (cs : List (List ℕ))
-      → MatchResult result (λ n. AreHeadersIn x view ls × (n ≡ lengths_at (shape x) view ls)) (IsOfHeaderIn x view ls) → AreChunksIn x view ls cs → MatchResult result (λ n. n ≡ length (joined cs)) IsNoAnswer
+      → MatchResult result (λ n. AreHeadersIn x view ls × (n ≡ lengths_at (shape x) view ls)) (IsOfHeaderIn x view ls) → AreChunksIn x view ls cs → MatchResult result (λ n. n ≡ length (joined_bodies (formats_of (shape x)) cs)) IsNoAnswer
   tells_all (Ok n) ls cs was are = was.1 ∙ lengths_joined ls cs are
   tells_all (Err r) ls cs was are = ⊎_elim
       (λ (n : IsNoAnswer r). n)

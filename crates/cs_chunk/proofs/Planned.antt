@@ -1,9 +1,9 @@
--- What a cut that fits says of the chunks of a put.
-use Rattle.std.proofs.Common.{◌≡◌, ◌∙◌, ℕ, ◌*◌, ◌<◌, ◌⊎◌, Bool, List, length, refl, sym, ap, subst, ⊎_elim, arith}
+-- What a cut that fits says of the payloads of a put.
+use Rattle.std.proofs.Common.{◌≡◌, ◌∙◌, ℕ, ◌+◌, ◌-◌, ◌*◌, ◌<◌, ◌≤◌, ◌⊎◌, Bool, true, false, List, length, if◌then◌else◌, refl, sym, ap, subst, ⊎_elim, arith}
 use Rattle.std.specs.Prelude.{◌↔◌, Result, Err}
 use Rattle.cs_chunk.specs.declared.cuts.Cut.{Cut}
 use Rattle.cs_chunk.specs.Cuts.{IsCut, pages_of, pieces}
-use Rattle.cs_chunk.proofs.Chunkings.{cut_chunked, cut_only, cut_pages}
+use Rattle.cs_chunk.proofs.Chunkings.{cut_only, cut_pages, cut_payloads}
 use Rattle.cs_deps.specs.declared.refusals.Refusal.{Refusal}
 use Rattle.cs_deps.specs.declared.refusals.Refusal.TheVariants.{Full, TooLarge, WornOut}
 use Rattle.cs_deps.specs.Staging.{Staging}
@@ -12,10 +12,16 @@ use Rattle.cs_extent.specs.Worn.{AreWornBy}
 use Rattle.cs_frame.specs.Formats.{formats_of}
 use Rattle.cs_model.specs.Append.{chunk_frames, page_counts}
 use Rattle.cs_model.specs.Device.{Shape}
-use Rattle.cs_model.specs.Events.{Chunked}
+use Rattle.cs_model.specs.Events.{ArePayloads, with_heads}
 use Rattle.cs_model.specs.Extents.{FitsBy, ForPut}
+use Rattle.cs_model.specs.Geometry.{heads_in}
 
-module _ (apart : Bool) (x : State) (s : Staging) (bytes : List ℕ) (whole : IsWhole x) where
+-- a piece has a byte at least
+some_of : (b : Bool) (size pages : ℕ) → 2 ≤ pages → size ≡ 4096 * pages - (41 + (if b then 26 else 0)) → 0 < size
+some_of true size pages some is = omega (arith, some, is)
+some_of false size pages some is = omega (arith, some, is)
+
+module _ (apart : Bool) (x : State) (s : Staging) (id command : ℕ) (bytes : List ℕ) (whole : IsWhole x) where
   abbrev S : Shape
   S = shape x
 
@@ -23,34 +29,38 @@ module _ (apart : Bool) (x : State) (s : Staging) (bytes : List ℕ) (whole : Is
   abbrev pub counts : List (List ℕ) → List ℕ
   counts cs = page_counts (chunk_frames (shape x) (formats_of (shape x)) cs)
 
+  -- the payloads that a cut makes
+  abbrev pub payloads : Cut → List (List ℕ)
+  payloads cut = with_heads (formats_of (shape x)) id 0 cut.count command (pieces cut.size cut.count bytes)
+
   abbrev pub IsTooLarge : Type 0
   IsTooLarge = (shape x).most_chunks * (shape x).chunk_bytes < length bytes
 
   abbrev pub IsFull : Type 0
-  IsFull = (IsTooLarge → ⊥) × ((cs : List (List ℕ)) → Chunked (shape x).chunk_bytes bytes cs → FitsBy (shape x) apart (extents_of x) ForPut (counts cs) → ⊥)
+  IsFull = (IsTooLarge → ⊥) × ((cs : List (List ℕ)) → ArePayloads (shape x) (formats_of (shape x)) id command bytes cs → FitsBy (shape x) apart (extents_of x) ForPut (counts cs) → ⊥)
 
   abbrev pub IsPutOut : Type 0
-  IsPutOut = (IsTooLarge → ⊥) × ((cs : List (List ℕ)) × Chunked (shape x).chunk_bytes bytes cs × FitsBy (shape x) apart (extents_of x) ForPut (counts cs) × AreWornBy apart x s ForPut (counts cs))
+  IsPutOut = (IsTooLarge → ⊥) × ((cs : List (List ℕ)) × ArePayloads (shape x) (formats_of (shape x)) id command bytes cs × FitsBy (shape x) apart (extents_of x) ForPut (counts cs) × AreWornBy apart x s ForPut (counts cs))
 
   module _ (cut : Cut) (is : IsCut (shape x) (length bytes) cut) where
     some_byte : 0 < cut.size
-    some_byte = omega (arith, is.size, whole.geometry.fewest_pages)
+    some_byte = some_of (heads_in x.format) cut.size x.pages whole.geometry.fewest_pages is.size
 
-    pub chunked : Chunked (shape x).chunk_bytes bytes (pieces cut.size cut.count bytes)
-    chunked = cut_chunked (shape x) bytes cut is some_byte refl
+    pub chunked : ArePayloads (shape x) (formats_of (shape x)) id command bytes (payloads cut)
+    chunked = cut_payloads (shape x) bytes cut is some_byte refl id command
 
-    pub pages : counts (pieces cut.size cut.count bytes) ≡ pages_of cut
-    pages = cut_pages (shape x) bytes cut is some_byte refl
+    pub pages : counts (payloads cut) ≡ pages_of cut
+    pages = cut_pages (shape x) bytes cut is some_byte refl id command
 
-    pub one_cut : (cs : List (List ℕ)) → Chunked (shape x).chunk_bytes bytes cs → cs ≡ pieces cut.size cut.count bytes
-    one_cut = cut_only (shape x) bytes cut is some_byte refl
+    pub one_cut : (cs : List (List ℕ)) → ArePayloads (shape x) (formats_of (shape x)) id command bytes cs → cs ≡ payloads cut
+    one_cut = cut_only (shape x) bytes cut is some_byte refl id command
 
-    pub only : (cs : List (List ℕ)) → Chunked (shape x).chunk_bytes bytes cs → counts cs ≡ pages_of cut
+    pub only : (cs : List (List ℕ)) → ArePayloads (shape x) (formats_of (shape x)) id command bytes cs → counts cs ≡ pages_of cut
     only cs h = ap (λ (ds : List (List ℕ)). counts ds) (one_cut cs h) ∙ pages
 
     -- they fit, so it is not refused as full
     pub not_full : {T : Type 0} (r : Result T Refusal) → (r ≡ Err Full → ⊥) → FitsBy (shape x) apart (extents_of x) ForPut (pages_of cut) → (r ≡ Err Full) ↔ IsFull
-    not_full r never fits = ((λ e. absurd (never e)), (λ h. absurd (h.1 (pieces cut.size cut.count bytes) chunked (subst (λ ks. FitsBy (shape x) apart (extents_of x) ForPut ks) (sym pages) fits))))
+    not_full r never fits = ((λ e. absurd (never e)), (λ h. absurd (h.1 (payloads cut) chunked (subst (λ ks. FitsBy (shape x) apart (extents_of x) ForPut ks) (sym pages) fits))))
 
     -- no number is worn out, so it is not refused so
     pub not_worn_out : {T : Type 0} (r : Result T Refusal) → (r ≡ Err WornOut → ⊥) → (AreWornBy apart x s ForPut (pages_of cut) → ⊥) → (r ≡ Err WornOut) ↔ IsPutOut
@@ -75,7 +85,7 @@ module _ (apart : Bool) (x : State) (s : Staging) (bytes : List ℕ) (whole : Is
     worn_out e =
         let f = worn (is_err WornOut e) in (
           (λ t. let l : fitting ≡ Err TooLarge = large.1 t in absurd (cc (l, is_err WornOut e))),
-          (pieces f.0.size f.0.count bytes, chunked f.0 f.1, subst (λ ks. FitsBy (shape x) apart (extents_of x) ForPut ks) (sym (pages f.0 f.1)) f.2, subst (λ ks. AreWornBy apart x s ForPut ks) (sym (pages f.0 f.1)) f.3),
+          (payloads f.0, chunked f.0 f.1, subst (λ ks. FitsBy (shape x) apart (extents_of x) ForPut ks) (sym (pages f.0 f.1)) f.2, subst (λ ks. AreWornBy apart x s ForPut ks) (sym (pages f.0 f.1)) f.3),
         )
 
     out_full : IsFull → r ≡ Full

@@ -1,5 +1,5 @@
 -- A put that is planned and prepared.
-use Rattle.std.proofs.Common.{◌≡◌, ◌∙◌, ℕ, zero, suc, ◌+◌, ◌-◌, ◌≤◌, Bool, List, [], ◌∷◌, ◌++◌, length, drop, replicate, refl, sym, ap, subst, arith}
+use Rattle.std.proofs.Common.{◌≡◌, ◌∙◌, ℕ, zero, suc, ◌+◌, ◌-◌, ◌≤◌, Bool, List, [], ◌∷◌, ◌++◌, length, replicate, refl, sym, ap, subst, arith}
 use Rattle.std.specs.Prelude.{map, sum}
 use Rattle.std.specs.List.{AllByRecursion}
 use Rattle.std.proofs.lemmas.List.{length-map}
@@ -8,7 +8,7 @@ use Rattle.cs_chunk.specs.Chunks.{AreChunksIn}
 use Rattle.cs_chunk.specs.Cuts.{IsCut, pages_of, pieces}
 use Rattle.cs_chunk.specs.Newest.{AreNewest}
 use Rattle.cs_chunk.specs.Puts.{AreNewestFrames, IsPutSoFar, MayPut}
-use Rattle.cs_chunk.proofs.Chunkings.{frames_are}
+use Rattle.cs_chunk.proofs.Chunkings.{frames_are, length-pieces}
 use Rattle.cs_chunk.proofs.Planned.{chunked, one_cut, only, pages}
 use Rattle.cs_chunk.proofs.Putting.{appended_whatever, put_reads}
 use Rattle.cs_deps.specs.State.{State as Graph}
@@ -23,12 +23,10 @@ use Rattle.cs_frame.specs.Formats.{formats_of}
 use Rattle.cs_frame.specs.Frames.{spelled_frame}
 use Rattle.cs_model.specs.Append.{chunk_frames, page_counts}
 use Rattle.cs_model.specs.Device.{Shape}
-use Rattle.cs_model.specs.Events.{Chunked}
+use Rattle.cs_model.specs.Events.{ArePayloads, with_heads}
 use Rattle.cs_model.specs.Extents.{FitsBy, ForPut, Purpose as Reason}
-
-pub length-pieces : (size count : ℕ) (bytes : List ℕ) → length (pieces size count bytes) ≡ count
-length-pieces size zero bytes = refl
-length-pieces size (suc count) bytes = ap suc (length-pieces size count (drop size bytes))
+use Rattle.cs_model.specs.Formats.{Formats}
+use Rattle.cs_model.proofs.Payloads.{length_heads}
 
 length-frames : (S : Shape) (cs : List (List ℕ)) → length (chunk_frames S (formats_of S) cs) ≡ length cs
 length-frames S [] = refl
@@ -46,18 +44,26 @@ each_page zero p last most some le same = ((some, omega (arith, le, same)), tt)
 each_page (suc m) p last most some le same = ((omega (arith, some, le), omega (arith, same)), each_page m p last most some le same)
 
 -- as many frames are made as there are pieces
-pub frames_made : {V X : Type 0} (items : V → X) (f : List ℕ → X) (vs : List V) (size count : ℕ) (bytes : List ℕ) → map items vs ≡ map f (pieces size count bytes) → length vs ≡ count
-frames_made items f vs size count bytes same = sym (length-map vs items) ∙ ap length same ∙ length-map (pieces size count bytes) f ∙ length-pieces size count bytes
+length-payloads : (F : Formats) (id total command size count : ℕ) (bytes : List ℕ) → length (with_heads F id 0 total command (pieces size count bytes)) ≡ count
+length-payloads F id total command size count bytes = length_heads F id 0 total command (pieces size count bytes) ∙ length-pieces size count bytes
 
-module _ (apart : Bool) (x : State) (g k : Graph) (bytes : List ℕ) (whole : IsWhole x) (cut : Cut) (is : IsCut (shape x) (length bytes) cut) (same : k ≡ record g { room = k.room }) (fs : List (List (List ℕ))) (made : fs ≡ map (spelled_frame 0) (pieces cut.size cut.count bytes)) where
+pub frames_made : {V X : Type 0} (items : V → X) (f : List ℕ → X) (vs : List V) (F : Formats) (id total command size count : ℕ) (bytes : List ℕ)
+    → map items vs ≡ map f (with_heads F id 0 total command (pieces size count bytes)) → length vs ≡ count
+frames_made items f vs F id total command size count bytes same =
+    sym (length-map vs items) ∙ ap length same ∙ length-map (with_heads F id 0 total command (pieces size count bytes)) f ∙ length-payloads F id total command size count bytes
+
+module _ (apart : Bool) (x : State) (g k : Graph) (id command : ℕ) (bytes : List ℕ) (whole : IsWhole x) (cut : Cut) (is : IsCut (shape x) (length bytes) cut) (same : k ≡ record g { room = k.room }) (fs : List (List (List ℕ))) (made : fs ≡ map (spelled_frame 0) (with_heads (formats_of (shape x)) id 0 cut.count command (pieces cut.size cut.count bytes))) where
   abbrev cs : List (List ℕ)
-  cs = pieces cut.size cut.count bytes
+  cs = with_heads (formats_of (shape x)) id 0 cut.count command (pieces cut.size cut.count bytes)
 
-  frames : fs ≡ chunk_frames (shape x) (formats_of (shape x)) (pieces cut.size cut.count bytes)
-  frames = made ∙ sym (frames_are (shape x) (pieces cut.size cut.count bytes))
+  count_is : length cs ≡ cut.count
+  count_is = length-payloads (formats_of (shape x)) id cut.count command cut.size cut.count bytes
+
+  frames : fs ≡ chunk_frames (shape x) (formats_of (shape x)) cs
+  frames = made ∙ sym (frames_are (shape x) cs)
 
   pages_are : page_counts fs ≡ pages_of cut
-  pages_are = ap page_counts frames ∙ pages apart x g.staging bytes whole cut is
+  pages_are = ap page_counts frames ∙ pages apart x g.staging id command bytes whole cut is
 
   pub may_put : length g.staging.latest ≡ 1 + (shape x).sections → AreResetsStaged (extents_of x) g.staging → FitsBy (shape x) apart (extents_of x) ForPut (pages_of cut) → (AreWornBy apart x g.staging ForPut (pages_of cut) → ⊥) → cut.count + sum (pages_of cut) ≤ k.room → MayPut apart x k fs
   may_put families resets fits numbers room = subst (λ (h : Graph). MayPut apart x h fs) (sym same) (record {
@@ -69,30 +75,30 @@ module _ (apart : Bool) (x : State) (g k : Graph) (bytes : List ℕ) (whole : Is
     pages = subst (λ ks. AllByRecursion (λ n. (1 ≤ n) × (n ≤ x.pages)) ks) (sym pages_are) (each_page (cut.count - 1) cut.pages cut.last x.pages cut.least cut.most is.pages);
     fits = subst (λ ks. FitsBy (shape x) apart (extents_of x) ForPut ks) (sym pages_are) fits;
     numbers = λ worn. numbers (subst (λ ks. AreWornBy apart x g.staging ForPut ks) pages_are worn);
-    room = omega (arith, room, ap length frames, length-frames (shape x) (pieces cut.size cut.count bytes), length-pieces cut.size cut.count bytes, ap sum pages_are);
+    room = omega (arith, room, ap length frames, length-frames (shape x) cs, count_is, ap sum pages_are);
   })
 
   module _ (ls : List Locator) (y : State) (h : Graph) (done : IsPutSoFar apart x k fs [] ls y h) where
-    pub put_chunked : (ds : List (List ℕ)) × Chunked (shape x).chunk_bytes bytes ds × AreAppendedBy apart x g ForPut (chunk_frames (shape x) (formats_of (shape x)) ds) ls y h
+    pub put_chunked : (ds : List (List ℕ)) × ArePayloads (shape x) (formats_of (shape x)) id command bytes ds × AreAppendedBy apart x g ForPut (chunk_frames (shape x) (formats_of (shape x)) ds) ls y h
         × ((image : Image) (view : ℕ → List ℕ) → AreNewest h image view → AreChunksIn y view ls ds)
     put_chunked = (
-      pieces cut.size cut.count bytes,
-      chunked apart x g.staging bytes whole cut is,
+      cs,
+      chunked apart x g.staging id command bytes whole cut is,
       appended_whatever apart x g k ForPut _ ls y h same (subst (λ us. AreAppendedBy apart x k ForPut us ls y h) frames done.appended),
-      λ image view are. put_reads y h image view ls (pieces cut.size cut.count bytes) done.may.pointers are
-          (subst (λ (S : Shape). AreNewestFrames S (extents_of y) h ls (chunk_frames S (formats_of S) (pieces cut.size cut.count bytes))) (sym done.same_shape)
+      λ image view are. put_reads y h image view ls cs done.may.pointers are
+          (subst (λ (S : Shape). AreNewestFrames S (extents_of y) h ls (chunk_frames S (formats_of S) cs)) (sym done.same_shape)
           (subst (λ us. AreNewestFrames (shape x) (extents_of y) h ls us) frames done.newest)),
     )
 
     pub put_few : (1 ≤ length ls) × (length ls ≤ 8)
     put_few =
-        let count : length ls ≡ cut.count = count_places apart x k ForPut fs ls y h done.appended ∙ ap length frames ∙ length-frames (shape x) (pieces cut.size cut.count bytes) ∙ length-pieces cut.size cut.count bytes in
+        let count : length ls ≡ cut.count = count_places apart x k ForPut fs ls y h done.appended ∙ ap length frames ∙ length-frames (shape x) cs ∙ count_is in
         let most : cut.count ≤ 8 = is.most in
         (omega (arith, count, is.some), omega (arith, count, most))
 
-    pub put_room : g.room ≤ k.room → (ds : List (List ℕ)) → Chunked (shape x).chunk_bytes bytes ds → g.room ≤ h.room + (length ds + sum (page_counts (chunk_frames (shape x) (formats_of (shape x)) ds)))
+    pub put_room : g.room ≤ k.room → (ds : List (List ℕ)) → ArePayloads (shape x) (formats_of (shape x)) id command bytes ds → g.room ≤ h.room + (length ds + sum (page_counts (chunk_frames (shape x) (formats_of (shape x)) ds)))
     put_room kept ds is_chunked =
-        omega (arith, kept, done.room, ap length frames, length-frames (shape x) (pieces cut.size cut.count bytes), ap sum pages_are, ap sum (only apart x g.staging bytes whole cut is ds is_chunked), count_of ds is_chunked)
+        omega (arith, kept, done.room, ap length frames, length-frames (shape x) cs, ap sum pages_are, ap sum (only apart x g.staging id command bytes whole cut is ds is_chunked), count_of ds is_chunked)
       where
-        count_of : (ds : List (List ℕ)) → Chunked (shape x).chunk_bytes bytes ds → length ds ≡ length (pieces cut.size cut.count bytes)
-        count_of ds is_chunked = ap length (one_cut apart x g.staging bytes whole cut is ds is_chunked)
+        count_of : (ds : List (List ℕ)) → ArePayloads (shape x) (formats_of (shape x)) id command bytes ds → length ds ≡ length cs
+        count_of ds is_chunked = ap length (one_cut apart x g.staging id command bytes whole cut is ds is_chunked)

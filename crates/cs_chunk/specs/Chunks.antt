@@ -29,14 +29,14 @@ IsFrameIn x view kind l payload = (l.page + length ((formats_of (shape x)).frame
     × Stand (shape x) (formats_of (shape x)) view l.extent l.page ((formats_of (shape x)).frame kind payload)
     × IsMeant (shape x) kind l payload
 
--- these chunks have their frames at these places
+-- chunks with these payloads have their frames at these places
 abbrev pub AreChunksIn : State → (view : ℕ → List ℕ) → List Locator → (chunks : List (List ℕ)) → Type 0
 AreChunksIn x view [] [] = Unit {0}
 AreChunksIn x view (l ∷ ls) (c ∷ cs) = IsFrameIn x view ChunkFrame l c × AreChunksIn x view ls cs
 AreChunksIn x view [] (c ∷ cs) = ⊥
 AreChunksIn x view (l ∷ ls) [] = ⊥
 
--- the frames of these chunks are those that these places mean
+-- the frames of chunks with these payloads are those that these places mean
 abbrev pub AreMeant : Shape → List Locator → (chunks : List (List ℕ)) → Type 0
 AreMeant S [] [] = Unit {0}
 AreMeant S (l ∷ ls) (c ∷ cs) = IsMeant S ChunkFrame l c × AreMeant S ls cs

@@ -1,15 +1,16 @@
 -- How the bytes of a put are cut.
-use Rattle.std.specs.Prelude.{◌≡◌, ◌⊎◌, ◌-◌, ◌*◌, ◌<◌, ◌≤◌, ◌++◌, ℕ, zero, suc, List, [], ◌∷◌, drop, replicate, take}
+use Rattle.std.specs.Prelude.{◌≡◌, ◌⊎◌, ◌+◌, ◌-◌, ◌*◌, ◌<◌, ◌≤◌, ◌++◌, ℕ, zero, suc, List, [], ◌∷◌, drop, replicate, take}
 use Rattle.cs_chunk.specs.declared.cuts.Cut.{Cut}
 use Rattle.cs_frame.specs.Frames.{page_count}
 use Rattle.cs_model.specs.Device.{Shape}
+use Rattle.cs_model.specs.Geometry.{head_bytes_in}
 
 -- so many pieces of this size, in order, of which the last may be shorter
 abbrev pub pieces : (size count : ℕ) → List ℕ → List (List ℕ)
 pieces size zero bytes = []
 pieces size (suc count) bytes = take size bytes ∷ pieces size count (drop size bytes)
 
--- the pages of the frames of a cut: all but the last have as many as an extent
+-- the pages of the frames of a cut, each with its head: all but the last have as many as an extent
 abbrev pub pages_of : Cut → List ℕ
 pages_of cut = replicate (cut.count - 1) cut.pages ++ cut.last ∷ []
 
@@ -21,4 +22,4 @@ pub record IsCut (S : Shape) (length : ℕ) (cut : Cut) : Type 0 where
   pub some : 1 ≤ cut.count
   pub enough : length ≤ cut.count * cut.size
   pub few : (cut.count ≡ 1) ⊎ ((cut.count - 1) * cut.size < length)
-  pub last : cut.last ≡ page_count (length - (cut.count - 1) * cut.size)
+  pub last : cut.last ≡ page_count (head_bytes_in S.format + (length - (cut.count - 1) * cut.size))

@@ -12,6 +12,7 @@ use Rattle.cs_frame.specs.declared.frames.FrameKind.TheVariants.{Chunk}
 use Rattle.cs_frame.specs.declared.locators.Locator.{Locator}
 use Rattle.cs_frame.specs.Frames.{kind_byte, meant_header_fault, payload_length}
 use Rattle.cs_model.specs.Device.{Shape}
+use Rattle.cs_model.specs.Geometry.{head_bytes_in}
 
 -- the first test that fails of the header at a place in these extents, the last of which is that its frame is the one that l means
 abbrev pub header_fault_in : State → (view : ℕ → List ℕ) → FrameKind → Locator → Option FormatFault
@@ -34,9 +35,13 @@ IsOfFaultOrMark found r = IsOfFault found r ⊎ ((r ≡ Misplaced) × (found ≢
 abbrev pub AreHeadersIn : State → (view : ℕ → List ℕ) → List Locator → Type 0
 AreHeadersIn x view ls = AllByRecursion (λ l. header_fault_in x view Chunk l ≡ None) ls
 
--- the lengths that the headers at these places say, together
+-- how many bytes of a shard the chunk at a place has by what its header says: those behind its head
+abbrev pub body_length_at : Shape → (view : ℕ → List ℕ) → Locator → ℕ
+body_length_at S view l = length_at S view l - head_bytes_in S.format
+
+-- how many the chunks at these places have so together
 abbrev pub lengths_at : Shape → (view : ℕ → List ℕ) → List Locator → ℕ
-lengths_at S view ls = sum_by (length_at S view) ls
+lengths_at S view ls = sum_by (body_length_at S view) ls
 
 -- The headers before place k are there, and the refusal is that of the header at k; or the device or memory refused.
 abbrev pub IsOfHeaderIn : State → (view : ℕ → List ℕ) → List Locator → Refusal → Type 0

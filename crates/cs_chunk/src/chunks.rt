@@ -3,24 +3,28 @@ ghost use Rattle.std.specs.Prelude.{◌≡◌, ◌↔◌, ◌*◌, ◌+◌, ◌-
 ghost use Rattle.cs_chunk.specs.Cuts.{IsCut, pages_of, pieces};
 ghost use Rattle.cs_extent.specs.State.{IsWhole, extents_of, shape};
 ghost use Rattle.cs_extent.specs.Worn.{AreWornBy};
+ghost use Rattle.cs_frame.specs.Formats.{formats_of};
 ghost use Rattle.cs_frame.specs.Frames.{spelled_frame};
+ghost use Rattle.cs_frame.specs.Identifiers.{id_number};
+ghost use Rattle.cs_model.specs.Events.{with_heads};
 ghost use Rattle.cs_model.specs.Extents.{FitsBy, ForPut};
 
 use crate::cuts::Cut;
+use crate::reads::format_of;
 use cs_deps::Graph;
 use cs_extent::{Extents, Purpose};
-use cs_frame::{FrameKind, encode_frame, frame_pages};
+use cs_frame::{ChunkHead, ShardId, encode_chunk, frame_pages, head_bytes};
 use std::alloc::{AllocError, Global};
 
 /// The most chunks of a shard.
 const MOST_CHUNKS: usize = 8;
 
-/// The most bytes of a chunk.
+/// The greatest piece of a shard in one chunk, in bytes.
 fn chunk_bytes(extents: &Extents) -> usize
     ensures bytes { result ≡ (shape extents.now).chunk_bytes }
     ensures whole { IsWhole extents.now }
 {
-    extents.geometry().payload_bytes()
+    extents.geometry().chunk_bytes()
 }
 
 /// The most bytes of a shard.
@@ -45,7 +49,7 @@ impl Cut {
             size,
             count,
             pages: extents.extent_pages(),
-            last: frame_pages(length - (count - 1) * size),
+            last: frame_pages(head_bytes(format_of(extents)) + (length - (count - 1) * size)),
         })
     }
 
@@ -106,21 +110,32 @@ fn are_worn(extents: &Extents, graph: &Graph, frame_pages: &[usize], apart: bool
     extents.are_worn(graph, frame_pages, Purpose::Put)
 }
 
-/// The frames of chunks, cut off the bytes one after another.
+/// The frames of the chunks of a put that is this command: the pieces are cut off the bytes one after another, and each goes behind its
+/// head, where the format has heads.
 pub fn encode_chunks(
     alloc: Global,
+    extents: &Extents,
+    id: ShardId,
+    command: u64,
     bytes: &[u8],
-    size: usize,
-    count: usize,
+    cut: Cut,
 ) -> Result<Vec<Vec<[u8; 4096]>>, AllocError>
-    requires { size < 2 ^ 32 }
-    ensures { IfOk result (λ frames. map (λ f. f.items) frames.items ≡ map (spelled_frame 0) (pieces size count bytes.now)) }
+    requires { cut.size < 2 ^ 31 }
+    ensures { IfOk result (λ frames. map (λ f. f.items) frames.items
+        ≡ map (spelled_frame 0) (with_heads (formats_of (shape extents.now)) (id_number id) 0 cut.count command (pieces cut.size cut.count bytes.now))) }
 {
-    let mut frames = Vec::with_capacity(alloc, count)?;
+    let format = format_of(extents);
+    let mut frames = Vec::with_capacity(alloc, cut.count)?;
     let mut rest = bytes;
-    for _ in 0..count {
-        let (chunk, behind) = rest.split_at(size.min(rest.len()));
-        frames.push(encode_frame(alloc, FrameKind::Chunk, chunk)?)?;
+    for number in 0..cut.count {
+        let (piece, behind) = rest.split_at(cut.size.min(rest.len()));
+        let head = ChunkHead {
+            id,
+            number: number as u8,
+            count: cut.count as u8,
+            command,
+        };
+        frames.push(encode_chunk(alloc, format, head, piece)?)?;
         rest = behind;
     }
     Ok(frames)

@@ -13,7 +13,6 @@ ghost use Rattle.cs_frame.specs.Frames.{digest_front};
 ghost use Rattle.cs_model.specs.Extents.{Extents as Given, Purpose, emptied};
 ghost use Rattle.cs_model.specs.Formats.{Stand};
 ghost use Rattle.cs_model.specs.Geometry.{marks_in};
-ghost use Rattle.cs_model.specs.Index.{joined};
 
 /// Each page reads as one list of bytes.
 pub fn pages_have_one_newest()
@@ -36,12 +35,12 @@ pub fn what_was_put_stays()
     ensures reset { (x : Given) (e root : ℕ) (k : Place) (old : List (List ℕ)) → k.extent ≢ e → IsBelow x k old → IsBelow (emptied x e root) k old }
 {}
 
-/// In a format that has marks, chunks that the same places mean have digests that begin with the same eight bytes, chunk by chunk: so the
-/// bytes are the same, or two different texts agree in eight bytes of their digests. What is read at the places of chunks that were put is
+/// In a format that has marks, chunks that the same places mean have digests that begin with the same eight bytes, chunk by chunk: so their
+/// payloads are the same, or two different texts agree in eight bytes of their digests. What is read at the places of chunks that were put is
 /// what was put, so far, whatever the disk answers.
 pub fn places_tell_digests()
     ensures digests { (x : State) (ls : List Place) (cs ds : List (List ℕ)) → marks_in x.format ≡ true
         → AreMeant (shape x) ls cs → AreMeant (shape x) ls ds → AgreeInDigests cs ds }
     ensures bytes { (cs ds : List (List ℕ)) → AgreeInDigests cs ds
-        → (joined cs ≡ joined ds) ⊎ ((c d : List ℕ) × (c ≢ d) × (digest_front c ≡ digest_front d)) }
+        → (cs ≡ ds) ⊎ ((c d : List ℕ) × (c ≢ d) × (digest_front c ≡ digest_front d)) }
 {}

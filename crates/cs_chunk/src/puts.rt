@@ -13,16 +13,17 @@ ghost use Rattle.cs_extent.specs.State.{IsWhole, extents_of, shape};
 ghost use Rattle.cs_extent.specs.Worn.{AreWorn, AreWornBy, IsFrameWornBy};
 ghost use Rattle.cs_frame.specs.Formats.{formats_of};
 ghost use Rattle.cs_frame.specs.Frames.{spelled_frame};
+ghost use Rattle.cs_frame.specs.Identifiers.{id_number};
 ghost use Rattle.cs_frame.specs.Places.{HasPlaceFor};
 ghost use Rattle.cs_model.specs.Append.{chunk_frames, page_counts};
-ghost use Rattle.cs_model.specs.Events.{Chunked};
+ghost use Rattle.cs_model.specs.Events.{ArePayloads, with_heads};
 ghost use Rattle.cs_model.specs.Extents.{Fits, FitsBy, ForPut, Goes};
 
 use crate::chunks::encode_chunks;
 use crate::cuts::Cut;
 use cs_deps::{Dependency, Graph, Refusal};
 use cs_extent::{Extents, Purpose};
-use cs_frame::{Locator, Places};
+use cs_frame::{Locator, Places, ShardId};
 use std::alloc::{AllocError, Global};
 
 /// How the bytes of a put are cut, where chunks and runs lie apart or not. Refused 31 `TooLarge`, then 30 `Full`, then 35 `WornOut`;
@@ -131,18 +132,21 @@ fn prepare(
     alloc: Global,
     extents: &Extents,
     graph: &mut Graph,
+    id: ShardId,
+    command: u64,
     bytes: &[u8],
     cut: Cut,
 ) -> Result<(Vec<Vec<[u8; 4096]>>, Places), AllocError>
-    requires { cut.size < 2 ^ 32 }
-    ensures frames { IfOk result (λ made. map (λ f. f.items) made.0.items ≡ map (spelled_frame 0) (pieces cut.size cut.count bytes.now)) }
+    requires { cut.size < 2 ^ 31 }
+    ensures frames { IfOk result (λ made. map (λ f. f.items) made.0.items
+        ≡ map (spelled_frame 0) (with_heads (formats_of (shape extents.now)) (id_number id) 0 cut.count command (pieces cut.size cut.count bytes.now))) }
     ensures places { IfOk result (λ made. made.1.items ≡ []) }
     ensures capacity { IfOk result (λ made. HasPlaceFor made.1 cut.count) }
     ensures room { OnOk result (cut.count + sum (pages_of cut) ≤ graph.new.room) }
     ensures kept { graph.old.room ≤ graph.new.room }
     ensures rest { graph.new ≡ record graph.old { room = graph.new.room } }
 {
-    let frames = encode_chunks(alloc, bytes, cut.size, cut.count)?;
+    let frames = encode_chunks(alloc, extents, id, command, bytes, cut)?;
     let places = Places::with_room(alloc, cut.count)?;
     extents.reserve(graph, cut.count, cut.all_pages())?;
     Ok((frames, places))
@@ -153,13 +157,15 @@ pub fn put_chunks(
     alloc: Global,
     extents: &mut Extents,
     graph: &mut Graph,
+    id: ShardId,
+    command: u64,
     bytes: &[u8],
 ) -> Result<Places, Refusal>
     requires families { length graph.old.staging.latest ≡ 1 + (shape extents.old).sections }
     requires resets { AreResetsStaged (extents_of extents.old) graph.old.staging }
 
     // The frames of the chunks are appended, and read back.
-    ensures chunks { IfOk result (λ ls. (cs : List (List ℕ)) × Chunked (shape extents.old).chunk_bytes bytes.now cs
+    ensures chunks { IfOk result (λ ls. (cs : List (List ℕ)) × ArePayloads (shape extents.old) (formats_of (shape extents.old)) (id_number id) command bytes.now cs
         × AreAppended extents.old graph.old ForPut (chunk_frames (shape extents.old) (formats_of (shape extents.old)) cs) ls.items extents.new graph.new
         × ((image : Image) (view : ℕ → List ℕ) → AreNewest graph.new image view → AreChunksIn extents.new view ls.items cs)) }
     ensures few { IfOk result (λ ls. (1 ≤ length ls.items) × (length ls.items ≤ 8)) }
@@ -167,10 +173,10 @@ pub fn put_chunks(
 
     ensures too_large { (result ≡ Err Refusal.TooLarge) ↔ ((shape extents.old).most_chunks * (shape extents.old).chunk_bytes < length bytes.now) }
     ensures full { (result ≡ Err Refusal.Full) ↔ (¬ ((shape extents.old).most_chunks * (shape extents.old).chunk_bytes < length bytes.now)
-        × ((cs : List (List ℕ)) → Chunked (shape extents.old).chunk_bytes bytes.now cs
+        × ((cs : List (List ℕ)) → ArePayloads (shape extents.old) (formats_of (shape extents.old)) (id_number id) command bytes.now cs
         → ¬ Fits (shape extents.old) (extents_of extents.old) ForPut (page_counts (chunk_frames (shape extents.old) (formats_of (shape extents.old)) cs)))) }
     ensures worn { (result ≡ Err Refusal.WornOut) ↔ (¬ ((shape extents.old).most_chunks * (shape extents.old).chunk_bytes < length bytes.now)
-        × ((cs : List (List ℕ)) × Chunked (shape extents.old).chunk_bytes bytes.now cs
+        × ((cs : List (List ℕ)) × ArePayloads (shape extents.old) (formats_of (shape extents.old)) (id_number id) command bytes.now cs
         × Fits (shape extents.old) (extents_of extents.old) ForPut (page_counts (chunk_frames (shape extents.old) (formats_of (shape extents.old)) cs))
         × AreWorn extents.old graph.old.staging ForPut (page_counts (chunk_frames (shape extents.old) (formats_of (shape extents.old)) cs)))) }
     ensures refusals { IfErr result (λ r. (r ≡ Refusal.TooLarge) ⊎ (r ≡ Refusal.Full) ⊎ (r ≡ Refusal.WornOut) ⊎ (r ≡ Refusal.OutOfMemory)) }
@@ -183,22 +189,25 @@ pub fn put_chunks(
 
     // What is used up of the room: one staging a page, and one a frame.
     ensures kept { OnErr result (graph.old.room ≤ graph.new.room) }
-    ensures room { (cs : List (List ℕ)) → Chunked (shape extents.old).chunk_bytes bytes.now cs
+    ensures room { (cs : List (List ℕ)) → ArePayloads (shape extents.old) (formats_of (shape extents.old)) (id_number id) command bytes.now cs
         → graph.old.room ≤ graph.new.room + (length cs + sum (page_counts (chunk_frames (shape extents.old) (formats_of (shape extents.old)) cs))) }
 {
-    put_chunks_by(alloc, extents, graph, bytes, false)
+    put_chunks_by(alloc, extents, graph, id, command, bytes, false)
 }
 
-/// Cuts bytes in chunks, one at least, all but the last as long as may be, and appends a frame of each for a put.
-/// Answers where the frames begin, in order. Chunks and runs lie apart or not.
+/// Cuts the bytes that a command puts in pieces, one at least, all but the last as long as may be, and appends a chunk's frame of each.
+/// Where the format has heads each says the identifier, the chunk's number, how many there are, and the number of the command. Answers
+/// where the frames begin, in order. Chunks and runs lie apart or not.
 ///
-/// A chunk has 4,096 bytes for each page of an extent, less 41, and there are at most eight: 31 `TooLarge` for more
+/// A chunk has 4,096 bytes for each page of an extent, less 41 and less 26 for its head, and there are at most eight: 31 `TooLarge` for more
 /// bytes. 30 `Full` where the frames find no places, 35 `WornOut` where a number would pass 2^63 - 1. Memory is
 /// asked for last, for the pages of all frames: 9 `OutOfMemory`. After a refusal nothing is staged.
 pub fn put_chunks_by(
     alloc: Global,
     extents: &mut Extents,
     graph: &mut Graph,
+    id: ShardId,
+    command: u64,
     bytes: &[u8],
     apart: bool,
 ) -> Result<Places, Refusal>
@@ -206,7 +215,7 @@ pub fn put_chunks_by(
     requires resets { AreResetsStaged (extents_of extents.old) graph.old.staging }
 
     // The frames of the chunks are appended, and read back.
-    ensures chunks { IfOk result (λ ls. (cs : List (List ℕ)) × Chunked (shape extents.old).chunk_bytes bytes.now cs
+    ensures chunks { IfOk result (λ ls. (cs : List (List ℕ)) × ArePayloads (shape extents.old) (formats_of (shape extents.old)) (id_number id) command bytes.now cs
         × AreAppendedBy apart extents.old graph.old ForPut (chunk_frames (shape extents.old) (formats_of (shape extents.old)) cs) ls.items extents.new graph.new
         × ((image : Image) (view : ℕ → List ℕ) → AreNewest graph.new image view → AreChunksIn extents.new view ls.items cs)) }
     ensures few { IfOk result (λ ls. (1 ≤ length ls.items) × (length ls.items ≤ 8)) }
@@ -214,10 +223,10 @@ pub fn put_chunks_by(
 
     ensures too_large { (result ≡ Err Refusal.TooLarge) ↔ ((shape extents.old).most_chunks * (shape extents.old).chunk_bytes < length bytes.now) }
     ensures full { (result ≡ Err Refusal.Full) ↔ (¬ ((shape extents.old).most_chunks * (shape extents.old).chunk_bytes < length bytes.now)
-        × ((cs : List (List ℕ)) → Chunked (shape extents.old).chunk_bytes bytes.now cs
+        × ((cs : List (List ℕ)) → ArePayloads (shape extents.old) (formats_of (shape extents.old)) (id_number id) command bytes.now cs
         → ¬ FitsBy (shape extents.old) apart (extents_of extents.old) ForPut (page_counts (chunk_frames (shape extents.old) (formats_of (shape extents.old)) cs)))) }
     ensures worn { (result ≡ Err Refusal.WornOut) ↔ (¬ ((shape extents.old).most_chunks * (shape extents.old).chunk_bytes < length bytes.now)
-        × ((cs : List (List ℕ)) × Chunked (shape extents.old).chunk_bytes bytes.now cs
+        × ((cs : List (List ℕ)) × ArePayloads (shape extents.old) (formats_of (shape extents.old)) (id_number id) command bytes.now cs
         × FitsBy (shape extents.old) apart (extents_of extents.old) ForPut (page_counts (chunk_frames (shape extents.old) (formats_of (shape extents.old)) cs))
         × AreWornBy apart extents.old graph.old.staging ForPut (page_counts (chunk_frames (shape extents.old) (formats_of (shape extents.old)) cs)))) }
     ensures refusals { IfErr result (λ r. (r ≡ Refusal.TooLarge) ⊎ (r ≡ Refusal.Full) ⊎ (r ≡ Refusal.WornOut) ⊎ (r ≡ Refusal.OutOfMemory)) }
@@ -230,14 +239,14 @@ pub fn put_chunks_by(
 
     // What is used up of the room: one staging a page, and one a frame.
     ensures kept { OnErr result (graph.old.room ≤ graph.new.room) }
-    ensures room { (cs : List (List ℕ)) → Chunked (shape extents.old).chunk_bytes bytes.now cs
+    ensures room { (cs : List (List ℕ)) → ArePayloads (shape extents.old) (formats_of (shape extents.old)) (id_number id) command bytes.now cs
         → graph.old.room ≤ graph.new.room + (length cs + sum (page_counts (chunk_frames (shape extents.old) (formats_of (shape extents.old)) cs))) }
 {
     let cut = match fitting_cut(extents, graph, bytes.len(), apart) {
         Ok(cut) => cut,
         Err(refusal) => return Err(refusal),
     };
-    match prepare(alloc, extents, graph, bytes, cut) {
+    match prepare(alloc, extents, graph, id, command, bytes, cut) {
         Ok((frames, mut places)) => {
             append_all(extents, graph, &frames, &mut places, apart);
             Ok(places)
@@ -249,23 +258,23 @@ pub fn put_chunks_by(
 /// As `put_fits_by`, where chunks and runs may lie on one extent.
 pub fn put_fits(extents: &Extents, bytes: &[u8]) -> bool
     requires { ¬ ((shape extents.now).most_chunks * (shape extents.now).chunk_bytes < length bytes.now) }
-    ensures { MatchBool result
-        ((cs : List (List ℕ)) × Chunked (shape extents.now).chunk_bytes bytes.now cs
+    ensures { (id command : ℕ) → MatchBool result
+        ((cs : List (List ℕ)) × ArePayloads (shape extents.now) (formats_of (shape extents.now)) id command bytes.now cs
         × Fits (shape extents.now) (extents_of extents.now) ForPut (page_counts (chunk_frames (shape extents.now) (formats_of (shape extents.now)) cs)))
-        ((cs : List (List ℕ)) → Chunked (shape extents.now).chunk_bytes bytes.now cs
+        ((cs : List (List ℕ)) → ArePayloads (shape extents.now) (formats_of (shape extents.now)) id command bytes.now cs
         → ¬ Fits (shape extents.now) (extents_of extents.now) ForPut (page_counts (chunk_frames (shape extents.now) (formats_of (shape extents.now)) cs))) }
 {
     put_fits_by(extents, bytes, false)
 }
 
 /// Whether the frames of the chunks of these bytes, which are not too many, find places for a put: false where `put_chunks_by`
-/// would answer 30 `Full`. Chunks and runs lie apart or not. Takes no memory.
+/// would answer 30 `Full`, whatever the identifier and the command. Chunks and runs lie apart or not. Takes no memory.
 pub fn put_fits_by(extents: &Extents, bytes: &[u8], apart: bool) -> bool
     requires { ¬ ((shape extents.now).most_chunks * (shape extents.now).chunk_bytes < length bytes.now) }
-    ensures { MatchBool result
-        ((cs : List (List ℕ)) × Chunked (shape extents.now).chunk_bytes bytes.now cs
+    ensures { (id command : ℕ) → MatchBool result
+        ((cs : List (List ℕ)) × ArePayloads (shape extents.now) (formats_of (shape extents.now)) id command bytes.now cs
         × FitsBy (shape extents.now) apart (extents_of extents.now) ForPut (page_counts (chunk_frames (shape extents.now) (formats_of (shape extents.now)) cs)))
-        ((cs : List (List ℕ)) → Chunked (shape extents.now).chunk_bytes bytes.now cs
+        ((cs : List (List ℕ)) → ArePayloads (shape extents.now) (formats_of (shape extents.now)) id command bytes.now cs
         → ¬ FitsBy (shape extents.now) apart (extents_of extents.now) ForPut (page_counts (chunk_frames (shape extents.now) (formats_of (shape extents.now)) cs))) }
 {
     // Called for its contract alone: what all extents keep.

@@ -90,7 +90,7 @@ fn page_number(extents: &Extents, locator: Locator) -> u64
 }
 
 /// The format of the store.
-fn format_of(extents: &Extents) -> u8
+pub(crate) fn format_of(extents: &Extents) -> u8
     ensures { result ≡ (shape extents.now).format }
 {
     extents.geometry().format()

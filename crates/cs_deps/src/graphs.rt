@@ -472,6 +472,14 @@ impl Graph {
         self.latest[family]
     }
 
+    /// The greatest version of a family that is persistent; at most 2^63 - 1.
+    pub fn persistent_version(&self, family: usize) -> u64
+        requires { family < length self.now.staging.latest }
+        ensures { result ≡ slice_index self.now.staging.pending.persistent family }
+    {
+        self.persistent[family]
+    }
+
     /// Whether a round is out: taken, and not yet settled.
     pub fn is_out(&self) -> bool
         ensures { IsTrue result ↔ IsSome self.now.round }

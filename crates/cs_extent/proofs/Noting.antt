@@ -9,7 +9,7 @@ use Rattle.cs_model.specs.Device.{Shape, mark_of}
 use Rattle.cs_model.specs.Extents.{Extents, ForMerge, ForMove, ForPut, ForRun, GoesApart, Purpose as Reason, emptied, forgotten, marked, noted_by, of_runs_by, other_than, taken}
 use Rattle.cs_model.specs.Lists.{with}
 use Rattle.cs_extent.specs.Appended.{IsAppendedBy}
-use Rattle.cs_extent.specs.Frames.{AddsOnlyOf, AreWritten, IsFrameStaged, IsOfFrame, family_of, next_place, next_section}
+use Rattle.cs_extent.specs.Frames.{AddsOnlyOf, AreWritten, IsFrameStaged, IsOfFrame, family_of, next_place, next_section, root_recorded}
 use Rattle.cs_extent.specs.Notes.{fresh_noted, is_of_run, last_noted, noted_in, open_noted}
 use Rattle.cs_extent.specs.State.{IsWhole, SpellsExtents, State, extents_of, need_of, shape}
 use Rattle.cs_extent.proofs.Changes.{reset_extents, written_at}
@@ -198,7 +198,7 @@ pub noted_append : (x : State) (g : GraphState) (r : Reason) (frame : List (List
     → IsFrameStaged g.staging h.staging (shape x).pages_first (shape x).sections ((shape x).section e) (length frame) ((extents_of x).reset e) (need_of x ((shape x).section e))
     → AreWritten h g.staging.staged (length frame) (λ i. (shape x).address e ((extents_of x).pointer e + i)) frame
     → ((page : List ℕ) × (write_of h (next_section g.staging ((shape x).section e)) ≡ Some ((shape x).section_page ((shape x).section e), page))
-    × SpellsExtents mid ((shape x).section e) (slice_index g.staging.latest (family_of ((shape x).section e)) + 1) page)
+    × SpellsExtents mid ((shape x).section e) (slice_index g.staging.latest (family_of ((shape x).section e)) + 1) (root_recorded (shape x).format g.staging) page)
     → AddsOnlyOf g h (IsOfFrame g.staging ((shape x).section e) (length frame)) → h.round ≡ g.round
     → e < length mid.of_runs → empty ≡ ((extents_of x).pointer e == 0) → opened ≡ x.open_extent → y ≡ noted_in r e empty opened mid
     → IsAppendedBy true x g r frame (next_place (extents_of x) e (mark_of (shape x) frame)) y h
@@ -211,7 +211,7 @@ noted_append x g r frame e mid y h empty opened goes given same staged writes se
   same_shape = ap shape noted ∙ same;
   staged = staged;
   writes = writes;
-  section = (section.0, section.1, subst (λ (z : State). SpellsExtents z ((shape x).section e) (slice_index g.staging.latest (family_of ((shape x).section e)) + 1) section.0) (sym noted) section.2);
+  section = (section.0, section.1, subst (λ (z : State). SpellsExtents z ((shape x).section e) (slice_index g.staging.latest (family_of ((shape x).section e)) + 1) (root_recorded (shape x).format g.staging) section.0) (sym noted) section.2);
   others = others;
   round = round;
 }

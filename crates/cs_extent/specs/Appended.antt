@@ -4,11 +4,11 @@ use Rattle.cs_deps.specs.State.{State as GraphState, write_of}
 use Rattle.cs_frame.specs.declared.locators.Locator.{Locator}
 use Rattle.cs_model.specs.Device.{mark_of}
 use Rattle.cs_model.specs.Extents.{Goes, Purpose as Reason, taken_by}
-use Rattle.cs_extent.specs.Frames.{AreWritten, IsFrameStaged, IsOfFrame, AddsOnlyOf, family_of, next_place, next_section}
+use Rattle.cs_extent.specs.Frames.{AreWritten, IsFrameStaged, IsOfFrame, AddsOnlyOf, family_of, next_place, next_section, root_recorded}
 use Rattle.cs_extent.specs.State.{SpellsExtents, State, extents_of, need_of, shape}
 
 -- A frame was appended at l: its pages were given and staged behind the pointer of an extent that may take them, and
--- then a version of that extent's section, which records them. Nothing else was staged, and of all other elements no
+-- then a version of that extent's section, which records them, and the root that was persistent before. Nothing else was staged, and of all other elements no
 -- write is kept that wasn't kept before. Chunks and runs lie apart or not.
 pub record IsAppendedBy (apart : Bool) (x : State) (g : GraphState) (reason : Reason) (frame : List (List ℕ)) (l : Locator) (y : State) (h : GraphState) : Type 0 where
   pub placed : Goes (shape x) apart (extents_of x) reason (length frame) l.extent
@@ -20,7 +20,8 @@ pub record IsAppendedBy (apart : Bool) (x : State) (g : GraphState) (reason : Re
   pub writes : AreWritten h g.staging.staged (length frame) (λ i. (shape x).address l.extent (l.page + i)) frame
   pub section : (page : List ℕ)
       × (write_of h (next_section g.staging ((shape x).section l.extent)) ≡ Some ((shape x).section_page ((shape x).section l.extent), page))
-      × SpellsExtents y ((shape x).section l.extent) (slice_index g.staging.latest (family_of ((shape x).section l.extent)) + 1) page
+      × SpellsExtents y ((shape x).section l.extent) (slice_index g.staging.latest (family_of ((shape x).section l.extent)) + 1)
+      (root_recorded (shape x).format g.staging) page
   pub others : AddsOnlyOf g h (IsOfFrame g.staging ((shape x).section l.extent) (length frame))
   pub round : h.round ≡ g.round
 

@@ -7,6 +7,7 @@ use Rattle.cs_deps.specs.Pending.{WaitsAt}
 use Rattle.cs_deps.specs.Staging.{Staging, IsVersionStaged}
 use Rattle.cs_deps.specs.State.{State, Write, write_of}
 use Rattle.cs_frame.specs.declared.locators.Locator.{Locator}
+use Rattle.cs_frame.specs.Superblocks.{record_in}
 use Rattle.cs_model.specs.Extents.{Extents}
 
 -- the family of the root's versions
@@ -50,6 +51,10 @@ IsRootNeed pages latest (Version f v) = IsSectionVersionUpTo latest (Version f v
 -- the next version of section j
 abbrev pub next_section : Staging → (j : ℕ) → Element
 next_section s j = Version (family_of j) (slice_index s.latest (family_of j) + 1)
+
+-- what a section's version that is staged then records in a format: the version of the root that is persistent
+abbrev pub root_recorded : (format : ℕ) → Staging → ℕ
+root_recorded format s = record_in format (slice_index s.pending.persistent root_family)
 
 -- The first plain write that a section's version needs by itself, where so many plain writes were staged before its frame of `count`
 -- pages. Where page writes come first, with one section that is the first of all. With several it is the first of the version's own frame:

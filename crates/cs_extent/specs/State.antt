@@ -64,10 +64,10 @@ abbrev pub section_rows : State → ℕ → List (ℕ × ℕ)
 section_rows s j =
     take (section_length (length s.written) s.sections j) (drop (section_start (length s.written) s.sections j) s.written)
 
--- the page spells a version of section j as the extents are
-abbrev pub SpellsExtents : State → (j version : ℕ) → List ℕ → Type 0
-SpellsExtents s j version page =
-    SpellsSuperblock page s.format version (length s.written) s.pages s.sections j (section_rows s j)
+-- the page spells a version of section j as the extents are, which records this version of the root
+abbrev pub SpellsExtents : State → (j version recorded : ℕ) → List ℕ → Type 0
+SpellsExtents s j version recorded page =
+    SpellsSuperblock page s.format version recorded (length s.written) s.pages s.sections j (section_rows s j)
 
 -- what all extents of a store keep
 pub record IsWhole (s : State) : Type 0 where

@@ -6,23 +6,24 @@ ghost use Rattle.cs_deps.specs.State.{write_of};
 ghost use Rattle.cs_model.specs.Device.{mark_of};
 ghost use Rattle.cs_model.specs.Geometry.{apart_in};
 ghost use Rattle.cs_model.specs.Extents.{Fits, IsFirstEmpty, Placed, empties, marked, taken};
+ghost use Rattle.cs_frame.specs.Superblocks.{FitsRecord};
 ghost use Rattle.cs_extent.specs.Appended.{IsAppended};
 ghost use Rattle.cs_extent.specs.Changes.{emptied_in};
-ghost use Rattle.cs_extent.specs.Frames.{AreResetsStaged, AreWritten, IsFrameStaged, IsOfFrame, IsVersionUpTo, IsWorn, AddsOnlyOf, family_of, greatest, next_place, next_section};
+ghost use Rattle.cs_extent.specs.Frames.{AreResetsStaged, AreWritten, IsFrameStaged, IsOfFrame, IsVersionUpTo, IsWorn, AddsOnlyOf, family_of, greatest, next_place, next_section, root_family, root_recorded};
 ghost use Rattle.cs_extent.specs.Places.{room_at};
 ghost use Rattle.cs_extent.specs.Purposes.{reason_of};
 ghost use Rattle.cs_extent.specs.Sections.{AreSections, format_of, pages_of, rows_of};
 ghost use Rattle.cs_extent.specs.State.{IsWhole, SpellsExtents, extents_of, found_at, need_of, shape};
 ghost use Rattle.cs_extent.specs.Worn.{AreCounted, AreWorn, IsEmptyFrom, IsFrameWorn};
 
-use crate::families::{on_versions, section_family};
+use crate::families::{ROOT, on_versions, section_family};
 use crate::frames::stage_frame;
 use crate::notes::{found_at, lies_apart};
 use crate::purposes::Purpose;
 use crate::supplies::Supply;
 use crate::ways::{Way, are_versions_worn, are_writes_worn, count};
 use cs_deps::{Dependency, Graph, LAST_NUMBER, Refusal};
-use cs_frame::{Geometry, Locator, Superblock, encode_section, frame_mark};
+use cs_frame::{Geometry, Locator, Superblock, encode_section, frame_mark, record_in};
 use std::alloc::{AllocError, Global};
 use std::marker::Model;
 
@@ -424,15 +425,31 @@ impl Extents {
         self.open_extent = open_unless_full(extent, entry.0, full);
     }
 
-    /// The page that spells this version of a section.
-    fn section_bytes(&self, section: u8, version: u64) -> [u8; 4096]
+    /// What a version of a section records that is staged now: the version of the root that is persistent, 0 up to format 2.
+    fn recorded(&self, graph: &Graph) -> u64
+        requires { root_family < length graph.now.staging.latest }
+        ensures record { result ≡ root_recorded (shape self.now).format graph.now.staging }
+        ensures fits { FitsRecord (shape self.now).format result }
+    {
+        record_in(self.geometry.format(), graph.persistent_version(ROOT))
+    }
+
+    /// The page that spells this version of a section, which records this version of the root.
+    fn section_bytes(&self, section: u8, version: u64, recorded: u64) -> [u8; 4096]
         requires section { section < (shape self.now).sections }
         requires version { (1 ≤ version) × (version < 2 ^ 63) }
-        ensures { SpellsExtents self.now section version result }
+        requires record { FitsRecord (shape self.now).format recorded }
+        ensures { SpellsExtents self.now section version recorded result }
     {
         let start = self.geometry.section_start(section);
         let end = start + self.geometry.section_length(section);
-        encode_section(version, self.geometry, section, &self.written[start..end])
+        encode_section(
+            version,
+            recorded,
+            self.geometry,
+            section,
+            &self.written[start..end],
+        )
     }
 
     /// Gives the pages of a frame, and stages it there.
@@ -454,7 +471,7 @@ impl Extents {
         ensures shape { shape self.new ≡ shape self.old }
         ensures staged { IsFrameStaged graph.old.staging graph.new.staging (shape self.old).pages_first (shape self.old).sections ((shape self.old).section extent) (length frame.now) ((extents_of self.old).reset extent) (need_of self.old ((shape self.old).section extent)) }
         ensures pages { AreWritten graph.new graph.old.staging.staged (length frame.now) (λ i. (shape self.old).address extent ((extents_of self.old).pointer extent + i)) frame.now }
-        ensures section { (page : List ℕ) × (write_of graph.new (next_section graph.old.staging ((shape self.old).section extent)) ≡ Some ((shape self.old).section_page ((shape self.old).section extent), page)) × SpellsExtents self.new ((shape self.old).section extent) (slice_index graph.old.staging.latest (family_of ((shape self.old).section extent)) + 1) page }
+        ensures section { (page : List ℕ) × (write_of graph.new (next_section graph.old.staging ((shape self.old).section extent)) ≡ Some ((shape self.old).section_page ((shape self.old).section extent), page)) × SpellsExtents self.new ((shape self.old).section extent) (slice_index graph.old.staging.latest (family_of ((shape self.old).section extent)) + 1) (root_recorded (shape self.old).format graph.old.staging) page }
         ensures others { AddsOnlyOf graph.old graph.new (IsOfFrame graph.old.staging ((shape self.old).section extent) (length frame.now)) }
         ensures round { graph.new.round ≡ graph.old.round }
         ensures dependency { (x : Item) → Names result.1 x ↔ IsVersionUpTo (family_of ((shape self.old).section extent)) (slice_index graph.old.staging.latest (family_of ((shape self.old).section extent)) + 1) x }
@@ -474,8 +491,9 @@ impl Extents {
         let need = self.need(section);
         let family = section_family(section);
         let version = graph.last_version(family) + 1;
+        let recorded = self.recorded(graph);
         self.take(extent, frame.len());
-        let bytes = self.section_bytes(section, version);
+        let bytes = self.section_bytes(section, version, recorded);
         stage_frame(
             graph,
             alloc,
@@ -493,7 +511,7 @@ impl Extents {
     }
 
     /// Appends a frame for this purpose: stages each of its pages as one plain write, and then the version of its extent's section that
-    /// records them. Each page needs the root of its extent's last reset since open, if there is one; the section's version needs, beside
+    /// records them and, in format 3, the root that is persistent. Each page needs the root of its extent's last reset since open, if there is one; the section's version needs, beside
     /// what the one before it needs, the greatest such root of the section's extents. Where page writes come first it needs the frame's
     /// pages too, and where there is one section alone, all plain writes so far. Answers where the frame begins, and a dependency that
     /// names this version of the section and all before it. Where page writes come first, as they do up to format 2, the frame's pages are
@@ -521,7 +539,7 @@ impl Extents {
         // Its pages and a version of its extent's section are staged.
         ensures staged { IfOk result (λ r. IsFrameStaged graph.old.staging graph.new.staging (shape self.old).pages_first (shape self.old).sections ((shape self.old).section r.0.extent) (length frame.now) ((extents_of self.old).reset r.0.extent) (need_of self.old ((shape self.old).section r.0.extent))) }
         ensures writes { IfOk result (λ r. AreWritten graph.new graph.old.staging.staged (length frame.now) (λ i. (shape self.old).address r.0.extent (r.0.page + i)) frame.now) }
-        ensures section { IfOk result (λ r. (page : List ℕ) × (write_of graph.new (next_section graph.old.staging ((shape self.old).section r.0.extent)) ≡ Some ((shape self.old).section_page ((shape self.old).section r.0.extent), page)) × SpellsExtents self.new ((shape self.old).section r.0.extent) (slice_index graph.old.staging.latest (family_of ((shape self.old).section r.0.extent)) + 1) page) }
+        ensures section { IfOk result (λ r. (page : List ℕ) × (write_of graph.new (next_section graph.old.staging ((shape self.old).section r.0.extent)) ≡ Some ((shape self.old).section_page ((shape self.old).section r.0.extent), page)) × SpellsExtents self.new ((shape self.old).section r.0.extent) (slice_index graph.old.staging.latest (family_of ((shape self.old).section r.0.extent)) + 1) (root_recorded (shape self.old).format graph.old.staging) page) }
         ensures others { IfOk result (λ r. AddsOnlyOf graph.old graph.new (IsOfFrame graph.old.staging ((shape self.old).section r.0.extent) (length frame.now))) }
         ensures round { graph.new.round ≡ graph.old.round }
         ensures dependency { IfOk result (λ r. (x : Item) → Names r.1 x ↔ IsVersionUpTo (family_of ((shape self.old).section r.0.extent)) (slice_index graph.old.staging.latest (family_of ((shape self.old).section r.0.extent)) + 1) x) }

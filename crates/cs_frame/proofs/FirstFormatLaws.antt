@@ -114,7 +114,7 @@ fourth_is page h = fourth_byte page 49 (counts page) (first_format_end page) (fi
 -- it is refused as a section of any format by its fourth byte
 pub first_as_section : (format : ℕ) (page : List ℕ) → IsKnown format → first_format_fault page ≡ None → superblock_fault format page ≡ Some BadVersion
 first_as_section format page known h =
-    other_digit page (48 + format) (section_counts format page) (superblock_end page) (superblock_extents page)
+    other_digit page (48 + format) (section_counts format page) (superblock_end format page) (superblock_extents format page)
     (first_bytes page 49 (counts page) (first_format_end page) (first_format_extents page) h)
     (λ same. not_first format known (omega (arith, same, fourth_is page h)))
 
@@ -157,9 +157,9 @@ zero_format-is format page known fourth = for_known (λ f. slice_index page 3 �
     (λ two. ap (λ (b : Bool). if b then 3 else 2) (ne_eqb (slice_index page 3) 51 (λ three. omega (arith, two, three))))
     (λ three. ap (λ (b : Bool). if b then 3 else 2) (eq-eqb (slice_index page 3) 51 three)) format known fourth
 
-pub zero_spells : (page : List ℕ) (format version extents pages sections section : ℕ) (written : List (ℕ × ℕ)) → SpellsSuperblock page format version extents pages sections section written → zero_format page ≡ format
-zero_spells page format version extents pages sections section written s =
-    zero_format-is format page s.fits.geometry.known (section_fourth format page (section_has_none page format version extents pages sections section written s))
+pub zero_spells : (page : List ℕ) (format version recorded extents pages sections section : ℕ) (written : List (ℕ × ℕ)) → SpellsSuperblock page format version recorded extents pages sections section written → zero_format page ≡ format
+zero_spells page format version recorded extents pages sections section written s =
+    zero_format-is format page s.fits.geometry.known (section_fourth format page (section_has_none page format version recorded extents pages sections section written s))
 
 pub zero_of_section : (format : ℕ) (page : List ℕ) → IsKnown format → superblock_fault format page ≡ None → page_zero_fault page ≡ None
 zero_of_section format page known h =
@@ -177,10 +177,11 @@ zero_is_one page h = go (slice_index page 3 == 49) h
     go false h = inr h
 
 -- a superblock of the first format is one section, of all extents, of a store of format 2
-pub first_format_fits : (version pages : ℕ) (extents : List (ℕ × ℕ)) → FitsFirstFormat version pages extents → FitsSuperblock 2 version (length extents) pages 1 0 extents
+pub first_format_fits : (version pages : ℕ) (extents : List (ℕ × ℕ)) → FitsFirstFormat version pages extents → FitsSuperblock 2 version 0 (length extents) pages 1 0 extents
 first_format_fits version pages extents fits = record {
   first_version = fits.first_version;
   last_version = fits.last_version;
+  recorded_fits = omega arith;
   geometry = record {
     known = inl refl;
     fewest_extents = fits.fewest_extents;
@@ -201,13 +202,14 @@ first_format_fits version pages extents fits = record {
     whole n = omega arith
 
 -- a section that page 0 spells can be spelled
-pub page_zero_fits : (page : List ℕ) (format version extents pages sections section : ℕ) (written : List (ℕ × ℕ))
-    → SpellsPageZero page format version extents pages sections section written → FitsSuperblock format version extents pages sections section written
-page_zero_fits page format version extents pages sections section written = ⊎_elim
-    (λ (s : SpellsSuperblock page format version extents pages sections section written). s.fits)
-    (λ (s : IsOfFirstFormat page format version extents pages sections section written).
-    subst (λ (n : ℕ). FitsSuperblock n version extents pages sections section written) (sym s.written_in)
-    (subst (λ (n : ℕ). FitsSuperblock 2 version n pages sections section written) (sym s.all_extents)
-    (subst (λ (n : ℕ). FitsSuperblock 2 version (length written) pages n section written) (sym s.one_section)
-    (subst (λ (n : ℕ). FitsSuperblock 2 version (length written) pages 1 n written) (sym s.first_section)
-    (first_format_fits version pages written s.spells.fits)))))
+pub page_zero_fits : (page : List ℕ) (format version recorded extents pages sections section : ℕ) (written : List (ℕ × ℕ))
+    → SpellsPageZero page format version recorded extents pages sections section written → FitsSuperblock format version recorded extents pages sections section written
+page_zero_fits page format version recorded extents pages sections section written = ⊎_elim
+    (λ (s : SpellsSuperblock page format version recorded extents pages sections section written). s.fits)
+    (λ (s : IsOfFirstFormat page format version recorded extents pages sections section written).
+    subst (λ (n : ℕ). FitsSuperblock n version recorded extents pages sections section written) (sym s.written_in)
+    (subst (λ (n : ℕ). FitsSuperblock 2 version n extents pages sections section written) (sym s.no_record)
+    (subst (λ (n : ℕ). FitsSuperblock 2 version 0 n pages sections section written) (sym s.all_extents)
+    (subst (λ (n : ℕ). FitsSuperblock 2 version 0 (length written) pages n section written) (sym s.one_section)
+    (subst (λ (n : ℕ). FitsSuperblock 2 version 0 (length written) pages 1 n written) (sym s.first_section)
+    (first_format_fits version pages written s.spells.fits))))))

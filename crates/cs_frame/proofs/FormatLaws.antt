@@ -31,11 +31,13 @@ use Rattle.cs_frame.specs.Runs.{Entry, FitsRun, entries_in, plain_run, spelled_e
 use Rattle.cs_frame.specs.Superblocks.{spelled_superblock}
 use Rattle.cs_frame.proofs.GeometryLaws.{Bounds, bounds}
 use Rattle.cs_frame.proofs.FrameLaws.{frame_fault-spelled, payload_is_read}
+use Rattle.cs_frame.proofs.HeadLaws.{behind_head}
 use Rattle.cs_frame.proofs.LocatorLaws.{length-spelled_locators}
 use Rattle.cs_frame.proofs.Pieces.{length-first_chunks}
 use Rattle.cs_frame.proofs.PackedLaws.{HasFields, one_packing}
 use Rattle.cs_frame.proofs.RootLaws.{HasRoom, fewest_runs, one_reading}
 use Rattle.cs_frame.proofs.RunLaws.{run_is_read}
+use Rattle.cs_frame.proofs.RunWeights.{length_weighs, weighs_some}
 use Rattle.cs_frame.proofs.TellingLaws.{tells}
 
 -- ---- superblocks
@@ -192,12 +194,12 @@ all_of test (x ∷ xs) h =
 -- ---- runs
 
 -- a number is known from what is above so many bytes and those bytes
-one_number : (n a b : ℕ) → a / 256 ^ n ≡ b / 256 ^ n → bytes_high_first n a ++ [] ≡ bytes_high_first n b ++ [] → a ≡ b
+pub one_number : (n a b : ℕ) → a / 256 ^ n ≡ b / 256 ^ n → bytes_high_first n a ++ [] ≡ bytes_high_first n b ++ [] → a ≡ b
 one_number n a b above below =
     let low : a % 256 ^ n ≡ b % 256 ^ n = sym (big_from-bytes n a []) ∙ ap (big_from 0 n) below ∙ big_from-bytes n b [] in
     sym (div-add-mod' a (256 ^ n)) ∙ ap₂ (λ (x y : ℕ). x * 256 ^ n + y) above low ∙ div-add-mod' b (256 ^ n)
 
-one_id : (a b : ℕ) → id_bytes a ≡ id_bytes b → a ≡ b
+pub one_id : (a b : ℕ) → id_bytes a ≡ id_bytes b → a ≡ b
 one_id a b is =
     let above : a / 256 ^ 15 ≡ b / 256 ^ 15 = ap (λ (xs : List ℕ). first xs) is in
     one_number 15 a b above (ap (λ (xs : List ℕ). drop 1 xs ++ []) is)
@@ -448,15 +450,16 @@ module _ (f extents pages sections format : ℕ) (is : IsGeometry f extents page
       (le-leb _ _ (le_trans count staged_few)))
       (all_of (fits_locator (marks_in format)) ls (λ l there. fits l (each l there)))
 
-  -- there are few entries, however many bytes one may take
-  few_entries : (marked : Bool) (n : ℕ) → n ≤ (4096 * pages - 45) / (if marked then 145 else 81) → n < 2 ^ 32
+  -- there are few entries, however much they weigh
+  few_entries : (marked : Bool) (n : ℕ) → n ≤ (if marked then 4096 * pages - 45 else (4096 * pages - 45) / 81) → n < 2 ^ 32
   few_entries true n low = omega (arith, low, few)
   few_entries false n low = omega (arith, low, few)
 
   run_fits : (entries : List NamedEntry) → IsRunList S entries → fits_run (marks_in format) entries ≡ true
   run_fits entries list = and_from _ _
       (and_from _ _
-      (and_from _ _ (le-leb _ _ (some_entry entries list.some)) (lt-ltb _ _ (few_entries (marks_in format) (length entries) list.few)))
+      (and_from _ _ (le-leb _ _ (some_entry entries list.some)) (lt-ltb _ _ (few_entries (marks_in format) (length entries)
+      (le_trans (length_weighs S.weigh (weighs_some (marks_in format)) entries) list.weight_fits))))
       (all_of (fits_entry (marks_in format)) entries (λ x there. and_from _ _ (le-leb _ _ (list.locators x there).0)
       (all_of (fits_locator (marks_in format)) x.locators (λ l has. fits l ((list.locators x there).1 l has))))))
       (it_rises entries list.ascending)
@@ -481,18 +484,19 @@ module _ (f extents pages sections format : ℕ) (is : IsGeometry f extents page
 
   pub any_is_format : IsFormat S F
   any_is_format = record {
-    section = λ k j v p g q h same.
-        ap (λ (es : List (ℕ × ℕ)). if (k == 1) && (format == 2) && (sections == 1) then spelled_first_format v pages es else spelled_superblock format v extents pages sections j es) (one_section S.section p g q h j 0 extents same);
+    section = λ k j v r p g q h same.
+        ap (λ (es : List (ℕ × ℕ)). if (k == 1) && (format == 2) && (sections == 1) then spelled_first_format v pages es else spelled_superblock format v r extents pages sections j es) (one_section S.section p g q h j 0 extents same);
     some_page = λ kind payload. omega (arith, length-spelled_frame (kind_number kind) payload);
     one_root = one_page_one_root format;
     one_run = λ xs ys fx fy same. one_run_by (marks_in format) xs ys fx fy same;
     one_payload = λ img e i kind. one_payload img e i (kind_number kind);
     root_fits = root_fits;
     run_fits = run_fits;
+    behind_head = behind_head format;
     no_fault = λ img e i count kind payload long inside stand.
         ap (option_map refusal_of) (no_fault img e i count (kind_number kind) payload long inside stand);
-    tells = λ on k j n v w p g q h small also same e lt at.
-        tells S (fills_later on) (omega (arith, few)) (omega arith) n p g q h small also k j v w same e lt at;
+    tells = λ on k j n v w a b p g q h small also same e lt at.
+        tells S (fills_later on) (omega (arith, few)) (omega arith) n p g q h small also k j v w a b same e lt at;
   }
 
 -- so has a store's own shape

@@ -13,7 +13,10 @@ pub mod RunLaws
 pub mod PackedLaws
 pub mod FormatRunLaws
 pub mod RunSizes
+pub mod RunWeights
 pub mod TellingLaws
+pub mod HeadLaws
 pub mod FormatLaws
+pub mod HeadTelling
 pub mod MarkLaws
 pub mod FittingLaws

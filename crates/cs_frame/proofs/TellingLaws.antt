@@ -1,5 +1,5 @@
 -- The page of a section tells the pointers of its extents.
-use Rattle.std.proofs.Common.{◌≡◌, ◌≢◌, inl, inr, ℕ, zero, suc, ◌+◌, ◌*◌, ◌≤◌, ◌<◌, ◌^◌, ◌==◌, ◌&&◌, Bool, true, false, List, [], ◌∷◌, ◌++◌, ◌-◌, length, take, drop, codes, slice_index, if◌then◌else◌, eq-eqb, refl, sym, ap, ◌∙◌, subst, arith, append_assoc}
+use Rattle.std.proofs.Common.{◌≡◌, ◌≢◌, inl, inr, ℕ, zero, suc, ◌+◌, ◌*◌, ◌≤◌, ◌<◌, ◌^◌, ◌==◌, ◌&&◌, Bool, true, false, List, [], ◌∷◌, ◌++◌, ◌-◌, length, length-append, take, drop, codes, slice_index, if◌then◌else◌, eq-eqb, refl, sym, ap, ◌∙◌, subst, arith, append_assoc}
 use Rattle.std.specs.List.{AllByRecursion}
 use Rattle.std.proofs.lemmas.Bool.{cases_eq, true≢false}
 use Rattle.std.proofs.lemmas.List.{drop_at, take_at}
@@ -12,10 +12,10 @@ use Rattle.cs_frame.specs.FirstFormat.{first_format_fields, spelled_first_format
 use Rattle.cs_frame.specs.Formats.{extents_of, formats_of}
 use Rattle.cs_frame.specs.Pages.{padded, sealed}
 use Rattle.cs_frame.specs.Pointers.{FitsExtent, extents_from, spelled_extents}
-use Rattle.cs_frame.specs.Superblocks.{spelled_superblock, superblock_fields}
+use Rattle.cs_frame.specs.Superblocks.{spelled_record, spelled_superblock, superblock_fields, superblock_start}
 use Rattle.cs_frame.proofs.ExtentPageLaws.{extents_from-spelled}
 use Rattle.cs_frame.proofs.FirstFormatLaws.{length-first_format_fields}
-use Rattle.cs_frame.proofs.SuperblockLaws.{length-superblock_fields}
+use Rattle.cs_frame.proofs.SuperblockLaws.{length-spelled_record, length-superblock_fields}
 
 -- two texts of one length that are sealed and padded to one page are one
 one_text : (a b : List ℕ) → length a ≡ length b → padded (sealed a) ≡ padded (sealed b) → a ≡ b
@@ -94,18 +94,21 @@ module _ (S : Shape) (known : S.format ≢ 1) (small : S.pages < 2 ^ 16) (few : 
     one_list is = sym (extents_from-spelled S.pages small es (all_fit p g fits 0 S.extents)) ∙ ap extents_from is
         ∙ extents_from-spelled S.pages small ds (all_fit q h also 0 S.extents)
 
-    second : (v w : ℕ) → spelled_superblock S.format v S.extents S.pages S.sections j es
-        ≡ spelled_superblock S.format w S.extents S.pages S.sections j ds → es ≡ ds
-    second v w is =
-        let texts = one_text (superblock_fields S.format v S.extents S.pages S.sections j es)
-        (superblock_fields S.format w S.extents S.pages S.sections j ds)
-        (length-superblock_fields S.format v S.extents S.pages S.sections j es ∙ ap (λ (n : ℕ). 18 + 6 * n) lengths
-        ∙ sym (length-superblock_fields S.format w S.extents S.pages S.sections j ds)) is in
-        one_list (sym (behind v es) ∙ ap (drop 18) texts ∙ behind w ds)
+    second : (v w r s : ℕ) → spelled_superblock S.format v r S.extents S.pages S.sections j es
+        ≡ spelled_superblock S.format w s S.extents S.pages S.sections j ds → es ≡ ds
+    second v w r s is =
+        let texts = one_text (superblock_fields S.format v r S.extents S.pages S.sections j es)
+        (superblock_fields S.format w s S.extents S.pages S.sections j ds)
+        (length-superblock_fields S.format v r S.extents S.pages S.sections j es ∙ ap (λ (n : ℕ). superblock_start S.format + 6 * n) lengths
+        ∙ sym (length-superblock_fields S.format w s S.extents S.pages S.sections j ds)) is in
+        one_list (sym (behind v r es) ∙ ap (drop (superblock_start S.format)) texts ∙ behind w s ds)
       where
-        behind : (u : ℕ) (xs : List (ℕ × ℕ)) → drop 18 (superblock_fields S.format u S.extents S.pages S.sections j xs) ≡ spelled_extents xs
-        behind u xs = drop_at (codes "CSS" ++ (48 + S.format) ∷ [] ++ big_bytes 8 u ++ big_bytes 2 S.extents ++ big_bytes 2 S.pages ++ S.sections ∷ [] ++ j ∷ [])
-            (spelled_extents xs) 18 refl
+        behind : (u r : ℕ) (xs : List (ℕ × ℕ)) → drop (superblock_start S.format) (superblock_fields S.format u r S.extents S.pages S.sections j xs) ≡ spelled_extents xs
+        behind u r xs =
+            let before : List ℕ = codes "CSS" ++ (48 + S.format) ∷ [] ++ big_bytes 8 u ++ big_bytes 2 S.extents ++ big_bytes 2 S.pages ++ S.sections ∷ [] ++ j ∷ [] in
+            let size : length before ≡ 18 = refl in
+            drop_at (before ++ spelled_record S.format r) (spelled_extents xs) (superblock_start S.format)
+            (omega (arith, size, length-append before (spelled_record S.format r), length-spelled_record S.format r))
 
     first : (v w : ℕ) → spelled_first_format v S.pages es ≡ spelled_first_format w S.pages ds → es ≡ ds
     first v w is =
@@ -119,20 +122,20 @@ module _ (S : Shape) (known : S.format ≢ 1) (small : S.pages < 2 ^ 16) (few : 
             (spelled_extents xs) 16 refl
 
     -- the two formats have no page in common
-    mixed : (v w : ℕ) (xs ys : List (ℕ × ℕ)) → spelled_first_format v S.pages xs
-        ≡ spelled_superblock S.format w S.extents S.pages S.sections j ys → ⊥
-    mixed v w xs ys is = let digit : 49 ≡ 48 + S.format = ap (λ (bytes : List ℕ). slice_index bytes 3) is in
+    mixed : (v w s : ℕ) (xs ys : List (ℕ × ℕ)) → spelled_first_format v S.pages xs
+        ≡ spelled_superblock S.format w s S.extents S.pages S.sections j ys → ⊥
+    mixed v w s xs ys is = let digit : 49 ≡ 48 + S.format = ap (λ (bytes : List ℕ). slice_index bytes 3) is in
         known (omega (arith, digit))
 
-    pub tells : (f k v w : ℕ) → (formats_of S).superblock f j v p g ≡ (formats_of S).superblock k j w q h
+    pub tells : (f k v w r s : ℕ) → (formats_of S).superblock f j v r p g ≡ (formats_of S).superblock k j w s q h
         → (e : ℕ) → e < S.extents → S.section e ≡ j → p e ≡ q e
-    tells f k v w is e lt at = told S.section j p g q h 0 S.extents
+    tells f k v w r s is e lt at = told S.section j p g q h 0 S.extents
         (go ((f == 1) && (S.format == 2) && (S.sections == 1)) ((k == 1) && (S.format == 2) && (S.sections == 1)) is) e (omega arith) (omega arith) at
       where
-        go : (a b : Bool) → (if a then spelled_first_format v S.pages es else spelled_superblock S.format v S.extents S.pages S.sections j es)
-            ≡ (if b then spelled_first_format w S.pages ds else spelled_superblock S.format w S.extents S.pages S.sections j ds)
+        go : (a b : Bool) → (if a then spelled_first_format v S.pages es else spelled_superblock S.format v r S.extents S.pages S.sections j es)
+            ≡ (if b then spelled_first_format w S.pages ds else spelled_superblock S.format w s S.extents S.pages S.sections j ds)
             → es ≡ ds
         go true true same = first v w same
-        go true false same = absurd (mixed v w es ds same)
-        go false true same = absurd (mixed w v ds es (sym same))
-        go false false same = second v w same
+        go true false same = absurd (mixed v w s es ds same)
+        go false true same = absurd (mixed w v r ds es (sym same))
+        go false false same = second v w r s same

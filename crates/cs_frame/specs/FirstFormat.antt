@@ -72,19 +72,21 @@ first_format_tests bytes =
 abbrev pub first_format_fault : List ℕ → Option FormatFault
 first_format_fault bytes = first_fault (first_format_tests bytes)
 
--- The bytes are the spelling of this section in the first format, whose superblock is one section, of all extents. The store has the format
--- in which what follows is written.
-pub record IsOfFirstFormat (bytes : List ℕ) (format version extents pages sections section : ℕ) (written : List (ℕ × ℕ)) : Type 0 where
+-- The bytes are the spelling of this section in the first format, whose superblock is one section, of all extents, and has no record. The
+-- store has the format in which what follows is written.
+pub record IsOfFirstFormat (bytes : List ℕ) (format version recorded extents pages sections section : ℕ) (written : List (ℕ × ℕ)) : Type 0 where
   pub spells : SpellsFirstFormat bytes version pages written
   pub written_in : format ≡ 2
+  pub no_record : recorded ≡ 0
   pub all_extents : extents ≡ length written
   pub one_section : sections ≡ 1
   pub first_section : section ≡ 0
 
 -- the bytes are the spelling of this section, in the store's format or in the first
-abbrev pub SpellsPageZero : (bytes : List ℕ) (format version extents pages sections section : ℕ) (written : List (ℕ × ℕ)) → Type 0
-SpellsPageZero bytes format version extents pages sections section written =
-    SpellsSuperblock bytes format version extents pages sections section written ⊎ IsOfFirstFormat bytes format version extents pages sections section written
+abbrev pub SpellsPageZero : (bytes : List ℕ) (format version recorded extents pages sections section : ℕ) (written : List (ℕ × ℕ)) → Type 0
+SpellsPageZero bytes format version recorded extents pages sections section written =
+    SpellsSuperblock bytes format version recorded extents pages sections section written
+    ⊎ IsOfFirstFormat bytes format version recorded extents pages sections section written
 
 -- the format whose tests of a section are made on page 0: 3 where the fourth byte is the digit 3
 abbrev pub zero_format : List ℕ → ℕ

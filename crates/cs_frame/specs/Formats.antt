@@ -1,7 +1,6 @@
 -- The machine's pages in these formats.
-use Rattle.std.specs.Prelude.{ℕ, ◌^◌, ◌/◌, ◌==◌, ◌&&◌, zero, suc, Bool, true, List, [], ◌∷◌, length, map, nat_le, nat_lt, option_map, reverse, if◌then◌else◌}
+use Rattle.std.specs.Prelude.{ℕ, ◌^◌, ◌==◌, ◌&&◌, zero, suc, Bool, true, List, [], ◌∷◌, length, map, nat_le, nat_lt, option_map, reverse, if◌then◌else◌}
 use Rattle.std.specs.List.{list_all}
-use Rattle.byteorder.specs.Endian.{big_bytes}
 use Rattle.cs_model.specs.Device.{Shape}
 use Rattle.cs_model.specs.Element.{Entry as NamedEntry, Locator as Place}
 use Rattle.cs_model.specs.Formats.{Formats, FrameKind, ChunkFrame, RunFrame}
@@ -11,6 +10,8 @@ use Rattle.cs_frame.specs.declared.faults.FormatFault.TheVariants as fault
 use Rattle.cs_frame.specs.declared.locators.Locator.{Locator}
 use Rattle.cs_frame.specs.FirstFormat.{spelled_first_format}
 use Rattle.cs_frame.specs.Frames.{frame_fault, spelled_frame}
+use Rattle.cs_frame.specs.Heads.{body_in, head_in}
+pub use Rattle.cs_frame.specs.Identifiers.{id_bytes}
 use Rattle.cs_frame.specs.Roots.{greatest_runs, spelled_root}
 use Rattle.cs_frame.specs.FormatRuns.{spelled_run}
 use Rattle.cs_frame.specs.Locators.{most_mark}
@@ -22,11 +23,6 @@ use Rattle.cs_frame.specs.Superblocks.{spelled_superblock}
 abbrev pub kind_number : FrameKind → ℕ
 kind_number ChunkFrame = 0
 kind_number RunFrame = 1
-
--- the 16 bytes of an identifier's number, high byte first: a number of more bytes has all that is above the lowest
--- 15 in the first
-abbrev pub id_bytes : ℕ → List ℕ
-id_bytes id = id / 256 ^ 15 ∷ big_bytes 15 id
 
 -- a locator of the machine as it is spelled here
 abbrev pub as_locator : Place → Locator
@@ -89,14 +85,16 @@ fits_run marked entries =
 -- other is in sections as the store's format has them; a root lists its runs oldest first, which the machine has newest first
 abbrev pub formats_of : Shape → Formats
 formats_of S = record {
-  superblock = λ format section version pointers generations.
+  superblock = λ format section version recorded pointers generations.
       if (format == 1) && (S.format == 2) && (S.sections == 1)
       then spelled_first_format version S.pages (extents_of S.section pointers generations section 0 S.extents)
-      else spelled_superblock S.format version S.extents S.pages S.sections section
+      else spelled_superblock S.format version recorded S.extents S.pages S.sections section
       (extents_of S.section pointers generations section 0 S.extents);
   root = λ version commands runs. spelled_root S.format version commands (map as_locator (reverse runs));
   frame = λ kind payload. spelled_frame (kind_number kind) payload;
   fault = λ kind pages. option_map refusal_of (frame_fault (kind_number kind) pages);
+  head = head_in S.format;
+  body = body_in S.format;
   run = λ entries. spelled_run S.format (map as_entry entries);
   fits_root = fits_root S.format;
   fits_run = fits_run (marks_in S.format);

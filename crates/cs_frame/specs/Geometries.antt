@@ -1,5 +1,5 @@
 -- The dimensions of a store, the bounds of them, and which extents a section of its superblock has. A bound is that of a format.
-use Rattle.cs_model.specs.Geometry.{most_entry_bytes}
+use Rattle.cs_model.specs.Geometry.{marks_in}
 use Rattle.std.specs.Prelude.{◌≡◌, ◌⊎◌, ℕ, zero, suc, ◌+◌, ◌-◌, ◌*◌, ◌/◌, ◌<◌, ◌≤◌, ◌&&◌, ◌==◌, min, Bool, if◌then◌else◌, nat_le, nat_lt}
 
 -- the formats in which a store is written
@@ -86,9 +86,9 @@ device_pages format extents pages sections = 1 + extents * pages + sections + ke
 abbrev pub run_bytes : (entries : ℕ) → ℕ
 run_bytes entries = 4 + 81 * entries
 
--- how many entries a run has room for that takes one whole extent: a frame's header has 41 bytes, a run's count 4, and an entry 81
-abbrev pub named_limit : (format pages : ℕ) → ℕ
-named_limit format pages = (4096 * pages - 45) / most_entry_bytes format
+-- the bytes of a run whose entries weigh so much in a format: in one that has marks the count and what they weigh, else each weighs one
+abbrev pub weight_bytes : (format weight : ℕ) → ℕ
+weight_bytes format weight = if marks_in format then 4 + weight else run_bytes weight
 
 -- so many extents of so many pages, where the greatest number of extents is this
 abbrev pub in_bounds : (format greatest extents pages : ℕ) → Bool

@@ -13,4 +13,6 @@ pub mod Frames
 pub mod Runs
 pub mod FormatRuns
 pub mod Geometries
+pub mod Identifiers
+pub mod Heads
 pub mod Formats

@@ -4,13 +4,41 @@ ghost use Rattle.std.specs.Prelude.{◌≡◌, ◌^◌, ◌<◌, ◌≤◌, List
 ghost use Rattle.std.specs.List.{AllByRecursion};
 ghost use Rattle.cs_frame.specs.Faults.{HasFault, OkUnlessMemory};
 ghost use Rattle.cs_frame.specs.FormatRuns.{SpellsRun, run_fault, run_size};
+ghost use Rattle.cs_frame.specs.Geometries.{weight_bytes};
 ghost use Rattle.cs_frame.specs.Runs.{Entry, IsRun, entries_of, greatest_chunks};
+ghost use Rattle.cs_model.specs.Geometry.{weigh_in};
 
 use crate::faults::FormatFault;
 use crate::locators::has_marks;
 use crate::packed_runs::{decode_packed_run, encode_packed_run, packed_sizes};
 use crate::runs::{Run, decode_plain_run, encode_plain_run, run_bytes};
 use std::alloc::{AllocError, Global};
+
+/// What an entry of so many chunks weighs in a format, a deletion of none: as many bytes as it takes where the format has marks, else one.
+pub fn entry_weight(format: u8, chunks: usize) -> usize
+    requires { chunks ≤ greatest_chunks }
+    ensures value { result ≡ weigh_in format chunks }
+    ensures some { 1 ≤ result }
+    ensures small { result ≤ 145 }
+{
+    if has_marks(format) {
+        17 + 16 * chunks
+    } else {
+        1
+    }
+}
+
+/// How many bytes the payload has of a run whose entries weigh so much.
+pub fn weight_bytes(format: u8, weight: usize) -> usize
+    requires { weight < 2 ^ 32 }
+    ensures { result ≡ weight_bytes format weight }
+{
+    if has_marks(format) {
+        4 + weight
+    } else {
+        run_bytes(weight)
+    }
+}
 
 /// How many bytes the payload has that spells a run in a format.
 pub fn run_size(format: u8, run: &Run) -> usize

@@ -1,9 +1,10 @@
 //! Frames: a payload with its digest, in whole pages.
 
-ghost use Rattle.std.specs.Prelude.{◌≡◌, ◌+◌, ◌^◌, ◌<◌, ◌≤◌, ℕ, List, None, Ok, Err, IfOk, length, vec_len};
+ghost use Rattle.std.specs.Prelude.{◌≡◌, ◌+◌, ◌++◌, ◌^◌, ◌<◌, ◌≤◌, ℕ, List, None, Ok, Err, IfOk, length, vec_len};
 ghost use Rattle.cs_frame.specs.Bytes.{EachHas, IsBytes};
 ghost use Rattle.cs_frame.specs.Faults.{HasFault, OkUnlessMemory, fault_in};
 ghost use Rattle.cs_model.specs.Geometry.{digest_number, mark_in};
+ghost use Rattle.sha2.specs.Sha256.{sha256};
 ghost use Rattle.cs_frame.specs.Frames.{SpellsFrame, bytes_in, first_page, frame_count, frame_fault, header_fault, kind_byte, mark_test, meant_header_fault, page_count, payload_in, payload_length, spelled_frame};
 
 use crate::faults::FormatFault;
@@ -57,6 +58,41 @@ pub fn frame_pages(payload_len: usize) -> usize
     (41 + payload_len).div_ceil(4096)
 }
 
+/// The digest of two parts, one behind the other.
+fn digest_of(front: &[u8], behind: &[u8]) -> [u8; 32]
+    ensures { result ≡ sha256 (front.now ++ behind.now) }
+{
+    let mut hasher = Sha256::new();
+    hasher.update(front);
+    hasher.update(behind);
+    hasher.finalize()
+}
+
+/// The pages that spell the frame whose payload is two parts, one behind the other, which aren't joined before.
+pub(crate) fn encode_parts(
+    alloc: Global,
+    kind: FrameKind,
+    front: &[u8],
+    behind: &[u8],
+) -> Result<Vec<[u8; 4096]>, AllocError>
+    requires { length front.now + length behind.now < 2 ^ 32 }
+    ensures spelled { IfOk result (λ pages. pages.items ≡ spelled_frame (kind_byte kind) (front.now ++ behind.now)) }
+    ensures count { IfOk result (λ pages. vec_len pages ≡ page_count (length front.now + length behind.now)) }
+{
+    let payload_len = front.len() + behind.len();
+    let size = 4096 * frame_pages(payload_len);
+    let mut bytes = Vec::with_capacity(alloc, size)?;
+    bytes.extend_from_slice(b"CSF1")?;
+    bytes.push(kind.byte())?;
+    bytes.extend_from_slice(&(payload_len as u32).to_be_bytes())?;
+    bytes.extend_from_slice(&digest_of(front, behind))?;
+    bytes.extend_from_slice(front)?;
+    bytes.extend_from_slice(behind)?;
+    bytes.resize(size, 0)?;
+    let (pages, _) = bytes.as_chunks::<4096>();
+    Vec::from_slice(alloc, pages)
+}
+
 /// The pages that spell a frame.
 pub fn encode_frame(
     alloc: Global,
@@ -67,16 +103,7 @@ pub fn encode_frame(
     ensures spelled { IfOk result (λ pages. pages.items ≡ spelled_frame (kind_byte kind) payload.now) }
     ensures count { IfOk result (λ pages. vec_len pages ≡ page_count (length payload.now)) }
 {
-    let size = 4096 * frame_pages(payload.len());
-    let mut bytes = Vec::with_capacity(alloc, size)?;
-    bytes.extend_from_slice(b"CSF1")?;
-    bytes.push(kind.byte())?;
-    bytes.extend_from_slice(&(payload.len() as u32).to_be_bytes())?;
-    bytes.extend_from_slice(&Sha256::digest(payload))?;
-    bytes.extend_from_slice(payload)?;
-    bytes.resize(size, 0)?;
-    let (pages, _) = bytes.as_chunks::<4096>();
-    Vec::from_slice(alloc, pages)
+    encode_parts(alloc, kind, &[], payload)
 }
 
 /// The header in a frame's first page. A reader calls it before it reads further pages: `there` pages

@@ -1,10 +1,11 @@
 //! How many extents a store has, of how many pages, which of them each section of its superblock has, and where all of it lies.
 
 ghost use Rattle.std.specs.Prelude.{◌≡◌, ◌↔◌, ◌+◌, ◌-◌, ◌*◌, ◌/◌, ◌^◌, ◌<◌, ◌≤◌, ◌==◌, if◌then◌else◌, IfOk, IfErr, IsOk, IsTrue, unwrap_or};
-ghost use Rattle.cs_model.specs.Geometry.{most_entry_bytes};
-ghost use Rattle.cs_frame.specs.Geometries.{Dimensions, IsGeometry, IsKnown, device_pages, greatest_extents, greatest_pages, greatest_sections, in_bounds, is_divided, kept_pages, least_extents, named_limit, section_length, section_size, section_start, sections_needed};
+ghost use Rattle.cs_model.specs.Geometry.{chunk_bytes_in, most_weight_in};
+ghost use Rattle.cs_frame.specs.Geometries.{Dimensions, IsGeometry, IsKnown, device_pages, greatest_extents, greatest_pages, greatest_sections, in_bounds, is_divided, kept_pages, least_extents, section_length, section_size, section_start, sections_needed};
 
 use crate::faults::FormatFault;
+use crate::heads::head_bytes;
 use crate::locators::has_marks;
 use std::marker::Model;
 
@@ -158,14 +159,6 @@ impl Model for Geometry {
     ghost inverse = { λ d. record { format = d.format; extents = d.extents; pages = d.pages; sections = d.sections } };
 }
 
-/// How many bytes an entry of a run takes at most.
-fn most_entry_bytes(format: u8) -> usize
-    ensures value { result ≡ most_entry_bytes format }
-    ensures some { 81 ≤ result }
-{
-    if has_marks(format) { 145 } else { 81 }
-}
-
 impl Geometry {
     /// A store of a format, 2 or 3, of `extents` extents of `pages` pages each, whose superblock has `sections` sections, or as few as it
     /// may. All sections but the last have as many extents, at most 512, and the last has what is left, which is at least one.
@@ -309,11 +302,24 @@ impl Geometry {
         4096 * usize::from(self.pages) - 41
     }
 
-    /// How many identifiers the index can name: the entries of a run that takes one whole extent. A frame's header has 41 bytes, a
-    /// run's count 4, and an entry 81, in a format that has marks at most 145.
-    pub fn named_limit(self) -> usize
-        ensures { result ≡ named_limit self.format self.pages }
+    /// The greatest piece of a shard in one chunk, in bytes: what the payload of a frame of one whole extent has behind its head, where
+    /// the format has heads.
+    pub fn chunk_bytes(self) -> usize
+        ensures { result ≡ chunk_bytes_in self.format self.pages }
     {
-        (4096 * usize::from(self.pages) - 45) / most_entry_bytes(self.format)
+        self.payload_bytes() - head_bytes(self.format)
+    }
+
+    /// What the newest entries of all identifiers may weigh: those of a run that takes one whole extent. A frame's header has 41 bytes
+    /// and a run's count 4. In a format that has marks an entry weighs its bytes, and else it has 81 and weighs one.
+    pub fn most_weight(self) -> usize
+        ensures { result ≡ most_weight_in self.format self.pages }
+    {
+        let bytes = 4096 * usize::from(self.pages) - 45;
+        if has_marks(self.format) {
+            bytes
+        } else {
+            bytes / 81
+        }
     }
 }

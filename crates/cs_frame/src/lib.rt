@@ -8,6 +8,7 @@ mod faults;
 mod format_runs;
 mod frames;
 mod geometries;
+mod heads;
 mod identifiers;
 mod laws;
 mod locators;
@@ -22,7 +23,7 @@ mod runs;
 mod superblocks;
 
 pub use faults::FormatFault;
-pub use format_runs::{decode_run, encode_run, run_size};
+pub use format_runs::{decode_run, encode_run, entry_weight, run_size, weight_bytes};
 pub use frames::{
     FrameHeader, FrameKind, decode_frame, decode_frame_header, decode_meant_header, encode_frame,
     frame_mark, frame_pages,
@@ -31,13 +32,16 @@ pub use geometries::{
     FORMAT, GREATEST_SECTION_EXTENTS, GREATEST_SUPERBLOCK_EXTENTS, Geometry, LEAST_PAGES,
     device_pages, greatest_extents, greatest_pages, greatest_sections, least_extents,
 };
+pub use heads::{
+    ChunkHead, chunk_body, decode_head, encode_chunk, encode_head, has_heads, head_bytes,
+};
 pub use identifiers::ShardId;
 pub use laws::{
     first_format_has_one_spelling, formats_are_apart, frame_has_one_spelling,
-    frame_is_read_by_its_header, frames_fit_on_an_extent, marks_tell_digests,
-    page_zero_has_one_spelling, root_has_one_spelling, run_has_one_spelling, runs_have_sizes,
-    sections_have_all_extents, sections_tell_pointers, superblock_has_one_spelling,
-    these_formats_are_formats,
+    frame_is_read_by_its_header, frames_fit_on_an_extent, heads_tell_chunks, marks_tell_digests,
+    page_zero_has_one_spelling, records_fit, root_has_one_spelling, run_has_one_spelling,
+    runs_have_sizes, runs_take_what_they_weigh, sections_have_all_extents, sections_tell_pointers,
+    superblock_has_one_spelling, these_formats_are_formats,
 };
 pub use locators::{Locator, has_marks};
 pub use page_zero::decode_superblock;
@@ -45,4 +49,6 @@ pub use places::Places;
 pub use read_frames::{ReadFrame, read_frame_in};
 pub use roots::{Root, decode_root, encode_root, greatest_runs};
 pub use runs::{GREATEST_CHUNKS, Run, run_bytes};
-pub use superblocks::{Superblock, decode_section, encode_section, encode_superblock};
+pub use superblocks::{
+    Superblock, decode_section, encode_section, encode_superblock, has_records, record_in,
+};

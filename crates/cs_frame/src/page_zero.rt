@@ -71,6 +71,7 @@ fn first_format_from(alloc: Global, page: &[u8; 4096]) -> Result<Superblock, All
     requires { first_format_end page.now ≤ 3088 }
     ensures format { IfOk result (λ it. it.format ≡ 2) }
     ensures version { IfOk result (λ it. it.version ≡ number 4 12 page.now) }
+    ensures record { IfOk result (λ it. it.recorded ≡ 0) }
     ensures extent_count { IfOk result (λ it. it.extent_count ≡ number 12 14 page.now) }
     ensures pages { IfOk result (λ it. it.pages ≡ number 14 16 page.now) }
     ensures sections { IfOk result (λ it. it.sections ≡ 1) }
@@ -81,6 +82,7 @@ fn first_format_from(alloc: Global, page: &[u8; 4096]) -> Result<Superblock, All
     Ok(Superblock {
         format: FORMAT,
         version: BigEndian::read_u64(&page[4..12]),
+        recorded: 0,
         extent_count: BigEndian::read_u16(&page[12..14]),
         pages: BigEndian::read_u16(&page[14..16]),
         sections: 1,
@@ -92,9 +94,9 @@ fn first_format_from(alloc: Global, page: &[u8; 4096]) -> Result<Superblock, All
 /// The superblock that a page of the first format spells. The first test that fails is answered.
 fn decode_first_format(alloc: Global, page: &[u8; 4096]) -> Result<Superblock, FormatFault>
     ensures spelled { IfOk result (λ it.
-        IsOfFirstFormat page.now it.format it.version it.extent_count it.pages it.sections it.section it.extents.items) }
+        IsOfFirstFormat page.now it.format it.version it.recorded it.extent_count it.pages it.sections it.section it.extents.items) }
     ensures read { (version pages : ℕ) (extents : List (ℕ × ℕ)) → SpellsFirstFormat page.now version pages extents
-        → OkUnlessMemory result (λ it. (it.format ≡ 2) × (it.version ≡ version) × (it.extent_count ≡ length extents)
+        → OkUnlessMemory result (λ it. (it.format ≡ 2) × (it.version ≡ version) × (it.recorded ≡ 0) × (it.extent_count ≡ length extents)
         × (it.pages ≡ pages) × (it.sections ≡ 1) × (it.section ≡ 0) × (it.extents.items ≡ extents)) }
     ensures fault { HasFault result (first_format_fault page.now) }
     ensures memory { result ≡ Err FormatFault.OutOfMemory → first_format_fault page.now ≡ None }
@@ -117,15 +119,15 @@ fn section_format(page: &[u8; 4096]) -> u8
 pub fn decode_superblock(alloc: Global, page: &[u8; 4096]) -> Result<Superblock, FormatFault>
     // What is read is spelled by the page, in the store's format or in the first.
     ensures spelled { IfOk result (λ it.
-        SpellsPageZero page.now it.format it.version it.extent_count it.pages it.sections it.section it.extents.items) }
+        SpellsPageZero page.now it.format it.version it.recorded it.extent_count it.pages it.sections it.section it.extents.items) }
     // What the page spells is read, unless memory runs out.
-    ensures read { (format version extents pages sections section : ℕ) (written : List (ℕ × ℕ))
-        → SpellsSuperblock page.now format version extents pages sections section written
-        → OkUnlessMemory result (λ it. (it.format ≡ format) × (it.version ≡ version) × (it.extent_count ≡ extents)
+    ensures read { (format version recorded extents pages sections section : ℕ) (written : List (ℕ × ℕ))
+        → SpellsSuperblock page.now format version recorded extents pages sections section written
+        → OkUnlessMemory result (λ it. (it.format ≡ format) × (it.version ≡ version) × (it.recorded ≡ recorded) × (it.extent_count ≡ extents)
         × (it.pages ≡ pages) × (it.sections ≡ sections) × (it.section ≡ section) × (it.extents.items ≡ written)) }
     // So is what it spells in the first format.
     ensures read_first { (version pages : ℕ) (extents : List (ℕ × ℕ)) → SpellsFirstFormat page.now version pages extents
-        → OkUnlessMemory result (λ it. (it.format ≡ 2) × (it.version ≡ version) × (it.extent_count ≡ length extents)
+        → OkUnlessMemory result (λ it. (it.format ≡ 2) × (it.version ≡ version) × (it.recorded ≡ 0) × (it.extent_count ≡ length extents)
         × (it.pages ≡ pages) × (it.sections ≡ 1) × (it.section ≡ 0) × (it.extents.items ≡ extents)) }
     // Each other fault is that of the first test that fails.
     ensures fault { HasFault result (page_zero_fault page.now) }

@@ -1,12 +1,13 @@
 //! The superblock in sections, a page for each, in the format of the store.
 
 ghost use Rattle.std.specs.Prelude.{◌≡◌, ◌+◌, ◌*◌, ◌^◌, ◌<◌, ◌≤◌, ℕ, List, None, Ok, Err, IfOk, length, slice_index};
+ghost use Rattle.cs_model.specs.Geometry.{records_in};
 ghost use Rattle.cs_frame.specs.Geometries.{IsKnown, section_length};
 ghost use Rattle.std.specs.List.{AllByRecursion};
 ghost use Rattle.cs_frame.specs.Buffers.{text_of};
 ghost use Rattle.cs_frame.specs.Bytes.{IsPage, number};
 ghost use Rattle.cs_frame.specs.Faults.{HasFault, OkUnlessMemory, fault_in};
-ghost use Rattle.cs_frame.specs.Superblocks.{IsSection, IsSuperblock, SpellsSuperblock, section_test, superblock_end, superblock_extents, superblock_fault, superblock_fields, superblock_pointer_test};
+ghost use Rattle.cs_frame.specs.Superblocks.{FitsRecord, IsSection, IsSuperblock, SpellsSuperblock, record_bytes, record_in, section_test, superblock_end, superblock_extents, superblock_fault, superblock_fields, superblock_pointer_test, superblock_record, superblock_start};
 ghost use Rattle.cs_frame.specs.Pointers.{FitsGeneration};
 
 use crate::faults::FormatFault;
@@ -25,6 +26,8 @@ pub struct Superblock {
     pub format: u8,
     /// From 1 to 2^63 - 1.
     pub version: u64,
+    /// The version of the root that was persistent as the section was staged; 0 up to format 2, whose sections don't record it.
+    pub recorded: u64,
     /// The extents of the store, all sections together, from 4 to 2,048, in format 3 from 5 to 7,680.
     pub extent_count: u16,
     /// The pages of an extent, from 2 to 256, in format 3 to 65,535.
@@ -39,6 +42,29 @@ pub struct Superblock {
     pub extents: Vec<(u16, u32)>,
 }
 
+/// Whether a section records the version of the root that was persistent as it was staged.
+pub fn has_records(format: u8) -> bool
+    ensures { result ≡ records_in format }
+{
+    format > 2
+}
+
+/// What a section records in a format where this version of the root is persistent: 0 where it has no bytes for it.
+pub fn record_in(format: u8, root: u64) -> u64
+    ensures record { result ≡ record_in format root }
+    ensures fits { FitsRecord format result }
+{
+    if has_records(format) { root } else { 0 }
+}
+
+/// How many bytes a section has for what it records.
+fn record_bytes(format: u8) -> usize
+    ensures bytes { result ≡ record_bytes format }
+    ensures small { result ≤ 8 }
+{
+    if has_records(format) { 8 } else { 0 }
+}
+
 /// The digit of a format, its fourth byte.
 fn digit_of(format: u8) -> u8
     requires { IsKnown format }
@@ -51,6 +77,7 @@ fn digit_of(format: u8) -> u8
 fn unsealed(
     format: u8,
     version: u64,
+    recorded: u64,
     extent_count: u16,
     pages: u16,
     sections: u8,
@@ -58,8 +85,8 @@ fn unsealed(
     extents: &[(u16, u32)],
 ) -> PageBuffer
     requires known { IsKnown format }
-    requires size { 6 * length extents.now ≤ 4046 }
-    ensures text { text_of result ≡ superblock_fields format version extent_count pages sections section extents.now }
+    requires size { 6 * length extents.now ≤ 4038 }
+    ensures text { text_of result ≡ superblock_fields format version recorded extent_count pages sections section extents.now }
     ensures generations { AllByRecursion FitsGeneration extents.now }
 {
     let mut page = PageBuffer::new();
@@ -70,6 +97,7 @@ fn unsealed(
     page.append(&pages.to_be_bytes());
     page.append(&[sections]);
     page.append(&[section]);
+    page.append(&recorded.to_be_bytes()[..record_bytes(format)]);
     append_extents(&mut page, extents);
     page
 }
@@ -78,18 +106,20 @@ fn unsealed(
 fn spelled_page(
     format: u8,
     version: u64,
+    recorded: u64,
     extent_count: u16,
     pages: u16,
     sections: u8,
     section: u8,
     extents: &[(u16, u32)],
 ) -> [u8; 4096]
-    requires { IsSection format version extent_count pages sections section extents.now }
-    ensures { SpellsSuperblock result format version extent_count pages sections section extents.now }
+    requires { IsSection format version recorded extent_count pages sections section extents.now }
+    ensures { SpellsSuperblock result format version recorded extent_count pages sections section extents.now }
 {
     let mut page = unsealed(
         format,
         version,
+        recorded,
         extent_count,
         pages,
         sections,
@@ -104,11 +134,12 @@ fn spelled_page(
 pub fn encode_superblock(superblock: &Superblock) -> [u8; 4096]
     requires { IsSuperblock superblock.now }
     ensures { let it = superblock.now in
-        SpellsSuperblock result it.format it.version it.extent_count it.pages it.sections it.section it.extents.items }
+        SpellsSuperblock result it.format it.version it.recorded it.extent_count it.pages it.sections it.section it.extents.items }
 {
     spelled_page(
         superblock.format,
         superblock.version,
+        superblock.recorded,
         superblock.extent_count,
         superblock.pages,
         superblock.sections,
@@ -117,22 +148,26 @@ pub fn encode_superblock(superblock: &Superblock) -> [u8; 4096]
     )
 }
 
-/// The page that spells a section of a store's superblock, whose extents have these pointers and generations.
+/// The page that spells a section of a store's superblock, which records this version of the root and whose extents have these pointers and
+/// generations.
 pub fn encode_section(
     version: u64,
+    recorded: u64,
     geometry: Geometry,
     section: u8,
     extents: &[(u16, u32)],
 ) -> [u8; 4096]
     requires version { (1 ≤ version) × (version < 2 ^ 63) }
+    requires record { FitsRecord geometry.format recorded }
     requires section { section < geometry.sections }
     requires count { length extents.now ≡ section_length geometry.extents geometry.sections section }
     requires pointers { AllByRecursion (λ extent. extent.0 ≤ geometry.pages) extents.now }
-    ensures { SpellsSuperblock result geometry.format version geometry.extents geometry.pages geometry.sections section extents.now }
+    ensures { SpellsSuperblock result geometry.format version recorded geometry.extents geometry.pages geometry.sections section extents.now }
 {
     spelled_page(
         geometry.format(),
         version,
+        recorded,
         geometry.extents(),
         geometry.pages(),
         geometry.sections(),
@@ -141,19 +176,39 @@ pub fn encode_section(
     )
 }
 
-/// Where the digest begins in a page of a section.
-fn end_of(page: &[u8; 4096]) -> usize
-    requires { 1 ≤ slice_index page.now 16 }
-    ensures { result ≡ superblock_end page.now }
+/// What a page of a section records.
+fn recorded_of(page: &[u8; 4096], format: u8) -> u64
+    ensures { result ≡ superblock_record format page.now }
 {
-    18 + 6 * extents_in_section(BigEndian::read_u16(&page[12..14]), page[16], page[17])
+    if has_records(format) {
+        BigEndian::read_u64(&page[18..26])
+    } else {
+        0
+    }
+}
+
+/// Where the extents begin in a page of a section.
+fn start_of(format: u8) -> usize
+    ensures start { result ≡ superblock_start format }
+    ensures small { result ≤ 26 }
+{
+    18 + record_bytes(format)
+}
+
+/// Where the digest begins in a page of a section.
+fn end_of(page: &[u8; 4096], format: u8) -> usize
+    requires { 1 ≤ slice_index page.now 16 }
+    ensures { result ≡ superblock_end format page.now }
+{
+    start_of(format)
+        + 6 * extents_in_section(BigEndian::read_u16(&page[12..14]), page[16], page[17])
 }
 
 /// So many extents of so many pages have a superblock of so many sections, and this is one of them.
 fn check_section(page: &[u8; 4096], format: u8) -> Result<(), FormatFault>
     ensures fault { fault_in result ≡ section_test format page.now }
     ensures sections { IfOk result (λ _. 1 ≤ slice_index page.now 16) }
-    ensures end { IfOk result (λ _. superblock_end page.now + 32 ≤ 4096) }
+    ensures end { IfOk result (λ _. superblock_end format page.now + 32 ≤ 4096) }
 {
     let extents = BigEndian::read_u16(&page[12..14]);
     let pages = BigEndian::read_u16(&page[14..16]);
@@ -172,13 +227,13 @@ fn check_section(page: &[u8; 4096], format: u8) -> Result<(), FormatFault>
 }
 
 /// No pointer is past the extent's pages.
-fn check_pointers(page: &[u8; 4096]) -> Result<(), FormatFault>
+fn check_pointers(page: &[u8; 4096], format: u8) -> Result<(), FormatFault>
     requires sections { 1 ≤ slice_index page.now 16 }
-    requires end { superblock_end page.now + 32 ≤ 4096 }
-    ensures { fault_in result ≡ superblock_pointer_test page.now }
+    requires end { superblock_end format page.now + 32 ≤ 4096 }
+    ensures { fault_in result ≡ superblock_pointer_test format page.now }
 {
     let pages = BigEndian::read_u16(&page[14..16]);
-    check_pointers_in(&page[18..end_of(page)], pages)
+    check_pointers_in(&page[start_of(format)..end_of(page, format)], pages)
 }
 
 /// Makes the tests of a section's page in order.
@@ -186,35 +241,37 @@ fn check_page(page: &[u8; 4096], format: u8) -> Result<(), FormatFault>
     requires { IsKnown format }
     ensures fault { fault_in result ≡ superblock_fault format page.now }
     ensures sections { IfOk result (λ _. 1 ≤ slice_index page.now 16) }
-    ensures end { IfOk result (λ _. superblock_end page.now + 32 ≤ 4096) }
+    ensures end { IfOk result (λ _. superblock_end format page.now + 32 ≤ 4096) }
     ensures page { IsPage page.now }
 {
     check_magic(page, b"CSS")?;
     check_digit(page, digit_of(format))?;
     check_section(page, format)?;
-    let end = end_of(page);
+    let end = end_of(page, format);
     check_digest(page, end)?;
     check_range(page)?;
-    check_pointers(page)?;
+    check_pointers(page, format)?;
     check_padding(page, end + 32)
 }
 
 /// The section that a page without a fault spells.
 fn section_from(alloc: Global, page: &[u8; 4096], format: u8) -> Result<Superblock, AllocError>
     requires sections { 1 ≤ slice_index page.now 16 }
-    requires end { superblock_end page.now + 32 ≤ 4096 }
+    requires end { superblock_end format page.now + 32 ≤ 4096 }
     ensures format { IfOk result (λ it. it.format ≡ format) }
     ensures version { IfOk result (λ it. it.version ≡ number 4 12 page.now) }
+    ensures record { IfOk result (λ it. it.recorded ≡ superblock_record format page.now) }
     ensures extent_count { IfOk result (λ it. it.extent_count ≡ number 12 14 page.now) }
     ensures pages { IfOk result (λ it. it.pages ≡ number 14 16 page.now) }
     ensures counts { IfOk result (λ it. it.sections ≡ slice_index page.now 16) }
     ensures section { IfOk result (λ it. it.section ≡ slice_index page.now 17) }
-    ensures extents { IfOk result (λ it. it.extents.items ≡ superblock_extents page.now) }
+    ensures extents { IfOk result (λ it. it.extents.items ≡ superblock_extents format page.now) }
 {
-    let extents = extents_of(alloc, &page[18..end_of(page)])?;
+    let extents = extents_of(alloc, &page[start_of(format)..end_of(page, format)])?;
     Ok(Superblock {
         format,
         version: BigEndian::read_u64(&page[4..12]),
+        recorded: recorded_of(page, format),
         extent_count: BigEndian::read_u16(&page[12..14]),
         pages: BigEndian::read_u16(&page[14..16]),
         sections: page[16],
@@ -235,11 +292,11 @@ pub fn decode_section(
     // What is read has this format, and is spelled by the page.
     ensures format { IfOk result (λ it. it.format ≡ format) }
     ensures spelled { IfOk result (λ it.
-        SpellsSuperblock page.now it.format it.version it.extent_count it.pages it.sections it.section it.extents.items) }
+        SpellsSuperblock page.now it.format it.version it.recorded it.extent_count it.pages it.sections it.section it.extents.items) }
     // What the page spells is read, unless memory runs out.
-    ensures read { (version extents pages sections section : ℕ) (written : List (ℕ × ℕ))
-        → SpellsSuperblock page.now format version extents pages sections section written
-        → OkUnlessMemory result (λ it. (it.format ≡ format) × (it.version ≡ version) × (it.extent_count ≡ extents)
+    ensures read { (version recorded extents pages sections section : ℕ) (written : List (ℕ × ℕ))
+        → SpellsSuperblock page.now format version recorded extents pages sections section written
+        → OkUnlessMemory result (λ it. (it.format ≡ format) × (it.version ≡ version) × (it.recorded ≡ recorded) × (it.extent_count ≡ extents)
         × (it.pages ≡ pages) × (it.sections ≡ sections) × (it.section ≡ section) × (it.extents.items ≡ written)) }
     // Each other fault is that of the first test that fails.
     ensures fault { HasFault result (superblock_fault format page.now) }

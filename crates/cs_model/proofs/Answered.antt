@@ -1,10 +1,11 @@
 -- Put and Delete have an answer: a refusal, or what they do.
-use Rattle.std.proofs.Common.{◌≡◌, ◌⊎◌, inl, inr, ⊎_elim, ℕ, suc, ◌*◌, ◌<◌, ◌≤◌, true, false, List, [], ◌∷◌, length, Option, Some, None, refl, sym, ap, ap₂, ◌∙◌, subst, le_of_eq, le_trans, arith}
+use Rattle.std.proofs.Common.{◌≡◌, inl, inr, ⊎_elim, ℕ, suc, ◌*◌, ◌<◌, ◌≤◌, true, List, [], ◌∷◌, length, Option, Some, None, refl, sym, ap, ap₂, ◌∙◌, subst, le_of_eq, le_trans, arith}
 use Rattle.std.proofs.lemmas.Bool.{cases_lt, cases_Bool}
 use Rattle.cs_model.proofs.Places.{fits_or_full}
 use Rattle.cs_model.proofs.Needs.{all_one, fits_appends_by, appends_fit_by}
-use Rattle.cs_model.proofs.Chunks.{chunked_there, chunked_one}
+use Rattle.cs_model.proofs.Payloads.{payloads_one, payloads_there}
 use Rattle.cs_model.proofs.Limits.{past_decided, worn_or_not, not_past}
+use Rattle.cs_model.proofs.Heavy.{heavy_or_not}
 use Rattle.cs_model.proofs.Outcomes.{Answers, not_true, clears, ends, all_generations_by}
 use Rattle.cs_model.specs.Append.{chunk_frames, page_counts, AppendAllBy}
 use Rattle.cs_model.specs.Device.{IsShape, Shape}
@@ -13,19 +14,18 @@ use Rattle.cs_model.specs.Events.{Does}
 use Rattle.cs_model.specs.Extents.{ForPut, FitsBy}
 use Rattle.cs_model.specs.Formats.{Formats}
 use Rattle.cs_model.specs.Frames.{IsFormat}
-use Rattle.cs_model.specs.Grounds.{NoRoomToPut, WouldPass, is_named}
-use Rattle.cs_model.specs.Index.{names}
+use Rattle.cs_model.specs.Grounds.{NoRoomToPut, TooHeavy, WouldPass}
 use Rattle.cs_model.specs.Machine.{World}
 use Rattle.cs_model.specs.Refusal.{Full, Halted, IndexFull, TooLarge, WornOut}
 use Rattle.cs_model.specs.Sound.{Bounded, Sound}
-use Rattle.cs_model.specs.State.{Absent, Accepted, Delete, Put, Refused, Reply, State, index_now, map_now}
+use Rattle.cs_model.specs.State.{Absent, Accepted, Delete, Put, Refused, Reply, State, map_now, next_command}
 
 module _ (S : Shape) (F : Formats) (shape : IsShape S) (format : IsFormat S F) where
   -- put
   pub put_one : (s : State) (id : ℕ) (bytes : List ℕ) (r q : Reply) (t u : State) → Does S F s (Put id bytes) r t
       → Does S F s (Put id bytes) q u → u ≡ t
   put_one s id bytes (Accepted n) (Accepted m) t u a b =
-      let chunks : a.0 ≡ b.0 = chunked_one S.chunk_bytes bytes a.0 b.0 a.3 b.3 in
+      let chunks : a.0 ≡ b.0 = payloads_one S F id (next_command s) bytes a.0 b.0 a.3 b.3 in
       let one = all_one S S.apart s.world a.4.0 b.4.0 ForPut (chunk_frames S F b.0) a.1 b.1
       (subst (λ (cs : List (List ℕ)). AppendAllBy S S.apart s.world ForPut (chunk_frames S F cs) a.1 a.4.0) chunks a.4.1)
       b.4.1 in
@@ -44,10 +44,10 @@ module _ (S : Shape) (F : Formats) (shape : IsShape S) (format : IsFormat S F) w
     | inr runs ↦ (let go : s.halted ≡ true → ⊥ = not_true s.halted runs in
         elim (cases_lt (S.most_chunks * S.chunk_bytes) (length bytes)) [
           | inl large ↦ (Refused TooLarge, s, (inl (inr (go, inl (large, refl))), refl))
-          | inr small ↦ (let fits : S.most_chunks * S.chunk_bytes < length bytes → ⊥ = (λ lt. omega arith) in ⊎_elim
-              (λ full. (Refused IndexFull, s, (inl (inr (go, inr (fits, inl (full, refl)))), refl)))
-              (λ (named : (is_named S F s id ≡ false) × (S.most_names ≤ names (index_now s)) → ⊥).
-              let chunks = chunked_there S.chunk_bytes bytes shape.some_byte in ⊎_elim
+          | inr small ↦ (let fits : S.most_chunks * S.chunk_bytes < length bytes → ⊥ = (λ lt. omega arith) in
+              let chunks = payloads_there S F id (next_command s) bytes shape.some_byte in ⊎_elim
+              (λ heavy. (Refused IndexFull, s, (inl (inr (go, inr (fits, inl (heavy, refl)))), refl)))
+              (λ (light : TooHeavy S F s id bytes → ⊥). ⊎_elim
               (λ (place : FitsBy S S.apart s.world.extents ForPut (page_counts (chunk_frames S F chunks.0))).
               let all = fits_appends_by S shape S.apart s.world ForPut (chunk_frames S F chunks.0) place in
               let mid : State = record s { world = all.1 } in
@@ -57,7 +57,7 @@ module _ (S : Shape) (F : Formats) (shape : IsShape S) (format : IsFormat S F) w
               } in
               let d : Does S F s (Put id bytes) (Accepted (suc (length s.commands))) t =
               (chunks.0, all.0, mid, chunks.1, (all.1, all.2, refl), refl, refl) in
-              let room : NoRoomToPut S F s bytes
+              let room : NoRoomToPut S F s id bytes
               → ⊥ = (λ none. none chunks.0 all.0 mid chunks.1 (all.1, all.2, refl)) in
               let young : (e : ℕ)
               → t.world.extents.generation e ≤ S.greatest_generation =
@@ -69,14 +69,14 @@ module _ (S : Shape) (F : Formats) (shape : IsShape S) (format : IsFormat S F) w
               (λ worn. (
                 Refused WornOut,
                 s,
-                (inl (inr (go, inr (fits, inr (named, inr (room, inl (worn, refl)))))), refl),
+                (inl (inr (go, inr (fits, inr (light, inr (room, inl (worn, refl)))))), refl),
               ))
               (λ (not_worn : WouldPass S F s (Put id bytes) → ⊥). (
                 Accepted (suc (length s.commands)),
                 t,
                 (
                   clears Halted go (clears TooLarge fits
-                      (clears IndexFull named (clears Full room (clears WornOut not_worn ends)))),
+                      (clears IndexFull light (clears Full room (clears WornOut not_worn ends)))),
                   d,
                 ),
               ))
@@ -92,13 +92,13 @@ module _ (S : Shape) (F : Formats) (shape : IsShape S) (format : IsFormat S F) w
                     inr (
                       fits,
                       inr (
-                        named,
+                        light,
                         inl (
                           (λ cs ls mid chunked appends.
                               no_place (appends_fit_by S shape S.apart s.world appends.0 ForPut (chunk_frames S F chunks.0) ls
                               (subst (λ (x : List (List ℕ)). AppendAllBy S S.apart s.world ForPut
                               (chunk_frames S F x) ls appends.0)
-                              (chunked_one S.chunk_bytes bytes cs chunks.0 chunked chunks.1) appends.1))),
+                              (payloads_one S F id (next_command s) bytes cs chunks.0 chunked chunks.1) appends.1))),
                           refl,
                         ),
                       ),
@@ -108,19 +108,9 @@ module _ (S : Shape) (F : Formats) (shape : IsShape S) (format : IsFormat S F) w
                 ),
               ))
               (fits_or_full S S.apart s.world.extents ForPut (page_counts (chunk_frames S F chunks.0))))
-              (full_or_not s id))
+              (heavy_or_not S F shape s id bytes))
         ])
   ]
-    where
-      full_or_not : (x : State) (k : ℕ) → ((is_named S F x k ≡ false) × (S.most_names ≤ names (index_now x)))
-          ⊎ ((is_named S F x k ≡ false) × (S.most_names ≤ names (index_now x)) → ⊥)
-      full_or_not x k = elim (cases_Bool (is_named S F x k)) [
-        | inl is ↦ inr (λ both. not_true (is_named S F x k) both.0 is)
-        | inr not ↦ elim (cases_lt (names (index_now x)) S.most_names) [
-          | inl lt ↦ inr (λ both. let le : S.most_names ≤ names (index_now x) = both.1 in omega arith)
-          | inr le ↦ inl (not, le)
-        ]
-      ]
 
   -- delete
   pub delete_one : (s : State) (id : ℕ) (r q : Reply) (t u : State) → Does S F s (Delete id) r t

@@ -35,7 +35,7 @@ use Rattle.cs_model.specs.Step.{History, Step}
 pub is_new : IsNew example_apart example_format example_image
 is_new = record {
   superblock = λ j lt. subst (λ (i : ℕ). example_image (example_apart.section_page i)
-      ≡ example_format.superblock example_apart.format i 1 (λ e. 0) (λ e. 0)) (let e : 0 ≡ j = omega arith in e) refl;
+      ≡ example_format.superblock example_apart.format i 1 0 (λ e. 0) (λ e. 0)) (let e : 0 ≡ j = omega arith in e) refl;
   root = refl;
   root_fits = refl;
   some_number = omega arith;
@@ -45,10 +45,12 @@ abbrev gives : Recovers example_apart example_format example_image 0 (λ id. Non
 gives = record {
   formats = λ j. 1;
   versions = λ j. 1;
+  recorded = λ j. 0;
   pointers = λ e. 0;
   generations = λ e. 0;
   superblock = is_new.superblock;
   version = 1;
+  recorded_fit = λ j lt. omega arith;
   runs = [];
   root = is_new.root;
   root_fits = is_new.root_fits;
@@ -60,7 +62,7 @@ gives = record {
     version_fits = is_new.some_number;
     commands_fit = omega arith;
     few_runs = omega arith;
-    named = omega arith;
+    weight_fits = omega arith;
     chunks_fit = λ id. omega arith;
   };
   gives = record {
@@ -104,23 +106,26 @@ appends w purpose bs e goes = record {
   after = refl;
 }
 
--- the put
+-- the put: a chunk without bytes, the only one of shard 1, which command 1 puts
+abbrev payload : List ℕ
+payload = 1 ∷ 0 ∷ 1 ∷ 1 ∷ []
+
 abbrev world1 : World
-world1 = append s0.world ForPut ([] ∷ []) 0
+world1 = append s0.world ForPut (payload ∷ []) 0
 
 abbrev chunk : Locator
-chunk = record { extent = 0; page = 0; generation = 0; mark = mark_of example_apart ([] ∷ []) }
+chunk = record { extent = 0; page = 0; generation = 0; mark = mark_of example_apart (payload ∷ []) }
 
 abbrev s1 : State
 s1 = record s0 { world = world1; table = record { id = 1; locators = chunk ∷ [] } ∷ []; commands = (1, Some []) ∷ [] }
 
 puts : Does example_apart example_format s0 (Put 1 []) (Accepted 1) s1
 puts = (
-  [] ∷ [],
+  payload ∷ [],
   chunk ∷ [],
   record s0 { world = world1 },
-  (refl, omega arith, omega arith),
-  (world1, (world1, appends s0.world ForPut ([] ∷ []) 0 put_goes, refl), refl),
+  ([] ∷ [], (refl, omega arith, omega arith), refl),
+  (world1, (world1, appends s0.world ForPut (payload ∷ []) 0 put_goes, refl), refl),
   refl,
   refl,
 )
@@ -227,10 +232,10 @@ copy_goes = inr (inr (
 ))
 
 abbrev world4 : World
-world4 = append s3.world ForMove ([] ∷ []) 2
+world4 = append s3.world ForMove (payload ∷ []) 2
 
 abbrev moved : Locator
-moved = record { extent = 2; page = 0; generation = 0; mark = mark_of example_apart ([] ∷ []) }
+moved = record { extent = 2; page = 0; generation = 0; mark = mark_of example_apart (payload ∷ []) }
 
 abbrev s4 : State
 s4 = record s3 { world = world4; copies = record { id = 1; chunk = 0; from = chunk; to = moved } ∷ [] }
@@ -253,6 +258,8 @@ shape = let base = is_shape 6 2 1 8 1 (record {
   some_chunk = base.some_chunk;
   some_byte = base.some_byte;
   enough_runs = base.enough_runs;
+  weighs = base.weighs;
+  one_fits = base.one_fits;
   apart = λ on. (refl, refl, omega arith, omega arith);
   fills = λ on. absurd (true≢false (sym on));
   marks = base.marks;
@@ -262,7 +269,7 @@ moves : Does example_apart example_format s3 (MoveOne 0) (Moved 1 0) s4
 moves = (
   chunk,
   moved,
-  [],
+  payload,
   record s3 { world = world4 },
   refl,
   first_left,
@@ -272,15 +279,15 @@ moves = (
       generation = refl;
       below = omega arith;
       inside = (omega arith, omega arith);
-      mark = frame_fits example_apart shape ([] ∷ []);
+      mark = frame_fits example_apart shape (payload ∷ []);
     };
     below = inl (omega arith);
     inside = omega arith;
     within = omega arith;
     stand = (refl, tt);
-    marked = own_mark (mark_of example_apart ([] ∷ []));
+    marked = own_mark (mark_of example_apart (payload ∷ []));
   },
-  (world4, appends s3.world ForMove ([] ∷ []) 2 copy_goes, refl),
+  (world4, appends s3.world ForMove (payload ∷ []) 2 copy_goes, refl),
   refl,
 )
 
@@ -375,9 +382,9 @@ fresh s t event one fine w = fine (subst (λ (x : State). PastLimit example_apar
 put_steps : Step example_apart example_format s0 (Put 1 []) (Accepted 1) s1
 put_steps = (
   clears Halted (not_true false refl) (clears TooLarge (λ large. let over : 65000 < 0 = omega (arith, large) in omega arith)
-      (clears IndexFull (λ full. let over : 100 ≤ 0 = full.1 in omega arith)
-      (clears Full (λ none. none ([] ∷ []) (chunk ∷ []) (record s0 { world = world1 }) (refl, omega arith, omega arith)
-      (world1, (world1, appends s0.world ForPut ([] ∷ []) 0 put_goes, refl), refl))
+      (clears IndexFull (λ heavy. let over : 100 < 1 = heavy.2 in omega arith)
+      (clears Full (λ none. none (payload ∷ []) (chunk ∷ []) (record s0 { world = world1 }) ([] ∷ [], (refl, omega arith, omega arith), refl)
+      (world1, (world1, appends s0.world ForPut (payload ∷ []) 0 put_goes, refl), refl))
       (clears WornOut (fresh s0 s1 (Put 1 [])
       (λ r u d. put_one example_apart example_format shape format s0 1 [] (Accepted 1) r s1 u puts d)
       (small s1 (omega arith) (omega arith) (omega arith) (λ e. omega arith) (omega arith))) ends)))),
@@ -408,7 +415,7 @@ move_steps = (
       (λ g x. let same : x.2 ≡ chunk =
       (left_one example_apart example_format shape format s3 0 x.0 1 x.1 0 x.2 chunk x.3 first_left).2 in
       let wrong : None ≡ Some g = ap s3.opening.damage (sym same) ∙ x.4 in cc)
-      (clears Full (λ full. full.1 1 0 chunk moved [] (record s3 { world = world4 }) first_left moves.7 moves.8)
+      (clears Full (λ full. full.1 1 0 chunk moved payload (record s3 { world = world4 }) first_left moves.7 moves.8)
       (clears WornOut (fresh s3 s4 (MoveOne 0)
       (λ r u d. move_one example_apart example_format shape format s3 0 (Moved 1 0) r s4 u moves d)
       (small s4 (omega arith) (omega arith) (omega arith) (λ e. omega arith) (omega arith))) ends)))),

@@ -13,6 +13,7 @@ use Rattle.cs_model.proofs.Parts.{each}
 use Rattle.cs_model.proofs.Roots.{moved_entry}
 use Rattle.cs_model.proofs.Settling.{settle_all_is}
 use Rattle.cs_model.proofs.Rules.{apart_rule, rule_apart}
+use Rattle.cs_model.proofs.Weights.{weight_replaced}
 use Rattle.cs_model.specs.Apart.{is_place, settle, settle_all, settled}
 use Rattle.cs_model.specs.Device.{IsShape, Shape}
 use Rattle.cs_model.specs.Element.{Copy, Locator, Opening}
@@ -52,7 +53,9 @@ module _ (S : Shape) (F : Formats) (shape : IsShape S) (format : IsFormat S F) w
                 (λ x has. sound.gives.holds c.id x has) (inr (copy.0, copy.2)))
                 done.1,
             bounded_entry S F shape format s c.id moved s.commands b
-                (inl (named_nth S F shape format (lookup c.id (index_now s)) c.chunk c.from at))
+                (le_trans (weight_replaced S.weigh c.id moved (index_now s)
+                (named_nth S F shape format (lookup c.id (index_now s)) c.chunk c.from at)
+                (length_replaced S F shape format (live_at (index_now s) c.id) c.chunk c.to)) b.bounds.weight_fits)
                 (le_trans (le_of_eq (length_replaced S F shape format (live_at (index_now s) c.id) c.chunk c.to))
                 (b.bounds.chunks_fit c.id)) b.bounds.commands_fit,
           )

@@ -1,19 +1,19 @@
 -- All numbers keep to their bounds, so that what is staged can be spelled.
-use Rattle.std.proofs.Common.{◌≡◌, ◌≢◌, ◌⊎◌, inl, inr, ⊎_elim, ℕ, suc, ◌+◌, ◌<◌, ◌≤◌, Bool, true, false, List, [], ◌∷◌, ◌++◌, length, drop, if◌then◌else◌, Option, Some, None, ◌==◌, eq-eqb, ne_eqb, true≢false, le_trans, le_of_eq, refl, sym, ap, ap₂, ◌∙◌, subst, arith}
-use Rattle.std.specs.Prelude.{is_some}
-use Rattle.std.proofs.lemmas.Bool.{cases_eq, cases_Bool}
+use Rattle.std.proofs.Common.{◌≡◌, ◌≢◌, ◌⊎◌, inl, inr, ℕ, suc, ◌+◌, ◌≤◌, Bool, true, false, List, [], ◌∷◌, ◌++◌, length, drop, if◌then◌else◌, Option, Some, None, ◌==◌, eq-eqb, ne_eqb, le_trans, le_of_eq, refl, sym, ap, ap₂, ◌∙◌, subst, arith}
+use Rattle.std.proofs.lemmas.Bool.{cases_eq}
 use Rattle.cs_model.proofs.Parts.{each}
-use Rattle.cs_model.proofs.Counting.{names_le, ascending_names, ascending_lookup, lookup_here, lookup_there}
+use Rattle.cs_model.proofs.Counting.{ascending_lookup, lookup_here, lookup_there}
 use Rattle.cs_model.proofs.Roots.{RootFits}
 use Rattle.cs_model.proofs.Gives.{front_passes}
 use Rattle.cs_model.proofs.Merging.{in_drop, index_cut, most_fits}
+use Rattle.cs_model.proofs.Weights.{ascending_weight, weight_some}
 use Rattle.cs_model.specs.Device.{IsShape, Page, Shape}
 use Rattle.cs_model.specs.Disk.{written}
 use Rattle.cs_model.specs.Element.{Entry, Locator, Map, Run}
 use Rattle.cs_model.specs.Events.{newest_page}
 use Rattle.cs_model.specs.Formats.{Formats, places}
 use Rattle.cs_model.specs.Frames.{IsFormat, most_staged}
-use Rattle.cs_model.specs.Index.{AllPass, Ascending, Gives, InBounds, InRange, IsRunList, Passes, entries_of, if_live, live, lookup, names}
+use Rattle.cs_model.specs.Index.{AllPass, Ascending, Gives, InBounds, InRange, IsRunList, Passes, entries_of, if_live, live, lookup, named_weight}
 use Rattle.cs_model.specs.Lists.{◌∈◌}
 use Rattle.cs_model.specs.Merges.{IsRunOf, part}
 use Rattle.cs_model.specs.Refusal.{Refusal}
@@ -37,10 +37,6 @@ lookup_front id (x ∷ xs) ys ls at = elim (cases_eq x.id id) [
   | inl is ↦ lookup_here x (xs ++ ys) id is ∙ sym (lookup_here x xs id is) ∙ at
   | inr not ↦ lookup_there x (xs ++ ys) id not ∙ lookup_front id xs ys ls (sym (lookup_there x xs id not) ∙ at)
 ]
-
-pub some_named : (o : Option (List Locator)) → is_some o ≡ true → (ls : List Locator) × (o ≡ Some ls)
-some_named None is = absurd (true≢false (sym is))
-some_named (Some ls) is = (ls, refl)
 
 pub if_live_some : (o : Option (List Locator)) (ls : List Locator) → if_live o ≡ Some ls → o ≡ Some ls
 if_live_some None ls is = is
@@ -76,10 +72,8 @@ module _ (S : Shape) (F : Formats) (shape : IsShape S) (format : IsFormat S F) w
   run_list s v n k index entries img p sound bounds some order in_index pass = record {
     some = some;
     ascending = order;
-    few = le_trans (le_of_eq (sym (ascending_names entries order)))
-        (le_trans (names_le entries index
-        (λ id is. (let at = some_named (lookup id entries) is in
-        ap (λ (o : Option (List Locator)). is_some o) (in_index id at.0 at.1)))) bounds.named);
+    weight_fits = le_trans (le_of_eq (sym (ascending_weight S.weigh entries order)))
+        (le_trans (weight_some S.weigh entries index in_index) bounds.weight_fits);
     locators = λ x has. (let at = ascending_lookup entries x order has in (
       subst (λ (o : Option (List Locator)). length (live o) ≤ S.most_chunks) (in_index x.id x.locators at)
           (bounds.chunks_fit x.id),
@@ -121,9 +115,7 @@ module _ (S : Shape) (F : Formats) (shape : IsShape S) (format : IsFormat S F) w
         version_fits = root;
         commands_fit = b.bounds.commands_fit;
         few_runs = le_trans few (most_fits S shape);
-        named = le_trans (names_le (entries_of runs) (index_now s)
-            (λ id is. (let at = some_named (lookup id (entries_of runs)) is in
-            ap (λ (o : Option (List Locator)). is_some o) (in_index id at.0 at.1)))) b.bounds.named;
+        weight_fits = le_trans (weight_some S.weigh (entries_of runs) (index_now s) in_index) b.bounds.weight_fits;
         chunks_fit = λ id. small id (lookup id (entries_of runs)) refl;
       }) all
     where
@@ -174,7 +166,7 @@ module _ (S : Shape) (F : Formats) (shape : IsShape S) (format : IsFormat S F) w
       commands_fit = le_trans
           (le_of_eq (ap₂ (λ (c : ℕ) (cs : List Command). c + length cs) count commands)) b.bounds.commands_fit;
       few_runs = le_trans (le_of_eq (ap length runs)) b.bounds.few_runs;
-      named = le_trans (le_of_eq (ap names index)) b.bounds.named;
+      weight_fits = le_trans (le_of_eq (ap (named_weight S.weigh) index)) b.bounds.weight_fits;
       chunks_fit = λ id. subst (λ (es : List Entry). length (live (lookup id es)) ≤ S.most_chunks) (sym index)
           (b.bounds.chunks_fit id);
     };
@@ -187,7 +179,7 @@ module _ (S : Shape) (F : Formats) (shape : IsShape S) (format : IsFormat S F) w
 
   -- an entry more
   pub bounded_entry : (s : State) (id : ℕ) (ls : List Locator) (cs : List Command) → Bounded S F s
-      → (is_some (lookup id (index_now s)) ≡ true) ⊎ (names (index_now s) < S.most_names) → length ls ≤ S.most_chunks
+      → named_weight S.weigh (record { id = id; locators = ls } ∷ index_now s) ≤ S.most_weight → length ls ≤ S.most_chunks
       → s.count + length cs ≤ S.greatest_number
       → Bounded S F (record s { table = record { id = id; locators = ls } ∷ s.table; commands = cs })
   bounded_entry s id ls cs b room few fit = record {
@@ -196,11 +188,7 @@ module _ (S : Shape) (F : Formats) (shape : IsShape S) (format : IsFormat S F) w
       version_fits = b.bounds.version_fits;
       commands_fit = fit;
       few_runs = b.bounds.few_runs;
-      named = elim (cases_Bool (is_some (lookup id (index_now s)))) [
-        | inl old ↦ rw old b.bounds.named
-        | inr new ↦ ⊎_elim (λ (old : is_some (lookup id (index_now s)) ≡ true). absurd (true≢false (sym old ∙ new)))
-            (λ (lt : names (index_now s) < S.most_names). rw new lt) room
-      ];
+      weight_fits = room;
       chunks_fit = λ k. elim (cases_eq id k) [
         | inl is ↦ (let test : (id == k) ≡ true = eq-eqb id k is in rw test few)
         | inr not ↦ (let test : (id == k) ≡ false = ne_eqb id k not in rw test (b.bounds.chunks_fit k))

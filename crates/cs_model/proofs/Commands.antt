@@ -1,41 +1,42 @@
 -- Put and Delete keep a state sound.
-use Rattle.std.proofs.Common.{◌+◌, ◌≡◌, ◌≢◌, ◌⊎◌, inl, inr, ⊎_elim, ℕ, suc, ◌<◌, ◌≤◌, true, List, [], ◌∷◌, ◌++◌, length, Option, Some, None, le_of_eq, le_trans, refl, sym, ap, ap₂, ◌∙◌, subst, arith}
-use Rattle.std.proofs.lemmas.Bool.{cases_lt, cases_Bool}
+use Rattle.std.proofs.Common.{◌+◌, ◌≡◌, ◌≢◌, inl, inr, ⊎_elim, ℕ, suc, ◌<◌, ◌≤◌, true, List, [], ◌∷◌, ◌++◌, length, Option, Some, None, le_of_eq, le_trans, refl, sym, ap, ap₂, ◌∙◌, subst, arith}
+use Rattle.std.proofs.lemmas.Bool.{cases_lt}
 use Rattle.cs_model.specs.Device.{IsShape, Page, Shape}
 use Rattle.cs_model.specs.Element.{Bytes, Content, Entry, Locator, Opening, Run}
 use Rattle.cs_model.specs.Events.{Does}
 use Rattle.cs_model.specs.Formats.{Formats}
 use Rattle.cs_model.specs.Frames.{IsFormat}
 use Rattle.cs_model.specs.Grounds.{Refuses, WouldPass}
-use Rattle.cs_model.specs.Index.{Chunks, ReadsAs, Value, entries_of, joined, lookup, names}
+use Rattle.cs_model.specs.Index.{Chunks, ReadsAs, Value, entries_of, joined_bodies, lookup, named_weight, weight_with}
 use Rattle.cs_model.specs.Machine.{World}
 use Rattle.cs_model.specs.Refusal.{Full, Halted, IndexFull, Refusal, TooLarge, WornOut}
 use Rattle.cs_model.specs.Sound.{Bounded, Sound}
-use Rattle.cs_model.specs.State.{Accepted, Delete, Event, Put, Reply, State, index_now, map_now}
+use Rattle.cs_model.specs.State.{Accepted, Delete, Event, Put, Reply, State, index_now, map_now, next_command}
 use Rattle.std.specs.Prelude.{is_some}
-use Rattle.cs_model.proofs.Counting.{few_chunks}
+use Rattle.cs_model.proofs.Payloads.{payloads_bytes, payloads_few, payloads_length, payloads_some}
 use Rattle.cs_model.proofs.Bounds.{not_first, bounded_same, bounded_entry}
 use Rattle.cs_model.proofs.Gives.{chunks_pass, chunks_hold}
 use Rattle.cs_model.proofs.Frames.{put_in}
 use Rattle.cs_model.proofs.Roots.{with_entry}
+use Rattle.cs_model.proofs.Weights.{weight_deletion}
 
 module _ (S : Shape) (F : Formats) (shape : IsShape S) (format : IsFormat S F) where
   put_reading : (opening : Opening) → (img : ℕ → Page) (p g : ℕ → ℕ) (ls : List Locator) (cs : List (List ℕ))
-      → Chunks S F opening img p g ls cs → ReadsAs S F opening img p g ls (Bytes (joined cs))
+      → Chunks S F opening img p g ls cs → ReadsAs S F opening img p g ls (Bytes (joined_bodies F cs))
   put_reading opening img p g [] [] all = refl
   put_reading opening img p g [] (c ∷ cs) all = absurd all
   put_reading opening img p g (l ∷ ls) [] all = absurd all
   put_reading opening img p g (l ∷ ls) (c ∷ cs) all = inl
-      (c, Bytes (joined cs), all.0, put_reading opening img p g ls cs all.1, refl)
+      (c, Bytes (joined_bodies F cs), all.0, put_reading opening img p g ls cs all.1, refl)
 
   put_value : (opening : Opening)
       → (img : ℕ → Page) (p g : ℕ → ℕ) (ls : List Locator) (cs : List (List ℕ)) (bytes : List ℕ)
-      → Chunks S F opening img p g ls cs → joined cs ≡ bytes → 0 < length cs
+      → Chunks S F opening img p g ls cs → joined_bodies F cs ≡ bytes → 0 < length cs
       → Value S F opening img p g (Some ls) (Some (Bytes bytes))
   put_value opening img p g [] [] bytes all is some = absurd (omega arith)
   put_value opening img p g [] (c ∷ cs) bytes all is some = absurd all
   put_value opening img p g (l ∷ ls) cs bytes all is some =
-      (Bytes (joined cs), put_reading opening img p g (l ∷ ls) cs all, ap (λ (b : List ℕ). Some (Bytes b)) (sym is))
+      (Bytes (joined_bodies F cs), put_reading opening img p g (l ∷ ls) cs all, ap (λ (b : List ℕ). Some (Bytes b)) (sym is))
 
   pub same_index : (s t : State) → t.table ≡ s.table → t.runs ≡ s.runs → index_now t ≡ index_now s
   same_index s t a b = ap₂ (λ (x : List Entry) (y : List Run). x ++ entries_of y) a b
@@ -84,24 +85,21 @@ module _ (S : Shape) (F : Formats) (shape : IsShape S) (format : IsFormat S F) w
       (ap (λ (x : State). x.world.written) (sym d.6))) p.root p.count p.commands p.runs p.table b in
       let index = same_index s d.2 p.table p.runs in
       let small : length d.1 ≤ S.most_chunks = le_trans (le_of_eq (chunk_count _ _ _ _ d.1 d.0 p.chunks))
-      (few_chunks S.chunk_bytes S.most_chunks bytes d.0 shape.some_chunk d.3.2 d.3.0 (not_below _ _ large.0)) in
+      (payloads_few S F shape id (next_command s) bytes d.0 d.3 (not_below _ _ large.0)) in
       let total : t.count + length t.commands ≡ d.2.count + length ((id, Some bytes) ∷ d.2.commands) = ap
       (λ (x : State). x.count + length x.commands) d.6 in
       let fit_mid : d.2.count + length ((id, Some bytes) ∷ d.2.commands) ≤ S.greatest_number = le_trans
       (le_of_eq (sym total)) (not_below _ _ (λ lt. worn.0 (Accepted n, t, d, inr lt))) in
-      let room : (is_some (lookup id (index_now d.2)) ≡ true)
-      ⊎ (names (index_now d.2) < S.most_names) = elim (cases_Bool (is_some (lookup id (index_now s)))) [
-        | inl old ↦ inl (ap (λ (es : List Entry). is_some (lookup id es)) index ∙ old)
-        | inr new ↦ inr (le_trans (le_of_eq (ap (λ (es : List Entry). suc (names es)) index))
-            (⊎_elim (λ (lt : names (index_now s) < S.most_names). lt)
-            (λ (le : S.most_names ≤ names (index_now s)). absurd (full.0 (new, le)))
-            (cases_lt (names (index_now s)) S.most_names)))
-      ] in
+      let room : named_weight S.weigh (record { id = id; locators = d.1 } ∷ index_now d.2) ≤ S.most_weight =
+      le_trans (le_of_eq (ap₂ (λ (es : List Entry) (c : ℕ). weight_with S.weigh es id c) index
+      (chunk_count _ _ _ _ d.1 d.0 p.chunks ∙ payloads_length S F id (next_command s) bytes d.0 d.3)))
+      (not_below _ _ (λ lt. full.0 (d.3.0, d.3.1, lt))) in
       both _ t d.6
       (with_entry S F shape format d.2 id d.1 p.sound
       (chunks_pass S F shape format _ _ _ _ d.1 d.0 p.chunks)
       (chunks_hold S F shape format d.2.opening _ _ _ d.1 d.0 p.chunks) (id, Some bytes)
-      (put_value d.2.opening _ _ _ d.1 d.0 bytes p.chunks d.3.0 d.3.1) refl)
+      (put_value d.2.opening _ _ _ d.1 d.0 bytes p.chunks (payloads_bytes S F format id (next_command s) bytes d.0 d.3)
+      (payloads_some S F id (next_command s) bytes d.0 d.3)) refl)
       (bounded_entry S F shape format d.2 id d.1 ((id, Some bytes) ∷ d.2.commands) mid room small fit_mid)
 
   named_there : (opening : Opening) (img : ℕ → Page) (p g : ℕ → ℕ) (o : Option (List Locator)) (v : Option Content)
@@ -121,5 +119,6 @@ module _ (S : Shape) (F : Formats) (shape : IsShape S) (format : IsFormat S F) w
       both _ t d.2 (with_entry S F shape format s id [] sound (λ l has. absurd has)
       (λ l has. absurd has) (id, None) refl refl)
       (bounded_entry S F shape format s id [] ((id, None) ∷ s.commands) b
-      (inl (named_there s.opening _ _ _ (lookup id (index_now s)) (map_now s id) d.0 (sound.gives.values id)))
+      (le_trans (weight_deletion S.weigh shape.weighs id (index_now s)
+      (named_there s.opening _ _ _ (lookup id (index_now s)) (map_now s id) d.0 (sound.gives.values id))) b.bounds.weight_fits)
       (omega arith) fit)

@@ -49,12 +49,13 @@ one_example_root v w n k xs ys fx fy e =
 -- where extents aren't filled up
 pub example_is_format : (S : Shape) → S.fills ≡ false → IsFormat S example_format
 example_is_format S off = record {
-  section = λ f j v p g q h same. refl;
+  section = λ f j v r p g q h same. refl;
   some_page = λ kind payload. omega arith;
   one_root = one_example_root;
   one_run = λ xs ys fx fy is. one_flat_entries xs ys is;
   root_fits = λ v n ls some a b c d. refl;
   run_fits = λ entries is. refl;
+  behind_head = λ id number count command piece. refl;
   no_fault = λ img e i count kind payload fits inside stand. refl;
   tells = λ on. absurd (true≢false (sym on ∙ off));
   one_payload = λ img e i kind a b fa fb sa sb. sym sa.0 ∙ sb.0;
@@ -87,13 +88,14 @@ module _ (S : Shape) where
 
   pub telling_is_format : IsFormat S (telling_format S)
   telling_is_format = record {
-    section = λ f j v p g q h same. told_alike j p q (λ e at. (same e at).0) S.extents;
+    section = λ f j v r p g q h same. told_alike j p q (λ e at. (same e at).0) S.extents;
     some_page = λ kind payload. omega arith;
     one_root = one_example_root;
     one_run = λ xs ys fx fy is. one_flat_entries xs ys is;
     root_fits = λ v n ls some a b c d. refl;
     run_fits = λ entries is. refl;
+    behind_head = λ id number count command piece. refl;
     no_fault = λ img e i count kind payload fits inside stand. refl;
     one_payload = λ img e i kind a b fa fb sa sb. sym sa.0 ∙ sb.0;
-    tells = λ on f k j v w p g q h fits also is e lt at. told_here j p q S.extents e is lt at;
+    tells = λ on f k j v w a b p g q h fits also is e lt at. told_here j p q S.extents e is lt at;
   }

@@ -1,5 +1,5 @@
 -- The image of a closed set gives what its greatest root gave when it was staged.
-use Rattle.std.proofs.Common.{◌≡◌, refl, subst, ℕ, ◌<◌, ◌≤◌, true, false, ◌&&◌, nat_le, [], ◌==◌, le_of_eq, le-leb, leb-true, eq-eqb, subst₂, sym, ap, ◌∙◌, arith}
+use Rattle.std.proofs.Common.{◌≡◌, refl, subst, ℕ, ◌<◌, ◌≤◌, true, false, ◌&&◌, nat_le, [], ◌==◌, le_of_eq, le_trans, le-leb, leb-true, eq-eqb, subst₂, sym, ap, ◌∙◌, arith}
 use Rattle.std.proofs.lemmas.Bool.{false_from_ne_true}
 use Rattle.cs_model.specs.Cut.{Closed, Cut, Exact, Within, held_by, section_of}
 use Rattle.cs_model.specs.Device.{Inside, IsShape, Page, PageKind, Place, Shape}
@@ -39,7 +39,7 @@ module _ (S : Shape) (F : Formats) {opening : Opening} (shape : IsShape S) (form
 
   section_there : (j : ℕ) → j < S.sections
       → img (S.section_page j) ≡ F.superblock (exact.superblock j).format j
-      (exact.superblock j).version pointers_of generations_of
+      (exact.superblock j).version (exact.superblock j).recorded pointers_of generations_of
   unfolding pointers_of generations_of
   section_there j lt =
       let u = exact.superblock j in
@@ -49,7 +49,7 @@ module _ (S : Shape) (F : Formats) {opening : Opening} (shape : IsShape S) (form
       (superblocks_of w.elements) u safe.superblocks_order is.0
       (and_true _ _ (eq-eqb _ _ is.1) (le-leb _ _ (le_of_eq is.2)))
       (λ y has passes before. no_later u y j (X.superblocks j) is.1 is.2 passes before)
-      ∙ format.section u.format j u.version u.pointers u.generations _ _
+      ∙ format.section u.format j u.version u.recorded u.pointers u.generations _ _
       (λ e sec. (
         ap (λ (i : ℕ). (exact.superblock i).pointers e) (sym sec),
         ap (λ (i : ℕ). (exact.superblock i).generations e) (sym sec),
@@ -104,6 +104,11 @@ module _ (S : Shape) (F : Formats) {opening : Opening} (shape : IsShape S) (form
   extents_small e = (safe.superblocks_fit (exact.superblock (S.section e))
       (exact.superblocks (S.section e) (shape.section e)).0).2 e
 
+  -- a section records no later root than the greatest, since what is persistent has none
+  pub records_earlier : (j : ℕ) → j < S.sections → (exact.superblock j).recorded ≤ exact.root.0.version
+  records_earlier j lt = le_trans (safe.recorded_below (exact.superblock j) (exact.superblocks j lt).0)
+      (le_trans low.root (le_of_eq (sym exact.root.2)))
+
   -- an image with the same root and sections, and with what the root names and what it found frozen, gives the same
   pub record Alike (other : ℕ → Page) : Type 0 where
     pub root : other S.root_page ≡ img S.root_page
@@ -117,10 +122,12 @@ module _ (S : Shape) (F : Formats) {opening : Opening} (shape : IsShape S) (form
   recovers_alike other alike = record {
     formats = λ j. (exact.superblock j).format;
     versions = λ j. (exact.superblock j).version;
+    recorded = λ j. (exact.superblock j).recorded;
     pointers = pointers_of;
     generations = generations_of;
     superblock = λ j lt. alike.sections j lt ∙ section_there j lt;
     version = exact.root.0.version;
+    recorded_fit = records_earlier;
     runs = exact.root.0.runs;
     root = alike.root ∙ root_there;
     root_fits = (safe.good exact.root.0 exact.root.1).1;

@@ -17,6 +17,7 @@ pub mod ClosedSets
 pub mod Commands
 pub mod Counting
 pub mod Crash
+pub mod Dead
 pub mod Device
 pub mod Distinct
 pub mod Examples
@@ -25,6 +26,7 @@ pub mod FirstChunks
 pub mod Frames
 pub mod Frozen
 pub mod Gives
+pub mod Heavy
 pub mod Highest
 pub mod Images
 pub mod Keeps
@@ -46,9 +48,11 @@ pub mod Opens
 pub mod Outcomes
 pub mod Pages
 pub mod Parts
+pub mod Payloads
 pub mod Places
 pub mod Quiet
 pub mod Reading
+pub mod Recorded
 pub mod Replies
 pub mod ResetMoves
 pub mod Resets
@@ -62,6 +66,7 @@ pub mod Shapes
 pub mod Sorted
 pub mod Stagings
 pub mod Staying
+pub mod Sums
 pub mod SuperblockMoves
 pub mod Taking
 pub mod Tallies
@@ -72,4 +77,5 @@ pub mod Unique
 pub mod Waiting
 pub mod Wants
 pub mod Whole
+pub mod Weights
 pub mod WholeRounds

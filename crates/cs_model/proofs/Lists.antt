@@ -52,7 +52,7 @@ module _ (S : Shape) (F : Formats) (shape : IsShape S) (X : Cut) (opened : ℕ �
         let page : (S.section_page u.section == p) ≡ true = eq-eqb _ _
         (ap S.section_page same ∙ sym (shape.section_only p j fam)) in
         if_same _ _ _ _ _ _ (rw (here, page) (ap (λ (i : ℕ). nat_le u.version (X.superblocks i)) same))
-        (ap (λ (i : ℕ). F.superblock u.format i u.version u.pointers u.generations) same)
+        (ap (λ (i : ℕ). F.superblock u.format i u.version u.recorded u.pointers u.generations) same)
         (one_list_at (SectionPage j) fam els (λ m has. right m (inr has))))
     | inr not ↦ (let there : (u.section == j) ≡ false = ne_eqb _ _ not in
         passes_over _ _ _ _

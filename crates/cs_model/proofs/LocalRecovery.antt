@@ -103,12 +103,14 @@ module _ (S : Shape) (F : Formats) (count : ℕ) (a b : ℕ → Page) (lies : Li
   recovers_alike_but opening next n m damage frozen limit r = record {
     formats = r.formats;
     versions = r.versions;
+    recorded = r.recorded;
     pointers = r.pointers;
     generations = r.generations;
     superblock = λ j lt. sym (agree (S.section_page j) (lies.sections j lt)) ∙ r.superblock j lt;
     versions_fit = r.versions_fit;
     extents_fit = r.extents_fit;
     version = r.version;
+    recorded_fit = r.recorded_fit;
     runs = r.runs;
     root = sym (agree S.root_page lies.root) ∙ r.root;
     root_fits = r.root_fits;

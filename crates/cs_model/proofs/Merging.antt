@@ -1,5 +1,5 @@
 -- The table and the newest runs merged: what each identifier has then, and how many runs are left.
-use Rattle.std.proofs.Common.{◌≡◌, inl, inr, ⊎_elim, ℕ, zero, suc, ◌+◌, ◌-◌, ◌*◌, ◌<◌, ◌≤◌, Bool, true, false, ◌&&◌, ◌||◌, List, [], ◌∷◌, ◌++◌, append-nil, append_assoc, length, take, drop, Option, Some, None, nat_le, nat_lt, leb-true, le_refl, le_trans, true≢false, if◌then◌else◌, refl, sym, ap, ◌∙◌, arith, le_of_eq}
+use Rattle.std.proofs.Common.{◌≡◌, inl, inr, ⊎_elim, ℕ, zero, suc, ◌+◌, ◌*◌, ◌<◌, ◌≤◌, Bool, true, false, ◌&&◌, ◌||◌, List, [], ◌∷◌, ◌++◌, append-nil, append_assoc, length, take, drop, Option, Some, None, nat_le, nat_lt, leb-true, le_refl, le_trans, true≢false, if◌then◌else◌, refl, sym, ap, ◌∙◌, arith, le_of_eq}
 use Rattle.std.proofs.Math.Seq.{take-length, drop-length}
 use Rattle.std.proofs.Math.ListN.{drop_of_length-le}
 use Rattle.std.proofs.lemmas.Bool.Decides.{nat_tests}
@@ -15,7 +15,7 @@ use Rattle.cs_model.specs.Lists.{◌∈◌}
 use Rattle.cs_model.specs.Machine.{World}
 use Rattle.cs_model.specs.Merges.{IsRunOf, MergesPart, deletions_go, part, reached, reaching, sizes, stage_takes}
 use Rattle.cs_model.specs.State.{State, index_now}
-use Rattle.cs_model.specs.Tally.{shards}
+use Rattle.cs_model.specs.Tally.{dead_weight}
 
 pub in_drop : {A : Type 0} (k : ℕ) (xs : List A) (x : A) → x ∈ drop k xs → x ∈ xs
 in_drop zero xs x has = has
@@ -89,7 +89,7 @@ none_left : (S : Shape) (s : State) → length (drop (length s.runs) s.runs) ≡
 none_left S s = ap length (drop-length s.runs)
 
 reached_left : (S : Shape) (s : State) → 0 < S.most_runs → length (drop (reached S s) s.runs) < S.most_runs
-reached_left S s some = go (nat_le S.most_names (4 * (names (index_now s) - shards (index_now s))))
+reached_left S s some = go (nat_le S.most_weight (4 * dead_weight S.weigh (index_now s)))
   where
     go : (b : Bool) → length (drop (if b then length s.runs else reaching S (sizes s.runs) (names s.table)) s.runs) < S.most_runs
     go true = let none : length (drop (length s.runs) s.runs) ≡ 0 = none_left S s in omega arith

@@ -89,6 +89,7 @@ module _ (S : Shape) (Good : Root → (ℕ → Page) → Type 0) (frozen : ℕ �
       frames = each _ _ _ next.1 s.frames;
     };
     superblocks_rise = s.superblocks_rise;
+    recorded_below = s.recorded_below;
     roots_rise = s.roots_rise;
     below = record {
       superblocks_below = λ u has. (

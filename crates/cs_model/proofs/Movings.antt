@@ -9,7 +9,7 @@ use Rattle.cs_model.specs.Extents.{ForMove}
 use Rattle.cs_model.specs.Formats.{ChunkFrame, Formats, Stand}
 use Rattle.cs_model.specs.Frames.{IsFormat}
 use Rattle.cs_model.specs.Grounds.{Refuses}
-use Rattle.cs_model.specs.Index.{AllPass, Holds, Passes, Reads, ReadsAs, Value, live, live_at, lookup}
+use Rattle.cs_model.specs.Index.{AllPass, Holds, Passes, Reads, ReadsAs, Value, live, live_at, lookup, named_weight}
 use Rattle.cs_model.specs.Lists.{nth, replaced, ◌∈◌}
 use Rattle.cs_model.specs.Refusal.{Full, Halted, NotSweepable, Refusal, WornOut}
 use Rattle.cs_model.specs.Sound.{Bounded, Sound}
@@ -20,6 +20,7 @@ use Rattle.cs_model.proofs.Carries.{carry_reads, carry_value, carry_pass, carry_
 use Rattle.cs_model.proofs.Frames.{added}
 use Rattle.cs_model.proofs.Roots.{moved_entry}
 use Rattle.cs_model.proofs.Commands.{same_index, both, in_room, in_number}
+use Rattle.cs_model.proofs.Weights.{weight_replaced}
 
 module _ (S : Shape) (F : Formats) (shape : IsShape S) (format : IsFormat S F) where
   moved_reading : (opening : Opening)
@@ -143,7 +144,9 @@ module _ (S : Shape) (F : Formats) (shape : IsShape S) (format : IsFormat S F) w
       (Some (replaced (live_at (index_now s) id) k new)) v) (sym a.opening)
       (ap (λ (m : Map). m id) (sym same_map)) done.1))
       (bounded_entry S F shape format mid id (replaced (live_at (index_now s) id) k new) mid.commands bm
-      (inl (ap (λ (es : List Entry). is_some (lookup id es)) index
-      ∙ named_nth (lookup id (index_now s)) k l o.5.there))
+      (le_trans (le_of_eq (ap (λ (es : List Entry). named_weight S.weigh (record { id = id; locators = replaced (live_at (index_now s) id) k new } ∷ es))
+      index))
+      (le_trans (weight_replaced S.weigh id (replaced (live_at (index_now s) id) k new) (index_now s)
+      (named_nth (lookup id (index_now s)) k l o.5.there) (length_replaced (live_at (index_now s) id) k new)) b.bounds.weight_fits))
       (le_trans (le_of_eq (length_replaced (live_at (index_now s) id) k new)) (b.bounds.chunks_fit id))
       bm.bounds.commands_fit)

@@ -241,6 +241,9 @@ module _ (S : Shape) (F : Formats) (shape : IsShape S) (img : ℕ → Page) (n :
               g.extents_fit,
             );
       };
+      recorded_below = λ u has. subst (λ (k : ℕ). k ≤ g.version)
+          (sym (ap (λ (v : Superblock). v.recorded) (is_read S.sections u has).0))
+          (g.recorded_fit u.section (is_read S.sections u has).1);
       roots_rise = record {
         roots_order = (
           (λ r none. absurd (no_root r none)),
@@ -358,7 +361,7 @@ module _ (S : Shape) (F : Formats) (shape : IsShape S) (img : ℕ → Page) (n :
       version_fits = g.bounds.version_fits;
       commands_fit = (let old : n ≤ S.greatest_number = g.bounds.commands_fit in omega arith);
       few_runs = g.bounds.few_runs;
-      named = g.bounds.named;
+      weight_fits = g.bounds.weight_fits;
       chunks_fit = g.bounds.chunks_fit;
     };
     runs_fit = g.runs_fit;

@@ -52,6 +52,7 @@ module _ (S : Shape) (Good : Root → (ℕ → Page) → Type 0) (frozen : ℕ �
     };
     writes_rise = s.writes_rise;
     superblocks_rise = s.superblocks_rise;
+    recorded_below = s.recorded_below;
     roots_rise = s.roots_rise;
     below = s.below;
     by_rule = s.by_rule;

@@ -62,6 +62,7 @@ module _ (S : Shape) (Good : Root → (ℕ → Page) → Type 0) (frozen : ℕ �
     extents = s.extents;
     writes_rise = s.writes_rise;
     superblocks_rise = s.superblocks_rise;
+    recorded_below = s.recorded_below;
     roots_rise = record {
       roots_order = ((λ r has. let old : r.version ≤ w.root = (s.roots_below r has).0 in omega arith), s.roots_order);
       nested_roots = each_two _ _ _ (λ v j. le_refl _)

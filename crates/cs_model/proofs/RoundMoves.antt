@@ -67,7 +67,7 @@ module _ (S : Shape) (Good : Root → (ℕ → Page) → Type 0) (frozen : ℕ �
   suc_le h = omega arith
 
   -- what is noted of extents matters to no element; nor does what is persistent, but to what isn't yet
-  turned : (w : World) (x : Extents) (P R : Cut) → Safe S Good frozen opened w
+  turned : (w : World) (x : Extents) (P R : Cut) → Safe S Good frozen opened w → w.persistent.root ≤ P.root
       → AreThere (superblocks_of w.elements) (roots_of w.elements) w.superblocks w.root P
       → ClosesRound S (log_of w.elements) w.written w.superblocks w.root P R
       → Safe S Good frozen opened (record w {
@@ -75,13 +75,14 @@ module _ (S : Shape) (Good : Root → (ℕ → Page) → Type 0) (frozen : ℕ �
         persistent = P;
         round = R;
       })
-  turned w x P R s there round = record {
+  turned w x P R s up there round = record {
     guards = s.guards;
     reads = s.reads;
     since_resets = s.since_resets;
     extents = s.extents;
     writes_rise = s.writes_rise;
     superblocks_rise = s.superblocks_rise;
+    recorded_below = λ u has. le_trans (s.recorded_below u has) up;
     roots_rise = s.roots_rise;
     below = s.below;
     by_rule = s.by_rule;
@@ -92,11 +93,11 @@ module _ (S : Shape) (Good : Root → (ℕ → Page) → Type 0) (frozen : ℕ �
 
   pub keeps_marks : (w : World) (x : Extents) → Safe S Good frozen opened w
       → Safe S Good frozen opened (record w { extents = marks_of w.extents x })
-  keeps_marks w x s = turned w x w.persistent w.round s s.there s.round
+  keeps_marks w x s = turned w x w.persistent w.round s (le_refl _) s.there s.round
 
   pub keeps_begin : (w : World) (R : Cut) → Allowed S Good frozen opened w (BeginRound R)
       → Safe S Good frozen opened w → Safe S Good frozen opened (happens S w (BeginRound R))
-  keeps_begin w R next s = turned w w.extents w.persistent R s s.there (record {
+  keeps_begin w R next s = turned w w.extents w.persistent R s (le_refl _) s.there (record {
     closed = s.closed;
     exact = s.exact;
     round_exact = next.0;
@@ -107,7 +108,7 @@ module _ (S : Shape) (Good : Root → (ℕ → Page) → Type 0) (frozen : ℕ �
   })
 
   pub keeps_end : (w : World) → Safe S Good frozen opened w → Safe S Good frozen opened (happens S w EndRound)
-  keeps_end w s = turned w w.extents w.round w.round s
+  keeps_end w s = turned w w.extents w.round w.round s s.within.root
       (record {
         superblocks_there = λ j n lo hi. s.superblocks_there j n (le_trans (suc_le (s.within.superblocks j)) lo) hi;
         roots_there = λ n lo hi. s.roots_there n (le_trans (suc_le s.within.root) lo) hi;

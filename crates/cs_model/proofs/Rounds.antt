@@ -98,7 +98,7 @@ module _ (S : Shape) (F : Formats) {opening : Opening} (shape : IsShape S) (open
     one_superblock : (u : Superblock) → IsMember S w (A_superblock u) → (p : ℕ) (f : PageKind) → S.kind p ≡ f
         → image_at S F f (join X (A_superblock u)) opened (log_of w.elements) p ≡ written
         (image S F X opened (log_of w.elements)) (S.section_page u.section)
-        (F.superblock u.format u.section u.version u.pointers u.generations) p
+        (F.superblock u.format u.section u.version u.recorded u.pointers u.generations) p
     one_superblock u is p RootPage fam = as_was p RootPage fam
         ∙ sym (other p _ _ (λ at. let e : RootPage ≡ SectionPage u.section = sym fam ∙ ap S.kind at
         ∙ shape.section_kind u.section (safe.sections_there u is.0) in cc))
@@ -111,15 +111,15 @@ module _ (S : Shape) (F : Formats) {opening : Opening} (shape : IsShape S) (open
           ≡ u.version = with_same X.superblocks u.section u.version j same in
           found SuperblockBefore
           (λ v. (v.section == j) && nat_le v.version (with X.superblocks u.section u.version j))
-          (λ v. F.superblock v.format j v.version v.pointers v.generations) (opened p)
+          (λ v. F.superblock v.format j v.version v.recorded v.pointers v.generations) (opened p)
           (superblocks_of w.elements) u safe.superblocks_order is.0
           (and_true _ _ (eq-eqb _ _ (sym same)) (le-leb _ _ (le_of_eq (sym up))))
           (λ y has passes before. no_later u y j _ (sym same) (sym up) passes before)
-          ∙ ap (λ (i : ℕ). F.superblock u.format i u.version u.pointers u.generations) same
+          ∙ ap (λ (i : ℕ). F.superblock u.format i u.version u.recorded u.pointers u.generations) same
           ∙ sym (here p _ _ (shape.section_only p j fam ∙ ap S.section_page same))
       | inr not ↦
           ap (λ (n : ℕ). latest (λ v. (v.section == j) && nat_le v.version n)
-          (λ v. F.superblock v.format j v.version v.pointers v.generations) (opened p)
+          (λ v. F.superblock v.format j v.version v.recorded v.pointers v.generations) (opened p)
           (superblocks_of w.elements)) (with_other X.superblocks u.section u.version j not)
           ∙ as_was p (SectionPage j) fam
           ∙ sym (other p _ _ (λ at. let e : SectionPage j ≡ SectionPage u.section = sym fam ∙ ap S.kind at

@@ -1,10 +1,10 @@
 -- The device's pages are apart.
-use Rattle.std.proofs.Common.{◌≡◌, ◌≢◌, inl, inr, ℕ, suc, ◌+◌, ◌-◌, ◌*◌, ◌/◌, ◌%◌, ◌<◌, ◌≤◌, true, false, ◌==◌, nat_le, nat_lt, le_refl, eq-eqb, ne_eqb, mul-le-mul_right, refl, sym, ap, ◌∙◌, arith}
+use Rattle.std.proofs.Common.{◌≡◌, ◌≢◌, inl, inr, ℕ, suc, ◌+◌, ◌-◌, ◌*◌, ◌/◌, ◌%◌, ◌<◌, ◌≤◌, Bool, true, false, if◌then◌else◌, ◌==◌, nat_le, nat_lt, le_refl, eq-eqb, ne_eqb, mul-le-mul_right, refl, sym, ap, ◌∙◌, arith}
 use Rattle.std.proofs.lemmas.Bool.{cases_Bool, cases_eq, cases_lt}
 use Rattle.std.proofs.lemmas.Bool.Decides.{nat_tests}
 use Rattle.std.proofs.lemmas.Nat.{div-mul-add, mod-mul-add, div_below}
-use Rattle.cs_model.specs.Device.{FramePage, IsShape, RootPage, SectionPage, Shape}
-use Rattle.cs_model.specs.Geometry.{HasExtentsApart, IsGeometry, apart_in, by_size_in, hidden_stand_in, marks_in, most_run_extents, number_at, shape_of}
+use Rattle.cs_model.specs.Device.{FramePage, IsShape, IsWeighing, RootPage, SectionPage, Shape}
+use Rattle.cs_model.specs.Geometry.{HasExtentsApart, IsGeometry, apart_in, by_size_in, heads_in, hidden_stand_in, marks_in, most_run_extents, number_at, shape_of, weigh_in}
 use Rattle.cs_model.proofs.Meant.{digest_fits}
 
 -- in a format in which chunks and runs lie apart hidden entries don't stand, and merges go by size
@@ -13,6 +13,33 @@ rules_apart f on = (grind (arith, nat_tests), grind (arith, nat_tests))
 
 some_run_extents : (E : ℕ) → 1 ≤ most_run_extents E
 some_run_extents E = grind (arith, nat_tests)
+
+-- an entry weighs something, one of more chunks no less, and one of eight no more than a run may
+weighs_some : (b : Bool) → 1 ≤ (if b then 17 + 16 * 0 else 1)
+weighs_some true = omega arith
+weighs_some false = omega arith
+
+weighs_more : (b : Bool) (c d : ℕ) → c ≤ d → (if b then 17 + 16 * c else 1) ≤ (if b then 17 + 16 * d else 1)
+weighs_more true c d le = omega arith
+weighs_more false c d le = omega arith
+
+pub is_weighing : (f : ℕ) → IsWeighing (weigh_in f)
+is_weighing f = record { some = weighs_some (marks_in f); more = λ c d le. weighs_more (marks_in f) c d le }
+
+weighs_few : (b : Bool) (pages : ℕ) → 0 < pages
+    → (if b then 17 + 16 * 8 else 1) ≤ (if b then 4096 * pages - 45 else (4096 * pages - 45) / 81)
+weighs_few true pages some = omega arith
+weighs_few false pages some = omega arith
+
+-- a chunk holds something behind its head
+holds_some : (b : Bool) (pages : ℕ) → 0 < pages → 0 < 4096 * pages - (41 + (if b then 26 else 0))
+holds_some true pages some = omega arith
+holds_some false pages some = omega arith
+
+-- up to format 2 each weighs one
+pub weighs_one : (E P N Q f : ℕ) → f ≤ 2 → ((c : ℕ) → (shape_of E P N Q f).weigh c ≡ 1)
+    × ((shape_of E P N Q f).most_weight ≡ (4096 * P - 45) / 81)
+weighs_one E P N Q f le = let off : marks_in f ≡ false = grind (arith, nat_tests) in ((λ c. rw off refl), rw off refl)
 
 module _ (E P N Q f : ℕ) (g : IsGeometry E P N Q) where
   S : Shape
@@ -82,10 +109,12 @@ module _ (E P N Q f : ℕ) (g : IsGeometry E P N Q) where
       | inl few ↦ rw few (le_refl _)
       | inr many ↦ rw many (omega arith)
     ];
+    weighs = is_weighing f;
+    one_fits = weighs_few (marks_in f) P g.some_page;
     fills = λ on. on;
     marks = λ page. digest_fits (marks_in f) (number_at 9 8 page);
     apart = λ on. ((rules_apart f on).0, (rules_apart f on).1, some_run_extents E, wide on);
-    some_byte = (let p : 0 < P = g.some_page in omega arith);
+    some_byte = holds_some (heads_in f) P g.some_page;
     section_only = only_section;
     frame_kind = λ e i inside. at_frames (2 + (e * P + i)) (omega arith) (inside_below e i inside.0 inside.1);
     extent = λ e i inside. ap (λ (n : ℕ). n / P) (let m : 2 + (e * P + i) - 2 ≡ e * P + i = omega arith in m)

@@ -54,6 +54,7 @@ module _ (S : Shape) (Good : Root → (ℕ → Page) → Type 0) (frozen : ℕ �
       sections_there = each _ _ _ next.2 s.sections_there;
       superblocks_fit = each _ _ _ (omega arith, next.4, s.extents_fit) s.superblocks_fit;
     };
+    recorded_below = each _ _ _ (le_refl _) s.recorded_below;
     roots_rise = s.roots_rise;
     below = record {
       superblocks_below = each _ _ _ (

@@ -63,7 +63,7 @@ module _ (S : Shape) (F : Formats) (format : IsFormat S F) (img : ℕ → Page) 
         → ReadsAs S F (opening_in S F img q k) img q k ls w → v ≡ w
     same_reading [] v w same a b = a ∙ sym b
     same_reading (l ∷ ls) v w same (inl a) (inl b) = a.4
-        ∙ ap₂ (λ (c : List ℕ) (r : Content). after c r)
+        ∙ ap₂ (λ (c : List ℕ) (r : Content). after (F.body c) r)
         (format.one_payload img l.extent l.page ChunkFrame a.0 b.0 (let x = a.2.inside in omega arith)
         (let x = b.2.inside in omega arith) a.2.stand b.2.stand)
         (same_reading ls a.1 b.1 (λ x has. same x (inr has)) a.3 b.3)
@@ -133,7 +133,7 @@ one_recovery S F shape format img n k m o a b = (
     same_pointer : S.fills ≡ true → (e : ℕ) → e < S.extents → a.pointers e ≡ b.pointers e
     same_pointer on e lt = let j = shape.section e in
         format.tells on (a.formats (S.section e)) (b.formats (S.section e)) (S.section e) (a.versions (S.section e))
-        (b.versions (S.section e)) a.pointers a.generations b.pointers b.generations a.extents_fit b.extents_fit
+        (b.versions (S.section e)) (a.recorded (S.section e)) (b.recorded (S.section e)) a.pointers a.generations b.pointers b.generations a.extents_fit b.extents_fit
         (sym (a.superblock (S.section e) j) ∙ b.superblock (S.section e) j) e lt refl
 
     same_limit : (id : ℕ) (l : Locator) → l ∈ live (lookup id (entries_of a.runs))
@@ -153,10 +153,12 @@ pub new_store : (S : Shape) (F : Formats) (img : ℕ → Page) → IsNew S F img
 new_store S F img new = record {
   formats = λ j. S.format;
   versions = λ j. 1;
+  recorded = λ j. 0;
   pointers = λ e. 0;
   generations = λ e. 0;
   superblock = new.superblock;
   version = 1;
+  recorded_fit = λ j lt. omega arith;
   runs = [];
   root = new.root;
   root_fits = new.root_fits;
@@ -168,7 +170,7 @@ new_store S F img new = record {
     version_fits = new.some_number;
     commands_fit = omega arith;
     few_runs = omega arith;
-    named = omega arith;
+    weight_fits = omega arith;
     chunks_fit = λ id. omega arith;
   };
   gives = record {

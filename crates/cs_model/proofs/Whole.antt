@@ -15,7 +15,7 @@ module _ (S : Shape) (F : Formats) (d h : Opening) (img : ℕ → Page) (p g : �
   whole_step : (l : Locator) (ls : List Locator) (bytes chunk : List ℕ) (rest : Content)
       → ((bs : List ℕ) → ReadsAs S F d img p g ls (Bytes bs) → ReadsAs S F h img p g ls (Bytes bs))
       → Reads S F d img p g l (F.frame ChunkFrame chunk) → ReadsAs S F d img p g ls rest
-      → Bytes bytes ≡ after chunk rest → ReadsAs S F h img p g (l ∷ ls) (Bytes bytes)
+      → Bytes bytes ≡ after (F.body chunk) rest → ReadsAs S F h img p g (l ∷ ls) (Bytes bytes)
   whole_step l ls bytes chunk (Bytes rest) on reads more is = inl
       (chunk, Bytes rest, more_reads l (F.frame ChunkFrame chunk) reads, on rest more, is)
   whole_step l ls bytes chunk (Damaged f) on reads more is = absurd (let e : Bytes bytes ≡ Damaged f = is in cc)
@@ -38,11 +38,11 @@ module _ (S : Shape) (F : Formats) (d h : Opening) (img : ℕ → Page) (p g : �
   whole_value (Some (l ∷ ls)) v not value =
       (value.0, whole_content l ls value.0 (λ f is. not f (value.2 ∙ ap (λ (c : Content). Some c) is)) value.1, value.2)
 
-  rest_holds : (ls : List Locator) (bytes chunk : List ℕ) (rest : Content) → ReadsAs S F d img p g ls rest
-      → Bytes bytes ≡ after chunk rest → (l : Locator) → l ∈ ls
+  rest_holds : (ls : List Locator) (bytes piece : List ℕ) (rest : Content) → ReadsAs S F d img p g ls rest
+      → Bytes bytes ≡ after piece rest → (l : Locator) → l ∈ ls
       → ((more : List ℕ) → ReadsAs S F d img p g ls (Bytes more) → Holds S F h img p g l) → Holds S F h img p g l
-  rest_holds ls bytes chunk (Bytes more) reads is l has on = on more reads
-  rest_holds ls bytes chunk (Damaged f) reads is l has on = absurd (let e : Bytes bytes ≡ Damaged f = is in cc)
+  rest_holds ls bytes piece (Bytes more) reads is l has on = on more reads
+  rest_holds ls bytes piece (Damaged f) reads is l has on = absurd (let e : Bytes bytes ≡ Damaged f = is in cc)
 
   -- where none of the chunks is damaged each locator has one
   reading_holds : (ls : List Locator) (bytes : List ℕ) → ReadsAs S F d img p g ls (Bytes bytes) → (l : Locator)
@@ -51,7 +51,7 @@ module _ (S : Shape) (F : Formats) (d h : Opening) (img : ℕ → Page) (p g : �
   reading_holds (k ∷ ls) bytes (inr bad) l has = absurd (let e : Bytes bytes ≡ Damaged bad.0 = bad.2 in cc)
   reading_holds (k ∷ ls) bytes (inl r) l (inl is) = subst (λ (x : Locator). Holds S F h img p g x) (sym is)
       (inr (r.0, more_reads k (F.frame ChunkFrame r.0) r.2))
-  reading_holds (k ∷ ls) bytes (inl r) l (inr has) = rest_holds ls bytes r.0 r.1 r.3 r.4 l has
+  reading_holds (k ∷ ls) bytes (inl r) l (inr has) = rest_holds ls bytes (F.body r.0) r.1 r.3 r.4 l has
       (λ more reads. reading_holds ls more reads l has)
 
   content_holds : (ls : List Locator) (c : Content) → ((f : Refusal) → c ≢ Damaged f) → ReadsAs S F d img p g ls c
@@ -107,10 +107,12 @@ pub whole_recovers : (S : Shape) (F : Formats) (opening : Opening) (img : ℕ �
 whole_recovers S F opening img n m whole thawed r = record {
   formats = r.formats;
   versions = r.versions;
+  recorded = r.recorded;
   pointers = r.pointers;
   generations = r.generations;
   superblock = r.superblock;
   version = r.version;
+  recorded_fit = r.recorded_fit;
   runs = r.runs;
   root = r.root;
   root_fits = r.root_fits;

@@ -173,9 +173,9 @@ module _ (S : Shape) (F : Formats) {opening : Opening} (shape : IsShape S) (open
     beyond : (j n m : ℕ) (base : Page) → S.sections ≤ j → (us : List Superblock)
         → ((u : Superblock) → u ∈ us → u.section < S.sections)
         → latest (λ v. (v.section == j) && nat_le v.version n)
-        (λ v. F.superblock v.format j v.version v.pointers v.generations) base us
+        (λ v. F.superblock v.format j v.version v.recorded v.pointers v.generations) base us
         ≡ latest (λ v. (v.section == j) && nat_le v.version m)
-        (λ v. F.superblock v.format j v.version v.pointers v.generations) base us
+        (λ v. F.superblock v.format j v.version v.recorded v.pointers v.generations) base us
     beyond j n m base out [] there = refl
     beyond j n m base out (u ∷ us) there = let test : (u.section == j) ≡ false = ne_eqb _ _
         (λ is. let lt : u.section < S.sections = there u (inl refl) in omega arith) in
@@ -187,7 +187,7 @@ module _ (S : Shape) (F : Formats) {opening : Opening} (shape : IsShape S) (open
     same_image p (SectionPage j) = ⊎_elim
         (λ (lt : j < S.sections). ap
         (λ (n : ℕ). latest (λ v. (v.section == j) && nat_le v.version n)
-        (λ v. F.superblock v.format j v.version v.pointers v.generations) (opened p)
+        (λ v. F.superblock v.format j v.version v.recorded v.pointers v.generations) (opened p)
         (superblocks_of w.elements)) (superblocks_all j lt))
         (λ (out : S.sections ≤ j). beyond j (Y.superblocks j) (R.superblocks j) (opened p) out
         (superblocks_of w.elements) safe.sections_there)

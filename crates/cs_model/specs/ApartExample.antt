@@ -10,7 +10,7 @@ example_apart = record (shape_of 6 2 1 8 1) { apart = true; hidden_stand = false
 
 -- a new store, in the format of the example
 abbrev pub example_image : ℕ → Page
-example_image p = if p == 0 then 1 ∷ 0 ∷ 1 ∷ [] else 1 ∷ 0 ∷ 0 ∷ []
+example_image p = if p == 0 then 1 ∷ 0 ∷ 1 ∷ 0 ∷ [] else 1 ∷ 0 ∷ 0 ∷ []
 
 -- a shard is put and staged, and its extent is swept
 abbrev pub example_retired : List (Event × Reply)

@@ -1,14 +1,15 @@
--- Stage where it doesn't merge by size and chunks and runs may lie on one extent, as formats 1 and 2 have it: in two branches.
-use Rattle.std.specs.Prelude.{◌≡◌, ◌≢◌, ◌⊎◌, ◌<◌, ◌≤◌, ◌∷◌, ℕ, suc, List, length, []}
+-- What formats 1 and 2 have in fewer words. Stage where it doesn't merge by size and chunks and runs may lie on one extent: in two
+-- branches. And when a put is refused 32 where each entry weighs one.
+use Rattle.std.specs.Prelude.{◌≡◌, ◌≢◌, ◌⊎◌, ◌<◌, ◌≤◌, ◌∷◌, ℕ, suc, false, List, length, []}
 use Rattle.cs_model.specs.Append.{AppendsFrame}
 use Rattle.cs_model.specs.Device.{Shape}
 use Rattle.cs_model.specs.Element.{Entry, Locator, Run}
 use Rattle.cs_model.specs.Events.{Merged, rooted}
 use Rattle.cs_model.specs.Extents.{ForRun}
 use Rattle.cs_model.specs.Formats.{Formats, RunFrame}
-use Rattle.cs_model.specs.Grounds.{NoRoomForRun, NoRoomForTable}
-use Rattle.cs_model.specs.Index.{IsTableRun}
-use Rattle.cs_model.specs.State.{State}
+use Rattle.cs_model.specs.Grounds.{NoRoomForRun, NoRoomForTable, is_named}
+use Rattle.cs_model.specs.Index.{IsTableRun, names}
+use Rattle.cs_model.specs.State.{State, index_now}
 
 module _ (S : Shape) (F : Formats) where
   -- the table becomes the newest run where there are fewer than four, else all that lives becomes one run
@@ -23,3 +24,7 @@ module _ (S : Shape) (F : Formats) where
   -- that run goes nowhere
   abbrev pub FullAsBefore : State → Type 0
   FullAsBefore s = ((length s.runs < 4) × NoRoomForTable S F s) ⊎ ((4 ≤ length s.runs) × NoRoomForRun S F s ForRun)
+
+  -- the identifier isn't named, and as many are as may be
+  abbrev pub NamesFull : State → (id : ℕ) → Type 0
+  NamesFull s id = (is_named S F s id ≡ false) × (S.most_weight ≤ names (index_now s))

@@ -45,12 +45,14 @@ pub record Shape : Type 0 where
   pub address : ℕ → ℕ → ℕ
   -- the section that speaks of an extent
   pub section : ℕ → ℕ
-  -- the greatest chunk in bytes, how many chunks a shard may have, how many identifiers may be named, and how many runs
-  -- a root may have
+  -- the greatest piece of a shard in one chunk, in bytes; how many chunks a shard may have, and how many runs a root may have
   pub chunk_bytes : ℕ
   pub most_chunks : ℕ
-  pub most_names : ℕ
   pub most_runs : ℕ
+  -- what an entry of so many chunks weighs, and what the newest entries of all identifiers may weigh together, so that one run
+  -- of them fits on an extent
+  pub weigh : (chunks : ℕ) → ℕ
+  pub most_weight : ℕ
   -- the greatest number of a write, of a version or of commands, and the greatest generation
   pub greatest_number : ℕ
   pub greatest_generation : ℕ
@@ -70,9 +72,14 @@ mark_of S pages = first_mark S.mark pages
 abbrev pub is_meant : Shape → Mark → List Page → Bool
 is_meant S m pages = same_mark (mark_of S pages) m
 
--- no two things lie on one page, a shard can be put, and a root may have as many runs as Stage leaves; where chunks and
--- runs lie apart a hidden entry may name what is gone, a Stage merges by sizes, and extents are left for both; only there is
--- an extent filled up; and each page's mark can be
+-- a rule of how much entries weigh: each weighs something, and one of more chunks no less
+pub record IsWeighing (weigh : (chunks : ℕ) → ℕ) : Type 0 where
+  pub some : 1 ≤ weigh 0
+  pub more : (b c : ℕ) → b ≤ c → weigh b ≤ weigh c
+
+-- no two things lie on one page, a shard can be put, and a root may have as many runs as Stage leaves; entries weigh by a
+-- rule, and no shard's more than all may; where chunks and runs lie apart a hidden entry may name what is gone, a Stage merges by sizes, and
+-- extents are left for both; only there is an extent filled up; and each page's mark can be
 pub record IsShape (S : Shape) : Type 0 where
   pub root_kind : S.kind S.root_page ≡ RootPage
   pub section_kind : (j : ℕ) → j < S.sections → S.kind (S.section_page j) ≡ SectionPage j
@@ -85,6 +92,8 @@ pub record IsShape (S : Shape) : Type 0 where
   pub some_chunk : 0 < S.most_chunks
   pub some_byte : 0 < S.chunk_bytes
   pub enough_runs : 4 ≤ S.most_runs
+  pub weighs : IsWeighing S.weigh
+  pub one_fits : S.weigh S.most_chunks ≤ S.most_weight
   pub apart : S.apart ≡ true → (S.hidden_stand ≡ false) × (S.by_size ≡ true)
       × (1 ≤ S.run_extents) × (S.run_extents + 2 ≤ S.extents)
   pub fills : S.fills ≡ true → S.apart ≡ true

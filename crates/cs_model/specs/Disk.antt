@@ -26,7 +26,7 @@ module _ (S : Shape) (F : Formats) where
   abbrev pub page_write : Element → ℕ × Page
   page_write (A_write x) = (x.page, x.bytes)
   page_write (A_superblock u) =
-      (S.section_page u.section, F.superblock u.format u.section u.version u.pointers u.generations)
+      (S.section_page u.section, F.superblock u.format u.section u.version u.recorded u.pointers u.generations)
   page_write (A_root r) = (S.root_page, F.root r.version r.commands (places r.runs))
 
   -- the same of a list

@@ -19,6 +19,8 @@ pub record Superblock : Type 0 where
   pub format : ℕ
   pub section : ℕ
   pub version : ℕ
+  -- the version of the root that was persistent as it was staged
+  pub recorded : ℕ
   -- of each extent, how many of its pages are given, and its generation
   pub pointers : ℕ → ℕ
   pub generations : ℕ → ℕ

@@ -14,7 +14,7 @@ use Rattle.cs_model.specs.Lists.{replaced, ◌∈◌}
 use Rattle.cs_model.specs.Merges.{MergesNewest, stage_takes}
 use Rattle.cs_model.specs.Machine.{BeginRound, EndRound, happens}
 use Rattle.cs_model.specs.Round.{IsMember, IsRound, NothingWaits}
-use Rattle.cs_model.specs.State.{Abandon, Abandoned, Absent, Accepted, Begin, BeginSweep, Begun, Delete, End, Ended, Event, Found, Get, Issue, Issued, MoveOne, Moved, NoneLive, NotYet, Nothing, Persistent, Put, Reply, Retire, Retired, Settle, Stage, Staged, State, Sweeping, Unchanged, index_now, map_now}
+use Rattle.cs_model.specs.State.{Abandon, Abandoned, Absent, Accepted, Begin, BeginSweep, Begun, Delete, End, Ended, Event, Found, Get, Issue, Issued, MoveOne, Moved, NoneLive, NotYet, Nothing, Persistent, Put, Reply, Retire, Retired, Settle, Stage, Staged, State, Sweeping, Unchanged, index_now, map_now, next_command}
 
 -- all but the last are as long as may be, and only the last may be shorter; the last is empty only where it is alone
 abbrev pub AllFullButLast : ℕ → List (List ℕ) → Type 0
@@ -22,11 +22,22 @@ AllFullButLast most [] = Unit {0}
 AllFullButLast most (c ∷ []) = length c ≤ most
 AllFullButLast most (c ∷ d ∷ cs) = (length c ≡ most) × (d ≢ []) × AllFullButLast most (d ∷ cs)
 
--- the bytes in chunks: at least one, all but the last as long as may be
+-- the bytes in pieces: at least one, all but the last as long as may be
 abbrev pub Chunked : (most : ℕ) → List ℕ → List (List ℕ) → Type 0
-Chunked most bytes cs = (joined cs ≡ bytes) × (0 < length cs) × AllFullButLast most cs
+Chunked most bytes pieces = (joined pieces ≡ bytes) × (0 < length pieces) × AllFullButLast most pieces
+
+-- each piece behind its head, numbered from this number on
+abbrev pub with_heads : Formats → (id number count command : ℕ) → List (List ℕ) → List (List ℕ)
+with_heads F id number count command [] = []
+with_heads F id number count command (piece ∷ pieces) =
+    (F.head id number count command ++ piece) ∷ with_heads F id (suc number) count command pieces
 
 module _ (S : Shape) (F : Formats) where
+  -- the payloads of the chunks of a put that is this command: the pieces of its bytes, each behind its head, numbered from 0 on
+  abbrev pub ArePayloads : (id command : ℕ) → List ℕ → List (List ℕ) → Type 0
+  ArePayloads id command bytes cs =
+      (pieces : List (List ℕ)) × Chunked S.chunk_bytes bytes pieces × (cs ≡ with_heads F id 0 (length pieces) command pieces)
+
   -- the persistent root includes commands 1 to n, and no more
   abbrev pub IsFrontier : State → ℕ → Type 0
   IsFrontier s n = (r : Root) × (r ∈ roots_of s.world.elements) × (r.version ≡ s.world.persistent.root)
@@ -40,7 +51,7 @@ module _ (S : Shape) (F : Formats) where
   abbrev pub Does : State → Event → Reply → State → Type 0
   Does s (Put id bytes) (Accepted n) t =
       (cs : List (List ℕ)) × (ls : List Locator) × (mid : State)
-      × Chunked S.chunk_bytes bytes cs × AppendsChunksBy S F S.apart s cs ls mid × (n ≡ suc (length s.commands))
+      × ArePayloads id (next_command s) bytes cs × AppendsChunksBy S F S.apart s cs ls mid × (n ≡ suc (length s.commands))
       × (t ≡ record mid {
         table = record { id = id; locators = ls } ∷ mid.table;
         commands = (id, Some bytes) ∷ mid.commands;

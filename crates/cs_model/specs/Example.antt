@@ -1,5 +1,5 @@
 -- Formats of pages without bounds: examples, one of which shows that the laws of a format hold together.
-use Rattle.std.specs.Prelude.{◌∷◌, ◌==◌, ℕ, zero, suc, true, List, length, None, [], if◌then◌else◌}
+use Rattle.std.specs.Prelude.{◌∷◌, ◌==◌, ℕ, zero, suc, true, List, drop, length, None, [], if◌then◌else◌}
 use Rattle.cs_model.specs.Device.{Shape}
 use Rattle.cs_model.specs.Element.{Entry, Locator}
 use Rattle.cs_model.specs.Formats.{Formats}
@@ -18,10 +18,12 @@ flat_entries (x ∷ xs) = x.id ∷ length x.locators ∷ flat_locators x.locator
 -- a frame is one page, and nothing is ever damaged
 abbrev pub example_format : Formats
 example_format = record {
-  superblock = λ f j v p g. f ∷ j ∷ v ∷ [];
+  superblock = λ f j v r p g. f ∷ j ∷ v ∷ r ∷ [];
   root = λ v n ls. v ∷ n ∷ length ls ∷ flat_locators ls [];
   frame = λ kind payload. payload ∷ [];
   fault = λ kind pages. None;
+  head = λ id number count command. id ∷ number ∷ count ∷ command ∷ [];
+  body = λ payload. drop 4 payload;
   run = flat_entries;
   fits_root = λ v n ls. true;
   fits_run = λ es. true;
@@ -34,4 +36,4 @@ told S j pointers (suc n) = (if S.section n == j then pointers n else 0) ∷ tol
 
 -- the same format, but that the page of a section has the pointers of its extents
 abbrev pub telling_format : Shape → Formats
-telling_format S = record example_format { superblock = λ f j v p g. told S j p S.extents }
+telling_format S = record example_format { superblock = λ f j v r p g. told S j p S.extents }

@@ -14,12 +14,16 @@ pub data FrameKind : Type 0 where
 
 -- how pages are spelled
 pub record Formats : Type 0 where
-  pub superblock : (format section version : ℕ) → (pointers generations : ℕ → ℕ) → Page
+  pub superblock : (format section version recorded : ℕ) → (pointers generations : ℕ → ℕ) → Page
   pub root : (version commands : ℕ) → List Locator → Page
   -- the pages of a frame, by its kind and payload
   pub frame : FrameKind → List ℕ → List Page
   -- why no frame of that kind stands at the head of these pages, all to which it may reach; None where one does
   pub fault : FrameKind → List Page → Option Refusal
+  -- what a chunk's payload begins with, before its piece of the shard's bytes: whose chunk it is, its number in the shard, how many
+  -- the shard has, and the number of the command that put it; and that piece of a payload. A format may have no heads
+  pub head : (id number count command : ℕ) → List ℕ
+  pub body : (payload : List ℕ) → List ℕ
   -- the payload of a run
   pub run : List Entry → List ℕ
   -- these can be spelled
@@ -43,7 +47,7 @@ module _ (S : Shape) (F : Formats) where
       latest (λ r. nat_le r.version X.root) (λ r. F.root r.version r.commands (places r.runs)) (opened p) log.roots
   image_at (SectionPage j) X opened log p =
       latest (λ u. (u.section == j) && nat_le u.version (X.superblocks j))
-      (λ u. F.superblock u.format j u.version u.pointers u.generations) (opened p) log.superblocks
+      (λ u. F.superblock u.format j u.version u.recorded u.pointers u.generations) (opened p) log.superblocks
   image_at FramePage X opened log p = page_in X opened log.writes p
 
   -- the image of X: on each page the last write to it of X's elements, else what was there at open

@@ -1,5 +1,5 @@
 -- The laws of a format.
-use Rattle.std.specs.Prelude.{◌≡◌, ◌+◌, ◌<◌, ◌≤◌, ◌∷◌, ℕ, suc, true, List, length, None, if◌then◌else◌}
+use Rattle.std.specs.Prelude.{◌≡◌, ◌+◌, ◌<◌, ◌≤◌, ◌∷◌, ◌++◌, ℕ, suc, true, List, length, None, if◌then◌else◌}
 use Rattle.cs_model.specs.Device.{Page, Shape}
 use Rattle.cs_model.specs.Element.{Entry, Locator}
 use Rattle.cs_model.specs.Formats.{Formats, FrameKind, Stand, pages_from}
@@ -14,8 +14,8 @@ most_staged S = if S.by_size then S.most_runs else 4
 -- what the machine asks of the spelling of its pages
 pub record IsFormat (S : Shape) (F : Formats) : Type 0 where
   -- a section speaks of its own extents alone
-  pub section : (f j v : ℕ) (p g q h : ℕ → ℕ) → ((e : ℕ) → S.section e ≡ j → (p e ≡ q e) × (g e ≡ h e))
-      → F.superblock f j v p g ≡ F.superblock f j v q h
+  pub section : (f j v r : ℕ) (p g q h : ℕ → ℕ) → ((e : ℕ) → S.section e ≡ j → (p e ≡ q e) × (g e ≡ h e))
+      → F.superblock f j v r p g ≡ F.superblock f j v r q h
   -- a frame has a page
   pub some_page : (kind : FrameKind) (payload : List ℕ) → 0 < length (F.frame kind payload)
   -- one page is the root of one number of commands and one list of runs, and one payload the run of one list of entries
@@ -30,13 +30,16 @@ pub record IsFormat (S : Shape) (F : Formats) : Type 0 where
   pub root_fits : (v n : ℕ) (ls : List Locator) → 1 ≤ v → v ≤ S.greatest_number → n ≤ S.greatest_number
       → length ls ≤ most_staged S → ((l : Locator) → l ∈ ls → InRange S l) → F.fits_root v n ls ≡ true
   pub run_fits : (entries : List Entry) → IsRunList S entries → F.fits_run entries ≡ true
+  -- behind its head a chunk's payload is its piece of the shard's bytes
+  pub behind_head : (id number count command : ℕ) (piece : List ℕ) → F.body (F.head id number count command ++ piece) ≡ piece
   -- where a frame stands there is no fault, however many pages follow
   pub no_fault : (img : ℕ → Page) (e i count : ℕ) (kind : FrameKind) (payload : List ℕ)
       → length (F.frame kind payload) ≤ count → i + count ≤ S.pages → Stand S F img e i (F.frame kind payload)
       → F.fault kind (pages_from S F img e i count) ≡ None
-  -- where extents are filled up the page of a section tells the pointers of its extents, in whatever format and version
-  pub tells : S.fills ≡ true → (f k j v w : ℕ) (p g q h : ℕ → ℕ) → ((e : ℕ) → FitsExtent S (p e) (g e))
-      → ((e : ℕ) → FitsExtent S (q e) (h e)) → F.superblock f j v p g ≡ F.superblock k j w q h
+  -- where extents are filled up the page of a section tells the pointers of its extents, in whatever format and version, and
+  -- whatever root it records
+  pub tells : S.fills ≡ true → (f k j v w a b : ℕ) (p g q h : ℕ → ℕ) → ((e : ℕ) → FitsExtent S (p e) (g e))
+      → ((e : ℕ) → FitsExtent S (q e) (h e)) → F.superblock f j v a p g ≡ F.superblock k j w b q h
       → (e : ℕ) → e < S.extents → S.section e ≡ j → p e ≡ q e
 
 -- what a format of frames has to say of itself, so that what stands at a place is the frame of one payload

@@ -28,6 +28,22 @@ fills_in format = nat_lt 2 format
 abbrev pub marks_in : (format : ℕ) → Bool
 marks_in format = nat_lt 2 format
 
+-- a chunk's payload begins with a head
+abbrev pub heads_in : (format : ℕ) → Bool
+heads_in format = nat_lt 2 format
+
+-- a version of a section of the superblock records the root that was persistent as it was staged
+abbrev pub records_in : (format : ℕ) → Bool
+records_in format = nat_lt 2 format
+
+-- the bytes of a head: the identifier has 16, the chunk's number and how many there are one each, and the command's number 8
+abbrev pub head_bytes_in : (format : ℕ) → ℕ
+head_bytes_in format = if heads_in format then 26 else 0
+
+-- the greatest piece of a shard in one chunk, whose frame takes one whole extent: its header has 41 bytes
+abbrev pub chunk_bytes_in : (format pages : ℕ) → ℕ
+chunk_bytes_in format pages = 4096 * pages - (41 + head_bytes_in format)
+
 -- the number in so many bytes from one on, high byte first
 abbrev pub number_at : (first count : ℕ) → List ℕ → ℕ
 number_at first zero bytes = 0
@@ -44,9 +60,14 @@ mark_in format page = if marks_in format then digest_number page else 0
 abbrev pub greatest_mark_in : (format : ℕ) → ℕ
 greatest_mark_in format = if marks_in format then 18446744073709551615 else 0
 
--- how many bytes an entry of a run takes at most
-abbrev pub most_entry_bytes : (format : ℕ) → ℕ
-most_entry_bytes format = if marks_in format then 145 else 81
+-- what an entry of so many chunks weighs: up to format 2, where each takes 81 bytes of a run, one; in a format that has marks as many
+-- bytes as it takes
+abbrev pub weigh_in : (format chunks : ℕ) → ℕ
+weigh_in format chunks = if marks_in format then 17 + 16 * chunks else 1
+
+-- what the entries of a run may weigh that takes one whole extent: a frame's header has 41 bytes, and a run's count 4
+abbrev pub most_weight_in : (format pages : ℕ) → ℕ
+most_weight_in format pages = if marks_in format then 4096 * pages - 45 else (4096 * pages - 45) / 81
 
 -- how many extents may hold runs where they do
 abbrev pub most_run_extents : (extents : ℕ) → ℕ
@@ -80,10 +101,11 @@ shape_of extents pages sections per_section format = record {
   index = λ p. (p - 2) % pages;
   address = λ e i. 2 + (e * pages + i);
   section = λ e. if nat_lt e extents then e / per_section else 0;
-  chunk_bytes = 4096 * pages - 41;
+  chunk_bytes = chunk_bytes_in format pages;
   most_chunks = 8;
-  most_names = (4096 * pages - 45) / most_entry_bytes format;
   most_runs = if nat_le format 2 then 4 else 24;
+  weigh = weigh_in format;
+  most_weight = most_weight_in format pages;
   greatest_number = 9223372036854775807;
   greatest_generation = 4294967295;
 }

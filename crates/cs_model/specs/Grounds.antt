@@ -4,14 +4,14 @@ use Rattle.cs_model.specs.Append.{AppendsChunksBy, AppendsFrame, ResetWorn}
 use Rattle.cs_model.specs.Apart.{DamagedLeft, MayStage, NoRoomToCopy, NotSweepableApart, NothingLeft, StagesApart, by_rule, settled}
 use Rattle.cs_model.specs.Device.{Shape}
 use Rattle.cs_model.specs.Element.{Damaged, Entry, Locator, Run}
-use Rattle.cs_model.specs.Events.{Chunked, Does, Merged, ReadsNow, mark}
+use Rattle.cs_model.specs.Events.{ArePayloads, Chunked, Does, Merged, ReadsNow, mark}
 use Rattle.cs_model.specs.Extents.{ForMove, ForRun, Purpose}
 use Rattle.cs_model.specs.Formats.{ChunkFrame, Formats, RunFrame}
-use Rattle.cs_model.specs.Index.{FirstLive, IsTableRun, NothingLive, lookup, names}
+use Rattle.cs_model.specs.Index.{FirstLive, IsTableRun, NothingLive, lookup, weight_with}
 use Rattle.cs_model.specs.Machine.{PastGreatest}
 use Rattle.cs_model.specs.Merges.{MergesNewest, stage_takes}
 use Rattle.cs_model.specs.Refusal.{Full, Halted, InFlight, IndexFull, NoRound, NotSweepable, Refusal, StillLive, TooLarge, WornOut}
-use Rattle.cs_model.specs.State.{Abandon, Begin, BeginSweep, Delete, End, Event, Get, Issue, MoveOne, Put, Reply, Retire, Settle, Stage, State, index_now, map_now}
+use Rattle.cs_model.specs.State.{Abandon, Begin, BeginSweep, Delete, End, Event, Get, Issue, MoveOne, Put, Reply, Retire, Settle, Stage, State, index_now, map_now, next_command}
 
 -- the first of the grounds that stands gives the refusal f: this one gives r, else the others decide
 abbrev pub First : Refusal → Type 0 → (Refusal → Type 0) → Refusal → Type 0
@@ -43,10 +43,15 @@ module _ (S : Shape) (F : Formats) where
   abbrev pub WouldPass : State → Event → Type 0
   WouldPass s event = (reply : Reply) × (t : State) × Does S F s event reply t × PastLimit t
 
-  -- the chunks of these bytes don't fit
-  abbrev pub NoRoomToPut : State → List ℕ → Type 0
-  NoRoomToPut s bytes = (cs : List (List ℕ)) (ls : List Locator) (mid : State)
-      → Chunked S.chunk_bytes bytes cs → AppendsChunksBy S F S.apart s cs ls mid → ⊥
+  -- with an entry of the chunks of these bytes in place of what the identifier has, the newest entries weigh more than they may
+  abbrev pub TooHeavy : State → (id : ℕ) → List ℕ → Type 0
+  TooHeavy s id bytes = (pieces : List (List ℕ)) × Chunked S.chunk_bytes bytes pieces
+      × (S.most_weight < weight_with S.weigh (index_now s) id (length pieces))
+
+  -- the chunks of a put of these bytes don't fit
+  abbrev pub NoRoomToPut : State → (id : ℕ) → List ℕ → Type 0
+  NoRoomToPut s id bytes = (cs : List (List ℕ)) (ls : List Locator) (mid : State)
+      → ArePayloads S F id (next_command s) bytes cs → AppendsChunksBy S F S.apart s cs ls mid → ⊥
 
   -- the table doesn't fit as a run
   abbrev pub NoRoomForTable : State → Type 0
@@ -75,8 +80,8 @@ module _ (S : Shape) (F : Formats) where
   abbrev pub Refuses : State → Event → Refusal → Type 0
   Refuses s (Put id bytes) = First Halted (s.halted ≡ true)
       (First TooLarge (S.most_chunks * S.chunk_bytes < length bytes)
-      (First IndexFull ((is_named s id ≡ false) × (S.most_names ≤ names (index_now s)))
-      (First Full (NoRoomToPut s bytes)
+      (First IndexFull (TooHeavy s id bytes)
+      (First Full (NoRoomToPut s id bytes)
       (First WornOut (WouldPass s (Put id bytes)) NoMore))))
   Refuses s (Get id) = FoundDamaged (λ f. map_now s id ≡ Some (Damaged f)) NoMore
   Refuses s (Delete id) = First Halted (s.halted ≡ true) (First WornOut (WouldPass s (Delete id)) NoMore)

@@ -1,5 +1,5 @@
 -- The index: entries of identifiers, the table over the runs, and what they give of an image.
-use Rattle.std.specs.Prelude.{◌≡◌, ◌≢◌, ◌⊎◌, ◌+◌, ◌<◌, ◌≤◌, ◌∷◌, ◌++◌, ◌==◌, ℕ, suc, true, List, length, Option, Some, None, is_some, [], if◌then◌else◌}
+use Rattle.std.specs.Prelude.{◌≡◌, ◌≢◌, ◌⊎◌, ◌+◌, ◌-◌, ◌<◌, ◌≤◌, ◌∷◌, ◌++◌, ◌==◌, ℕ, suc, true, List, length, Option, Some, None, is_some, [], if◌then◌else◌}
 use Rattle.cs_model.specs.Device.{FitsMark, Inside, Page, Shape, is_meant}
 use Rattle.cs_model.specs.Element.{Bytes, Content, Damaged, Entry, Locator, Map, Opening, Run}
 use Rattle.cs_model.specs.Formats.{ChunkFrame, Formats, RunFrame, Stand}
@@ -16,10 +16,15 @@ abbrev pub entries_of : List Run → List Entry
 entries_of [] = []
 entries_of (run ∷ runs) = run.entries ++ entries_of runs
 
--- the bytes of chunks, one after another
+-- the bytes of these lists, one after another
 abbrev pub joined : List (List ℕ) → List ℕ
 joined [] = []
 joined (c ∷ cs) = c ++ joined cs
+
+-- the bytes of a shard whose chunks have these payloads: what is behind their heads, one after another
+abbrev pub joined_bodies : Formats → (payloads : List (List ℕ)) → List ℕ
+joined_bodies F [] = []
+joined_bodies F (c ∷ cs) = F.body c ++ joined_bodies F cs
 
 -- the locators of an entry, none where there is no entry or a deletion
 abbrev pub live : Option (List Locator) → List Locator
@@ -36,6 +41,28 @@ if_live (Some (l ∷ ls)) = Some (l ∷ ls)
 abbrev pub names : List Entry → ℕ
 names [] = 0
 names (x ∷ xs) = if is_some (lookup x.id xs) then names xs else suc (names xs)
+
+-- by the rule of how much an entry weighs that has so many chunks
+module _ (weigh : (chunks : ℕ) → ℕ) where
+  -- what an entry weighs, nothing where there is none
+  abbrev pub weight : Option (List Locator) → ℕ
+  weight None = 0
+  weight (Some locators) = weigh (length locators)
+
+  -- what the newest entries of the identifiers weigh together: those of the others behind the first, with it in place of what its
+  -- identifier has there
+  abbrev pub named_weight : List Entry → ℕ
+  named_weight [] = 0
+  named_weight (x ∷ xs) = (named_weight xs - weight (lookup x.id xs)) + weigh (length x.locators)
+
+  -- what they weigh with an entry of so many chunks in place of what an identifier has
+  abbrev pub weight_with : List Entry → (id chunks : ℕ) → ℕ
+  weight_with index id chunks = (named_weight index - weight (lookup id index)) + weigh chunks
+
+  -- what the entries of a run weigh together, each of an identifier of its own
+  abbrev pub run_weight : List Entry → ℕ
+  run_weight [] = 0
+  run_weight (x ∷ xs) = weigh (length x.locators) + run_weight xs
 
 -- the identifiers rise
 abbrev pub Ascending : List Entry → Type 0
@@ -72,7 +99,7 @@ pub record InBounds (S : Shape) (version commands runs : ℕ) (entries : List En
   pub version_fits : version ≤ S.greatest_number
   pub commands_fit : commands ≤ S.greatest_number
   pub few_runs : runs ≤ S.most_runs
-  pub named : names entries ≤ S.most_names
+  pub weight_fits : named_weight S.weigh entries ≤ S.most_weight
   pub chunks_fit : (id : ℕ) → length (live (lookup id entries)) ≤ S.most_chunks
 
 -- an extent and a page that are there, and a generation and a mark that can be
@@ -83,14 +110,14 @@ InRange S l = Inside S l.extent l.page × (l.generation ≤ S.greatest_generatio
 pub record IsRunList (S : Shape) (entries : List Entry) : Type 0 where
   pub some : entries ≢ []
   pub ascending : Ascending entries
-  pub few : length entries ≤ S.most_names
+  pub weight_fits : run_weight S.weigh entries ≤ S.most_weight
   pub locators : (x : Entry) → x ∈ entries
       → (length x.locators ≤ S.most_chunks) × ((l : Locator) → l ∈ x.locators → InRange S l)
 
--- a chunk, and what is read after it
+-- a piece of a shard, and what is read after it
 abbrev pub after : List ℕ → Content → Content
-after chunk (Bytes rest) = Bytes (chunk ++ rest)
-after chunk (Damaged f) = Damaged f
+after piece (Bytes rest) = Bytes (piece ++ rest)
+after piece (Damaged f) = Damaged f
 
 module _ (S : Shape) (F : Formats) where
   module _ (img : ℕ → Page) (pointers generations : ℕ → ℕ) where
@@ -119,19 +146,19 @@ module _ (S : Shape) (F : Formats) where
       pub stand : Stand S F img l.extent l.page bs
       pub marked : is_meant S l.mark bs ≡ true
 
-    -- each locator has a frame of that chunk
+    -- each locator has a frame of that payload
     abbrev pub Chunks : List Locator → List (List ℕ) → Type 0
     Chunks [] [] = Unit {0}
     Chunks (l ∷ ls) (c ∷ cs) = Reads l (F.frame ChunkFrame c) × Chunks ls cs
     Chunks [] (c ∷ cs) = ⊥
     Chunks (l ∷ ls) [] = ⊥
 
-    -- reading these locators one after another gives this
+    -- reading these locators one after another gives this: what is behind the head of each payload
     abbrev pub ReadsAs : List Locator → Content → Type 0
     ReadsAs [] content = content ≡ Bytes []
     ReadsAs (l ∷ ls) content =
         ((chunk : List ℕ) × (rest : Content) × Reads l (F.frame ChunkFrame chunk)
-        × ReadsAs ls rest × (content ≡ after chunk rest))
+        × ReadsAs ls rest × (content ≡ after (F.body chunk) rest))
         ⊎ ((f : Refusal) × (opening.damage l ≡ Some f) × (content ≡ Damaged f))
 
     -- what an entry gives

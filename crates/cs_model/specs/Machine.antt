@@ -62,6 +62,7 @@ module _ (S : Shape) where
     format = S.format;
     section = j;
     version = suc (w.superblocks j);
+    recorded = w.persistent.root;
     pointers = w.extents.pointer;
     generations = w.extents.generation;
     writes = if S.pages_first then w.written else 0;

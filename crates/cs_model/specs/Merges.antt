@@ -1,5 +1,5 @@
 -- What a Stage merges: the table and so many of the newest runs.
-use Rattle.std.specs.Prelude.{◌≡◌, ◌≢◌, ◌⊎◌, ◌-◌, ◌+◌, ◌*◌, ◌∷◌, ◌++◌, ◌&&◌, ◌||◌, ℕ, suc, Bool, false, List, length, take, drop, nat_le, nat_lt, [], if◌then◌else◌}
+use Rattle.std.specs.Prelude.{◌≡◌, ◌≢◌, ◌⊎◌, ◌+◌, ◌*◌, ◌∷◌, ◌++◌, ◌&&◌, ◌||◌, ℕ, suc, Bool, false, List, length, take, drop, nat_le, nat_lt, [], if◌then◌else◌}
 use Rattle.cs_model.specs.Append.{AppendsFrameBy}
 use Rattle.cs_model.specs.Device.{Shape}
 use Rattle.cs_model.specs.Element.{Entry, Locator, Run}
@@ -7,7 +7,7 @@ use Rattle.cs_model.specs.Extents.{Purpose}
 use Rattle.cs_model.specs.Formats.{Formats, RunFrame}
 use Rattle.cs_model.specs.Index.{Ascending, entries_of, if_live, lookup, names}
 use Rattle.cs_model.specs.State.{State, index_now}
-use Rattle.cs_model.specs.Tally.{shards}
+use Rattle.cs_model.specs.Tally.{dead_weight}
 
 -- the entries of the table and of the newest k runs
 abbrev pub part : State → ℕ → List Entry
@@ -39,10 +39,10 @@ module _ (S : Shape) where
   reaching (n ∷ ns) size =
       if nat_le n (2 * size) || nat_le S.most_runs (suc (length ns)) then suc (reaching ns (size + n)) else 0
 
-  -- how many of the newest runs a Stage merges by size: all where at least a quarter of as many identifiers as may be
-  -- named are named and don't live
+  -- how many of the newest runs a Stage merges by size: all where the deletions weigh at least a quarter of what the newest entries
+  -- may weigh
   abbrev pub reached : State → ℕ
-  reached s = if nat_le S.most_names (4 * (names (index_now s) - shards (index_now s))) then length s.runs
+  reached s = if nat_le S.most_weight (4 * dead_weight S.weigh (index_now s)) then length s.runs
       else reaching (sizes s.runs) (names s.table)
 
   -- how many of the newest runs a Stage merges: by size, or else none of up to three, and all of more

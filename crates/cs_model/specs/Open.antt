@@ -13,7 +13,7 @@ use Rattle.cs_model.specs.State.{State}
 module _ (S : Shape) (F : Formats) where
   -- an image that gives this number of commands and this map
   module _ (img : ℕ → Page) (n : ℕ) (m : Map) (image_gives : Recovers S F img n m) where
-    open image_gives use {formats, versions, pointers, generations, version, runs}
+    open image_gives use {formats, versions, recorded, pointers, generations, version, runs}
 
     -- the version of a section that was read
     abbrev pub superblock_read : ℕ → Superblock
@@ -21,6 +21,7 @@ module _ (S : Shape) (F : Formats) where
       format = formats j;
       section = j;
       version = versions j;
+      recorded = recorded j;
       pointers = pointers;
       generations = generations;
       writes = 0;

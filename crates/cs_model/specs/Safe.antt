@@ -208,6 +208,8 @@ module _ (S : Shape) where
       pub open writes_rise use *
       pub superblocks_rise : SuperblocksRise (superblocks_of w.elements)
       pub open superblocks_rise use *
+      -- a version of a section records no later root than is persistent
+      pub recorded_below : (u : Superblock) → u ∈ superblocks_of w.elements → u.recorded ≤ w.persistent.root
       pub roots_rise : RootsRise (roots_of w.elements)
       pub open roots_rise use *
       pub below : KeepBelow (superblocks_of w.elements) (roots_of w.elements) w.written w.superblocks w.behind w.root

@@ -1,5 +1,5 @@
 -- The core's state, its events and their replies, and the map after its commands.
-use Rattle.std.specs.Prelude.{◌∷◌, ◌++◌, ◌==◌, ℕ, Bool, List, length, Option, Some, None, nat_le, [], if◌then◌else◌}
+use Rattle.std.specs.Prelude.{◌+◌, ◌∷◌, ◌++◌, ◌==◌, ℕ, suc, Bool, List, length, Option, Some, None, nat_le, [], if◌then◌else◌}
 use Rattle.cs_model.specs.Device.{Page}
 use Rattle.cs_model.specs.Element.{Bytes, Content, Copy, Element, Entry, Map, Opening, Run}
 use Rattle.cs_model.specs.Index.{entries_of}
@@ -83,6 +83,10 @@ pub data Reply : Type 0 where
 -- the map now
 abbrev pub map_now : State → Map
 map_now s = after_all s.start s.commands
+
+-- the number of the command that is accepted next, which goes on from the root's number at open
+abbrev pub next_command : State → ℕ
+next_command s = s.count + suc (length s.commands)
 
 -- the index now, as one list of entries
 abbrev pub index_now : State → List Entry

@@ -1,20 +1,24 @@
 //! Answers, commands and the frontier.
-ghost use Rattle.cs_model.specs.Before.{FullAsBefore, StagesAsBefore};
+ghost use Rattle.cs_model.specs.Before.{FullAsBefore, NamesFull, StagesAsBefore};
 ghost use Rattle.cs_model.specs.Cut.{Cut};
 ghost use Rattle.cs_model.specs.Device.{IsShape, Shape};
-ghost use Rattle.cs_model.specs.Element.{Element, Root};
-ghost use Rattle.cs_model.specs.Events.{Does, IsFrontier};
+ghost use Rattle.cs_model.specs.Element.{Element, Locator, Root};
+ghost use Rattle.cs_model.specs.Events.{ArePayloads, Chunked, Does, IsFrontier};
 ghost use Rattle.cs_model.specs.Formats.{Formats};
 ghost use Rattle.cs_model.specs.Frames.{IsFormat};
-ghost use Rattle.cs_model.specs.Grounds.{NoRoomToStage};
+ghost use Rattle.cs_model.specs.Geometry.{shape_of};
+ghost use Rattle.cs_model.specs.Grounds.{NoRoomToStage, Refuses, TooHeavy};
 ghost use Rattle.cs_model.specs.Distinct.{AreDistinct};
+ghost use Rattle.cs_model.specs.Index.{joined_bodies};
 ghost use Rattle.cs_model.specs.Lists.{◌∈◌};
+ghost use Rattle.cs_model.specs.Refusal.{IndexFull};
 ghost use Rattle.cs_model.specs.Round.{IsMember, IsRound, NothingWaits};
 ghost use Rattle.cs_model.specs.Sound.{Bounded, Sound};
-ghost use Rattle.cs_model.specs.State.{Begin, Begun, Delete, End, Ended, Event, Issue, Issued, MoveOne, Put, Reply, Retire, Stage, Staged, State, after_all, commands_of, map_now};
+ghost use Rattle.cs_model.specs.State.{Begin, Begun, Delete, End, Ended, Event, Issue, Issued, MoveOne, Put, Reply, Retire, Stage, Staged, State, after_all, commands_of, index_now, map_now};
 ghost use Rattle.cs_model.specs.Stays.{KeepsRound, RootsAfter};
 ghost use Rattle.cs_model.specs.Step.{DependsOn, History, Step};
-ghost use Rattle.std.specs.Prelude.{◌≡◌, ◌≢◌, ◌↔◌, ◌≤◌, ◌++◌, [], ℕ, false, List, length};
+ghost use Rattle.cs_model.specs.Tally.{dead_weight, living_weight};
+ghost use Rattle.std.specs.Prelude.{◌≡◌, ◌≢◌, ◌↔◌, ◌<◌, ◌≤◌, ◌+◌, ◌-◌, ◌*◌, ◌/◌, ◌++◌, ◌∷◌, [], ℕ, true, false, List, length};
 
 /// In every sound state every event has an answer: it is refused, or does what it does. So the refusals are exact.
 pub fn events_are_total()
@@ -111,4 +115,40 @@ pub fn format_2_stages_as_before()
         → S.apart ≡ false → Does S F s Stage (Staged v) t ↔ StagesAsBefore S F s v t }
     ensures full { (S : Shape) (F : Formats) (s : State) → S.by_size ≡ false → S.apart ≡ false → s.table ≢ []
         → NoRoomToStage S F s ↔ FullAsBefore S F s }
+{}
+
+/// Where each entry weighs one, as in formats 1 and 2, a put is refused 32 exactly where its identifier isn't named and as many are
+/// named as may be. There these are as many as entries of 81 bytes fit in a run that takes one whole extent.
+pub fn format_2_counts_names_as_before()
+    ensures heavy { (S : Shape) (F : Formats) (s : State) (id : ℕ) (bytes : List ℕ) → IsShape S → ((chunks : ℕ) → S.weigh chunks ≡ 1)
+        → Bounded S F s → TooHeavy S F s id bytes ↔ NamesFull S F s id }
+    ensures geometries { (extents pages sections per_section format : ℕ) → format ≤ 2
+        → let S = shape_of extents pages sections per_section format in
+        ((chunks : ℕ) → S.weigh chunks ≡ 1) × (S.most_weight ≡ (4096 * pages - 45) / 81) }
+{}
+
+/// The bytes of a put have one list of payloads for each identifier and number of a command. It has as many as the bytes have pieces, and
+/// what is behind its heads is the bytes. So what a put tells beside its bytes changes nothing of what is read.
+pub fn a_put_has_one_list_of_payloads()
+    ensures there { (S : Shape) (F : Formats) (id command : ℕ) (bytes : List ℕ) → IsShape S
+        → (payloads : List (List ℕ)) × ArePayloads S F id command bytes payloads }
+    ensures one { (S : Shape) (F : Formats) (id command : ℕ) (bytes : List ℕ) (payloads others : List (List ℕ))
+        → ArePayloads S F id command bytes payloads → ArePayloads S F id command bytes others → payloads ≡ others }
+    ensures length { (S : Shape) (F : Formats) (id command : ℕ) (bytes : List ℕ) (payloads pieces : List (List ℕ))
+        → ArePayloads S F id command bytes payloads → Chunked S.chunk_bytes bytes pieces
+        → length payloads ≡ length pieces }
+    ensures bytes { (S : Shape) (F : Formats) (id command : ℕ) (bytes : List ℕ) (payloads : List (List ℕ)) → IsFormat S F
+        → ArePayloads S F id command bytes payloads → joined_bodies F payloads ≡ bytes }
+{}
+
+/// After a Stage that merges by size the deletions weigh less than a quarter of what the newest entries may. So a put isn't refused 32
+/// then where what lives with it weighs three quarters at most.
+pub fn a_stage_leaves_room_for_puts()
+    ensures stage { (S : Shape) (F : Formats) (s t : State) (v : ℕ) → IsShape S → S.by_size ≡ true → s.table ≢ []
+        → Does S F s Stage (Staged v) t → 4 * dead_weight S.weigh (index_now t) < S.most_weight }
+    ensures put { (S : Shape) (F : Formats) (s : State) (id : ℕ) (bytes : List ℕ) (chunks : List (List ℕ)) (locators : List Locator)
+        → IsShape S → 4 * dead_weight S.weigh (index_now s) < S.most_weight → Chunked S.chunk_bytes bytes chunks
+        → length locators ≡ length chunks
+        → 4 * living_weight S.weigh (record { id = id; locators = locators } ∷ index_now s) ≤ 3 * S.most_weight
+        → Refuses S F s (Put id bytes) IndexFull → ⊥ }
 {}

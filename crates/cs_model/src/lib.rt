@@ -26,11 +26,14 @@ pub use crashes::{
     checkpoints_are_safe, every_event_keeps, every_history_is_safe, torn_pages_are_not_read,
 };
 pub use events::{
-    all_is_persistent_at_rest, commands_go_on, each_member_is_issued_once,
-    events_are_deterministic, events_are_total, format_2_stages_as_before, the_frontier_is_exact,
+    a_put_has_one_list_of_payloads, a_stage_leaves_room_for_puts, all_is_persistent_at_rest,
+    commands_go_on, each_member_is_issued_once, events_are_deterministic, events_are_total,
+    format_2_counts_names_as_before, format_2_stages_as_before, the_frontier_is_exact,
     the_frontier_rises, there_is_a_frontier, there_is_a_round, what_an_event_leaves,
 };
-pub use index::tallies_count_identifiers;
+pub use index::{
+    deletions_and_moves_weigh_no_more, tallies_count_identifiers, weights_count_newest_entries,
+};
 pub use premises::{apart_can_happen, formats_exist, geometries_are_shapes};
 pub use recovery::{
     a_new_store_is_empty, an_image_gives_one_map, frames_tell_their_payload,

@@ -1,9 +1,9 @@
 //! The premises of the laws can be met.
 ghost use Rattle.cs_model.specs.ApartExample.{example_abandoned, example_apart, example_image, example_retired};
-ghost use Rattle.cs_model.specs.Device.{IsShape, Shape};
+ghost use Rattle.cs_model.specs.Device.{IsShape, IsWeighing, Shape};
 ghost use Rattle.cs_model.specs.Example.{example_format, telling_format};
 ghost use Rattle.cs_model.specs.Frames.{IsFormat};
-ghost use Rattle.cs_model.specs.Geometry.{HasExtentsApart, IsGeometry, shape_of};
+ghost use Rattle.cs_model.specs.Geometry.{HasExtentsApart, IsGeometry, shape_of, weigh_in};
 ghost use Rattle.cs_model.specs.Open.{opened_state};
 ghost use Rattle.cs_model.specs.Recovery.{IsNew, Recovers};
 ghost use Rattle.cs_model.specs.State.{State};
@@ -12,8 +12,10 @@ ghost use Rattle.std.specs.Prelude.{◌≡◌, ℕ, None};
 
 /// Pages of the device are apart, for any number of sections, and each format goes by rules that fit one another.
 pub fn geometries_are_shapes()
-    ensures { (extents pages sections per_section format : ℕ) → IsGeometry extents pages sections per_section
+    ensures shapes { (extents pages sections per_section format : ℕ) → IsGeometry extents pages sections per_section
         → HasExtentsApart extents format → IsShape (shape_of extents pages sections per_section format) }
+    // In each format entries weigh by a rule.
+    ensures weights { (format : ℕ) → IsWeighing (weigh_in format) }
 {}
 
 /// The laws that are asked of a format hold together.

@@ -112,7 +112,7 @@ module _ (S : Shape) (F : Formats) (shape : IsShape S) (format : IsFormat S F) (
     pointers_agree : (e : ℕ) → e < S.extents → given.pointers e ≡ gives.pointers e
     pointers_agree e lt = let j = shape.section e in
         tells (given.formats (S.section e)) (gives.formats (S.section e)) (S.section e) (given.versions (S.section e))
-        (gives.versions (S.section e)) given.pointers given.generations gives.pointers gives.generations j
+        (gives.versions (S.section e)) (given.recorded (S.section e)) (gives.recorded (S.section e)) given.pointers given.generations gives.pointers gives.generations j
         (given.versions_fit (S.section e) j) (gives.versions_fit (S.section e) j) given.extents_fit gives.extents_fit
         (sym (given.superblock (S.section e) j) ∙ gives.superblock (S.section e) j) e lt refl
 

@@ -11,14 +11,14 @@ use Rattle.cs_model.specs.Apart.{any_below, any_swept}
 use Rattle.cs_model.specs.Append.{AppendAllBy, chunk_frames, page_counts}
 use Rattle.cs_model.specs.Device.{IsShape, Shape}
 use Rattle.cs_model.specs.Element.{Copy, Entry, Locator}
-use Rattle.cs_model.specs.Events.{Chunked, newest_page}
+use Rattle.cs_model.specs.Events.{ArePayloads, newest_page}
 use Rattle.cs_model.specs.Extents.{ForPut}
 use Rattle.cs_model.specs.Formats.{ChunkFrame, Formats}
 use Rattle.cs_model.specs.Frames.{IsFormat}
 use Rattle.cs_model.specs.Index.{live_at}
 use Rattle.cs_model.specs.Machine.{World}
 use Rattle.cs_model.specs.Refusal.{Full, Halted, IndexFull, TooLarge, WornOut}
-use Rattle.cs_model.specs.State.{Accepted, Delete, Put, State, index_now}
+use Rattle.cs_model.specs.State.{Accepted, Delete, Put, State, index_now, next_command}
 use Rattle.cs_model.specs.Step.{Step}
 use Rattle.cs_room.proofs.Given.{delete_keeps, put_keeps}
 use Rattle.cs_room.proofs.MachineChunks.{chunks_move, pages_move}
@@ -136,7 +136,7 @@ module _ (S : Shape) (F : Formats) where
 
     pub put_room : (s t : State) (r : Room) (id n : ℕ) (bytes : List ℕ) → HasRoomNow S F s r
         → Step S F s (Put id bytes) (Accepted n) t
-        → (cs : List (List ℕ)) × Chunked S.chunk_bytes bytes cs
+        → (cs : List (List ℕ)) × ArePayloads S F id (next_command s) bytes cs
         × ((q : Room) × RoomDoes S S.run_extents r (RoomPut id (page_counts (chunk_frames S F cs))) q × HasRoomNow S F t q)
     put_room s t r id n bytes has step =
         let d = step.1 in

@@ -120,8 +120,8 @@ module _ (S : Shape) (F : Formats) (shape : IsShape S) (format : IsFormat S F) (
   told opening img p g (l ∷ ls) content f (inl (chunk, rest, reads, more, is)) damaged =
       let found = told opening img p g ls rest f more (behind rest (sym is ∙ damaged)) in (found.0, inr found.1, found.2)
     where
-      behind : (c : Content) → after chunk c ≡ Damaged f → c ≡ Damaged f
-      behind (Bytes bytes) wrong = absurd (let no : Bytes (chunk ++ bytes) ≡ Damaged f = wrong in cc)
+      behind : (c : Content) → after (F.body chunk) c ≡ Damaged f → c ≡ Damaged f
+      behind (Bytes bytes) wrong = absurd (let no : Bytes (F.body chunk ++ bytes) ≡ Damaged f = wrong in cc)
       behind (Damaged h) same = same
 
   told_of : (s : State) (o : Option (List Locator)) (v : Option Content) (f : Refusal)

@@ -16,10 +16,12 @@ module _ (S : Shape) (F : Formats) (apart : S.apart ≡ true) (img : ℕ → Pag
   given = record {
     formats = λ j. S.format;
     versions = λ j. 1;
+    recorded = λ j. 0;
     pointers = λ e. 0;
     generations = λ e. 0;
     superblock = made.superblock;
     version = 1;
+    recorded_fit = λ j lt. omega arith;
     runs = [];
     root = made.root;
     root_fits = made.root_fits;
@@ -31,7 +33,7 @@ module _ (S : Shape) (F : Formats) (apart : S.apart ≡ true) (img : ℕ → Pag
       version_fits = made.some_number;
       commands_fit = omega arith;
       few_runs = omega arith;
-      named = omega arith;
+      weight_fits = omega arith;
       chunks_fit = λ id. omega arith;
     };
     gives = record {

@@ -5,11 +5,12 @@ use Rattle.std.proofs.lemmas.Bool.Decides.{nat_tests}
 use Rattle.cs_model.proofs.Carries.{and_left, and_right}
 use Rattle.cs_model.proofs.Needs.{after_extents_by, append_there_by}
 use Rattle.cs_model.proofs.Parts.{with_other, with_same}
+use Rattle.cs_model.proofs.Payloads.{length_heads}
 use Rattle.cs_model.proofs.Places.{goes_or_full}
 use Rattle.cs_model.specs.Append.{AppendAllBy, AppendBy, AppendsChunksBy, chunk_frames}
 use Rattle.cs_model.specs.Device.{IsShape, Shape}
 use Rattle.cs_model.specs.Element.{Locator}
-use Rattle.cs_model.specs.Events.{AllFullButLast, Chunked}
+use Rattle.cs_model.specs.Events.{AllFullButLast, Chunked, with_heads}
 use Rattle.cs_model.specs.Extents.{Extents, ForPut, GoesApart, Takes, chunk_extents as machine_chunks, one_if, taken_by}
 use Rattle.cs_model.specs.Formats.{ChunkFrame, Formats}
 use Rattle.cs_model.specs.Frames.{IsFormat}
@@ -17,7 +18,7 @@ use Rattle.cs_model.specs.Grounds.{Refuses}
 use Rattle.cs_model.specs.Lists.{with, ◌∈◌}
 use Rattle.cs_model.specs.Machine.{World}
 use Rattle.cs_model.specs.Refusal.{Full, Halted, IndexFull, TooLarge, WornOut}
-use Rattle.cs_model.specs.State.{Put, State}
+use Rattle.cs_model.specs.State.{Put, State, next_command}
 use Rattle.cs_room.proofs.Counts.{count_le, count_more, empty_there}
 use Rattle.cs_room.proofs.MachineEmpty.{empty_pointer, first_below}
 use Rattle.cs_room.proofs.MachineGoes.{IsSwept, holds_runs, not_aside, runs_there}
@@ -102,7 +103,7 @@ module _ (S : Shape) (aside : ℕ → Bool) (x : Extents) (r : Room) (of : AreEx
           let nothing : x.pointer empty.0 ≡ 0 = empty_pointer x empty.0 empty.2 in absurd (omega arith)))
           (first_below x.pointer S.extents)
 
--- each chunk fits on an extent
+-- each piece is as long as may be at most
 chunk_fits : (most : ℕ) (cs : List (List ℕ)) → AllFullButLast most cs → (c : List ℕ) → c ∈ cs → length c ≤ most
 chunk_fits most [] all c none = absurd none
 chunk_fits most (c ∷ []) all d (inl is) = subst (λ (x : List ℕ). length x ≤ most) (sym is) all
@@ -110,6 +111,17 @@ chunk_fits most (c ∷ []) all d (inr none) = absurd none
 chunk_fits most (b ∷ c ∷ cs) all d (inl is) = let full : length b ≡ most = all.0 in
     subst (λ (x : List ℕ). length x ≤ most) (sym is) (omega arith)
 chunk_fits most (b ∷ c ∷ cs) all d (inr there) = chunk_fits most (c ∷ cs) all.2 d there
+
+-- and fits on an extent behind its head
+heads_fit : (S : Shape) (F : Formats) (id number count command : ℕ) (pieces : List (List ℕ)) → ChunksFit S F
+    → ((piece : List ℕ) → piece ∈ pieces → length piece ≤ S.chunk_bytes)
+    → (c : List ℕ) → c ∈ with_heads F id number count command pieces → length (F.frame ChunkFrame c) ≤ S.pages
+heads_fit S F id number count command [] fit short c none = absurd none
+heads_fit S F id number count command (piece ∷ pieces) fit short c (inl is) =
+    subst (λ (x : List ℕ). length (F.frame ChunkFrame x) ≤ S.pages) (sym is)
+    (fit id number count command piece (short piece (inl refl)))
+heads_fit S F id number count command (piece ∷ pieces) fit short c (inr there) =
+    heads_fit S F id (suc number) count command pieces fit (λ p has. short p (inr has)) c there
 
 module _ (S : Shape) (F : Formats) (shape : IsShape S) (format : IsFormat S F) (aside : ℕ → Bool) where
   more_chunks : (r : Room) (id k e : ℕ) → chunk_extents (with_chunk S r id k e) S.extents ≤ suc (chunk_extents r S.extents)
@@ -187,9 +199,11 @@ module _ (S : Shape) (F : Formats) (shape : IsShape S) (format : IsFormat S F) (
       let no : Full ≡ WornOut = wrong in cc
   put_not_full s r id n bytes cs has fit few chunked short (inr (a, inr (b, inr (c, inr (d, inr none))))) = none.1
   put_not_full s r id n bytes cs has fit few chunked short (inr (a, inr (b, inr (c, inl (nowhere, is))))) =
-      let done = put_fits S F shape format (is_aside S s) s.world cs r has.room.extents
+      let payloads : List (List ℕ) = with_heads F id 0 (length cs) (next_command s) cs in
+      let many : length payloads ≡ length cs = length_heads F id 0 (length cs) (next_command s) cs in
+      let done = put_fits S F shape format (is_aside S s) s.world payloads r has.room.extents
       (swept_of S s r.sweep (has.sound.apart apart).one_sweep has.room.sweep) (λ d on. (has.sound.swept d on).1)
-      has.keeps.quotas.chunks (omega (arith, few, short)) has.keeps.quotas.runs
-      (λ c there. fit c (chunk_fits S.chunk_bytes cs chunked.2 c there)) in
-      nowhere cs done.0 (record s { world = done.1 }) chunked
-      (subst (λ (b : Bool). AppendsChunksBy S F b s cs done.0 (record s { world = done.1 })) (sym apart) (done.1, done.2, refl))
+      has.keeps.quotas.chunks (omega (arith, few, short, many)) has.keeps.quotas.runs
+      (heads_fit S F id 0 (length cs) (next_command s) cs fit (chunk_fits S.chunk_bytes cs chunked.2)) in
+      nowhere payloads done.0 (record s { world = done.1 }) (cs, chunked, refl)
+      (subst (λ (b : Bool). AppendsChunksBy S F b s payloads done.0 (record s { world = done.1 })) (sym apart) (done.1, done.2, refl))

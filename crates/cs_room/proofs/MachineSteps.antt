@@ -9,7 +9,7 @@ use Rattle.cs_model.specs.Events.{issued_one}
 use Rattle.cs_model.specs.Formats.{Formats}
 use Rattle.cs_model.specs.Frames.{IsFormat}
 use Rattle.cs_model.specs.Sound.{Bounded, Sound}
-use Rattle.cs_model.specs.State.{Abandon, Abandoned, Absent, Accepted, Begin, BeginSweep, Begun, Delete, End, Ended, Event, Found, Get, Issue, Issued, MoveOne, Moved, NoneLive, NotYet, Nothing, Persistent, Put, Refused, Reply, Retire, Retired, Settle, Stage, Staged, State, Sweeping, Unchanged}
+use Rattle.cs_model.specs.State.{Abandon, Abandoned, Absent, Accepted, Begin, BeginSweep, Begun, Delete, End, Ended, Event, Found, Get, Issue, Issued, MoveOne, Moved, NoneLive, NotYet, Nothing, Persistent, Put, Refused, Reply, Retire, Retired, Settle, Stage, Staged, State, Sweeping, Unchanged, next_command}
 use Rattle.cs_model.specs.Step.{History, Step}
 use Rattle.cs_room.proofs.MachineCopies.{move_room}
 use Rattle.cs_room.proofs.MachineEvents.{delete_room, put_room}
@@ -58,7 +58,7 @@ module _ (S : Shape) (F : Formats) (shape : IsShape S) (format : IsFormat S F) (
     pub step_room : (event : Event) (reply : Reply) → Step S F s event reply t
         → (q : Room) × InRoom S F event reply r q × HasRoomNow S F t q
     step_room (Put id bytes) (Accepted n) step = let o = put_room S F shape format apart s t r id n bytes has step in
-        (o.2.0, (o.0, o.1, o.2.1), o.2.2)
+        (o.2.0, (next_command s, o.0, o.1, o.2.1), o.2.2)
     step_room (Get id) (Found bytes) step = there s t r step.1.1 has
     step_room (Get id) Absent step = there s t r step.1.1 has
     step_room (Delete id) (Accepted n) step = delete_room S F shape format apart s t r id n has step

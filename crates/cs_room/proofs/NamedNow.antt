@@ -144,7 +144,7 @@ opened_named r found covers on = (
 module _ (S : Shape) (F : Formats) where
   pub event_named : (event : Event) (reply : Reply) (r q : Room) → InRoom S F event reply r q → Keeps S S.run_extents r
       → IsNamedNow r → IsNamedNow q
-  event_named (Put id bytes) (Accepted n) r q is keeps old = put_named S S.run_extents r q id _ is.2.0
+  event_named (Put id bytes) (Accepted n) r q is keeps old = put_named S S.run_extents r q id _ is.3.0
   event_named (Delete id) (Accepted n) r q is keeps old = subst (λ (x : Room). IsNamedNow x) (sym is)
       (λ on. absurd (true≢false (sym on)))
   event_named Stage (Staged v) r q is keeps old = stage_named S S.run_extents r q is.0 is.1 is.2 is.3 old
@@ -165,7 +165,7 @@ module _ (S : Shape) (F : Formats) where
   pub event_roots : (event : Event) (reply : Reply) (r q : Room) → InRoom S F event reply r q → (p : Root) → p ∈ r.roots
       → p ∈ q.roots
   event_roots (Put id bytes) (Accepted n) r q is p there = subst (λ (rs : List Root). p ∈ rs)
-      (sym (writing S S.run_extents _ (dropped r id) id q is.2.0).roots) there
+      (sym (writing S S.run_extents _ (dropped r id) id q is.3.0).roots) there
   event_roots (Delete id) (Accepted n) r q is p there = subst (λ (x : Room). p ∈ x.roots) (sym is) there
   event_roots Stage (Staged v) r q is p there = stage_roots S S.run_extents r q is.0 is.1 is.2 is.3 p there
   event_roots (BeginSweep e) Sweeping r q is p there = subst (λ (x : Room). p ∈ x.roots) (sym is.3) there

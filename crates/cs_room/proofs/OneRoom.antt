@@ -36,7 +36,7 @@ module _ (S : Shape) (F : Formats) (shape : IsShape S) (format : IsFormat S F) (
   pointers_agree : (e : ℕ) → e < S.extents → gives.pointers e ≡ other.pointers e
   pointers_agree e lt = let j = shape.section e in
       tells (gives.formats (S.section e)) (other.formats (S.section e)) (S.section e) (gives.versions (S.section e))
-      (other.versions (S.section e)) gives.pointers gives.generations other.pointers other.generations j
+      (other.versions (S.section e)) (gives.recorded (S.section e)) (other.recorded (S.section e)) gives.pointers gives.generations other.pointers other.generations j
       (gives.versions_fit (S.section e) j) (other.versions_fit (S.section e) j) gives.extents_fit other.extents_fit
       (sym (gives.superblock (S.section e) j) ∙ other.superblock (S.section e) j) e lt refl
 

@@ -14,18 +14,18 @@ use Rattle.cs_room.specs.OfMachine.{ChunksFit}
 module _ (S : Shape) where
   pub telling_has_room : 1 ≤ S.pages → IsFormatWithRoom S (telling_format S)
   telling_has_room some = record {
-    tells = λ f k j v w p g q h lt fits also small small_too same e inside at.
+    tells = λ f k j v w a b p g q h lt fits also small small_too same e inside at.
         told_here S j p q S.extents e same inside at;
     fits = λ entries is. some;
   }
 
   pub telling_chunks : 1 ≤ S.pages → ChunksFit S (telling_format S)
-  telling_chunks some chunk few = some
+  telling_chunks some id number count command piece few = some
 
   -- what is written when a store is made
   abbrev new_page : (F : Formats) → PageKind → Page
   new_page F RootPage = F.root 1 0 []
-  new_page F (SectionPage j) = F.superblock S.format j 1 (λ e. 0) (λ e. 0)
+  new_page F (SectionPage j) = F.superblock S.format j 1 0 (λ e. 0) (λ e. 0)
   new_page F FramePage = []
 
   made_image : IsShape S → 1 ≤ S.greatest_number → IsNew S (telling_format S) (λ p. new_page (telling_format S) (S.kind p))

@@ -24,7 +24,7 @@ module _ (S : Shape) (F : Formats) where
     chunk_read (x ∷ ls) content whole (inl (chunk, rest, reads, more, is)) l (inl same) =
         (chunk, subst (λ (k : Locator). Reads S F opening img p g k (F.frame ChunkFrame chunk)) (sym same) reads)
     chunk_read (x ∷ ls) content whole (inl (chunk, rest, reads, more, is)) l (inr there) =
-        chunk_read ls rest (λ f bad. whole f (is ∙ ap (after chunk) bad)) more l there
+        chunk_read ls rest (λ f bad. whole f (is ∙ ap (after (F.body chunk)) bad)) more l there
 
     value_read : (o : Option (List Locator)) (v : Option Content) → ((f : Refusal) → v ≢ Some (Damaged f))
         → Value S F opening img p g o v → (l : Locator) → l ∈ live o

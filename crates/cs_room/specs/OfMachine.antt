@@ -4,7 +4,7 @@ use Rattle.cs_model.specs.Apart.{any_swept, is_none, same_place}
 use Rattle.cs_model.specs.Append.{chunk_frames, page_counts}
 use Rattle.cs_model.specs.Device.{Page, Shape}
 use Rattle.cs_model.specs.Element.{Copy, Entry, Locator, Map, Opening, Run}
-use Rattle.cs_model.specs.Events.{Chunked, newest_page}
+use Rattle.cs_model.specs.Events.{ArePayloads, newest_page}
 use Rattle.cs_model.specs.Extents.{Extents, MayFill}
 use Rattle.cs_model.specs.Formats.{ChunkFrame, Formats, RunFrame, opening_in, fault_for}
 use Rattle.cs_model.specs.Index.{IsRunList, Reads, entries_of, live_at}
@@ -155,13 +155,15 @@ module _ (S : Shape) (F : Formats) where
   abbrev pub RunsFit : Type 0
   RunsFit = (entries : List Entry) → IsRunList S entries → length (F.frame RunFrame (F.run entries)) ≤ S.pages
 
-  -- each chunk fits on an extent
+  -- each chunk fits on an extent, with its head
   abbrev pub ChunksFit : Type 0
-  ChunksFit = (chunk : List ℕ) → length chunk ≤ S.chunk_bytes → length (F.frame ChunkFrame chunk) ≤ S.pages
+  ChunksFit = (id number count command : ℕ) (piece : List ℕ) → length piece ≤ S.chunk_bytes
+      → length (F.frame ChunkFrame (F.head id number count command ++ piece)) ≤ S.pages
 
   -- what an event of the machine is in room
   abbrev pub InRoom : Event → Reply → Room → Room → Type 0
-  InRoom (Put id bytes) (Accepted n) r q = (chunks : List (List ℕ)) × Chunked S.chunk_bytes bytes chunks
+  InRoom (Put id bytes) (Accepted n) r q =
+      (command : ℕ) × (chunks : List (List ℕ)) × ArePayloads S F id command bytes chunks
       × Does S S.run_extents r (PutInRoom id (page_counts (chunk_frames S F chunks))) q
   InRoom (Delete id) (Accepted n) r q = Does S S.run_extents r (DeleteInRoom id) q
   InRoom Stage (Staged v) r q =

@@ -39,9 +39,9 @@ module _ (S : Shape) (F : Formats) where
     pub room : HasRoomNow S F s r
     pub roots : HasRootsOf s r
 
-  -- the page of a section tells the pointers of its extents, in whatever format and version
+  -- the page of a section tells the pointers of its extents, in whatever format and version, and whatever root it records
   abbrev pub TellsPointers : Type 0
-  TellsPointers = (f k j v w : ℕ) (p g q h : ℕ → ℕ) → j < S.sections → (1 ≤ v) × (v ≤ S.greatest_number)
+  TellsPointers = (f k j v w a b : ℕ) (p g q h : ℕ → ℕ) → j < S.sections → (1 ≤ v) × (v ≤ S.greatest_number)
       → (1 ≤ w) × (w ≤ S.greatest_number) → ((e : ℕ) → FitsExtent S (p e) (g e))
-      → ((e : ℕ) → FitsExtent S (q e) (h e)) → F.superblock f j v p g ≡ F.superblock k j w q h
+      → ((e : ℕ) → FitsExtent S (q e) (h e)) → F.superblock f j v a p g ≡ F.superblock k j w b q h
       → (e : ℕ) → e < S.extents → S.section e ≡ j → p e ≡ q e

@@ -1,8 +1,14 @@
 use Rattle.std.proofs.Common.{◌≡◌, ◌-◌, ◌++◌}
 use Rattle.std.specs.Prelude.{map}
 use Rattle.cs_chunk.specs.Cuts.{pieces}
+use Rattle.cs_extent.specs.State.{shape}
+use Rattle.cs_frame.specs.Formats.{formats_of}
 use Rattle.cs_frame.specs.Frames.{spelled_frame}
+use Rattle.cs_frame.specs.Identifiers.{id_number}
+use Rattle.cs_model.specs.Events.{with_heads}
 use Rattle.cs_chunk.proofs.chunks.encode_chunks.Given as goal
 
-abbrev pub invariant-loop : goal.invariant-loop
-invariant-loop l = map (λ f. f.items) l.frames.items ++ map (spelled_frame 0) (pieces l.size (l.count - l.counter) l.rest) ≡ map (spelled_frame 0) (pieces l.size l.count l.bytes)
+abbrev pub invariant-loop-number : goal.invariant-loop-number
+invariant-loop-number l =
+    map (λ f. f.items) l.frames.items ++ map (spelled_frame 0) (with_heads (formats_of (shape l.extents)) (id_number l.id) l.number l.cut.count l.command (pieces l.cut.size (l.cut.count - l.number) l.rest))
+    ≡ map (spelled_frame 0) (with_heads (formats_of (shape l.extents)) (id_number l.id) 0 l.cut.count l.command (pieces l.cut.size l.cut.count l.bytes))

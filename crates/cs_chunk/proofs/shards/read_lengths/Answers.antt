@@ -1,8 +1,9 @@
-use Rattle.std.proofs.Common.{ℕ, List, Ok, Err, arith, get_or, refl, subst, sym}
+use Rattle.std.proofs.Common.{ℕ, ◌+◌, ◌∙◌, List, Ok, Err, ap, arith, get_or, subst, sym}
 use Rattle.std.proofs.lemmas.List.{get_or_default}
 use Rattle.cs_chunk.specs.Newest.{AreNewest}
 use Rattle.cs_disk.specs.Disk.{State, seen}
 use Rattle.cs_frame.specs.declared.locators.Locator.{Locator}
+use Rattle.cs_model.specs.Geometry.{head_bytes_in}
 use Rattle.cs_chunk.proofs.OnlyRead.{reads_on}
 use Rattle.cs_chunk.proofs.Lengths.{all_told, header_refused_at, tells_all, told_more}
 use Rattle.cs_chunk.proofs.shards.read_lengths.Goals as goal
@@ -21,12 +22,13 @@ pub loop-k-preserved : goal.loop-k-preserved
 loop-k-preserved g c =
     let r = (goal.at.loop-k-preserved g c).After-read_length in record {
       disk = reads_on g.D.PageDisk c.args.disk.now c.loop-k.disk c.read_length.new.disk c.loop-k.invariant.disk c.read_length.ensures.disk;
-      small = omega (arith, c.loop-k.invariant.small);
+      small = omega (arith, c.loop-k.invariant.small, c.saturating_sub-total.ensures);
       told = λ h view are.
           let there = c.loop-k.invariant.disk.honesty.0 h in
-          told_more c.args.extents.now c.extent_count.ensures.whole view c.args.locators.now c.loop-k.k (at_place c.args.locators.now c.loop-k.k) c.loop-k.total c.in-Ok.count _
+          told_more c.args.extents.now c.extent_count.ensures.whole view c.args.locators.now c.loop-k.k (at_place c.args.locators.now c.loop-k.k) c.loop-k.total c.in-Ok.count c.head_bytes-head.result _
           c.loop-k-test.true (get_or_default c.args.locators.now c.loop-k.k _ _ c.loop-k-test.true) (c.loop-k.invariant.told h view are)
-          (c.in-Ok.ensures.header there view (view_here g r h view are)) (c.in-Ok.ensures.told there view (view_here g r h view are)) refl;
+          (c.in-Ok.ensures.header there view (view_here g r h view are)) (c.in-Ok.ensures.told there view (view_here g r h view are))
+          (c.head_bytes-head.ensures.bytes ∙ ap head_bytes_in c.format_of.ensures) (ap (λ n. c.loop-k.total + n) c.saturating_sub-total.ensures);
     }
 
 pub returns-in-Err-clause-disk : goal.returns-in-Err-clause-disk

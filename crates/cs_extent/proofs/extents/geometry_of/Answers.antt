@@ -1,5 +1,7 @@
-use Rattle.std.proofs.Common.{◌≡◌, ◌∙◌, Some, length, refl, slice_get, sym}
+use Rattle.std.proofs.Common.{◌≡◌, ◌∙◌, ℕ, Some, length, refl, slice_get, subst, sym}
+use Rattle.std.proofs.lemmas.Bool.{true≢false}
 use Rattle.std.proofs.lemmas.Option.{slice_get_read}
+use Rattle.cs_frame.specs.Geometries.{IsGeometry}
 use Rattle.cs_extent.proofs.Sections.{rows_are_all}
 use Rattle.cs_extent.proofs.extents.geometry_of.Goals as goal
 
@@ -20,3 +22,14 @@ returns-clause-sections c =
     let at : slice_get c.args.sections.now 0 ≡ Some c.index-sections-0.result = slice_get_read c.args.sections.now (length c.args.sections.now) 0 c.index-sections-0.result refl c.requires.some c.index-sections-0.is in
     let first = c.requires.each 0 c.index-sections-0.result at in
     c.in-Ok.ensures.sections ∙ c.from-sections.ensures ∙ first.of_sections
+
+pub unreachable-requires : goal.unreachable-requires
+unreachable-requires c =
+    let at : slice_get c.args.sections.now 0 ≡ Some c.index-sections-0.result = slice_get_read c.args.sections.now (length c.args.sections.now) 0 c.index-sections-0.result refl c.requires.some c.index-sections-0.is in
+    let geometry = (c.requires.each 0 c.index-sections-0.result at).is.geometry in
+    let same : IsGeometry c.from-format.result c.from-extents.result c.from-pages.result c.from-sections.result =
+    subst (λ (n : ℕ). IsGeometry n c.from-extents.result c.from-pages.result c.from-sections.result) (sym c.from-format.ensures)
+    (subst (λ (n : ℕ). IsGeometry c.index-sections-0.result.format n c.from-pages.result c.from-sections.result) (sym c.from-extents.ensures)
+    (subst (λ (n : ℕ). IsGeometry c.index-sections-0.result.format c.index-sections-0.result.extent_count n c.from-sections.result) (sym c.from-pages.ensures)
+    (subst (λ (n : ℕ). IsGeometry c.index-sections-0.result.format c.index-sections-0.result.extent_count c.index-sections-0.result.pages n) (sym c.from-sections.ensures) geometry))) in
+    true≢false (sym (c.in-Err.ensures.valid.1 same))

@@ -4,12 +4,12 @@ use Rattle.cs_frame.proofs.SuperblockLaws.{other_format, spelled_has_none}
 use Rattle.cs_frame.proofs.laws.formats_are_apart.Goals as goal
 
 pub returns-clause-section : goal.returns-clause-section
-returns-clause-section c = λ page format f version extents pages sections section written s other.
-    other_format format f page (spelled_has_none page format version extents pages sections section written s) other
+returns-clause-section c = λ page format f version recorded extents pages sections section written s other.
+    other_format format f page (spelled_has_none page format version recorded extents pages sections section written s) other
 
 pub returns-clause-section_as_first : goal.returns-clause-section_as_first
-returns-clause-section_as_first c = λ page format version extents pages sections section written s.
-    section_as_first format page s.fits.geometry.known (spelled_has_none page format version extents pages sections section written s)
+returns-clause-section_as_first c = λ page format version recorded extents pages sections section written s.
+    section_as_first format page s.fits.geometry.known (spelled_has_none page format version recorded extents pages sections section written s)
 
 pub returns-clause-first_as_section : goal.returns-clause-first_as_section
 returns-clause-first_as_section c = λ page format version pages extents s known.

@@ -6,5 +6,5 @@ returns-clause-runs c = λ extents pages sections format entries geometry list.
     runs_fit extents pages sections format geometry entries list
 
 pub returns-clause-chunks : goal.returns-clause-chunks
-returns-clause-chunks c = λ extents pages sections format chunk geometry short.
-    chunks_fit extents pages sections format geometry chunk short
+returns-clause-chunks c = λ extents pages sections format id number count command piece geometry short.
+    chunks_fit extents pages sections format geometry id number count command piece short

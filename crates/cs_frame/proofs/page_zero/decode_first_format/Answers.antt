@@ -13,6 +13,7 @@ returns-clause-spelled c =
     record {
       spells = is;
       written_in = it.format;
+      no_record = it.record;
       all_extents = it.extent_count ∙ count_of c.args.page.now _ _ _ is;
       one_section = it.sections;
       first_section = it.section;
@@ -22,4 +23,4 @@ pub returns-clause-read : goal.returns-clause-read
 returns-clause-read c = λ version pages extents s.
     let it = c.in_ok-first_format_from.ensures in
     let one = one_of_first_format c.args.page.now version pages extents s in
-    (it.format, it.version ∙ one.0, it.extent_count ∙ count_of c.args.page.now version pages extents s, it.pages ∙ one.1, it.sections, it.section, it.extents ∙ one.2)
+    (it.format, it.version ∙ one.0, it.record, it.extent_count ∙ count_of c.args.page.now version pages extents s, it.pages ∙ one.1, it.sections, it.section, it.extents ∙ one.2)

@@ -14,9 +14,9 @@ returns-else-page-eq49-clause-fault c =
     subst (λ (found : Option FormatFault). HasFault c.decode_section.result found) (ap (λ (f : ℕ). superblock_fault f c.args.page.now) c.section_format.ensures ∙ zero_second c.args.page.now c.if-page-eq49.false) c.decode_section.ensures.fault
 
 pub returns-else-page-eq49-clause-read : goal.returns-else-page-eq49-clause-read
-returns-else-page-eq49-clause-read c = λ format version extents pages sections section written s.
-    let same = c.section_format.ensures ∙ zero_spells c.args.page.now format version extents pages sections section written s in
-    subst (λ (f : ℕ). OkUnlessMemory c.decode_section.result (λ it. (it.format ≡ f) × (it.version ≡ version) × (it.extent_count ≡ extents)
+returns-else-page-eq49-clause-read c = λ format version recorded extents pages sections section written s.
+    let same = c.section_format.ensures ∙ zero_spells c.args.page.now format version recorded extents pages sections section written s in
+    subst (λ (f : ℕ). OkUnlessMemory c.decode_section.result (λ it. (it.format ≡ f) × (it.version ≡ version) × (it.recorded ≡ recorded) × (it.extent_count ≡ extents)
     × (it.pages ≡ pages) × (it.sections ≡ sections) × (it.section ≡ section) × (it.extents.items ≡ written))) same
-    (c.decode_section.ensures.read version extents pages sections section written
-    (subst (λ (f : ℕ). SpellsSuperblock c.args.page.now f version extents pages sections section written) (sym same) s))
+    (c.decode_section.ensures.read version recorded extents pages sections section written
+    (subst (λ (f : ℕ). SpellsSuperblock c.args.page.now f version recorded extents pages sections section written) (sym same) s))

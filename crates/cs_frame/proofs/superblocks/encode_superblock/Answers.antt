@@ -7,9 +7,10 @@ use Rattle.cs_frame.proofs.superblocks.encode_superblock.Goals as goal
 pub spelled_page-requires : goal.spelled_page-requires
 spelled_page-requires c =
     let it = c.args.superblock.now in
-    same_section it.format it.version it.extent_count it.pages it.sections it.section _ _ _ _ c.deref.result.now refl refl refl refl (record {
+    same_section it.format it.version it.recorded it.extent_count it.pages it.sections it.section _ _ _ _ c.deref.result.now refl refl refl refl (record {
       first_version = c.requires.first_version;
       last_version = c.requires.last_version;
+      recorded_fits = c.requires.recorded_fits;
       geometry = c.requires.geometry;
       one_of_them = c.requires.one_of_them;
       count = ap length c.deref.ensures.value ∙ c.requires.count;
@@ -19,4 +20,4 @@ spelled_page-requires c =
 pub returns : goal.returns
 returns c =
     let it = c.args.superblock.now in
-    subst (λ (es : List (ℕ × ℕ)). SpellsSuperblock c.spelled_page.result it.format it.version it.extent_count it.pages it.sections it.section es) c.deref.ensures.value c.spelled_page.ensures
+    subst (λ (es : List (ℕ × ℕ)). SpellsSuperblock c.spelled_page.result it.format it.version it.recorded it.extent_count it.pages it.sections it.section es) c.deref.ensures.value c.spelled_page.ensures

@@ -2,21 +2,22 @@ use Rattle.std.proofs.Common.{◌≤◌, ◌∙◌, ap, arith, length, ℕ}
 use Rattle.cs_frame.specs.Pages.{padded, sealed}
 use Rattle.cs_frame.specs.Pointers.{FitsExtent, FitsGeneration}
 use Rattle.cs_frame.proofs.Pieces.{AllByRecursion-and}
-use Rattle.cs_frame.proofs.SuperblockLaws.{end_in_page, length-superblock_fields}
+use Rattle.cs_frame.proofs.SuperblockLaws.{end_in_page, extents_in_page, length-superblock_fields}
 use Rattle.cs_frame.proofs.superblocks.spelled_page.Goals as goal
 
 pub unsealed-page-requires-clause-size : goal.unsealed-page-requires-clause-size
-unsealed-page-requires-clause-size c = omega (arith, c.requires.count, end_in_page c.args.format c.args.extent_count c.args.pages c.args.sections c.args.section c.requires.geometry)
+unsealed-page-requires-clause-size c = omega (arith, c.requires.count, extents_in_page c.args.format c.args.extent_count c.args.pages c.args.sections c.args.section c.requires.geometry)
 
 pub seal-requires : goal.seal-requires
 seal-requires c =
-    omega (arith, ap length c.unsealed-page.ensures.text, length-superblock_fields c.args.format c.args.version c.args.extent_count c.args.pages c.args.sections c.args.section c.args.extents.now, c.requires.count, end_in_page c.args.format c.args.extent_count c.args.pages c.args.sections c.args.section c.requires.geometry)
+    omega (arith, ap length c.unsealed-page.ensures.text, length-superblock_fields c.args.format c.args.version c.args.recorded c.args.extent_count c.args.pages c.args.sections c.args.section c.args.extents.now, c.requires.count, end_in_page c.args.format c.args.extent_count c.args.pages c.args.sections c.args.section c.requires.geometry)
 
 pub returns : goal.returns
 returns c = record {
   fits = record {
     first_version = c.requires.first_version;
     last_version = c.requires.last_version;
+    recorded_fits = c.requires.recorded_fits;
     geometry = c.requires.geometry;
     one_of_them = c.requires.one_of_them;
     count = c.requires.count;

@@ -1,6 +1,8 @@
-use Rattle.std.proofs.Common.{◌≡◌, ◌+◌, ◌∷◌, ◌++◌, [], ap, codes, refl, ℕ}
+use Rattle.std.proofs.Common.{◌≡◌, ◌+◌, ◌∷◌, ◌++◌, ◌∙◌, [], ap, ap₂, codes, refl, take, List, ℕ}
 use Rattle.cs_frame.specs.Buffers.{text_of}
+use Rattle.cs_frame.specs.Superblocks.{spelled_record}
 use Rattle.cs_frame.proofs.Fields.{wrote}
+use Rattle.cs_frame.proofs.SuperblockLaws.{front_of_record}
 use Rattle.cs_frame.proofs.superblocks.unsealed.Goals as goal
 
 pub returns-clause-text : goal.returns-clause-text
@@ -12,4 +14,7 @@ returns-clause-text c =
     let pages = wrote count c.append-5.ensures c.to_be_bytes-3.ensures in
     let sections = wrote pages c.append-6.ensures refl in
     let section = wrote sections c.append-7.ensures refl in
-    wrote section c.append_extents.ensures.text refl
+    let front : take c.record_bytes.result c.to_be_bytes-4.result ≡ spelled_record c.args.format c.args.recorded =
+    ap₂ (λ (n : ℕ) (xs : List ℕ). take n xs) c.record_bytes.ensures.bytes c.to_be_bytes-4.ensures ∙ front_of_record c.args.format c.args.recorded in
+    let recorded = wrote section c.append-8.ensures front in
+    wrote recorded c.append_extents.ensures.text refl

@@ -3,7 +3,7 @@ use Rattle.cs_deps.specs.Staging.{Staging}
 use Rattle.cs_deps.specs.State.{State, write_of}
 use Rattle.cs_frame.specs.declared.locators.Locator.{Locator}
 use Rattle.cs_extent.specs.Appended.{IsAppended}
-use Rattle.cs_extent.specs.Frames.{family_of, next_section}
+use Rattle.cs_extent.specs.Frames.{family_of, next_section, root_recorded}
 use Rattle.cs_extent.specs.Purposes.{reason_of}
 use Rattle.cs_extent.specs.State.{SpellsExtents, shape}
 use Rattle.cs_extent.proofs.Appending.{whatever_room}
@@ -11,9 +11,9 @@ use Rattle.cs_extent.proofs.extents.Extents.append.Goals as goal
 
 pub returns-in-Ok-clause-section : goal.returns-in-Ok-clause-section
 returns-in-Ok-clause-section c =
-    subst (λ (l : Locator). (page : List ℕ) × (write_of c.give.new.graph (next_section c.args.graph.now.staging ((shape c.args.self.now).section l.extent)) ≡ Some ((shape c.args.self.now).section_page ((shape c.args.self.now).section l.extent), page)) × SpellsExtents c.give.new.self ((shape c.args.self.now).section l.extent) (get_or c.args.graph.now.staging.latest (family_of ((shape c.args.self.now).section l.extent)) 0 + 1) page)
+    subst (λ (l : Locator). (page : List ℕ) × (write_of c.give.new.graph (next_section c.args.graph.now.staging ((shape c.args.self.now).section l.extent)) ≡ Some ((shape c.args.self.now).section_page ((shape c.args.self.now).section l.extent), page)) × SpellsExtents c.give.new.self ((shape c.args.self.now).section l.extent) (get_or c.args.graph.now.staging.latest (family_of ((shape c.args.self.now).section l.extent)) 0 + 1) (root_recorded (shape c.args.self.now).format c.args.graph.now.staging) page)
     (sym c.give.ensures.locator)
-    (subst (λ (s : Staging). (page : List ℕ) × (write_of c.give.new.graph (next_section s ((shape c.args.self.now).section c.in-Some.extent)) ≡ Some ((shape c.args.self.now).section_page ((shape c.args.self.now).section c.in-Some.extent), page)) × SpellsExtents c.give.new.self ((shape c.args.self.now).section c.in-Some.extent) (get_or s.latest (family_of ((shape c.args.self.now).section c.in-Some.extent)) 0 + 1) page)
+    (subst (λ (s : Staging). (page : List ℕ) × (write_of c.give.new.graph (next_section s ((shape c.args.self.now).section c.in-Some.extent)) ≡ Some ((shape c.args.self.now).section_page ((shape c.args.self.now).section c.in-Some.extent), page)) × SpellsExtents c.give.new.self ((shape c.args.self.now).section c.in-Some.extent) (get_or s.latest (family_of ((shape c.args.self.now).section c.in-Some.extent)) 0 + 1) (root_recorded (shape c.args.self.now).format s) page)
     (ap (λ (g : State). g.staging) c.in-Ok.ensures.rest) c.give.ensures.section)
 
 pub returns-in-Ok-clause-appended : goal.returns-in-Ok-clause-appended

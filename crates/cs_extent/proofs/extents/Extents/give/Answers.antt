@@ -1,12 +1,14 @@
-use Rattle.std.proofs.Common.{◌∙◌, ◌≡◌, ◌+◌, ◌*◌, ◌==◌, arith, ap, length, get_or, subst, ◌≤◌, ℕ, List, Some, if◌then◌else◌}
+use Rattle.std.proofs.Common.{◌∙◌, ◌≡◌, ◌+◌, ◌*◌, ◌==◌, arith, ap, length, get_or, subst, sym, ◌≤◌, ℕ, List, Some, if◌then◌else◌}
 use Rattle.cs_deps.specs.declared.elements.Element.{Element}
 use Rattle.cs_deps.specs.Named.{Names}
 use Rattle.cs_deps.specs.State.{write_of}
 use Rattle.cs_model.specs.Extents.{Extents, taken}
 use Rattle.std.specs.Prelude.{◌↔◌}
 use Rattle.cs_frame.specs.Geometries.{section_length, section_start}
+use Rattle.cs_frame.specs.Superblocks.{FitsRecord}
+use Rattle.cs_model.specs.Device.{Shape}
 use Rattle.cs_frame.proofs.GeometryLaws.{bounds}
-use Rattle.cs_extent.specs.Frames.{AddsOnlyOf, IsOfFrame, IsVersionUpTo, IsWorn, family_of, next_section, root_family}
+use Rattle.cs_extent.specs.Frames.{AddsOnlyOf, IsOfFrame, IsVersionUpTo, IsWorn, family_of, next_section, root_family, root_recorded}
 use Rattle.cs_extent.specs.State.{SpellsExtents, State, extents_of, need_of, shape}
 use Rattle.cs_extent.proofs.Changes.{greatest_within}
 use Rattle.cs_extent.proofs.Staged.{family_inside, family_small, fresh, frame_families, frame_root, framed, resets_still, written_pages}
@@ -15,6 +17,13 @@ use Rattle.cs_extent.proofs.extents.Extents.give.Goals as goal
 pub last_version-version-requires : goal.last_version-version-requires
 last_version-version-requires c =
     omega (arith, c.section_family-family.ensures, c.requires.families, family_inside (shape c.args.self.now).sections c.section-section.result c.section-section.ensures.inside)
+
+pub recorded-recorded-requires : goal.recorded-recorded-requires
+recorded-recorded-requires c = omega (arith, c.requires.families, c.section-section.ensures.inside)
+
+pub section_bytes-bytes-requires-clause-record : goal.section_bytes-bytes-requires-clause-record
+section_bytes-bytes-requires-clause-record c =
+    subst (λ (S : Shape). FitsRecord S.format c.recorded-recorded.result) (sym c.take.ensures.shape) c.recorded-recorded.ensures.fits
 
 pub stage_frame-requires-clause-families : goal.stage_frame-requires-clause-families
 stage_frame-requires-clause-families c =
@@ -56,9 +65,10 @@ returns-clause-section c =
     c.section_page-page.ensures
     ∙ ap (λ (n : ℕ). if c.section-section.result == 0 then 0 else 1 + n * c.geometry-geometry.result.pages + c.section-section.result) c.geometry-geometry.ensures.extents
     ∙ ap (λ (n : ℕ). if c.section-section.result == 0 then 0 else 1 + length s.written * n + c.section-section.result) c.geometry-geometry.ensures.pages in
-    let spells : SpellsExtents c.take.new.self c.section-section.result (get_or latest (family_of c.section-section.result) 0 + 1) c.section_bytes-bytes.result =
-    subst (λ (n : ℕ). SpellsExtents c.take.new.self c.section-section.result n c.section_bytes-bytes.result) number c.section_bytes-bytes.ensures in
-    subst (λ (j : ℕ). (page : List ℕ) × (write_of c.stage_frame.new.graph (next_section c.args.graph.now.staging j) ≡ Some ((shape s).section_page j, page)) × SpellsExtents c.take.new.self j (get_or latest (family_of j) 0 + 1) page)
+    let spells : SpellsExtents c.take.new.self c.section-section.result (get_or latest (family_of c.section-section.result) 0 + 1) (root_recorded (shape s).format c.args.graph.now.staging) c.section_bytes-bytes.result =
+    subst (λ (n : ℕ). SpellsExtents c.take.new.self c.section-section.result (get_or latest (family_of c.section-section.result) 0 + 1) n c.section_bytes-bytes.result) c.recorded-recorded.ensures.record
+    (subst (λ (n : ℕ). SpellsExtents c.take.new.self c.section-section.result n c.recorded-recorded.result c.section_bytes-bytes.result) number c.section_bytes-bytes.ensures) in
+    subst (λ (j : ℕ). (page : List ℕ) × (write_of c.stage_frame.new.graph (next_section c.args.graph.now.staging j) ≡ Some ((shape s).section_page j, page)) × SpellsExtents c.take.new.self j (get_or latest (family_of j) 0 + 1) (root_recorded (shape s).format c.args.graph.now.staging) page)
     c.section-section.ensures.section
     (c.section_bytes-bytes.result, c.stage_frame.ensures.write ∙ ap (λ (n : ℕ). Some (n, c.section_bytes-bytes.result)) at, spells)
 

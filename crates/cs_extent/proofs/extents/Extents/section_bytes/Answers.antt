@@ -26,5 +26,5 @@ returns c =
     ∙ ap (λ (n : ℕ). take n (drop c.section_start-start.result s.written)) many
     ∙ ap (λ (n : ℕ). take (section_length (length s.written) s.sections j) (drop n s.written)) start in
     rw (← c.self.view_is)
-    (subst (λ (n : ℕ). SpellsSuperblock c.encode_section.result s.format c.args.version n s.pages s.sections j (section_rows s j)) c.self.invariant.extents
-    (subst (λ (xs : List (ℕ × ℕ)). SpellsSuperblock c.encode_section.result s.format c.args.version c.self.inside.geometry.extents s.pages s.sections j xs) rows c.encode_section.ensures))
+    (subst (λ (n : ℕ). SpellsSuperblock c.encode_section.result s.format c.args.version c.args.recorded n s.pages s.sections j (section_rows s j)) c.self.invariant.extents
+    (subst (λ (xs : List (ℕ × ℕ)). SpellsSuperblock c.encode_section.result s.format c.args.version c.args.recorded c.self.inside.geometry.extents s.pages s.sections j xs) rows c.encode_section.ensures))
