@@ -16,7 +16,8 @@ use Rattle.cs_frame.specs.PackedRuns.{packed_entry, packed_run}
 use Rattle.cs_frame.specs.Runs.{Entry as SpelledEntry, FitsEntry, FitsRun, Rises, entries_of as spelled_entries, entry_of, is_before, plain_run, spelled_entry}
 use Rattle.cs_frame.specs.Places.{Listed}
 use Rattle.cs_index.proofs.Numbers.{before_is}
-use Rattle.cs_index.specs.State.{id_number, named_entry}
+use Rattle.cs_frame.specs.Identifiers.{id_number}
+use Rattle.cs_index.specs.State.{named_entry}
 use Rattle.cs_model.specs.Element.{Entry, Locator as Place}
 use Rattle.cs_model.specs.Index.{Ascending}
 use Rattle.cs_model.specs.Lists.{◌∈◌}

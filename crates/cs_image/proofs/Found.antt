@@ -35,8 +35,8 @@ use Rattle.cs_image.proofs.Reaches.{end_is_limit}
 use Rattle.cs_image.proofs.Runs.{Stored, stands_meant, stands_reach, stands_read, stored_read}
 use Rattle.cs_image.proofs.Superblocks.{extents_are, extents_fit, extents_with, read_as, read_below, read_fits, read_found, read_listed, read_whole, section_formats, zero_formats}
 
-module _ (view : ℕ → List ℕ) (format : ℕ) (versions : List ℕ) (pages : ℕ) (written : List (ℕ × ℕ)) (root commands : ℕ) (runs : List StoredRun)
-    (read : IsVisibleStoreRead view format versions pages written root commands runs)
+module _ (view : ℕ → List ℕ) (format : ℕ) (versions records : List ℕ) (pages : ℕ) (written : List (ℕ × ℕ)) (root commands : ℕ) (runs : List StoredRun)
+    (read : IsVisibleStoreRead view format versions records pages written root commands runs)
     (hidden : (shape (extents_at format pages (length versions) written)).hidden_stand ≡ true → AreLocated (extents_at format pages (length versions) written) runs) where
   abbrev x : ExtentsState
   x = extents_at format pages (length versions) written
@@ -54,7 +54,7 @@ module _ (view : ℕ → List ℕ) (format : ℕ) (versions : List ℕ) (pages :
   Located = Passes (shape x) (formats_of (shape x)) view p g
 
   fit : (e : ℕ) → (p e ≤ pages) × (g e ≤ 4294967295)
-  fit = extents_fit view format versions pages written read.sections
+  fit = extents_fit view format versions records pages written read.sections
 
   -- the mark of a locator that can be spelled is one that can be
   abbrev Marked : Place → Type 0
@@ -77,7 +77,7 @@ module _ (view : ℕ → List ℕ) (format : ℕ) (versions : List ℕ) (pages :
 
   -- how far a frame may reach
   end_there : (l : Place) → Located l → end_in x (as_locator l) ≡ limit_in (shape x) (formats_of (shape x)) p g l
-  end_there l is = end_is_limit x view p g l (λ on. read_found view format versions pages written read.sections on l.extent) is
+  end_there l is = end_is_limit x view p g l (λ on. read_found view format versions records pages written read.sections on l.extent) is
 
   -- a frame that reaches no further is read
   reads_so : (l : Place) (bs : List Page) → Located l → l.page + length bs ≤ limit_in (shape x) (formats_of (shape x)) p g l
@@ -100,7 +100,7 @@ module _ (view : ℕ → List ℕ) (format : ℕ) (versions : List ℕ) (pages :
   run_in : (run : StoredRun) → IsRunRead x view run → IsStored (run_of run) → FitsLocator (marks_in format) run.place → RunIn (run_of run)
   run_in run is stored placed =
       let there : Located (place_of run.place) = passes run.place is.located (fits_mark run.place placed) in
-      let stands = stands_read x (read_whole view format versions pages written read.sections).found_pages view run is stored in
+      let stands = stands_read x (read_whole view format versions records pages written read.sections).found_pages view run is stored in
       record {
         reads = reads_so (place_of run.place) _ there (le_trans (stands_reach x view run is) (le_of_eq (end_there (place_of run.place) there))) stands.stand (stands_meant x view run is);
         fits = stands.fits;
@@ -195,21 +195,21 @@ module _ (view : ℕ → List ℕ) (format : ℕ) (versions : List ℕ) (pages :
     version_fits = (let lt = read.root_page.fits.last_version in omega (arith, lt));
     commands_fit = (let lt = read.root_page.fits.last_command in omega (arith, lt));
     few_runs = few_runs;
-    named = read.named;
+    weight_fits = read.weight_fits;
     chunks_fit = few_chunks;
   }
 
   -- the format of page 0, which with one section may be the first, is as good as any for the others
-  zero_format : 0 < length versions → (f : ℕ) × (view 0 ≡ (formats_of (shape x)).superblock f 0 (slice_index versions 0) p g)
-  zero_format some = zero_formats (shape x) p g (slice_index versions 0) (view 0) (section_rows x 0) (read_listed view format versions pages written read.sections 0) (read.sections.each 0 some)
+  zero_format : 0 < length versions → (f : ℕ) × (view 0 ≡ (formats_of (shape x)).superblock f 0 (slice_index versions 0) (slice_index records 0) p g)
+  zero_format some = zero_formats (shape x) p g (slice_index versions 0) (slice_index records 0) (view 0) (section_rows x 0) (read_listed view format versions records pages written read.sections 0) (read.sections.each 0 some)
 
   abbrev first_written : ℕ
   first_written = (zero_format read.sections.geometry.fewest_sections).0
 
-  section_there : (j : ℕ) → j < length versions → view ((shape x).section_page j) ≡ (formats_of (shape x)).superblock first_written j (slice_index versions j) p g
+  section_there : (j : ℕ) → j < length versions → view ((shape x).section_page j) ≡ (formats_of (shape x)).superblock first_written j (slice_index versions j) (slice_index records j) p g
   section_there zero lt = (zero_format read.sections.geometry.fewest_sections).1
-  section_there (suc j) lt = section_formats (shape x) p g first_written j (slice_index versions (suc j)) (view ((shape x).section_page (suc j))) (section_rows x (suc j))
-      (read_listed view format versions pages written read.sections (suc j)) lt (read.sections.each (suc j) lt)
+  section_there (suc j) lt = section_formats (shape x) p g first_written j (slice_index versions (suc j)) (slice_index records (suc j)) (view ((shape x).section_page (suc j))) (section_rows x (suc j))
+      (read_listed view format versions records pages written read.sections (suc j)) lt (read.sections.each (suc j) lt)
 
   -- the extents as they are read
   abbrev pub as_read : Extents
@@ -220,12 +220,14 @@ module _ (view : ℕ → List ℕ) (format : ℕ) (versions : List ℕ) (pages :
     found = record {
       formats = λ j. first_written;
       versions = λ j. slice_index versions j;
+      recorded = λ j. slice_index records j;
       pointers = p;
       generations = g;
       superblock = section_there;
-      versions_fit = λ j lt. let fits = read_fits view format versions pages written read.sections j lt in (fits.first_version, (let last = fits.last_version in omega (arith, last)));
+      versions_fit = λ j lt. let fits = read_fits view format versions records pages written read.sections j lt in (fits.first_version, (let last = fits.last_version in omega (arith, last)));
       extents_fit = fit;
       version = root;
+      recorded_fit = read.recorded_fit;
       runs = newest_first runs;
       root = read.root_page.spelled ∙ ap (spelled_root format root commands) (sym (oldest_places runs));
       root_fits = root_fits_from format root commands (places (newest_first runs))
@@ -254,7 +256,7 @@ module _ (view : ℕ → List ℕ) (format : ℕ) (versions : List ℕ) (pages :
         inl (c.0, reads_so l ((formats_of (shape x)).frame ChunkFrame c.0) is c.1 c.2 c.3))
         (λ (b : (f : Refusal) × (fault_for (shape x) (formats_of (shape x)) ChunkFrame l.mark (pages_from (shape x) (formats_of (shape x)) view l.extent l.page (end_of l - l.page)) ≡ Some f)).
         inr (b.0, damage_here (shape x) (formats_of (shape x)) view p g l is ∙ b.1))
-        (chunk_or_fault (shape x) view (device_pages format (length written) pages (length versions)) (read_below view format versions pages written read.sections) are l.extent l.page (end_of l) l.mark
+        (chunk_or_fault (shape x) view (device_pages format (length written) pages (length versions)) (read_below view format versions records pages written read.sections) are l.extent l.page (end_of l) l.mark
         is.inside.0 (end_above l is (shape x).fills refl) (limit_low (shape x) (formats_of (shape x)) p g (λ e. (fit e).0) l))
       where
         end_of : Place → ℕ
@@ -270,7 +272,7 @@ module _ (view : ℕ → List ℕ) (format : ℕ) (versions : List ℕ) (pages :
     content [] pass = (Bytes [], refl)
     content (l ∷ ls) pass = ⊎_elim
         (λ (c : (payload : List ℕ) × Reads (shape x) (formats_of (shape x)) opening view p g l ((formats_of (shape x)).frame ChunkFrame payload)).
-        let rest = content ls (λ k has. pass k (inr has)) in (after c.0 rest.0, inl (c.0, rest.0, c.1, rest.1, refl)))
+        let rest = content ls (λ k has. pass k (inr has)) in (after ((formats_of (shape x)).body c.0) rest.0, inl (c.0, rest.0, c.1, rest.1, refl)))
         (λ (b : (f : Refusal) × (opening.damage l ≡ Some f)). (Damaged b.0, inr (b.0, b.1, refl)))
         (chunk l (pass l (inl refl)))
 
@@ -338,28 +340,29 @@ visible_of x runs all id = found_in (IsEntryLocated x) (λ (o : Option (List Pla
     (entries_of (newest_first runs))
     (in_entries (IsEntryLocated x) (newest_first runs) (all_newest (λ run. AllByRecursion (IsEntryLocated x) run.entries) runs (runs_located x runs all))) id
 
-module _ (view : ℕ → List ℕ) (format : ℕ) (versions : List ℕ) (pages : ℕ) (written : List (ℕ × ℕ)) (root commands : ℕ) (runs : List StoredRun)
-    (read : IsStoreRead view format versions pages written root commands runs) where
+module _ (view : ℕ → List ℕ) (format : ℕ) (versions records : List ℕ) (pages : ℕ) (written : List (ℕ × ℕ)) (root commands : ℕ) (runs : List StoredRun)
+    (read : IsStoreRead view format versions records pages written root commands runs) where
   abbrev there : ExtentsState
   there = extents_at format pages (length versions) written
 
-  pub visible_read : IsVisibleStoreRead view format versions pages written root commands runs
+  pub visible_read : IsVisibleStoreRead view format versions records pages written root commands runs
   visible_read = record {
     sections = read.sections;
+    recorded_fit = read.recorded_fit;
     root_page = read.root_page;
     runs_read = read.runs_read;
     located = visible_of there runs read.located;
-    named = read.named;
+    weight_fits = read.weight_fits;
   }
 
   pub found_as : extents_of there ≡ read_as (shape there).apart there (newest_first runs) → (m : Map) → Gives (shape there) (formats_of (shape there))
       (opening_in (shape there) (formats_of (shape there)) view (extents_of there).pointer (extents_of there).generation) view (extents_of there).pointer (extents_of there).generation [] (newest_first runs) m
       → (found : Recovers (shape there) (formats_of (shape there)) view commands m)
       × IsFoundAs (shape there) (formats_of (shape there)) view commands m found there versions root (newest_first runs)
-  found_as extents m gives = found_by view format versions pages written root commands runs visible_read (λ stand. read.located) m gives there extents
+  found_as extents m gives = found_by view format versions records pages written root commands runs visible_read (λ stand. read.located) m gives there extents
 
   -- where chunks and runs may lie on one extent
   pub read_recovers : (shape there).apart ≡ false → ArePages (device_pages format (length written) pages (length versions)) view → (m : Map) × (found : Recovers (shape there) (formats_of (shape there)) view commands m)
       × IsFoundAs (shape there) (formats_of (shape there)) view commands m found there versions root (newest_first runs)
-  read_recovers not are = recovers_by view format versions pages written root commands runs visible_read (λ stand. read.located) are there
+  read_recovers not are = recovers_by view format versions records pages written root commands runs visible_read (λ stand. read.located) are there
       (extents_are format pages (length versions) written (newest_first runs) not)

@@ -46,35 +46,36 @@ module _ (view : ℕ → List ℕ) (format extents pages sections : ℕ) (is : I
 
   pub is_new : IsNew (shape fresh) (formats_of (shape fresh)) view
   is_new = record {
-    superblock = λ j lt. (sections_are j lt).spelled ∙ ap (spelled_superblock format 1 (length written) pages sections j) (sym (listed_is j))
-        ∙ sym (own_format (shape fresh) (λ e. 0) (λ e. 0) j 1 (not_first format (length written) pages sections new_geometry));
+    superblock = λ j lt. (sections_are j lt).spelled ∙ ap (spelled_superblock format 1 0 (length written) pages sections j) (sym (listed_is j))
+        ∙ sym (own_format (shape fresh) (λ e. 0) (λ e. 0) j 1 0 (not_first format (length written) pages sections new_geometry));
     root = root.spelled;
     root_fits = root_fits_from format 1 0 [] root.fits;
     some_number = omega arith;
   }
 
-  -- as many versions are read, which are all 1
-  module _ (versions : List ℕ) (first : (j : ℕ) → j < length versions → slice_index versions j ≡ 1) (many : sections ≡ length versions) where
+  -- as many versions are read, which are all 1, and record none
+  module _ (versions records : List ℕ) (first : (j : ℕ) → j < length versions → slice_index versions j ≡ 1) (none : (j : ℕ) → slice_index records j ≡ 0) (many : sections ≡ length versions) where
     abbrev read_extents : ExtentsState
     read_extents = extents_at format pages (length versions) (replicate extents (0, 0))
 
-    at : (j : ℕ) → j < length versions → SpellsAt j (view ((shape read_extents).section_page j)) format (slice_index versions j) (length written) pages (length versions) (section_rows read_extents j)
+    at : (j : ℕ) → j < length versions → SpellsAt j (view ((shape read_extents).section_page j)) format (slice_index versions j) (slice_index records j) (length written) pages (length versions) (section_rows read_extents j)
     at j lt =
         let there : j < sections = omega (arith, lt, many) in
-        subst (λ (v : ℕ). SpellsAt j (view ((shape read_extents).section_page j)) format v (length written) pages (length versions) (section_rows read_extents j)) (sym (first j lt))
-        (subst (λ (n : ℕ). SpellsAt j (view ((shape (extents_at format pages n (replicate extents (0, 0)))).section_page j)) format 1 (length written) pages n (section_rows (extents_at format pages n (replicate extents (0, 0))) j)) many
-        (subst (λ (rows : List (ℕ × ℕ)). SpellsAt j (view ((shape fresh).section_page j)) format 1 (length written) pages sections rows) (sym (part_is j))
-        (of_section j (view ((shape fresh).section_page j)) format 1 (length written) pages sections (replicate (section_length (length written) sections j) (0, 0)) (sections_are j there))))
+        subst (λ (r : ℕ). SpellsAt j (view ((shape read_extents).section_page j)) format (slice_index versions j) r (length written) pages (length versions) (section_rows read_extents j)) (sym (none j))
+        (subst (λ (v : ℕ). SpellsAt j (view ((shape read_extents).section_page j)) format v 0 (length written) pages (length versions) (section_rows read_extents j)) (sym (first j lt))
+        (subst (λ (n : ℕ). SpellsAt j (view ((shape (extents_at format pages n (replicate extents (0, 0)))).section_page j)) format 1 0 (length written) pages n (section_rows (extents_at format pages n (replicate extents (0, 0))) j)) many
+        (subst (λ (rows : List (ℕ × ℕ)). SpellsAt j (view ((shape fresh).section_page j)) format 1 0 (length written) pages sections rows) (sym (part_is j))
+        (of_section j (view ((shape fresh).section_page j)) format 1 0 (length written) pages sections (replicate (section_length (length written) sections j) (0, 0)) (sections_are j there)))))
 
-    sections_read : AreSectionsRead view format versions pages (replicate extents (0, 0))
+    sections_read : AreSectionsRead view format versions records pages (replicate extents (0, 0))
     sections_read = record { geometry = subst (λ (n : ℕ). IsGeometry format (length written) pages n) many new_geometry; each = at }
 
-    read : IsStoreRead view format versions pages (replicate extents (0, 0)) 1 0 []
-    read = record { sections = sections_read; root_page = root; runs_read = tt; located = tt; named = omega arith }
+    read : IsStoreRead view format versions records pages (replicate extents (0, 0)) 1 0 []
+    read = record { sections = sections_read; recorded_fit = λ j lt. omega (arith, none j); root_page = root; runs_read = tt; located = tt; weight_fits = omega arith }
 
     found_read : (found : Recovers (shape read_extents) (formats_of (shape read_extents)) view 0 (λ id. None))
         × IsFoundAs (shape read_extents) (formats_of (shape read_extents)) view 0 (λ id. None) found read_extents versions 1 []
-    found_read = found_as view format versions pages (replicate extents (0, 0)) 1 0 [] read (empty_extents_are format pages (length versions) extents) (λ id. None) (record {
+    found_read = found_as view format versions records pages (replicate extents (0, 0)) 1 0 [] read (empty_extents_are format pages (length versions) extents) (λ id. None) (record {
       runs_read = λ run none. absurd none;
       table_passes = λ id. tt;
       visible_pass = λ id. tt;
@@ -89,13 +90,16 @@ module _ (view : ℕ → List ℕ) (format extents pages sections : ℕ) (is : I
   all_first : (j : ℕ) → j < length {A = ℕ} (replicate sections 1) → slice_index (replicate sections 1) j ≡ 1
   all_first j lt = get_or-replicate sections j 1 0 (omega (arith, lt, many_first))
 
+  none_recorded : (j : ℕ) → slice_index (replicate sections 0) j ≡ 0
+  none_recorded j = all_default sections j 0
+
   -- the sections of an empty store, as they are read
-  pub new_sections_read : AreSectionsRead view format (replicate sections 1) pages (replicate extents (0, 0))
-  new_sections_read = sections_read (replicate sections 1) all_first (sym many_first)
+  pub new_sections_read : AreSectionsRead view format (replicate sections 1) (replicate sections 0) pages (replicate extents (0, 0))
+  new_sections_read = sections_read (replicate sections 1) (replicate sections 0) all_first none_recorded (sym many_first)
 
   pub new_whole : IsWhole fresh
   new_whole = subst (λ (n : ℕ). IsWhole (extents_at format pages n (replicate extents (0, 0)))) many_first
-      (read_whole view format (replicate sections 1) pages (replicate extents (0, 0)) new_sections_read)
+      (read_whole view format (replicate sections 1) (replicate sections 0) pages (replicate extents (0, 0)) new_sections_read)
 
   pub new_found : (found : Recovers (shape fresh) (formats_of (shape fresh)) view 0 (λ id. None))
       × IsFoundAs (shape fresh) (formats_of (shape fresh)) view 0 (λ id. None) found fresh (replicate sections 1) 1 []
@@ -104,4 +108,4 @@ module _ (view : ℕ → List ℕ) (format extents pages sections : ℕ) (is : I
       × IsFoundAs (shape (extents_at format pages n (replicate extents (0, 0)))) (formats_of (shape (extents_at format pages n (replicate extents (0, 0))))) view 0 (λ id. None) found
       (extents_at format pages n (replicate extents (0, 0))) (replicate sections 1) 1 [])
       many_first
-      (found_read (replicate sections 1) all_first (sym many_first))
+      (found_read (replicate sections 1) (replicate sections 0) all_first none_recorded (sym many_first))

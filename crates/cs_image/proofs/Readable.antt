@@ -12,6 +12,7 @@ use Rattle.cs_frame.proofs.FrameLaws.{payload_is_read, stands}
 use Rattle.cs_frame.proofs.Pieces.{AllByRecursion-map, length-first_chunks}
 use Rattle.cs_frame.proofs.GeometryLaws.{bounds}
 use Rattle.cs_frame.proofs.RootLaws as roots
+use Rattle.cs_frame.proofs.SuperblockLaws.{recorded_below_root, recorded_fits_in}
 use Rattle.cs_frame.specs.declared.identifiers.ShardId.{ShardId}
 use Rattle.cs_frame.specs.declared.locators.Locator.{Locator}
 use Rattle.cs_frame.specs.Bytes.{IsBytes, IsPage}
@@ -23,7 +24,7 @@ use Rattle.cs_frame.specs.FormatRuns.{spelled_run}
 use Rattle.cs_frame.specs.Locators.{FitsLocator, most_mark}
 use Rattle.cs_frame.specs.Pointers.{FitsExtent as FitsPair}
 use Rattle.cs_frame.specs.Roots.{SpellsRoot}
-use Rattle.cs_frame.specs.Superblocks.{FitsSuperblock, SpellsSuperblock}
+use Rattle.cs_frame.specs.Superblocks.{FitsSuperblock, SpellsSuperblock, record_in}
 use Rattle.cs_frame.specs.Places.{Listed}
 use Rattle.cs_index.proofs.Newest.{all_oldest}
 use Rattle.cs_index.proofs.Sorted.{all_append, all_take}
@@ -33,8 +34,8 @@ use Rattle.cs_model.proofs.Counting.{ascending_lookup}
 use Rattle.cs_model.specs.Device.{Page, Shape}
 use Rattle.cs_model.specs.Element.{Entry, Locator as Place, Map, Run}
 use Rattle.cs_model.specs.Formats.{Stand, limit_in, places}
-use Rattle.cs_model.specs.Geometry.{marks_in, shape_of}
-use Rattle.cs_model.specs.Index.{AllPass, Passes, entries_of, live, live_at, lookup, names}
+use Rattle.cs_model.specs.Geometry.{marks_in, shape_of, weigh_in}
+use Rattle.cs_model.specs.Index.{AllPass, Passes, entries_of, live, live_at, lookup, named_weight}
 use Rattle.cs_model.specs.Lists.{◌∈◌}
 use Rattle.cs_model.specs.Recovery.{Recovers}
 use Rattle.cs_image.specs.Reads.{AreLocated, ArePages, AreSectionsRead, HasRunAt, IsLocated, IsReadable, IsRunRead, IsStoreRead, IsVisibleStoreRead, SpellsAt, extents_at}
@@ -115,10 +116,11 @@ module _ (format extents pages sections : ℕ) (is : IsGeometry format extents p
   rows_listed : (j : ℕ) → listed_extents S.section r.pointers r.generations j 0 extents ≡ part j
   rows_listed j = section_listed format extents pages sections is rows rows_length r.pointers r.generations (λ k lt. sym (rows_at k lt)) j
 
-  part_fits : (j : ℕ) → j < sections → FitsSuperblock format (r.versions j) extents pages sections j (part j)
+  part_fits : (j : ℕ) → j < sections → FitsSuperblock format (r.versions j) (record_in format (r.recorded j)) extents pages sections j (part j)
   part_fits j lt = record {
     first_version = (r.versions_fit j lt).0;
     last_version = (let high : r.versions j ≤ 9223372036854775807 = (r.versions_fit j lt).1 in omega (arith, high));
+    recorded_fits = recorded_fits_in format (r.recorded j) (let low = r.recorded_fit j lt in let high = r.bounds.version_fits in omega (arith, low, high));
     geometry = is;
     one_of_them = lt;
     count = omega (
@@ -134,24 +136,24 @@ module _ (format extents pages sections : ℕ) (is : IsGeometry format extents p
   }
 
   -- the page of each section spells it
-  pub section_spelled : (j : ℕ) → j < sections → SpellsAt j (view (S.section_page j)) format (r.versions j) extents pages sections (part j)
-  section_spelled j lt = subst (λ (rs : List (ℕ × ℕ)). SpellsAt j (view (S.section_page j)) format (r.versions j) extents pages sections rs) (rows_listed j)
-      (from_formats S r.pointers r.generations (r.formats j) j (r.versions j) (view (S.section_page j)) (r.superblock j lt)
-      (subst (λ (rs : List (ℕ × ℕ)). FitsSuperblock format (r.versions j) extents pages sections j rs) (sym (rows_listed j)) (part_fits j lt)))
+  pub section_spelled : (j : ℕ) → j < sections → SpellsAt j (view (S.section_page j)) format (r.versions j) (record_in format (r.recorded j)) extents pages sections (part j)
+  section_spelled j lt = subst (λ (rs : List (ℕ × ℕ)). SpellsAt j (view (S.section_page j)) format (r.versions j) (record_in format (r.recorded j)) extents pages sections rs) (rows_listed j)
+      (from_formats S r.pointers r.generations (r.formats j) j (r.versions j) (r.recorded j) (view (S.section_page j)) (r.superblock j lt)
+      (subst (λ (rs : List (ℕ × ℕ)). FitsSuperblock format (r.versions j) (record_in format (r.recorded j)) extents pages sections j rs) (sym (rows_listed j)) (part_fits j lt)))
 
   -- another reading of page 0 has the same numbers
-  pub zero_same : (f version e p s j : ℕ) (written : List (ℕ × ℕ)) → SpellsPageZero (view 0) f version e p s j written
+  pub zero_same : (f version recorded e p s j : ℕ) (written : List (ℕ × ℕ)) → SpellsPageZero (view 0) f version recorded e p s j written
       → (f ≡ format) × (e ≡ extents) × (p ≡ pages) × (s ≡ sections) × (j ≡ 0)
-  zero_same f version e p s j written spelled =
-      let one = zero_one (view 0) f version e p s j written format (r.versions 0) extents pages sections 0 (part 0) spelled (section_spelled 0 is.fewest_sections) in
+  zero_same f version recorded e p s j written spelled =
+      let one = zero_one (view 0) f version recorded e p s j written format (r.versions 0) (record_in format (r.recorded 0)) extents pages sections 0 (part 0) spelled (section_spelled 0 is.fewest_sections) in
       (one.0, one.1, one.2, one.3, one.4)
 
   -- and another reading of a further section's page
-  pub section_same : (k f version e p s j : ℕ) (written : List (ℕ × ℕ)) → 0 < k → k < sections → SpellsSuperblock (view (S.section_page k)) f version e p s j written
+  pub section_same : (k f version recorded e p s j : ℕ) (written : List (ℕ × ℕ)) → 0 < k → k < sections → SpellsSuperblock (view (S.section_page k)) f version recorded e p s j written
       → (f ≡ format) × (e ≡ extents) × (p ≡ pages) × (s ≡ sections) × (j ≡ k)
-  section_same zero f version e p s j written some lt spelled = absurd (omega (arith, some))
-  section_same (suc k) f version e p s j written some lt spelled =
-      let one = section_one (view (S.section_page (suc k))) f version e p s j written format (r.versions (suc k)) extents pages sections (suc k) (part (suc k)) spelled (section_spelled (suc k) lt) in
+  section_same zero f version recorded e p s j written some lt spelled = absurd (omega (arith, some))
+  section_same (suc k) f version recorded e p s j written some lt spelled =
+      let one = section_one (view (S.section_page (suc k))) f version recorded e p s j written format (r.versions (suc k)) (record_in format (r.recorded (suc k))) extents pages sections (suc k) (part (suc k)) spelled (section_spelled (suc k) lt) in
       (one.0, one.1, one.2, one.3, one.4)
 
   pub root_spelled : SpellsRoot (view 1) format r.version n (map as_locator (reverse (places r.runs)))
@@ -170,7 +172,29 @@ module _ (format extents pages sections : ℕ) (is : IsGeometry format extents p
 
 -- ---- runs
 
-module _ (view : ℕ → List ℕ) (format : ℕ) (versions : List ℕ) (pages : ℕ) (written : List (ℕ × ℕ)) (superblock : AreSectionsRead view format versions pages written)
+module _ (view : ℕ → List ℕ) (format : ℕ) (versions records : List ℕ) (pages : ℕ) (written : List (ℕ × ℕ)) (superblock : AreSectionsRead view format versions records pages written)
+    (n : ℕ) (m : Map) (r : Recovers (shape (extents_at format pages (length versions) written)) (formats_of (shape (extents_at format pages (length versions) written))) view n m) where
+  -- a section's page spells one section
+  sections_one : (j : ℕ) → j < length versions
+      → (section_rows (extents_at format pages (length versions) written) j ≡ part format (length written) pages (length versions) superblock.geometry view n m r j)
+      × (slice_index records j ≡ record_in format (r.recorded j))
+  sections_one j lt = at_one j (view ((shape (extents_at format pages (length versions) written)).section_page j)) format (slice_index versions j) (slice_index records j) (length written) pages (length versions)
+      (section_rows (extents_at format pages (length versions) written) j)
+      format (r.versions j) (record_in format (r.recorded j)) (length written) pages (length versions) (part format (length written) pages (length versions) superblock.geometry view n m r j)
+      (superblock.each j lt) (section_spelled format (length written) pages (length versions) superblock.geometry view n m r j lt)
+
+  -- so none of them records a later root than the one of the root's page
+  pub records_low : (root commands : ℕ) (listed : List Locator) → SpellsRoot (view 1) format root commands listed
+      → (j : ℕ) → j < length versions → slice_index records j ≤ root
+  records_low root commands listed root_page j lt =
+      let one = (sections_one j lt).1 in
+      let fits = r.recorded_fit j lt in
+      let low : record_in format (r.recorded j) ≤ r.recorded j = recorded_below_root format (r.recorded j) in
+      let same : r.version ≡ root = sym (roots.one_root (view 1) format r.version n (map as_locator (reverse (places r.runs))) (root_spelled format (length written) pages (length versions) superblock.geometry view n m r)).of_version
+      ∙ (roots.one_root (view 1) format root commands listed root_page).of_version in
+      omega (arith, one, low, fits, same)
+
+module _ (view : ℕ → List ℕ) (format : ℕ) (versions records : List ℕ) (pages : ℕ) (written : List (ℕ × ℕ)) (superblock : AreSectionsRead view format versions records pages written)
     (are : ArePages (device_pages format (length written) pages (length versions)) view) (n : ℕ) (m : Map)
     (r : Recovers (shape (extents_at format pages (length versions) written)) (formats_of (shape (extents_at format pages (length versions) written))) view n m) where
   abbrev x : ExtentsState
@@ -183,9 +207,7 @@ module _ (view : ℕ → List ℕ) (format : ℕ) (versions : List ℕ) (pages :
   sizes = superblock.geometry
 
   rows_are : (j : ℕ) → j < length versions → section_rows x j ≡ part format (length written) pages (length versions) sizes view n m r j
-  rows_are j lt = at_one j (view ((shape x).section_page j)) format (slice_index versions j) (length written) pages (length versions) (section_rows x j)
-      format (r.versions j) (length written) pages (length versions) (part format (length written) pages (length versions) sizes view n m r j)
-      (superblock.each j lt) (section_spelled format (length written) pages (length versions) sizes view n m r j lt)
+  rows_are j lt = (sections_one view format versions records pages written superblock n m r j lt).0
 
   at : (e : ℕ) → e < length written → slice_index_or written e (0, 0) ≡ (r.pointers e, r.generations e)
   at e lt = rows_agree format (length written) pages (length versions) sizes written (rows format (length written) pages (length versions) sizes view n m r) rows_are e lt
@@ -201,13 +223,13 @@ module _ (view : ℕ → List ℕ) (format : ℕ) (versions : List ℕ) (pages :
   -- how far a frame may reach
   end_there : (l : Place) → Located l → end_in x (as_locator l) ≡ limit_in (shape x) (formats_of (shape x)) r.pointers r.generations l
   end_there l passes = end_is_limit x view r.pointers r.generations l
-      (λ on. read_found view format versions pages written superblock on l.extent ∙ ap (λ (row : ℕ × ℕ). row.0) (at l.extent passes.inside.0)) passes
+      (λ on. read_found view format versions records pages written superblock on l.extent ∙ ap (λ (row : ℕ × ℕ). row.0) (at l.extent passes.inside.0)) passes
 
   pages_stand : (e i : ℕ) (bs : List Page) → e < length written → i + length bs ≤ pages
       → Stand (shape x) (formats_of (shape x)) view e i bs → AllByRecursion IsPage bs
   pages_stand e i [] there fits stand = tt
   pages_stand e i (b ∷ bs) there fits stand = (
-    subst IsPage stand.0 (are ((shape x).address e i) ((read_below view format versions pages written superblock).frames e i (there, omega (arith, fits)))),
+    subst IsPage stand.0 (are ((shape x).address e i) ((read_below view format versions records pages written superblock).frames e i (there, omega (arith, fits)))),
     pages_stand e (suc i) bs there (omega (arith, fits)) stand.1,
   )
 
@@ -260,9 +282,9 @@ module _ (view : ℕ → List ℕ) (format : ℕ) (versions : List ℕ) (pages :
       (read : AllByRecursion (IsRunRead (extents_at format pages (length versions) written) view) runs) where
     -- the runs that were read are those that are recovered
     runs_are : newest_first runs ≡ r.runs
-    runs_are = same_runs (shape x) view (read_format view format versions pages written superblock) (newest_first runs) r.runs
+    runs_are = same_runs (shape x) view (read_format view format versions records pages written superblock) (newest_first runs) r.runs
         (same_listed r.runs runs (same_places root commands (map (λ run. run.place) runs) root_page))
-        (all_stand x (read_whole view format versions pages written superblock).found_pages view runs read)
+        (all_stand x (read_whole view format versions records pages written superblock).found_pages view runs read)
         (to_all (StandsAt (shape x) view) r.runs (λ run has. record { fits = r.runs_fit run has; inside = (r.gives.runs_read run has).inside; stand = (r.gives.runs_read run has).stand }))
 
     -- what an entry has passes where the entry does
@@ -270,14 +292,15 @@ module _ (view : ℕ → List ℕ) (format : ℕ) (versions : List ℕ) (pages :
     each_passes None pass l none = absurd none
     each_passes (Some ls) pass l has = pass l has
 
-    pub visible_store_read : IsVisibleStoreRead view format versions pages written root commands runs
+    pub visible_store_read : IsVisibleStoreRead view format versions records pages written root commands runs
     visible_store_read = record {
       sections = superblock;
+      recorded_fit = records_low view format versions records pages written superblock n m r root commands (map (λ run. run.place) runs) root_page;
       root_page = root_page;
       runs_read = read;
       located = λ id l has. located l (each_passes (lookup id (entries_of r.runs)) (r.gives.visible_pass id) l
           (subst (λ (rs : List Run). l ∈ live_at (entries_of rs) id) runs_are has));
-      named = subst (λ (rs : List Run). names (entries_of rs) ≤ (shape x).most_names) (sym runs_are) r.bounds.named;
+      weight_fits = subst (λ (rs : List Run). named_weight (weigh_in format) (entries_of rs) ≤ (shape x).most_weight) (sym runs_are) r.bounds.weight_fits;
     }
 
     abbrev EntryLocated : Entry → Type 0
@@ -296,13 +319,14 @@ module _ (view : ℕ → List ℕ) (format : ℕ) (versions : List ℕ) (pages :
     from_entries (e ∷ xs) all = (from_places e.1.items all.0, from_entries xs all.1)
 
     -- where hidden entries stand
-    pub store_read : (shape x).hidden_stand ≡ true → IsStoreRead view format versions pages written root commands runs
+    pub store_read : (shape x).hidden_stand ≡ true → IsStoreRead view format versions records pages written root commands runs
     store_read stand = record {
       sections = superblock;
+      recorded_fit = records_low view format versions records pages written superblock n m r root commands (map (λ run. run.place) runs) root_page;
       root_page = root_page;
       runs_read = read;
       located = go runs (all_oldest (λ (run : Run). AllByRecursion EntryLocated run.entries) runs (entries_located stand));
-      named = subst (λ (rs : List Run). names (entries_of rs) ≤ (shape x).most_names) (sym runs_are) r.bounds.named;
+      weight_fits = subst (λ (rs : List Run). named_weight (weigh_in format) (entries_of rs) ≤ (shape x).most_weight) (sym runs_are) r.bounds.weight_fits;
     }
       where
         go : (xs : List StoredRun) → AllByRecursion (λ run. AllByRecursion EntryLocated (run_of run).entries) xs → AreLocated x xs

@@ -9,12 +9,12 @@ use Rattle.cs_extent.specs.State.{IsWhole, State as ExtentsState, extents_of, fo
 use Rattle.cs_frame.proofs.FirstFormatLaws.{apart, one_of_first_format, page_zero_fits, spelled_has_none as first_has_none}
 use Rattle.cs_frame.proofs.FormatLaws.{is_format}
 use Rattle.cs_frame.proofs.GeometryLaws.{for_known, geometry_apart, lies_in_device, model_geometry, section_holds, section_inside, section_length-le}
-use Rattle.cs_frame.proofs.SuperblockLaws.{one_section as section_of_page, spelled_has_none}
+use Rattle.cs_frame.proofs.SuperblockLaws.{one_section as section_of_page, page_whatever_root, spelled_has_none}
 use Rattle.cs_frame.specs.FirstFormat.{IsOfFirstFormat, SpellsPageZero, spelled_first_format}
 use Rattle.cs_frame.specs.Formats.{extents_of as listed_extents, formats_of}
 use Rattle.cs_frame.specs.Geometries.{IsGeometry, device_pages, section_length, section_size, section_start}
 use Rattle.cs_frame.specs.Pointers.{FitsExtent as FitsPair}
-use Rattle.cs_frame.specs.Superblocks.{FitsSuperblock, SpellsSuperblock, spelled_superblock}
+use Rattle.cs_frame.specs.Superblocks.{FitsSuperblock, FitsRecord, SpellsSuperblock, record_in, spelled_superblock, superblock_extents, superblock_record}
 use Rattle.cs_model.proofs.Shapes.{is_shape}
 use Rattle.cs_model.specs.Apart.{any_run_on}
 use Rattle.cs_model.specs.Device.{IsShape, Shape}
@@ -142,48 +142,65 @@ module _ (format extents pages sections : ℕ) (g : IsGeometry format extents pa
 -- ---- what a page spells
 
 -- it can be spelled
-pub at_fits : (j : ℕ) (page : List ℕ) (format version extents pages sections : ℕ) (rows : List (ℕ × ℕ)) → SpellsAt j page format version extents pages sections rows
-    → FitsSuperblock format version extents pages sections j rows
-at_fits zero page format version extents pages sections rows is = page_zero_fits page format version extents pages sections 0 rows is
-at_fits (suc j) page format version extents pages sections rows is = is.fits
+pub at_fits : (j : ℕ) (page : List ℕ) (format version recorded extents pages sections : ℕ) (rows : List (ℕ × ℕ)) → SpellsAt j page format version recorded extents pages sections rows
+    → FitsSuperblock format version recorded extents pages sections j rows
+at_fits zero page format version recorded extents pages sections rows is = page_zero_fits page format version recorded extents pages sections 0 rows is
+at_fits (suc j) page format version recorded extents pages sections rows is = is.fits
 
 -- and it is one section
-pub section_one : (page : List ℕ) (format version extents pages sections section : ℕ) (rows : List (ℕ × ℕ)) (f w e p s j : ℕ) (others : List (ℕ × ℕ))
-    → SpellsSuperblock page format version extents pages sections section rows → SpellsSuperblock page f w e p s j others
-    → (format ≡ f) × (extents ≡ e) × (pages ≡ p) × (sections ≡ s) × (section ≡ j) × (rows ≡ others)
-section_one page format version extents pages sections section rows f w e p s j others a b =
-    let x = section_of_page page format version extents pages sections section rows a in
-    let y = section_of_page page f w e p s j others b in
-    (omega (arith, x.of_format, y.of_format), sym x.of_extents ∙ y.of_extents, sym x.of_pages ∙ y.of_pages, sym x.of_sections ∙ y.of_sections, sym x.of_section ∙ y.of_section, sym x.of_written ∙ y.of_written)
+pub section_one : (page : List ℕ) (format version recorded extents pages sections section : ℕ) (rows : List (ℕ × ℕ)) (f w r e p s j : ℕ) (others : List (ℕ × ℕ))
+    → SpellsSuperblock page format version recorded extents pages sections section rows → SpellsSuperblock page f w r e p s j others
+    → (format ≡ f) × (extents ≡ e) × (pages ≡ p) × (sections ≡ s) × (section ≡ j) × (rows ≡ others) × (recorded ≡ r)
+section_one page format version recorded extents pages sections section rows f w r e p s j others a b =
+    let x = section_of_page page format version recorded extents pages sections section rows a in
+    let y = section_of_page page f w r e p s j others b in
+    let same : format ≡ f = omega (arith, x.of_format, y.of_format) in (
+      same,
+      sym x.of_extents ∙ y.of_extents,
+      sym x.of_pages ∙ y.of_pages,
+      sym x.of_sections ∙ y.of_sections,
+      sym x.of_section ∙ y.of_section,
+      sym x.of_written ∙ ap (λ (n : ℕ). superblock_extents n page) same ∙ y.of_written,
+      sym x.of_record ∙ ap (λ (n : ℕ). superblock_record n page) same ∙ y.of_record,
+    )
 
-pub zero_one : (page : List ℕ) (format version extents pages sections section : ℕ) (rows : List (ℕ × ℕ)) (f w e p s j : ℕ) (others : List (ℕ × ℕ))
-    → SpellsPageZero page format version extents pages sections section rows → SpellsPageZero page f w e p s j others
-    → (format ≡ f) × (extents ≡ e) × (pages ≡ p) × (sections ≡ s) × (section ≡ j) × (rows ≡ others)
-zero_one page format version extents pages sections section rows f w e p s j others (inl a) (inl b) = section_one page format version extents pages sections section rows f w e p s j others a b
-zero_one page format version extents pages sections section rows f w e p s j others (inl a) (inr b) =
-    absurd (apart format page a.fits.geometry.known (first_has_none page w p others b.spells) (spelled_has_none page format version extents pages sections section rows a))
-zero_one page format version extents pages sections section rows f w e p s j others (inr a) (inl b) =
-    absurd (apart f page b.fits.geometry.known (first_has_none page version pages rows a.spells) (spelled_has_none page f w e p s j others b))
-zero_one page format version extents pages sections section rows f w e p s j others (inr a) (inr b) =
+pub zero_one : (page : List ℕ) (format version recorded extents pages sections section : ℕ) (rows : List (ℕ × ℕ)) (f w r e p s j : ℕ) (others : List (ℕ × ℕ))
+    → SpellsPageZero page format version recorded extents pages sections section rows → SpellsPageZero page f w r e p s j others
+    → (format ≡ f) × (extents ≡ e) × (pages ≡ p) × (sections ≡ s) × (section ≡ j) × (rows ≡ others) × (recorded ≡ r)
+zero_one page format version recorded extents pages sections section rows f w r e p s j others (inl a) (inl b) = section_one page format version recorded extents pages sections section rows f w r e p s j others a b
+zero_one page format version recorded extents pages sections section rows f w r e p s j others (inl a) (inr b) =
+    absurd (apart format page a.fits.geometry.known (first_has_none page w p others b.spells) (spelled_has_none page format version recorded extents pages sections section rows a))
+zero_one page format version recorded extents pages sections section rows f w r e p s j others (inr a) (inl b) =
+    absurd (apart f page b.fits.geometry.known (first_has_none page version pages rows a.spells) (spelled_has_none page f w r e p s j others b))
+zero_one page format version recorded extents pages sections section rows f w r e p s j others (inr a) (inr b) =
     let x = one_of_first_format page version pages rows a.spells in
     let y = one_of_first_format page w p others b.spells in
-    let same : rows ≡ others = sym x.2 ∙ y.2 in
-    (a.written_in ∙ sym b.written_in, a.all_extents ∙ ap length same ∙ sym b.all_extents, sym x.1 ∙ y.1, a.one_section ∙ sym b.one_section, a.first_section ∙ sym b.first_section, same)
+    let same : rows ≡ others = sym x.2 ∙ y.2 in (
+      a.written_in ∙ sym b.written_in,
+      a.all_extents ∙ ap length same ∙ sym b.all_extents,
+      sym x.1 ∙ y.1,
+      a.one_section ∙ sym b.one_section,
+      a.first_section ∙ sym b.first_section,
+      same,
+      a.no_record ∙ sym b.no_record,
+    )
 
-pub at_one : (j : ℕ) (page : List ℕ) (format version extents pages sections : ℕ) (rows : List (ℕ × ℕ)) (f w e p s : ℕ) (others : List (ℕ × ℕ))
-    → SpellsAt j page format version extents pages sections rows → SpellsAt j page f w e p s others → rows ≡ others
-at_one zero page format version extents pages sections rows f w e p s others a b = (zero_one page format version extents pages sections 0 rows f w e p s 0 others a b).5
-at_one (suc j) page format version extents pages sections rows f w e p s others a b = (section_one page format version extents pages sections (suc j) rows f w e p s (suc j) others a b).5
+pub at_one : (j : ℕ) (page : List ℕ) (format version recorded extents pages sections : ℕ) (rows : List (ℕ × ℕ)) (f w r e p s : ℕ) (others : List (ℕ × ℕ))
+    → SpellsAt j page format version recorded extents pages sections rows → SpellsAt j page f w r e p s others → (rows ≡ others) × (recorded ≡ r)
+at_one zero page format version recorded extents pages sections rows f w r e p s others a b =
+    let one = zero_one page format version recorded extents pages sections 0 rows f w r e p s 0 others a b in (one.5, one.6)
+at_one (suc j) page format version recorded extents pages sections rows f w r e p s others a b =
+    let one = section_one page format version recorded extents pages sections (suc j) rows f w r e p s (suc j) others a b in (one.5, one.6)
 
-pub of_section : (j : ℕ) (page : List ℕ) (format version extents pages sections : ℕ) (rows : List (ℕ × ℕ)) → SpellsSuperblock page format version extents pages sections j rows
-    → SpellsAt j page format version extents pages sections rows
-of_section zero page format version extents pages sections rows is = inl is
-of_section (suc j) page format version extents pages sections rows is = is
+pub of_section : (j : ℕ) (page : List ℕ) (format version recorded extents pages sections : ℕ) (rows : List (ℕ × ℕ)) → SpellsSuperblock page format version recorded extents pages sections j rows
+    → SpellsAt j page format version recorded extents pages sections rows
+of_section zero page format version recorded extents pages sections rows is = inl is
+of_section (suc j) page format version recorded extents pages sections rows is = is
 
-of_first : (j : ℕ) (page : List ℕ) (format version extents pages sections : ℕ) (rows : List (ℕ × ℕ)) → j ≡ 0 → IsOfFirstFormat page format version extents pages sections j rows
-    → SpellsAt j page format version extents pages sections rows
-of_first zero page format version extents pages sections rows first is = inr is
-of_first (suc j) page format version extents pages sections rows first is = absurd (omega (arith, first))
+of_first : (j : ℕ) (page : List ℕ) (format version recorded extents pages sections : ℕ) (rows : List (ℕ × ℕ)) → j ≡ 0 → IsOfFirstFormat page format version recorded extents pages sections j rows
+    → SpellsAt j page format version recorded extents pages sections rows
+of_first zero page format version recorded extents pages sections rows first is = inr is
+of_first (suc j) page format version recorded extents pages sections rows first is = absurd (omega (arith, first))
 
 -- ---- in the words of the machine's formats
 
@@ -194,6 +211,10 @@ not_first format extents pages sections is = for_known (λ f. (f == 1) ≡ false
 all_of_them : (n : ℕ) → n ≡ section_length n 1 0
 all_of_them n = omega arith
 
+-- of the first format nothing is recorded
+none_in : (format recorded : ℕ) → format ≡ 2 → FitsRecord format recorded → recorded ≡ 0
+none_in format recorded second fits = let low : recorded < 1 = subst (λ (f : ℕ). FitsRecord f recorded) second fits in omega arith
+
 module _ (S : Shape) (pointers generations : ℕ → ℕ) where
   -- the rows of section j
   abbrev listed : ℕ → List (ℕ × ℕ)
@@ -202,16 +223,16 @@ module _ (S : Shape) (pointers generations : ℕ → ℕ) where
   abbrev of_first_format : (j version : ℕ) → List ℕ
   of_first_format j version = spelled_first_format version S.pages (listed j)
 
-  abbrev in_sections : (j version : ℕ) → List ℕ
-  in_sections j version = spelled_superblock S.format version S.extents S.pages S.sections j (listed j)
+  abbrev in_sections : (j version recorded : ℕ) → List ℕ
+  in_sections j version recorded = spelled_superblock S.format version recorded S.extents S.pages S.sections j (listed j)
 
   -- in a format that isn't the first they spell a section of several
-  pub own_format : (j version : ℕ) → (S.format == 1) ≡ false → (formats_of S).superblock S.format j version pointers generations ≡ in_sections j version
-  own_format j version other = ap (λ (b : Bool). if b && (S.format == 2) && (S.sections == 1) then of_first_format j version else in_sections j version) other
+  pub own_format : (j version recorded : ℕ) → (S.format == 1) ≡ false → (formats_of S).superblock S.format j version recorded pointers generations ≡ in_sections j version recorded
+  own_format j version recorded other = ap (λ (b : Bool). if b && (S.format == 2) && (S.sections == 1) then of_first_format j version else in_sections j version recorded) other
 
-  first_spelled : (j version : ℕ) (page : List ℕ) → j ≡ 0 → S.format ≡ 2 → S.sections ≡ 1 → FitsSuperblock S.format version S.extents S.pages S.sections j (listed j) → page ≡ of_first_format j version
-      → IsOfFirstFormat page S.format version S.extents S.pages S.sections j (listed j)
-  first_spelled j version page first second one fits is =
+  first_spelled : (j version recorded : ℕ) (page : List ℕ) → j ≡ 0 → S.format ≡ 2 → S.sections ≡ 1 → FitsSuperblock S.format version recorded S.extents S.pages S.sections j (listed j) → page ≡ of_first_format j version
+      → IsOfFirstFormat page S.format version recorded S.extents S.pages S.sections j (listed j)
+  first_spelled j version recorded page first second one fits is =
       let g : IsGeometry 2 S.extents S.pages S.sections = subst (λ (f : ℕ). IsGeometry f S.extents S.pages S.sections) second fits.geometry in
       let count : length (listed j) ≡ S.extents = fits.count ∙ ap (λ (n : ℕ). section_length S.extents n j) one ∙ ap (section_length S.extents 1) first ∙ sym (all_of_them S.extents) in
       let most : section_length S.extents S.sections j ≤ section_size S.extents S.sections = section_length-le S.extents S.sections j in
@@ -229,43 +250,45 @@ module _ (S : Shape) (pointers generations : ℕ → ℕ) where
           spelled = is;
         };
         written_in = second;
+        no_record = none_in S.format recorded second fits.recorded_fits;
         all_extents = sym count;
         one_section = one;
         first_section = first;
       }
 
-  -- what they spell of a section, where it can be spelled, its page spells
-  pub from_formats : (format j version : ℕ) (page : List ℕ) → page ≡ (formats_of S).superblock format j version pointers generations
-      → FitsSuperblock S.format version S.extents S.pages S.sections j (listed j) → SpellsAt j page S.format version S.extents S.pages S.sections (listed j)
-  from_formats format j version page is fits = go ((format == 1) && (S.format == 2) && (S.sections == 1)) refl is
+  -- what they spell of a section, where it can be spelled, its page spells, with the record that the store's format has
+  pub from_formats : (format j version recorded : ℕ) (page : List ℕ) → page ≡ (formats_of S).superblock format j version recorded pointers generations
+      → FitsSuperblock S.format version (record_in S.format recorded) S.extents S.pages S.sections j (listed j) → SpellsAt j page S.format version (record_in S.format recorded) S.extents S.pages S.sections (listed j)
+  from_formats format j version recorded page is fits = go ((format == 1) && (S.format == 2) && (S.sections == 1)) refl is
     where
-      go : (b : Bool) → ((format == 1) && (S.format == 2) && (S.sections == 1)) ≡ b → page ≡ (if b then of_first_format j version else in_sections j version)
-          → SpellsAt j page S.format version S.extents S.pages S.sections (listed j)
+      go : (b : Bool) → ((format == 1) && (S.format == 2) && (S.sections == 1)) ≡ b → page ≡ (if b then of_first_format j version else in_sections j version recorded)
+          → SpellsAt j page S.format version (record_in S.format recorded) S.extents S.pages S.sections (listed j)
       go true test is =
           let both = and_parts ((format == 1) && (S.format == 2)) (S.sections == 1) test in
           let one : S.sections ≡ 1 = eqb-true S.sections 1 both.1 in
           let second : S.format ≡ 2 = eqb-true S.format 2 (and_parts (format == 1) (S.format == 2) both.0).1 in
           let inside : j < S.sections = fits.one_of_them in
           let first : j ≡ 0 = omega (arith, one, inside) in
-          of_first j page S.format version S.extents S.pages S.sections (listed j) first (first_spelled j version page first second one fits is)
-      go false test is = of_section j page S.format version S.extents S.pages S.sections (listed j) (record { fits = fits; spelled = is })
+          of_first j page S.format version (record_in S.format recorded) S.extents S.pages S.sections (listed j) first (first_spelled j version (record_in S.format recorded) page first second one fits is)
+      go false test is = of_section j page S.format version (record_in S.format recorded) S.extents S.pages S.sections (listed j)
+          (record { fits = fits; spelled = is ∙ sym (page_whatever_root S.format version recorded S.extents S.pages S.sections j (listed j)) })
 
   -- what page 0 spells, one of them spells
-  pub zero_formats : (version : ℕ) (page : List ℕ) (rows : List (ℕ × ℕ)) → listed 0 ≡ rows → SpellsPageZero page S.format version S.extents S.pages S.sections 0 rows
-      → (format : ℕ) × (page ≡ (formats_of S).superblock format 0 version pointers generations)
-  zero_formats version page rows same (inl is) = (2, is.spelled ∙ ap (spelled_superblock S.format version S.extents S.pages S.sections 0) (sym same))
-  zero_formats version page rows same (inr is) =
+  pub zero_formats : (version recorded : ℕ) (page : List ℕ) (rows : List (ℕ × ℕ)) → listed 0 ≡ rows → SpellsPageZero page S.format version recorded S.extents S.pages S.sections 0 rows
+      → (format : ℕ) × (page ≡ (formats_of S).superblock format 0 version recorded pointers generations)
+  zero_formats version recorded page rows same (inl is) = (2, is.spelled ∙ ap (spelled_superblock S.format version recorded S.extents S.pages S.sections 0) (sym same))
+  zero_formats version recorded page rows same (inr is) =
       let test : ((S.format == 2) && (S.sections == 1)) ≡ true = and_from (S.format == 2) (S.sections == 1) (eq-eqb S.format 2 is.written_in) (eq-eqb S.sections 1 is.one_section) in
-      (1, is.spells.spelled ∙ ap (spelled_first_format version S.pages) (sym same) ∙ ap (λ (b : Bool). if b then of_first_format 0 version else in_sections 0 version) (sym test))
+      (1, is.spells.spelled ∙ ap (spelled_first_format version S.pages) (sym same) ∙ ap (λ (b : Bool). if b then of_first_format 0 version else in_sections 0 version recorded) (sym test))
 
   -- and what the page of a further section spells, each of them
-  pub section_formats : (format j version : ℕ) (page : List ℕ) (rows : List (ℕ × ℕ)) → listed (suc j) ≡ rows → suc j < S.sections
-      → SpellsSuperblock page S.format version S.extents S.pages S.sections (suc j) rows → page ≡ (formats_of S).superblock format (suc j) version pointers generations
-  section_formats format j version page rows same inside is =
+  pub section_formats : (format j version recorded : ℕ) (page : List ℕ) (rows : List (ℕ × ℕ)) → listed (suc j) ≡ rows → suc j < S.sections
+      → SpellsSuperblock page S.format version recorded S.extents S.pages S.sections (suc j) rows → page ≡ (formats_of S).superblock format (suc j) version recorded pointers generations
+  section_formats format j version recorded page rows same inside is =
       let several : (S.sections == 1) ≡ false = ne_eqb S.sections 1 (λ one. omega (arith, one, inside)) in
       let test : ((format == 1) && (S.format == 2) && (S.sections == 1)) ≡ false = and_right ((format == 1) && (S.format == 2)) (S.sections == 1) several in
-      is.spelled ∙ ap (spelled_superblock S.format version S.extents S.pages S.sections (suc j)) (sym same)
-      ∙ ap (λ (b : Bool). if b then of_first_format (suc j) version else in_sections (suc j) version) (sym test)
+      is.spelled ∙ ap (spelled_superblock S.format version recorded S.extents S.pages S.sections (suc j)) (sym same)
+      ∙ ap (λ (b : Bool). if b then of_first_format (suc j) version else in_sections (suc j) version recorded) (sym test)
 
 -- ---- what is read
 
@@ -281,7 +304,7 @@ found_all [] e = refl
 found_all (row ∷ written) zero = refl
 found_all (row ∷ written) (suc e) = found_all written e
 
-module _ (view : ℕ → List ℕ) (format : ℕ) (versions : List ℕ) (pages : ℕ) (written : List (ℕ × ℕ)) (is : AreSectionsRead view format versions pages written) where
+module _ (view : ℕ → List ℕ) (format : ℕ) (versions records : List ℕ) (pages : ℕ) (written : List (ℕ × ℕ)) (is : AreSectionsRead view format versions records pages written) where
   abbrev x : ExtentsState
   x = extents_at format pages (length versions) written
 
@@ -296,8 +319,8 @@ module _ (view : ℕ → List ℕ) (format : ℕ) (versions : List ℕ) (pages :
   read_below = lies_in_device format (length written) pages (length versions) is.geometry
 
   -- what each section has can be spelled
-  pub read_fits : (j : ℕ) → j < length versions → FitsSuperblock format (slice_index versions j) (length written) pages (length versions) j (section_rows x j)
-  read_fits j lt = at_fits j (view ((shape x).section_page j)) format (slice_index versions j) (length written) pages (length versions) (section_rows x j) (is.each j lt)
+  pub read_fits : (j : ℕ) → j < length versions → FitsSuperblock format (slice_index versions j) (slice_index records j) (length written) pages (length versions) j (section_rows x j)
+  read_fits j lt = at_fits j (view ((shape x).section_page j)) format (slice_index versions j) (slice_index records j) (length written) pages (length versions) (section_rows x j) (is.each j lt)
 
   -- the formats list a section's rows
   pub read_listed : (j : ℕ) → listed_extents (shape x).section (extents_of x).pointer (extents_of x).generation j 0 (length written) ≡ section_rows x j

@@ -34,10 +34,11 @@ graph_at versions root = record {
 abbrev pub index_at : (runs : List Run) → (format limit : ℕ) → IndexState
 index_at runs format limit = record { table = []; runs = runs; format = format; limit = limit; room = 0 }
 
--- the page of each section of a store of this format and of so many extents, which are all empty, spells version 1 of it
+-- the page of each section of a store of this format and of so many extents, which are all empty, spells version 1 of it, and records no
+-- root
 abbrev pub AreNewSections : (view : ℕ → List ℕ) → (format extents pages sections : ℕ) → Type 0
 AreNewSections view format extents pages sections = (j : ℕ) → j < sections
-    → SpellsSuperblock (view ((shape_of extents pages sections (section_size extents sections) format).section_page j)) format 1 extents pages sections j
+    → SpellsSuperblock (view ((shape_of extents pages sections (section_size extents sections) format).section_page j)) format 1 0 extents pages sections j
     (replicate (section_length extents sections j) (0, 0))
 
 -- What an image recovers is found to be these extents, these versions of the sections, this version of the root and these

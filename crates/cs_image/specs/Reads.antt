@@ -18,8 +18,8 @@ use Rattle.cs_model.specs.Apart.{any_run_on}
 use Rattle.cs_model.specs.Device.{Shape}
 use Rattle.cs_model.specs.Element.{Locator as Place, Run}
 use Rattle.cs_model.specs.Formats.{RunFrame}
-use Rattle.cs_model.specs.Geometry.{apart_in}
-use Rattle.cs_model.specs.Index.{entries_of, live_at, names}
+use Rattle.cs_model.specs.Geometry.{apart_in, most_weight_in, weigh_in}
+use Rattle.cs_model.specs.Index.{entries_of, live_at, named_weight}
 use Rattle.cs_model.specs.Lists.{◌∈◌}
 
 -- the extents that so many sections of this format record, one behind the other: none is open, none was reset, none is being swept,
@@ -40,15 +40,16 @@ extents_at format pages sections written = record {
 }
 
 -- the bytes of section j's page spell it so, of a store of this format: those of page 0, which has section 0, maybe in the first format
-abbrev pub SpellsAt : (j : ℕ) → (bytes : List ℕ) → (format version extents pages sections : ℕ) → (rows : List (ℕ × ℕ)) → Type 0
-SpellsAt zero bytes format version extents pages sections rows = SpellsPageZero bytes format version extents pages sections 0 rows
-SpellsAt (suc j) bytes format version extents pages sections rows = SpellsSuperblock bytes format version extents pages sections (suc j) rows
+abbrev pub SpellsAt : (j : ℕ) → (bytes : List ℕ) → (format version recorded extents pages sections : ℕ) → (rows : List (ℕ × ℕ)) → Type 0
+SpellsAt zero bytes format version recorded extents pages sections rows = SpellsPageZero bytes format version recorded extents pages sections 0 rows
+SpellsAt (suc j) bytes format version recorded extents pages sections rows = SpellsSuperblock bytes format version recorded extents pages sections (suc j) rows
 
--- Each section of a store of this format was read from its page, one of these versions each. Together they record these extents.
-pub record AreSectionsRead (view : ℕ → List ℕ) (format : ℕ) (versions : List ℕ) (pages : ℕ) (written : List (ℕ × ℕ)) : Type 0 where
+-- Each section of a store of this format was read from its page, of one of these versions each, and records one of these versions of the
+-- root. Together they record these extents.
+pub record AreSectionsRead (view : ℕ → List ℕ) (format : ℕ) (versions records : List ℕ) (pages : ℕ) (written : List (ℕ × ℕ)) : Type 0 where
   pub geometry : IsGeometry format (length written) pages (length versions)
   pub each : (j : ℕ) → j < length versions
-      → SpellsAt j (view ((shape (extents_at format pages (length versions) written)).section_page j)) format (slice_index versions j)
+      → SpellsAt j (view ((shape (extents_at format pages (length versions) written)).section_page j)) format (slice_index versions j) (slice_index records j)
       (length written) pages (length versions) (section_rows (extents_at format pages (length versions) written) j)
 
 -- how many pages the device has: the root's, those of the extents, and one for each section of the superblock; in format 3 the pages
@@ -94,24 +95,27 @@ AreLocated x runs = AllByRecursion (λ run. AllByRecursion (λ entry. AllByRecur
 abbrev pub AreVisibleLocated : ExtentsState → List StoredRun → Type 0
 AreVisibleLocated x runs = (id : ℕ) (l : Place) → l ∈ live_at (entries_of (newest_first runs)) id → IsLocated x (as_locator l)
 
--- A whole store of this format was read: sections of a superblock with these versions and extents, a root over runs, which are all read, whose
--- entries are all located, and which name no more identifiers than one run may.
-pub record IsStoreRead (view : ℕ → List ℕ) (format : ℕ) (versions : List ℕ) (pages : ℕ) (written : List (ℕ × ℕ)) (root commands : ℕ)
+-- A whole store of this format was read: sections of a superblock with these versions and extents, a root of no lesser version than one
+-- that they record, over runs, which are all read, whose entries are all located, and the newest of which weigh no more than those of one
+-- run may.
+pub record IsStoreRead (view : ℕ → List ℕ) (format : ℕ) (versions records : List ℕ) (pages : ℕ) (written : List (ℕ × ℕ)) (root commands : ℕ)
     (runs : List StoredRun) : Type 0 where
-  pub sections : AreSectionsRead view format versions pages written
+  pub sections : AreSectionsRead view format versions records pages written
+  pub recorded_fit : (j : ℕ) → j < length versions → slice_index records j ≤ root
   pub root_page : SpellsRoot (view 1) format root commands (map (λ run. run.place) runs)
   pub runs_read : AllByRecursion (IsRunRead (extents_at format pages (length versions) written) view) runs
   pub located : AreLocated (extents_at format pages (length versions) written) runs
-  pub named : names (entries_of (newest_first runs)) ≤ (shape (extents_at format pages (length versions) written)).most_names
+  pub weight_fits : named_weight (weigh_in format) (entries_of (newest_first runs)) ≤ most_weight_in format pages
 
 -- The same, where an entry that a newer one hides may name what is gone.
-pub record IsVisibleStoreRead (view : ℕ → List ℕ) (format : ℕ) (versions : List ℕ) (pages : ℕ) (written : List (ℕ × ℕ)) (root commands : ℕ)
+pub record IsVisibleStoreRead (view : ℕ → List ℕ) (format : ℕ) (versions records : List ℕ) (pages : ℕ) (written : List (ℕ × ℕ)) (root commands : ℕ)
     (runs : List StoredRun) : Type 0 where
-  pub sections : AreSectionsRead view format versions pages written
+  pub sections : AreSectionsRead view format versions records pages written
+  pub recorded_fit : (j : ℕ) → j < length versions → slice_index records j ≤ root
   pub root_page : SpellsRoot (view 1) format root commands (map (λ run. run.place) runs)
   pub runs_read : AllByRecursion (IsRunRead (extents_at format pages (length versions) written) view) runs
   pub located : AreVisibleLocated (extents_at format pages (length versions) written) runs
-  pub named : names (entries_of (newest_first runs)) ≤ (shape (extents_at format pages (length versions) written)).most_names
+  pub weight_fits : named_weight (weigh_in format) (entries_of (newest_first runs)) ≤ most_weight_in format pages
 
 -- The extents that were read of a store of this shape, where it is noted on which of them the runs lie and that all their pages were found.
 pub record AreExtentsNoted (x : ExtentsState) (runs : List Run) (noted : ExtentsState) : Type 0 where

@@ -1,5 +1,5 @@
 //! New stores, and stores that are opened.
-ghost use Rattle.std.specs.Prelude.{◌≡◌, ◌<◌, ℕ, true, false, List, [], None, length, map, replicate};
+ghost use Rattle.std.specs.Prelude.{◌≡◌, ◌<◌, ◌≤◌, ℕ, true, false, List, [], None, length, map, replicate, slice_index};
 ghost use Rattle.std.specs.List.{AllByRecursion};
 ghost use Rattle.cs_extent.specs.State.{shape};
 ghost use Rattle.cs_frame.specs.declared.locators.Locator.{Locator};
@@ -33,10 +33,10 @@ pub fn new_stores_are_new()
 /// Where chunks and runs may lie on one extent, a store that was read is recovered, as what was read. Where they lie apart
 /// `visible_stores_recover` says the same, with what is noted of the extents then.
 pub fn what_is_read_recovers()
-    ensures { (view : ℕ → List ℕ) (format : ℕ) (versions : List ℕ) (pages : ℕ) (written : List (ℕ × ℕ)) (root commands : ℕ)
+    ensures { (view : ℕ → List ℕ) (format : ℕ) (versions records : List ℕ) (pages : ℕ) (written : List (ℕ × ℕ)) (root commands : ℕ)
         (runs : List StoredRun)
         → (shape (extents_at format pages (length versions) written)).apart ≡ false → ArePages (device_pages format (length written) pages (length versions)) view
-        → IsStoreRead view format versions pages written root commands runs
+        → IsStoreRead view format versions records pages written root commands runs
         → (let x = extents_at format pages (length versions) written in
         (m : Map) × (found : Recovers (shape x) (formats_of (shape x)) view commands m)
         × IsFoundAs (shape x) (formats_of (shape x)) view commands m found x versions root (newest_first runs)) }
@@ -49,38 +49,44 @@ pub fn what_is_recovered_can_be_read()
     ensures superblock { (view : ℕ → List ℕ) (format extents pages sections n : ℕ) (m : Map) → IsGeometry format extents pages sections
         → (let S = shape_of extents pages sections (section_size extents sections) format in Recovers S (formats_of S) view n m
         → (j : ℕ) → j < sections
-        → (version : ℕ) × (written : List (ℕ × ℕ)) × SpellsAt j (view (S.section_page j)) format version extents pages sections written) }
+        → (version : ℕ) × (recorded : ℕ) × (written : List (ℕ × ℕ)) × SpellsAt j (view (S.section_page j)) format version recorded extents pages sections written) }
     // Whatever section page 0 spells is section 0, of this format and with these numbers.
-    ensures geometry { (view : ℕ → List ℕ) (format extents pages sections n : ℕ) (m : Map) (f version e p s j : ℕ) (written : List (ℕ × ℕ))
+    ensures geometry { (view : ℕ → List ℕ) (format extents pages sections n : ℕ) (m : Map) (f version recorded e p s j : ℕ) (written : List (ℕ × ℕ))
         → IsGeometry format extents pages sections
         → (let S = shape_of extents pages sections (section_size extents sections) format in Recovers S (formats_of S) view n m
-        → SpellsPageZero (view 0) f version e p s j written
+        → SpellsPageZero (view 0) f version recorded e p s j written
         → (f ≡ format) × (e ≡ extents) × (p ≡ pages) × (s ≡ sections) × (j ≡ 0)) }
     // Whatever section the page of a further one spells is that one, of this format and with these numbers.
-    ensures section { (view : ℕ → List ℕ) (format extents pages sections n : ℕ) (m : Map) (k f version e p s j : ℕ) (written : List (ℕ × ℕ))
+    ensures section { (view : ℕ → List ℕ) (format extents pages sections n : ℕ) (m : Map) (k f version recorded e p s j : ℕ) (written : List (ℕ × ℕ))
         → IsGeometry format extents pages sections → 0 < k → k < sections
         → (let S = shape_of extents pages sections (section_size extents sections) format in Recovers S (formats_of S) view n m
-        → SpellsSuperblock (view (S.section_page k)) f version e p s j written
+        → SpellsSuperblock (view (S.section_page k)) f version recorded e p s j written
         → (f ≡ format) × (e ≡ extents) × (p ≡ pages) × (s ≡ sections) × (j ≡ k)) }
     // Page 1 spells a root, with as many commands as are recovered.
     ensures root { (view : ℕ → List ℕ) (format extents pages sections n : ℕ) (m : Map) → IsGeometry format extents pages sections
         → (let S = shape_of extents pages sections (section_size extents sections) format in Recovers S (formats_of S) view n m
         → (version : ℕ) × (places : List Locator) × SpellsRoot (view 1) format version n places) }
     // Whatever root page 1 spells has as many commands as are recovered, and at each of its places a frame has a run.
-    ensures runs { (view : ℕ → List ℕ) (format : ℕ) (versions : List ℕ) (pages : ℕ) (written : List (ℕ × ℕ)) (root commands : ℕ)
+    ensures runs { (view : ℕ → List ℕ) (format : ℕ) (versions records : List ℕ) (pages : ℕ) (written : List (ℕ × ℕ)) (root commands : ℕ)
         (places : List Locator) (n : ℕ) (m : Map)
-        → AreSectionsRead view format versions pages written → ArePages (device_pages format (length written) pages (length versions)) view
+        → AreSectionsRead view format versions records pages written → ArePages (device_pages format (length written) pages (length versions)) view
         → SpellsRoot (view 1) format root commands places
         → (let x = extents_at format pages (length versions) written in Recovers (shape x) (formats_of (shape x)) view n m
         → (commands ≡ n) × AllByRecursion (λ place. IsReadable x view place) places) }
+    // Whatever root page 1 spells is none of before: no section that was read records a later one.
+    ensures recorded { (view : ℕ → List ℕ) (format : ℕ) (versions records : List ℕ) (pages : ℕ) (written : List (ℕ × ℕ)) (root commands : ℕ)
+        (places : List Locator) (n : ℕ) (m : Map)
+        → AreSectionsRead view format versions records pages written → SpellsRoot (view 1) format root commands places
+        → (let x = extents_at format pages (length versions) written in Recovers (shape x) (formats_of (shape x)) view n m
+        → (j : ℕ) → j < length versions → slice_index records j ≤ root) }
     // Where hidden entries stand, page 1 spells a root over these runs, and each of them was read where its place says, the whole store
     // was read.
-    ensures store { (view : ℕ → List ℕ) (format : ℕ) (versions : List ℕ) (pages : ℕ) (written : List (ℕ × ℕ)) (root commands : ℕ)
+    ensures store { (view : ℕ → List ℕ) (format : ℕ) (versions records : List ℕ) (pages : ℕ) (written : List (ℕ × ℕ)) (root commands : ℕ)
         (runs : List StoredRun) (n : ℕ) (m : Map)
         → (shape (extents_at format pages (length versions) written)).hidden_stand ≡ true
-        → AreSectionsRead view format versions pages written → ArePages (device_pages format (length written) pages (length versions)) view
+        → AreSectionsRead view format versions records pages written → ArePages (device_pages format (length written) pages (length versions)) view
         → SpellsRoot (view 1) format root commands (map (λ run. run.place) runs)
         → (let x = extents_at format pages (length versions) written in AllByRecursion (IsRunRead x view) runs
         → Recovers (shape x) (formats_of (shape x)) view n m
-        → IsStoreRead view format versions pages written root commands runs) }
+        → IsStoreRead view format versions records pages written root commands runs) }
 {}

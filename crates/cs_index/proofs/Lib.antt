@@ -8,6 +8,7 @@ pub mod Spelled
 pub mod Rooted
 pub mod Merged
 pub mod Marks
+pub mod Weights
 pub mod Shards
 pub mod Living
 pub mod Staging

@@ -1,6 +1,6 @@
 -- Entries of runs, newest first.
-use Rattle.std.proofs.Common.{◌≡◌, ◌⊎◌, inl, inr, ℕ, zero, suc, ◌+◌, ◌-◌, add-one, ◌<◌, true, false, List, [], ◌∷◌, ◌++◌, length, take, drop, map, Bool, Option, Some, None, get_or, refl, sym, ap, subst, ◌∙◌, arith}
-use Rattle.std.specs.Prelude.{is_some, slice_get}
+use Rattle.std.proofs.Common.{◌≡◌, inl, inr, ℕ, zero, suc, ◌+◌, ◌-◌, add-one, ◌<◌, true, false, List, [], ◌∷◌, ◌++◌, length, take, map, Bool, Some, None, get_or, refl, sym, ap, subst, ◌∙◌, arith}
+use Rattle.std.specs.Prelude.{is_some}
 use Rattle.std.specs.List.{AllByRecursion}
 use Rattle.std.proofs.lemmas.Bool.{cases_eq}
 use Rattle.cs_frame.specs.declared.identifiers.ShardId.{ShardId}
@@ -10,7 +10,7 @@ use Rattle.cs_model.proofs.Counting.{lookup_here, lookup_there}
 use Rattle.cs_model.specs.Element.{Entry, Locator as Place, Run}
 use Rattle.cs_model.specs.Index.{Ascending, entries_of, lookup, names}
 use Rattle.cs_index.specs.State.{IsStored, named_entry, newest_first, run_of}
-use Rattle.cs_index.proofs.Sorted.{above_all, all_append, all_back, all_front, all_take, ascending_drop, drop_at_get}
+use Rattle.cs_index.proofs.Sorted.{all_append, all_back, all_front, all_take}
 
 -- ---- lookups in joined lists
 
@@ -97,30 +97,3 @@ names_here x xs b is true_is = let test : is_some (lookup x.id xs) ≡ true = is
 
 pub names_more : (x : Entry) (xs : List Entry) → is_some (lookup x.id xs) ≡ false → names (x ∷ xs) ≡ names xs + 1
 names_more x xs is = rw is (sym (add-one (names xs)))
-
-pub count_step : (xs rest : List Entry) (i count more total : ℕ) (x : Entry) → Ascending xs → slice_get xs i ≡ Some x
-    → count + names (drop i xs ++ rest) ≡ total
-    → ((is_some (lookup x.id rest) ≡ true) × (more ≡ count)) ⊎ ((is_some (lookup x.id rest) ≡ false) × (more ≡ count + 1))
-    → more + names (drop (i + 1) xs ++ rest) ≡ total
-count_step xs rest i count more total x order at was cases =
-    let tail : drop i xs ≡ x ∷ drop (suc i) xs = drop_at_get xs i x at in
-    let rising : Ascending (x ∷ drop (suc i) xs) = subst Ascending tail (ascending_drop i xs order) in
-    let skip : lookup x.id (drop (suc i) xs ++ rest) ≡ lookup x.id rest = lookup_second x.id (drop (suc i) xs) rest (lookup_above x.id (drop (suc i) xs) (above_all x (drop (suc i) xs) rising)) in
-    let now : count + names (x ∷ (drop (suc i) xs ++ rest)) ≡ total = ap (λ zs. count + names (zs ++ rest)) (sym tail) ∙ was in
-    let on : drop (i + 1) xs ≡ drop (suc i) xs = ap (λ (n : ℕ). drop n xs) (add-one i) in
-    ap (λ zs. more + names (zs ++ rest)) on ∙ by (drop (suc i) xs ++ rest) skip now cases
-  where
-    by : (zs : List Entry) → lookup x.id zs ≡ lookup x.id rest → count + names (x ∷ zs) ≡ total
-        → ((is_some (lookup x.id rest) ≡ true) × (more ≡ count)) ⊎ ((is_some (lookup x.id rest) ≡ false) × (more ≡ count + 1)) → more + names zs ≡ total
-    by zs skip now (inl (old, is)) =
-        let e : names (x ∷ zs) ≡ names zs = names_here x zs true (ap (λ (o : Option (List Place)). is_some o) skip ∙ old) refl in omega (arith, e, now, is)
-    by zs skip now (inr (new, is)) =
-        let e : names (x ∷ zs) ≡ names zs + 1 = names_more x zs (ap (λ (o : Option (List Place)). is_some o) skip ∙ new) in omega (arith, e, now, is)
-
-pub count_run : (xs : List StoredRun) (k count new : ℕ) (d : StoredRun) (entries : List (ShardId × Listed)) → k < length xs → entries ≡ (get_or xs k d).entries.items
-    → count ≡ names (entries_of (newest_first (take k xs)))
-    → new + names (entries_of (newest_first (take k xs))) ≡ names (map named_entry entries ++ entries_of (newest_first (take k xs)))
-    → count + new ≡ names (entries_of (newest_first (take (k + 1) xs)))
-count_run xs k count new d entries lt is was more =
-    let e : names (entries_of (newest_first (take (k + 1) xs))) ≡ names (map named_entry entries ++ entries_of (newest_first (take k xs))) = ap names (entries_up xs k (k + 1) d entries lt (add-one k) is) in
-    omega (arith, e, was, more)

@@ -15,7 +15,8 @@ use Rattle.cs_frame.proofs.FormatLaws.{id_of_16}
 use Rattle.cs_frame.specs.Formats.{id_bytes}
 use Rattle.cs_frame.specs.Runs.{is_before}
 use Rattle.cs_frame.specs.declared.identifiers.ShardId.{ShardId}
-use Rattle.cs_index.specs.State.{IsId, id_number}
+use Rattle.cs_frame.specs.Identifiers.{id_number}
+use Rattle.cs_index.specs.State.{IsId}
 
 -- which of two numbers is less is told by their heads, or by their tails where the heads are the same
 heads : (x y p r s : ℕ) → r < p → s < p → x < y → x * p + r < y * p + s

@@ -9,21 +9,25 @@ use Rattle.cs_extent.specs.State.{State as ExtentsState}
 use Rattle.cs_frame.specs.Formats.{place_of}
 use Rattle.cs_frame.specs.Locators.{KeepFormat}
 use Rattle.cs_index.specs.declared.runs.StoredRun.{StoredRun}
-use Rattle.cs_model.proofs.Counting.{ascending_names, lookup_here, names_le}
+use Rattle.cs_model.proofs.Counting.{ascending_names, lookup_here}
 use Rattle.cs_model.proofs.Gives.{lookup_append}
 use Rattle.cs_model.specs.Element.{Entry, Locator as Place, Run}
 use Rattle.cs_model.specs.Extents.{Purpose as Reason}
-use Rattle.cs_model.specs.Index.{Ascending, entries_of, if_live, live, live_at, lookup, names}
+use Rattle.cs_model.proofs.Weights.{weight_some}
+use Rattle.cs_model.specs.Geometry.{weigh_in}
+use Rattle.cs_model.specs.Index.{Ascending, entries_of, if_live, live, live_at, lookup, named_weight, names, run_weight}
 use Rattle.cs_model.specs.Merges.{IsRunOf}
+use Rattle.cs_model.specs.Tally.{living_weight}
 use Rattle.cs_index.specs.Merges.{part}
 use Rattle.cs_index.specs.Staged.{IsPartAppendedBy, IsPartStagedBy}
 use Rattle.cs_index.specs.State.{IsShort, IsStored, IsWhole, KeepTo, RunsKeepTo, State, index_of, named_entry, newest_first, run_of, state_of}
 use Rattle.cs_index.proofs.Marks.{left_keep, newer_keep, places_keep, run_keeps}
-use Rattle.cs_index.proofs.Merged.{left, live_left, run_few, some_left}
+use Rattle.cs_index.proofs.Merged.{left, live_left}
 use Rattle.cs_index.proofs.Names.{names_of_lookups}
 use Rattle.cs_index.proofs.Newest.{all_newest, all_oldest, lookup_first}
 use Rattle.cs_index.proofs.Sorted.{all_drop}
 use Rattle.cs_index.proofs.Staging.{newest_push}
+use Rattle.cs_index.proofs.Weights.{left_light, left_weight, run_light}
 use Rattle.cs_index.proofs.Whole.{Entries, length-newest}
 
 -- ---- the newest of runs that are listed oldest first are the last of them
@@ -100,17 +104,14 @@ named_first id xs ys is = by (lookup id xs) refl is
     by None at some = absurd (let e : false ≡ true = some in cc)
     by (Some ls) at some = ap (λ (o : Option (List Place)). is_some o) (lookup_first id xs ys ls at)
 
-pub part_names : (s : State) (k : ℕ) → names (part s k) ≤ names (index_of s)
-part_names s k = names_le (part s k) (index_of s)
-    (λ id is. ap (λ (es : List Entry). is_some (lookup id es)) (index_cut s k) ∙ named_first id (part s k) (entries_of (drop k s.runs)) is)
-
--- so its run has room
-pub part_few : (go : Bool) (s : State) (k : ℕ) (xs : List Entry) → IsWhole s → IsRunOf go (part s k) xs → length xs ≤ s.limit
-part_few go s k xs whole run =
-    let few : length xs ≤ names (part s k) = run_few go (part s k) xs run in
-    let le : names (part s k) ≤ names (index_of s) = part_names s k in
-    let most : names (index_of s) ≤ s.limit = whole.named in
-    omega arith
+-- and what it names weighs no more, so its run has room
+pub part_light : (go : Bool) (s : State) (k : ℕ) (xs : List Entry) → IsWhole s → IsRunOf go (part s k) xs → run_weight (weigh_in s.format) xs ≤ s.limit
+part_light go s k xs whole run =
+    let few : run_weight (weigh_in s.format) xs ≤ named_weight (weigh_in s.format) (part s k) = run_light (weigh_in s.format) go (part s k) xs run in
+    let le : named_weight (weigh_in s.format) (part s k) ≤ named_weight (weigh_in s.format) (index_of s) = weight_some (weigh_in s.format) (part s k) (index_of s)
+    (λ id ls is. ap (lookup id) (index_cut s k) ∙ lookup_first id (part s k) (entries_of (drop k s.runs)) ls is) in
+    let most : named_weight (weigh_in s.format) (index_of s) ≤ s.limit = whole.weight_fits in
+    omega (arith, few, le, most)
 
 pub part_lookup : (go : Bool) (s : State) (k : ℕ) (xs : List Entry) → (go ≡ true → drop k s.runs ≡ []) → IsRunOf go (part s k) xs
     → (id : ℕ) → lookup id (xs ++ entries_of (drop k s.runs)) ≡ left go (lookup id (index_of s))
@@ -188,6 +189,10 @@ module _ (xs empty : Entries) (runs kept news : List StoredRun) (r : StoredRun) 
         count_then go (map named_entry r.entries.items) (index_of (state_of xs runs format limit room)) (index_of (state_of empty news format limit 0)) (drop k (newest_first runs)) named before
         (parted_index format limit) all run.0 parted_lookup was (count ∙ ap (λ (m : ℕ). if go then m else before) (sym (length-map r.entries.items named_entry)))
 
+    pub parted_weight : (weight : ℕ) → weight ≡ (if go then living_weight (weigh_in format) (index_of (state_of xs runs format limit room)) else named_weight (weigh_in format) (index_of (state_of xs runs format limit room)))
+        → weight ≡ named_weight (weigh_in format) (index_of (state_of empty news format limit 0))
+    parted_weight weight is = is ∙ sym (left_weight (weigh_in format) go (index_of (state_of xs runs format limit room)) (index_of (state_of empty news format limit 0)) parted_lookup)
+
     pub parted_whole : map named_entry r.entries.items ≢ [] → AllByRecursion IsShort (map named_entry r.entries.items) → length (drop k (newest_first runs)) < 24 → KeepTo format (place_of r.place ∷ [])
         → IsWhole (state_of xs runs format limit room) → IsWhole (state_of empty news format limit 0)
     parted_whole some short few keep whole = record {
@@ -195,10 +200,7 @@ module _ (xs empty : Entries) (runs kept news : List StoredRun) (r : StoredRun) 
       short = subst (λ (es : Entries). AllByRecursion IsShort (map named_entry es)) (sym none) tt;
       runs = subst (AllByRecursion IsStored) (sym parted_runs) ((run.0, some, short), all_drop IsStored k (newest_first runs) whole.runs);
       few = (let e : length (newest_first news) ≡ suc (length (drop k (newest_first runs))) = ap length parted_runs in omega arith);
-      named = le_trans
-          (names_le (index_of (state_of empty news format limit 0)) (index_of (state_of xs runs format limit room))
-          (λ id some_now. some_left go (lookup id (index_of (state_of xs runs format limit room))) (ap (λ (o : Option (List Place)). is_some o) (sym (parted_lookup id)) ∙ some_now)))
-          whole.named;
+      weight_fits = le_trans (left_light (weigh_in format) go (index_of (state_of xs runs format limit room)) (index_of (state_of empty news format limit 0)) parted_lookup) whole.weight_fits;
       marks = λ id. subst (λ (ls : List Place). KeepTo format ls) (sym (parted_live id)) (whole.marks id);
       placed = subst (RunsKeepTo format) (sym parted_runs)
           (newer_keep format (record { place = place_of r.place; entries = map named_entry r.entries.items }) (drop k (newest_first runs)) keep (left_keep format k (newest_first runs) whole.placed));

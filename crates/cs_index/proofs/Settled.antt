@@ -1,17 +1,21 @@
 -- An index once copies count.
-use Rattle.std.proofs.Common.{◌≡◌, ◌∙◌, ℕ, zero, suc, ◌+◌, ◌<◌, ◌≤◌, Bool, true, false, ◌==◌, ◌&&◌, List, [], ◌∷◌, ◌++◌, Option, Some, get_or, set, length, map, take, refl, sym, ap, subst, arith, if◌then◌else◌}
+use Rattle.std.specs.Prelude.{is_some}
+use Rattle.std.proofs.lemmas.List.{length-map}
+use Rattle.std.proofs.Common.{◌≡◌, ◌∙◌, ℕ, zero, suc, ◌+◌, ◌<◌, ◌≤◌, Bool, true, false, ◌==◌, ◌&&◌, List, [], ◌∷◌, ◌++◌, Option, Some, None, get_or, set, length, map, take, refl, sym, ap, subst, arith, if◌then◌else◌}
 use Rattle.cs_frame.specs.declared.locators.Locator.{Locator}
 use Rattle.cs_frame.specs.Formats.{place_of}
 use Rattle.std.specs.List.{AllByRecursion}
 use Rattle.cs_index.specs.declared.copies.ChunkCopy.{ChunkCopy}
 use Rattle.cs_index.specs.declared.runs.StoredRun.{StoredRun}
+use Rattle.cs_index.proofs.Weights.{as_many_weigh}
 use Rattle.cs_index.proofs.Whole.{Entries}
 use Rattle.cs_index.specs.Copies.{IsSettled, copy_of, newest_copies, settle_in, settle_table}
 use Rattle.cs_index.specs.State.{IsSet, IsShort, IsStored, IsWhole, KeepTo, RunsKeepTo, State, index_of, named_entry, newest_first, state_of}
 use Rattle.cs_model.proofs.Gives.{lookup_append}
 use Rattle.cs_model.specs.Apart.{is_place, same_place}
 use Rattle.cs_model.specs.Element.{Copy, Entry, Locator as Place, Run}
-use Rattle.cs_model.specs.Index.{Ascending, entries_of, live, live_at, lookup, names}
+use Rattle.cs_model.specs.Geometry.{weigh_in}
+use Rattle.cs_model.specs.Index.{Ascending, entries_of, live, live_at, lookup, named_weight, weight_with}
 use Rattle.cs_model.specs.Lists.{nth, replaced}
 
 -- ---- one copy
@@ -112,6 +116,25 @@ lies_inside [] k p is = absurd (let wrong : false ≡ true = is in cc)
 lies_inside (l ∷ ls) zero p is = omega arith
 lies_inside (l ∷ ls) (suc k) p is = let lt : k < length ls = lies_inside ls k p is in omega arith
 
+-- as many lie elsewhere as before
+pub as_many : (ls : List Place) (k : ℕ) (p : Place) → length (replaced ls k p) ≡ length ls
+as_many [] k p = refl
+as_many (l ∷ ls) zero p = refl
+as_many (l ∷ ls) (suc k) p = ap suc (as_many ls k p)
+
+-- so an index weighs no more with them
+pub settled_light : (s : State) (c : Copy) (ls : List Locator) → IsWhole s → is_place (nth (live_at (index_of s) c.id) c.chunk) c.from ≡ true
+    → map place_of ls ≡ replaced (live_at (index_of s) c.id) c.chunk c.to → weight_with (weigh_in s.format) (index_of s) c.id (length ls) ≤ s.limit
+settled_light s c ls whole there are =
+    let long : length (map place_of ls) ≡ length (live_at (index_of s) c.id) = ap length are ∙ as_many (live_at (index_of s) c.id) c.chunk c.to in
+    subst (λ (n : ℕ). weight_with (weigh_in s.format) (index_of s) c.id n ≤ s.limit) (length-map ls place_of)
+    (as_many_weigh (weigh_in s.format) (index_of s) c.id s.limit (map place_of ls)
+    (some_there (lookup c.id (index_of s)) (lies_inside (live_at (index_of s) c.id) c.chunk c.from there)) long whole.weight_fits)
+  where
+    some_there : (o : Option (List Place)) → c.chunk < length (live o) → is_some o ≡ true
+    some_there None lt = absurd (omega (arith, lt))
+    some_there (Some ks) lt = refl
+
 -- the comparison of two locators, its last part first
 and_false : (b : Bool) → (b && false) ≡ false
 and_false true = refl
@@ -142,7 +165,7 @@ module _ (xs ys : Entries) (runs rs : List StoredRun) (format limit room : ℕ) 
     short = subst (λ (es : List Entry). AllByRecursion IsShort es) (sym same) whole.short;
     runs = subst (λ (ns : List Run). AllByRecursion IsStored ns) (sym are) whole.runs;
     few = subst (λ (ns : List Run). length ns ≤ 24) (sym are) whole.few;
-    named = subst (λ (es : List Entry). names es ≤ limit) (sym table_is) whole.named;
+    weight_fits = subst (λ (es : List Entry). named_weight (weigh_in format) es ≤ limit) (sym table_is) whole.weight_fits;
     marks = λ id. subst (λ (es : List Entry). KeepTo format (live_at es id)) (sym table_is) (whole.marks id);
     placed = subst (λ (ns : List Run). RunsKeepTo format ns) (sym are) whole.placed;
   }

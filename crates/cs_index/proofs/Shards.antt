@@ -78,6 +78,3 @@ module _ (old new : List Entry) (id : ℕ) (ls : List Place) (entered : (d : ℕ
 
   pub lives_then : (living - before) + now ≡ shards new
   lives_then = let e : shards new ≡ (shards old - one_if_some (live_at old id)) + one_if_some ls = shards_entered old new id ls entered in omega arith
-
-  pub few_then : (most : ℕ) → names new ≤ most → (living - before) + now ≤ most
-  few_then most le = let few : shards new ≤ names new = shards_few new in let is : (living - before) + now ≡ shards new = lives_then in omega arith

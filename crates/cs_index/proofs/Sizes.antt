@@ -12,11 +12,12 @@ use Rattle.cs_model.specs.Device.{Shape}
 use Rattle.cs_model.specs.Element.{Entry, Locator as Place, Run}
 use Rattle.cs_model.specs.Index.{entries_of, lookup, names}
 use Rattle.cs_model.specs.Merges.{reaching, sizes}
-use Rattle.cs_model.specs.Tally.{shards}
+use Rattle.cs_model.specs.Tally.{dead_weight}
 use Rattle.cs_index.specs.Merges.{deletions_go, reached, stage_takes}
 use Rattle.cs_index.specs.State.{IsStored, IsWhole, State, index_of, named_entry, newest_first, run_of, state_of}
 use Rattle.cs_index.proofs.Newest.{all_oldest, lookup_first, lookup_second, newest_more}
 use Rattle.cs_index.proofs.Parts.{named_first}
+use Rattle.cs_index.proofs.Weights.{names_few}
 use Rattle.cs_index.proofs.Whole.{Entries, length-newest}
 
 -- ---- run by run, the newest first
@@ -96,7 +97,7 @@ smaller (run ∷ runs) limit small all = (
 
 pub runs_small : (xs : Entries) (runs : List StoredRun) (format limit room : ℕ) → limit < 2 ^ 32 → IsWhole (state_of xs runs format limit room) → AllByRecursion (λ (run : StoredRun). length run.entries.items < 2 ^ 32) runs
 runs_small xs runs format limit room small whole =
-    smaller runs limit small (all_oldest (λ (run : Run). length run.entries ≤ limit) runs (lengths_in (map named_entry xs) (newest_first runs) limit whole.runs whole.named))
+    smaller runs limit small (all_oldest (λ (run : Run). length run.entries ≤ limit) runs (lengths_in (map named_entry xs) (newest_first runs) limit whole.runs (names_few (state_of xs runs format limit room) whole)))
 
 -- ---- how many a Stage takes
 
@@ -104,20 +105,23 @@ pub takes_reached : (S : Shape) (s : State) → S.by_size ≡ true → stage_tak
 takes_reached S s by = ap (λ (b : Bool). if b then reached S s else (if nat_lt (length s.runs) 4 then 0 else length s.runs)) by
 
 module _ (S : Shape) (s : State) where
-  pub reached_whole : nat_le S.most_names (4 * (names (index_of s) - shards (index_of s))) ≡ true → reached S s ≡ length s.runs
+  pub reached_whole : nat_le S.most_weight (4 * dead_weight S.weigh (index_of s)) ≡ true → reached S s ≡ length s.runs
   reached_whole on = ap (λ (b : Bool). if b then length s.runs else reaching S (sizes s.runs) (names s.table)) on
 
-  pub reached_some : nat_le S.most_names (4 * (names (index_of s) - shards (index_of s))) ≡ false → reached S s ≡ reaching S (sizes s.runs) (names s.table)
+  pub reached_some : nat_le S.most_weight (4 * dead_weight S.weigh (index_of s)) ≡ false → reached S s ≡ reaching S (sizes s.runs) (names s.table)
   reached_some off = ap (λ (b : Bool). if b then length s.runs else reaching S (sizes s.runs) (names s.table)) off
 
-module _ (S : Shape) (s : State) (named living limit : ℕ) (count : named ≡ names (index_of s)) (lives : living ≡ shards (index_of s)) (same : S.most_names ≡ limit) where
-  pub reached_by_quarter : limit ≤ 4 * (named - living) → reached S s ≡ length s.runs
-  reached_by_quarter le = reached_whole S s
-      (let most : S.most_names ≤ 4 * (names (index_of s) - shards (index_of s)) = omega (arith, le, count, lives, same) in grind (arith, nat_tests))
+module _ (S : Shape) (s : State) (dead limit : ℕ) (weigh : ℕ → ℕ) (rule : S.weigh ≡ weigh) (is : dead ≡ dead_weight weigh (index_of s)) (same : S.most_weight ≡ limit) where
+  dead_is : dead_weight S.weigh (index_of s) ≡ dead
+  dead_is = ap (λ (w : ℕ → ℕ). dead_weight w (index_of s)) rule ∙ sym is
 
-  pub reached_by_runs : 4 * (named - living) < limit → reached S s ≡ reaching S (sizes s.runs) (names s.table)
+  pub reached_by_quarter : limit ≤ 4 * dead → reached S s ≡ length s.runs
+  reached_by_quarter le = reached_whole S s
+      (let most : S.most_weight ≤ 4 * dead_weight S.weigh (index_of s) = omega (arith, le, dead_is, same) in grind (arith, nat_tests))
+
+  pub reached_by_runs : 4 * dead < limit → reached S s ≡ reaching S (sizes s.runs) (names s.table)
   reached_by_runs lt = reached_some S s
-      (let few : 4 * (names (index_of s) - shards (index_of s)) < S.most_names = omega (arith, lt, count, lives, same) in grind (arith, nat_tests))
+      (let few : 4 * dead_weight S.weigh (index_of s) < S.most_weight = omega (arith, lt, dead_is, same) in grind (arith, nat_tests))
 
 -- no more runs are reached than there are, and few are left
 inside_step : (most rest : ℕ) (b : Bool) → rest ≤ most → (if b then suc rest else 0) ≤ suc most
@@ -161,7 +165,7 @@ module _ (S : Shape) (s : State) where
       by_number false = le_refl _
 
       by_size : (b : Bool) → (if b then reached S s else (if nat_lt (length s.runs) 4 then 0 else length s.runs)) ≤ length s.runs
-      by_size true = by_quarter (nat_le S.most_names (4 * (names (index_of s) - shards (index_of s))))
+      by_size true = by_quarter (nat_le S.most_weight (4 * dead_weight S.weigh (index_of s)))
       by_size false = by_number (nat_lt (length s.runs) 4)
 
   pub none_left : length (drop (length s.runs) s.runs) ≡ 0
@@ -182,7 +186,7 @@ module _ (S : Shape) (s : State) where
       by_number false many = let none : length (drop (length s.runs) s.runs) ≡ 0 = none_left in omega (arith, none, four)
 
       by_size : (b : Bool) → S.by_size ≡ b → length (drop (if b then reached S s else (if nat_lt (length s.runs) 4 then 0 else length s.runs)) s.runs) < most
-      by_size true is = by_quarter (same is) (nat_le S.most_names (4 * (names (index_of s) - shards (index_of s))))
+      by_size true is = by_quarter (same is) (nat_le S.most_weight (4 * dead_weight S.weigh (index_of s)))
       by_size false is = by_number (nat_lt (length s.runs) 4) refl
 
 -- where deletions go no run is left

@@ -1,5 +1,5 @@
 -- How a run is spelled.
-use Rattle.std.proofs.Common.{◌≡◌, ◌≤◌, ℕ, ◌+◌, ◌-◌, ◌*◌, ◌/◌, Bool, true, false, List, [], ◌∷◌, ◌++◌, length, length-append, map, refl, sym, ap, ap₂, ◌∙◌, arith, if◌then◌else◌}
+use Rattle.std.proofs.Common.{◌≡◌, ◌≤◌, ℕ, ◌+◌, ◌-◌, ◌*◌, ◌/◌, Bool, true, false, List, [], ◌∷◌, ◌++◌, length, length-append, map, le_of_eq, le_trans, refl, sym, ap, ap₂, ◌∙◌, arith, if◌then◌else◌}
 use Rattle.std.specs.List.{AllByRecursion, flat_map}
 use Rattle.std.proofs.lemmas.List.{length-map, length-replicate}
 use Rattle.byteorder.specs.Endian.{big_bytes}
@@ -7,11 +7,12 @@ use Rattle.byteorder.specs.Numbers.{length-bytes_high_first}
 use Rattle.cs_extent.specs.State.{State as ExtentsState}
 use Rattle.cs_frame.proofs.LocatorLaws.{length-spelled_locators}
 use Rattle.cs_frame.proofs.Pieces.{length-first_chunks}
+use Rattle.cs_frame.proofs.RunWeights.{size_weighs}
 use Rattle.cs_frame.specs.Bytes.{zeros}
 use Rattle.cs_frame.specs.FormatRuns.{SpellsRun, run_size, spelled_run}
 use Rattle.cs_frame.specs.Formats.{as_entry, as_locator, id_bytes, place_of}
 use Rattle.cs_frame.specs.Frames.{frame_bytes, page_count, spelled_frame}
-use Rattle.cs_frame.specs.Geometries.{named_limit, run_bytes}
+use Rattle.cs_frame.specs.Geometries.{run_bytes, weight_bytes}
 use Rattle.cs_frame.specs.Locators.{spelled_locators}
 use Rattle.cs_frame.specs.PackedRuns.{packed_entry, packed_run, packed_size, packed_sizes}
 use Rattle.cs_frame.specs.Runs.{FitsEntry, entries_of as spelled_entries, entry_of, plain_run, spelled_entry}
@@ -20,7 +21,8 @@ use Rattle.cs_frame.specs.declared.locators.Locator.{Locator}
 use Rattle.cs_frame.specs.Places.{Listed}
 use Rattle.cs_index.specs.Staged.{run_frame}
 use Rattle.cs_model.specs.Element.{Entry}
-use Rattle.cs_model.specs.Geometry.{marks_in}
+use Rattle.cs_model.specs.Geometry.{marks_in, most_weight_in, weigh_in}
+use Rattle.cs_model.specs.Index.{run_weight}
 use Rattle.cs_index.specs.State.{IsShort, id_number, named_entry}
 use Rattle.cs_index.proofs.Numbers.{bytes_are}
 
@@ -100,22 +102,27 @@ run_pages x xs all =
     let payload : List ℕ = spelled_run x.format (map as_entry (map named_entry xs)) in
     length-first_chunks 4096 (page_count (length payload)) (frame_bytes 1 payload) ∙ ap page_count (long_run x.format xs all)
 
--- no more than an extent, of as many entries as may be named
-packed_most : (xs : List (ShardId × Listed)) → AllByRecursion IsShort (map named_entry xs) → packed_sizes (spelled_entries xs) ≤ 145 * length xs
-packed_most [] all = omega arith
-packed_most (x ∷ xs) all = let short : length (map place_of x.1.items) ≤ 8 = all.0 in omega (arith, short, length-map x.1.items place_of, packed_most xs all.1)
-
-pub size_most : (format pages : ℕ) (xs : List (ShardId × Listed)) → AllByRecursion IsShort (map named_entry xs) → 2 ≤ pages → length xs ≤ named_limit format pages → run_size format (spelled_entries xs) ≤ 4096 * pages - 41
-size_most format pages xs all two few = by (marks_in format) few
+-- it takes what its entries weigh, and no more than an extent where they weigh no more than they may
+same_size : (format : ℕ) (xs : List (ShardId × Listed)) → run_size format (map as_entry (map named_entry xs)) ≡ run_size format (spelled_entries xs)
+same_size format xs = by (marks_in format)
   where
-    by : (b : Bool) → length xs ≤ (4096 * pages - 45) / (if b then 145 else 81) → (if b then 4 + packed_sizes (spelled_entries xs) else run_bytes (length (spelled_entries xs))) ≤ 4096 * pages - 41
-    by true few = omega (arith, few, two, packed_most xs all)
-    by false few = omega (arith, few, two, length-map xs entry_of)
+    by : (b : Bool) → (if b then 4 + packed_sizes (map as_entry (map named_entry xs)) else run_bytes (length (map as_entry (map named_entry xs)))) ≡ (if b then 4 + packed_sizes (spelled_entries xs) else run_bytes (length (spelled_entries xs)))
+    by true = ap (λ (n : ℕ). 4 + n) (same_sizes xs)
+    by false = ap run_bytes (length-map (map named_entry xs) as_entry ∙ length-map xs named_entry ∙ sym (length-map xs entry_of))
 
-pub pages_most : (format pages : ℕ) (xs : List (ShardId × Listed)) → AllByRecursion IsShort (map named_entry xs) → 2 ≤ pages → length xs ≤ named_limit format pages
+pub size_most : (format pages : ℕ) (xs : List (ShardId × Listed)) → 2 ≤ pages → run_weight (weigh_in format) (map named_entry xs) ≤ most_weight_in format pages → run_size format (spelled_entries xs) ≤ 4096 * pages - 41
+size_most format pages xs two light =
+    let size : run_size format (spelled_entries xs) ≡ weight_bytes format (run_weight (weigh_in format) (map named_entry xs)) = sym (same_size format xs) ∙ size_weighs format (map named_entry xs) in
+    le_trans (le_of_eq size) (by (marks_in format) (run_weight (weigh_in format) (map named_entry xs)) light)
+  where
+    by : (b : Bool) (weight : ℕ) → weight ≤ (if b then 4096 * pages - 45 else (4096 * pages - 45) / 81) → (if b then 4 + weight else run_bytes weight) ≤ 4096 * pages - 41
+    by true weight light = omega (arith, light, two)
+    by false weight light = omega (arith, light, two)
+
+pub pages_most : (format pages : ℕ) (xs : List (ShardId × Listed)) → 2 ≤ pages → run_weight (weigh_in format) (map named_entry xs) ≤ most_weight_in format pages
     → (1 ≤ page_count (run_size format (spelled_entries xs))) × (page_count (run_size format (spelled_entries xs)) ≤ pages)
-pages_most format pages xs all two few =
-    let most : run_size format (spelled_entries xs) ≤ 4096 * pages - 41 = size_most format pages xs all two few in
+pages_most format pages xs two light =
+    let most : run_size format (spelled_entries xs) ≤ 4096 * pages - 41 = size_most format pages xs two light in
     (omega arith, omega (arith, most, two))
 
 -- ---- what is encoded

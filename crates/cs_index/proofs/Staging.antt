@@ -1,5 +1,5 @@
 -- What a staged index keeps.
-use Rattle.std.proofs.Common.{◌≡◌, ◌≢◌, ◌*◌, ◌-◌, ◌/◌, Bool, if◌then◌else◌, ℕ, suc, ◌<◌, ◌≤◌, true, false, List, [], ◌∷◌, ◌++◌, length, map, Option, Some, None, refl, sym, ap, subst, ◌∙◌, arith, append-nil}
+use Rattle.std.proofs.Common.{◌≡◌, ◌≢◌, ℕ, suc, ◌<◌, ◌≤◌, true, false, List, [], ◌∷◌, ◌++◌, length, map, Option, Some, None, refl, sym, ap, subst, ◌∙◌, arith, append-nil}
 use Rattle.std.specs.Prelude.{is_some}
 use Rattle.std.specs.List.{AllByRecursion}
 use Rattle.std.proofs.lemmas.Bool.{lt-ltb}
@@ -9,14 +9,15 @@ use Rattle.cs_frame.specs.Runs.{IsRun, Rises, entries_of as spelled_entries}
 use Rattle.cs_index.specs.declared.runs.StoredRun.{StoredRun}
 use Rattle.cs_model.proofs.Counting.{ascending_names, names_le}
 use Rattle.cs_model.specs.Element.{Entry, Locator as Place}
-use Rattle.cs_model.specs.Geometry.{marks_in}
-use Rattle.cs_model.specs.Index.{Ascending, entries_of, live_at, lookup, names}
+use Rattle.cs_model.proofs.Weights.{ascending_weight, weight_some}
+use Rattle.cs_model.specs.Geometry.{most_weight_in, weigh_in}
+use Rattle.cs_model.specs.Index.{Ascending, entries_of, live_at, lookup, named_weight, names, run_weight}
 use Rattle.cs_frame.specs.Formats.{place_of}
-use Rattle.cs_frame.specs.Geometries.{named_limit}
 use Rattle.cs_index.specs.State.{IsId, IsShort, IsStored, IsWhole, KeepTo, RunsKeepTo, id_number, index_of, named_entry, newest_first, run_of, state_of}
 use Rattle.cs_index.proofs.Marks.{keep_entries, newer_keep, run_keeps}
 use Rattle.cs_index.proofs.Newest.{lookup_first}
 use Rattle.cs_index.proofs.Numbers.{before_is}
+use Rattle.cs_index.proofs.Weights.{entries_weigh, most_few, names_few}
 use Rattle.cs_index.proofs.Whole.{Entries}
 
 -- ---- entries that can be spelled
@@ -35,19 +36,11 @@ some_of : (xs : Entries) → map named_entry xs ≢ [] → 1 ≤ length xs
 some_of [] some = absurd (some refl)
 some_of (x ∷ xs) some = omega arith
 
--- no more identifiers than bytes may be named
-pub limit_most : (format pages : ℕ) → named_limit format pages ≤ 4096 * pages
-limit_most format pages = by (marks_in format)
-  where
-    by : (b : Bool) → (4096 * pages - 45) / (if b then 145 else 81) ≤ 4096 * pages
-    by true = omega arith
-    by false = omega arith
-
 pub is_run : (run : SpelledRun) (format pages : ℕ) → AllByRecursion (λ entry. IsId entry.0) run.entries.items → Ascending (map named_entry run.entries.items) → AllByRecursion IsShort (map named_entry run.entries.items)
-    → map named_entry run.entries.items ≢ [] → pages ≤ 65535 → length run.entries.items ≤ named_limit format pages → AllByRecursion (λ x. KeepTo format x.locators) (map named_entry run.entries.items) → IsRun format run
-is_run run format pages ids order short some most few keep = record {
+    → map named_entry run.entries.items ≢ [] → pages ≤ 65535 → run_weight (weigh_in format) (map named_entry run.entries.items) ≤ most_weight_in format pages → AllByRecursion (λ x. KeepTo format x.locators) (map named_entry run.entries.items) → IsRun format run
+is_run run format pages ids order short some most light keep = record {
   some = some_of run.entries.items some;
-  most = (let le : named_limit format pages ≤ 4096 * pages = limit_most format pages in omega (arith, most, few, le));
+  most = omega (arith, light, most_few format pages most, entries_weigh format (map named_entry run.entries.items), length-map run.entries.items named_entry);
   counts = counts_of run.entries.items short;
   rising = rises_of run.entries.items ids order;
   marks = keep_entries format run.entries.items keep;
@@ -63,9 +56,19 @@ table_few xs runs format limit room whole =
     let rest : List Entry = entries_of (newest_first runs) in
     let le : names (map named_entry xs) ≤ names (map named_entry xs ++ rest) = names_le (map named_entry xs) (map named_entry xs ++ rest) (λ id is. has_more id (map named_entry xs) rest _ refl is) in
     let count : names (map named_entry xs) ≡ length (map named_entry xs) = ascending_names (map named_entry xs) whole.ascending in
-    let most : names (map named_entry xs ++ rest) ≤ limit = whole.named in
+    let most : names (map named_entry xs ++ rest) ≤ limit = names_few (state_of xs runs format limit room) whole in
     let long : length (map named_entry xs) ≡ length xs = length-map xs named_entry in
     omega arith
+
+-- nor do its entries weigh more than may be
+pub table_light : (xs : Entries) (runs : List StoredRun) (format limit room : ℕ) → IsWhole (state_of xs runs format limit room) → run_weight (weigh_in format) (map named_entry xs) ≤ limit
+table_light xs runs format limit room whole =
+    let rest : List Entry = entries_of (newest_first runs) in
+    let same : named_weight (weigh_in format) (map named_entry xs) ≡ run_weight (weigh_in format) (map named_entry xs) = ascending_weight (weigh_in format) (map named_entry xs) whole.ascending in
+    let le : named_weight (weigh_in format) (map named_entry xs) ≤ named_weight (weigh_in format) (map named_entry xs ++ rest) =
+    weight_some (weigh_in format) (map named_entry xs) (map named_entry xs ++ rest) (λ id ls is. lookup_first id (map named_entry xs) rest ls is) in
+    let most : named_weight (weigh_in format) (map named_entry xs ++ rest) ≤ limit = whole.weight_fits in
+    omega (arith, same, le, most)
 
 -- the table's entries keep to the format
 pub table_keeps : (xs : Entries) (runs : List StoredRun) (format limit room : ℕ) → IsWhole (state_of xs runs format limit room) → AllByRecursion (λ x. KeepTo format x.locators) (map named_entry xs)
@@ -93,7 +96,7 @@ module _ (xs empty : Entries) (runs before news : List StoredRun) (r : StoredRun
     short = subst (λ (es : Entries). AllByRecursion IsShort (map named_entry es)) (sym none) tt;
     runs = subst (AllByRecursion IsStored) (sym pushed_runs) ((whole.ascending, some, whole.short), whole.runs);
     few = (let e : length (newest_first news) ≡ suc (length (newest_first runs)) = ap length pushed_runs in omega arith);
-    named = subst (λ (es : List Entry). names es ≤ limit) (sym (pushed_index format limit room)) whole.named;
+    weight_fits = subst (λ (es : List Entry). named_weight (weigh_in format) es ≤ limit) (sym (pushed_index format limit room)) whole.weight_fits;
     marks = λ id. subst (λ (es : List Entry). KeepTo format (live_at es id)) (sym (pushed_index format limit room)) (whole.marks id);
     placed = subst (RunsKeepTo format) (sym pushed_runs) (newer_keep format (record { place = place_of r.place; entries = map named_entry xs }) (newest_first runs) keep whole.placed);
   }

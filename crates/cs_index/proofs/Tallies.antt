@@ -1,7 +1,7 @@
 -- How many chunks live on each extent, counted.
 use Rattle.std.proofs.Common.{◌≡◌, ◌∙◌, ◌==◌, inl, inr, ℕ, zero, suc, ◌+◌, ◌-◌, ◌*◌, ◌<◌, ◌≤◌, Bool, true, false, List, [], ◌∷◌, ◌++◌, Option, Some, None, get_or, set, length, ◌^◌, map, take, drop, take-append-drop, refl, sym, ap, subst, arith, eq-eqb, ne_eqb, if◌then◌else◌, get_or-set_same, get_or-set_other}
 use Rattle.std.specs.List.{AllByRecursion}
-use Rattle.std.specs.Prelude.{is_some, replicate}
+use Rattle.std.specs.Prelude.{replicate}
 use Rattle.std.proofs.lemmas.Bool.{cases_eq}
 use Rattle.std.proofs.lemmas.List.{length-replicate, map-append}
 use Rattle.std.proofs.lemmas.Option.{slice_get-get_or}
@@ -13,7 +13,6 @@ use Rattle.cs_index.specs.declared.runs.StoredRun.{StoredRun}
 use Rattle.cs_index.specs.Merges.{part}
 use Rattle.cs_index.specs.State.{IsNext, IsShort, IsStored, State, index_of, named_entry, newest_first, state_of}
 use Rattle.cs_index.proofs.Merged.{live_left, merged_live, merged_step, run_few}
-use Rattle.cs_index.proofs.Newest.{names_here, names_more}
 use Rattle.cs_index.proofs.Parts.{part_lookup}
 use Rattle.cs_index.proofs.Sorted.{all_append, take_at_get}
 use Rattle.cs_index.proofs.Whole.{Entries, short_in, short_runs}
@@ -271,19 +270,6 @@ nothing_counts on old xs runs format limit none alone dead was =
 -- the run of all that is live has the same counts
 pub counts_run : (on : List ℕ) (index xs : List Entry) → IsMergedRun index xs → AreCounts on xs → AreCounts on index
 counts_run on index xs run was = counts_as on xs index (λ id. sym (merged_live index xs run id)) was
-
--- with another entry in front no more are named than may be
-pub names_entered : (x : Entry) (index : List Entry) (limit : ℕ) → names index ≤ limit → (lookup x.id index ≡ None → names index < limit) → names (x ∷ index) ≤ limit
-names_entered x index limit most room = by (lookup x.id index) refl
-  where
-    by : (o : Option (List Place)) → lookup x.id index ≡ o → names (x ∷ index) ≤ limit
-    by None is =
-        let more : names (x ∷ index) ≡ names index + 1 = names_more x index (ap (λ (p : Option (List Place)). is_some p) is) in
-        let lt : names index < limit = room is in
-        omega arith
-    by (Some ls) is =
-        let same : names (x ∷ index) ≡ names index = names_here x index true (ap (λ (p : Option (List Place)). is_some p) is) refl in
-        omega arith
 
 -- ---- numbers that were written back into a vector
 

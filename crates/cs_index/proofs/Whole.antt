@@ -1,5 +1,5 @@
 -- What an index keeps.
-use Rattle.std.proofs.Common.{◌≡◌, ◌≢◌, inl, inr, ℕ, ◌+◌, ◌<◌, ◌≤◌, ◌^◌, ◌==◌, ◌&&◌, true, false, true≢false, List, [], ◌∷◌, ◌++◌, length, length-append, map, Bool, Option, Some, None, MatchBool, eq-eqb, ne_eqb, if◌then◌else◌, refl, sym, ap, ap₂, subst, ◌∙◌, arith}
+use Rattle.std.proofs.Common.{◌≡◌, ◌≢◌, inl, inr, ℕ, ◌+◌, ◌*◌, ◌<◌, ◌≤◌, ◌^◌, ◌==◌, ◌&&◌, true, false, true≢false, List, [], ◌∷◌, ◌++◌, length, length-append, map, Bool, Option, Some, None, MatchBool, eq-eqb, ne_eqb, if◌then◌else◌, refl, sym, ap, ap₂, subst, ◌∙◌, arith}
 use Rattle.std.proofs.Common.{Bor}
 use Rattle.std.specs.Prelude.{IfSome, is_some, option_copied, option_map}
 use Rattle.std.specs.List.{AllByRecursion}
@@ -11,7 +11,8 @@ use Rattle.cs_frame.specs.Runs.{IsRun, Rises, entries_of as spelled_entries}
 use Rattle.cs_index.specs.declared.runs.StoredRun.{StoredRun}
 use Rattle.cs_model.proofs.Counting.{lookup_here, lookup_there}
 use Rattle.cs_model.specs.Element.{Entry, Locator as Place, Run}
-use Rattle.cs_model.specs.Index.{Ascending, entries_of, live, live_at, lookup, names}
+use Rattle.cs_model.specs.Geometry.{weigh_in}
+use Rattle.cs_model.specs.Index.{Ascending, entries_of, live, live_at, lookup, named_weight, names, weight_with}
 use Rattle.cs_model.specs.Tally.{shards}
 use Rattle.cs_index.specs.Sorted.{IsPut}
 use Rattle.cs_frame.specs.Formats.{place_of}
@@ -23,6 +24,7 @@ use Rattle.cs_index.proofs.Names.{names_of_lookups}
 use Rattle.cs_index.proofs.Newest.{all_newest, lookup_first, lookup_second, names_here, names_more}
 use Rattle.cs_index.proofs.Numbers.{before_is}
 use Rattle.cs_index.proofs.Sorted.{all_append}
+use Rattle.cs_index.proofs.Weights.{runs_names, weight_entered}
 
 abbrev pub Entries : Type 0
 Entries = List (ShardId × Listed)
@@ -100,6 +102,17 @@ pub lengths_of : (format : ℕ) (runs : List StoredRun) → AllByRecursion (λ r
 lengths_of format [] all = tt
 lengths_of format (run ∷ runs) all = (all.0.most, lengths_of format runs all.1)
 
+-- no more are named in them than they can have entries
+pub loaded_names : (format : ℕ) (runs : List StoredRun) → AllByRecursion (λ run. IsRun format (record { entries = run.entries })) runs → names (entries_of (newest_first runs)) ≤ length runs * 2 ^ 32
+loaded_names format runs all =
+    let le : names (entries_of (newest_first runs)) ≤ length (newest_first runs) * 2 ^ 32 =
+    runs_names (newest_first runs) (all_newest (λ (run : Run). length run.entries < 2 ^ 32) runs (named_lengths runs (lengths_of format runs all))) in
+    omega (arith, le, length-newest runs)
+  where
+    named_lengths : (rs : List StoredRun) → AllByRecursion (λ run. length run.entries.items < 2 ^ 32) rs → AllByRecursion (λ run. length (run_of run).entries < 2 ^ 32) rs
+    named_lengths [] each = tt
+    named_lengths (r ∷ rs) each = ((let few : length r.entries.items < 2 ^ 32 = each.0 in omega (arith, few, length-map r.entries.items named_entry)), named_lengths rs each.1)
+
 -- ---- an entry is put into the table
 
 same_first : (d : ℕ) (xs ys rest : List Entry) (o : Option (List Place)) → lookup d xs ≡ o → lookup d ys ≡ o → lookup d (ys ++ rest) ≡ lookup d (xs ++ rest)
@@ -133,10 +146,6 @@ put_names xs ys rest id named more ls known put was is count =
     by true old count = count ∙ was ∙ sym (names_here (record { id = id; locators = ls }) (xs ++ rest) true (some_is _ old) refl)
     by false new count = count ∙ ap (λ (n : ℕ). n + 1) was ∙ sym (names_more (record { id = id; locators = ls }) (xs ++ rest) (none_is _ new))
 
-within : (known : Bool) (named more limit : ℕ) (P : Type 0) (Q : Type 0) → MatchBool known P Q → (Q → named < limit) → named ≤ limit → more ≡ (if known then named else named + 1) → more ≤ limit
-within true named more limit P Q is lt le count = omega (arith, count, le)
-within false named more limit P Q is lt le count = omega (arith, count, lt is)
-
 module _ (xs ys : Entries) (runs : List StoredRun) (format limit room left : ℕ) where
   abbrev old : State
   old = state_of xs runs format limit room
@@ -158,22 +167,17 @@ module _ (xs ys : Entries) (runs : List StoredRun) (format limit room left : ℕ
       → more ≡ (if known then named else named + 1) → more ≡ names (index_of (state_of ys runs format limit left))
   enter_count id named more ls known put was is count = put_names (map named_entry xs) (map named_entry ys) (entries_of (newest_first runs)) id named more ls known put was is count
 
-  pub enter_whole : (id named more : ℕ) (ls : List Place) (known : Bool) → IsPut (map named_entry xs) id ls (map named_entry ys) → length ls ≤ 8 → KeepTo format ls → named ≡ names (index_of (state_of xs runs format limit room))
-      → MatchBool known (lookup id (index_of (state_of xs runs format limit room)) ≢ None) (lookup id (index_of (state_of xs runs format limit room)) ≡ None)
-      → (lookup id (index_of (state_of xs runs format limit room)) ≡ None → names (index_of (state_of xs runs format limit room)) < limit)
-      → more ≡ (if known then named else named + 1) → IsWhole (state_of xs runs format limit room) → IsWhole (state_of ys runs format limit left)
-  enter_whole id named more ls known put few keep was is lt count whole =
-      let n : more ≡ names (index_of (state_of ys runs format limit left)) = enter_count id named more ls known put was is count in
-      let most : more ≤ limit = within known named more limit _ _ is (λ none. (let l : names (index_of (state_of xs runs format limit room)) < limit = lt none in omega arith)) (let w : names (index_of (state_of xs runs format limit room)) ≤ limit = whole.named in omega arith) count in
-      record {
-        ascending = put.ascending;
-        short = put.short whole.short few;
-        runs = whole.runs;
-        few = whole.few;
-        named = omega arith;
-        marks = set_keeps format id ls (index_of (state_of xs runs format limit room)) (index_of (state_of ys runs format limit left)) (enter_set id ls put).index keep whole.marks;
-        placed = whole.placed;
-      }
+  pub enter_whole : (id : ℕ) (ls : List Place) → IsPut (map named_entry xs) id ls (map named_entry ys) → length ls ≤ 8 → KeepTo format ls
+      → weight_with (weigh_in format) (index_of (state_of xs runs format limit room)) id (length ls) ≤ limit → IsWhole (state_of xs runs format limit room) → IsWhole (state_of ys runs format limit left)
+  enter_whole id ls put few keep light whole = record {
+    ascending = put.ascending;
+    short = put.short whole.short few;
+    runs = whole.runs;
+    few = whole.few;
+    weight_fits = omega (arith, light, weight_entered (weigh_in format) (index_of (state_of xs runs format limit room)) (index_of (state_of ys runs format limit left)) id ls (enter_set id ls put).index);
+    marks = set_keeps format id ls (index_of (state_of xs runs format limit room)) (index_of (state_of ys runs format limit left)) (enter_set id ls put).index keep whole.marks;
+    placed = whole.placed;
+  }
 
 -- ---- what is looked up in the table and then in the runs
 
@@ -185,21 +189,23 @@ pub index_second : (s : State) (xs : Entries) (runs : List StoredRun) (id : ℕ)
 index_second s xs runs id o same same' not is =
     is ∙ ap (λ (rs : List Run). lookup id (entries_of rs)) same' ∙ sym (lookup_second id s.table (entries_of s.runs) (ap (lookup id) (sym same) ∙ sym not))
 
-pub empty_whole : (runs : List StoredRun) (format limit named : ℕ) (xs : Entries) → xs ≡ [] → AllByRecursion IsStored (newest_first runs) → length runs ≤ 24 → named ≡ names (entries_of (newest_first runs)) → named ≤ limit
+pub empty_whole : (runs : List StoredRun) (format limit named weight : ℕ) (xs : Entries) → xs ≡ [] → AllByRecursion IsStored (newest_first runs) → length runs ≤ 24 → named ≡ names (entries_of (newest_first runs))
+    → weight ≡ named_weight (weigh_in format) (entries_of (newest_first runs)) → weight ≤ limit
     → ((id : ℕ) → KeepTo format (live_at (entries_of (newest_first runs)) id)) → RunsKeepTo format (newest_first runs)
-    → IsWhole (state_of xs runs format limit 0) × (named ≡ names (index_of (state_of xs runs format limit 0)))
-empty_whole runs format limit named xs none stored few is le marks placed =
-    subst (λ (ys : Entries). IsWhole (state_of ys runs format limit 0) × (named ≡ names (index_of (state_of ys runs format limit 0)))) (sym none) (
+    → IsWhole (state_of xs runs format limit 0) × (named ≡ names (index_of (state_of xs runs format limit 0))) × (weight ≡ named_weight (weigh_in format) (index_of (state_of xs runs format limit 0)))
+empty_whole runs format limit named weight xs none stored few is weighs le marks placed =
+    subst (λ (ys : Entries). IsWhole (state_of ys runs format limit 0) × (named ≡ names (index_of (state_of ys runs format limit 0))) × (weight ≡ named_weight (weigh_in format) (index_of (state_of ys runs format limit 0)))) (sym none) (
       record {
         ascending = tt;
         short = tt;
         runs = stored;
         few = (let e : length (newest_first runs) ≡ length runs = length-newest runs in omega arith);
-        named = omega arith;
+        weight_fits = omega (arith, weighs, le);
         marks = marks;
         placed = placed;
       },
       is,
+      weighs,
     )
 
 pub same_locators : (found other : List Locator) (o : Option (List Place)) (b : Bool) → Some (map place_of found) ≡ o → ((b ≡ true → found ≡ other) × (found ≡ other → b ≡ true))
@@ -228,17 +234,20 @@ marks_found s id (Some ls) whole is = marks_lookup s id ls.now whole is
 -- an index of nothing
 pub nothing_whole : (xs : Entries) (runs : List StoredRun) (format limit : ℕ) → xs ≡ [] → runs ≡ []
     → IsWhole (state_of xs runs format limit 0) × (0 ≡ names (index_of (state_of xs runs format limit 0))) × (0 ≡ shards (index_of (state_of xs runs format limit 0)))
+    × (0 ≡ named_weight (weigh_in format) (index_of (state_of xs runs format limit 0)))
 nothing_whole xs runs format limit none alone =
-    let whole = empty_whole runs format limit 0 xs none
+    let whole = empty_whole runs format limit 0 0 xs none
     (subst (λ (rs : List StoredRun). AllByRecursion IsStored (newest_first rs)) (sym alone) tt)
     (let e : length runs ≡ 0 = ap length alone in omega arith)
     (ap (λ (rs : List StoredRun). names (entries_of (newest_first rs))) (sym alone))
+    (ap (λ (rs : List StoredRun). named_weight (weigh_in format) (entries_of (newest_first rs))) (sym alone))
     (omega arith)
     (λ id. subst (λ (rs : List StoredRun). KeepTo format (live_at (entries_of (newest_first rs)) id)) (sym alone) (λ off. tt))
     (subst (λ (rs : List StoredRun). RunsKeepTo format (newest_first rs)) (sym alone) (λ off. tt)) in (
       whole.0,
       whole.1,
       ap (λ (ys : Entries). shards (map named_entry ys ++ entries_of (newest_first []))) (sym none) ∙ ap (λ (rs : List StoredRun). shards (map named_entry xs ++ entries_of (newest_first rs))) (sym alone),
+      whole.2,
     )
 
 -- the comparison of two locators decides whether they are the same

@@ -1,10 +1,10 @@
 -- What staging an index merges: the table and so many of the newest runs.
-use Rattle.std.specs.Prelude.{◌-◌, ◌*◌, ◌++◌, ◌&&◌, ◌||◌, ℕ, Bool, List, length, take, nat_le, nat_lt, if◌then◌else◌}
+use Rattle.std.specs.Prelude.{◌*◌, ◌++◌, ◌&&◌, ◌||◌, ℕ, Bool, List, length, take, nat_le, nat_lt, if◌then◌else◌}
 use Rattle.cs_model.specs.Device.{Shape}
 use Rattle.cs_model.specs.Element.{Entry}
 use Rattle.cs_model.specs.Index.{entries_of, names}
 use Rattle.cs_model.specs.Merges.{reaching, sizes}
-use Rattle.cs_model.specs.Tally.{shards}
+use Rattle.cs_model.specs.Tally.{dead_weight}
 use Rattle.cs_index.specs.State.{State, index_of}
 
 -- the entries of the table and of the newest k runs
@@ -15,10 +15,10 @@ part s k = s.table ++ entries_of (take k s.runs)
 abbrev pub deletions_go : Shape → State → ℕ → Bool
 deletions_go S s k = nat_le (length s.runs) k && (S.by_size || nat_lt 0 k)
 
--- how many of the newest runs a Stage merges by size: all where at least a quarter of as many identifiers as may be
--- named are named and don't live
+-- how many of the newest runs a Stage merges by size: all where the deletions weigh at least a quarter of what the newest entries
+-- may weigh
 abbrev pub reached : Shape → State → ℕ
-reached S s = if nat_le S.most_names (4 * (names (index_of s) - shards (index_of s))) then length s.runs
+reached S s = if nat_le S.most_weight (4 * dead_weight S.weigh (index_of s)) then length s.runs
     else reaching S (sizes s.runs) (names s.table)
 
 -- how many of the newest runs a Stage merges: by size, or else none of up to three, and all of more

@@ -1,19 +1,15 @@
 -- What an index is, in the words of the store's machine.
 use Rattle.std.specs.Prelude.{◌≡◌, ◌≢◌, false, ℕ, ◌<◌, ◌≤◌, ◌==◌, List, [], ◌∷◌, ◌++◌, Option, Some, None, length, map, if◌then◌else◌}
 use Rattle.std.specs.List.{AllByRecursion}
-use Rattle.byteorder.specs.Endian.{big_number}
 use Rattle.cs_frame.specs.Bytes.{IsBytes}
 use Rattle.cs_frame.specs.declared.identifiers.ShardId.{ShardId}
 use Rattle.cs_frame.specs.Formats.{place_of}
+pub use Rattle.cs_frame.specs.Identifiers.{id_number}
 use Rattle.cs_frame.specs.Places.{Listed}
 use Rattle.cs_index.specs.declared.runs.StoredRun.{StoredRun}
 use Rattle.cs_model.specs.Element.{Entry, Locator as Place, Run}
-use Rattle.cs_model.specs.Geometry.{marks_in}
-use Rattle.cs_model.specs.Index.{Ascending, entries_of, live_at, lookup, names}
-
--- an identifier as a number, its first byte the highest
-unfoldable pub id_number : ShardId → ℕ
-id_number id = big_number 16 id.0
+use Rattle.cs_model.specs.Geometry.{marks_in, weigh_in}
+use Rattle.cs_model.specs.Index.{Ascending, entries_of, live_at, lookup, named_weight}
 
 -- sixteen bytes
 pub record IsId (id : ShardId) : Type 0 where
@@ -41,7 +37,7 @@ pub record State : Type 0 where
   pub runs : List Run
   -- the format of the store
   pub format : ℕ
-  -- how many identifiers may be named
+  -- what the newest entries of all identifiers may weigh together, by the rule of the format
   pub limit : ℕ
   -- so many more entries of the table will ask for no memory
   pub room : ℕ
@@ -72,7 +68,7 @@ pub record IsWhole (s : State) : Type 0 where
   pub short : AllByRecursion IsShort s.table
   pub runs : AllByRecursion IsStored s.runs
   pub few : length s.runs ≤ 24
-  pub named : names (index_of s) ≤ s.limit
+  pub weight_fits : named_weight (weigh_in s.format) (index_of s) ≤ s.limit
   -- what is looked up keeps to the format, and so do the runs' own places
   pub marks : (id : ℕ) → KeepTo s.format (live_at (index_of s) id)
   pub placed : RunsKeepTo s.format s.runs

@@ -8,7 +8,8 @@ ghost use Rattle.cs_frame.specs.Roots.{greatest_runs};
 ghost use Rattle.cs_extent.specs.Worn.{IsFrameWornBy};
 ghost use Rattle.cs_model.specs.Element.{Locator as Place};
 ghost use Rattle.cs_model.specs.Extents.{ForMerge, ForRun, GoesApart};
-ghost use Rattle.cs_model.specs.Index.{live_at, lookup};
+ghost use Rattle.cs_model.specs.Geometry.{weigh_in};
+ghost use Rattle.cs_model.specs.Index.{live_at, lookup, run_weight};
 ghost use Rattle.cs_model.specs.Merges.{IsRunOf};
 ghost use Rattle.cs_index.specs.Apart.{IsFullApart, IsRunWornApart, IsStageFullApart, IsStageWornApart, IsStagedApart, WritesNewest, takes_apart};
 ghost use Rattle.cs_index.specs.Merges.{deletions_go, part};
@@ -51,7 +52,7 @@ impl Index {
         commands: u64,
     ) -> Result<u64, Refusal>
         requires format { self.old.format ≡ (shape extents.old).format }
-        requires limit { self.old.limit ≡ (shape extents.old).most_names }
+        requires limit { self.old.limit ≡ (shape extents.old).most_weight }
         requires runs { length self.old.runs ≤ (shape extents.old).most_runs }
         requires families { length graph.old.staging.latest ≡ 1 + (shape extents.old).sections }
         requires resets { AreResetsStaged (extents_of extents.old) graph.old.staging }
@@ -91,7 +92,7 @@ impl Index {
         last: bool,
     ) -> Result<u64, Refusal>
         requires format { self.old.format ≡ (shape extents.old).format }
-        requires limit { self.old.limit ≡ (shape extents.old).most_names }
+        requires limit { self.old.limit ≡ (shape extents.old).most_weight }
         requires runs { length self.old.runs ≤ (shape extents.old).most_runs }
         requires families { length graph.old.staging.latest ≡ 1 + (shape extents.old).sections }
         requires resets { AreResetsStaged (extents_of extents.old) graph.old.staging }
@@ -113,7 +114,8 @@ impl Index {
 
     /// Why a Stage is refused that a number of the caller's forbids.
     fn why_not(&self, extents: &Extents) -> Refusal
-        requires { self.now.limit ≡ (shape extents.now).most_names }
+        requires format { self.now.format ≡ (shape extents.now).format }
+        requires limit { self.now.limit ≡ (shape extents.now).most_weight }
         ensures { ((result ≡ Refusal.WornOut) × ¬ IsStageFullApart self.now extents.now) ⊎ ((result ≡ Refusal.Full) × IsStageFullApart self.now extents.now) ⊎ (result ≡ Refusal.OutOfMemory) }
     {
         if self.is_table_empty() {
@@ -170,13 +172,14 @@ impl Index {
     /// 30 `Full` where no extent takes either; 9 `OutOfMemory` may come instead.
     fn choose(&self, extents: &Extents) -> Result<Chosen, Refusal>
         requires some { self.now.table ≢ [] }
-        requires limit { self.now.limit ≡ (shape extents.now).most_names }
+        requires format { self.now.format ≡ (shape extents.now).format }
+        requires limit { self.now.limit ≡ (shape extents.now).most_weight }
         ensures inside { IfOk result (λ x. x.portion.newest ≤ length self.now.runs) }
         ensures deletions { IfOk result (λ x. x.portion.without_deletions ≡ deletions_go (shape extents.now) self.now x.portion.newest) }
         ensures run { IfOk result (λ x. IsRunOf x.portion.without_deletions (part self.now x.portion.newest) (map named_entry x.run.entries.items)) }
         ensures short { IfOk result (λ x. AllByRecursion IsShort (map named_entry x.run.entries.items)) }
         ensures ids { IfOk result (λ x. AllByRecursion (λ entry. IsId entry.0) x.run.entries.items) }
-        ensures few { IfOk result (λ x. length x.run.entries.items ≤ self.now.limit) }
+        ensures weight { IfOk result (λ x. run_weight (weigh_in self.now.format) (map named_entry x.run.entries.items) ≤ self.now.limit) }
         ensures chosen { IfOk result (λ x. ((reason_of x.purpose ≡ ForRun) × (x.portion.newest ≡ takes_apart (shape extents.now) self.now))
             ⊎ ((reason_of x.purpose ≡ ForMerge) × (x.portion.newest ≡ length self.now.runs) × IsFullApart (WritesNewest (shape extents.now) self.now (takes_apart (shape extents.now) self.now)) extents.now ForRun)) }
         ensures left { IfOk result (λ x. length (drop x.portion.newest self.now.runs) < (shape extents.now).most_runs) }
@@ -220,12 +223,12 @@ impl Index {
         requires run { IsRunOf chosen.portion.without_deletions (part self.old chosen.portion.newest) (map named_entry chosen.run.entries.items) }
         requires short { AllByRecursion IsShort (map named_entry chosen.run.entries.items) }
         requires ids { AllByRecursion (λ entry. IsId entry.0) chosen.run.entries.items }
-        requires few { length chosen.run.entries.items ≤ self.old.limit }
+        requires weight { run_weight (weigh_in self.old.format) (map named_entry chosen.run.entries.items) ≤ self.old.limit }
         requires left { length (drop chosen.portion.newest self.old.runs) < (shape extents.old).most_runs }
         requires placed { (map named_entry chosen.run.entries.items ≡ [])
             ⊎ ((e : ℕ) × GoesApart (shape extents.old) (extents_of extents.old) (reason_of chosen.purpose) (length (run_frame extents.old (map named_entry chosen.run.entries.items))) e) }
         requires format { self.old.format ≡ (shape extents.old).format }
-        requires limit { self.old.limit ≡ (shape extents.old).most_names }
+        requires limit { self.old.limit ≡ (shape extents.old).most_weight }
         requires families { length graph.old.staging.latest ≡ 1 + (shape extents.old).sections }
         requires resets { AreResetsStaged (extents_of extents.old) graph.old.staging }
         requires commands { commands < 2 ^ 63 }
@@ -269,10 +272,10 @@ impl Index {
         requires some { map named_entry chosen.run.entries.items ≢ [] }
         requires short { AllByRecursion IsShort (map named_entry chosen.run.entries.items) }
         requires ids { AllByRecursion (λ entry. IsId entry.0) chosen.run.entries.items }
-        requires few { length chosen.run.entries.items ≤ self.old.limit }
+        requires weight { run_weight (weigh_in self.old.format) (map named_entry chosen.run.entries.items) ≤ self.old.limit }
         requires placed { (e : ℕ) × GoesApart (shape extents.old) (extents_of extents.old) (reason_of chosen.purpose) (length (run_frame extents.old (map named_entry chosen.run.entries.items))) e }
         requires format { self.old.format ≡ (shape extents.old).format }
-        requires limit { self.old.limit ≡ (shape extents.old).most_names }
+        requires limit { self.old.limit ≡ (shape extents.old).most_weight }
         requires families { length graph.old.staging.latest ≡ 1 + (shape extents.old).sections }
         requires resets { AreResetsStaged (extents_of extents.old) graph.old.staging }
         requires commands { commands < 2 ^ 63 }
@@ -286,6 +289,7 @@ impl Index {
         ensures unwritten { OnErr result (extents.new ≡ extents.old) }
         ensures unstaged { OnErr result (graph.new ≡ record graph.old { room = graph.new.room }) }
     {
+        let weight = self.weight_after(chosen.portion.without_deletions);
         let _extents = extents.extent_count();
         let Chosen {
             run,
@@ -314,6 +318,7 @@ impl Index {
                     entries: Vec::new(alloc),
                 };
                 self.named = named;
+                self.weight = weight;
                 self.room = 0;
                 self.cleared = NONE_KNOWN;
                 Ok(version)

@@ -84,7 +84,7 @@ impl Index {
     ) -> Result<u64, Refusal>
         requires apart { (shape extents.old).apart ≡ true }
         requires format { self.old.format ≡ (shape extents.old).format }
-        requires limit { self.old.limit ≡ (shape extents.old).most_names }
+        requires limit { self.old.limit ≡ (shape extents.old).most_weight }
         requires runs { length self.old.runs ≤ (shape extents.old).most_runs }
         requires families { length graph.old.staging.latest ≡ 1 + (shape extents.old).sections }
         requires resets { AreResetsStaged (extents_of extents.old) graph.old.staging }
@@ -137,7 +137,7 @@ impl Index {
         requires ids { AllByRecursion (λ entry. IsId entry.0) table.entries.items }
         requires apart { (shape extents.old).apart ≡ true }
         requires format { self.old.format ≡ (shape extents.old).format }
-        requires limit { self.old.limit ≡ (shape extents.old).most_names }
+        requires limit { self.old.limit ≡ (shape extents.old).most_weight }
         requires runs { length self.old.runs ≤ (shape extents.old).most_runs }
         requires families { length graph.old.staging.latest ≡ 1 + (shape extents.old).sections }
         requires resets { AreResetsStaged (extents_of extents.old) graph.old.staging }
@@ -158,6 +158,7 @@ impl Index {
             runs,
             named: self.named,
             living: self.living,
+            weight: self.weight,
             on,
             format: self.format,
             limit: self.limit,
@@ -194,7 +195,7 @@ impl Index {
     ) -> Result<u64, Refusal>
         requires apart { (shape extents.old).apart ≡ true }
         requires format { self.old.format ≡ (shape extents.old).format }
-        requires limit { self.old.limit ≡ (shape extents.old).most_names }
+        requires limit { self.old.limit ≡ (shape extents.old).most_weight }
         requires runs { length self.old.runs ≤ (shape extents.old).most_runs }
         requires families { length graph.old.staging.latest ≡ 1 + (shape extents.old).sections }
         requires resets { AreResetsStaged (extents_of extents.old) graph.old.staging }
@@ -232,6 +233,8 @@ impl Index {
         ensures settled { OnOk result (IsSettled self.old (copy_of copy ∷ []) self.new) }
         ensures runs { self.new.runs ≡ self.old.runs }
     {
+        // Called for its contract alone: what an index keeps.
+        self.run_count();
         match self.locators_then(copy)? {
             Some(locators) => self.enter(copy.id, locators),
             None => Ok(()),

@@ -1,16 +1,17 @@
-//! How many identifiers live, and how many chunks of them on each extent.
+//! How many identifiers are named and live, what their entries weigh, and how many chunks of them are on each extent.
 ghost use Rattle.std.specs.Prelude.{◌≡◌, ℕ, ◌+◌, ◌-◌, ◌^◌, ◌<◌, ◌≤◌, ◌∷◌, ◌++◌, length, map, option_copied, option_map, replicate, slice_index};
 ghost use Rattle.cs_frame.specs.Formats.{place_of};
 ghost use Rattle.cs_index.specs.Read.{IsReadable};
 ghost use Rattle.cs_index.specs.Held.{AreCounts, one_on};
 ghost use Rattle.cs_index.specs.State.{id_number, named_entry, newest_first};
-ghost use Rattle.cs_model.specs.Index.{entries_of, live_at, lookup, names};
+ghost use Rattle.cs_model.specs.Geometry.{weigh_in};
+ghost use Rattle.cs_model.specs.Index.{entries_of, live_at, lookup, named_weight, names};
 ghost use Rattle.cs_model.specs.Tally.{lives_on, one_if_some, places_on, shards};
 
 use crate::entries::entries_from;
 use crate::runs::{StoredRun, find_in_runs};
 use crate::tables::find;
-use cs_frame::{Locator, Places, ShardId};
+use cs_frame::{Locator, Places, ShardId, entry_weight};
 
 /// 1 where there is a locator, 0 where there is none.
 pub fn one_if_living(locators: &[Locator]) -> usize
@@ -19,13 +20,13 @@ pub fn one_if_living(locators: &[Locator]) -> usize
     if locators.is_empty() { 0 } else { 1 }
 }
 
-/// How many identifiers live once one counts so many, which counted so many before.
-pub fn living_after(living: usize, before: usize, now: usize) -> usize
-    requires less { before ≤ living }
-    requires fits { (living - before) + now < 2 ^ 64 }
-    ensures { result ≡ (living - before) + now }
+/// What all identifiers come to once one comes to so much, which came to so much before.
+pub fn sum_after(sum: usize, before: usize, now: usize) -> usize
+    requires less { before ≤ sum }
+    requires fits { (sum - before) + now < 2 ^ 64 }
+    ensures { result ≡ (sum - before) + now }
 {
-    living - before + now
+    sum - before + now
 }
 
 /// How many extents a store has at most.
@@ -120,6 +121,32 @@ pub fn recount(
 {
     take_last(on, table, runs, id);
     add_places(on, locators);
+}
+
+/// How many identifiers are named, and what their newest entries weigh together.
+#[derive(Clone, Copy, Debug)]
+pub struct Newest {
+    pub named: usize,
+    pub weight: usize,
+}
+
+/// Counts the identifiers that a table and runs name, which are listed oldest first, and weighs the newest entry of each in this format.
+/// Reads all entries.
+pub fn count_newest(table: &[(ShardId, Places)], runs: &[StoredRun], format: u8) -> Newest
+    requires readable { IsReadable table.now runs.now }
+    requires few { names (map named_entry table.now ++ entries_of (newest_first runs.now)) < 2 ^ 40 }
+    ensures named { result.named ≡ names (map named_entry table.now ++ entries_of (newest_first runs.now)) }
+    ensures weight { result.weight ≡ named_weight (weigh_in format) (map named_entry table.now ++ entries_of (newest_first runs.now)) }
+{
+    let mut named: usize = 0;
+    let mut weight: usize = 0;
+    let mut read = entries_from(table, runs);
+    while let Some((id, locators)) = read.next_entry() {
+        let _bytes = id.bytes();
+        named += 1;
+        weight += entry_weight(format, locators.len());
+    }
+    Newest { named, weight }
 }
 
 /// How many identifiers of a table and of runs, which are listed oldest first, have locators. Counts into zeros how many chunks live on

@@ -3,18 +3,19 @@ ghost use Rattle.std.specs.Prelude.{◌≡◌, ◌≢◌, ℕ, ◌+◌, ◌<◌,
 ghost use Rattle.std.specs.List.{AllByRecursion};
 ghost use Rattle.cs_frame.specs.Locators.{KeepFormat};
 ghost use Rattle.cs_frame.specs.Runs.{IsRun};
-ghost use Rattle.cs_model.specs.Index.{FirstLive, NothingLive, entries_of, live_at, lookup, names};
+ghost use Rattle.cs_model.specs.Geometry.{weigh_in};
+ghost use Rattle.cs_model.specs.Index.{FirstLive, NothingLive, entries_of, live_at, lookup, named_weight, names, weight, weight_with};
 ghost use Rattle.cs_model.specs.Tally.{lives_on, one_if_some};
 ghost use Rattle.cs_frame.specs.Formats.{place_of};
 ghost use Rattle.cs_index.specs.State.{IsSet, IsWhole, id_number, index_of, newest_first};
 
-use crate::counts::{MOST_EXTENTS, count_living, living_after, one_if_living, recount};
+use crate::counts::{MOST_EXTENTS, count_living, count_newest, one_if_living, recount, sum_after};
 use crate::entries::{Entries, entries_after, entries_from};
 use crate::live::{Cleared, LiveChunk, NONE_KNOWN, known_up_to, search, still_cleared};
-use crate::runs::{StoredRun, are_ids, count_after, count_names, find_in_runs};
+use crate::runs::{StoredRun, are_ids, count_after, find_in_runs};
 use crate::tables::{find, put};
 use cs_deps::Refusal;
-use cs_frame::{Locator, Places, Run, ShardId};
+use cs_frame::{Locator, Places, Run, ShardId, entry_weight};
 use std::alloc::{AllocError, Global};
 use std::marker::Model;
 
@@ -29,11 +30,13 @@ pub struct Index {
     pub(crate) named: usize,
     /// How many of them have locators.
     pub(crate) living: usize,
+    /// What the newest entry of each weighs in the format, all together.
+    pub(crate) weight: usize,
     /// How many chunks live on each extent that a store can have.
     pub(crate) on: Vec<u32>,
     /// The format of the store.
     pub(crate) format: u8,
-    /// How many may have one.
+    /// What they may weigh.
     pub(crate) limit: usize,
     /// So many more entries of the table have their place already.
     pub(crate) room: usize,
@@ -50,15 +53,23 @@ impl Model for Index {
 
     ghost view = { λ x. state_of x.table.entries.items x.runs.items x.format x.limit x.room };
 
-    ghost invariant = { λ x. IsHeld (state_of x.table.entries.items x.runs.items x.format x.limit x.room) x.table.entries.items x.named x.living x.on.items (vec_len x.table.entries) (vec_capacity x.table.entries) x.cleared };
+    ghost invariant = { λ x. IsHeld (state_of x.table.entries.items x.runs.items x.format x.limit x.room) x.table.entries.items x.named x.living x.weight x.on.items (vec_len x.table.entries) (vec_capacity x.table.entries) x.cleared };
+}
+
+/// What an identifier has: whether an entry, 1 where that has locators, else 0, and what it weighs, 0 where there is none.
+#[derive(Clone, Copy, Debug)]
+struct Standing {
+    known: bool,
+    living: usize,
+    weight: usize,
 }
 
 impl Index {
-    /// The index of these runs, oldest first, with an empty table, in a store of this format. `limit` is how many identifiers may have an
-    /// entry: as many as one run in one extent can have.
+    /// The index of these runs, oldest first, with an empty table, in a store of this format. `limit` is what the newest entries of all
+    /// identifiers may weigh together: as much as those of one run on one extent. An entry weighs `cs_frame::entry_weight`.
     ///
-    /// 43 `NotAStore` where the runs name more, then 9 `OutOfMemory`. Asks for the memory of a number for each extent that a store can
-    /// have. Seeks each entry among the older runs, and then reads all in order.
+    /// 43 `NotAStore` where they weigh more, then 9 `OutOfMemory`. Asks for the memory of a number for each extent that a store can
+    /// have. Reads all entries in order twice.
     pub fn load(
         alloc: Global,
         format: u8,
@@ -70,12 +81,12 @@ impl Index {
         requires places { KeepFormat format (map (λ run. run.place) runs.items) }
         requires limit { limit < 2 ^ 29 }
         ensures loaded { IfOk result (λ x. x ≡ record { table = []; runs = newest_first runs.items; format = format; limit = limit; room = 0 }) }
-        ensures full { (result ≡ Err Refusal.NotAStore) ↔ (limit < names (entries_of (newest_first runs.items))) }
+        ensures full { (result ≡ Err Refusal.NotAStore) ↔ (limit < named_weight (weigh_in format) (entries_of (newest_first runs.items))) }
         ensures refusals { IfErr result (λ r. (r ≡ Refusal.NotAStore) ⊎ (r ≡ Refusal.OutOfMemory)) }
     {
         are_ids(&runs);
-        let named = count_names(&runs);
-        if limit < named {
+        let newest = count_newest(&[], &runs, format);
+        if limit < newest.weight {
             return Err(Refusal::NotAStore);
         }
         let mut on = vec![in alloc; 0; MOST_EXTENTS]?;
@@ -85,8 +96,9 @@ impl Index {
                 entries: Vec::new(alloc),
             },
             runs,
-            named,
+            named: newest.named,
             living,
+            weight: newest.weight,
             on,
             format,
             limit,
@@ -152,7 +164,15 @@ impl Index {
         self.named
     }
 
-    /// How many identifiers may have an entry.
+    /// What the newest entry of each identifier weighs, all together. It costs no search.
+    pub fn weight(&self) -> usize
+        ensures weight { result ≡ named_weight (weigh_in self.now.format) (index_of self.now) }
+        ensures limit { result ≤ self.now.limit }
+    {
+        self.weight
+    }
+
+    /// What they may weigh.
     pub fn limit(&self) -> usize
         ensures { result ≡ self.now.limit }
     {
@@ -203,46 +223,50 @@ impl Index {
         Ok(())
     }
 
-    /// Whether an identifier has an entry.
-    fn is_known(&self, id: ShardId) -> bool
-        ensures { MatchBool result (lookup (id_number id) (index_of self.now) ≢ None) (lookup (id_number id) (index_of self.now) ≡ None) }
+    /// What an identifier has.
+    fn standing(&self, id: ShardId) -> Standing
+        ensures known { MatchBool result.known (lookup (id_number id) (index_of self.now) ≢ None) (lookup (id_number id) (index_of self.now) ≡ None) }
+        ensures lives { result.living ≡ one_if_some (live_at (index_of self.now) (id_number id)) }
+        ensures weighs { result.weight ≡ weight (weigh_in self.now.format) (lookup (id_number id) (index_of self.now)) }
     {
         match self.lookup(id) {
-            Some(_) => true,
-            None => false,
+            Some(locators) => Standing {
+                known: true,
+                living: one_if_living(locators),
+                weight: entry_weight(self.format, locators.len()),
+            },
+            None => Standing {
+                known: false,
+                living: 0,
+                weight: 0,
+            },
         }
     }
 
-    /// Whether an identifier would be one too many.
-    fn is_full_for(&self, id: ShardId) -> bool
-        ensures { IsTrue result ↔ ((lookup (id_number id) (index_of self.now) ≡ None) × (self.now.limit ≤ names (index_of self.now))) }
+    /// Whether the newest entries would weigh more than they may with one of so many chunks in place of what an identifier has. Searches for
+    /// the identifier, and asks for no memory.
+    pub fn is_full_for(&self, id: ShardId, chunks: usize) -> bool
+        requires { chunks ≤ 8 }
+        ensures { IsTrue result ↔ (self.now.limit < weight_with (weigh_in self.now.format) (index_of self.now) (id_number id) chunks) }
     {
-        !self.is_known(id) && self.limit <= self.named
-    }
-
-    /// Whether an identifier has an entry, and 1 where it has locators, else 0.
-    fn standing(&self, id: ShardId) -> (bool, usize)
-        ensures known { MatchBool result.0 (lookup (id_number id) (index_of self.now) ≢ None) (lookup (id_number id) (index_of self.now) ≡ None) }
-        ensures lives { result.1 ≡ one_if_some (live_at (index_of self.now) (id_number id)) }
-    {
-        match self.lookup(id) {
-            Some(locators) => (true, one_if_living(locators)),
-            None => (false, 0),
-        }
+        let before = self.standing(id);
+        let now = entry_weight(self.format, chunks);
+        self.limit < sum_after(self.weight, before.weight, now)
     }
 
     /// Gives an identifier other locators in the table.
     pub(crate) fn enter(&mut self, id: ShardId, locators: Places) -> Result<(), AllocError>
         requires short { length locators.items ≤ 8 }
         requires marks { KeepFormat self.old.format locators.items }
-        requires limit { lookup (id_number id) (index_of self.old) ≡ None → names (index_of self.old) < self.old.limit }
+        requires limit { weight_with (weigh_in self.old.format) (index_of self.old) (id_number id) (length locators.items) ≤ self.old.limit }
         ensures entered { OnOk result (IsSet self.old (id_number id) (map place_of locators.items) self.new) }
         ensures room { self.old.room ≤ self.new.room + 1 }
         ensures memory { 0 < self.old.room → IsOk result }
         ensures err { OnErr result (self.new ≡ self.old) }
     {
-        let standing = self.standing(id);
-        let lives = one_if_living(locators.as_slice());
+        let before = self.standing(id);
+        let living = one_if_living(locators.as_slice());
+        let weight = entry_weight(self.format, locators.as_slice().len());
         let cleared = still_cleared(self.cleared, id, locators.as_slice());
         self.table.entries.reserve(1)?;
         recount(
@@ -256,8 +280,9 @@ impl Index {
             Ok(left) => {
                 self.room = left;
                 self.cleared = cleared;
-                self.named = count_after(self.named, standing.0);
-                self.living = living_after(self.living, standing.1, lives);
+                self.named = count_after(self.named, before.known);
+                self.living = sum_after(self.living, before.living, living);
+                self.weight = sum_after(self.weight, before.weight, weight);
                 Ok(())
             }
             Err(_) => unreachable!(),
@@ -266,19 +291,19 @@ impl Index {
 
     /// Gives an identifier these locators, whatever it had before.
     ///
-    /// 32 `IndexFull` where it has no entry and as many have one as may, then 9 `OutOfMemory`, only where `reserve` left no room and memory
-    /// is refused. Costs a search of the table and of each run.
+    /// 32 `IndexFull` where the newest entries would weigh more than they may with these in place of those, then 9 `OutOfMemory`, only where
+    /// `reserve` left no room and memory is refused. Costs a search of the table and of each run.
     pub fn set(&mut self, id: ShardId, locators: Places) -> Result<(), Refusal>
         requires some { (1 ≤ length locators.items) × (length locators.items ≤ 8) }
         requires marks { KeepFormat self.old.format locators.items }
         ensures entered { OnOk result (IsSet self.old (id_number id) (map place_of locators.items) self.new) }
-        ensures full { (result ≡ Err Refusal.IndexFull) ↔ ((lookup (id_number id) (index_of self.old) ≡ None) × (self.old.limit ≤ names (index_of self.old))) }
+        ensures full { (result ≡ Err Refusal.IndexFull) ↔ (self.old.limit < weight_with (weigh_in self.old.format) (index_of self.old) (id_number id) (length locators.items)) }
         ensures refusals { IfErr result (λ r. (r ≡ Refusal.IndexFull) ⊎ (r ≡ Refusal.OutOfMemory)) }
         ensures refused { OnErr result (self.new ≡ self.old) }
         ensures memory { 0 < self.old.room → ¬ (result ≡ Err Refusal.OutOfMemory) }
         ensures room { self.old.room ≤ self.new.room + 1 }
     {
-        if self.is_full_for(id) {
+        if self.is_full_for(id, locators.as_slice().len()) {
             return Err(Refusal::IndexFull);
         }
         match self.enter(id, locators) {
@@ -307,6 +332,8 @@ impl Index {
         ensures memory { 0 < self.old.room → IsOk result }
         ensures room { self.old.room ≤ self.new.room + 1 }
     {
+        // Called for its contract alone: what an index keeps.
+        self.run_count();
         if !self.is_live(id) {
             return Ok(false);
         }
@@ -324,8 +351,8 @@ impl Index {
         }
     }
 
-    /// Gives an identifier the new locators where it has the old ones, and tells whether it had. Where it has others, and
-    /// where memory is refused, nothing changes.
+    /// Gives an identifier the new locators, no more than the old ones, where it has those, and tells whether it had. Where it has others,
+    /// and where memory is refused, nothing changes.
     pub fn replace_if(
         &mut self,
         id: ShardId,
@@ -333,6 +360,7 @@ impl Index {
         new: Places,
     ) -> Result<bool, AllocError>
         requires some { (1 ≤ length new.items) × (length new.items ≤ 8) }
+        requires no_more { length new.items ≤ length old.now }
         requires marks { KeepFormat self.old.format new.items }
         ensures answer { IfOk result (λ replaced. IsTrue replaced ↔ (lookup (id_number id) (index_of self.old) ≡ Some (map place_of old.now))) }
         ensures entered { result ≡ Ok true → IsSet self.old (id_number id) (map place_of new.items) self.new }
@@ -341,6 +369,8 @@ impl Index {
         ensures memory { 0 < self.old.room → IsOk result }
         ensures room { self.old.room ≤ self.new.room + 1 }
     {
+        // Called for its contract alone: what an index keeps.
+        self.run_count();
         if !self.has(id, old) {
             return Ok(false);
         }

@@ -3,6 +3,7 @@ ghost use Rattle.std.specs.Prelude.{◌≡◌, ◌≢◌, ◌⊎◌, ◌↔◌, 
 ghost use Rattle.std.specs.List.{AllByRecursion};
 ghost use Rattle.cs_extent.specs.State.{extents_of, shape};
 ghost use Rattle.cs_model.specs.Extents.{ForMerge, ForRun, GoesApart, IsFirst, IsFirstEmpty, Takes};
+ghost use Rattle.cs_model.specs.Index.{run_weight};
 ghost use Rattle.cs_index.specs.Staged.{run_frame};
 ghost use Rattle.cs_index.specs.State.{IsShort, named_entry};
 
@@ -82,7 +83,7 @@ fn merge_place(extents: &Extents, pages: usize) -> Option<usize>
 /// Whether a run needs no place, as it has no entry, or some extent takes its frame.
 pub fn run_goes(extents: &Extents, run: &Run) -> bool
     requires short { AllByRecursion IsShort (map named_entry run.now.entries.items) }
-    requires most { length run.now.entries.items ≤ (shape extents.now).most_names }
+    requires weight { run_weight (shape extents.now).weigh (map named_entry run.now.entries.items) ≤ (shape extents.now).most_weight }
     ensures { MatchBool result
         ((map named_entry run.now.entries.items ≡ []) ⊎ ((e : ℕ) × GoesApart (shape extents.now) (extents_of extents.now) ForRun (length (run_frame extents.now (map named_entry run.now.entries.items))) e))
         ((map named_entry run.now.entries.items ≢ []) × ((e : ℕ) → ¬ GoesApart (shape extents.now) (extents_of extents.now) ForRun (length (run_frame extents.now (map named_entry run.now.entries.items))) e)) }
@@ -96,7 +97,7 @@ pub fn run_goes(extents: &Extents, run: &Run) -> bool
 /// The same of one run of all.
 pub fn merge_goes(extents: &Extents, run: &Run) -> bool
     requires short { AllByRecursion IsShort (map named_entry run.now.entries.items) }
-    requires most { length run.now.entries.items ≤ (shape extents.now).most_names }
+    requires weight { run_weight (shape extents.now).weigh (map named_entry run.now.entries.items) ≤ (shape extents.now).most_weight }
     ensures { MatchBool result
         ((map named_entry run.now.entries.items ≡ []) ⊎ ((e : ℕ) × GoesApart (shape extents.now) (extents_of extents.now) ForMerge (length (run_frame extents.now (map named_entry run.now.entries.items))) e))
         ((map named_entry run.now.entries.items ≢ []) × ((e : ℕ) → ¬ GoesApart (shape extents.now) (extents_of extents.now) ForMerge (length (run_frame extents.now (map named_entry run.now.entries.items))) e)) }

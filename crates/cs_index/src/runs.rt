@@ -1,10 +1,10 @@
 //! Runs of the index.
-ghost use Rattle.std.specs.Prelude.{◌≡◌, ◌+◌, ◌<◌, ◌≤◌, ◌^◌, ◌++◌, ◌||◌, false, if◌then◌else◌, is_some, length, map, option_copied, option_map};
+ghost use Rattle.std.specs.Prelude.{◌≡◌, ◌+◌, ◌<◌, ◌^◌, ◌||◌, false, if◌then◌else◌, map, option_copied, option_map};
 ghost use Rattle.std.specs.List.{AllByRecursion};
 ghost use Rattle.cs_model.specs.Apart.{any_run_on};
-ghost use Rattle.cs_model.specs.Index.{Ascending, entries_of, lookup, names};
+ghost use Rattle.cs_model.specs.Index.{entries_of, lookup};
 ghost use Rattle.cs_frame.specs.Formats.{place_of};
-ghost use Rattle.cs_index.specs.State.{IsId, IsStored, id_number, named_entry, newest_first};
+ghost use Rattle.cs_index.specs.State.{IsId, IsStored, id_number, newest_first};
 
 use crate::tables::find;
 use cs_frame::{Locator, Places, ShardId};
@@ -30,48 +30,6 @@ pub fn find_in_runs(runs: &[StoredRun], id: ShardId) -> Option<&[Locator]>
         }
     }
     None
-}
-
-/// Whether a run has an entry of an identifier.
-fn is_named(runs: &[StoredRun], id: ShardId) -> bool
-    requires { AllByRecursion IsStored (newest_first runs.now) }
-    ensures { result ≡ is_some (lookup (id_number id) (entries_of (newest_first runs.now))) }
-{
-    match find_in_runs(runs, id) {
-        Some(_) => true,
-        None => false,
-    }
-}
-
-/// How many of these entries have an identifier that no older run has.
-fn count_new(entries: &[(ShardId, Places)], older: &[StoredRun]) -> usize
-    requires ascending { Ascending (map named_entry entries.now) }
-    requires older { AllByRecursion IsStored (newest_first older.now) }
-    ensures count { result + names (entries_of (newest_first older.now)) ≡ names (map named_entry entries.now ++ entries_of (newest_first older.now)) }
-    ensures few { result ≤ length entries.now }
-{
-    let mut count: usize = 0;
-    for entry in entries {
-        if !is_named(older, entry.0) {
-            count += 1;
-        }
-    }
-    count
-}
-
-/// How many identifiers the runs name.
-pub fn count_names(runs: &[StoredRun]) -> usize
-    requires stored { AllByRecursion IsStored (newest_first runs.now) }
-    requires few { length runs.now ≤ 24 }
-    requires short { AllByRecursion (λ run. length run.entries.items < 2 ^ 32) runs.now }
-    ensures { result ≡ names (entries_of (newest_first runs.now)) }
-{
-    let mut count: usize = 0;
-    for k in 0..runs.len() {
-        let run = &runs[k];
-        count += count_new(&run.entries, &runs[..k]);
-    }
-    count
 }
 
 /// How many identifiers have an entry once this one got one, which had one already or not.

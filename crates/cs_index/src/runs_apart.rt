@@ -13,6 +13,7 @@ ghost use Rattle.cs_frame.specs.Roots.{greatest_runs};
 ghost use Rattle.cs_frame.specs.Runs.{IsRun};
 ghost use Rattle.cs_model.specs.Extents.{GoesApart};
 ghost use Rattle.cs_model.specs.Geometry.{pages_first_in};
+ghost use Rattle.cs_model.specs.Index.{run_weight};
 ghost use Rattle.cs_index.specs.Staged.{IsExact, IsRootOver, IsRootWorn, IsRunStagedBy, run_frame};
 ghost use Rattle.cs_index.specs.State.{named_entry, newest_first};
 
@@ -48,7 +49,7 @@ fn prepare_apart(
     older: &[StoredRun],
 ) -> Result<(Vec<[u8; 4096]>, Vec<Locator>), Refusal>
     requires run { IsRun extents.now.format run.now }
-    requires most { length run.now.entries.items ≤ (shape extents.now).most_names }
+    requires weight { run_weight (shape extents.now).weigh (map named_entry run.now.entries.items) ≤ (shape extents.now).most_weight }
     requires few { length older.now ≤ 24 }
     requires families { root_family < length graph.old.staging.latest }
     ensures frame { IfOk result (λ made. made.0.items ≡ run_frame extents.now (map named_entry run.now.entries.items)) }
@@ -124,7 +125,7 @@ pub fn stage_run_apart(
     purpose: Purpose,
 ) -> Result<(Locator, u64), Refusal>
     requires run { IsRun extents.old.format run.now }
-    requires most { length run.now.entries.items ≤ (shape extents.old).most_names }
+    requires weight { run_weight (shape extents.old).weigh (map named_entry run.now.entries.items) ≤ (shape extents.old).most_weight }
     requires few { length older.now < greatest_runs extents.old.format }
     requires marks { KeepFormat extents.old.format (map (λ run. run.place) older.now) }
     requires placed { (e : ℕ) × GoesApart (shape extents.old) (extents_of extents.old) (reason_of purpose) (length (run_frame extents.old (map named_entry run.now.entries.items))) e }

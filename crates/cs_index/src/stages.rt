@@ -9,9 +9,10 @@ ghost use Rattle.cs_frame.specs.Roots.{greatest_runs};
 ghost use Rattle.cs_model.specs.Device.{Shape};
 ghost use Rattle.cs_model.specs.Element.{Locator as Place};
 ghost use Rattle.cs_model.specs.Extents.{ForRun, NoPlace};
-ghost use Rattle.cs_model.specs.Geometry.{by_size_in};
-ghost use Rattle.cs_model.specs.Index.{live_at, lookup};
+ghost use Rattle.cs_model.specs.Geometry.{by_size_in, weigh_in};
+ghost use Rattle.cs_model.specs.Index.{live_at, lookup, named_weight, run_weight};
 ghost use Rattle.cs_model.specs.Merges.{IsRunOf};
+ghost use Rattle.cs_model.specs.Tally.{dead_weight, living_weight};
 ghost use Rattle.cs_index.specs.Merges.{deletions_go, part, reached, stage_takes};
 ghost use Rattle.cs_index.specs.Staged.{IsExact, IsFull, IsMergeStaged, IsNewestStaged, IsPartStaged, IsRootWorn, IsRunStaged, IsStageWorn, WritesMerged, WritesPart, WritesRun, run_frame};
 ghost use Rattle.cs_index.specs.State.{IsId, IsShort, index_of, named_entry};
@@ -24,7 +25,7 @@ use crate::runs::StoredRun;
 use crate::stagings::{run_fits, stage_empty, stage_run};
 use cs_deps::{Graph, Refusal};
 use cs_extent::{Extents, Purpose};
-use cs_frame::Run;
+use cs_frame::{Run, entry_weight};
 use std::alloc::{AllocError, Global};
 use std::mem::replace;
 
@@ -36,14 +37,34 @@ pub struct Portion {
 }
 
 impl Index {
-    /// How many of the newest runs a Stage merges by size, where a root may have so many runs: all of them where at least a quarter of as many
-    /// identifiers as may be named are named and don't live.
-    fn newest_by_size(&self, most: usize) -> usize
-        requires { self.now.limit < 2 ^ 32 }
-        ensures { (S : Shape) → S.most_names ≡ self.now.limit → S.most_runs ≡ most → result ≡ reached S self.now }
+    /// What the deletions weigh among the newest entries.
+    fn dead_weight(&self) -> usize
+        ensures value { result ≡ dead_weight (weigh_in self.now.format) (index_of self.now) }
+        ensures limit { result ≤ self.now.limit }
     {
         let dead = self.named - self.living;
-        let fourfold = 4 * dead;
+        dead * entry_weight(self.format, 0)
+    }
+
+    /// What the newest entries weigh once a run took the place of others: where it is without deletions it is the only one, and they weigh
+    /// nothing more, and else as much as before.
+    pub(crate) fn weight_after(&self, without_deletions: bool) -> usize
+        ensures { result ≡ (if without_deletions then living_weight (weigh_in self.now.format) (index_of self.now) else named_weight (weigh_in self.now.format) (index_of self.now)) }
+    {
+        if without_deletions {
+            self.weight - self.dead_weight()
+        } else {
+            self.weight
+        }
+    }
+
+    /// How many of the newest runs a Stage merges by size, where a root may have so many runs: all of them where the deletions weigh at least
+    /// a quarter of what the newest entries may weigh.
+    fn newest_by_size(&self, most: usize) -> usize
+        requires { self.now.limit < 2 ^ 32 }
+        ensures { (S : Shape) → S.weigh ≡ weigh_in self.now.format → S.most_weight ≡ self.now.limit → S.most_runs ≡ most → result ≡ reached S self.now }
+    {
+        let fourfold = 4 * self.dead_weight();
         if self.limit <= fourfold {
             return self.runs.len();
         }
@@ -53,7 +74,7 @@ impl Index {
     /// How many of the newest runs a Stage merges in a store of this format.
     fn newest_to_merge(&self, format: u8) -> usize
         requires { self.now.limit < 2 ^ 32 }
-        ensures { (S : Shape) → S.by_size ≡ by_size_in format → S.most_names ≡ self.now.limit → S.most_runs ≡ (if nat_le format 2 then 4 else 24) → result ≡ stage_takes S self.now }
+        ensures { (S : Shape) → S.by_size ≡ by_size_in format → S.weigh ≡ weigh_in self.now.format → S.most_weight ≡ self.now.limit → S.most_runs ≡ (if nat_le format 2 then 4 else 24) → result ≡ stage_takes S self.now }
     {
         if merges_by_size(format) {
             return self.newest_by_size(most_runs(format));
@@ -64,7 +85,8 @@ impl Index {
 
     /// What a Stage merges.
     pub(crate) fn newest_portion(&self, extents: &Extents) -> Portion
-        requires { self.now.limit ≡ (shape extents.now).most_names }
+        requires format { self.now.format ≡ (shape extents.now).format }
+        requires limit { self.now.limit ≡ (shape extents.now).most_weight }
         ensures newest { result.newest ≡ stage_takes (shape extents.now) self.now }
         ensures deletions { result.without_deletions ≡ deletions_go (shape extents.now) self.now result.newest }
         ensures inside { result.newest ≤ length self.now.runs }
@@ -94,7 +116,7 @@ impl Index {
         commands: u64,
     ) -> Result<Option<u64>, Refusal>
         requires format { self.old.format ≡ (shape extents.old).format }
-        requires limit { self.old.limit ≡ (shape extents.old).most_names }
+        requires limit { self.old.limit ≡ (shape extents.old).most_weight }
         requires families { length graph.old.staging.latest ≡ 1 + (shape extents.old).sections }
         requires resets { AreResetsStaged (extents_of extents.old) graph.old.staging }
         requires commands { commands < 2 ^ 63 }
@@ -140,7 +162,7 @@ impl Index {
         requires left { length (drop portion.newest self.old.runs) < greatest_runs extents.old.format }
         requires alone { portion.without_deletions ≡ true → drop portion.newest self.old.runs ≡ [] }
         requires format { self.old.format ≡ (shape extents.old).format }
-        requires limit { self.old.limit ≡ (shape extents.old).most_names }
+        requires limit { self.old.limit ≡ (shape extents.old).most_weight }
         requires families { length graph.old.staging.latest ≡ 1 + (shape extents.old).sections }
         requires resets { AreResetsStaged (extents_of extents.old) graph.old.staging }
         requires commands { commands < 2 ^ 63 }
@@ -169,7 +191,7 @@ impl Index {
         requires some { self.old.table ≢ [] }
         requires few { length self.old.runs < greatest_runs extents.old.format }
         requires format { self.old.format ≡ (shape extents.old).format }
-        requires limit { self.old.limit ≡ (shape extents.old).most_names }
+        requires limit { self.old.limit ≡ (shape extents.old).most_weight }
         requires families { length graph.old.staging.latest ≡ 1 + (shape extents.old).sections }
         requires resets { AreResetsStaged (extents_of extents.old) graph.old.staging }
         requires commands { commands < 2 ^ 63 }
@@ -217,7 +239,7 @@ impl Index {
         purpose: Purpose,
     ) -> Result<u64, Refusal>
         requires format { self.old.format ≡ (shape extents.old).format }
-        requires limit { self.old.limit ≡ (shape extents.old).most_names }
+        requires limit { self.old.limit ≡ (shape extents.old).most_weight }
         requires families { length graph.old.staging.latest ≡ 1 + (shape extents.old).sections }
         requires resets { AreResetsStaged (extents_of extents.old) graph.old.staging }
         requires commands { commands < 2 ^ 63 }
@@ -257,7 +279,7 @@ impl Index {
         requires left { length (drop portion.newest self.old.runs) < greatest_runs extents.old.format }
         requires alone { portion.without_deletions ≡ true → drop portion.newest self.old.runs ≡ [] }
         requires format { self.old.format ≡ (shape extents.old).format }
-        requires limit { self.old.limit ≡ (shape extents.old).most_names }
+        requires limit { self.old.limit ≡ (shape extents.old).most_weight }
         requires families { length graph.old.staging.latest ≡ 1 + (shape extents.old).sections }
         requires resets { AreResetsStaged (extents_of extents.old) graph.old.staging }
         requires commands { commands < 2 ^ 63 }
@@ -292,7 +314,7 @@ impl Index {
         ensures merged { IfOk result (λ run. IsRunOf portion.without_deletions (part self.now portion.newest) (map named_entry run.entries.items)) }
         ensures ids { IfOk result (λ run. AllByRecursion (λ entry. IsId entry.0) run.entries.items) }
         ensures short { IfOk result (λ run. AllByRecursion IsShort (map named_entry run.entries.items)) }
-        ensures few { IfOk result (λ run. length run.entries.items ≤ self.now.limit) }
+        ensures weight { IfOk result (λ run. run_weight (weigh_in self.now.format) (map named_entry run.entries.items) ≤ self.now.limit) }
     {
         let left = self.runs.len() - portion.newest;
         merged_part(
@@ -306,7 +328,8 @@ impl Index {
     /// Whether an extent would take the run that `stage_merged` writes for this purpose, true also where it writes none.
     /// Takes memory for all that is live, and time for all entries.
     pub fn merged_fits(&self, extents: &Extents, purpose: Purpose) -> Result<bool, AllocError>
-        requires limit { self.now.limit ≡ (shape extents.now).most_names }
+        requires format { self.now.format ≡ (shape extents.now).format }
+        requires limit { self.now.limit ≡ (shape extents.now).most_weight }
         ensures { IfOk result (λ fits. MatchBool fits (IsFull (WritesMerged self.now) extents.now (reason_of purpose) → ⊥) (IsFull (WritesMerged self.now) extents.now (reason_of purpose))) }
     {
         let alloc = *self.table.entries.allocator();
@@ -340,9 +363,9 @@ impl Index {
         requires some { map named_entry run.entries.items ≢ [] }
         requires short { AllByRecursion IsShort (map named_entry run.entries.items) }
         requires ids { AllByRecursion (λ entry. IsId entry.0) run.entries.items }
-        requires few { length run.entries.items ≤ self.old.limit }
+        requires weight { run_weight (weigh_in self.old.format) (map named_entry run.entries.items) ≤ self.old.limit }
         requires format { self.old.format ≡ (shape extents.old).format }
-        requires limit { self.old.limit ≡ (shape extents.old).most_names }
+        requires limit { self.old.limit ≡ (shape extents.old).most_weight }
         requires families { length graph.old.staging.latest ≡ 1 + (shape extents.old).sections }
         requires resets { AreResetsStaged (extents_of extents.old) graph.old.staging }
         requires commands { commands < 2 ^ 63 }
@@ -357,6 +380,7 @@ impl Index {
         ensures unwritten { OnErr result (extents.new ≡ extents.old) }
         ensures unstaged { OnErr result (graph.new ≡ record graph.old { room = graph.new.room }) }
     {
+        let weight = self.weight_after(portion.without_deletions);
         let _extents = extents.extent_count();
         let left = self.runs.len() - portion.newest;
         let named = named_after(self.named, &run, portion.without_deletions);
@@ -380,6 +404,7 @@ impl Index {
                     entries: Vec::new(alloc),
                 };
                 self.named = named;
+                self.weight = weight;
                 self.room = 0;
                 self.cleared = NONE_KNOWN;
                 Ok(version)
@@ -399,6 +424,7 @@ impl Index {
         self.runs = Vec::new(alloc);
         self.named = 0;
         self.living = 0;
+        self.weight = 0;
         self.room = 0;
         self.cleared = NONE_KNOWN;
     }

@@ -15,6 +15,7 @@ ghost use Rattle.cs_frame.specs.Roots.{greatest_runs};
 ghost use Rattle.cs_frame.specs.Runs.{IsRun, entries_of};
 ghost use Rattle.cs_model.specs.Extents.{NoPlace, Placed};
 ghost use Rattle.cs_model.specs.Geometry.{pages_first_in};
+ghost use Rattle.cs_model.specs.Index.{run_weight};
 ghost use Rattle.cs_index.specs.Staged.{IsExact, IsRootOver, IsRootWorn, IsRunStaged, IsWhy, run_frame};
 ghost use Rattle.cs_frame.specs.Formats.{place_of};
 ghost use Rattle.cs_index.specs.State.{IsShort, named_entry, newest_first};
@@ -107,7 +108,7 @@ fn has_place(extents: &Extents, pages: usize, purpose: Purpose) -> bool
 /// How many pages the frame of a run has.
 pub fn run_pages(extents: &Extents, run: &Run) -> usize
     requires short { AllByRecursion IsShort (map named_entry run.now.entries.items) }
-    requires most { length run.now.entries.items ≤ (shape extents.now).most_names }
+    requires weight { run_weight (shape extents.now).weigh (map named_entry run.now.entries.items) ≤ (shape extents.now).most_weight }
     ensures count { result ≡ length (run_frame extents.now (map named_entry run.now.entries.items)) }
     ensures fits { (1 ≤ result) × (result ≤ (shape extents.now).pages) }
 {
@@ -118,7 +119,7 @@ pub fn run_pages(extents: &Extents, run: &Run) -> usize
 pub fn run_fits(extents: &Extents, run: &Run, purpose: Purpose) -> bool
     requires some { 1 ≤ length run.now.entries.items }
     requires short { AllByRecursion IsShort (map named_entry run.now.entries.items) }
-    requires most { length run.now.entries.items ≤ (shape extents.now).most_names }
+    requires weight { run_weight (shape extents.now).weigh (map named_entry run.now.entries.items) ≤ (shape extents.now).most_weight }
     ensures { MatchBool result ((e : ℕ) × Placed (shape extents.now) (extents_of extents.now) (reason_of purpose) (length (run_frame extents.now (map named_entry run.now.entries.items))) e) (NoPlace (shape extents.now) (extents_of extents.now) (reason_of purpose) (length (run_frame extents.now (map named_entry run.now.entries.items)))) }
 {
     has_place(extents, run_pages(extents, run), purpose)
@@ -137,7 +138,7 @@ fn prepare(
     purpose: Purpose,
 ) -> Result<(Vec<[u8; 4096]>, Vec<Locator>), Refusal>
     requires run { IsRun extents.now.format run.now }
-    requires most { length run.now.entries.items ≤ (shape extents.now).most_names }
+    requires weight { run_weight (shape extents.now).weigh (map named_entry run.now.entries.items) ≤ (shape extents.now).most_weight }
     requires few { length older.now < greatest_runs extents.now.format }
     requires families { root_family < length graph.old.staging.latest }
     ensures frame { IfOk result (λ made. made.0.items ≡ run_frame extents.now (map named_entry run.now.entries.items)) }
@@ -219,7 +220,7 @@ pub fn stage_run(
     purpose: Purpose,
 ) -> Result<(Locator, u64), Refusal>
     requires run { IsRun extents.old.format run.now }
-    requires most { length run.now.entries.items ≤ (shape extents.old).most_names }
+    requires weight { run_weight (shape extents.old).weigh (map named_entry run.now.entries.items) ≤ (shape extents.old).most_weight }
     requires few { length older.now < greatest_runs extents.old.format }
     requires marks { KeepFormat extents.old.format (map (λ run. run.place) older.now) }
     requires families { length graph.old.staging.latest ≡ 1 + (shape extents.old).sections }

@@ -23,7 +23,8 @@ use Rattle.cs_reclaim.proofs.Living.{has_entry}
 module _ (s : State) (x y : ExtentsState) (g h : GraphState) (copies after : List Copy) (e : ℕ) (live : LiveChunk) (Reads : Locator → List ℕ → Type 0) (first : FirstUncopied (index_of s) copies e (id_number live.id) live.chunk (place_of live.place)) where
   abbrev Found : Type 0
   Found = (payload : List ℕ) × (to : Locator) × IsAppendedBy true x g ForMove (chunk_frame x payload) to y h
-      × (after ≡ record { id = id_number live.id; chunk = live.chunk; from = place_of live.place; to = place_of to } ∷ copies) × Reads live.place payload
+      × (after ≡ record { id = id_number live.id; chunk = live.chunk; from = place_of live.place; to = place_of to } ∷ copies) × (to.mark ≡ live.place.mark)
+      × Reads live.place payload
 
   abbrev Made : ShardId × ℕ → Type 0
   Made p = (payload : List ℕ) × (copy : IsCopyMade s x g copies e (id_number p.0) p.1 payload after y h) × Reads (as_locator copy.from) payload
@@ -31,8 +32,8 @@ module _ (s : State) (x y : ExtentsState) (g h : GraphState) (copies after : Lis
   pub copy_made : Found → (id : ShardId) (chunk : ℕ) → ◌≡◌ {A = ShardId × ℕ} (live.id, live.chunk) (id, chunk) → Made (id, chunk)
   copy_made found id chunk is = subst Made is (
     found.0,
-    record { from = place_of live.place; to = found.1; first = first; appended = found.2; noted = found.3 },
-    found.4,
+    record { from = place_of live.place; to = found.1; first = first; appended = found.2; mark = found.4; noted = found.3 },
+    found.5,
   )
 
 there_and_back : (ls : List Place) → map place_of (map as_locator ls) ≡ ls

@@ -1,15 +1,16 @@
 -- A chunk that is moved, and why it isn't.
-use Rattle.std.proofs.Common.{◌≡◌, ◌⊎◌, ◌↔◌, refl, sym, inl, inr, ⊎_elim, ℕ, ◌+◌, ◌^◌, ◌<◌, ◌≤◌, Bool, List, Option, None, Some, Result, Ok, Err, IfErr, IfOk, OnOk, length, ap, subst, arith}
+use Rattle.std.proofs.Common.{◌≡◌, ◌∙◌, ◌⊎◌, ◌↔◌, refl, sym, inl, inr, ⊎_elim, ℕ, ◌+◌, ◌^◌, ◌<◌, ◌≤◌, Bool, List, Option, None, Some, Result, Ok, Err, IfErr, IfOk, OnOk, length, ap, eqb-true, subst, arith}
 use Rattle.std.proofs.lemmas.Option.{same_Some}
 use Rattle.cs_chunk.proofs.Chunkings.{length-spelled}
+use Rattle.cs_chunk.specs.Chunks.{IsMeant}
 use Rattle.cs_chunk.specs.Reads.{IsCaused, IsReadRefusal}
 use Rattle.cs_deps.specs.declared.refusals.Refusal.{Refusal}
 use Rattle.cs_deps.specs.declared.refusals.Refusal.TheVariants.{DeviceFault, Full, Misplaced, OutOfMemory, WornOut}
 use Rattle.cs_deps.specs.Refusals.{number_of}
 use Rattle.cs_deps.specs.Staging.{Staging}
 use Rattle.cs_deps.specs.State.{State as GraphState}
-use Rattle.cs_extent.specs.Appended.{IsAppended}
-use Rattle.cs_extent.specs.State.{State as ExtentsState}
+use Rattle.cs_extent.specs.Appended.{IsAppended, IsAppendedBy}
+use Rattle.cs_extent.specs.State.{State as ExtentsState, shape}
 use Rattle.cs_extent.specs.Worn.{IsFrameWornBy}
 use Rattle.cs_frame.specs.declared.faults.FormatFault.{FormatFault}
 use Rattle.cs_frame.specs.declared.identifiers.ShardId.{ShardId}
@@ -18,8 +19,10 @@ use Rattle.cs_frame.specs.Formats.{as_locator, place_of}
 use Rattle.cs_frame.specs.Frames.{spelled_frame}
 use Rattle.cs_index.specs.Staged.{IsExact, IsWhy}
 use Rattle.cs_index.specs.State.{IsSet, State, id_number, index_of}
+use Rattle.cs_model.specs.Device.{mark_of}
 use Rattle.cs_model.specs.Element.{Entry}
 use Rattle.cs_model.specs.Extents.{ForMove}
+use Rattle.cs_model.specs.Formats.{ChunkFrame}
 use Rattle.cs_model.specs.Index.{FirstLive, live_at}
 use Rattle.cs_model.specs.Lists.{replaced}
 use Rattle.cs_index.specs.declared.live.LiveChunk.{LiveChunk}
@@ -32,6 +35,12 @@ small_payload page pages payload few le = omega (arith, few, le, length-spelled 
 pub on_ok : {T E : Type 0} (r : Result T E) (A B : Type 0) → (A → B) → OnOk r A → OnOk r B
 on_ok (Ok t) A B to a = to a
 on_ok (Err e) A B to a = tt
+
+-- what was read is meant, and so the frame that is appended of it has the mark of where it was read
+pub same_mark_there : (apart : Bool) (x y : ExtentsState) (g h : GraphState) (payload : List ℕ) (from to : Locator) (frame : List (List ℕ)) → frame ≡ chunk_frame x payload
+    → IsMeant (shape x) ChunkFrame from payload → IsAppendedBy apart x g ForMove frame to y h → to.mark ≡ from.mark
+same_mark_there apart x y g h payload from to frame is meant appended =
+    ap (λ (l : Locator). l.mark) appended.place ∙ ap (mark_of (shape x)) is ∙ eqb-true (mark_of (shape x) (chunk_frame x payload)) from.mark meant
 
 -- ---- where a frame goes
 
@@ -92,7 +101,8 @@ not_none a is = absurd (let wrong : Some a ≡ None = ap answer_of is in cc)
 module _ (s t : State) (x y : ExtentsState) (g h : GraphState) (e : ℕ) (live : LiveChunk) (Reads : Locator → List ℕ → Type 0) (first : FirstLive (index_of s) e (id_number live.id) live.chunk (place_of live.place)) where
   abbrev Found : Type 0
   Found = (payload : List ℕ) × (to : Locator) × IsAppended x g ForMove (chunk_frame x payload) to y h
-      × IsSet s (id_number live.id) (replaced (live_at (index_of s) (id_number live.id)) live.chunk (place_of to)) t × Reads live.place payload
+      × IsSet s (id_number live.id) (replaced (live_at (index_of s) (id_number live.id)) live.chunk (place_of to)) t × (to.mark ≡ live.place.mark)
+      × Reads live.place payload
 
   abbrev Made : ShardId × ℕ → Type 0
   Made p = (payload : List ℕ) × (move : IsMoved s x g e (id_number p.0) p.1 payload t y h) × Reads (as_locator move.from) payload
@@ -100,8 +110,8 @@ module _ (s t : State) (x y : ExtentsState) (g h : GraphState) (e : ℕ) (live :
   pub move_made : Found → (id : ShardId) (chunk : ℕ) → ◌≡◌ {A = ShardId × ℕ} (live.id, live.chunk) (id, chunk) → Made (id, chunk)
   move_made found id chunk is = subst Made is (
     found.0,
-    record { from = place_of live.place; to = found.1; first = first; appended = found.2; entry = found.3 },
-    found.4,
+    record { from = place_of live.place; to = found.1; first = first; appended = found.2; mark = found.4; entry = found.3 },
+    found.5,
   )
 
 -- what is done is no refusal of the device

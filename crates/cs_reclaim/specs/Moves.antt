@@ -23,13 +23,14 @@ use Rattle.cs_model.specs.Lists.{replaced}
 abbrev pub chunk_frame : ExtentsState → (payload : List ℕ) → List (List ℕ)
 chunk_frame x payload = (formats_of (shape x)).frame ChunkFrame payload
 
--- The first live chunk on an extent was moved: a frame of this payload was appended, the shard has that chunk there and
--- its other chunks where they were, and each other shard has what it had.
+-- The first live chunk on an extent was moved: a frame of this payload was appended, the shard has that chunk there, of the mark
+-- that it had, and its other chunks where they were, and each other shard has what it had.
 pub record IsMoved (s : State) (x : ExtentsState) (g : GraphState) (e id chunk : ℕ) (payload : List ℕ) (t : State) (y : ExtentsState) (h : GraphState) : Type 0 where
   pub from : Place
   pub to : Locator
   pub first : FirstLive (index_of s) e id chunk from
   pub appended : IsAppended x g ForMove (chunk_frame x payload) to y h
+  pub mark : to.mark ≡ from.mark
   pub entry : IsSet s id (replaced (live_at (index_of s) id) chunk (place_of to)) t
 
 -- Something was moved, and the frame has no fault; or the refusal is that of its fault; or there is none, and no place or

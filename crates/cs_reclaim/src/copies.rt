@@ -209,6 +209,7 @@ impl Copies {
         requires resets { AreResetsStaged (extents_of extents.old) graph.old.staging }
         ensures copied { OnOk result ((payload : List ℕ) × (to : Spot) × IsAppendedBy true extents.old graph.old ForMove (chunk_frame extents.old payload) to extents.new graph.new
             × (self.new ≡ record { id = id_number live.now.id; chunk = live.now.chunk; from = place_of live.now.place; to = place_of to } ∷ self.old)
+            × (to.mark ≡ live.now.place.mark)
             × (D.honest disk.old → (view : ℕ → List ℕ) → AreNewest graph.old (seen (D.state disk.old)) view → IsFrameIn extents.old view ChunkFrame live.now.place payload)) }
         ensures damaged { D.honest disk.old → (view : ℕ → List ℕ) → AreNewest graph.old (seen (D.state disk.old)) view → AnswersMove (fault_in extents.old view Chunk live.now.place) result }
         ensures why { D.honest disk.old → (view : ℕ → List ℕ) (payload : List ℕ) → AreNewest graph.old (seen (D.state disk.old)) view

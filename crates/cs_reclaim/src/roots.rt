@@ -34,7 +34,7 @@ impl Copies {
         commands: u64,
     ) -> Result<Option<u64>, Refusal>
         requires format { index.old.format ≡ (shape extents.old).format }
-        requires limit { index.old.limit ≡ (shape extents.old).most_names }
+        requires limit { index.old.limit ≡ (shape extents.old).most_weight }
         requires runs { length index.old.runs ≤ (shape extents.old).most_runs }
         requires families { length graph.old.staging.latest ≡ 1 + (shape extents.old).sections }
         requires resets { AreResetsStaged (extents_of extents.old) graph.old.staging }
@@ -80,7 +80,7 @@ impl Copies {
         commands: u64,
     ) -> Result<u64, Refusal>
         requires format { index.old.format ≡ (shape extents.old).format }
-        requires limit { index.old.limit ≡ (shape extents.old).most_names }
+        requires limit { index.old.limit ≡ (shape extents.old).most_weight }
         requires runs { length index.old.runs ≤ (shape extents.old).most_runs }
         requires families { length graph.old.staging.latest ≡ 1 + (shape extents.old).sections }
         requires resets { AreResetsStaged (extents_of extents.old) graph.old.staging }
@@ -150,7 +150,7 @@ impl Copies {
         requires up_to { AllUpTo (index_of index.old) self.old extent }
         requires apart { (shape extents.old).apart ≡ true }
         requires format { index.old.format ≡ (shape extents.old).format }
-        requires limit { index.old.limit ≡ (shape extents.old).most_names }
+        requires limit { index.old.limit ≡ (shape extents.old).most_weight }
         requires runs { length index.old.runs ≤ (shape extents.old).most_runs }
         requires families { length graph.old.staging.latest ≡ 1 + (shape extents.old).sections }
         requires resets { AreResetsStaged (extents_of extents.old) graph.old.staging }
@@ -203,7 +203,7 @@ impl Copies {
     ) -> Result<u64, Refusal>
         requires apart { (shape extents.old).apart ≡ true }
         requires format { index.old.format ≡ (shape extents.old).format }
-        requires limit { index.old.limit ≡ (shape extents.old).most_names }
+        requires limit { index.old.limit ≡ (shape extents.old).most_weight }
         requires runs { length index.old.runs ≤ (shape extents.old).most_runs }
         requires families { length graph.old.staging.latest ≡ 1 + (shape extents.old).sections }
         requires resets { AreResetsStaged (extents_of extents.old) graph.old.staging }

@@ -165,7 +165,7 @@ impl Sweep {
     ) -> Result<u64, (Refusal, Sweep)>
         requires swept { IsSwept (shape extents.old) (extents_of extents.old) self }
         requires format { index.old.format ≡ (shape extents.old).format }
-        requires limit { index.old.limit ≡ (shape extents.old).most_names }
+        requires limit { index.old.limit ≡ (shape extents.old).most_weight }
         requires families { length graph.old.staging.latest ≡ 1 + (shape extents.old).sections }
         requires resets { AreResetsStaged (extents_of extents.old) graph.old.staging }
         requires commands { commands < 2 ^ 63 }
@@ -237,6 +237,7 @@ fn move_live<D: PageDisk>(
     requires resets { AreResetsStaged (extents_of extents.old) graph.old.staging }
     ensures moved { OnOk result ((payload : List ℕ) × (to : Spot) × IsAppended extents.old graph.old ForMove (chunk_frame extents.old payload) to extents.new graph.new
         × IsSet index.old (id_number live.now.id) (replaced (live_at (index_of index.old) (id_number live.now.id)) live.now.chunk (place_of to)) index.new
+        × (to.mark ≡ live.now.place.mark)
         × (D.honest disk.old → (view : ℕ → List ℕ) → AreNewest graph.old (seen (D.state disk.old)) view → IsFrameIn extents.old view ChunkFrame live.now.place payload)) }
     ensures damaged { D.honest disk.old → (view : ℕ → List ℕ) → AreNewest graph.old (seen (D.state disk.old)) view → AnswersMove (fault_in extents.old view Chunk live.now.place) result }
     ensures why { D.honest disk.old → (view : ℕ → List ℕ) (payload : List ℕ) → AreNewest graph.old (seen (D.state disk.old)) view
@@ -332,6 +333,7 @@ fn append_moved(
 fn point_at(index: &mut Index, id: ShardId, before: &[Locator], after: Places)
     requires before { lookup (id_number id) (index_of index.old) ≡ Some (map place_of before.now) }
     requires after { (1 ≤ length after.items) × (length after.items ≤ 8) }
+    requires no_more { length after.items ≤ length before.now }
     requires marks { KeepFormat index.old.format after.items }
     requires room { 0 < index.old.room }
     ensures { IsSet index.old (id_number id) (map place_of after.items) index.new }
@@ -378,7 +380,7 @@ fn retire_extent(
 ) -> Result<u64, Refusal>
     requires swept { IsSwept (shape extents.old) (extents_of extents.old) extent }
     requires format { index.old.format ≡ (shape extents.old).format }
-    requires limit { index.old.limit ≡ (shape extents.old).most_names }
+    requires limit { index.old.limit ≡ (shape extents.old).most_weight }
     requires families { length graph.old.staging.latest ≡ 1 + (shape extents.old).sections }
     requires resets { AreResetsStaged (extents_of extents.old) graph.old.staging }
     requires commands { commands < 2 ^ 63 }
@@ -415,7 +417,8 @@ fn retire_extent(
 
 /// Why an extent of the greatest generation isn't retired: 30 `Full` comes before 35 `WornOut`, and 9 where memory ran out.
 fn why_worn(index: &Index, extents: &Extents) -> Refusal
-    requires { index.now.limit ≡ (shape extents.now).most_names }
+    requires format { index.now.format ≡ (shape extents.now).format }
+    requires limit { index.now.limit ≡ (shape extents.now).most_weight }
     ensures { ((result ≡ Refusal.WornOut) × (IsRetireFull index.now extents.now → ⊥)) ⊎ ((result ≡ Refusal.Full) × IsRetireFull index.now extents.now) ⊎ (result ≡ Refusal.OutOfMemory) }
 {
     match index.merged_fits(extents, Purpose::Move) {

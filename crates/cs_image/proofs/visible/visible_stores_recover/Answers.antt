@@ -6,10 +6,10 @@ use Rattle.cs_image.proofs.Superblocks.{found_all}
 
 pub returns : goal.returns
 returns c = record {
-  all = λ view format versions pages written root commands runs read. visible_read view format versions pages written root commands runs read;
-  read = λ view format versions pages written root commands runs noted are read not on is.
-      noted_recovers view format versions pages written root commands runs read (λ stand. absurd (true≢false (sym stand ∙ not))) are noted on is;
-  recovered = λ view format versions pages written root commands runs n m sections are root_page read found.
-      visible_store_read view format versions pages written sections are n m found root commands runs root_page read;
+  all = λ view format versions records pages written root commands runs read. visible_read view format versions records pages written root commands runs read;
+  read = λ view format versions records pages written root commands runs noted are read not on is.
+      noted_recovers view format versions records pages written root commands runs read (λ stand. absurd (true≢false (sym stand ∙ not))) are noted on is;
+  recovered = λ view format versions records pages written root commands runs n m sections are root_page read found.
+      visible_store_read view format versions records pages written sections are n m found root commands runs root_page read;
   found = λ written e. found_all written e;
 }

@@ -5,7 +5,6 @@ use Rattle.cs_frame.specs.FormatRuns.{run_size}
 use Rattle.cs_frame.specs.Frames.{page_count}
 use Rattle.cs_frame.specs.Runs.{IsRun, entries_of}
 use Rattle.cs_index.proofs.Spelled.{pages_most, size_most}
-use Rattle.cs_index.proofs.Whole.{short_of}
 use Rattle.cs_index.proofs.runs_apart.prepare_apart.Goals as goal
 use Rattle.cs_index.proofs.runs_apart.prepare_apart.Goals.{After-frame_of}
 
@@ -26,7 +25,7 @@ pub frame_of-requires-clause-most : goal.frame_of-requires-clause-most
 frame_of-requires-clause-most c =
     let b = bounds _ _ _ _ c.geometry.ensures.whole.geometry in
     subst (λ (f : ℕ). run_size f (entries_of c.args.run.now.entries.items) < 2 ^ 32) (sym (c.format.ensures.format ∙ c.geometry.ensures.format))
-    (omega (arith, size_most c.args.extents.now.format c.args.extents.now.pages c.args.run.now.entries.items (short_of c.args.run.now.entries.items c.requires.run.counts) b.fewest_pages c.requires.most, b.most_pages))
+    (omega (arith, size_most c.args.extents.now.format c.args.extents.now.pages c.args.run.now.entries.items b.fewest_pages c.requires.weight, b.most_pages))
 
 pub returns-clause-frame : goal.returns-clause-frame
 returns-clause-frame c = c.in_ok-frame.ensures.frame c.args.extents.now (sym (format_is (goal.at.returns-clause-frame c).After-frame_of))
@@ -36,4 +35,4 @@ returns-clause-pages c =
     let b = bounds _ _ _ _ c.geometry.ensures.whole.geometry in
     subst (λ (n : ℕ). (1 ≤ n) × (n ≤ c.args.extents.now.pages))
     (sym (c.in_ok-frame.ensures.count ∙ ap (λ (f : ℕ). page_count (run_size f (entries_of c.args.run.now.entries.items))) (format_is (goal.at.returns-clause-pages c).After-frame_of)))
-    (pages_most c.args.extents.now.format c.args.extents.now.pages c.args.run.now.entries.items (short_of c.args.run.now.entries.items c.requires.run.counts) b.fewest_pages c.requires.most)
+    (pages_most c.args.extents.now.format c.args.extents.now.pages c.args.run.now.entries.items b.fewest_pages c.requires.weight)

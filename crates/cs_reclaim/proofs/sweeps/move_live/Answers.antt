@@ -6,7 +6,7 @@ use Rattle.cs_frame.specs.Frames.{spelled_frame}
 use Rattle.cs_model.specs.Extents.{ForMove}
 use Rattle.cs_frame.proofs.GeometryLaws.{bounds}
 use Rattle.cs_reclaim.specs.Moves.{chunk_frame}
-use Rattle.cs_reclaim.proofs.Moving.{exact_answers, exact_cause, exact_place, exact_refusals, full_move, not_full, not_worn, on_ok, small_payload, worn_move}
+use Rattle.cs_reclaim.proofs.Moving.{exact_answers, exact_cause, exact_place, exact_refusals, full_move, not_full, not_worn, on_ok, same_mark_there, small_payload, worn_move}
 use Rattle.cs_reclaim.proofs.sweeps.move_live.Given.{Over}
 use Rattle.cs_reclaim.proofs.sweeps.move_live.Goals as goal
 use Rattle.cs_reclaim.proofs.sweeps.move_live.Goals.{After-drop-payload}
@@ -43,6 +43,8 @@ returns-in-Ok-encode_frame-clause-moved g c =
       done.0,
       subst (λ (f : List (List ℕ)). IsAppended c.args.extents.now c.args.graph.now ForMove f done.0 c.move_to.new.extents c.move_to.new.graph) (frame_is g (goal.at.returns-in-Ok-encode_frame-clause-moved g c).After-drop-payload) done.1,
       done.2,
+      same_mark_there false c.args.extents.now c.move_to.new.extents c.args.graph.now c.move_to.new.graph c.in-Ok.payload.items c.args.live.now.place done.0 c.deref-in-Ok-encode_frame.result.now
+          (frame_is g (goal.at.returns-in-Ok-encode_frame-clause-moved g c).After-drop-payload) c.in-Ok.ensures.meant done.1,
       (λ h view are. c.in-Ok.ensures.payload h view are),
     ))
     c.move_to.ensures.moved

@@ -14,6 +14,7 @@ invariant_of-self c =
       ids = no_ids c.new.result.items c.new.ensures.items;
       count = all.1;
       lives = all.2;
+      weighs = all.3;
       counts = (let none = rw (← c.self.view_is) at c.requires in nothing_counts c.self.inside.on.items (index_of (the_view c.self.inside)) c.new.result.items c.new-2.result.items c.self.inside.format c.self.inside.limit c.new.ensures.items c.new-2.ensures.items none c.self.invariant.counts);
       small = c.self.invariant.small;
       fits = omega (arith, c.new.ensures.len);

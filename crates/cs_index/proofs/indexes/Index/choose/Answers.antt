@@ -6,7 +6,14 @@ use Rattle.cs_index.specs.Apart.{IsFullApart, WritesNewest}
 use Rattle.cs_index.specs.State.{named_entry}
 use Rattle.cs_index.proofs.Chosen.{full_run, takes_below, takes_some}
 use Rattle.cs_index.proofs.Sizes.{none_left}
+use Rattle.cs_index.proofs.Weights.{shape_light}
 use Rattle.cs_index.proofs.indexes.Index.choose.Goals as goal
+
+pub run_goes-requires-clause-weight : goal.run_goes-requires-clause-weight
+run_goes-requires-clause-weight c = shape_light c.args.self.now c.args.extents.now (map named_entry c.in_ok-run.run'.entries.items) c.requires.format c.requires.limit c.in_ok-run.ensures.weight
+
+pub merge_goes-requires-clause-weight : goal.merge_goes-requires-clause-weight
+merge_goes-requires-clause-weight c = shape_light c.args.self.now c.args.extents.now (map named_entry c.in_ok-all.all.entries.items) c.requires.format c.requires.limit c.in_ok-all.ensures.weight
 
 pub returns-then-run_goes-clause-chosen : goal.returns-then-run_goes-clause-chosen
 returns-then-run_goes-clause-chosen c = inl (refl, c.newest_portion-portion.ensures.newest ∙ sym (takes_some (shape c.args.extents.now) c.args.self.now c.requires.some))

@@ -38,6 +38,7 @@ invariant_of-self c =
       ids = was.ids;
       count = was.count;
       lives = was.lives;
+      weighs = was.weighs;
       counts = was.counts;
       small = was.small;
       fits = was.fits;

@@ -1,28 +1,34 @@
-use Rattle.std.proofs.Common.{◌∙◌, ◌++◌, ◌<◌, ◌^◌, [], ap, arith, length, map, subst, sym, List}
+use Rattle.std.proofs.Common.{◌≡◌, ◌∙◌, ◌++◌, [], ap, arith, map, subst, sym, List}
 use Rattle.std.specs.List.{AllByRecursion}
 use Rattle.cs_index.specs.declared.runs.StoredRun.{StoredRun}
-use Rattle.cs_model.specs.Index.{entries_of, names}
+use Rattle.cs_model.specs.Geometry.{weigh_in}
+use Rattle.cs_model.specs.Index.{entries_of, named_weight, names}
 use Rattle.cs_model.specs.Tally.{shards}
 use Rattle.cs_index.specs.Held.{AreCounts}
 use Rattle.cs_index.specs.State.{IsId, IsStored, index_of, named_entry, newest_first, state_of}
 use Rattle.cs_index.proofs.Living.{none_at_first}
 use Rattle.cs_index.proofs.Marks.{loaded_keep, runs_keep}
 use Rattle.cs_index.proofs.Tallies.{counts_back}
-use Rattle.cs_index.proofs.Whole.{Entries, empty_whole, lengths_of, no_ids, stored_runs}
+use Rattle.cs_index.proofs.Weights.{names_light}
+use Rattle.cs_index.proofs.Whole.{Entries, empty_whole, loaded_names, no_ids, stored_runs}
 use Rattle.cs_index.proofs.indexes.Index.load.Goals as goal
-use Rattle.cs_index.proofs.indexes.Index.load.Goals.{After-deref-2}
+use Rattle.cs_index.proofs.indexes.Index.load.Goals.{After-deref-2, After-deref-3}
 
 stored : (c : After-deref-2) → AllByRecursion IsStored (newest_first c.args.runs.items)
 stored c =
     stored_runs c.args.format c.args.runs.items
     (subst (λ (runs : List StoredRun). AllByRecursion (λ run. AllByRecursion (λ entry. IsId entry.0) run.entries.items) runs) c.deref.ensures.value c.are_ids.ensures) c.requires.runs
 
-pub count_names-named-requires-clause-stored : goal.count_names-named-requires-clause-stored
-count_names-named-requires-clause-stored c = subst (λ (runs : List StoredRun). AllByRecursion IsStored (newest_first runs)) (sym c.deref-2.ensures.value) (stored c)
+pub count_newest-newest-requires-clause-readable : goal.count_newest-newest-requires-clause-readable
+count_newest-newest-requires-clause-readable c = rw (c.deref-2.ensures.value) (record {
+  ascending = tt;
+  short = tt;
+  stored = stored c;
+  few = c.requires.few;
+})
 
-pub count_names-named-requires-clause-short : goal.count_names-named-requires-clause-short
-count_names-named-requires-clause-short c =
-    subst (λ (runs : List StoredRun). AllByRecursion (λ run. length run.entries.items < 2 ^ 32) runs) (sym c.deref-2.ensures.value) (lengths_of c.args.format c.args.runs.items c.requires.runs)
+pub count_newest-newest-requires-clause-few : goal.count_newest-newest-requires-clause-few
+count_newest-newest-requires-clause-few c = rw (c.deref-2.ensures.value) (omega (arith, loaded_names c.args.format c.args.runs.items c.requires.runs, c.requires.few))
 
 pub count_living-living-requires-clause-readable : goal.count_living-living-requires-clause-readable
 count_living-living-requires-clause-readable c = rw (c.deref-3.ensures.value) (record {
@@ -32,20 +38,28 @@ count_living-living-requires-clause-readable c = rw (c.deref-3.ensures.value) (r
   few = c.requires.few;
 })
 
+-- what was counted is what the runs name and weigh
+named_is : (c : After-deref-3) → c.count_newest-newest.result.named ≡ names (entries_of (newest_first c.args.runs.items))
+named_is c = c.count_newest-newest.ensures.named ∙ ap (λ (runs : List StoredRun). names (entries_of (newest_first runs))) c.deref-2.ensures.value
+
+weight_is : (c : After-deref-3) → c.count_newest-newest.result.weight ≡ named_weight (weigh_in c.args.format) (entries_of (newest_first c.args.runs.items))
+weight_is c = c.count_newest-newest.ensures.weight ∙ ap (λ (runs : List StoredRun). named_weight (weigh_in c.args.format) (entries_of (newest_first runs))) c.deref-2.ensures.value
+
 pub count_living-living-requires-clause-few : goal.count_living-living-requires-clause-few
 count_living-living-requires-clause-few c =
-    let same = ap (λ (runs : List StoredRun). names (entries_of (newest_first runs))) (c.deref-2.ensures.value ∙ sym c.deref-3.ensures.value) in
-    omega (arith, c.count_names-named.ensures, same, c.requires.limit, c.if-limit-named.false)
+    rw (c.deref-3.ensures.value) (omega (arith, weight_is (goal.at.count_living-living-requires-clause-few c).After-deref-3, names_light c.args.format (entries_of (newest_first c.args.runs.items)), c.requires.limit, c.if-limit-newest.false))
 
 pub invariant_of-result : goal.invariant_of-result
 invariant_of-result c =
-    let all = empty_whole c.args.runs.items c.args.format c.args.limit c.count_names-named.result c.new.result.items c.new.ensures.items (stored (goal.at.invariant_of-result c).After-deref-2) c.requires.few
-    (c.count_names-named.ensures ∙ ap (λ (runs : List StoredRun). names (entries_of (newest_first runs))) c.deref-2.ensures.value) c.if-limit-named.false
+    let at = (goal.at.invariant_of-result c).After-deref-3 in
+    let all = empty_whole c.args.runs.items c.args.format c.args.limit c.count_newest-newest.result.named c.count_newest-newest.result.weight c.new.result.items c.new.ensures.items (stored (goal.at.invariant_of-result c).After-deref-2) c.requires.few
+    (named_is at) (weight_is at) c.if-limit-newest.false
     (loaded_keep c.args.format c.args.runs.items c.requires.runs) (runs_keep c.args.format c.args.runs.items c.requires.places) in
     record {
       whole = all.0;
       ids = no_ids c.new.result.items c.new.ensures.items;
       count = all.1;
+      weighs = all.2;
       lives = c.count_living-living.ensures.living
           ∙ ap (λ (runs : List StoredRun). shards (map named_entry [] ++ entries_of (newest_first runs))) c.deref-3.ensures.value
           ∙ ap (λ (xs : Entries). shards (map named_entry xs ++ entries_of (newest_first c.args.runs.items))) (sym c.new.ensures.items);

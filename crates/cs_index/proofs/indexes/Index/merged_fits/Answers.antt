@@ -6,6 +6,7 @@ use Rattle.cs_index.specs.Staged.{WritesMerged}
 use Rattle.cs_index.specs.State.{index_of, named_entry}
 use Rattle.cs_index.proofs.Cases.{all_run}
 use Rattle.cs_index.proofs.Exact.{fits_one, merged_none, merged_writes, none_of, some_of}
+use Rattle.cs_index.proofs.Weights.{shape_light}
 use Rattle.cs_index.proofs.indexes.Index.merged_fits.Goals as goal
 
 pub returns-then-is_empty : goal.returns-then-is_empty
@@ -16,6 +17,9 @@ returns-then-is_empty c =
 
 pub run_fits-requires-clause-some : goal.run_fits-requires-clause-some
 run_fits-requires-clause-some c = omega (arith, eqb-false _ 0 (sym c.is_empty.ensures ∙ c.if-is_empty.false), c.in_ok-run.run'.entries.ok.0)
+
+pub run_fits-requires-clause-weight : goal.run_fits-requires-clause-weight
+run_fits-requires-clause-weight c = shape_light c.args.self.now c.args.extents.now (map named_entry c.in_ok-run.run'.entries.items) c.requires.format c.requires.limit c.in_ok-run.ensures.weight
 
 pub returns : goal.returns
 returns c =

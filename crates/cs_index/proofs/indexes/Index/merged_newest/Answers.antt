@@ -1,5 +1,4 @@
 use Rattle.std.proofs.Common.{◌≡◌, ◌+◌, ◌-◌, ◌∙◌, ◌++◌, ap, ap₂, arith, length, map, subst, sym, take, drop, ℕ, List}
-use Rattle.std.proofs.lemmas.List.{length-map}
 use Rattle.std.proofs.lemmas.Result.{IfOk-weaker}
 use Rattle.cs_frame.specs.declared.identifiers.ShardId.{ShardId}
 use Rattle.cs_frame.specs.Places.{Listed}
@@ -11,7 +10,7 @@ use Rattle.cs_model.specs.Merges.{IsRunOf}
 use Rattle.cs_index.specs.Merges.{part}
 use Rattle.cs_index.specs.Read.{IsReadable}
 use Rattle.cs_index.specs.State.{named_entry, newest_first}
-use Rattle.cs_index.proofs.Parts.{behind_place, few_newest, newest_taken, part_few, stored_newest}
+use Rattle.cs_index.proofs.Parts.{behind_place, few_newest, newest_taken, part_light, stored_newest}
 use Rattle.cs_index.proofs.Whole.{length-newest}
 use Rattle.cs_index.proofs.indexes.Index.merged_newest.Goals as goal
 use Rattle.cs_index.proofs.indexes.Index.merged_newest.Goals.{After-deref-2, After-merged_part}
@@ -57,12 +56,11 @@ returns-clause-merged c =
     (λ run merged. subst (λ (es : List Entry). IsRunOf c.args.portion.without_deletions es (map named_entry run.entries.items)) is merged)
     c.merged_part.ensures.merged)
 
-pub returns-clause-few : goal.returns-clause-few
-returns-clause-few c =
-    let is = part_is (goal.at.returns-clause-few c).After-merged_part in
+pub returns-clause-weight : goal.returns-clause-weight
+returns-clause-weight c =
+    let is = part_is (goal.at.returns-clause-weight c).After-merged_part in
     rw (← c.self.view_is) (IfOk-weaker c.merged_part.result _ _
     (λ run merged.
-    let few = part_few c.args.portion.without_deletions (the_view c.self.inside) c.args.portion.newest (map named_entry run.entries.items) c.self.invariant.whole
-    (subst (λ (es : List Entry). IsRunOf c.args.portion.without_deletions es (map named_entry run.entries.items)) is merged) in
-    omega (arith, few, length-map run.entries.items named_entry))
+    part_light c.args.portion.without_deletions (the_view c.self.inside) c.args.portion.newest (map named_entry run.entries.items) c.self.invariant.whole
+    (subst (λ (es : List Entry). IsRunOf c.args.portion.without_deletions es (map named_entry run.entries.items)) is merged))
     c.merged_part.ensures.merged)

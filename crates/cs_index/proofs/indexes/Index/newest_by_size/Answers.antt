@@ -3,27 +3,23 @@ use Rattle.std.specs.List.{AllByRecursion}
 use Rattle.std.proofs.lemmas.List.{length-map}
 use Rattle.cs_index.specs.contracts.indexes.Index.{the_view}
 use Rattle.cs_index.specs.declared.runs.StoredRun.{StoredRun}
-use Rattle.cs_index.specs.State.{index_of, named_entry, newest_first}
+use Rattle.cs_index.specs.State.{named_entry, newest_first}
 use Rattle.cs_model.proofs.Counting.{ascending_names}
+use Rattle.cs_model.specs.Geometry.{weigh_in}
 use Rattle.cs_model.specs.Index.{names}
 use Rattle.cs_model.specs.Merges.{reaching, sizes}
-use Rattle.cs_index.proofs.Shards.{shards_few}
 use Rattle.cs_index.proofs.Sizes.{reached_by_quarter, reached_by_runs, runs_small}
 use Rattle.cs_index.proofs.Staging.{table_few}
 use Rattle.cs_index.proofs.Whole.{length-newest}
 use Rattle.cs_index.proofs.indexes.Index.newest_by_size.Goals as goal
 
-pub overflow_sub-dead : goal.overflow_sub-dead
-overflow_sub-dead c = omega (arith, shards_few (index_of (the_view c.self.inside)), c.self.invariant.lives, c.self.invariant.count)
-
 pub overflow_mul-fourfold : goal.overflow_mul-fourfold
-overflow_mul-fourfold c =
-    let small = rw (← c.self.view_is) at c.requires in
-    omega (arith, small, c.self.invariant.count, c.self.invariant.whole.named)
+overflow_mul-fourfold c = omega (arith, c.requires, c.dead_weight-fourfold.ensures.limit)
 
 pub returns-then-self-fourfold : goal.returns-then-self-fourfold
-returns-then-self-fourfold c = rw (← c.self.view_is) (λ S names_is most_is.
-    let all = reached_by_quarter S (the_view c.self.inside) c.self.inside.named c.self.inside.living c.self.inside.limit c.self.invariant.count c.self.invariant.lives names_is c.if-self-fourfold.true in
+returns-then-self-fourfold c = rw (← c.self.view_is) (λ S rule most_is runs_is.
+    let dead = rw (← c.self.view_is) at c.dead_weight-fourfold.ensures.value in
+    let all = reached_by_quarter S (the_view c.self.inside) c.dead_weight-fourfold.result c.self.inside.limit (weigh_in c.self.inside.format) rule dead most_is c.if-self-fourfold.true in
     omega (arith, all, c.len.ensures, c.self.inside.runs.ok.0, length-newest c.self.inside.runs.items))
 
 pub newest_reached-requires-clause-short : goal.newest_reached-requires-clause-short
@@ -43,11 +39,12 @@ newest_reached-requires-clause-entries c =
     omega (arith, small, c.len-2.ensures, i.table.entries.ok.0, table_few i.table.entries.items i.runs.items i.format i.limit i.room c.self.invariant.whole)
 
 pub returns : goal.returns
-returns c = rw (← c.self.view_is) (λ S names_is most_is.
+returns c = rw (← c.self.view_is) (λ S rule most_is runs_is.
     let i = c.self.inside in
-    let few = reached_by_runs S (the_view c.self.inside) i.named i.living i.limit c.self.invariant.count c.self.invariant.lives names_is c.if-self-fourfold.false in
+    let dead = rw (← c.self.view_is) at c.dead_weight-fourfold.ensures.value in
+    let few = reached_by_runs S (the_view c.self.inside) c.dead_weight-fourfold.result i.limit (weigh_in i.format) rule dead most_is c.if-self-fourfold.false in
     let entries : c.len-2.result ≡ names (map named_entry i.table.entries.items) = omega (arith, c.len-2.ensures, i.table.entries.ok.0, length-map i.table.entries.items named_entry, ascending_names (map named_entry i.table.entries.items) c.self.invariant.whole.ascending) in
-    c.newest_reached.ensures S most_is
+    c.newest_reached.ensures S runs_is
     ∙ ap (λ (rs : List StoredRun). reaching S (sizes (newest_first rs)) c.len-2.result) c.deref.ensures.value
     ∙ ap (λ (n : ℕ). reaching S (sizes (newest_first i.runs.items)) n) entries
     ∙ sym few)

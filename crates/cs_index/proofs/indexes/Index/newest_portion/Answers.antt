@@ -3,9 +3,10 @@ use Rattle.cs_extent.specs.State.{shape}
 use Rattle.cs_frame.proofs.GeometryLaws.{bounds}
 use Rattle.cs_frame.proofs.RootLaws.{fewest_runs}
 use Rattle.cs_frame.specs.Roots.{greatest_runs}
-use Rattle.cs_model.specs.Geometry.{by_size_in}
+use Rattle.cs_model.specs.Geometry.{by_size_in, weigh_in}
 use Rattle.cs_index.specs.Merges.{deletions_go, stage_takes}
 use Rattle.cs_index.proofs.Sizes.{goes_all, takes_inside, takes_left}
+use Rattle.cs_index.proofs.Weights.{most_few}
 use Rattle.cs_index.proofs.indexes.Index.newest_portion.Goals as goal
 use Rattle.cs_index.proofs.indexes.Index.newest_portion.Goals.{After-lets_deletions_go}
 
@@ -14,7 +15,7 @@ format_is c = c.format-format.ensures.format ∙ c.geometry.ensures.format
 
 is_newest : (c : After-lets_deletions_go) → c.newest_to_merge-newest.result ≡ stage_takes (shape c.args.extents.now) c.args.self.now
 is_newest c =
-    c.newest_to_merge-newest.ensures (shape c.args.extents.now) (ap (λ (f : ℕ). by_size_in f) (sym (format_is c))) (sym c.requires)
+    c.newest_to_merge-newest.ensures (shape c.args.extents.now) (ap (λ (f : ℕ). by_size_in f) (sym (format_is c))) (ap (λ (f : ℕ). weigh_in f) (sym c.requires.format)) (sym c.requires.limit)
     (ap (λ (f : ℕ). if nat_le f 2 then 4 else 24) (sym (format_is c)))
 
 goes_so : (c : After-lets_deletions_go) → c.lets_deletions_go.result ≡ deletions_go (shape c.args.extents.now) c.args.self.now c.newest_to_merge-newest.result
@@ -25,7 +26,8 @@ goes_so c =
     (c.merges_by_size-by_size.ensures ∙ ap (λ (f : ℕ). by_size_in f) (format_is c))
 
 pub newest_to_merge-newest-requires : goal.newest_to_merge-newest-requires
-newest_to_merge-newest-requires c = omega (arith, c.requires, (bounds _ _ _ _ c.geometry.ensures.whole.geometry).most_pages)
+newest_to_merge-newest-requires c =
+    omega (arith, c.requires.limit, most_few c.args.extents.now.format c.args.extents.now.pages (bounds _ _ _ _ c.geometry.ensures.whole.geometry).most_pages)
 
 pub returns-clause-newest : goal.returns-clause-newest
 returns-clause-newest c = is_newest (goal.at.returns-clause-newest c).After-lets_deletions_go

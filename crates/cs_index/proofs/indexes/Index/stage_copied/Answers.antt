@@ -1,7 +1,8 @@
 use Rattle.std.proofs.Common.{◌≡◌, ◌∙◌, ap, arith, false, map, refl, subst, sym, List, Vec, ℕ}
 use Rattle.std.specs.declared.alloc.Global.{Global}
 use Rattle.cs_model.specs.Element.{Entry}
-use Rattle.cs_model.specs.Index.{live_at, names}
+use Rattle.cs_model.specs.Geometry.{weigh_in}
+use Rattle.cs_model.specs.Index.{live_at, named_weight, names}
 use Rattle.cs_model.specs.Tally.{shards}
 use Rattle.cs_index.specs.contracts.indexes.Index.{the_view}
 use Rattle.cs_index.specs.Copies.{newest_copies}
@@ -36,6 +37,7 @@ invariant_of-settled c =
       ids = c.requires.ids;
       count = c.self.invariant.count ∙ ap (λ (es : List Entry). names es) (sym is);
       lives = c.self.invariant.lives ∙ ap (λ (es : List Entry). shards es) (sym is);
+      weighs = c.self.invariant.weighs ∙ ap (λ (es : List Entry). named_weight (weigh_in i.format) es) (sym is);
       counts = (let counts = rw (← c.self.view_is) at c.requires.counts in counts_as c.args.on.items (index_of (the_view c.self.inside)) (index_of (state_of c.args.table.entries.items c.replace-runs.result.items i.format i.limit 0)) (λ id. ap (λ (es : List Entry). live_at es id) is) counts);
       small = c.self.invariant.small;
       fits = omega (arith, c.args.table.entries.ok.1);

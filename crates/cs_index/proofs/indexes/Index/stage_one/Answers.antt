@@ -1,6 +1,7 @@
-use Rattle.std.proofs.Common.{◌≡◌, [], ◌∷◌, ◌+◌, ◌-◌, ◌<◌, ◌∙◌, false, ap, arith, length, map, subst, sym, take, drop, ℕ, List}
+use Rattle.std.proofs.Common.{◌≡◌, [], ◌∷◌, ◌+◌, ◌-◌, ◌<◌, ◌≤◌, ◌∙◌, false, ap, arith, length, map, subst, sym, take, drop, ℕ, List}
 use Rattle.std.specs.List.{AllByRecursion}
 use Rattle.cs_extent.specs.Purposes.{reason_of}
+use Rattle.cs_extent.specs.State.{shape}
 use Rattle.cs_frame.specs.Formats.{place_of}
 use Rattle.cs_frame.specs.Locators.{KeepFormat}
 use Rattle.cs_frame.proofs.GeometryLaws.{bounds}
@@ -9,14 +10,17 @@ use Rattle.cs_frame.specs.Roots.{greatest_runs}
 use Rattle.cs_index.specs.contracts.indexes.Index.{the_view}
 use Rattle.cs_index.specs.declared.runs.StoredRun.{StoredRun}
 use Rattle.cs_model.specs.Element.{Run}
+use Rattle.cs_model.specs.Geometry.{weigh_in}
+use Rattle.cs_model.specs.Index.{run_weight}
 use Rattle.cs_index.specs.Staged.{IsRunStaged}
 use Rattle.cs_index.specs.State.{KeepTo, RunsKeepTo, index_of, named_entry, newest_first, state_of}
 use Rattle.cs_index.proofs.Living.{none_at_first}
 use Rattle.cs_index.proofs.Marks.{run_placed}
-use Rattle.cs_index.proofs.Parts.{few_left, left_places, newest_left, part_keeps, parted_live, parted_names, parted_state, parted_whole}
+use Rattle.cs_index.proofs.Parts.{few_left, left_places, newest_left, part_keeps, parted_live, parted_names, parted_state, parted_weight, parted_whole}
 use Rattle.cs_index.proofs.Shards.{shards_same}
 use Rattle.cs_index.proofs.Staging.{is_run}
 use Rattle.cs_index.proofs.Tallies.{counts_as}
+use Rattle.cs_index.proofs.Weights.{shape_light}
 use Rattle.cs_index.proofs.Whole.{length-newest, no_ids}
 use Rattle.cs_index.proofs.indexes.Index.stage_one.Goals as goal
 use Rattle.cs_index.proofs.indexes.Index.stage_one.Goals.{After-named_after-named, In-Ok}
@@ -32,11 +36,18 @@ split c =
     let inside = rw (← c.self.view_is) at c.requires.inside in
     omega (arith, inside, c.len.ensures, c.self.inside.runs.ok.0, length-newest c.self.inside.runs.items)
 
+-- the run's entries weigh no more than they may
+light : (c : After-named_after-named) → run_weight (weigh_in c.args.extents.now.format) (map named_entry c.args.run.entries.items) ≤ (shape c.args.extents.now).most_weight
+light c = shape_light c.args.self.now c.args.extents.now (map named_entry c.args.run.entries.items) c.requires.format c.requires.limit c.requires.weight
+
+pub stage_run-requires-clause-weight : goal.stage_run-requires-clause-weight
+stage_run-requires-clause-weight c = light (goal.at.stage_run-requires-clause-weight c).After-named_after-named
+
 pub stage_run-requires-clause-run : goal.stage_run-requires-clause-run
 stage_run-requires-clause-run c =
     let format = rw (← c.self.view_is) at c.requires.format in
     let run = rw (← c.self.view_is) at c.requires.run in
-    is_run c.args.run c.args.extents.now.format c.args.extents.now.pages c.requires.ids c.requires.run.0 c.requires.short c.requires.some (bounds _ _ _ _ c.extent_count-extents.ensures.whole.geometry).most_pages (omega (arith, c.requires.few, c.requires.limit))
+    is_run c.args.run c.args.extents.now.format c.args.extents.now.pages c.requires.ids c.requires.run.0 c.requires.short c.requires.some (bounds _ _ _ _ c.extent_count-extents.ensures.whole.geometry).most_pages (light (goal.at.stage_run-requires-clause-run c).After-named_after-named)
     (subst (λ (f : ℕ). AllByRecursion (λ x. KeepTo f x.locators) (map named_entry c.args.run.entries.items)) format
     (part_keeps c.args.portion.without_deletions (the_view c.self.inside) c.args.portion.newest (map named_entry c.args.run.entries.items) c.self.invariant.whole run))
 
@@ -85,6 +96,8 @@ invariant_of-self-in-Ok c =
           ∙ sym (shards_same (index_of (state_of c.new.result.items c.push_reserved.new.self.items i.format i.limit 0)) (index_of (state_of i.table.entries.items i.runs.items i.format i.limit i.room))
           (parted_live i.table.entries.items c.new.result.items i.runs.items c.truncate.new.self.items c.push_reserved.new.self.items r n k (split at) c.push_reserved.ensures.items kept c.new.ensures.items
           i.format i.limit i.room c.args.portion.without_deletions run alone));
+      weighs = parted_weight i.table.entries.items c.new.result.items i.runs.items c.truncate.new.self.items c.push_reserved.new.self.items r n k (split at) c.push_reserved.ensures.items kept c.new.ensures.items
+          i.format i.limit i.room c.args.portion.without_deletions run alone c.weight_after-weight.result (rw (← c.self.view_is) at c.weight_after-weight.ensures);
       counts = counts_as i.on.items (index_of (state_of i.table.entries.items i.runs.items i.format i.limit i.room)) (index_of (state_of c.new.result.items c.push_reserved.new.self.items i.format i.limit 0))
           (parted_live i.table.entries.items c.new.result.items i.runs.items c.truncate.new.self.items c.push_reserved.new.self.items r n k (split at) c.push_reserved.ensures.items kept c.new.ensures.items
           i.format i.limit i.room c.args.portion.without_deletions run alone)

@@ -4,7 +4,9 @@ use Rattle.std.specs.declared.alloc.Global.{Global}
 use Rattle.cs_frame.specs.declared.identifiers.ShardId.{ShardId}
 use Rattle.cs_model.specs.Element.{Entry, Run}
 use Rattle.cs_model.specs.Extents.{ForRun}
-use Rattle.cs_model.specs.Index.{names}
+use Rattle.cs_model.specs.Geometry.{weigh_in}
+use Rattle.cs_model.specs.Index.{named_weight, names, run_weight}
+use Rattle.cs_extent.specs.State.{shape}
 use Rattle.cs_frame.proofs.GeometryLaws.{bounds}
 use Rattle.cs_frame.proofs.RootLaws.{most_runs}
 use Rattle.cs_frame.specs.Roots.{greatest_runs}
@@ -20,7 +22,8 @@ use Rattle.cs_index.specs.Staged.{IsRunStaged}
 use Rattle.cs_index.specs.State.{KeepTo, RunsKeepTo, index_of, named_entry, newest_first, state_of}
 use Rattle.cs_index.proofs.Marks.{places_keep, run_placed}
 use Rattle.cs_index.proofs.Exact.{exact_table, part_one, table_run}
-use Rattle.cs_index.proofs.Staging.{is_run, pushed_index, pushed_runs, pushed_whole, table_few, table_keeps}
+use Rattle.cs_index.proofs.Staging.{is_run, pushed_index, pushed_runs, pushed_whole, table_keeps, table_light}
+use Rattle.cs_index.proofs.Weights.{shape_light}
 use Rattle.cs_index.proofs.Whole.{length-newest, no_ids}
 use Rattle.cs_index.proofs.indexes.Index.stage_table.Goals as goal
 use Rattle.cs_index.proofs.indexes.Index.stage_table.Goals.{After-deref, After-push_reserved}
@@ -31,16 +34,19 @@ few_runs c = rw (← c.self.view_is) at c.requires.few
 some_entries : (c : After-deref) → map named_entry c.self.inside.table.entries.items ≢ []
 some_entries c = rw (← c.self.view_is) at c.requires.some
 
-most_entries : (c : After-deref) → length c.self.inside.table.entries.items ≤ c.self.inside.limit
-most_entries c = table_few c.self.inside.table.entries.items c.self.inside.runs.items c.self.inside.format c.self.inside.limit c.self.inside.room c.self.invariant.whole
-
-pub stage_run-requires-clause-run : goal.stage_run-requires-clause-run
-stage_run-requires-clause-run c =
+light : (c : After-deref) → run_weight (weigh_in c.args.extents.now.format) (map named_entry c.self.inside.table.entries.items) ≤ (shape c.args.extents.now).most_weight
+light c =
     let limit = rw (← c.self.view_is) at c.requires.limit in
     let format = rw (← c.self.view_is) at c.requires.format in
     let i = c.self.inside in
+    shape_light (the_view i) c.args.extents.now (map named_entry i.table.entries.items) format limit (table_light i.table.entries.items i.runs.items i.format i.limit i.room c.self.invariant.whole)
+
+pub stage_run-requires-clause-run : goal.stage_run-requires-clause-run
+stage_run-requires-clause-run c =
+    let format = rw (← c.self.view_is) at c.requires.format in
+    let i = c.self.inside in
     is_run (record { entries = c.self.inside.table.entries }) c.args.extents.now.format c.args.extents.now.pages c.self.invariant.ids c.self.invariant.whole.ascending c.self.invariant.whole.short (some_entries c)
-    (bounds _ _ _ _ c.extent_count-extents.ensures.whole.geometry).most_pages (omega (arith, most_entries c, limit))
+    (bounds _ _ _ _ c.extent_count-extents.ensures.whole.geometry).most_pages (light c)
     (subst (λ (f : ℕ). AllByRecursion (λ x. KeepTo f x.locators) (map named_entry i.table.entries.items)) format (table_keeps i.table.entries.items i.runs.items i.format i.limit i.room c.self.invariant.whole))
 
 pub stage_run-requires-clause-marks : goal.stage_run-requires-clause-marks
@@ -49,9 +55,8 @@ stage_run-requires-clause-marks c =
     subst (λ (rs : List StoredRun). KeepFormat c.args.extents.now.format (map (λ run. run.place) rs)) (sym (c.deref.ensures.value ∙ c.in_ok-reserve.ensures.items))
     (places_keep c.args.extents.now.format c.self.inside.runs.items (subst (λ (f : ℕ). RunsKeepTo f (newest_first c.self.inside.runs.items)) format c.self.invariant.whole.placed))
 
-pub stage_run-requires-clause-most : goal.stage_run-requires-clause-most
-stage_run-requires-clause-most c =
-    let limit = rw (← c.self.view_is) at c.requires.limit in omega (arith, most_entries c, limit)
+pub stage_run-requires-clause-weight : goal.stage_run-requires-clause-weight
+stage_run-requires-clause-weight c = light c
 
 pub stage_run-requires-clause-few : goal.stage_run-requires-clause-few
 stage_run-requires-clause-few c =
@@ -100,6 +105,7 @@ invariant_of-self-in-Ok c =
       ids = no_ids c.replace-entries.new.dest.items (none_left at);
       count = c.self.invariant.count ∙ ap (λ (es : List Entry). names es) (sym (index_is at));
       lives = c.self.invariant.lives ∙ ap (λ (es : List Entry). shards es) (sym (index_is at));
+      weighs = c.self.invariant.weighs ∙ ap (λ (es : List Entry). named_weight (weigh_in i.format) es) (sym (index_is at));
       counts = subst (λ (es : List Entry). AreCounts i.on.items es) (sym (index_is at)) c.self.invariant.counts;
       small = c.self.invariant.small;
       fits = (let e : vec_len c.replace-entries.new.dest ≡ 0 = ap (λ (v : Vec (ShardId × Listed) Global). vec_len v) c.replace-entries.ensures.after ∙ c.new.ensures.len in omega (arith, e));

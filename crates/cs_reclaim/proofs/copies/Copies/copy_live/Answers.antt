@@ -6,7 +6,7 @@ use Rattle.cs_frame.specs.Frames.{spelled_frame}
 use Rattle.cs_model.specs.Extents.{ForMove}
 use Rattle.cs_frame.proofs.GeometryLaws.{bounds}
 use Rattle.cs_reclaim.specs.Moves.{chunk_frame}
-use Rattle.cs_reclaim.proofs.Moving.{exact_answers, exact_cause, exact_place, exact_refusals, full_move, not_full, not_worn, on_ok, small_payload, worn_move}
+use Rattle.cs_reclaim.proofs.Moving.{exact_answers, exact_cause, exact_place, exact_refusals, full_move, not_full, not_worn, on_ok, same_mark_there, small_payload, worn_move}
 use Rattle.cs_reclaim.proofs.copies.Copies.copy_live.Given.{Over}
 use Rattle.cs_reclaim.proofs.copies.Copies.copy_live.Goals as goal
 use Rattle.cs_reclaim.proofs.copies.Copies.copy_live.Goals.{After-drop-payload}
@@ -43,6 +43,8 @@ returns-in-Ok-encode_frame-clause-copied g c =
       done.0,
       subst (λ (f : List (List ℕ)). IsAppendedBy true c.args.extents.now c.args.graph.now ForMove f done.0 c.append_copy.new.extents c.append_copy.new.graph) (frame_is g (goal.at.returns-in-Ok-encode_frame-clause-copied g c).After-drop-payload) done.1,
       done.2,
+      same_mark_there true c.args.extents.now c.append_copy.new.extents c.args.graph.now c.append_copy.new.graph c.in-Ok.payload.items c.args.live.now.place done.0 c.deref-in-Ok-encode_frame.result.now
+          (frame_is g (goal.at.returns-in-Ok-encode_frame-clause-copied g c).After-drop-payload) c.in-Ok.ensures.meant done.1,
       (λ h view are. c.in-Ok.ensures.payload h view are),
     ))
     c.append_copy.ensures.copied

@@ -37,7 +37,7 @@ all_copied c =
     c.first_behind.result c.first_behind.ensures (sym c.is_some.ensures ∙ c.if-is_some.false)
 
 pub count_and_stage-requires-clause-limit : goal.count_and_stage-requires-clause-limit
-count_and_stage-requires-clause-limit c = c.requires.limit ∙ ap (λ (S : Shape). S.most_names) (sym c.unmark.ensures.same_shape)
+count_and_stage-requires-clause-limit c = c.requires.limit ∙ ap (λ (S : Shape). S.most_weight) (sym c.unmark.ensures.same_shape)
 
 pub count_and_stage-requires-clause-format : goal.count_and_stage-requires-clause-format
 count_and_stage-requires-clause-format c = c.requires.format ∙ ap (λ (S : Shape). S.format) (sym c.unmark.ensures.same_shape)
