@@ -1,12 +1,12 @@
 -- What each event answers, whatever the disk does.
-use Rattle.std.proofs.Common.{◌≡◌, ◌≢◌, ◌⊎◌, ℕ, ◌<◌, ◌≤◌, List, [], None, Ok, Err, inl, inr, ⊎_elim, refl, sym, subst, true, arith}
+use Rattle.std.proofs.Common.{◌≡◌, ◌≢◌, ◌⊎◌, ℕ, ◌<◌, ◌≤◌, List, [], None, Ok, Err, inl, inr, ⊎_elim, refl, sym, ap, subst, true, arith}
 use Rattle.std.specs.Prelude.{IfOk, MatchResult, OnOk, Result}
 use Rattle.cs_deps.specs.declared.elements.Element.{Element as Name}
 use Rattle.cs_deps.specs.declared.refusals.Refusal.{Refusal as Code}
 use Rattle.cs_deps.specs.declared.refusals.Refusal.TheVariants as code
 use Rattle.cs_deps.specs.declared.refusals.Refusal.TheVariants.{DeviceFault, InFlight, NoRound}
 use Rattle.cs_frame.specs.declared.identifiers.ShardId.{ShardId}
-use Rattle.cs_index.specs.State.{id_number}
+use Rattle.cs_index.specs.State.{State as IndexState, id_number}
 use Rattle.cs_core.specs.declared.events.Event.{Event}
 use Rattle.cs_core.specs.declared.events.Event.TheVariants.{Abandon, Begin, BeginSweep, Delete, End, Get, Issue, MoveOne, Put, Retire, Settle, Stage}
 use Rattle.cs_core.specs.declared.events.OutOfMemory.{OutOfMemory}
@@ -14,6 +14,7 @@ use Rattle.cs_core.specs.declared.events.Reply.{Reply}
 use Rattle.cs_core.specs.declared.events.Reply.TheVariants.{Abandoned, Absent, Accepted, Begun, Ended, Found, Issued, Moved, NoneLive, NotYet, Nothing, Persistent, Refused, Retired, Staged, Sweeping, Unchanged}
 use Rattle.cs_core.specs.Answered.{IsAlone, IsAnswered, IsForDevice, IsLimited, TellsMeant}
 use Rattle.cs_core.specs.Lookups.{AreMeantBytes}
+use Rattle.cs_core.specs.Puts.{ChangesMeaning, MeansTheSame, MeansTheSameBut, marks_at}
 use Rattle.cs_core.specs.Replies.{MayAnswer, MayRefuse}
 use Rattle.cs_core.specs.Stored.{Stored}
 use Rattle.cs_core.specs.Writebacks.{AddsCommand, IsMemberIssued, IsRoundBegun, IsRoundEnded, KeepsRound, KeepsStaging, Stages, StaysRefused, WritesBack}
@@ -36,6 +37,24 @@ IsPlain End = ⊥
 IsPlain (Settle n) = ⊥
 IsPlain event = Unit {0}
 
+-- an index that is the same means the same
+index_means : (v w : Stored) → w.index ≡ v.index → MeansTheSame v.index w.index
+index_means v w same d = ap (λ (i : IndexState). marks_at i d) same
+
+refused_means : (v w : Stored) (event : Event) (r : Code) → w ≡ v → ChangesMeaning v event (Refused r) w
+refused_means v w (Put id bytes) r same = index_means v w (ap (λ (u : Stored). u.index) same)
+refused_means v w (Delete id) r same = index_means v w (ap (λ (u : Stored). u.index) same)
+refused_means v w event r same = index_means v w (ap (λ (u : Stored). u.index) same)
+
+-- a refused event leaves the index
+stays_index : (event : Event) (r : Code) (v w : Stored) → StaysRefused event r v w → w.index ≡ v.index
+stays_index Issue DeviceFault v w is = ap (λ (u : Stored). u.index) is
+stays_index End DeviceFault v w is = ap (λ (u : Stored). u.index) is
+stays_index Begin InFlight v w is = ap (λ (u : Stored). u.index) is.1
+stays_index Issue NoRound v w is = ap (λ (u : Stored). u.index) is.1
+stays_index End NoRound v w is = ap (λ (u : Stored). u.index) is.1
+stays_index event r v w is = ap (λ (u : Stored). u.index) is
+
 module _ (v w : Stored) where
   -- where there was memory, a refused event of these is answered so
   pub refused_alone : (event : Event) → IsPlain event → (r : Code) → (r ≡ code.OutOfMemory) ⊎ MayRefuse event r → r ≢ code.OutOfMemory → w ≡ v → IsAnswered v event (Refused r) w
@@ -44,91 +63,91 @@ module _ (v w : Stored) where
   refused_alone Issue plain r may known same = absurd plain
   refused_alone End plain r may known same = absurd plain
   refused_alone (Settle n) plain r may known same = absurd plain
-  refused_alone event plain r may known same = (may_refuse event r may known, same, no_bytes v event r)
+  refused_alone event plain r may known same = (may_refuse event r may known, same, no_bytes v event r, refused_means v w event r same)
 
   pub begin_refused_so : (r : Code) → (r ≡ code.OutOfMemory) ⊎ MayRefuse Begin r → r ≢ code.OutOfMemory → StaysRefused Begin r v w → IsAnswered v Begin (Refused r) w
   unfolding IsAnswered
-  begin_refused_so r may known stays = (may_refuse Begin r may known, stays, tt)
+  begin_refused_so r may known stays = (may_refuse Begin r may known, stays, tt, index_means v w (stays_index Begin r v w stays))
 
   pub issue_refused_so : (r : Code) → (r ≡ code.OutOfMemory) ⊎ MayRefuse Issue r → r ≢ code.OutOfMemory → StaysRefused Issue r v w → IsAnswered v Issue (Refused r) w
   unfolding IsAnswered
-  issue_refused_so r may known stays = (may_refuse Issue r may known, stays, tt)
+  issue_refused_so r may known stays = (may_refuse Issue r may known, stays, tt, index_means v w (stays_index Issue r v w stays))
 
   pub end_refused_so : (r : Code) → (r ≡ code.OutOfMemory) ⊎ MayRefuse End r → r ≢ code.OutOfMemory → StaysRefused End r v w → IsAnswered v End (Refused r) w
   unfolding IsAnswered
-  end_refused_so r may known stays = (may_refuse End r may known, stays, tt)
+  end_refused_so r may known stays = (may_refuse End r may known, stays, tt, index_means v w (stays_index End r v w stays))
 
-  pub put_so : (id : ShardId) (bytes : List ℕ) (n : ℕ) → AddsCommand n v w → KeepsRound v w → Stages v w → IsAnswered v (Put id bytes) (Accepted n) w
+  pub put_so : (id : ShardId) (bytes : List ℕ) (n : ℕ) → AddsCommand n v w → KeepsRound v w → Stages v w → AreMeantBytes w (id_number id) bytes × MeansTheSameBut (id_number id) v.index w.index → IsAnswered v (Put id bytes) (Accepted n) w
   unfolding IsAnswered
-  put_so id bytes n adds round behind = (omega (arith, adds.0), (adds, round, behind), tt)
+  put_so id bytes n adds round behind means = (omega (arith, adds.0), (adds, round, behind), tt, means)
 
-  pub delete_so : (id : ShardId) (n : ℕ) → AddsCommand n v w → KeepsRound v w → KeepsStaging v w → IsAnswered v (Delete id) (Accepted n) w
+  pub delete_so : (id : ShardId) (n : ℕ) → AddsCommand n v w → KeepsRound v w → KeepsStaging v w → MeansTheSameBut (id_number id) v.index w.index → IsAnswered v (Delete id) (Accepted n) w
   unfolding IsAnswered
-  delete_so id n adds round same = (omega (arith, adds.0), (adds, round, same), tt)
+  delete_so id n adds round same means = (omega (arith, adds.0), (adds, round, same), tt, means)
 
   pub delete_absent_so : (id : ShardId) → w ≡ v → IsAnswered v (Delete id) Absent w
   unfolding IsAnswered
-  delete_absent_so id same = (tt, same, tt)
+  delete_absent_so id same = (tt, same, tt, index_means v w (ap (λ (u : Stored). u.index) same))
 
   pub get_found_so : (id : ShardId) (bytes : List ℕ) → AreMeantBytes v (id_number id) bytes → w ≡ v → IsAnswered v (Get id) (Found bytes) w
   unfolding IsAnswered
-  get_found_so id bytes meant same = (tt, same, meant)
+  get_found_so id bytes meant same = (tt, same, meant, index_means v w (ap (λ (u : Stored). u.index) same))
 
   pub get_absent_so : (id : ShardId) → w ≡ v → IsAnswered v (Get id) Absent w
   unfolding IsAnswered
-  get_absent_so id same = (tt, same, tt)
+  get_absent_so id same = (tt, same, tt, index_means v w (ap (λ (u : Stored). u.index) same))
 
-  pub stage_so : (n : ℕ) → w.index.table ≡ [] → KeepsRound v w → Stages v w → IsAnswered v Stage (Staged n) w
+  pub stage_so : (n : ℕ) → w.index.table ≡ [] → KeepsRound v w → Stages v w → MeansTheSame v.index w.index → IsAnswered v Stage (Staged n) w
   unfolding IsAnswered
-  stage_so n table round behind = (tt, (table, round, behind), tt)
+  stage_so n table round behind means = (tt, (table, round, behind), tt, means)
 
   pub stage_none_so : (v.index.table ≡ []) × (w ≡ v) → IsAnswered v Stage Unchanged w
   unfolding IsAnswered
-  stage_none_so same = (tt, same, tt)
+  stage_none_so same = (tt, same, tt, index_means v w (ap (λ (u : Stored). u.index) same.1))
 
   pub begin_so : (round : List Name) → IsRoundBegun round v w → IsAnswered v Begin (Begun round) w
   unfolding IsAnswered
-  begin_so round begun = (tt, begun, tt)
+  begin_so round begun = (tt, begun, tt, index_means v w begun.same_index)
 
   pub begin_none_so : (v.graph.staging.pending.waiting ≡ []) × (v.out ≡ None) × (w ≡ v) → IsAnswered v Begin Nothing w
   unfolding IsAnswered
-  begin_none_so same = (tt, same, tt)
+  begin_none_so same = (tt, same, tt, index_means v w (ap (λ (u : Stored). u.index) same.2))
 
   pub issue_so : (x : Name) (page : ℕ) → IsMemberIssued x v w → IsAnswered v Issue (Issued x page) w
   unfolding IsAnswered
-  issue_so x page issued = (tt, issued, tt)
+  issue_so x page issued = (tt, issued, tt, index_means v w issued.same_index)
 
   pub end_so : (n : ℕ) → IsRoundEnded n v w → IsAnswered v End (Ended n) w
   unfolding IsAnswered
-  end_so n ended = (tt, ended, tt)
+  end_so n ended = (tt, ended, tt, index_means v w ended.same_index)
 
-  pub begin_sweep_so : (e : ℕ) → KeepsRound v w → KeepsStaging v w → IsAnswered v (BeginSweep e) Sweeping w
+  pub begin_sweep_so : (e : ℕ) → KeepsRound v w → KeepsStaging v w → MeansTheSame v.index w.index → IsAnswered v (BeginSweep e) Sweeping w
   unfolding IsAnswered
-  begin_sweep_so e round same = (tt, (round, same), tt)
+  begin_sweep_so e round same means = (tt, (round, same), tt, means)
 
-  pub move_so : (e : ℕ) (id : ShardId) (chunk : ℕ) → KeepsRound v w → Stages v w → IsAnswered v (MoveOne e) (Moved id chunk) w
+  pub move_so : (e : ℕ) (id : ShardId) (chunk : ℕ) → KeepsRound v w → Stages v w → MeansTheSame v.index w.index → IsAnswered v (MoveOne e) (Moved id chunk) w
   unfolding IsAnswered
-  move_so e id chunk round behind = (tt, (round, behind), tt)
+  move_so e id chunk round behind means = (tt, (round, behind), tt, means)
 
   pub move_none_so : (e : ℕ) → w ≡ v → IsAnswered v (MoveOne e) NoneLive w
   unfolding IsAnswered
-  move_none_so e same = (tt, same, tt)
+  move_none_so e same = (tt, same, tt, index_means v w (ap (λ (u : Stored). u.index) same))
 
-  pub retire_so : (e n : ℕ) → w.index.table ≡ [] → KeepsRound v w → Stages v w → IsAnswered v (Retire e) (Retired n) w
+  pub retire_so : (e n : ℕ) → w.index.table ≡ [] → KeepsRound v w → Stages v w → MeansTheSame v.index w.index → IsAnswered v (Retire e) (Retired n) w
   unfolding IsAnswered
-  retire_so e n table round behind = (tt, (table, round, behind), tt)
+  retire_so e n table round behind means = (tt, (table, round, behind), tt, means)
 
-  pub abandon_so : (e : ℕ) → KeepsRound v w → KeepsStaging v w → IsAnswered v (Abandon e) Abandoned w
+  pub abandon_so : (e : ℕ) → KeepsRound v w → KeepsStaging v w → MeansTheSame v.index w.index → IsAnswered v (Abandon e) Abandoned w
   unfolding IsAnswered
-  abandon_so e round same = (tt, (round, same), tt)
+  abandon_so e round same means = (tt, (round, same), tt, means)
 
   pub persistent_so : (n : ℕ) → 1 ≤ n → w ≡ v → IsAnswered v (Settle n) Persistent w
   unfolding IsAnswered
-  persistent_so n some same = (some, same, tt)
+  persistent_so n some same = (some, same, tt, index_means v w (ap (λ (u : Stored). u.index) same))
 
   pub not_yet_so : (n f : ℕ) → (n ≡ 0) ⊎ (f < n) → w ≡ v → IsAnswered v (Settle n) (NotYet f) w
   unfolding IsAnswered
-  not_yet_so n f below same = (below, same, tt)
+  not_yet_so n f below same = (below, same, tt, index_means v w (ap (λ (u : Stored). u.index) same))
 
   -- the reply is that of a refusal
   pub if_refused_so : (event : Event) (r : Code) (result : Result (Reply × Reply) OutOfMemory)
@@ -154,6 +173,10 @@ module _ (v w : Stored) where
   pub answered_meant : (event : Event) (reply : Reply) → IsAnswered v event reply w → TellsMeant v event reply
   unfolding IsAnswered
   answered_meant event reply is = is.2
+
+  pub answered_means : (event : Event) (reply : Reply) → IsAnswered v event reply w → ChangesMeaning v event reply w
+  unfolding IsAnswered
+  answered_means event reply is = is.3
 
 -- a full history
 pub full_shape : (event : Event) → IsLimited event → MayAnswer event (Refused code.HistoryFull)
@@ -200,10 +223,10 @@ pub halted_so : (v : Stored) (e : Event) → ((id : ShardId) → e ≡ Get id �
 unfolding IsAnswered
 halted_so v (Get id) get settle = absurd (get id refl)
 halted_so v (Settle n) get settle = absurd (settle n refl)
-halted_so v Begin get settle = (tt, refl, tt)
-halted_so v Issue get settle = (tt, refl, tt)
-halted_so v End get settle = (tt, refl, tt)
-halted_so v e get settle = (tt, refl, tt)
+halted_so v Begin get settle = (tt, refl, tt, λ d. refl)
+halted_so v Issue get settle = (tt, refl, tt, λ d. refl)
+halted_so v End get settle = (tt, refl, tt, λ d. refl)
+halted_so v e get settle = (tt, refl, tt, refused_means v v e code.Halted refl)
 
 -- there is no other
 pub no_other : (e : Event) → IsAlone e → ((id : ShardId) (bytes : List ℕ) → e ≡ Put id bytes → ⊥) → ((id : ShardId) → e ≡ Delete id → ⊥) → (e ≡ Stage → ⊥) → (e ≡ Begin → ⊥) → ((n : ℕ) → e ≡ BeginSweep n → ⊥)

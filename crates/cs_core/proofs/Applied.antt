@@ -13,13 +13,16 @@ use Rattle.cs_core.specs.declared.events.OutOfMemory.{OutOfMemory}
 use Rattle.cs_core.specs.declared.events.Reply.{Reply}
 use Rattle.cs_core.specs.Answered.{IsLimited}
 use Rattle.cs_core.specs.Meanings.{Says, event_of}
+use Rattle.cs_core.specs.Puts.{ArePutsMeant}
 use Rattle.cs_core.specs.Served.{IsServed}
 use Rattle.cs_core.specs.States.{IsStateOf}
 use Rattle.cs_core.specs.Stored.{Stored, but_for_room}
 use Rattle.cs_core.specs.Views.{IsCore, IsFound, IsIn, IsReached, IsStep, View}
+use Rattle.cs_core.proofs.Answering.{answered_means}
 use Rattle.cs_core.proofs.Applies.{goes}
 use Rattle.cs_core.proofs.Crashes.{crash_within, left_of, still_before}
 use Rattle.cs_core.proofs.Leaving.{LeftBy, left_now}
+use Rattle.cs_core.proofs.Saying.{puts_kept}
 use Rattle.cs_image.specs.Reads.{page_total}
 
 -- what is kept of an event: its copy, and the reply that was told
@@ -46,6 +49,8 @@ module _ {D : Type 0} (disks : PageDisk D) {v w : Stored} {disk after : D} {even
     core_then = record {
       device = served.pages ∙ core.device ∙ ap page_total (sym served.same_shape);
       replaced = omega (arith, same, core.replaced, ap length is, length-append history ((event, told.0) ∷ []));
+      puts = subst (λ (h : List (Event × Reply)). ArePutsMeant h (but_for_room w)) (sym is)
+          (puts_kept (but_for_room v) (but_for_room w) served.same_shape event told.0 history (answered_means (but_for_room v) (but_for_room w) event told.0 served.answered) core.puts);
       sized = λ there. core.sized (served.honesty.1 there) ∙ ap page_total (sym served.same_shape);
       legal = λ there. let was = core.legal (served.honesty.1 there) in let d = went (served.honesty.1 there) was.0 was.1 in (d.1, d.4);
       begun = λ there. subst (λ (S : Shape). IsFound S opened found) (sym served.same_shape) (core.begun (served.honesty.1 there));
@@ -60,6 +65,7 @@ module _ {D : Type 0} (disks : PageDisk D) {v w : Stored} {disk after : D} {even
       found = refl;
       limit = refl;
       same_shape = served.same_shape;
+      means = answered_means (but_for_room v) (but_for_room w) event told.0 served.answered;
       cause = served.cause;
       later = served.later;
       step = went;
@@ -84,6 +90,7 @@ module _ {D : Type 0} (disks : PageDisk D) {v w : Stored} {disk after : D} {even
     core_untouched = record {
       device = served.pages ∙ core.device ∙ ap page_total (sym served.same_shape);
       replaced = omega (arith, same, core.replaced, ap length is);
+      puts = subst (λ (h : List (Event × Reply)). ArePutsMeant h (but_for_room w)) (sym is) (subst (λ (u : Stored). ArePutsMeant history u) (sym served.refused) core.puts);
       sized = λ there. core.sized (served.honesty.1 there) ∙ ap page_total (sym served.same_shape);
       legal = λ there. let was = core.legal (served.honesty.1 there) in (
         was.0,

@@ -21,7 +21,7 @@ use Rattle.cs_core.specs.Views.{Applies, IsUntouched, IsFull, IsIn, IsReached, I
 use Rattle.cs_core.proofs.Crashes.{commands_reached}
 
 -- an event adds its command, newest first
-said_more : (history : List (Event × Reply)) (e : Event) (r : Reply) → commands_said (history ++ (e, r) ∷ []) ≡ command_said e r ++ commands_said history
+pub said_more : (history : List (Event × Reply)) (e : Event) (r : Reply) → commands_said (history ++ (e, r) ∷ []) ≡ command_said e r ++ commands_said history
 said_more [] e r = sym (append-nil (command_said e r))
 said_more (x ∷ xs) e r = ap (λ (cs : List Command). cs ++ command_said x.0 x.1) (said_more xs e r) ∙ append_assoc (command_said e r) (commands_said xs) (command_said x.0 x.1)
 

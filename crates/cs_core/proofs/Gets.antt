@@ -1,5 +1,5 @@
 -- A get is a step of the machine.
-use Rattle.std.proofs.Common.{◌≡◌, ◌≢◌, ◌⊎◌, inl, inr, ℕ, ◌+◌, ◌*◌, ◌≤◌, ◌==◌, true, false, eqb-true, eq-eqb, List, [], ◌∷◌, Some, None, Ok, Err, length, map, refl, sym, ap, ◌∙◌, subst, arith}
+use Rattle.std.proofs.Common.{◌≡◌, ◌≢◌, ◌⊎◌, inl, inr, ℕ, ◌≤◌, ◌==◌, true, false, eqb-true, eq-eqb, List, [], ◌∷◌, Some, None, Ok, Err, length, map, refl, sym, ap, ◌∙◌, subst, arith}
 use Rattle.std.specs.Prelude.{◌↔◌, Vec, slice_get, take}
 use Rattle.std.specs.declared.alloc.Global.{Global}
 use Rattle.cs_chunk.specs.Chunks.{AreChunksIn, AreMeant}
@@ -15,7 +15,7 @@ use Rattle.cs_frame.specs.declared.locators.Locator.{Locator}
 use Rattle.cs_frame.specs.Formats.{as_locator, formats_of, place_of}
 use Rattle.cs_index.specs.State.{index_of}
 use Rattle.cs_model.specs.Element.{Bytes, Damaged}
-use Rattle.cs_model.specs.Index.{joined, live_at}
+use Rattle.cs_model.specs.Index.{joined_bodies, live_at}
 use Rattle.cs_model.specs.Refusal.{DeviceFault, Refusal as Ground}
 use Rattle.cs_model.specs.State.{Get, State, map_now}
 use Rattle.cs_refine.proofs.Disks.{reads}
@@ -65,7 +65,7 @@ found_live v id ls found some none = some_places ls some (sym found ∙ none)
 
 -- what is read at the places that were found is what they mean
 pub meant_found : (v : Stored) (id : ℕ) (ls : List Locator) → live_at (index_of v.index) id ≡ map place_of ls → (bytes : List ℕ)
-    → (cs : List (List ℕ)) × AreMeant (shape v.extents) ls cs × (bytes ≡ joined cs) → AreMeantBytes v id bytes
+    → (cs : List (List ℕ)) × AreMeant (shape v.extents) ls cs × (bytes ≡ joined_bodies (formats_of (shape v.extents)) cs) → AreMeantBytes v id bytes
 meant_found v id ls found bytes meant =
     (meant.0, subst (λ (ks : List Locator). AreMeant (shape v.extents) ks meant.0) (sym (ap (map as_locator) found ∙ there_and_back ls)) meant.1, meant.2)
 
@@ -91,13 +91,13 @@ module _ (v : Stored) (id : ℕ) (disk : DiskState) where
     spots = ap (map as_locator) found ∙ there_and_back ls
 
     pub get_found_answers : (bytes : Vec ℕ Global)
-        → ((view : ℕ → List ℕ) → AreNewest v.graph (seen disk) view → (cs : List (List ℕ)) × AreChunksIn v.extents view ls cs × (bytes.items ≡ joined cs))
+        → ((view : ℕ → List ℕ) → AreNewest v.graph (seen disk) view → (cs : List (List ℕ)) × AreChunksIn v.extents view ls cs × (bytes.items ≡ joined_bodies (formats_of (shape v.extents)) cs))
         → GetAnswers v disk id (Ok (Some bytes))
     unfolding GetAnswers
     get_found_answers bytes gives s is on =
         let view = pages_now (shape v.extents) s (seen disk) in
         let read = gives view (newest_there v whole graph disk size s is on) in
-        let there : map_now s id ≡ Some (Bytes (joined read.0)) = get_found v.extents s (seen disk) whole is.sound (found_as_much v.extents s is.parts.world.extents) v.index is.parts.index id read.0 some_live
+        let there : map_now s id ≡ Some (Bytes (joined_bodies (formats_of (shape v.extents)) read.0)) = get_found v.extents s (seen disk) whole is.sound (found_as_much v.extents s is.parts.world.extents) v.index is.parts.index id read.0 some_live
         (subst (λ (ks : List Locator). AreChunksIn v.extents (pages_now (shape v.extents) s (seen disk)) ks read.0) (sym spots) read.1) in
         let is_bytes : map_now s id ≡ Some (Bytes bytes.items) = there ∙ ap (λ (b : List ℕ). Some (Bytes b)) (sym read.2) in (
           s,

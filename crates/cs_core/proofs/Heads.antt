@@ -102,7 +102,7 @@ module _ (format extents pages sections : ℕ) (old : DiskState) (sized : length
 
   -- one section more
   pub more_written : (count : ℕ) (mid new : DiskState) (bytes : List ℕ) → AreNewWritten format extents pages sections count old mid → count < sections
-      → SpellsSuperblock bytes format 1 extents pages sections count (replicate (section_length extents sections count) (0, 0)) → new ≡ written mid (head_page extents pages count) bytes
+      → SpellsSuperblock bytes format 1 0 extents pages sections count (replicate (section_length extents sections count) (0, 0)) → new ≡ written mid (head_page extents pages count) bytes
       → AreNewWritten format extents pages sections (count + 1) old new
   more_written count mid new bytes so_far lt spelled is =
       let long : length mid.durable ≡ device_pages format extents pages sections = ap length so_far.head.durable ∙ sized in
@@ -112,10 +112,10 @@ module _ (format extents pages sections : ℕ) (old : DiskState) (sized : length
         head = head_more extents pages old mid (head_page extents pages count) bytes (head_is extents pages count) so_far.head;
         each = λ j few. ⊎_elim
             (λ (here : j ≡ count). subst
-            (λ (k : ℕ). SpellsSuperblock (page (seen (written mid (head_page extents pages count) bytes)) (head_page extents pages k)) format 1 extents pages sections k (replicate (section_length extents sections k) (0, 0))) (sym here)
-            (subst (λ (b : List ℕ). SpellsSuperblock b format 1 extents pages sections count (replicate (section_length extents sections count) (0, 0))) (sym (wrote_here mid (head_page extents pages count) bytes inside)) spelled))
+            (λ (k : ℕ). SpellsSuperblock (page (seen (written mid (head_page extents pages count) bytes)) (head_page extents pages k)) format 1 0 extents pages sections k (replicate (section_length extents sections k) (0, 0))) (sym here)
+            (subst (λ (b : List ℕ). SpellsSuperblock b format 1 0 extents pages sections count (replicate (section_length extents sections count) (0, 0))) (sym (wrote_here mid (head_page extents pages count) bytes inside)) spelled))
             (λ (other : j ≡ count → ⊥).
-            subst (λ (b : List ℕ). SpellsSuperblock b format 1 extents pages sections j (replicate (section_length extents sections j) (0, 0)))
+            subst (λ (b : List ℕ). SpellsSuperblock b format 1 0 extents pages sections j (replicate (section_length extents sections j) (0, 0)))
             (sym (wrote_there mid (head_page extents pages count) (head_page extents pages j) bytes (head_apart extents pages j count other)))
             (so_far.each j (omega (arith, few, other))))
             (cases_eq j count);
@@ -128,7 +128,7 @@ module _ (format extents pages sections : ℕ) (old : DiskState) (sized : length
       let long : length mid.durable ≡ device_pages format extents pages sections = ap length so_far.head.durable ∙ sized in
       subst (λ (d : DiskState). IsNewOn format extents pages sections old d) (sym is) (record {
         formatted = (written mid 1 bytes, head_more extents pages old mid 1 bytes (inl (omega arith)) so_far.head, refl);
-        superblock = λ j lt. subst (λ (b : List ℕ). SpellsSuperblock b format 1 extents pages sections j (replicate (section_length extents sections j) (0, 0)))
+        superblock = λ j lt. subst (λ (b : List ℕ). SpellsSuperblock b format 1 0 extents pages sections j (replicate (section_length extents sections j) (0, 0)))
             (sym (wrote_there mid 1 (head_page extents pages j) bytes (head_not_root extents pages j))) (so_far.each j lt);
         root = subst (λ (b : List ℕ). SpellsRoot b format 1 0 []) (sym (wrote_here mid 1 bytes (omega (arith, long, some)))) spelled;
       })

@@ -189,7 +189,7 @@ kept_on s w kept moves resets families format limit inside out issued numbers sw
   resets = resets;
   writes = subst (λ (S : Shape). AreWithin (page_total S) w.graph) (sym moves.same_shape) (moves.within kept.writes);
   format = format ∙ kept.format ∙ ap (λ (S : Shape). S.format) (sym moves.same_shape);
-  limit = limit ∙ kept.limit ∙ ap (λ (S : Shape). S.most_names) (sym moves.same_shape);
+  limit = limit ∙ kept.limit ∙ ap (λ (S : Shape). S.most_weight) (sym moves.same_shape);
   places = subst (λ (S : Shape). AreInside S w.index) (sym moves.same_shape) inside;
   round = out ∙ kept.round ∙ sym moves.round;
   some = subst (λ (o : Option (List Element)). w.issued ≤ length (members_of o)) (sym out) (let le = kept.some in omega (arith, issued));

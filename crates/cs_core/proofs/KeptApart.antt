@@ -20,6 +20,7 @@ kept_apart_on x y i j copies same fewer few live kept = record {
   order = kept.order;
   up_to = λ e is. up_to_same (index_of i) (index_of j) copies e live (kept.up_to e (fewer e is));
   placed = λ c among. subst (λ (S : Shape). Inside S c.to.extent c.to.page) (sym same) (kept.placed c among);
+  marks = kept.marks;
 }
 
 -- only the index's room changed

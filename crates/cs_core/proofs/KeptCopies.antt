@@ -51,6 +51,7 @@ module _ (v : Stored) (kept : IsKept v) (apart : (shape v.extents).apart ≡ tru
           order = (kept.apart apart).order;
           up_to = λ d is. subst (λ (cs : List Copy). AllUpTo (index_of v.index) cs d) (sym empty) (up_to_none (index_of v.index) d);
           placed = λ c among. subst (λ (S : Shape). Inside S c.to.extent c.to.page) (sym same) ((kept.apart apart).placed c among);
+          marks = (kept.apart apart).marks;
         })
         kept.noted
 
@@ -74,18 +75,26 @@ module _ (x : ExtentsState) (g : GraphState) (i : IndexState) (copies : List Cop
       (λ (before : c ∈ copies). old c before)
       (subst (λ (cs : List Copy). c ∈ cs) made.noted among)
 
+  -- and means what the chunk meant
+  copies_mean : ((c : Copy) → c ∈ copies → c.to.mark ≡ c.from.mark) → (c : Copy) → c ∈ after → c.to.mark ≡ c.from.mark
+  copies_mean old c among = ⊎_elim
+      (λ (new : c ≡ record { id = id; chunk = k; from = made.from; to = place_of made.to }). subst (λ (d : Copy). d.to.mark ≡ d.from.mark) (sym new) made.mark)
+      (λ (before : c ∈ copies). old c before)
+      (subst (λ (cs : List Copy). c ∈ cs) made.noted among)
+
 module _ (v : Stored) (kept : IsKept v) (apart : (shape v.extents).apart ≡ true) (e : ℕ) (marked : (extents_of v.extents).swept e ≡ true) (y : ExtentsState) (h : GraphState) (after : List Copy)
     (resets : AreResetsStaged (extents_of y) h.staging) (families : length h.staging.latest ≡ length v.graph.staging.latest) (same : shape y ≡ shape v.extents)
     (order : AreInOrder after) (up_to : AllUpTo (index_of v.index) after e) where
   -- the same extent is marked alone
   kept_copies : ((d : ℕ) → (extents_of y).swept d ≡ true → (extents_of v.extents).swept d ≡ true) → ((c : Copy) → c ∈ after → Inside (shape v.extents) c.to.extent c.to.page)
-      → IsKeptApart y v.index after
-  kept_copies fewer there = record {
+      → ((c : Copy) → c ∈ after → c.to.mark ≡ c.from.mark) → IsKeptApart y v.index after
+  kept_copies fewer there mean = record {
     runs = subst (λ (S : Shape). length v.index.runs ≤ S.most_runs) (sym same) (kept.apart apart).runs;
     one = λ d k is at. (kept.apart apart).one d k (fewer d is) (fewer k at);
     order = order;
     up_to = λ d is. subst (λ (k : ℕ). AllUpTo (index_of v.index) after k) (sym ((kept.apart apart).one d e (fewer d is) marked)) up_to;
     placed = λ c among. subst (λ (S : Shape). Inside S c.to.extent c.to.page) (sym same) (there c among);
+    marks = mean;
   }
 
   kept_copy : (id k : ℕ) (payload : List ℕ) → IsCopyMade v.index v.extents v.graph v.copies e id k payload after y h → IsKept (record v { extents = y; graph = h; copies = after })
@@ -93,7 +102,8 @@ module _ (v : Stored) (kept : IsKept v) (apart : (shape v.extents).apart ≡ tru
       (moves_appended true v.extents v.graph ForMove (chunk_frame v.extents payload) made.to y h made.appended) resets families refl refl kept.places
       refl refl kept.numbers
       (swept_appended true v.extents y v.graph h ForMove (chunk_frame v.extents payload) made.to apart made.appended kept.swept)
-      (λ rule. kept_copies (λ d is. sym (ap (λ (u : Extents). u.swept d) made.appended.extents) ∙ is) (copies_there v.extents v.graph v.index v.copies e id k payload after y h made (kept.apart apart).placed))
+      (λ rule. kept_copies (λ d is. sym (ap (λ (u : Extents). u.swept d) made.appended.extents) ∙ is) (copies_there v.extents v.graph v.index v.copies e id k payload after y h made (kept.apart apart).placed)
+      (copies_mean v.extents v.graph v.index v.copies e id k payload after y h made (kept.apart apart).marks))
       (noted_on v kept h (root_appended true v.extents v.graph ForMove (chunk_frame v.extents payload) made.to y h made.appended) v.roots refl v.accepted (omega arith))
 
   pub kept_copied : (result : Result (Option (ShardId × ℕ)) Code) → (result ≡ Ok None → (after ≡ v.copies) × (y ≡ v.extents) × (h ≡ v.graph))
@@ -109,7 +119,8 @@ module _ (v : Stored) (kept : IsKept v) (apart : (shape v.extents).apart ≡ tru
       (moves_refused v.extents v.graph y h unwritten unstaged) resets families refl refl kept.places refl refl kept.numbers
       (subst (λ (x : ExtentsState). AreSwept x) (sym unwritten) kept.swept)
       (λ rule. kept_copies (λ d is. ap (λ (x : ExtentsState). (extents_of x).swept d) (sym unwritten) ∙ is)
-      (λ c among. (kept.apart apart).placed c (subst (λ (cs : List Copy). c ∈ cs) refused among)))
+      (λ c among. (kept.apart apart).placed c (subst (λ (cs : List Copy). c ∈ cs) refused among))
+      (λ c among. (kept.apart apart).marks c (subst (λ (cs : List Copy). c ∈ cs) refused among)))
       (noted_on v kept h (ap last_root unstaged) v.roots refl v.accepted (omega arith))
 
 -- the round that is out stays

@@ -65,6 +65,7 @@ kept_apart_set x y i j copies id ls same marks set off kept = record {
   order = kept.order;
   up_to = λ e is. up_to_put (index_of i) (index_of j) copies e id ls set.index (off e (sym (marks e) ∙ is)) (kept.up_to e (sym (marks e) ∙ is));
   placed = λ c among. subst (λ (S : Shape). Inside S c.to.extent c.to.page) (sym same) (kept.placed c among);
+  marks = kept.marks;
 }
 
 -- a put

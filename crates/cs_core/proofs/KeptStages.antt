@@ -27,7 +27,9 @@ use Rattle.cs_reclaim.proofs.SweptStays.{stage_stays}
 use Rattle.cs_reclaim.specs.Copied.{AllUpTo, AreInOrder}
 use Rattle.cs_reclaim.specs.Rooted.{IsRetiredApart, IsSweepStaged, extents_at_rest, lying_apart}
 use Rattle.cs_refine.proofs.Shapes.{store_shape}
+use Rattle.cs_core.specs.Puts.{MeansTheSame}
 use Rattle.cs_core.specs.Stored.{AreInside, AreSwept, IsKeptApart, KeepsDevice}
+use Rattle.cs_core.proofs.PutsMeant.{live_means, settled_means, then_means}
 use Rattle.cs_core.proofs.Kept.{not_both, only_apart}
 use Rattle.cs_core.proofs.Moves.{AddsRoot, moves_extents, moves_newest, moves_then, root_newest}
 
@@ -144,7 +146,7 @@ module _ (s : IndexState) (x : ExtentsState) (g : GraphState) (copies : List Cop
   swept_shape = done.rooted.same_shape ∙ done.same_shape
 
   -- what lives is the same
-  swept_live : (id : ℕ) → live_at (index_of t) id ≡ live_at (index_of s) id
+  pub swept_live : (id : ℕ) → live_at (index_of t) id ≡ live_at (index_of s) id
   swept_live = same_live s x g v commands t done.mid h done.staged
 
   -- there are not too many runs
@@ -194,6 +196,7 @@ module _ (s : IndexState) (x : ExtentsState) (g : GraphState) (copies : List Cop
         (up_to_same (index_of s) (index_of t) copies e swept_live (kept.up_to e was));
     placed = subst (λ (S : Shape). (c : Copy) → c ∈ after → Inside S c.to.extent c.to.page) (sym swept_shape)
         (each_copy (λ (cs : List Copy). (c : Copy) → c ∈ cs → Inside (shape x) c.to.extent c.to.page) kept.placed (λ c none. absurd none));
+    marks = each_copy (λ (cs : List Copy). (c : Copy) → c ∈ cs → c.to.mark ≡ c.from.mark) kept.marks (λ c none. absurd none);
   }
 
 -- ---- what was copied counts
@@ -250,6 +253,11 @@ module _ (s : IndexState) (x : ExtentsState) (g : GraphState) (copies : List Cop
       settled_inside (shape x) s done.counted copies done.settled placed old id l
       (subst (λ (ls : List Place). l ∈ ls) (swept_live done.counted done.unmarked g [] v commands t y h after done.staged id) among)
 
+  -- all that lives means what it meant
+  pub retired_means : ((c : Copy) → c ∈ copies → c.to.mark ≡ c.from.mark) → MeansTheSame s t
+  retired_means mean = then_means s done.counted t (settled_means s done.counted copies done.settled mean)
+      (live_means done.counted t (swept_live done.counted done.unmarked g [] v commands t y h after done.staged))
+
   module _ (one : (d k : ℕ) → (extents_of x).swept d ≡ true → (extents_of x).swept k ≡ true → d ≡ k) (marked : (extents_of x).swept e ≡ true) where
     -- no extent is being swept any more
     none_marked : (d : ℕ) → (extents_of y).swept d ≡ true → ⊥
@@ -272,4 +280,5 @@ module _ (s : IndexState) (x : ExtentsState) (g : GraphState) (copies : List Cop
       order = subst AreInOrder (sym none) tt;
       up_to = λ d is. absurd (none_marked d is);
       placed = λ c among. absurd (subst (λ (cs : List Copy). c ∈ cs) none among);
+      marks = λ c among. absurd (subst (λ (cs : List Copy). c ∈ cs) none among);
     }

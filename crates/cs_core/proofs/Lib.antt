@@ -32,9 +32,12 @@ pub mod MovesApart
 pub mod Noted
 pub mod Opening
 pub mod Opens
+pub mod PieceCounts
 pub mod Puts
+pub mod PutsMeant
 pub mod Ranges
 pub mod Readying
+pub mod Recorded
 pub mod Refusing
 pub mod Replaying
 pub mod Resting
@@ -42,6 +45,7 @@ pub mod RootSteps
 pub mod RoundSteps
 pub mod RootsRead
 pub mod RootsStay
+pub mod Saying
 pub mod SectionReads
 pub mod ServeSteps
 pub mod Settling

@@ -3,7 +3,7 @@ use Rattle.std.proofs.Common.{◌≡◌, ◌≢◌, ◌⊎◌, inl, inr, ⊎_eli
 use Rattle.std.specs.Prelude.{MatchBool, Option, slice_get, slice_index}
 use Rattle.std.specs.List.{AllByRecursion}
 use Rattle.std.specs.declared.alloc.Global.{Global}
-use Rattle.std.proofs.lemmas.Bool.{cond-false}
+use Rattle.std.proofs.lemmas.Bool.{cases_lt, cond-false}
 use Rattle.std.proofs.lemmas.List.{length-map, map-append}
 use Rattle.cs_chunk.specs.Chunks.{IsFrameIn}
 use Rattle.cs_chunk.specs.Newest.{AreNewest}
@@ -20,7 +20,6 @@ use Rattle.cs_frame.specs.declared.frames.FrameKind.TheVariants.{Run}
 use Rattle.cs_frame.specs.declared.identifiers.ShardId.{ShardId}
 use Rattle.cs_frame.specs.declared.locators.Locator.{Locator}
 use Rattle.cs_frame.specs.Formats.{as_locator}
-use Rattle.cs_frame.specs.Geometries.{named_limit}
 use Rattle.cs_frame.specs.FormatRuns.{SpellsRun, run_fault}
 use Rattle.cs_frame.specs.Locators.{FitsLocator, KeepFormat}
 use Rattle.cs_frame.specs.Runs.{FitsEntry, IsRun, entries_of as spelled_entries, entry_of}
@@ -38,7 +37,7 @@ use Rattle.cs_index.specs.State.{State as IndexState, index_of, newest_first}
 use Rattle.cs_model.specs.Device.{Inside, Shape}
 use Rattle.cs_model.specs.Element.{Copy}
 use Rattle.cs_model.specs.Formats.{RunFrame}
-use Rattle.cs_model.specs.Geometry.{marks_in}
+use Rattle.cs_model.specs.Geometry.{marks_in, most_weight_in}
 use Rattle.cs_model.specs.Index.{entries_of, live_at}
 use Rattle.cs_core.specs.declared.roots.Root.{Root as Noted}
 use Rattle.cs_core.specs.Openings.{AreExtentsOpened, AreLocatedBy, IsLoaded, IsWhyNoRuns, IsWhyNotRead, opened_stored}
@@ -90,6 +89,10 @@ memory_or_fault Misplaced found r is h = inr (Misplaced, h (λ e. cc e), is)
 pub wider : {T : Type 0} (found : Option FormatFault) (result : Result T Refusal) → IfErr result (λ r. (r ≡ NoMemory) ⊎ IsOfFault found r) → IfErr result (λ r. IsNoAnswer r ⊎ IsOfFault found r)
 wider found (Ok x) why = tt
 wider found (Err r) why = ⊎_elim (λ m. inl (inr m)) (λ f. inr f) why
+
+-- what isn't more
+pub no_heavier : (most n : ℕ) → (most < n → ⊥) → n ≤ most
+no_heavier most n not = elim (cases_lt most n) [ inl more ↦ absurd (not more) | inr le ↦ le ]
 
 -- what a test says
 pub passed : (P Q : Type 0) (b : Bool) → MatchBool b P Q → b ≡ true → P
@@ -183,26 +186,26 @@ no_runs x view places runs k place r older many at why =
 
 -- a store that is made of its parts
 pub opened_is : (versions : List ℕ) (root commands format limit : ℕ) (runs : List StoredRun) (g : GraphState) (x : ExtentsState) (i : IndexState) (copies : List Copy) (roots : List Noted)
-    → g ≡ graph_at versions root → format ≡ x.format → limit ≡ named_limit x.format x.pages → i ≡ index_at (newest_first runs) format limit → copies ≡ [] → roots ≡ record { version = root; commands = 0 } ∷ []
+    → g ≡ graph_at versions root → format ≡ x.format → limit ≡ most_weight_in x.format x.pages → i ≡ index_at (newest_first runs) format limit → copies ≡ [] → roots ≡ record { version = root; commands = 0 } ∷ []
     → record { graph = g; extents = x; index = i; copies = copies; roots = roots; out = g.round; issued = 0; base = commands; accepted = 0; frontier = 0; halted = false } ≡ opened_stored x versions root commands runs
 opened_is versions root commands format limit runs g x i copies roots graph of_format most index none noted =
     let made : Stored = opened_stored x versions root commands runs in
     ap (λ (k : GraphState). record { graph = k; extents = x; index = i; copies = copies; roots = roots; out = k.round; issued = 0; base = commands; accepted = 0; frontier = 0; halted = false }) graph
-    ∙ ap (λ (k : IndexState). record made { index = k; copies = copies; roots = roots }) (index ∙ ap (λ (n : ℕ). index_at (newest_first runs) format n) most ∙ ap (λ (f : ℕ). index_at (newest_first runs) f (named_limit x.format x.pages)) of_format)
+    ∙ ap (λ (k : IndexState). record made { index = k; copies = copies; roots = roots }) (index ∙ ap (λ (n : ℕ). index_at (newest_first runs) format n) most ∙ ap (λ (f : ℕ). index_at (newest_first runs) f (most_weight_in x.format x.pages)) of_format)
     ∙ ap (λ (cs : List Copy). record made { copies = cs; roots = roots }) none
     ∙ ap (λ (rs : List Noted). record made { roots = rs }) noted
 
 -- of extents that are opened
 module _ (root commands format limit : ℕ) (runs : List StoredRun) (g : GraphState) (x y : ExtentsState) (i : IndexState) (copies : List Copy) (roots : List Noted)
-    (of_format : format ≡ x.format) (most : limit ≡ named_limit x.format x.pages) (index : i ≡ index_at (newest_first runs) format limit) (none : copies ≡ []) (noted : roots ≡ record { version = root; commands = 0 } ∷ []) (opened : AreExtentsOpened x i root y) where
-  pub are_opened : AreExtentsOpened x (index_at (newest_first runs) x.format (named_limit x.format x.pages)) root y
+    (of_format : format ≡ x.format) (most : limit ≡ most_weight_in x.format x.pages) (index : i ≡ index_at (newest_first runs) format limit) (none : copies ≡ []) (noted : roots ≡ record { version = root; commands = 0 } ∷ []) (opened : AreExtentsOpened x i root y) where
+  pub are_opened : AreExtentsOpened x (index_at (newest_first runs) x.format (most_weight_in x.format x.pages)) root y
   are_opened = subst (λ (j : IndexState). AreExtentsOpened x j root y)
-      (index ∙ ap (λ (n : ℕ). index_at (newest_first runs) format n) most ∙ ap (λ (f : ℕ). index_at (newest_first runs) f (named_limit x.format x.pages)) of_format) opened
+      (index ∙ ap (λ (n : ℕ). index_at (newest_first runs) format n) most ∙ ap (λ (f : ℕ). index_at (newest_first runs) f (most_weight_in x.format x.pages)) of_format) opened
 
   pub loaded_as : (versions : List ℕ) → g ≡ graph_at versions root
       → record { graph = g; extents = y; index = i; copies = copies; roots = roots; out = g.round; issued = 0; base = commands; accepted = 0; frontier = 0; halted = false } ≡ opened_stored y versions root commands runs
   loaded_as versions graph = opened_is versions root commands format limit runs g y i copies roots graph (of_format ∙ ap (λ (S : Shape). S.format) (sym opened.same_shape))
-      (most ∙ ap (λ (S : Shape). S.most_names) (sym opened.same_shape)) index none noted
+      (most ∙ ap (λ (S : Shape). S.most_weight) (sym opened.same_shape)) index none noted
 
   pub is_loaded : IsLoaded x g root commands runs (record { graph = g; extents = y; index = i; copies = copies; roots = roots; out = g.round; issued = 0; base = commands; accepted = 0; frontier = 0; halted = false })
   is_loaded = record { extents = y; opened = are_opened; made = λ versions many graph. loaded_as versions graph }
@@ -213,14 +216,14 @@ live_in i runs format limit count is has = subst (λ (k : IndexState). HasCount 
 
 -- a store that was opened keeps what every store keeps
 module _ (format : ℕ) (versions : List ℕ) (pages : ℕ) (written : List (ℕ × ℕ)) (root commands : ℕ) (runs : List StoredRun) (y : ExtentsState) (whole : IsWhole (extents_at format pages (length versions) written))
-    (opened : AreExtentsOpened (extents_at format pages (length versions) written) (index_at (newest_first runs) format (named_limit format pages)) root y) where
+    (opened : AreExtentsOpened (extents_at format pages (length versions) written) (index_at (newest_first runs) format (most_weight_in format pages)) root y) where
   abbrev x : ExtentsState
   x = extents_at format pages (length versions) written
 
   unmarked : (e : ℕ) → (extents_of y).swept e ≡ false
-  unmarked = none_swept x y (index_at (newest_first runs) format (named_limit format pages)) root opened (λ e. all_default (length written) e false)
+  unmarked = none_swept x y (index_at (newest_first runs) format (most_weight_in format pages)) root opened (λ e. all_default (length written) e false)
 
-  inside : AreLocatedBy x runs → AreInside (shape y) (index_at (newest_first runs) y.format (named_limit y.format y.pages))
+  inside : AreLocatedBy x runs → AreInside (shape y) (index_at (newest_first runs) y.format (most_weight_in y.format y.pages))
   inside located id l among = subst (λ (S : Shape). Inside S l.extent l.page) (sym opened.same_shape) (place_inside x (as_locator l) whole (visible_by x runs located id l among))
 
   few_runs : length runs ≤ 24 → (shape y).apart ≡ true → length (newest_first runs) ≤ (shape y).most_runs
@@ -230,7 +233,7 @@ module _ (format : ℕ) (versions : List ℕ) (pages : ℕ) (written : List (ℕ
   kept_opened low few located = record {
     families = (let sections : y.sections ≡ length versions = ap (λ (S : Shape). S.sections) opened.same_shape in omega (arith, length-by_family versions root, sections));
     resets = λ e. subst (λ (v : ℕ). (extents_of y).reset e ≤ v) (sym (root_in versions root whole.geometry.fewest_sections))
-        (resets_opened x y (index_at (newest_first runs) format (named_limit format pages)) root opened (λ d. let none : slice_index (replicate (length written) 0) d ≡ 0 = all_default (length written) d 0 in omega (arith, none)) e);
+        (resets_opened x y (index_at (newest_first runs) format (most_weight_in format pages)) root opened (λ d. let none : slice_index (replicate (length written) 0) d ≡ 0 = all_default (length written) d 0 in omega (arith, none)) e);
     writes = λ z w kept. let clash : None ≡ Some w = kept in absurd (cc clash);
     format = refl;
     limit = refl;
@@ -245,6 +248,7 @@ module _ (format : ℕ) (versions : List ℕ) (pages : ℕ) (written : List (ℕ
       order = tt;
       up_to = λ e is. absurd (true≢false (sym is ∙ unmarked e));
       placed = λ c among. absurd among;
+      marks = λ c among. absurd among;
     };
     noted = noted_alone root (slice_index (by_family versions root) root_family) (root_in versions root whole.geometry.fewest_sections);
   }

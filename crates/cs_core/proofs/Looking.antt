@@ -103,6 +103,7 @@ module _ {D : Type 0} (disks : PageDisk D) {v : View D} (core : IsCore disks v) 
   core_read = record {
     device = reads.pages ∙ core.device;
     replaced = core.replaced;
+    puts = core.puts;
     sized = λ there. core.sized (reads.honesty.1 there);
     legal = λ there. let was = core.legal (reads.honesty.1 there) in (was.0, still_in (reads.honesty.1 there) was.0 was.1);
     begun = λ there. core.begun (reads.honesty.1 there);

@@ -10,7 +10,7 @@ use Rattle.cs_model.specs.Device.{Page}
 use Rattle.cs_model.specs.Element.{Bytes, Damaged, Locator as Place, Opening}
 use Rattle.cs_model.specs.Events.{newest_page}
 use Rattle.cs_model.specs.Geometry.{marks_in}
-use Rattle.cs_model.specs.Index.{ReadsAs, joined, live_at}
+use Rattle.cs_model.specs.Index.{ReadsAs, joined_bodies, live_at}
 use Rattle.cs_model.specs.State.{State, map_now}
 use Rattle.cs_core.specs.Lookups.{AreMeantBytes}
 use Rattle.cs_core.specs.States.{IsStateOf}
@@ -20,12 +20,12 @@ use Rattle.cs_core.proofs.Sizes.{reads_there}
 -- where reading gives bytes, the places mean chunks of these bytes
 module _ (x : ExtentsState) (opening : Opening) (view : ℕ → Page) (pointers generations : ℕ → ℕ) where
   meant_there : (ks : List Place) (bytes : List ℕ) → ReadsAs (shape x) (formats_of (shape x)) opening view pointers generations ks (Bytes bytes)
-      → (cs : List (List ℕ)) × AreMeant (shape x) (map as_locator ks) cs × (bytes ≡ joined cs)
+      → (cs : List (List ℕ)) × AreMeant (shape x) (map as_locator ks) cs × (bytes ≡ joined_bodies (formats_of (shape x)) cs)
   meant_there [] bytes reads = ([], tt, (let e : Bytes bytes ≡ Bytes [] = reads in cc))
   meant_there (k ∷ ks) bytes (inl (chunk, Bytes rest, reads, more, is)) =
       let others = meant_there ks rest more in
-      let joins : bytes ≡ chunk ++ rest = (let e : Bytes bytes ≡ Bytes (chunk ++ rest) = is in cc) in
-      (chunk ∷ others.0, (reads.marked, others.1), joins ∙ ap (λ (ys : List ℕ). chunk ++ ys) others.2)
+      let joins : bytes ≡ (formats_of (shape x)).body chunk ++ rest = (let e : Bytes bytes ≡ Bytes ((formats_of (shape x)).body chunk ++ rest) = is in cc) in
+      (chunk ∷ others.0, (reads.marked, others.1), joins ∙ ap (λ (ys : List ℕ). (formats_of (shape x)).body chunk ++ ys) others.2)
   meant_there (k ∷ ks) bytes (inl (chunk, Damaged f, reads, more, is)) = absurd (let e : Bytes bytes ≡ Damaged f = is in cc)
   meant_there (k ∷ ks) bytes (inr (f, damage, is)) = absurd (cc is)
 
@@ -36,5 +36,5 @@ told_is_there v s id bytes told is on there meant =
     let ks : List Place = live_at (index_of v.index) id in
     let had = meant_there v.extents s.opening (newest_page s) s.world.extents.pointer s.world.extents.generation ks bytes
     (reads_there (shape v.extents) (formats_of (shape v.extents)) s is.sound v.index is.parts.index id bytes there) in
-    ⊎_elim (λ (same : joined meant.0 ≡ joined had.0). inl (meant.2 ∙ same ∙ sym had.2)) (λ two. inr two)
+    ⊎_elim (λ (same : meant.0 ≡ had.0). inl (meant.2 ∙ ap (joined_bodies (formats_of (shape v.extents))) same ∙ sym had.2)) (λ two. inr two)
     (one_or_two meant.0 had.0 (agree v.extents (map as_locator ks) meant.0 had.0 on meant.1 had.1))

@@ -11,7 +11,7 @@ use Rattle.cs_deps.specs.declared.refusals.Refusal.{Refusal}
 use Rattle.cs_disk.specs.Disk.{Image, IsWhole as IsWholeDisk, State as DiskState, flushed, page, seen}
 use Rattle.cs_extent.specs.State.{State as ExtentsState, shape}
 use Rattle.cs_frame.specs.Formats.{formats_of}
-use Rattle.cs_frame.specs.Geometries.{IsGeometry, device_pages, named_limit, section_size}
+use Rattle.cs_frame.specs.Geometries.{IsGeometry, device_pages, section_size}
 use Rattle.cs_image.proofs.Families.{root_in}
 use Rattle.cs_image.proofs.OneByOne.{live_count}
 use Rattle.cs_image.proofs.Superblocks.{read_format, read_shape}
@@ -23,7 +23,7 @@ use Rattle.cs_index.specs.State.{newest_first}
 use Rattle.cs_model.proofs.Unique.{one_recovery}
 use Rattle.cs_model.specs.Device.{Shape}
 use Rattle.cs_model.specs.Element.{Map, Run}
-use Rattle.cs_model.specs.Geometry.{shape_of}
+use Rattle.cs_model.specs.Geometry.{most_weight_in, shape_of}
 use Rattle.cs_model.specs.Index.{entries_of, live_at}
 use Rattle.cs_model.specs.Open.{opened_state, root_read}
 use Rattle.cs_model.specs.Recovery.{Recovers}
@@ -38,35 +38,35 @@ use Rattle.cs_core.proofs.Exactly.{none_fails, recovers_here, same_numbers}
 use Rattle.cs_core.proofs.Readying.{hidden_gone, hidden_stand}
 use Rattle.cs_core.proofs.RootsRead.{noted, read_alone}
 
-module _ (image : Image) (format : ℕ) (versions : List ℕ) (pages : ℕ) (written : List (ℕ × ℕ)) (root commands : ℕ) (runs : List StoredRun) (y : ExtentsState)
-    (opened : AreExtentsOpened (extents_at format pages (length versions) written) (index_at (newest_first runs) format (named_limit format pages)) root y)
-    (are : ArePages (device_pages format (length written) pages (length versions)) (page image)) (read : IsStoreReadBy (page image) format versions pages written root commands runs) where
+module _ (image : Image) (format : ℕ) (versions records : List ℕ) (pages : ℕ) (written : List (ℕ × ℕ)) (root commands : ℕ) (runs : List StoredRun) (y : ExtentsState)
+    (opened : AreExtentsOpened (extents_at format pages (length versions) written) (index_at (newest_first runs) format (most_weight_in format pages)) root y)
+    (are : ArePages (device_pages format (length written) pages (length versions)) (page image)) (read : IsStoreReadBy (page image) format versions records pages written root commands runs) where
   abbrev x : ExtentsState
   x = extents_at format pages (length versions) written
 
   -- the start of the machine, by extents and shape
   abbrev Starts : ExtentsState → Shape → Type 0
   Starts z T = (m : Map) × (found : Recovers T (formats_of T) (page image) commands m)
-      × IsStartOf z (graph_at versions root) (index_at (newest_first runs) z.format (named_limit z.format z.pages)) image (opened_state T (formats_of T) (page image) commands m found)
+      × IsStartOf z (graph_at versions root) (index_at (newest_first runs) z.format (most_weight_in z.format z.pages)) image (opened_state T (formats_of T) (page image) commands m found)
 
   -- by either rule what was read is one
   starts : Starts y (shape y)
   starts = elim (cases_Bool (shape x).apart) [
     | inl on ↦ (let noted = opened.apart on in
         let same : y.format ≡ format = ap (λ (S : Shape). S.format) opened.same_shape in
-        let s = read_apart image format versions pages written root commands (named_limit y.format y.pages) runs are (read.visible (hidden_gone x on)) noted.0 y (hidden_gone x on) on noted.1 noted.2
+        let s = read_apart image format versions records pages written root commands (most_weight_in y.format y.pages) runs are (read.visible (hidden_gone x on)) noted.0 y (hidden_gone x on) on noted.1 noted.2
         (opened.same_shape ∙ sym noted.2.same_shape) noted.3 in
         subst (λ (T : Shape). Starts y T) (sym opened.same_shape) (
           s.0,
           s.1,
-          subst (λ (f : ℕ). IsStartOf y (graph_at versions root) (index_at (newest_first runs) f (named_limit y.format y.pages)) image (opened_state (shape x) (formats_of (shape x)) (page image) commands s.0 s.1)) (sym same) s.2,
+          subst (λ (f : ℕ). IsStartOf y (graph_at versions root) (index_at (newest_first runs) f (most_weight_in y.format y.pages)) image (opened_state (shape x) (formats_of (shape x)) (page image) commands s.0 s.1)) (sym same) s.2,
         ))
     | inr not ↦ subst (λ (z : ExtentsState). Starts z (shape z)) (sym (opened.together not))
-        (read_started image format versions pages written root commands (named_limit format pages) runs are (read.whole (hidden_stand x not)) not)
+        (read_started image format versions records pages written root commands (most_weight_in format pages) runs are (read.whole (hidden_stand x not)) not)
   ]
 
   -- the sections of the superblock
-  pub sections_there : AreSectionsRead (page image) format versions pages written
+  pub sections_there : AreSectionsRead (page image) format versions records pages written
   sections_there = elim (cases_Bool (shape x).hidden_stand) [ inl stand ↦ (read.whole stand).sections | inr gone ↦ (read.visible gone).sections ]
 
   -- what was read is a state of the machine
@@ -112,8 +112,8 @@ module _ (image : Image) (format : ℕ) (versions : List ℕ) (pages : ℕ) (wri
     pub one_map : (n : ℕ) (m : Map) → Recovers (shape x) (formats_of (shape x)) (page image) n m → (commands ≡ n) × HasCount (λ id. m id ≢ None) live
     one_map n m r =
         let found : IsFound (shape x) image (commands, live) = subst (λ (T : Shape). IsFound T image (commands, live)) opened.same_shape found_there in
-        let one = one_recovery (shape x) (formats_of (shape x)) (read_shape (page image) format versions pages written sections_there)
-        (read_format (page image) format versions pages written sections_there) (page image) commands n found.0 m found.1 r in
+        let one = one_recovery (shape x) (formats_of (shape x)) (read_shape (page image) format versions records pages written sections_there)
+        (read_format (page image) format versions records pages written sections_there) (page image) commands n found.0 m found.1 r in
         let ids : List ℕ = found.2.0 in
         let those : AreThose (λ id. found.0 id ≢ None) ids = found.2.1 in (
           one.0,
@@ -129,8 +129,8 @@ module _ (image : Image) (format : ℕ) (versions : List ℕ) (pages : ℕ) (wri
 
 -- ---- the core
 
-module _ {D : Type 0} (disks : PageDisk D) (disk : D) (old : DiskState) (before : Type 0) (format : ℕ) (versions : List ℕ) (pages : ℕ) (written : List (ℕ × ℕ)) (commands live : ℕ) (store : Stored)
-    (sized : disks.page_count disk ≡ device_pages format (length written) pages (length versions)) (made : IsStoreMade before (page (seen old)) format versions pages written commands live store)
+module _ {D : Type 0} (disks : PageDisk D) (disk : D) (old : DiskState) (before : Type 0) (format : ℕ) (versions records : List ℕ) (pages : ℕ) (written : List (ℕ × ℕ)) (commands live : ℕ) (store : Stored)
+    (sized : disks.page_count disk ≡ device_pages format (length written) pages (length versions)) (made : IsStoreMade before (page (seen old)) format versions records pages written commands live store)
     (was : disks.honest disk → before) (now : disks.honest disk → disks.state disk ≡ flushed old) (whole : disks.honest disk → IsWholeDisk (disks.state disk)) (long : disks.honest disk → length (disks.state disk).durable ≡ disks.page_count disk) where
   are_pages : disks.honest disk → ArePages (device_pages format (length written) pages (length versions)) (page (seen old))
   are_pages h = subst (λ (d : DiskState). ArePages (device_pages format (length written) pages (length versions)) (page (seen d))) (now h)
@@ -143,9 +143,10 @@ module _ {D : Type 0} (disks : PageDisk D) (disk : D) (old : DiskState) (before 
   base = record {
     device = sized ∙ total;
     replaced = omega arith;
+    puts = λ id bytes none. absurd (cc none);
     sized = λ h. long h ∙ sized ∙ total;
     legal = λ h.
-        let b = begins (seen old) format versions pages written made.root commands made.runs made.extents made.opened (are_pages h) (made.read (was h)) in (
+        let b = begins (seen old) format versions records pages written made.root commands made.runs made.extents made.opened (are_pages h) (made.read (was h)) in (
           b.0,
           record {
             store = b.1;
@@ -154,7 +155,7 @@ module _ {D : Type 0} (disks : PageDisk D) (disk : D) (old : DiskState) (before 
           },
         );
     begun = λ h. subst (λ (d : DiskState). IsFound (shape made.extents) d.durable (commands, live)) (sym (now h))
-        (found_there (seen old) format versions pages written made.root commands made.runs made.extents made.opened (are_pages h) (made.read (was h)) live made.counted);
+        (found_there (seen old) format versions records pages written made.root commands made.runs made.extents made.opened (are_pages h) (made.read (was h)) live made.counted);
   }
 
   pub opened_core : (opened : Image) (history : List (Event × Reply)) (first limit : ℕ) → opened ≡ (disks.state disk).durable → history ≡ [] → first ≡ 0
@@ -167,6 +168,7 @@ module _ {D : Type 0} (disks : PageDisk D) (disk : D) (old : DiskState) (before 
       record {
         device = core.device;
         replaced = omega (arith, from);
+        puts = core.puts;
         sized = core.sized;
         legal = λ h. let s = core.legal h in (s.0, record { store = s.1.store; disk = s.1.disk; reached = s.1.reached });
         begun = core.begun;
@@ -174,11 +176,12 @@ module _ {D : Type 0} (disks : PageDisk D) (disk : D) (old : DiskState) (before 
 
 -- ---- what its caller is told
 
-pub is_opened : (before : Type 0) (old : DiskState) (image : Image) (format : ℕ) (versions : List ℕ) (pages : ℕ) (written : List (ℕ × ℕ)) (commands live : ℕ) (store : Stored) → IsStoreMade before (page (seen old)) format versions pages written commands live store
+pub is_opened : (before : Type 0) (old : DiskState) (image : Image) (format : ℕ) (versions records : List ℕ) (pages : ℕ) (written : List (ℕ × ℕ)) (commands live : ℕ) (store : Stored) → IsStoreMade before (page (seen old)) format versions records pages written commands live store
     → (before → image ≡ seen old) → IsOpened before image (commands, live) (but_for_room store)
-is_opened before old image format versions pages written commands live store made same = record {
+is_opened before old image format versions records pages written commands live store made same = record {
   format = format;
   versions = versions;
+  records = records;
   pages = pages;
   written = written;
   root = made.root;
@@ -186,7 +189,7 @@ is_opened before old image format versions pages written commands live store mad
   extents = made.extents;
   opened = made.opened;
   made = ap but_for_room made.made;
-  read = λ h. subst (λ (i : Image). IsStoreReadBy (page i) format versions pages written made.root commands made.runs) (sym (same h)) (made.read h);
+  read = λ h. subst (λ (i : Image). IsStoreReadBy (page i) format versions records pages written made.root commands made.runs) (sym (same h)) (made.read h);
 }
 
 module _ (before : Type 0) (old : DiskState) (count : ℕ) (h : before) (whole : IsWholeDisk old) (long : length old.durable ≡ count) (format extents pages sections : ℕ) (is : IsGeometry format extents pages sections) (sized : count ≡ device_pages format extents pages sections) (n : ℕ) (m : Map)
@@ -194,14 +197,14 @@ module _ (before : Type 0) (old : DiskState) (count : ℕ) (h : before) (whole :
   are : ArePages count (page (seen old))
   are = seen_pages old count whole (le_of_eq (sym long))
 
-  pub opened_as : (f : ℕ) (versions : List ℕ) (p : ℕ) (written : List (ℕ × ℕ)) (commands live : ℕ) (store : Stored) → count ≡ device_pages f (length written) p (length versions) → IsStoreMade before (page (seen old)) f versions p written commands live store
+  pub opened_as : (f : ℕ) (versions records : List ℕ) (p : ℕ) (written : List (ℕ × ℕ)) (commands live : ℕ) (store : Stored) → count ≡ device_pages f (length written) p (length versions) → IsStoreMade before (page (seen old)) f versions records p written commands live store
       → (shape store.extents ≡ shape_of extents pages sections (section_size extents sections) format) × (commands ≡ n) × HasCount (λ id. m id ≢ None) live
-  opened_as f versions p written commands live store size made =
+  opened_as f versions records p written commands live store size made =
       let here : ArePages (device_pages f (length written) p (length versions)) (page (seen old)) = subst (λ (k : ℕ). ArePages k (page (seen old))) size are in
       let read = made.read h in
-      let same = same_numbers count (page (seen old)) format extents pages sections is sized are n m r f versions p written
-      (sections_there (seen old) f versions p written made.root commands made.runs made.extents made.opened here read) in
-      let one = one_map (seen old) f versions p written made.root commands made.runs made.extents made.opened here read live made.counted n m
+      let same = same_numbers count (page (seen old)) format extents pages sections is sized are n m r f versions records p written
+      (sections_there (seen old) f versions records p written made.root commands made.runs made.extents made.opened here read) in
+      let one = one_map (seen old) f versions records p written made.root commands made.runs made.extents made.opened here read live made.counted n m
       (recovers_here count (page (seen old)) format extents pages sections is sized are n m r f (length versions) p written same.0 same.1 same.2 same.3) in (
         ap (λ (u : Stored). shape u.extents) made.made ∙ made.opened.same_shape
             ∙ ap (λ (k : ℕ). shape_of (length written) p (length versions) (section_size (length written) (length versions)) k) same.0

@@ -56,7 +56,7 @@ superblock_finds format bytes = first_finds (superblock_tests format bytes) (
     (
       finds _ BadLength (omega arith, omega arith),
       (
-        digest (superblock_end bytes) bytes,
+        digest (superblock_end format bytes) bytes,
         (
           finds _ BadVersion (omega arith, omega arith),
           (
@@ -194,7 +194,7 @@ of_fault found range r (inl memory) = inl (inr memory)
 of_fault found range r (inr fault) =
     let there = range fault.0 fault.1 in
     let number : number_of (refusal_for fault.0) ≡ fault_number fault.0 = same_number fault.0 in
-    inr (inl (subst (λ (k : Refusal). (20 ≤ number_of k) × (number_of k ≤ 26)) (sym fault.2) (omega (arith, number, there.0), omega (arith, number, there.1))))
+    inr (inl (subst (λ (k : Refusal). (20 ≤ number_of k) × (number_of k ≤ 27)) (sym fault.2) (omega (arith, number, there.0), omega (arith, number, there.1))))
 
 pub superblock_refused : (format : ℕ) (bytes : List ℕ) (r : Refusal) → (r ≡ NoMemory) ⊎ IsOfFault (superblock_fault format bytes) r → IsOpeningRefusal r
 superblock_refused format bytes r why = of_fault (superblock_fault format bytes) (superblock_finds format bytes) r why
@@ -212,4 +212,4 @@ run_refused format payload r why = of_fault (run_fault format payload) (run_find
 pub frame_refused : (r : Refusal) → IsReadRefusal r → IsOpeningRefusal r
 frame_refused r (inl none) = inl none
 frame_refused r (inr (inl range)) = inr (inl (range.0, omega (arith, range.1)))
-frame_refused r (inr (inr is)) = inr (inl (subst (λ (k : Refusal). (20 ≤ number_of k) × (number_of k ≤ 26)) (sym is) (omega arith, omega arith)))
+frame_refused r (inr (inr is)) = inr (inl (subst (λ (k : Refusal). (20 ≤ number_of k) × (number_of k ≤ 27)) (sym is) (omega arith, omega arith)))

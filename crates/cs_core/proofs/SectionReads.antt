@@ -23,10 +23,11 @@ use Rattle.cs_core.specs.Openings.{HasNumbers, IsOtherFirst, IsSectionThere, IsW
 -- ---- one section
 
 -- what a page spells can be spelled
-fits_is : (it : Superblock) → FitsSuperblock it.format it.version it.extent_count it.pages it.sections it.section it.extents.items → IsSuperblock it
+fits_is : (it : Superblock) → FitsSuperblock it.format it.version it.recorded it.extent_count it.pages it.sections it.section it.extents.items → IsSuperblock it
 fits_is it fits = record {
   first_version = fits.first_version;
   last_version = fits.last_version;
+  recorded_fits = fits.recorded_fits;
   geometry = fits.geometry;
   one_of_them = fits.one_of_them;
   count = fits.count;
@@ -34,28 +35,29 @@ fits_is it fits = record {
 }
 
 module _ (format extents pages sections section : ℕ) (it : Superblock) (has : HasNumbers format extents pages sections section it) where
-  at_fits : FitsSuperblock it.format it.version it.extent_count it.pages it.sections it.section it.extents.items → IsSectionAt format extents pages sections section it
+  at_fits : FitsSuperblock it.format it.version it.recorded it.extent_count it.pages it.sections it.section it.extents.items → IsSectionAt format extents pages sections section it
   at_fits fits = record { is = fits_is it fits; of_format = has.of_format; of_extents = has.of_extents; of_pages = has.of_pages; of_sections = has.of_sections; place = has.place }
 
-  pub further_at : (bytes : List ℕ) × SpellsSuperblock bytes it.format it.version it.extent_count it.pages it.sections it.section it.extents.items → IsSectionAt format extents pages sections section it
+  pub further_at : (bytes : List ℕ) × SpellsSuperblock bytes it.format it.version it.recorded it.extent_count it.pages it.sections it.section it.extents.items → IsSectionAt format extents pages sections section it
   further_at spelled = at_fits spelled.1.fits
 
   -- by these numbers
-  pub with_numbers : (bytes : List ℕ) → SpellsSuperblock bytes it.format it.version it.extent_count it.pages it.sections it.section it.extents.items
-      → SpellsSuperblock bytes format it.version extents pages sections section it.extents.items
+  pub with_numbers : (bytes : List ℕ) → SpellsSuperblock bytes it.format it.version it.recorded it.extent_count it.pages it.sections it.section it.extents.items
+      → SpellsSuperblock bytes format it.version it.recorded extents pages sections section it.extents.items
   with_numbers bytes spelled =
-      subst (λ (n : ℕ). SpellsSuperblock bytes n it.version extents pages sections section it.extents.items) has.of_format
-      (subst (λ (n : ℕ). SpellsSuperblock bytes it.format it.version n pages sections section it.extents.items) has.of_extents
-      (subst (λ (n : ℕ). SpellsSuperblock bytes it.format it.version it.extent_count n sections section it.extents.items) has.of_pages
-      (subst (λ (n : ℕ). SpellsSuperblock bytes it.format it.version it.extent_count it.pages n section it.extents.items) has.of_sections
-      (subst (λ (n : ℕ). SpellsSuperblock bytes it.format it.version it.extent_count it.pages it.sections n it.extents.items) has.place spelled))))
+      subst (λ (n : ℕ). SpellsSuperblock bytes n it.version it.recorded extents pages sections section it.extents.items) has.of_format
+      (subst (λ (n : ℕ). SpellsSuperblock bytes it.format it.version it.recorded n pages sections section it.extents.items) has.of_extents
+      (subst (λ (n : ℕ). SpellsSuperblock bytes it.format it.version it.recorded it.extent_count n sections section it.extents.items) has.of_pages
+      (subst (λ (n : ℕ). SpellsSuperblock bytes it.format it.version it.recorded it.extent_count it.pages n section it.extents.items) has.of_sections
+      (subst (λ (n : ℕ). SpellsSuperblock bytes it.format it.version it.recorded it.extent_count it.pages it.sections n it.extents.items) has.place spelled))))
 
 -- page 0 has another section
-pub other_first : (bytes : List ℕ) (format version extents pages sections section : ℕ) (rows : List (ℕ × ℕ)) → SpellsPageZero bytes format version extents pages sections section rows → (section ≡ 0 → ⊥)
+pub other_first : (bytes : List ℕ) (format version recorded extents pages sections section : ℕ) (rows : List (ℕ × ℕ)) → SpellsPageZero bytes format version recorded extents pages sections section rows → (section ≡ 0 → ⊥)
     → IsNoAnswer NotAStore ⊎ IsOfFault (page_zero_fault bytes) NotAStore ⊎ IsOtherFirst bytes NotAStore
-other_first bytes format version extents pages sections section rows spelled other = inr (inr (record {
+other_first bytes format version recorded extents pages sections section rows spelled other = inr (inr (record {
   format = format;
   version = version;
+  recorded = recorded;
   extents = extents;
   pages = pages;
   sections = sections;
@@ -72,16 +74,17 @@ damaged_first bytes r why = ⊎_elim (λ n. inl n) (λ f. inr (inl f)) why
 
 -- a further page has another
 pub other_further : (format extents pages sections section : ℕ) (bytes : List ℕ) (it : Superblock) → it.format ≡ format → (HasNumbers format extents pages sections section it → ⊥)
-    → SpellsSuperblock bytes it.format it.version it.extent_count it.pages it.sections it.section it.extents.items
+    → SpellsSuperblock bytes it.format it.version it.recorded it.extent_count it.pages it.sections it.section it.extents.items
     → IsNoAnswer NotAStore ⊎ IsWhyNoSection format extents pages sections section bytes NotAStore
 other_further format extents pages sections section bytes it same_format other spelled = inr (inr (record {
   version = it.version;
+  recorded = it.recorded;
   their_extents = it.extent_count;
   their_pages = it.pages;
   their_sections = it.sections;
   their_section = it.section;
   rows = it.extents.items;
-  spelled = subst (λ (n : ℕ). SpellsSuperblock bytes n it.version it.extent_count it.pages it.sections it.section it.extents.items) same_format spelled;
+  spelled = subst (λ (n : ℕ). SpellsSuperblock bytes n it.version it.recorded it.extent_count it.pages it.sections it.section it.extents.items) same_format spelled;
   other = λ same. other (record { of_format = same_format; of_extents = same.0; of_pages = same.1; of_sections = same.2; place = same.3 });
   refusal = refl;
 }))
@@ -116,7 +119,7 @@ further_page extents pages sections j some =
 pub record AreReadTo (honest : Type 0) (view : ℕ → List ℕ) (format extents pages sections count : ℕ) (items : List Superblock) : Type 0 where
   pub places : (j : ℕ) (it : Superblock) → slice_get items j ≡ Some it → IsSectionAt format extents pages sections j it
   pub spelled : honest → (j : ℕ) (it : Superblock) → slice_get items j ≡ Some it
-      → SpellsAt j (view (page_of extents pages sections j)) format it.version extents pages sections it.extents.items
+      → SpellsAt j (view (page_of extents pages sections j)) format it.version it.recorded extents pages sections it.extents.items
   pub there : honest → (j : ℕ) → 0 < j → j < count → IsSectionThere view format extents pages sections j
 
 -- the last of a list, or one before it
@@ -126,23 +129,23 @@ in_push [] y (suc k) x h = absurd (cc h)
 in_push (z ∷ xs) y zero x h = inl h
 in_push (z ∷ xs) y (suc k) x h = ⊎_elim (λ (l : slice_get xs k ≡ Some x). inl l) (λ (r : (k ≡ length xs) × (y ≡ x)). inr (ap suc r.0, r.1)) (in_push xs y k x h)
 
-further_spelled : (j : ℕ) (bytes : List ℕ) (format version extents pages sections : ℕ) (rows : List (ℕ × ℕ)) → 0 < j
-    → SpellsSuperblock bytes format version extents pages sections j rows → SpellsAt j bytes format version extents pages sections rows
-further_spelled zero bytes format version extents pages sections rows some spelled = absurd (omega (arith, some))
-further_spelled (suc j) bytes format version extents pages sections rows some spelled = spelled
+further_spelled : (j : ℕ) (bytes : List ℕ) (format version recorded extents pages sections : ℕ) (rows : List (ℕ × ℕ)) → 0 < j
+    → SpellsSuperblock bytes format version recorded extents pages sections j rows → SpellsAt j bytes format version recorded extents pages sections rows
+further_spelled zero bytes format version recorded extents pages sections rows some spelled = absurd (omega (arith, some))
+further_spelled (suc j) bytes format version recorded extents pages sections rows some spelled = spelled
 
 module _ (honest : Type 0) (view : ℕ → List ℕ) where
   -- the first alone
   pub first_read : (it : Superblock) → it.section ≡ 0
-      → (bytes : List ℕ) × SpellsPageZero bytes it.format it.version it.extent_count it.pages it.sections it.section it.extents.items
-      → (honest → SpellsPageZero (view 0) it.format it.version it.extent_count it.pages it.sections it.section it.extents.items)
+      → (bytes : List ℕ) × SpellsPageZero bytes it.format it.version it.recorded it.extent_count it.pages it.sections it.section it.extents.items
+      → (honest → SpellsPageZero (view 0) it.format it.version it.recorded it.extent_count it.pages it.sections it.section it.extents.items)
       → AreReadTo honest view it.format it.extent_count it.pages it.sections 1 (it ∷ [])
   first_read it first some read = record {
     places = λ j other at. ⊎_elim
         (λ (none : slice_get [] j ≡ Some other). absurd (let clash : None ≡ Some other = none in cc clash))
         (λ (here : (j ≡ 0) × (it ≡ other)). subst (λ (x : Superblock). IsSectionAt it.format it.extent_count it.pages it.sections j x) here.1
         (subst (λ (n : ℕ). IsSectionAt it.format it.extent_count it.pages it.sections n it) (sym here.0) (record {
-          is = fits_is it (page_zero_fits some.0 it.format it.version it.extent_count it.pages it.sections it.section it.extents.items some.1);
+          is = fits_is it (page_zero_fits some.0 it.format it.version it.recorded it.extent_count it.pages it.sections it.section it.extents.items some.1);
           of_format = refl;
           of_extents = refl;
           of_pages = refl;
@@ -153,9 +156,9 @@ module _ (honest : Type 0) (view : ℕ → List ℕ) where
     spelled = λ h j other at. ⊎_elim
         (λ (none : slice_get [] j ≡ Some other). absurd (let clash : None ≡ Some other = none in cc clash))
         (λ (here : (j ≡ 0) × (it ≡ other)).
-        subst (λ (x : Superblock). SpellsAt j (view (page_of it.extent_count it.pages it.sections j)) it.format x.version it.extent_count it.pages it.sections x.extents.items) here.1
-        (subst (λ (n : ℕ). SpellsAt n (view (page_of it.extent_count it.pages it.sections n)) it.format it.version it.extent_count it.pages it.sections it.extents.items) (sym here.0)
-        (subst (λ (n : ℕ). SpellsPageZero (view 0) it.format it.version it.extent_count it.pages it.sections n it.extents.items) first (read h))))
+        subst (λ (x : Superblock). SpellsAt j (view (page_of it.extent_count it.pages it.sections j)) it.format x.version x.recorded it.extent_count it.pages it.sections x.extents.items) here.1
+        (subst (λ (n : ℕ). SpellsAt n (view (page_of it.extent_count it.pages it.sections n)) it.format it.version it.recorded it.extent_count it.pages it.sections it.extents.items) (sym here.0)
+        (subst (λ (n : ℕ). SpellsPageZero (view 0) it.format it.version it.recorded it.extent_count it.pages it.sections n it.extents.items) first (read h))))
         (in_push [] it j other at);
     there = λ h j some few. absurd (omega (arith, some, few));
   }
@@ -163,8 +166,8 @@ module _ (honest : Type 0) (view : ℕ → List ℕ) where
   -- one more
   pub more_read : (format extents pages sections count : ℕ) (items : List Superblock) → AreReadTo honest view format extents pages sections count items → length items ≡ count → 0 < count
       → (it : Superblock) → HasNumbers format extents pages sections count it
-      → (bytes : List ℕ) × SpellsSuperblock bytes it.format it.version it.extent_count it.pages it.sections it.section it.extents.items
-      → (honest → SpellsSuperblock (view (1 + extents * pages + count)) it.format it.version it.extent_count it.pages it.sections it.section it.extents.items)
+      → (bytes : List ℕ) × SpellsSuperblock bytes it.format it.version it.recorded it.extent_count it.pages it.sections it.section it.extents.items
+      → (honest → SpellsSuperblock (view (1 + extents * pages + count)) it.format it.version it.recorded it.extent_count it.pages it.sections it.section it.extents.items)
       → AreReadTo honest view format extents pages sections (count + 1) (items ++ it ∷ [])
   more_read format extents pages sections count items so_far long some it has spelled read = record {
     places = λ j other at. ⊎_elim
@@ -175,15 +178,16 @@ module _ (honest : Type 0) (view : ℕ → List ℕ) where
     spelled = λ h j other at. ⊎_elim
         (λ (l : slice_get items j ≡ Some other). so_far.spelled h j other l)
         (λ (here : (j ≡ length items) × (it ≡ other)).
-        subst (λ (x : Superblock). SpellsAt j (view (page_of extents pages sections j)) format x.version extents pages sections x.extents.items) here.1
-        (subst (λ (n : ℕ). SpellsAt n (view (page_of extents pages sections n)) format it.version extents pages sections it.extents.items) (sym (here.0 ∙ long))
-        (further_spelled count (view (page_of extents pages sections count)) format it.version extents pages sections it.extents.items some
-        (subst (λ (n : ℕ). SpellsSuperblock (view n) format it.version extents pages sections count it.extents.items) (further_page extents pages sections count some)
+        subst (λ (x : Superblock). SpellsAt j (view (page_of extents pages sections j)) format x.version x.recorded extents pages sections x.extents.items) here.1
+        (subst (λ (n : ℕ). SpellsAt n (view (page_of extents pages sections n)) format it.version it.recorded extents pages sections it.extents.items) (sym (here.0 ∙ long))
+        (further_spelled count (view (page_of extents pages sections count)) format it.version it.recorded extents pages sections it.extents.items some
+        (subst (λ (n : ℕ). SpellsSuperblock (view n) format it.version it.recorded extents pages sections count it.extents.items) (further_page extents pages sections count some)
         (with_numbers format extents pages sections count it has (view (1 + extents * pages + count)) (read h))))))
         (in_push items it j other at);
     there = λ h j further lt. ⊎_elim
         (λ (same : j ≡ count). subst (λ (n : ℕ). IsSectionThere view format extents pages sections n) (sym same) (record {
           version = it.version;
+          recorded = it.recorded;
           rows = it.extents.items;
           superblock = with_numbers format extents pages sections count it has (view (1 + extents * pages + count)) (read h);
         }))
@@ -316,14 +320,17 @@ module _ (honest : Type 0) (view : ℕ → List ℕ) (format extents pages secti
   abbrev versions : List ℕ
   versions = map (λ (it : Superblock). it.version) items
 
+  abbrev records : List ℕ
+  records = map (λ (it : Superblock). it.recorded) items
+
   versions_count : length versions ≡ sections
   versions_count = length-map items (λ (it : Superblock). it.version) ∙ long
 
   -- what a section's page spells, by the numbers of all
-  abbrev Spelled : (j f version e p s : ℕ) → Type 0
-  Spelled j f version e p s = SpellsAt j (view (page_of e p s j)) f version e p s (take (section_length e s j) (drop (section_start e s j) (rows_of items)))
+  abbrev Spelled : (j f version recorded e p s : ℕ) → Type 0
+  Spelled j f version recorded e p s = SpellsAt j (view (page_of e p s j)) f version recorded e p s (take (section_length e s j) (drop (section_start e s j) (rows_of items)))
 
-  pub all_read : honest → AreSectionsRead view (format_of items) versions (pages_of items) (rows_of items)
+  pub all_read : honest → AreSectionsRead view (format_of items) versions records (pages_of items) (rows_of items)
   all_read h = record {
     geometry = subst (λ (n : ℕ). IsGeometry n (length (rows_of items)) (pages_of items) (length versions)) (sym format_is)
         (subst (λ (n : ℕ). IsGeometry format n (pages_of items) (length versions)) (sym rows_count)
@@ -333,12 +340,14 @@ module _ (honest : Type 0) (view : ℕ → List ℕ) (format extents pages secti
         let there = some_at items j (omega (arith, lt, versions_count, long)) in
         let it : Superblock = there.0 in
         let number : slice_index versions j ≡ it.version = get_or_from_slice_get versions j it.version 0 (slice_get-map (λ (x : Superblock). x.version) items j ∙ ap (option_map (λ (x : Superblock). x.version)) there.1) in
-        let spelled : SpellsAt j (view (page_of extents pages sections j)) format it.version extents pages sections it.extents.items = are.spelled h j it there.1 in
-        let rows : Spelled j format it.version extents pages sections =
-        subst (λ (rs : List (ℕ × ℕ)). SpellsAt j (view (page_of extents pages sections j)) format it.version extents pages sections rs) (sym (part_is j it there.1)) spelled in
-        subst (λ (v : ℕ). Spelled j (format_of items) v (length (rows_of items)) (pages_of items) (length versions)) (sym number)
-        (subst (λ (n : ℕ). Spelled j n it.version (length (rows_of items)) (pages_of items) (length versions)) (sym format_is)
-        (subst (λ (n : ℕ). Spelled j format it.version (length (rows_of items)) (pages_of items) n) (sym versions_count)
-        (subst (λ (n : ℕ). Spelled j format it.version (length (rows_of items)) n sections) (sym pages_are)
-        (subst (λ (n : ℕ). Spelled j format it.version n pages sections) (sym rows_count) rows))));
+        let record_is : slice_index records j ≡ it.recorded = get_or_from_slice_get records j it.recorded 0 (slice_get-map (λ (x : Superblock). x.recorded) items j ∙ ap (option_map (λ (x : Superblock). x.recorded)) there.1) in
+        let spelled : SpellsAt j (view (page_of extents pages sections j)) format it.version it.recorded extents pages sections it.extents.items = are.spelled h j it there.1 in
+        let rows : Spelled j format it.version it.recorded extents pages sections =
+        subst (λ (rs : List (ℕ × ℕ)). SpellsAt j (view (page_of extents pages sections j)) format it.version it.recorded extents pages sections rs) (sym (part_is j it there.1)) spelled in
+        subst (λ (v : ℕ). Spelled j (format_of items) v (slice_index records j) (length (rows_of items)) (pages_of items) (length versions)) (sym number)
+        (subst (λ (v : ℕ). Spelled j (format_of items) it.version v (length (rows_of items)) (pages_of items) (length versions)) (sym record_is)
+        (subst (λ (n : ℕ). Spelled j n it.version it.recorded (length (rows_of items)) (pages_of items) (length versions)) (sym format_is)
+        (subst (λ (n : ℕ). Spelled j format it.version it.recorded (length (rows_of items)) (pages_of items) n) (sym versions_count)
+        (subst (λ (n : ℕ). Spelled j format it.version it.recorded (length (rows_of items)) n sections) (sym pages_are)
+        (subst (λ (n : ℕ). Spelled j format it.version it.recorded n pages sections) (sym rows_count) rows)))));
   }

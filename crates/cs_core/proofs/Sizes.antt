@@ -16,7 +16,7 @@ use Rattle.cs_model.specs.Element.{Bytes, Content, Damaged, Locator as Place}
 use Rattle.cs_model.specs.Device.{Shape}
 use Rattle.cs_model.specs.Events.{newest_page}
 use Rattle.cs_model.specs.Formats.{Formats}
-use Rattle.cs_model.specs.Index.{ReadsAs, Value, joined, live, live_at, lookup}
+use Rattle.cs_model.specs.Index.{ReadsAs, Value, joined_bodies, live, live_at, lookup}
 use Rattle.cs_model.specs.Sound.{Sound}
 use Rattle.cs_model.specs.State.{State, index_now, map_now}
 use Rattle.cs_refine.proofs.Indexes.{absent, live_same, looked_up}
@@ -54,20 +54,20 @@ module _ (x : ExtentsState) (s : State) (held : Image) (whole : IsWhole x) (soun
   -- where reading gives bytes, chunks of these bytes are there
   chunks_read : (ks : List Place) (bytes : List ℕ)
       → ReadsAs (shape x) (formats_of (shape x)) s.opening (newest_page s) s.world.extents.pointer s.world.extents.generation ks (Bytes bytes)
-      → (cs : List (List ℕ)) × AreChunksIn x (pages_now (shape x) s held) (map as_locator ks) cs × (bytes ≡ joined cs)
+      → (cs : List (List ℕ)) × AreChunksIn x (pages_now (shape x) s held) (map as_locator ks) cs × (bytes ≡ joined_bodies (formats_of (shape x)) cs)
   chunks_read [] bytes reads = ([], tt, (let e : Bytes bytes ≡ Bytes [] = reads in cc))
   chunks_read (k ∷ ks) bytes (inl (chunk, Bytes rest, reads, more, is)) =
       let others = chunks_read ks rest more in
-      let joins : bytes ≡ chunk ++ rest = (let e : Bytes bytes ≡ Bytes (chunk ++ rest) = is in cc) in (
+      let joins : bytes ≡ (formats_of (shape x)).body chunk ++ rest = (let e : Bytes bytes ≡ Bytes ((formats_of (shape x)).body chunk ++ rest) = is in cc) in (
         chunk ∷ others.0,
         (frame_read x s same held whole sound k chunk reads, others.1),
-        joins ∙ ap (λ (ys : List ℕ). chunk ++ ys) others.2,
+        joins ∙ ap (λ (ys : List ℕ). (formats_of (shape x)).body chunk ++ ys) others.2,
       )
   chunks_read (k ∷ ks) bytes (inl (chunk, Damaged f, reads, more, is)) = absurd (let e : Bytes bytes ≡ Damaged f = is in cc)
   chunks_read (k ∷ ks) bytes (inr (f, damage, is)) = absurd (cc is)
 
   pub chunks_there : (i : IndexState) → IsIndexOf i s.table s.runs → (id : ℕ) (bytes : List ℕ) → map_now s id ≡ Some (Bytes bytes)
-      → (cs : List (List ℕ)) × AreChunksIn x (pages_now (shape x) s held) (map as_locator (live_at (index_of i) id)) cs × (bytes ≡ joined cs)
+      → (cs : List (List ℕ)) × AreChunksIn x (pages_now (shape x) s held) (map as_locator (live_at (index_of i) id)) cs × (bytes ≡ joined_bodies (formats_of (shape x)) cs)
   chunks_there i is id bytes there = chunks_read (live_at (index_of i) id) bytes (reads_there (shape x) (formats_of (shape x)) s sound i is id bytes there)
 
 -- ---- what headers say, of places that were found
@@ -100,7 +100,7 @@ module _ (v : Stored) (id : ℕ) (disk : DiskState) where
       (ls : List Locator) (found : live_at (index_of v.index) id ≡ map place_of ls) (some : ls ≢ []) where
     -- by what is answered where there are chunks
     size_told : (answers : List ℕ → Type 0) (result : Result (Option ℕ) Code)
-        → ((view : ℕ → List ℕ) (cs : List (List ℕ)) → AreNewest v.graph (seen disk) view → AreChunksIn v.extents view ls cs → answers (joined cs))
+        → ((view : ℕ → List ℕ) (cs : List (List ℕ)) → AreNewest v.graph (seen disk) view → AreChunksIn v.extents view ls cs → answers (joined_bodies (formats_of (shape v.extents)) cs))
         → ((bytes : List ℕ) → answers bytes → MatchResult result (λ n. n ≡ Some (length bytes)) IsNoAnswer)
         → MatchResult result (λ n. n ≢ None) IsHeaderRefusal → TellsSize v disk id result
     unfolding TellsSize
@@ -115,7 +115,7 @@ module _ (v : Stored) (id : ℕ) (disk : DiskState) where
         go (Some (Damaged f)) there = damaged
 
     pub size_found : (count : ℕ)
-        → ((view : ℕ → List ℕ) (cs : List (List ℕ)) → AreNewest v.graph (seen disk) view → AreChunksIn v.extents view ls cs → count ≡ length (joined cs))
+        → ((view : ℕ → List ℕ) (cs : List (List ℕ)) → AreNewest v.graph (seen disk) view → AreChunksIn v.extents view ls cs → count ≡ length (joined_bodies (formats_of (shape v.extents)) cs))
         → TellsSize v disk id (Ok (Some count))
     size_found count read = size_told (λ bytes. count ≡ length bytes) (Ok (Some count)) read (λ bytes same. ap (λ n. Some n) same) (λ none. cc none)
 

@@ -1,5 +1,5 @@
 -- What a new store keeps.
-use Rattle.std.proofs.Common.{◌≡◌, ◌≢◌, ◌∙◌, inl, ⊎_elim, rules, ℕ, zero, suc, ◌+◌, ◌<◌, ◌≤◌, true, false, List, [], ◌∷◌, ◌++◌, Some, None, length, length-append, map, replicate, true≢false, refl, sym, ap, ap₂, subst, arith}
+use Rattle.std.proofs.Common.{◌≡◌, ◌≢◌, ◌∙◌, inl, ⊎_elim, rules, ℕ, zero, suc, ◌+◌, ◌^◌, ◌<◌, ◌≤◌, false, List, [], ◌∷◌, ◌++◌, Some, None, length, length-append, map, replicate, true≢false, refl, sym, ap, ap₂, subst, arith}
 use Rattle.std.proofs.lemmas.List.{length-replicate, replicate-append-replicate}
 use Rattle.std.proofs.lemmas.Option.{same_Some}
 use Rattle.std.specs.List.{AllByRecursion}
@@ -13,8 +13,9 @@ use Rattle.cs_extent.specs.Frames.{root_family}
 use Rattle.cs_extent.specs.State.{State as ExtentsState, extents_of, shape}
 use Rattle.cs_frame.specs.declared.superblocks.Superblock.{Superblock}
 use Rattle.cs_frame.specs.Formats.{formats_of}
-use Rattle.cs_frame.specs.Geometries.{IsGeometry, device_pages, named_limit, section_length}
-use Rattle.cs_frame.specs.Superblocks.{SpellsSuperblock}
+use Rattle.cs_frame.specs.Geometries.{IsGeometry, device_pages, section_length}
+use Rattle.cs_frame.proofs.SuperblockLaws.{recorded_below_root, recorded_fits_in}
+use Rattle.cs_frame.specs.Superblocks.{FitsRecord, SpellsSuperblock, record_in}
 use Rattle.cs_image.proofs.Families.{length-by_family, root_in}
 use Rattle.cs_image.specs.Counts.{HasCount}
 use Rattle.cs_image.specs.Openings.{by_family, graph_at}
@@ -23,6 +24,7 @@ use Rattle.cs_index.proofs.Sorted.{some_at}
 use Rattle.cs_index.specs.declared.runs.StoredRun.{StoredRun}
 use Rattle.cs_index.specs.State.{State as IndexState, newest_first}
 use Rattle.cs_model.specs.Element.{Copy, Map}
+use Rattle.cs_model.specs.Geometry.{most_weight_in}
 use Rattle.cs_model.specs.Open.{opened_state, root_read}
 use Rattle.cs_model.specs.Recovery.{Recovers}
 use Rattle.cs_model.specs.State.{State}
@@ -31,6 +33,7 @@ use Rattle.cs_refine.specs.Devices.{IsDiskOf}
 use Rattle.cs_core.specs.declared.events.Event.{Event}
 use Rattle.cs_core.specs.declared.events.Reply.{Reply}
 use Rattle.cs_core.specs.declared.roots.Root.{Root as Noted}
+use Rattle.cs_core.specs.Puts.{ArePutsMeant}
 use Rattle.cs_core.specs.Started.{AreFirstNew, AreNew, IsNewOn, IsNewSection, new_stored}
 use Rattle.cs_core.specs.States.{IsStateOf}
 use Rattle.cs_core.specs.Stored.{IsKept, Stored, but_for_room}
@@ -64,6 +67,7 @@ kept_new format extents pages sections some = record {
     order = tt;
     up_to = λ e is. absurd (true≢false (sym is ∙ unmarked e));
     placed = λ c among. absurd among;
+    marks = λ c among. absurd among;
   };
   noted = noted_alone 1 (slice_index (by_family (replicate sections 1) 1) root_family) (root_in (replicate sections 1) 1 (omega (arith, length-replicate {A = ℕ} sections 1, some)));
 }
@@ -78,7 +82,7 @@ module _ (format extents pages sections : ℕ) (is : IsGeometry format extents p
   x = extents_at format pages sections (replicate extents (0, 0))
 
   pub new_recovers : Recovers (shape x) (formats_of (shape x)) (page now.durable) 0 (λ id. None)
-  new_recovers = (new_started now.durable format extents pages sections (named_limit format pages) is on.superblock on.root).0
+  new_recovers = (new_started now.durable format extents pages sections (most_weight_in format pages) is on.superblock on.root).0
 
   -- nothing is volatile
   quiet : now ≡ record { durable = now.durable; volatile = [] }
@@ -86,7 +90,7 @@ module _ (format extents pages sections : ℕ) (is : IsGeometry format extents p
 
   pub starts : (s : State) × IsStateOf (new_stored format extents pages sections) s × IsDiskOf (shape x) (formats_of (shape x)) s now × IsReached (shape x) (formats_of (shape x)) now.durable [] s
   starts =
-      let start = new_started now.durable format extents pages sections (named_limit format pages) is on.superblock on.root in
+      let start = new_started now.durable format extents pages sections (most_weight_in format pages) is on.superblock on.root in
       let s : State = opened_state (shape x) (formats_of (shape x)) (page now.durable) 0 (λ id. None) start.0 in (
         s,
         record {
@@ -176,14 +180,22 @@ module _ (format extents pages sections : ℕ) (items : List Superblock) (new_on
       ∙ ap (λ (n : ℕ). extents_at format pages n (rows_of items)) new_ones.new_ones.counted
       ∙ ap (λ (rows : List (ℕ × ℕ)). extents_at format pages sections rows) rows_are
 
+-- that no root was persistent can be spelled
+none_fits : (format : ℕ) → FitsRecord format 0
+none_fits format =
+    let none : record_in format 0 ≡ 0 = (let le : record_in format 0 ≤ 0 = recorded_below_root format 0 in omega (arith, le)) in
+    let small : 0 < 2 ^ 64 = omega arith in
+    subst (λ (n : ℕ). FitsRecord format n) none (recorded_fits_in format 0 small)
+
 -- a section of it, from its numbers
-pub new_section_is : (format extents pages sections section : ℕ) → IsGeometry format extents pages sections → section < sections → (it : Superblock) → it.format ≡ format → it.version ≡ 1 → it.extent_count ≡ extents → it.pages ≡ pages
+pub new_section_is : (format extents pages sections section : ℕ) → IsGeometry format extents pages sections → section < sections → (it : Superblock) → it.format ≡ format → it.version ≡ 1 → it.recorded ≡ 0 → it.extent_count ≡ extents → it.pages ≡ pages
     → it.sections ≡ sections → it.section ≡ section → it.extents.items ≡ replicate (section_length extents sections section) (0, 0) → IsNewSection format extents pages sections section it
-new_section_is format extents pages sections section g lt it written version counted same divided place rows = record {
+new_section_is format extents pages sections section g lt it written version unrecorded counted same divided place rows = record {
   section_at = record {
     is = record {
       first_version = omega (arith, version);
       last_version = omega (arith, version);
+      recorded_fits = subst (λ (n : ℕ). FitsRecord it.format n) (sym unrecorded) (none_fits it.format);
       geometry = subst (λ (n : ℕ). IsGeometry n it.extent_count it.pages it.sections) (sym written)
           (subst (λ (n : ℕ). IsGeometry format n it.pages it.sections) (sym counted)
           (subst (λ (n : ℕ). IsGeometry format extents n it.sections) (sym same) (subst (λ (n : ℕ). IsGeometry format extents pages n) (sym divided) g)));
@@ -199,6 +211,7 @@ new_section_is format extents pages sections section g lt it written version cou
     place = place;
   };
   first = version;
+  unrecorded = unrecorded;
   rows = rows;
 }
   where
@@ -212,25 +225,26 @@ none_new format extents pages sections = record { counted = refl; each = λ k it
 
 -- its page spells it so
 pub spelled_new : (format extents pages sections section : ℕ) (it : Superblock) → IsNewSection format extents pages sections section it → (bytes : List ℕ)
-    → SpellsSuperblock bytes it.format it.version it.extent_count it.pages it.sections it.section it.extents.items
-    → SpellsSuperblock bytes format 1 extents pages sections section (replicate (section_length extents sections section) (0, 0))
+    → SpellsSuperblock bytes it.format it.version it.recorded it.extent_count it.pages it.sections it.section it.extents.items
+    → SpellsSuperblock bytes format 1 0 extents pages sections section (replicate (section_length extents sections section) (0, 0))
 spelled_new format extents pages sections section it new_one bytes spelled =
     let at = new_one.section_at in
     let rows : List (ℕ × ℕ) = replicate (section_length extents sections section) (0, 0) in
-    subst (λ (n : ℕ). SpellsSuperblock bytes format n extents pages sections section rows) new_one.first
-    (subst (λ (n : ℕ). SpellsSuperblock bytes n it.version extents pages sections section rows) at.of_format
-    (subst (λ (n : ℕ). SpellsSuperblock bytes it.format it.version n pages sections section rows) at.of_extents
-    (subst (λ (n : ℕ). SpellsSuperblock bytes it.format it.version it.extent_count n sections section rows) at.of_pages
-    (subst (λ (n : ℕ). SpellsSuperblock bytes it.format it.version it.extent_count it.pages n section rows) at.of_sections
-    (subst (λ (n : ℕ). SpellsSuperblock bytes it.format it.version it.extent_count it.pages it.sections n rows) at.place
-    (subst (λ (rs : List (ℕ × ℕ)). SpellsSuperblock bytes it.format it.version it.extent_count it.pages it.sections it.section rs) new_one.rows spelled))))))
+    subst (λ (n : ℕ). SpellsSuperblock bytes format n 0 extents pages sections section rows) new_one.first
+    (subst (λ (n : ℕ). SpellsSuperblock bytes format it.version n extents pages sections section rows) new_one.unrecorded
+    (subst (λ (n : ℕ). SpellsSuperblock bytes n it.version it.recorded extents pages sections section rows) at.of_format
+    (subst (λ (n : ℕ). SpellsSuperblock bytes it.format it.version it.recorded n pages sections section rows) at.of_extents
+    (subst (λ (n : ℕ). SpellsSuperblock bytes it.format it.version it.recorded it.extent_count n sections section rows) at.of_pages
+    (subst (λ (n : ℕ). SpellsSuperblock bytes it.format it.version it.recorded it.extent_count it.pages n section rows) at.of_sections
+    (subst (λ (n : ℕ). SpellsSuperblock bytes it.format it.version it.recorded it.extent_count it.pages it.sections n rows) at.place
+    (subst (λ (rs : List (ℕ × ℕ)). SpellsSuperblock bytes it.format it.version it.recorded it.extent_count it.pages it.sections it.section rs) new_one.rows spelled)))))))
 
 -- what was written of a section, by its number
 pub moved_section : (format extents pages sections section k : ℕ) → section ≡ k → (old new : DiskState)
-    → (bytes : List ℕ) × SpellsSuperblock bytes format 1 extents pages sections section (replicate (section_length extents sections section) (0, 0)) × (new ≡ written old (head_page extents pages section) bytes)
-    → (bytes : List ℕ) × SpellsSuperblock bytes format 1 extents pages sections k (replicate (section_length extents sections k) (0, 0)) × (new ≡ written old (head_page extents pages k) bytes)
+    → (bytes : List ℕ) × SpellsSuperblock bytes format 1 0 extents pages sections section (replicate (section_length extents sections section) (0, 0)) × (new ≡ written old (head_page extents pages section) bytes)
+    → (bytes : List ℕ) × SpellsSuperblock bytes format 1 0 extents pages sections k (replicate (section_length extents sections k) (0, 0)) × (new ≡ written old (head_page extents pages k) bytes)
 moved_section format extents pages sections section k same old new wrote = subst
-    (λ (n : ℕ). (bytes : List ℕ) × SpellsSuperblock bytes format 1 extents pages sections n (replicate (section_length extents sections n) (0, 0)) × (new ≡ written old (head_page extents pages n) bytes)) same wrote
+    (λ (n : ℕ). (bytes : List ℕ) × SpellsSuperblock bytes format 1 0 extents pages sections n (replicate (section_length extents sections n) (0, 0)) × (new ≡ written old (head_page extents pages n) bytes)) same wrote
 
 -- one more of them
 pub more_new : (format extents pages sections count : ℕ) (items : List Superblock) (it : Superblock) → AreFirstNew format extents pages sections count items → IsNewSection format extents pages sections count it
@@ -244,12 +258,12 @@ more_new format extents pages sections count items it so_far new_one = record {
       (in_push items it k other at);
 }
 
-pub new_index_is : (format extents pages sections its_format limit : ℕ) (runs : List StoredRun) (i : IndexState) → its_format ≡ format → limit ≡ named_limit format pages → runs ≡ []
+pub new_index_is : (format extents pages sections its_format limit : ℕ) (runs : List StoredRun) (i : IndexState) → its_format ≡ format → limit ≡ most_weight_in format pages → runs ≡ []
     → i ≡ record { table = []; runs = newest_first runs; format = its_format; limit = limit; room = 0 } → i ≡ (new_stored format extents pages sections).index
 new_index_is format extents pages sections its_format limit runs i of_format same none is = is
     ∙ ap (λ (f : ℕ). record { table = []; runs = newest_first runs; format = f; limit = limit; room = 0 }) of_format
     ∙ ap (λ (k : ℕ). record { table = []; runs = newest_first runs; format = format; limit = k; room = 0 }) same
-    ∙ ap (λ (rs : List StoredRun). record { table = []; runs = newest_first rs; format = format; limit = named_limit format pages; room = 0 }) none
+    ∙ ap (λ (rs : List StoredRun). record { table = []; runs = newest_first rs; format = format; limit = most_weight_in format pages; room = 0 }) none
 
 -- a new store, from its parts
 pub new_is : (format extents pages sections : ℕ) (g : GraphState) (x : ExtentsState) (i : IndexState) (copies : List Copy) (roots : List Noted) → g ≡ (new_stored format extents pages sections).graph → x ≡ (new_stored format extents pages sections).extents
@@ -284,6 +298,7 @@ new_core disks disk opened v history base limit format extents pages sections is
     record {
       device = size ∙ sym total;
       replaced = omega (arith, first);
+      puts = subst (λ (h : List (Event × Reply)). ArePutsMeant h (but_for_room v)) (sym none) (λ id bytes put. absurd (cc put));
       sized = λ h. ap length as_is ∙ sized h ∙ size ∙ sym total;
       legal = λ h.
           let s = starts format extents pages sections is old (disks.state disk) (wrote h) in (

@@ -5,6 +5,7 @@ use Rattle.cs_core.specs.declared.events.Event.TheVariants.{BeginSweep, Delete, 
 use Rattle.cs_core.specs.declared.events.Reply.{Reply}
 use Rattle.cs_core.specs.declared.events.Reply.TheVariants.{Found}
 use Rattle.cs_core.specs.Lookups.{AreMeantBytes}
+use Rattle.cs_core.specs.Puts.{ChangesMeaning}
 use Rattle.cs_core.specs.Replies.{MayAnswer}
 use Rattle.cs_core.specs.Stored.{Stored}
 use Rattle.cs_core.specs.Writebacks.{WritesBack}
@@ -14,9 +15,9 @@ abbrev pub TellsMeant : Stored → Event → Reply → Type 0
 TellsMeant v (Get id) (Found bytes) = AreMeantBytes v (id_number id) bytes
 TellsMeant v event reply = Unit {0}
 
--- it is a reply to the event, the store is as the reply says, and so is what the reply tells
+-- it is a reply to the event, the store is as the reply says, and so are what the reply tells and what places mean then
 unfoldable pub IsAnswered : (old : Stored) → Event → Reply → (new : Stored) → Type 0
-IsAnswered old event reply new = MayAnswer event reply × WritesBack old event reply new × TellsMeant old event reply
+IsAnswered old event reply new = MayAnswer event reply × WritesBack old event reply new × TellsMeant old event reply × ChangesMeaning old event reply new
 
 -- events for which the disk is read, written or flushed, of those that a halted store refuses
 abbrev pub IsForDevice : Event → Type 0

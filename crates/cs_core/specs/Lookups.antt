@@ -11,7 +11,7 @@ use Rattle.cs_frame.specs.declared.locators.Locator.{Locator}
 use Rattle.cs_frame.specs.Formats.{as_locator, formats_of}
 use Rattle.cs_index.specs.State.{index_of}
 use Rattle.cs_model.specs.Element.{Bytes, Content, Damaged}
-use Rattle.cs_model.specs.Index.{joined, live_at}
+use Rattle.cs_model.specs.Index.{joined_bodies, live_at}
 use Rattle.cs_model.specs.Refusal.{Refusal as Ground}
 use Rattle.cs_model.specs.State.{State, map_now}
 use Rattle.cs_refine.specs.Devices.{IsDiskOf}
@@ -33,9 +33,9 @@ IsSize None result = result ≡ Ok None
 IsSize (Some (Bytes bytes)) result = MatchResult result (λ found. found ≡ Some (length bytes)) IsNoAnswer
 IsSize (Some (Damaged f)) result = MatchResult result (λ found. found ≢ None) IsHeaderRefusal
 
--- bytes that the places of an identifier mean: those of chunks whose frames these are, one by one
+-- bytes that the places of an identifier mean: what is behind the heads of the chunks whose frames these are, one by one
 abbrev pub AreMeantBytes : Stored → (id : ℕ) → (bytes : List ℕ) → Type 0
-AreMeantBytes v id bytes = (cs : List (List ℕ)) × AreMeant (shape v.extents) (map as_locator (live_at (index_of v.index) id)) cs × (bytes ≡ joined cs)
+AreMeantBytes v id bytes = (cs : List (List ℕ)) × AreMeant (shape v.extents) (map as_locator (live_at (index_of v.index) id)) cs × (bytes ≡ joined_bodies (formats_of (shape v.extents)) cs)
 
 -- whichever state store and disk are in, this is told of the size of what its map has
 unfoldable pub TellsSize : Stored → DiskState → (id : ℕ) → Result (Option ℕ) Refusal → Type 0

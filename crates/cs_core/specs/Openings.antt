@@ -1,10 +1,10 @@
 -- A store as it is opened, and why none is.
-use Rattle.std.specs.Prelude.{◌≡◌, ◌≢◌, ◌⊎◌, ◌+◌, ◌*◌, ◌<◌, ◌≤◌, ℕ, true, false, List, ◌∷◌, [], None, Some, length, map, slice_get}
+use Rattle.std.specs.Prelude.{◌≡◌, ◌≢◌, ◌⊎◌, ◌+◌, ◌*◌, ◌<◌, ◌≤◌, ℕ, true, false, List, ◌∷◌, [], None, Some, length, map, slice_get, slice_index}
 use Rattle.std.specs.List.{AllByRecursion}
 use Rattle.cs_chunk.specs.Chunks.{IsFrameIn}
 use Rattle.cs_chunk.specs.Reads.{IsNoAnswer, IsOfFault, fault_in}
 use Rattle.cs_deps.specs.declared.refusals.Refusal.{Refusal}
-use Rattle.cs_deps.specs.declared.refusals.Refusal.TheVariants.{NotAStore}
+use Rattle.cs_deps.specs.declared.refusals.Refusal.TheVariants.{NotAStore, RootLost}
 use Rattle.cs_deps.specs.Refusals.{number_of}
 use Rattle.cs_deps.specs.State.{State as GraphState}
 use Rattle.cs_disk.specs.Disk.{Image, page}
@@ -15,7 +15,7 @@ use Rattle.cs_frame.specs.declared.superblocks.Superblock.{Superblock}
 use Rattle.cs_frame.specs.FirstFormat.{SpellsPageZero, page_zero_fault}
 use Rattle.cs_frame.specs.FormatRuns.{run_fault}
 use Rattle.cs_frame.specs.Formats.{as_locator}
-use Rattle.cs_frame.specs.Geometries.{device_pages, named_limit}
+use Rattle.cs_frame.specs.Geometries.{device_pages}
 use Rattle.cs_frame.specs.Roots.{SpellsRoot, root_fault}
 use Rattle.cs_frame.specs.Superblocks.{SpellsSuperblock, superblock_fault}
 use Rattle.cs_image.specs.Counts.{HasCount}
@@ -25,7 +25,8 @@ use Rattle.cs_index.specs.declared.runs.StoredRun.{StoredRun}
 use Rattle.cs_index.specs.State.{State as IndexState, newest_first}
 use Rattle.cs_model.specs.Element.{Entry, Locator as Place}
 use Rattle.cs_model.specs.Formats.{RunFrame}
-use Rattle.cs_model.specs.Index.{entries_of, live_at, names}
+use Rattle.cs_model.specs.Geometry.{most_weight_in}
+use Rattle.cs_model.specs.Index.{entries_of, live_at, named_weight}
 use Rattle.cs_model.specs.Lists.{◌∈◌}
 use Rattle.cs_reclaim.specs.Rooted.{freed_under}
 use Rattle.cs_core.specs.Stored.{Stored}
@@ -45,7 +46,7 @@ abbrev pub opened_stored : ExtentsState → (versions : List ℕ) → (root comm
 opened_stored x versions root commands runs = record {
   graph = graph_at versions root;
   extents = x;
-  index = index_at (newest_first runs) x.format (named_limit x.format x.pages);
+  index = index_at (newest_first runs) x.format (most_weight_in x.format x.pages);
   copies = [];
   roots = record { version = root; commands = 0 } ∷ [];
   out = None;
@@ -59,52 +60,59 @@ opened_stored x versions root commands runs = record {
 -- Of extents as they were read, of runs, and of a graph a store is made: the extents are opened under the root.
 pub record IsLoaded (x : ExtentsState) (g : GraphState) (root commands : ℕ) (runs : List StoredRun) (store : Stored) : Type 0 where
   pub extents : ExtentsState
-  pub opened : AreExtentsOpened x (index_at (newest_first runs) x.format (named_limit x.format x.pages)) root extents
+  pub opened : AreExtentsOpened x (index_at (newest_first runs) x.format (most_weight_in x.format x.pages)) root extents
   pub made : (versions : List ℕ) → length versions ≡ x.sections → g ≡ graph_at versions root → store ≡ opened_stored extents versions root commands runs
 
 -- A whole store of this format was read: where hidden entries stand what all entries name is there, else what the newest entry of each
 -- identifier names.
-pub record IsStoreReadBy (view : ℕ → List ℕ) (format : ℕ) (versions : List ℕ) (pages : ℕ) (written : List (ℕ × ℕ)) (root commands : ℕ) (runs : List StoredRun) : Type 0 where
-  pub whole : (shape (extents_at format pages (length versions) written)).hidden_stand ≡ true → IsStoreRead view format versions pages written root commands runs
-  pub visible : (shape (extents_at format pages (length versions) written)).hidden_stand ≡ false → IsVisibleStoreRead view format versions pages written root commands runs
+pub record IsStoreReadBy (view : ℕ → List ℕ) (format : ℕ) (versions records : List ℕ) (pages : ℕ) (written : List (ℕ × ℕ)) (root commands : ℕ) (runs : List StoredRun) : Type 0 where
+  pub whole : (shape (extents_at format pages (length versions) written)).hidden_stand ≡ true → IsStoreRead view format versions records pages written root commands runs
+  pub visible : (shape (extents_at format pages (length versions) written)).hidden_stand ≡ false → IsVisibleStoreRead view format versions records pages written root commands runs
 
 -- A store is made of what was read, which an honest disk has: `found` tells the number of the root's commands.
 pub record IsOpened (honest : Type 0) (image : Image) (found : ℕ × ℕ) (store : Stored) : Type 0 where
   pub format : ℕ
   pub versions : List ℕ
+  pub records : List ℕ
   pub pages : ℕ
   pub written : List (ℕ × ℕ)
   pub root : ℕ
   pub runs : List StoredRun
   pub extents : ExtentsState
-  pub opened : AreExtentsOpened (extents_at format pages (length versions) written) (index_at (newest_first runs) format (named_limit format pages)) root extents
+  pub opened : AreExtentsOpened (extents_at format pages (length versions) written) (index_at (newest_first runs) format (most_weight_in format pages)) root extents
   pub made : store ≡ opened_stored extents versions root found.0 runs
-  pub read : honest → IsStoreReadBy (page image) format versions pages written root found.0 runs
+  pub read : honest → IsStoreReadBy (page image) format versions records pages written root found.0 runs
 
 -- Page 0 spells section 0 of a superblock of this format and of so many extents, pages and sections, with which the device has its pages.
 pub record IsFirstRead (count : ℕ) (view : ℕ → List ℕ) (format extents pages sections : ℕ) : Type 0 where
   pub version : ℕ
+  pub recorded : ℕ
   pub rows : List (ℕ × ℕ)
-  pub superblock : SpellsPageZero (view 0) format version extents pages sections 0 rows
+  pub superblock : SpellsPageZero (view 0) format version recorded extents pages sections 0 rows
   pub sized : count ≡ device_pages format extents pages sections
 
 -- The page of a further section spells it.
 pub record IsSectionThere (view : ℕ → List ℕ) (format extents pages sections section : ℕ) : Type 0 where
   pub version : ℕ
+  pub recorded : ℕ
   pub rows : List (ℕ × ℕ)
-  pub superblock : SpellsSuperblock (view (1 + extents * pages + section)) format version extents pages sections section rows
+  pub superblock : SpellsSuperblock (view (1 + extents * pages + section)) format version recorded extents pages sections section rows
 
--- The pages of all sections spell these extents, and with these the device has its pages.
-pub record AreExtentsRead (count : ℕ) (view : ℕ → List ℕ) (format : ℕ) (versions : List ℕ) (pages : ℕ) (written : List (ℕ × ℕ)) : Type 0 where
-  pub sections : AreSectionsRead view format versions pages written
+-- The pages of all sections spell these extents and what each records of the root, and with these the device has its pages.
+pub record AreExtentsRead (count : ℕ) (view : ℕ → List ℕ) (format : ℕ) (versions records : List ℕ) (pages : ℕ) (written : List (ℕ × ℕ)) : Type 0 where
+  pub sections : AreSectionsRead view format versions records pages written
   pub sized : count ≡ device_pages format (length written) pages (length versions)
 
 -- And page 1 spells a root over runs at these places.
-pub record IsRootRead (count : ℕ) (view : ℕ → List ℕ) (format : ℕ) (versions : List ℕ) (pages : ℕ) (written : List (ℕ × ℕ)) (places : List Locator) : Type 0 where
-  pub extents : AreExtentsRead count view format versions pages written
+pub record IsRootRead (count : ℕ) (view : ℕ → List ℕ) (format : ℕ) (versions records : List ℕ) (pages : ℕ) (written : List (ℕ × ℕ)) (places : List Locator) : Type 0 where
+  pub extents : AreExtentsRead count view format versions records pages written
   pub version : ℕ
   pub commands : ℕ
   pub root : SpellsRoot (view 1) format version commands places
+
+-- each of so many sections records a root of this version at most, as far as it records one
+abbrev pub AreRecordedBy : (sections : ℕ) (records : List ℕ) (version : ℕ) → Type 0
+AreRecordedBy sections records version = (j : ℕ) → j < sections → slice_index records j ≤ version
 
 -- ---- the tests of an opening in their order, each of which says what the ones before it found
 
@@ -121,13 +129,14 @@ pub record IsSuperblockDamaged (count : ℕ) (view : ℕ → List ℕ) (r : Refu
 -- The bytes spell a section of a superblock that isn't the first.
 pub record IsOtherFirst (bytes : List ℕ) (r : Refusal) : Type 0 where
   pub version : ℕ
+  pub recorded : ℕ
   pub format : ℕ
   pub extents : ℕ
   pub pages : ℕ
   pub sections : ℕ
   pub section : ℕ
   pub rows : List (ℕ × ℕ)
-  pub superblock : SpellsPageZero bytes format version extents pages sections section rows
+  pub superblock : SpellsPageZero bytes format version recorded extents pages sections section rows
   pub other : section ≢ 0
   pub refusal : r ≡ NotAStore
 
@@ -140,12 +149,13 @@ pub record IsOtherSection (count : ℕ) (view : ℕ → List ℕ) (r : Refusal) 
 pub record IsOtherDevice (count : ℕ) (view : ℕ → List ℕ) (r : Refusal) : Type 0 where
   pub enough : 10 ≤ count
   pub version : ℕ
+  pub recorded : ℕ
   pub format : ℕ
   pub extents : ℕ
   pub pages : ℕ
   pub sections : ℕ
   pub rows : List (ℕ × ℕ)
-  pub superblock : SpellsPageZero (view 0) format version extents pages sections 0 rows
+  pub superblock : SpellsPageZero (view 0) format version recorded extents pages sections 0 rows
   pub other : count ≢ device_pages format extents pages sections
   pub refusal : r ≡ NotAStore
 
@@ -160,12 +170,13 @@ pub record HasNumbers (format extents pages sections section : ℕ) (it : Superb
 -- The bytes spell, in this format, another section than this one of these numbers.
 pub record IsOtherSpelled (format extents pages sections section : ℕ) (bytes : List ℕ) (r : Refusal) : Type 0 where
   pub version : ℕ
+  pub recorded : ℕ
   pub their_extents : ℕ
   pub their_pages : ℕ
   pub their_sections : ℕ
   pub their_section : ℕ
   pub rows : List (ℕ × ℕ)
-  pub spelled : SpellsSuperblock bytes format version their_extents their_pages their_sections their_section rows
+  pub spelled : SpellsSuperblock bytes format version recorded their_extents their_pages their_sections their_section rows
   pub other : (their_extents ≡ extents) × (their_pages ≡ pages) × (their_sections ≡ sections) × (their_section ≡ section) → ⊥
   pub refusal : r ≡ NotAStore
 
@@ -195,10 +206,26 @@ pub record IsSectionDamaged (count : ℕ) (view : ℕ → List ℕ) (r : Refusal
 pub record IsRootDamaged (count : ℕ) (view : ℕ → List ℕ) (r : Refusal) : Type 0 where
   pub format : ℕ
   pub versions : List ℕ
+  pub records : List ℕ
   pub pages : ℕ
   pub written : List (ℕ × ℕ)
-  pub extents : AreExtentsRead count view format versions pages written
+  pub extents : AreExtentsRead count view format versions records pages written
   pub fault : IsOfFault (root_fault format (view 1)) r
+
+-- A section records a later root than the one that page 1 spells: that one is of before, and commands that were acknowledged since would be
+-- missed.
+pub record IsRootLost (count : ℕ) (view : ℕ → List ℕ) (r : Refusal) : Type 0 where
+  pub format : ℕ
+  pub versions : List ℕ
+  pub records : List ℕ
+  pub pages : ℕ
+  pub written : List (ℕ × ℕ)
+  pub places : List Locator
+  pub root : IsRootRead count view format versions records pages written places
+  pub section : ℕ
+  pub one_of_them : section < length versions
+  pub later : root.version < slice_index records section
+  pub refusal : r ≡ RootLost
 
 -- no run is read at a place: it isn't located, or the frame there has this fault, or its payload has it
 abbrev pub IsWhyNotRead : ExtentsState → (view : ℕ → List ℕ) → Locator → Refusal → Type 0
@@ -210,10 +237,12 @@ IsWhyNotRead x view place r = ((¬ IsLocated x place) × (r ≡ NotAStore))
 pub record IsRunDamaged (count : ℕ) (view : ℕ → List ℕ) (r : Refusal) : Type 0 where
   pub format : ℕ
   pub versions : List ℕ
+  pub records : List ℕ
   pub pages : ℕ
   pub written : List (ℕ × ℕ)
   pub places : List Locator
-  pub root : IsRootRead count view format versions pages written places
+  pub root : IsRootRead count view format versions records pages written places
+  pub recorded_fit : AreRecordedBy (length versions) records root.version
   pub runs : List StoredRun
   pub older : AreRunsRead (extents_at format pages (length versions) written) view places runs
   pub place : Locator
@@ -230,27 +259,30 @@ pub record AreLocatedBy (x : ExtentsState) (runs : List StoredRun) : Type 0 wher
   pub whole : (shape x).hidden_stand ≡ true → AreLocated x runs
   pub visible : (shape x).hidden_stand ≡ false → AreVisibleLocated x runs
 
--- All runs are read, and a locator of an entry isn't located, or they name more identifiers than one run may.
+-- All runs are read, and a locator of an entry isn't located, or the newest entries weigh more than those of one run may.
 pub record IsIndexDamaged (count : ℕ) (view : ℕ → List ℕ) (r : Refusal) : Type 0 where
   pub format : ℕ
   pub versions : List ℕ
+  pub records : List ℕ
   pub pages : ℕ
   pub written : List (ℕ × ℕ)
   pub runs : List StoredRun
-  pub root : IsRootRead count view format versions pages written (map (λ run. run.place) runs)
+  pub root : IsRootRead count view format versions records pages written (map (λ run. run.place) runs)
+  pub recorded_fit : AreRecordedBy (length versions) records root.version
   pub runs_read : AllByRecursion (IsRunRead (extents_at format pages (length versions) written) view) runs
   pub why : (¬ AreLocatedBy (extents_at format pages (length versions) written) runs)
-      ⊎ ((shape (extents_at format pages (length versions) written)).most_names < names (entries_of (newest_first runs)))
+      ⊎ ((shape (extents_at format pages (length versions) written)).most_weight
+      < named_weight (shape (extents_at format pages (length versions) written)).weigh (entries_of (newest_first runs)))
   pub refusal : r ≡ NotAStore
 
 -- why a device of so many pages, which read as these, isn't opened: the first of these tests that fails
 abbrev pub IsWhyNotOpened : (count : ℕ) → (view : ℕ → List ℕ) → Refusal → Type 0
 IsWhyNotOpened count view r = IsTooSmall count r ⊎ IsSuperblockDamaged count view r ⊎ IsOtherSection count view r ⊎ IsOtherDevice count view r
-    ⊎ IsSectionDamaged count view r ⊎ IsRootDamaged count view r ⊎ IsRunDamaged count view r ⊎ IsIndexDamaged count view r
+    ⊎ IsSectionDamaged count view r ⊎ IsRootDamaged count view r ⊎ IsRootLost count view r ⊎ IsRunDamaged count view r ⊎ IsIndexDamaged count view r
 
--- the refusals of any opening: 1, 9, 20 to 26, and 43
+-- the refusals of any opening: 1, 9, 20 to 27, and 43
 abbrev pub IsOpeningRefusal : Refusal → Type 0
-IsOpeningRefusal r = IsNoAnswer r ⊎ ((20 ≤ number_of r) × (number_of r ≤ 26)) ⊎ (r ≡ NotAStore)
+IsOpeningRefusal r = IsNoAnswer r ⊎ ((20 ≤ number_of r) × (number_of r ≤ 27)) ⊎ (r ≡ NotAStore)
 
 -- ---- what is read on the way
 
@@ -264,11 +296,11 @@ pub record IsWhyNoRuns (x : ExtentsState) (view : ℕ → List ℕ) (places : Li
 
 -- A store is made of sections of a superblock and of what was read after them, which an honest disk has. It has so many commands,
 -- and so many live shards.
-pub record IsStoreMade (honest : Type 0) (view : ℕ → List ℕ) (format : ℕ) (versions : List ℕ) (pages : ℕ) (written : List (ℕ × ℕ)) (commands live : ℕ) (store : Stored) : Type 0 where
+pub record IsStoreMade (honest : Type 0) (view : ℕ → List ℕ) (format : ℕ) (versions records : List ℕ) (pages : ℕ) (written : List (ℕ × ℕ)) (commands live : ℕ) (store : Stored) : Type 0 where
   pub root : ℕ
   pub runs : List StoredRun
   pub extents : ExtentsState
-  pub opened : AreExtentsOpened (extents_at format pages (length versions) written) (index_at (newest_first runs) format (named_limit format pages)) root extents
+  pub opened : AreExtentsOpened (extents_at format pages (length versions) written) (index_at (newest_first runs) format (most_weight_in format pages)) root extents
   pub made : store ≡ opened_stored extents versions root commands runs
   pub counted : HasCount (λ id. live_at (entries_of (newest_first runs)) id ≢ []) live
-  pub read : honest → IsStoreReadBy view format versions pages written root commands runs
+  pub read : honest → IsStoreReadBy view format versions records pages written root commands runs

@@ -3,12 +3,12 @@ use Rattle.std.specs.Prelude.{All, ◌≡◌, ◌⊎◌, ◌+◌, ◌*◌, ◌<�
 use Rattle.cs_disk.specs.Disk.{State as DiskState, Write, flushed, page, seen}
 use Rattle.cs_extent.specs.Sections.{IsSectionAt}
 use Rattle.cs_frame.specs.declared.superblocks.Superblock.{Superblock}
-use Rattle.cs_frame.specs.Geometries.{IsGeometry, named_limit, section_length, section_size}
+use Rattle.cs_frame.specs.Geometries.{IsGeometry, section_length, section_size}
 use Rattle.cs_frame.specs.Roots.{SpellsRoot}
 use Rattle.cs_frame.specs.Superblocks.{SpellsSuperblock}
 use Rattle.cs_image.specs.Openings.{AreNewSections, graph_at}
 use Rattle.cs_image.specs.Reads.{extents_at}
-use Rattle.cs_model.specs.Geometry.{shape_of}
+use Rattle.cs_model.specs.Geometry.{most_weight_in, shape_of}
 use Rattle.cs_core.specs.Stored.{Stored}
 
 -- a store of this format, of so many extents of so many pages, and of so many sections of the superblock, on which nothing was staged yet
@@ -16,7 +16,7 @@ abbrev pub new_stored : (format extents pages sections : ℕ) → Stored
 new_stored format extents pages sections = record {
   graph = graph_at (replicate sections 1) 1;
   extents = extents_at format pages sections (replicate extents (0, 0));
-  index = record { table = []; runs = []; format = format; limit = named_limit format pages; room = 0 };
+  index = record { table = []; runs = []; format = format; limit = most_weight_in format pages; room = 0 };
   copies = [];
   roots = record { version = 1; commands = 0 } ∷ [];
   out = None;
@@ -31,6 +31,8 @@ new_stored format extents pages sections = record {
 pub record IsNewSection (format extents pages sections section : ℕ) (it : Superblock) : Type 0 where
   pub section_at : IsSectionAt format extents pages sections section it
   pub first : it.version ≡ 1
+  -- no root was persistent yet
+  pub unrecorded : it.recorded ≡ 0
   pub rows : it.extents.items ≡ replicate (section_length extents sections section) (0, 0)
 
 -- These are its first sections, so many.
@@ -62,7 +64,7 @@ IsFormatted extents pages old new = (between : DiskState) × IsHeadWritten exten
 pub record AreNewWritten (format extents pages sections count : ℕ) (old new : DiskState) : Type 0 where
   pub head : IsHeadWritten extents pages old new
   pub each : (j : ℕ) → j < count
-      → SpellsSuperblock (page (seen new) ((shape_of extents pages sections (section_size extents sections) format).section_page j)) format 1 extents pages sections j
+      → SpellsSuperblock (page (seen new) ((shape_of extents pages sections (section_size extents sections) format).section_page j)) format 1 0 extents pages sections j
       (replicate (section_length extents sections j) (0, 0))
 
 -- A new store was written and made durable: the sections of its superblock, and its root.

@@ -9,14 +9,15 @@ use Rattle.cs_extent.specs.State.{State as ExtentsState, extents_of, shape}
 use Rattle.cs_index.specs.State.{State as IndexState, index_of}
 use Rattle.cs_model.specs.Device.{Inside, Shape}
 use Rattle.cs_model.specs.Element.{Copy, Locator as Place}
-use Rattle.cs_model.specs.Index.{live_at}
+use Rattle.cs_model.specs.Index.{live_at, weight_with}
 use Rattle.cs_model.specs.Lists.{◌∈◌}
 use Rattle.cs_deps.specs.declared.refusals.Refusal.{Refusal}
 use Rattle.cs_deps.specs.declared.refusals.Refusal.TheVariants.{Full, WornOut}
 use Rattle.cs_frame.specs.Formats.{formats_of}
 use Rattle.cs_model.specs.Append.{chunk_frames, page_counts}
-use Rattle.cs_model.specs.Events.{Chunked}
+use Rattle.cs_model.specs.Events.{ArePayloads, Chunked}
 use Rattle.cs_model.specs.Extents.{FitsBy, ForPut}
+use Rattle.cs_model.specs.Geometry.{weigh_in}
 use Rattle.cs_reclaim.specs.Copied.{AllUpTo, AreInOrder}
 use Rattle.cs_reclaim.specs.Sweeps.{IsSwept, IsSweptApart}
 use Rattle.cs_refine.specs.Rounds.{members_of as members}
@@ -72,14 +73,15 @@ AreSwept x = (e : ℕ) → (extents_of x).swept e ≡ true
     → ((shape x).apart ≡ false → IsSwept (shape x) (extents_of x) e) × ((shape x).apart ≡ true → IsSweptApart (shape x) (extents_of x) e)
 
 -- What every store keeps where chunks and runs lie apart: no more runs than a root may have, and of the sweep that goes on that one extent
--- alone is marked, that each chunk that lives there is copied up to the last copy, by identifier and then by number, and that the copies
--- lie on pages of extents that are there.
+-- alone is marked, that each chunk that lives there is copied up to the last copy, by identifier and then by number, that the copies
+-- lie on pages of extents that are there, and that a copy means what the chunk meant.
 pub record IsKeptApart (x : ExtentsState) (i : IndexState) (copies : List Copy) : Type 0 where
   pub runs : length i.runs ≤ (shape x).most_runs
   pub one : (d e : ℕ) → (extents_of x).swept d ≡ true → (extents_of x).swept e ≡ true → d ≡ e
   pub order : AreInOrder copies
   pub up_to : (e : ℕ) → (extents_of x).swept e ≡ true → AllUpTo (index_of i) copies e
   pub placed : (c : Copy) → c ∈ copies → Inside (shape x) c.to.extent c.to.page
+  pub marks : (c : Copy) → c ∈ copies → c.to.mark ≡ c.from.mark
 
 -- the members of the round that is out, none without one
 abbrev pub members_of : Option (List Name) → List Name
@@ -91,7 +93,7 @@ pub record IsKept (s : Stored) : Type 0 where
   pub resets : AreResetsStaged (extents_of s.extents) s.graph.staging
   pub writes : AreWithin (page_total (shape s.extents)) s.graph
   pub format : s.index.format ≡ (shape s.extents).format
-  pub limit : s.index.limit ≡ (shape s.extents).most_names
+  pub limit : s.index.limit ≡ (shape s.extents).most_weight
   pub places : AreInside (shape s.extents) s.index
   pub round : s.out ≡ s.graph.round
   pub some : s.issued ≤ length (members_of s.out)
@@ -104,8 +106,16 @@ pub record IsKept (s : Stored) : Type 0 where
 abbrev pub but_for_room : Stored → Stored
 but_for_room s = record s { graph = record s.graph { room = 0 }; index = record s.index { room = 0 } }
 
--- why a put is refused where the number of commands is the greatest: 30 where its chunks don't fit, else 35
+-- with an entry of the chunks of these bytes in place of what the identifier has, the newest entries of an index weigh more than they may
+abbrev pub IsTooHeavy : Shape → IndexState → (id : ℕ) → (bytes : List ℕ) → Type 0
+IsTooHeavy S index id bytes = (pieces : List (List ℕ)) × Chunked S.chunk_bytes bytes pieces
+    × (index.limit < weight_with (weigh_in index.format) (index_of index) id (length pieces))
+
+-- why a put is refused where the number of commands is the greatest, whatever its identifier and its number: 30 where its chunks don't
+-- fit, else 35
 abbrev pub IsWhyWorn : ExtentsState → List ℕ → Refusal → Type 0
-IsWhyWorn x bytes WornOut = (cs : List (List ℕ)) × Chunked (shape x).chunk_bytes bytes cs × FitsBy (shape x) (shape x).apart (extents_of x) ForPut (page_counts (chunk_frames (shape x) (formats_of (shape x)) cs))
-IsWhyWorn x bytes Full = (cs : List (List ℕ)) → Chunked (shape x).chunk_bytes bytes cs → FitsBy (shape x) (shape x).apart (extents_of x) ForPut (page_counts (chunk_frames (shape x) (formats_of (shape x)) cs)) → ⊥
+IsWhyWorn x bytes WornOut = (id command : ℕ) → (cs : List (List ℕ)) × ArePayloads (shape x) (formats_of (shape x)) id command bytes cs
+    × FitsBy (shape x) (shape x).apart (extents_of x) ForPut (page_counts (chunk_frames (shape x) (formats_of (shape x)) cs))
+IsWhyWorn x bytes Full = (id command : ℕ) (cs : List (List ℕ)) → ArePayloads (shape x) (formats_of (shape x)) id command bytes cs
+    → FitsBy (shape x) (shape x).apart (extents_of x) ForPut (page_counts (chunk_frames (shape x) (formats_of (shape x)) cs)) → ⊥
 IsWhyWorn x bytes _ = ⊥

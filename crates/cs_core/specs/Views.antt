@@ -20,6 +20,7 @@ use Rattle.cs_core.specs.declared.events.Reply.{Reply}
 use Rattle.cs_core.specs.declared.events.Reply.TheVariants.{Refused}
 use Rattle.cs_core.specs.Answered.{IsLimited}
 use Rattle.cs_core.specs.Meanings.{Says, event_of}
+use Rattle.cs_core.specs.Puts.{ArePutsMeant, ChangesMeaning}
 use Rattle.cs_core.specs.States.{IsStateOf}
 use Rattle.cs_core.specs.Stored.{Stored}
 
@@ -65,11 +66,13 @@ pub record IsIn {D : Type 0} (state : D → DiskState) (v : View D) (s : model.S
 abbrev pub IsFound : Shape → Image → (found : ℕ × ℕ) → Type 0
 IsFound S image found = (m : Map) × Recovers S (formats_of S) (page image) found.0 m × HasCount (λ id. m id ≢ None) found.1
 
--- What every core keeps: the disk has the geometry's pages, the events that were replaced are some of its history, and where the disk is
--- honest the core is in a state of the machine that its whole history leads to, and was opened on an image of that many commands and shards.
+-- What every core keeps: the disk has the geometry's pages, the events that were replaced are some of its history, what was put last under an
+-- identifier is what its places mean, and where the disk is honest the core is in a state of the machine that its whole history leads to, and was
+-- opened on an image of that many commands and shards.
 pub record IsCore {D : Type 0} (disks : PageDisk D) (v : View D) : Type 0 where
   pub device : disks.page_count v.disk ≡ page_total (shape v.store.extents)
   pub replaced : v.base ≤ length v.history
+  pub puts : ArePutsMeant v.history v.store
   pub sized : disks.honest v.disk → length v.opened ≡ page_total (shape v.store.extents)
   pub legal : disks.honest v.disk → (s : model.State) × IsIn disks.state v s
   pub begun : disks.honest v.disk → IsFound (shape v.store.extents) v.opened v.found
@@ -82,7 +85,7 @@ pub record IsFull {D : Type 0} (old : View D) (event : Event) (reply : Reply) (n
   pub same : new ≡ old
 
 -- The event with its reply was kept in the history, and where the disk is honest the core went on by one step of the machine,
--- from whichever state it was in.
+-- from whichever state it was in. Whatever the disk is, places mean what the event made of them.
 pub record IsStep {D : Type 0} (disks : PageDisk D) (old : View D) (event : Event) (reply : Reply) (new : View D) : Type 0 where
   pub room : IsLimited event → length (kept old) < old.limit
   pub history : new.history ≡ old.history ++ (event, reply) ∷ []
@@ -91,6 +94,7 @@ pub record IsStep {D : Type 0} (disks : PageDisk D) (old : View D) (event : Even
   pub found : new.found ≡ old.found
   pub limit : new.limit ≡ old.limit
   pub same_shape : shape new.store.extents ≡ shape old.store.extents
+  pub means : ChangesMeaning old.store event reply new.store
   -- 1 is answered only where the disk's count of failures rose, or stood at its end
   pub cause : reply ≡ Refused DeviceFault → Rises (disks.failure_count old.disk) (disks.failure_count new.disk)
   -- that count doesn't fall

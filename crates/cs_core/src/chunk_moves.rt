@@ -2,6 +2,7 @@
 ghost use Rattle.std.specs.Prelude.{◌≡◌, ◌⊎◌, IfErr, None, OnErr, OnOk, false, true};
 ghost use Rattle.cs_chunk.specs.Reads.{IsCaused, OnlyReads};
 ghost use Rattle.cs_extent.specs.State.{shape};
+ghost use Rattle.cs_core.specs.Puts.{MeansTheSame};
 ghost use Rattle.cs_core.specs.Reads.{MoveAnswers};
 ghost use Rattle.cs_core.specs.Replies.{MayRefuse};
 ghost use Rattle.cs_core.specs.Stored.{but_for_room};
@@ -31,6 +32,7 @@ impl Store {
         ensures step { self.old.halted ≡ false → D.honest disk.old → MoveAnswers self.old (D.state disk.old) extent result self.new }
         ensures round { KeepsRound self.old self.new }
         ensures behind { OnOk result (Stages self.old self.new) }
+        ensures meaning { OnOk result (MeansTheSame self.old.index self.new.index) }
         ensures refused { OnErr result (but_for_room self.new ≡ but_for_room self.old) }
         ensures refusals { IfErr result (λ r. (r ≡ Refusal.OutOfMemory) ⊎ MayRefuse (Event.MoveOne extent) r) }
         ensures shape { shape self.new.extents ≡ shape self.old.extents }
@@ -57,6 +59,7 @@ impl Store {
         ensures step { self.old.halted ≡ false → D.honest disk.old → MoveAnswers self.old (D.state disk.old) extent result self.new }
         ensures round { KeepsRound self.old self.new }
         ensures behind { OnOk result (Stages self.old self.new) }
+        ensures meaning { OnOk result (MeansTheSame self.old.index self.new.index) }
         ensures refused { OnErr result (but_for_room self.new ≡ but_for_room self.old) }
         ensures refusals { IfErr result (λ r. (r ≡ Refusal.OutOfMemory) ⊎ MayRefuse (Event.MoveOne extent) r) }
         ensures shape { shape self.new.extents ≡ shape self.old.extents }
@@ -91,6 +94,7 @@ impl Store {
         ensures step { self.old.halted ≡ false → D.honest disk.old → MoveAnswers self.old (D.state disk.old) extent result self.new }
         ensures round { KeepsRound self.old self.new }
         ensures behind { OnOk result (Stages self.old self.new) }
+        ensures meaning { OnOk result (MeansTheSame self.old.index self.new.index) }
         ensures refused { OnErr result (but_for_room self.new ≡ but_for_room self.old) }
         ensures refusals { IfErr result (λ r. (r ≡ Refusal.OutOfMemory) ⊎ MayRefuse (Event.MoveOne extent) r) }
         ensures shape { shape self.new.extents ≡ shape self.old.extents }

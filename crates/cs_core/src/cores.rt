@@ -137,11 +137,12 @@ impl<D: PageDisk> Core<D> {
     /// The disk comes back where it is refused, by the first test that fails: 43 NotAStore where there are fewer than 10
     /// pages, before the disk is asked for anything; 20 to 24 for page 0; 43 where it has another section than the first, then
     /// where the disk hasn't the superblock's pages; for each further section 20 to 24 for its page, and 43 where that has
-    /// another section, or one of another superblock; 20 to 24 for page 1; for each run, the oldest first, 43 where its locator
+    /// another section, or one of another superblock; 20 to 24 for page 1; in format 3 27 RootLost where a section records a later root
+    /// than that of page 1, since commands that were acknowledged would be missed; for each run, the oldest first, 43 where its locator
     /// is of no frame, and 20 to 26 for its pages; 43 where a locator of an entry is of no frame, in format 3 one of the newest entry
-    /// of an identifier, or where more identifiers are named than one run may name. 1 DeviceFault and 9 OutOfMemory may come in place
-    /// of any but the first. Of what was read the superblock's pointers, the root's numbers and the index are kept in memory; in format
-    /// 3 extents on which nothing that counts lies are emptied there.
+    /// of an identifier, or where the newest entries weigh more than those of one run may. 1 DeviceFault and 9 OutOfMemory may come in
+    /// place of any but the first. Of what was read the superblock's pointers, the root's numbers and the index are kept in memory; in
+    /// format 3 extents on which nothing that counts lies are emptied there.
     pub fn open(alloc: Global, disk: D, limits: Limits) -> Result<Self, (Refusal, D)>
         ensures new { IfOk result (λ core. (core.history ≡ []) × (core.base ≡ 0) × (core.limit ≡ limits.history)) }
         ensures image { IfOk result (λ core. D.honest disk → (core.opened ≡ seen (D.state disk)) × (D.state core.disk ≡ flushed (D.state disk))) }
@@ -151,7 +152,7 @@ impl<D: PageDisk> Core<D> {
             → (let S = shape_of extents pages sections (section_size extents sections) format in Recovers S (formats_of S) (page (seen (D.state disk))) n m
             → MatchResult result (λ core. (shape core.store.extents ≡ S) × (core.found.0 ≡ n) × HasCount (λ id. m id ≢ None) core.found.1) (λ refused. IsNoAnswer refused.0)) }
         ensures refusals { IfErr result (λ refused. D.honest disk → IsNoAnswer refused.0 ⊎ IsWhyNotOpened (D.page_count disk) (page (seen (D.state disk))) refused.0) }
-        // Whatever the disk answers: 1, 9, 20 to 26, or 43.
+        // Whatever the disk answers: 1, 9, 20 to 27, or 43.
         ensures number { IfErr result (λ refused. IsOpeningRefusal refused.0) }
         ensures small { D.page_count disk < 10 → result ≡ Err (Refusal.NotAStore, disk) }
         // Nothing but a flush is done to the disk, and a crash within leaves what one before it might have left.

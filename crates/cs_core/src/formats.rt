@@ -19,6 +19,7 @@ use std::alloc::{AllocError, Global};
 /// A section of a new store's superblock.
 fn new_section(alloc: Global, geometry: Geometry, section: u8) -> Result<Superblock, AllocError>
     ensures version { IfOk result (λ it. it.version ≡ 1) }
+    ensures recorded { IfOk result (λ it. it.recorded ≡ 0) }
     ensures format { IfOk result (λ it. it.format ≡ geometry.format) }
     ensures extents { IfOk result (λ it. it.extent_count ≡ geometry.extents) }
     ensures pages { IfOk result (λ it. it.pages ≡ geometry.pages) }
@@ -29,6 +30,8 @@ fn new_section(alloc: Global, geometry: Geometry, section: u8) -> Result<Superbl
     Ok(Superblock {
         format: geometry.format(),
         version: 1,
+        // No root is persistent yet.
+        recorded: 0,
         extent_count: geometry.extents(),
         pages: geometry.pages(),
         sections: geometry.sections(),
@@ -52,14 +55,14 @@ fn new_sections(alloc: Global, geometry: Geometry) -> Result<Vec<Superblock>, Al
     Ok(sections)
 }
 
-/// An index that names nothing. Refused for memory alone: without runs no identifier is named.
+/// An index that names nothing. Refused for memory alone: without runs nothing weighs.
 fn new_index(alloc: Global, geometry: Geometry) -> Result<Index, AllocError>
     ensures { IfOk result (λ index. index ≡ (new_stored geometry.format geometry.extents geometry.pages geometry.sections).index) }
 {
     match Index::load(
         alloc,
         geometry.format(),
-        geometry.named_limit(),
+        geometry.most_weight(),
         Vec::new(alloc),
     ) {
         Ok(index) => Ok(index),
@@ -105,7 +108,7 @@ fn write_section<D: PageDisk>(
     requires sized { D.page_count disk.old ≡ device_pages geometry.format geometry.extents geometry.pages geometry.sections }
     requires section { IsNewSection geometry.format geometry.extents geometry.pages geometry.sections superblock.now.section superblock.now }
     ensures written { D.honest disk.old → OnOk result ((bytes : List ℕ)
-        × SpellsSuperblock bytes geometry.format 1 geometry.extents geometry.pages geometry.sections superblock.now.section (replicate (section_length geometry.extents geometry.sections superblock.now.section) (0, 0))
+        × SpellsSuperblock bytes geometry.format 1 0 geometry.extents geometry.pages geometry.sections superblock.now.section (replicate (section_length geometry.extents geometry.sections superblock.now.section) (0, 0))
         × (D.state disk.new ≡ written (D.state disk.old) (if superblock.now.section == 0 then 0 else 1 + geometry.extents * geometry.pages + superblock.now.section) bytes)) }
     ensures failed { D.honest disk.old → OnErr result ((D.state disk.new ≡ D.state disk.old) ⊎ ((bytes : List ℕ)
         × (D.state disk.new ≡ written (D.state disk.old) (if superblock.now.section == 0 then 0 else 1 + geometry.extents * geometry.pages + superblock.now.section) bytes))) }

@@ -18,6 +18,7 @@ ghost use Rattle.cs_refine.specs.Crashes.{IsPrefix, IsTornFrom};
 ghost use Rattle.cs_refine.specs.Devices.{persistent_image};
 ghost use Rattle.cs_core.specs.Lookups.{AreMeantBytes};
 ghost use Rattle.cs_core.specs.Meanings.{commands_said};
+ghost use Rattle.cs_core.specs.Puts.{newest_command};
 ghost use Rattle.cs_core.specs.Calls.{AreCalls, IsRoundDone};
 ghost use Rattle.cs_core.specs.Disks.{IsDiskAfter};
 ghost use Rattle.cs_core.specs.States.{IsStateOf};
@@ -46,6 +47,15 @@ pub fn what_may_be_staged_agrees()
 pub fn what_places_mean_is_what_the_map_has()
     ensures { (v : Stored) (s : State) (id : ℕ) (bytes told : List ℕ) → IsStateOf v s → marks_in v.extents.format ≡ true
         → map_now s id ≡ Some (Bytes bytes) → AreMeantBytes v id told
+        → (told ≡ bytes) ⊎ ((c d : List ℕ) × (c ≢ d) × (digest_front c ≡ digest_front d)) }
+{}
+
+/// Of a core over any disk: in a format that has marks, bytes that the places of an identifier mean are those that were put under it last since
+/// the core was opened, if nothing deleted it since, or two different texts agree in the first eight bytes of their digests. The clause `meant`
+/// of `Core::apply` says that a Get tells such bytes.
+pub fn what_places_mean_is_what_was_put<D: PageDisk>()
+    ensures { (v : View D) (id : ℕ) (bytes told : List ℕ) → IsCore D.PageDisk v → marks_in v.store.extents.format ≡ true
+        → newest_command (commands_said v.history) id ≡ Some (Some bytes) → AreMeantBytes v.store id told
         → (told ≡ bytes) ⊎ ((c d : List ℕ) × (c ≢ d) × (digest_front c ≡ digest_front d)) }
 {}
 

@@ -42,5 +42,5 @@ pub use laws::{
     a_crash_of_a_run_leaves_a_prefix, a_round_lowers_heights_by_one,
     all_accepted_is_persistent_at_rest, disks_hold_what_is_persistent,
     what_a_torn_crash_leaves_is_recovered, what_may_be_staged_agrees,
-    what_places_mean_is_what_the_map_has,
+    what_places_mean_is_what_the_map_has, what_places_mean_is_what_was_put,
 };

@@ -11,7 +11,7 @@ ghost use Rattle.cs_image.specs.Reads.{AreLocated, AreVisibleLocated, IsLocated,
 ghost use Rattle.cs_index.specs.Sorted.{live_entry};
 ghost use Rattle.cs_index.specs.State.{index_of, newest_first};
 ghost use Rattle.cs_model.specs.Apart.{any_run_on};
-ghost use Rattle.cs_model.specs.Index.{entries_of, live_at, names};
+ghost use Rattle.cs_model.specs.Index.{entries_of, live_at, named_weight};
 ghost use Rattle.cs_core.specs.Openings.{AreExtentsOpened, AreLiveLocated, AreLocatedBy, IsLoaded, IsOpeningRefusal};
 
 use crate::roots::{Root as Noted, first_root};
@@ -54,35 +54,35 @@ fn live_count(index: &Index) -> usize
     count
 }
 
-/// The index of runs. Refused 43 NotAStore where they name too many identifiers, and 9 OutOfMemory.
+/// The index of runs. Refused 43 NotAStore where their newest entries weigh too much, and 9 OutOfMemory.
 fn load_runs(alloc: Global, extents: &Extents, runs: Vec<StoredRun>) -> Result<Index, Refusal>
     requires few { length runs.items ≤ 24 }
     requires runs { AllByRecursion (λ run. IsRun (shape extents.now).format (record { entries = run.entries })) runs.items }
     requires marks { KeepFormat (shape extents.now).format (map (λ run. run.place) runs.items) }
-    ensures loaded { IfOk result (λ index. index ≡ index_at (newest_first runs.items) (shape extents.now).format (shape extents.now).most_names) }
-    ensures named { OnOk result (names (entries_of (newest_first runs.items)) ≤ (shape extents.now).most_names) }
+    ensures loaded { IfOk result (λ index. index ≡ index_at (newest_first runs.items) (shape extents.now).format (shape extents.now).most_weight) }
+    ensures named { OnOk result (named_weight (shape extents.now).weigh (entries_of (newest_first runs.items)) ≤ (shape extents.now).most_weight) }
     ensures number { IfErr result IsOpeningRefusal }
-    ensures why { IfErr result (λ r. (r ≡ Refusal.OutOfMemory) ⊎ ((r ≡ Refusal.NotAStore) × ((shape extents.now).most_names < names (entries_of (newest_first runs.items))))) }
+    ensures why { IfErr result (λ r. (r ≡ Refusal.OutOfMemory) ⊎ ((r ≡ Refusal.NotAStore) × ((shape extents.now).most_weight < named_weight (shape extents.now).weigh (entries_of (newest_first runs.items))))) }
 {
     let geometry = extents.geometry();
-    let limit = geometry.named_limit();
+    let limit = geometry.most_weight();
     match Index::load(alloc, geometry.format(), limit, runs) {
         Ok(index) => Ok(index),
         Err(refusal) => Err(refusal),
     }
 }
 
-/// The index of runs whose places are located, those of hidden entries too. Refused 43 NotAStore where they aren't, or name too many
-/// identifiers, and 9 OutOfMemory.
+/// The index of runs whose places are located, those of hidden entries too. Refused 43 NotAStore where they aren't, or where their newest
+/// entries weigh too much, and 9 OutOfMemory.
 fn load_whole(alloc: Global, extents: &Extents, runs: Vec<StoredRun>) -> Result<Index, Refusal>
     requires few { length runs.items ≤ 24 }
     requires runs { AllByRecursion (λ run. IsRun (shape extents.now).format (record { entries = run.entries })) runs.items }
     requires marks { KeepFormat (shape extents.now).format (map (λ run. run.place) runs.items) }
-    ensures loaded { IfOk result (λ index. index ≡ index_at (newest_first runs.items) (shape extents.now).format (shape extents.now).most_names) }
+    ensures loaded { IfOk result (λ index. index ≡ index_at (newest_first runs.items) (shape extents.now).format (shape extents.now).most_weight) }
     ensures located { OnOk result (AreLocated extents.now runs.items) }
-    ensures named { OnOk result (names (entries_of (newest_first runs.items)) ≤ (shape extents.now).most_names) }
+    ensures named { OnOk result (named_weight (shape extents.now).weigh (entries_of (newest_first runs.items)) ≤ (shape extents.now).most_weight) }
     ensures number { IfErr result IsOpeningRefusal }
-    ensures why { IfErr result (λ r. (r ≡ Refusal.OutOfMemory) ⊎ ((r ≡ Refusal.NotAStore) × ((¬ AreLocated extents.now runs.items) ⊎ ((shape extents.now).most_names < names (entries_of (newest_first runs.items)))))) }
+    ensures why { IfErr result (λ r. (r ≡ Refusal.OutOfMemory) ⊎ ((r ≡ Refusal.NotAStore) × ((¬ AreLocated extents.now runs.items) ⊎ ((shape extents.now).most_weight < named_weight (shape extents.now).weigh (entries_of (newest_first runs.items)))))) }
 {
     if !are_located(extents, &runs) {
         return Err(Refusal::NotAStore);
@@ -94,16 +94,16 @@ fn load_whole(alloc: Global, extents: &Extents, runs: Vec<StoredRun>) -> Result<
 }
 
 /// The index of runs where the places of the newest entry of each identifier are located. Refused 43 NotAStore where they aren't, or
-/// where the runs name too many identifiers, and 9 OutOfMemory.
+/// where these weigh too much, and 9 OutOfMemory.
 fn load_visible(alloc: Global, extents: &Extents, runs: Vec<StoredRun>) -> Result<Index, Refusal>
     requires few { length runs.items ≤ 24 }
     requires runs { AllByRecursion (λ run. IsRun (shape extents.now).format (record { entries = run.entries })) runs.items }
     requires marks { KeepFormat (shape extents.now).format (map (λ run. run.place) runs.items) }
-    ensures loaded { IfOk result (λ index. index ≡ index_at (newest_first runs.items) (shape extents.now).format (shape extents.now).most_names) }
+    ensures loaded { IfOk result (λ index. index ≡ index_at (newest_first runs.items) (shape extents.now).format (shape extents.now).most_weight) }
     ensures located { OnOk result (AreVisibleLocated extents.now runs.items) }
-    ensures named { OnOk result (names (entries_of (newest_first runs.items)) ≤ (shape extents.now).most_names) }
+    ensures named { OnOk result (named_weight (shape extents.now).weigh (entries_of (newest_first runs.items)) ≤ (shape extents.now).most_weight) }
     ensures number { IfErr result IsOpeningRefusal }
-    ensures why { IfErr result (λ r. (r ≡ Refusal.OutOfMemory) ⊎ ((r ≡ Refusal.NotAStore) × ((¬ AreVisibleLocated extents.now runs.items) ⊎ ((shape extents.now).most_names < names (entries_of (newest_first runs.items)))))) }
+    ensures why { IfErr result (λ r. (r ≡ Refusal.OutOfMemory) ⊎ ((r ≡ Refusal.NotAStore) × ((¬ AreVisibleLocated extents.now runs.items) ⊎ ((shape extents.now).most_weight < named_weight (shape extents.now).weigh (entries_of (newest_first runs.items)))))) }
 {
     match load_runs(alloc, extents, runs) {
         Ok(index) => located_or_none(extents, index),
@@ -139,16 +139,16 @@ fn are_live_located(extents: &Extents, index: &Index) -> bool
 }
 
 /// The index of runs whose places are located: those of all entries where chunks and runs may lie on one extent, else those of the newest
-/// entry of each identifier. Refused 43 NotAStore where they aren't, or name too many identifiers, and 9 OutOfMemory.
+/// entry of each identifier. Refused 43 NotAStore where they aren't, or where the newest entries weigh too much, and 9 OutOfMemory.
 fn load_index(alloc: Global, extents: &Extents, runs: Vec<StoredRun>) -> Result<Index, Refusal>
     requires few { length runs.items ≤ 24 }
     requires runs { AllByRecursion (λ run. IsRun (shape extents.now).format (record { entries = run.entries })) runs.items }
     requires marks { KeepFormat (shape extents.now).format (map (λ run. run.place) runs.items) }
-    ensures loaded { IfOk result (λ index. index ≡ index_at (newest_first runs.items) (shape extents.now).format (shape extents.now).most_names) }
+    ensures loaded { IfOk result (λ index. index ≡ index_at (newest_first runs.items) (shape extents.now).format (shape extents.now).most_weight) }
     ensures located { OnOk result (AreLocatedBy extents.now runs.items) }
-    ensures named { OnOk result (names (entries_of (newest_first runs.items)) ≤ (shape extents.now).most_names) }
+    ensures named { OnOk result (named_weight (shape extents.now).weigh (entries_of (newest_first runs.items)) ≤ (shape extents.now).most_weight) }
     ensures number { IfErr result IsOpeningRefusal }
-    ensures why { IfErr result (λ r. (r ≡ Refusal.OutOfMemory) ⊎ ((r ≡ Refusal.NotAStore) × ((¬ AreLocatedBy extents.now runs.items) ⊎ ((shape extents.now).most_names < names (entries_of (newest_first runs.items)))))) }
+    ensures why { IfErr result (λ r. (r ≡ Refusal.OutOfMemory) ⊎ ((r ≡ Refusal.NotAStore) × ((¬ AreLocatedBy extents.now runs.items) ⊎ ((shape extents.now).most_weight < named_weight (shape extents.now).weigh (entries_of (newest_first runs.items)))))) }
 {
     if extents.is_apart() {
         load_visible(alloc, extents, runs)
@@ -197,12 +197,12 @@ fn load_parts(
     requires few { length runs.items ≤ 24 }
     requires runs { AllByRecursion (λ run. IsRun (shape extents.now).format (record { entries = run.entries })) runs.items }
     requires marks { KeepFormat (shape extents.now).format (map (λ run. run.place) runs.items) }
-    ensures loaded { IfOk result (λ made. made.0 ≡ index_at (newest_first runs.items) (shape extents.now).format (shape extents.now).most_names) }
+    ensures loaded { IfOk result (λ made. made.0 ≡ index_at (newest_first runs.items) (shape extents.now).format (shape extents.now).most_weight) }
     ensures noted { IfOk result (λ made. made.1.items ≡ record { version = root.now.version; commands = 0 } ∷ []) }
     ensures located { OnOk result (AreLocatedBy extents.now runs.items) }
-    ensures named { OnOk result (names (entries_of (newest_first runs.items)) ≤ (shape extents.now).most_names) }
+    ensures named { OnOk result (named_weight (shape extents.now).weigh (entries_of (newest_first runs.items)) ≤ (shape extents.now).most_weight) }
     ensures number { IfErr result IsOpeningRefusal }
-    ensures why { IfErr result (λ r. (r ≡ Refusal.OutOfMemory) ⊎ ((r ≡ Refusal.NotAStore) × ((¬ AreLocatedBy extents.now runs.items) ⊎ ((shape extents.now).most_names < names (entries_of (newest_first runs.items)))))) }
+    ensures why { IfErr result (λ r. (r ≡ Refusal.OutOfMemory) ⊎ ((r ≡ Refusal.NotAStore) × ((¬ AreLocatedBy extents.now runs.items) ⊎ ((shape extents.now).most_weight < named_weight (shape extents.now).weigh (entries_of (newest_first runs.items)))))) }
 {
     let index = match load_index(alloc, extents, runs) {
         Ok(index) => index,
@@ -216,7 +216,7 @@ fn load_parts(
 
 /// A store of these extents and this graph, on which nothing was staged, and of this root's runs, oldest first.
 ///
-/// Refused 43 NotAStore where a locator of an entry isn't located or the runs name more identifiers than one run may, and 9
+/// Refused 43 NotAStore where a locator of an entry isn't located or the newest entries weigh more than those of one run may, and 9
 /// OutOfMemory.
 pub fn load_store(
     alloc: Global,
@@ -237,9 +237,9 @@ pub fn load_store(
     ensures commands { IfOk result (λ found. found.commands ≡ root.now.commands) }
     ensures live { IfOk result (λ found. HasCount (λ id. live_at (entries_of (newest_first runs.items)) id ≢ []) found.live) }
     ensures located { OnOk result (AreLocatedBy extents runs.items) }
-    ensures named { OnOk result (names (entries_of (newest_first runs.items)) ≤ (shape extents).most_names) }
+    ensures named { OnOk result (named_weight (shape extents).weigh (entries_of (newest_first runs.items)) ≤ (shape extents).most_weight) }
     ensures number { IfErr result IsOpeningRefusal }
-    ensures why { IfErr result (λ r. (r ≡ Refusal.OutOfMemory) ⊎ ((r ≡ Refusal.NotAStore) × ((¬ AreLocatedBy extents runs.items) ⊎ ((shape extents).most_names < names (entries_of (newest_first runs.items)))))) }
+    ensures why { IfErr result (λ r. (r ≡ Refusal.OutOfMemory) ⊎ ((r ≡ Refusal.NotAStore) × ((¬ AreLocatedBy extents runs.items) ⊎ ((shape extents).most_weight < named_weight (shape extents).weigh (entries_of (newest_first runs.items)))))) }
 {
     // Called for its contract alone: what all extents keep.
     extents.extent_count();

@@ -1,5 +1,5 @@
 //! Stores that are read from their disk.
-ghost use Rattle.std.specs.Prelude.{◌≡◌, ◌+◌, ◌*◌, ◌<◌, ◌≤◌, ◌⊎◌, ◌↔◌, ℕ, List, IfErr, IfOk, MatchResult, length, map};
+ghost use Rattle.std.specs.Prelude.{◌≡◌, ◌+◌, ◌*◌, ◌<◌, ◌≤◌, ◌⊎◌, ◌↔◌, ℕ, List, IfErr, IfOk, MatchBool, MatchResult, length, map, slice_index};
 ghost use Rattle.cs_chunk.specs.Reads.{IsCaused, IsNoAnswer, IsOfFault, OnlyReads};
 ghost use Rattle.cs_disk.specs.Disk.{LeavesOnly, MayLeave, flushed, page, seen};
 ghost use Rattle.cs_extent.specs.Sections.{AreSections, format_of, pages_of, rows_of};
@@ -7,7 +7,7 @@ ghost use Rattle.cs_frame.specs.FirstFormat.{SpellsPageZero};
 ghost use Rattle.cs_frame.specs.Roots.{SpellsRoot, root_fault};
 ghost use Rattle.cs_frame.specs.Geometries.{IsKnown, device_pages};
 ghost use Rattle.cs_image.specs.Reads.{AreSectionsRead};
-ghost use Rattle.cs_core.specs.Openings.{IsOpeningRefusal, IsStoreMade, IsWhyNotOpened};
+ghost use Rattle.cs_core.specs.Openings.{AreRecordedBy, IsOpeningRefusal, IsStoreMade, IsWhyNotOpened};
 
 use crate::families::new_graph;
 use crate::loads::{OpenedStore, load_store};
@@ -71,6 +71,20 @@ fn format_of(sections: &[Superblock]) -> u8
     sections[0].format
 }
 
+/// Whether a section records a later root than one of this version.
+fn is_root_lost(sections: &[Superblock], root: u64) -> bool
+    ensures { MatchBool result ((j : ℕ) × (j < length sections.now) × (root < slice_index (map (λ it. it.recorded) sections.now) j))
+        (AreRecordedBy (length sections.now) (map (λ it. it.recorded) sections.now) root) }
+{
+    for k in 0..sections.len() {
+        let section = &sections[k];
+        if root < section.recorded {
+            return true;
+        }
+    }
+    false
+}
+
 /// Reads what the root locates, and makes a store of it.
 fn read_index<D: PageDisk>(
     alloc: Global,
@@ -81,9 +95,10 @@ fn read_index<D: PageDisk>(
     requires are { AreSections sections.now }
     requires some_root { (bytes : List ℕ) × SpellsRoot bytes (format_of sections.now) root.now.version root.now.commands root.now.runs.items }
     requires sized { D.page_count disk.old ≡ device_pages (format_of sections.now) (length (rows_of sections.now)) (pages_of sections.now) (length sections.now) }
-    requires sections { D.honest disk.old → AreSectionsRead (page (seen (D.state disk.old))) (format_of sections.now) (map (λ it. it.version) sections.now) (pages_of sections.now) (rows_of sections.now) }
+    requires sections { D.honest disk.old → AreSectionsRead (page (seen (D.state disk.old))) (format_of sections.now) (map (λ it. it.version) sections.now) (map (λ it. it.recorded) sections.now) (pages_of sections.now) (rows_of sections.now) }
     requires root { D.honest disk.old → SpellsRoot (page (seen (D.state disk.old)) 1) (format_of sections.now) root.now.version root.now.commands root.now.runs.items }
-    ensures made { IfOk result (λ found. IsStoreMade (D.honest disk.old) (page (seen (D.state disk.old))) (format_of sections.now) (map (λ it. it.version) sections.now) (pages_of sections.now) (rows_of sections.now) found.commands found.live found.store) }
+    requires newest { AreRecordedBy (length sections.now) (map (λ it. it.recorded) sections.now) root.now.version }
+    ensures made { IfOk result (λ found. IsStoreMade (D.honest disk.old) (page (seen (D.state disk.old))) (format_of sections.now) (map (λ it. it.version) sections.now) (map (λ it. it.recorded) sections.now) (pages_of sections.now) (rows_of sections.now) found.commands found.live found.store) }
     ensures why { D.honest disk.old → IfErr result (λ r. IsNoAnswer r ⊎ IsWhyNotOpened (D.page_count disk.old) (page (seen (D.state disk.old))) r) }
     ensures number { IfErr result IsOpeningRefusal }
     ensures disk { OnlyReads D.PageDisk disk.old disk.new }
@@ -103,7 +118,7 @@ fn read_index<D: PageDisk>(
     }
 }
 
-/// Reads root and runs, and makes a store of them.
+/// Reads root and runs, and makes a store of them. Refused 27 RootLost before the runs are read where a section records a later root.
 fn read_rest<D: PageDisk>(
     alloc: Global,
     disk: &mut D,
@@ -112,17 +127,21 @@ fn read_rest<D: PageDisk>(
     requires are { AreSections sections.now }
     requires enough { 1 < D.page_count disk.old }
     requires sized { D.page_count disk.old ≡ device_pages (format_of sections.now) (length (rows_of sections.now)) (pages_of sections.now) (length sections.now) }
-    requires sections { D.honest disk.old → AreSectionsRead (page (seen (D.state disk.old))) (format_of sections.now) (map (λ it. it.version) sections.now) (pages_of sections.now) (rows_of sections.now) }
-    ensures made { IfOk result (λ found. IsStoreMade (D.honest disk.old) (page (seen (D.state disk.old))) (format_of sections.now) (map (λ it. it.version) sections.now) (pages_of sections.now) (rows_of sections.now) found.commands found.live found.store) }
+    requires sections { D.honest disk.old → AreSectionsRead (page (seen (D.state disk.old))) (format_of sections.now) (map (λ it. it.version) sections.now) (map (λ it. it.recorded) sections.now) (pages_of sections.now) (rows_of sections.now) }
+    ensures made { IfOk result (λ found. IsStoreMade (D.honest disk.old) (page (seen (D.state disk.old))) (format_of sections.now) (map (λ it. it.version) sections.now) (map (λ it. it.recorded) sections.now) (pages_of sections.now) (rows_of sections.now) found.commands found.live found.store) }
     ensures why { D.honest disk.old → IfErr result (λ r. IsNoAnswer r ⊎ IsWhyNotOpened (D.page_count disk.old) (page (seen (D.state disk.old))) r) }
     ensures number { IfErr result IsOpeningRefusal }
     ensures disk { OnlyReads D.PageDisk disk.old disk.new }
     ensures cause { IsCaused (D.failure_count disk.old) (D.failure_count disk.new) result }
 {
-    match read_root(alloc, disk, format_of(sections)) {
-        Ok(root) => read_index(alloc, disk, sections, &root),
-        Err(refusal) => Err(refusal),
+    let root = match read_root(alloc, disk, format_of(sections)) {
+        Ok(root) => root,
+        Err(refusal) => return Err(refusal),
+    };
+    if is_root_lost(sections, root.version) {
+        return Err(Refusal::RootLost);
     }
+    read_index(alloc, disk, sections, &root)
 }
 
 /// Reads the further sections, root and runs, and makes a store of them.
@@ -133,11 +152,11 @@ fn read_behind<D: PageDisk>(
 ) -> Result<OpenedStore, Refusal>
     requires enough { 10 ≤ D.page_count disk.old }
     requires place { first.section ≡ 0 }
-    requires some { (bytes : List ℕ) × SpellsPageZero bytes first.format first.version first.extent_count first.pages first.sections first.section first.extents.items }
+    requires some { (bytes : List ℕ) × SpellsPageZero bytes first.format first.version first.recorded first.extent_count first.pages first.sections first.section first.extents.items }
     requires sized { D.page_count disk.old ≡ device_pages first.format first.extent_count first.pages first.sections }
-    requires read { D.honest disk.old → SpellsPageZero (page (seen (D.state disk.old)) 0) first.format first.version first.extent_count first.pages first.sections first.section first.extents.items }
-    ensures made { IfOk result (λ found. (format : ℕ) × (versions : List ℕ) × (pages : ℕ) × (written : List (ℕ × ℕ)) × (D.page_count disk.old ≡ device_pages format (length written) pages (length versions))
-        × IsStoreMade (D.honest disk.old) (page (seen (D.state disk.old))) format versions pages written found.commands found.live found.store) }
+    requires read { D.honest disk.old → SpellsPageZero (page (seen (D.state disk.old)) 0) first.format first.version first.recorded first.extent_count first.pages first.sections first.section first.extents.items }
+    ensures made { IfOk result (λ found. (format : ℕ) × (versions : List ℕ) × (records : List ℕ) × (pages : ℕ) × (written : List (ℕ × ℕ)) × (D.page_count disk.old ≡ device_pages format (length written) pages (length versions))
+        × IsStoreMade (D.honest disk.old) (page (seen (D.state disk.old))) format versions records pages written found.commands found.live found.store) }
     ensures why { D.honest disk.old → IfErr result (λ r. IsNoAnswer r ⊎ IsWhyNotOpened (D.page_count disk.old) (page (seen (D.state disk.old))) r) }
     ensures number { IfErr result IsOpeningRefusal }
     ensures disk { OnlyReads D.PageDisk disk.old disk.new }
@@ -152,8 +171,8 @@ fn read_behind<D: PageDisk>(
 /// Reads the whole store.
 fn read_store<D: PageDisk>(alloc: Global, disk: &mut D) -> Result<OpenedStore, Refusal>
     requires { 10 ≤ D.page_count disk.old }
-    ensures made { IfOk result (λ found. (format : ℕ) × (versions : List ℕ) × (pages : ℕ) × (written : List (ℕ × ℕ)) × (D.page_count disk.old ≡ device_pages format (length written) pages (length versions))
-        × IsStoreMade (D.honest disk.old) (page (seen (D.state disk.old))) format versions pages written found.commands found.live found.store) }
+    ensures made { IfOk result (λ found. (format : ℕ) × (versions : List ℕ) × (records : List ℕ) × (pages : ℕ) × (written : List (ℕ × ℕ)) × (D.page_count disk.old ≡ device_pages format (length written) pages (length versions))
+        × IsStoreMade (D.honest disk.old) (page (seen (D.state disk.old))) format versions records pages written found.commands found.live found.store) }
     ensures why { D.honest disk.old → IfErr result (λ r. IsNoAnswer r ⊎ IsWhyNotOpened (D.page_count disk.old) (page (seen (D.state disk.old))) r) }
     ensures number { IfErr result IsOpeningRefusal }
     ensures disk { OnlyReads D.PageDisk disk.old disk.new }
@@ -172,8 +191,8 @@ fn read_store<D: PageDisk>(alloc: Global, disk: &mut D) -> Result<OpenedStore, R
 /// Flushes, and reads the store.
 pub fn open_store<D: PageDisk>(alloc: Global, disk: &mut D) -> Result<OpenedStore, Refusal>
     requires { 10 ≤ D.page_count disk.old }
-    ensures made { IfOk result (λ found. (format : ℕ) × (versions : List ℕ) × (pages : ℕ) × (written : List (ℕ × ℕ)) × (D.page_count disk.old ≡ device_pages format (length written) pages (length versions))
-        × IsStoreMade (D.honest disk.old) (page (seen (D.state disk.old))) format versions pages written found.commands found.live found.store) }
+    ensures made { IfOk result (λ found. (format : ℕ) × (versions : List ℕ) × (records : List ℕ) × (pages : ℕ) × (written : List (ℕ × ℕ)) × (D.page_count disk.old ≡ device_pages format (length written) pages (length versions))
+        × IsStoreMade (D.honest disk.old) (page (seen (D.state disk.old))) format versions records pages written found.commands found.live found.store) }
     ensures why { D.honest disk.old → IfErr result (λ r. IsNoAnswer r ⊎ IsWhyNotOpened (D.page_count disk.old) (page (seen (D.state disk.old))) r) }
     ensures number { IfErr result IsOpeningRefusal }
     ensures state { D.honest disk.old → MatchResult result (λ _. D.state disk.new ≡ flushed (D.state disk.old)) (λ _. (D.state disk.new ≡ D.state disk.old) ⊎ (D.state disk.new ≡ flushed (D.state disk.old))) }

@@ -2,6 +2,7 @@
 ghost use Rattle.std.specs.Prelude.{◌≡◌, ◌≢◌, ◌⊎◌, [], IfErr, OnErr, OnOk, false, true};
 ghost use Rattle.cs_extent.specs.State.{shape};
 ghost use Rattle.cs_model.specs.State.{Retire, Retired};
+ghost use Rattle.cs_core.specs.Puts.{MeansTheSame};
 ghost use Rattle.cs_core.specs.Replies.{MayRefuse};
 ghost use Rattle.cs_core.specs.Steps.{Answers};
 ghost use Rattle.cs_core.specs.Stored.{but_for_room};
@@ -23,6 +24,7 @@ impl Store {
         ensures step { self.old.halted ≡ false → Answers self.old (Retire extent) (λ v. Retired v) result self.new }
         ensures round { KeepsRound self.old self.new }
         ensures behind { OnOk result (Stages self.old self.new) }
+        ensures meaning { OnOk result (MeansTheSame self.old.index self.new.index) }
         ensures refused { OnErr result (but_for_room self.new ≡ but_for_room self.old) }
         ensures refusals { IfErr result (λ r. (r ≡ Refusal.OutOfMemory) ⊎ MayRefuse (Event.Retire extent) r) }
         ensures shape { shape self.new.extents ≡ shape self.old.extents }
@@ -43,6 +45,7 @@ impl Store {
         ensures step { self.old.halted ≡ false → Answers self.old (Retire extent) (λ v. Retired v) result self.new }
         ensures round { KeepsRound self.old self.new }
         ensures behind { OnOk result (Stages self.old self.new) }
+        ensures meaning { OnOk result (MeansTheSame self.old.index self.new.index) }
         ensures refused { OnErr result (but_for_room self.new ≡ but_for_room self.old) }
         ensures refusals { IfErr result (λ r. (r ≡ Refusal.OutOfMemory) ⊎ MayRefuse (Event.Retire extent) r) }
         ensures shape { shape self.new.extents ≡ shape self.old.extents }
@@ -83,6 +86,7 @@ impl Store {
         ensures step { self.old.halted ≡ false → Answers self.old (Retire extent) (λ v. Retired v) result self.new }
         ensures round { KeepsRound self.old self.new }
         ensures behind { OnOk result (Stages self.old self.new) }
+        ensures meaning { OnOk result (MeansTheSame self.old.index self.new.index) }
         ensures refused { OnErr result (but_for_room self.new ≡ but_for_room self.old) }
         ensures refusals { IfErr result (λ r. (r ≡ Refusal.OutOfMemory) ⊎ MayRefuse (Event.Retire extent) r) }
         ensures shape { shape self.new.extents ≡ shape self.old.extents }

@@ -17,7 +17,7 @@ use std::alloc::{AllocError, Global};
 
 /// What page 0 spells of a superblock.
 fn decoded_superblock(alloc: Global, page: &[u8; 4096]) -> Result<Superblock, Refusal>
-    ensures spelled { IfOk result (λ it. SpellsPageZero page.now it.format it.version it.extent_count it.pages it.sections it.section it.extents.items) }
+    ensures spelled { IfOk result (λ it. SpellsPageZero page.now it.format it.version it.recorded it.extent_count it.pages it.sections it.section it.extents.items) }
     ensures fault { IfErr result (λ r. (r ≡ Refusal.OutOfMemory) ⊎ IsOfFault (page_zero_fault page.now) r) }
     ensures number { IfErr result IsOpeningRefusal }
 {
@@ -30,8 +30,8 @@ fn decoded_superblock(alloc: Global, page: &[u8; 4096]) -> Result<Superblock, Re
 /// Reads page 0.
 fn read_superblock<D: PageDisk>(alloc: Global, disk: &mut D) -> Result<Superblock, Refusal>
     requires { 0 < D.page_count disk.old }
-    ensures read { D.honest disk.old → IfOk result (λ it. SpellsPageZero (page (seen (D.state disk.old)) 0) it.format it.version it.extent_count it.pages it.sections it.section it.extents.items) }
-    ensures some { IfOk result (λ it. (bytes : List ℕ) × SpellsPageZero bytes it.format it.version it.extent_count it.pages it.sections it.section it.extents.items) }
+    ensures read { D.honest disk.old → IfOk result (λ it. SpellsPageZero (page (seen (D.state disk.old)) 0) it.format it.version it.recorded it.extent_count it.pages it.sections it.section it.extents.items) }
+    ensures some { IfOk result (λ it. (bytes : List ℕ) × SpellsPageZero bytes it.format it.version it.recorded it.extent_count it.pages it.sections it.section it.extents.items) }
     ensures fault { D.honest disk.old → IfErr result (λ r. IsNoAnswer r ⊎ IsOfFault (page_zero_fault (page (seen (D.state disk.old)) 0)) r) }
     ensures number { IfErr result IsOpeningRefusal }
     ensures disk { OnlyReads D.PageDisk disk.old disk.new }
@@ -55,8 +55,8 @@ fn is_first(superblock: &Superblock) -> bool
 pub fn read_first<D: PageDisk>(alloc: Global, disk: &mut D) -> Result<Superblock, Refusal>
     requires { 0 < D.page_count disk.old }
     ensures first { IfOk result (λ it. it.section ≡ 0) }
-    ensures read { D.honest disk.old → IfOk result (λ it. SpellsPageZero (page (seen (D.state disk.old)) 0) it.format it.version it.extent_count it.pages it.sections it.section it.extents.items) }
-    ensures some { IfOk result (λ it. (bytes : List ℕ) × SpellsPageZero bytes it.format it.version it.extent_count it.pages it.sections it.section it.extents.items) }
+    ensures read { D.honest disk.old → IfOk result (λ it. SpellsPageZero (page (seen (D.state disk.old)) 0) it.format it.version it.recorded it.extent_count it.pages it.sections it.section it.extents.items) }
+    ensures some { IfOk result (λ it. (bytes : List ℕ) × SpellsPageZero bytes it.format it.version it.recorded it.extent_count it.pages it.sections it.section it.extents.items) }
     ensures why { D.honest disk.old → IfErr result (λ r. IsNoAnswer r ⊎ IsOfFault (page_zero_fault (page (seen (D.state disk.old)) 0)) r ⊎ IsOtherFirst (page (seen (D.state disk.old)) 0) r) }
     ensures number { IfErr result IsOpeningRefusal }
     ensures disk { OnlyReads D.PageDisk disk.old disk.new }
@@ -76,7 +76,7 @@ pub fn read_first<D: PageDisk>(alloc: Global, disk: &mut D) -> Result<Superblock
 fn decoded_section(alloc: Global, page: &[u8; 4096], format: u8) -> Result<Superblock, Refusal>
     requires { IsKnown format }
     ensures format { IfOk result (λ it. it.format ≡ format) }
-    ensures spelled { IfOk result (λ it. SpellsSuperblock page.now it.format it.version it.extent_count it.pages it.sections it.section it.extents.items) }
+    ensures spelled { IfOk result (λ it. SpellsSuperblock page.now it.format it.version it.recorded it.extent_count it.pages it.sections it.section it.extents.items) }
     ensures fault { IfErr result (λ r. (r ≡ Refusal.OutOfMemory) ⊎ IsOfFault (superblock_fault format page.now) r) }
     ensures number { IfErr result IsOpeningRefusal }
 {
@@ -96,8 +96,8 @@ fn read_further<D: PageDisk>(
     requires known { IsKnown format }
     requires inside { number < D.page_count disk.old }
     ensures format { IfOk result (λ it. it.format ≡ format) }
-    ensures read { D.honest disk.old → IfOk result (λ it. SpellsSuperblock (page (seen (D.state disk.old)) number) it.format it.version it.extent_count it.pages it.sections it.section it.extents.items) }
-    ensures some { IfOk result (λ it. (bytes : List ℕ) × SpellsSuperblock bytes it.format it.version it.extent_count it.pages it.sections it.section it.extents.items) }
+    ensures read { D.honest disk.old → IfOk result (λ it. SpellsSuperblock (page (seen (D.state disk.old)) number) it.format it.version it.recorded it.extent_count it.pages it.sections it.section it.extents.items) }
+    ensures some { IfOk result (λ it. (bytes : List ℕ) × SpellsSuperblock bytes it.format it.version it.recorded it.extent_count it.pages it.sections it.section it.extents.items) }
     ensures fault { D.honest disk.old → IfErr result (λ r. IsNoAnswer r ⊎ IsOfFault (superblock_fault format (page (seen (D.state disk.old)) number)) r) }
     ensures number { IfErr result IsOpeningRefusal }
     ensures disk { OnlyReads D.PageDisk disk.old disk.new }
@@ -150,8 +150,8 @@ fn read_section<D: PageDisk>(
     requires inside { section < sections }
     requires sized { D.page_count disk.old ≡ device_pages format extents pages sections }
     ensures numbers { IfOk result (HasNumbers format extents pages sections section) }
-    ensures some { IfOk result (λ it. (bytes : List ℕ) × SpellsSuperblock bytes it.format it.version it.extent_count it.pages it.sections it.section it.extents.items) }
-    ensures read { D.honest disk.old → IfOk result (λ it. SpellsSuperblock (page (seen (D.state disk.old)) (1 + extents * pages + section)) it.format it.version it.extent_count it.pages it.sections it.section it.extents.items) }
+    ensures some { IfOk result (λ it. (bytes : List ℕ) × SpellsSuperblock bytes it.format it.version it.recorded it.extent_count it.pages it.sections it.section it.extents.items) }
+    ensures read { D.honest disk.old → IfOk result (λ it. SpellsSuperblock (page (seen (D.state disk.old)) (1 + extents * pages + section)) it.format it.version it.recorded it.extent_count it.pages it.sections it.section it.extents.items) }
     ensures why { D.honest disk.old → IfErr result (λ r. IsNoAnswer r ⊎ IsWhyNoSection format extents pages sections section (page (seen (D.state disk.old)) (1 + extents * pages + section)) r) }
     ensures number { IfErr result IsOpeningRefusal }
     ensures disk { OnlyReads D.PageDisk disk.old disk.new }
@@ -186,12 +186,12 @@ pub fn read_sections<D: PageDisk>(
     first: Superblock,
 ) -> Result<Vec<Superblock>, Refusal>
     requires place { first.section ≡ 0 }
-    requires some { (bytes : List ℕ) × SpellsPageZero bytes first.format first.version first.extent_count first.pages first.sections first.section first.extents.items }
+    requires some { (bytes : List ℕ) × SpellsPageZero bytes first.format first.version first.recorded first.extent_count first.pages first.sections first.section first.extents.items }
     requires sized { D.page_count disk.old ≡ device_pages first.format first.extent_count first.pages first.sections }
-    requires read { D.honest disk.old → SpellsPageZero (page (seen (D.state disk.old)) 0) first.format first.version first.extent_count first.pages first.sections first.section first.extents.items }
+    requires read { D.honest disk.old → SpellsPageZero (page (seen (D.state disk.old)) 0) first.format first.version first.recorded first.extent_count first.pages first.sections first.section first.extents.items }
     ensures are { IfOk result (λ sections. AreSections sections.items) }
     ensures sized { IfOk result (λ sections. D.page_count disk.old ≡ device_pages (format_of sections.items) (length (rows_of sections.items)) (pages_of sections.items) (length sections.items)) }
-    ensures read { D.honest disk.old → IfOk result (λ sections. AreSectionsRead (page (seen (D.state disk.old))) (format_of sections.items) (map (λ it. it.version) sections.items) (pages_of sections.items) (rows_of sections.items)) }
+    ensures read { D.honest disk.old → IfOk result (λ sections. AreSectionsRead (page (seen (D.state disk.old))) (format_of sections.items) (map (λ it. it.version) sections.items) (map (λ it. it.recorded) sections.items) (pages_of sections.items) (rows_of sections.items)) }
     ensures why { D.honest disk.old → IfErr result (λ r. IsNoAnswer r ⊎ IsWhyNoSections (page (seen (D.state disk.old))) first.format first.extent_count first.pages first.sections r) }
     ensures number { IfErr result IsOpeningRefusal }
     ensures disk { OnlyReads D.PageDisk disk.old disk.new }

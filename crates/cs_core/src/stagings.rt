@@ -2,6 +2,7 @@
 ghost use Rattle.std.specs.Prelude.{◌≡◌, ◌≢◌, ◌+◌, ◌⊎◌, [], IfErr, IfOk, MatchBool, MatchOption, OnErr, OnOk, false, true};
 ghost use Rattle.cs_extent.specs.State.{shape};
 ghost use Rattle.cs_model.specs.State.{Stage};
+ghost use Rattle.cs_core.specs.Puts.{MeansTheSame};
 ghost use Rattle.cs_core.specs.Replies.{MayRefuse};
 ghost use Rattle.cs_core.specs.Steps.{Answers, staged_or_not};
 ghost use Rattle.cs_core.specs.Stored.{but_for_room};
@@ -43,6 +44,7 @@ impl Store {
         ensures staged { IfOk result (λ staged. MatchOption staged ((self.old.index.table ≡ []) × (but_for_room self.new ≡ but_for_room self.old)) (λ v. self.new.index.table ≡ [])) }
         ensures round { KeepsRound self.old self.new }
         ensures behind { OnOk result (Stages self.old self.new) }
+        ensures meaning { OnOk result (MeansTheSame self.old.index self.new.index) }
         ensures refused { OnErr result (but_for_room self.new ≡ but_for_room self.old) }
         ensures refusals { IfErr result (λ r. (r ≡ Refusal.OutOfMemory) ⊎ MayRefuse Event.Stage r) }
         ensures shape { shape self.new.extents ≡ shape self.old.extents }
@@ -63,6 +65,7 @@ impl Store {
         ensures staged { IfOk result (λ staged. MatchOption staged ((self.old.index.table ≡ []) × (but_for_room self.new ≡ but_for_room self.old)) (λ v. self.new.index.table ≡ [])) }
         ensures round { KeepsRound self.old self.new }
         ensures behind { OnOk result (Stages self.old self.new) }
+        ensures meaning { OnOk result (MeansTheSame self.old.index self.new.index) }
         ensures refused { OnErr result (but_for_room self.new ≡ but_for_room self.old) }
         ensures refusals { IfErr result (λ r. (r ≡ Refusal.OutOfMemory) ⊎ MayRefuse Event.Stage r) }
         ensures shape { shape self.new.extents ≡ shape self.old.extents }
@@ -100,6 +103,7 @@ impl Store {
         ensures staged { IfOk result (λ staged. MatchOption staged ((self.old.index.table ≡ []) × (but_for_room self.new ≡ but_for_room self.old)) (λ v. self.new.index.table ≡ [])) }
         ensures round { KeepsRound self.old self.new }
         ensures behind { OnOk result (Stages self.old self.new) }
+        ensures meaning { OnOk result (MeansTheSame self.old.index self.new.index) }
         ensures refused { OnErr result (but_for_room self.new ≡ but_for_room self.old) }
         ensures refusals { IfErr result (λ r. (r ≡ Refusal.OutOfMemory) ⊎ MayRefuse Event.Stage r) }
         ensures shape { shape self.new.extents ≡ shape self.old.extents }

@@ -1,7 +1,8 @@
 //! Sweeps: which extent is being swept.
-ghost use Rattle.std.specs.Prelude.{◌≡◌, ◌≢◌, ◌⊎◌, IfErr, IsTrue, OnErr, false, true};
+ghost use Rattle.std.specs.Prelude.{◌≡◌, ◌≢◌, ◌⊎◌, IfErr, IsTrue, OnErr, OnOk, false, true};
 ghost use Rattle.cs_extent.specs.State.{shape};
 ghost use Rattle.cs_model.specs.State.{Abandon, Abandoned, BeginSweep, Sweeping};
+ghost use Rattle.cs_core.specs.Puts.{MeansTheSame};
 ghost use Rattle.cs_core.specs.Replies.{MayRefuse};
 ghost use Rattle.cs_core.specs.Steps.{Answers};
 ghost use Rattle.cs_core.specs.Stored.{but_for_room};
@@ -20,6 +21,7 @@ impl Store {
         ensures step { self.old.halted ≡ false → Answers self.old (BeginSweep extent) (λ _. Sweeping) result self.new }
         ensures round { KeepsRound self.old self.new }
         ensures staging { KeepsStaging self.old self.new }
+        ensures meaning { OnOk result (MeansTheSame self.old.index self.new.index) }
         ensures refused { OnErr result (but_for_room self.new ≡ but_for_room self.old) }
         ensures refusals { IfErr result (λ r. (r ≡ Refusal.OutOfMemory) ⊎ MayRefuse (Event.BeginSweep extent) r) }
         ensures shape { shape self.new.extents ≡ shape self.old.extents }
@@ -39,6 +41,7 @@ impl Store {
         ensures step { self.old.halted ≡ false → Answers self.old (BeginSweep extent) (λ _. Sweeping) result self.new }
         ensures round { KeepsRound self.old self.new }
         ensures staging { KeepsStaging self.old self.new }
+        ensures meaning { OnOk result (MeansTheSame self.old.index self.new.index) }
         ensures refused { OnErr result (but_for_room self.new ≡ but_for_room self.old) }
         ensures refusals { IfErr result (λ r. (r ≡ Refusal.OutOfMemory) ⊎ MayRefuse (Event.BeginSweep extent) r) }
         ensures shape { shape self.new.extents ≡ shape self.old.extents }
@@ -61,6 +64,7 @@ impl Store {
         ensures step { self.old.halted ≡ false → Answers self.old (BeginSweep extent) (λ _. Sweeping) result self.new }
         ensures round { KeepsRound self.old self.new }
         ensures staging { KeepsStaging self.old self.new }
+        ensures meaning { OnOk result (MeansTheSame self.old.index self.new.index) }
         ensures refused { OnErr result (but_for_room self.new ≡ but_for_room self.old) }
         ensures refusals { IfErr result (λ r. (r ≡ Refusal.OutOfMemory) ⊎ MayRefuse (Event.BeginSweep extent) r) }
         ensures shape { shape self.new.extents ≡ shape self.old.extents }
@@ -77,6 +81,7 @@ impl Store {
         ensures step { self.old.halted ≡ false → Answers self.old (Abandon extent) (λ _. Abandoned) result self.new }
         ensures round { KeepsRound self.old self.new }
         ensures staging { KeepsStaging self.old self.new }
+        ensures meaning { OnOk result (MeansTheSame self.old.index self.new.index) }
         ensures refused { OnErr result (but_for_room self.new ≡ but_for_room self.old) }
         ensures refusals { IfErr result (λ r. (r ≡ Refusal.OutOfMemory) ⊎ MayRefuse (Event.Abandon extent) r) }
         ensures shape { shape self.new.extents ≡ shape self.old.extents }

@@ -15,12 +15,13 @@ use Rattle.cs_model.specs.Lists.{◌∈◌}
 use Rattle.cs_model.specs.Machine.{StagePage, World, happens, superblock_now, write_now}
 use Rattle.cs_model.proofs.Appends.{pages_superblocks}
 use Rattle.cs_model.proofs.Waiting.{listed}
+use Rattle.cs_frame.proofs.SuperblockLaws.{page_whatever_root}
 use Rattle.cs_frame.specs.Formats.{extents_of as listed_extents, formats_of}
 use Rattle.cs_frame.specs.Geometries.{IsGeometry}
 use Rattle.cs_frame.specs.Superblocks.{spelled_superblock}
 use Rattle.cs_frame.specs.declared.locators.Locator.{Locator}
 use Rattle.cs_extent.specs.Appended.{IsAppendedBy}
-use Rattle.cs_extent.specs.Frames.{IsOfFrame, family_of, next_section}
+use Rattle.cs_extent.specs.Frames.{IsOfFrame, family_of, next_section, root_family, root_recorded}
 use Rattle.cs_extent.specs.State.{State, extents_of, need_of, section_rows, shape}
 use Rattle.cs_image.proofs.Superblocks.{not_first, own_format, section_listed}
 use Rattle.cs_refine.specs.Bridge.{name}
@@ -90,6 +91,10 @@ module _ (x : State) (g : GraphState) (w : World) (geometry : IsGeometry x.forma
     version = let n : after_pages.superblocks j ≡ w.superblocks j = ap (λ (f : ℕ → ℕ). f j) (pages_superblocks (shape x) w l.extent (w.extents.pointer l.extent) frame) in
         let e : w.superblocks j ≡ get_or g.staging.latest (family_of j) 0 = is.staging.sections j there in omega arith
 
+    -- the root that is persistent is that of the graph
+    record_is : after_pages.persistent.root ≡ get_or g.staging.pending.persistent root_family 0
+    record_is = ap (λ (X : Cut). X.root) persistent ∙ sym is.staging.pending.root
+
     -- the rows of the section are those of the extents as they are then
     rows : listed_extents (shape x).section after_pages.extents.pointer after_pages.extents.generation j 0 (shape x).extents ≡ section_rows y j
     rows = ap (λ (S : Shape). listed_extents S.section after_pages.extents.pointer after_pages.extents.generation j 0 S.extents) (sym a.same_shape)
@@ -98,10 +103,14 @@ module _ (x : State) (g : GraphState) (w : World) (geometry : IsGeometry x.forma
 
     section_is : page_write (shape x) (formats_of (shape x)) (A_superblock (superblock_now (shape x) after_pages j (need_of x j))) ≡ ((shape x).section_page j, a.section.0)
     section_is = ap (λ (b : List ℕ). ((shape x).section_page j, b))
-        (own_format (shape x) after_pages.extents.pointer after_pages.extents.generation j (suc (after_pages.superblocks j))
+        (own_format (shape x) after_pages.extents.pointer after_pages.extents.generation j (suc (after_pages.superblocks j)) after_pages.persistent.root
         (not_first x.format (length x.written) x.pages x.sections geometry)
-        ∙ ap₂ (λ (n : ℕ) (q : List (ℕ × ℕ)). spelled_superblock (shape x).format n (shape x).extents (shape x).pages (shape x).sections j q) version rows
-        ∙ ap (λ (S : Shape). spelled_superblock S.format (get_or g.staging.latest (family_of j) 0 + 1) S.extents S.pages S.sections j (section_rows y j)) (sym a.same_shape)
+        ∙ ap₂ (λ (n : ℕ) (q : List (ℕ × ℕ)). spelled_superblock (shape x).format n after_pages.persistent.root (shape x).extents (shape x).pages (shape x).sections j q) version rows
+        ∙ ap (λ (root : ℕ). spelled_superblock (shape x).format (get_or g.staging.latest (family_of j) 0 + 1) root (shape x).extents (shape x).pages (shape x).sections j (section_rows y j)) record_is
+        ∙ sym (page_whatever_root (shape x).format (get_or g.staging.latest (family_of j) 0 + 1) (get_or g.staging.pending.persistent root_family 0)
+        (shape x).extents (shape x).pages (shape x).sections j (section_rows y j))
+        ∙ ap (λ (S : Shape). spelled_superblock S.format (get_or g.staging.latest (family_of j) 0 + 1) (root_recorded (shape x).format g.staging) S.extents S.pages S.sections j (section_rows y j))
+        (sym a.same_shape)
         ∙ sym a.section.2.spelled)
 
     section_kept : (p : PageWrite) → write_of h (Version (family_of j) (suc (after_pages.superblocks j))) ≡ Some p

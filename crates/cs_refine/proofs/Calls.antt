@@ -15,14 +15,14 @@ use Rattle.cs_index.specs.State.{IsSet, State as IndexState, index_of}
 use Rattle.cs_model.specs.Append.{Append, AppendsChunksBy, MergesTo, chunk_frames}
 use Rattle.cs_model.specs.Device.{Shape}
 use Rattle.cs_model.specs.Element.{Entry, Locator as Place, Run}
-use Rattle.cs_model.specs.Events.{Chunked, Does, ReadsNow, mark, retired, rooted}
+use Rattle.cs_model.specs.Events.{ArePayloads, Does, ReadsNow, mark, retired, rooted}
 use Rattle.cs_model.specs.Extents.{Extents, ForMove, ForPut, ForRun, Purpose as Reason, emptied, forgotten, marked}
 use Rattle.cs_model.specs.Formats.{ChunkFrame, RunFrame}
 use Rattle.cs_model.specs.Index.{NothingLive, live_at, lookup}
 use Rattle.cs_model.specs.Lists.{replaced, with}
 use Rattle.cs_model.specs.Merges.{MergesPart}
 use Rattle.cs_model.specs.Machine.{StageRoot, World, happens}
-use Rattle.cs_model.specs.State.{Abandon, Abandoned, Accepted, BeginSweep, Delete, MoveOne, Moved, Put, Retire, Retired, Stage, Staged, State, Sweeping, index_now, map_now}
+use Rattle.cs_model.specs.State.{Abandon, Abandoned, Accepted, BeginSweep, Delete, MoveOne, Moved, Put, Retire, Retired, Stage, Staged, State, Sweeping, index_now, map_now, next_command}
 use Rattle.cs_reclaim.specs.Moves.{IsMoved}
 use Rattle.cs_reclaim.specs.Retired.{IsRetired}
 use Rattle.cs_reclaim.specs.Sweeps.{IsNotSweepable}
@@ -42,7 +42,7 @@ use Rattle.cs_refine.proofs.Shapes.{some_sections, store_shape}
 
 module _ (x : ExtentsState) (g : GraphState) (i : IndexState) (s : State) (are : ArePartsOf x g i s) where
   pub put : (y : ExtentsState) (h : GraphState) (j : IndexState) (id : ℕ) (bytes : List ℕ) (cs : List (List ℕ)) (ls : List Locator)
-      → (shape x).apart ≡ false → IsWhole x → Chunked (shape x).chunk_bytes bytes cs
+      → (shape x).apart ≡ false → IsWhole x → ArePayloads (shape x) (formats_of (shape x)) id (next_command s) bytes cs
       → AreAppended x g ForPut (chunk_frames (shape x) (formats_of (shape x)) cs) ls y h → IsSet i id (map place_of ls) j
       → (t : State) × Does (shape x) (formats_of (shape x)) s (Put id bytes) (Accepted (suc (length s.commands))) t × ArePartsOf y h j t
   put y h j id bytes cs ls together whole cut all set =

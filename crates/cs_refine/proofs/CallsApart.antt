@@ -10,10 +10,10 @@ use Rattle.cs_index.specs.State.{IsSet, State as IndexState, index_of}
 use Rattle.cs_model.specs.Apart.{AllCopied, MayNotBegin, is_any_swept, swept_aside, sweeping}
 use Rattle.cs_model.specs.Append.{AppendsChunksBy, chunk_frames}
 use Rattle.cs_model.specs.Element.{Copy}
-use Rattle.cs_model.specs.Events.{Chunked, Does, mark}
+use Rattle.cs_model.specs.Events.{ArePayloads, Does, mark}
 use Rattle.cs_model.specs.Extents.{Extents, ForPut, marked}
 use Rattle.cs_model.specs.Index.{lookup}
-use Rattle.cs_model.specs.State.{Abandon, Abandoned, Accepted, BeginSweep, MoveOne, NoneLive, Put, State, Sweeping, index_now}
+use Rattle.cs_model.specs.State.{Abandon, Abandoned, Accepted, BeginSweep, MoveOne, NoneLive, Put, State, Sweeping, index_now, next_command}
 use Rattle.cs_refine.specs.Copying.{AreAllPartsOf}
 use Rattle.cs_refine.proofs.DoesApart.{begins_so, none_so}
 use Rattle.cs_refine.proofs.Freed.{after_others}
@@ -25,7 +25,7 @@ module _ (x : ExtentsState) (g : GraphState) (i : IndexState) (copies : List Cop
   -- ---- puts
 
   pub put : (y : ExtentsState) (h : GraphState) (j : IndexState) (id : ℕ) (bytes : List ℕ) (cs : List (List ℕ)) (ls : List Locator)
-      → IsWhole x → Chunked (shape x).chunk_bytes bytes cs
+      → IsWhole x → ArePayloads (shape x) (formats_of (shape x)) id (next_command s) bytes cs
       → AreAppendedBy true x g ForPut (chunk_frames (shape x) (formats_of (shape x)) cs) ls y h → IsSet i id (map place_of ls) j
       → (t : State) × Does (shape x) (formats_of (shape x)) s (Put id bytes) (Accepted (suc (length s.commands))) t × AreAllPartsOf y h j copies t
   put y h j id bytes cs ls whole cut all set =

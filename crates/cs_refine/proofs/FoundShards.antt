@@ -20,7 +20,7 @@ use Rattle.cs_model.specs.Element.{Bytes, Content, Damaged, Locator as Place}
 use Rattle.cs_model.specs.Events.{ReadsNow, newest_page}
 use Rattle.cs_model.specs.Extents.{reach}
 use Rattle.cs_model.specs.Formats.{ChunkFrame, Stand, fault_for, pages_from}
-use Rattle.cs_model.specs.Index.{AllPass, Holds, Passes, ReadsAs, Value, after, joined, live, live_at, lookup}
+use Rattle.cs_model.specs.Index.{AllPass, Holds, Passes, ReadsAs, Value, after, joined_bodies, live, live_at, lookup}
 use Rattle.cs_model.specs.Lists.{◌∈◌}
 use Rattle.cs_model.specs.Refusal.{Refusal}
 use Rattle.cs_model.specs.Sound.{Sound}
@@ -121,12 +121,12 @@ module _ (x : ExtentsState) (s : State) (held : Image) (whole : IsWhole x) (soun
 
   shard_found : (ls : List Place) (cs : List (List ℕ)) (content : Content) → ((l : Place) → l ∈ ls → IsLocated l)
       → ReadsAs (shape x) (formats_of (shape x)) s.opening (newest_page s) s.world.extents.pointer s.world.extents.generation ls content
-      → AreChunksIn x view (map as_locator ls) cs → content ≡ Bytes (joined cs)
+      → AreChunksIn x view (map as_locator ls) cs → content ≡ Bytes (joined_bodies (formats_of (shape x)) cs)
   shard_found [] [] content pass reads are = reads
   shard_found [] (c ∷ cs) content pass reads are = absurd are
   shard_found (l ∷ ls) [] content pass reads are = absurd are
   shard_found (l ∷ ls) (c ∷ cs) content pass (inl (chunk, rest, here, more, is)) are =
-      is ∙ ap₂ (λ (a : List ℕ) (b : Content). after a b) (same_chunk l chunk c (pass l (inl refl)) here are.0) (shard_found ls cs rest (λ k has. pass k (inr has)) more are.1)
+      is ∙ ap₂ (λ (a : List ℕ) (b : Content). after ((formats_of (shape x)).body a) b) (same_chunk l chunk c (pass l (inl refl)) here are.0) (shard_found ls cs rest (λ k has. pass k (inr has)) more are.1)
   shard_found (l ∷ ls) (c ∷ cs) content pass (inr (f, damage, is)) are =
       absurd (not_damaged l f (pass l (inl refl)) (frame_whole l c (pass l (inl refl)) are.0) damage)
 
@@ -141,14 +141,14 @@ module _ (x : ExtentsState) (s : State) (held : Image) (whole : IsWhole x) (soun
       ∙ ap (option_map refusal_of) (ap (fault_in x view Chunk) here ∙ fault) in
       ⊎_elim
       (λ (chunk : (c : List ℕ) × (rest : Content) × ReadsNow (shape x) (formats_of (shape x)) s m ChunkFrame c
-      × ReadsAs (shape x) (formats_of (shape x)) s.opening (newest_page s) s.world.extents.pointer s.world.extents.generation ls rest × (content ≡ after c rest)).
+      × ReadsAs (shape x) (formats_of (shape x)) s.opening (newest_page s) s.world.extents.pointer s.world.extents.generation ls rest × (content ≡ after ((formats_of (shape x)).body c) rest)).
       absurd (let e : None ≡ Some (refusal_of f) = sym (chunk_whole m chunk.0 chunk.2) ∙ refuses in cc))
       (λ (damage : (r : Refusal) × (s.opening.damage m ≡ Some r) × (content ≡ Damaged r)).
       damage.2 ∙ ap Damaged (let e : Some damage.0 ≡ Some (refusal_of f) = sym (damage_refused m damage.0 (pass m (inl refl)) damage.1) ∙ refuses in cc))
       reads
   shard_damaged (m ∷ ls) (suc k) l [] content f pass reads at are fault = absurd are
   shard_damaged (m ∷ ls) (suc k) l (c ∷ cs) content f pass (inl (chunk, rest, here, more, is)) at are fault =
-      is ∙ ap (after chunk) (shard_damaged ls k l cs rest f (λ n has. pass n (inr has)) more at are.1 fault)
+      is ∙ ap (after ((formats_of (shape x)).body chunk)) (shard_damaged ls k l cs rest f (λ n has. pass n (inr has)) more at are.1 fault)
   shard_damaged (m ∷ ls) (suc k) l (c ∷ cs) content f pass (inr (r, damage, is)) at are fault =
       absurd (not_damaged m r (pass m (inl refl)) (frame_whole m c (pass m (inl refl)) are.0) damage)
 
@@ -205,7 +205,7 @@ module _ (x : ExtentsState) (s : State) (held : Image) (whole : IsWhole x) (soun
         go (Some (l ∷ ls)) value there = (value.0, value.2, value.1)
 
     pub get_found : (cs : List (List ℕ)) → live_at (index_of i) id ≢ [] → AreChunksIn x view (map as_locator (live_at (index_of i) id)) cs
-        → map_now s id ≡ Some (Bytes (joined cs))
+        → map_now s id ≡ Some (Bytes (joined_bodies (formats_of (shape x)) cs))
     get_found cs some are =
         let there = content_there some in
         there.1 ∙ ap (λ (c : Content). Some c) (shard_found (live_at (index_of i) id) cs there.0 located there.2 are)

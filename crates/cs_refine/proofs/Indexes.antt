@@ -1,14 +1,15 @@
 -- What is asked of an index, where in another the same is looked up.
-use Rattle.std.proofs.Common.{◌≡◌, ◌≢◌, ◌↔◌, ℕ, List, [], ◌∷◌, ◌++◌, ◌==◌, length, Option, Some, None, if◌then◌else◌, refl, sym, ap, ◌∙◌, subst}
+use Rattle.std.proofs.Common.{◌≡◌, ◌≢◌, ◌↔◌, ℕ, ◌+◌, ◌-◌, List, [], ◌∷◌, ◌++◌, ◌==◌, length, Option, Some, None, if◌then◌else◌, refl, sym, ap, ◌∙◌, subst}
 use Rattle.cs_index.proofs.Names.{names_of_lookups}
 use Rattle.cs_index.specs.State.{IsSet, State as IndexState, index_of}
 use Rattle.cs_model.proofs.Counting.{lookup_here}
 use Rattle.cs_model.proofs.Gives.{lookup_append}
+use Rattle.cs_model.proofs.Weights.{weight_alike}
 use Rattle.cs_model.specs.Device.{Page, Shape}
 use Rattle.cs_model.specs.Element.{Content, Entry, Locator, Opening, Run}
 use Rattle.cs_model.specs.Events.{newest_page}
 use Rattle.cs_model.specs.Formats.{Formats}
-use Rattle.cs_model.specs.Index.{FirstLive, IsMergedRun, IsTableRun, NothingLive, Value, entries_of, if_live, live, live_at, lookup, names}
+use Rattle.cs_model.specs.Index.{FirstLive, IsMergedRun, IsTableRun, NothingLive, Value, entries_of, if_live, live, live_at, lookup, named_weight, names, weight, weight_with}
 use Rattle.cs_model.specs.Lists.{nth, ◌∈◌}
 use Rattle.cs_model.specs.Sound.{Sound}
 use Rattle.cs_model.specs.State.{State, index_now, map_now}
@@ -52,6 +53,15 @@ module _ (i : IndexState) (table : List Entry) (runs : List Run) (is : IsIndexOf
 
   pub as_many_named : names (index_of i) ≡ names (table ++ entries_of runs)
   as_many_named = names_of_lookups (index_of i) (table ++ entries_of runs) looked_up
+
+  module _ (weigh : (chunks : ℕ) → ℕ) where
+    pub as_heavy : named_weight weigh (index_of i) ≡ named_weight weigh (table ++ entries_of runs)
+    as_heavy = weight_alike weigh (index_of i) (table ++ entries_of runs) looked_up
+
+    pub as_heavy_with : (id chunks : ℕ) → weight_with weigh (index_of i) id chunks ≡ weight_with weigh (table ++ entries_of runs) id chunks
+    as_heavy_with id chunks =
+        ap (λ (n : ℕ). (n - weight weigh (lookup id (index_of i))) + weigh chunks) as_heavy
+        ∙ ap (λ (o : Option (List Locator)). (named_weight weigh (table ++ entries_of runs) - weight weigh o) + weigh chunks) (looked_up id)
 
   pub some_table : i.table ≢ [] → table ≢ []
   some_table some = λ none. some (none_too table i.table (λ id. sym (is.lookups id)) none)

@@ -45,7 +45,7 @@ module _ (S : Shape) (i : IndexState) (s : State) (is : IsIndexOf i s.table s.ru
   -- where so many are named, so many live, the table names so many, and these are the runs
   abbrev takes_of : (named living entries : ℕ) → List Run → ℕ
   takes_of named living entries runs =
-      if S.by_size then (if nat_le S.most_names (4 * (named - living)) then length runs else reaching S (sizes runs) entries)
+      if S.by_size then (if nat_le S.most_weight (4 * ((named - living) * S.weigh 0)) then length runs else reaching S (sizes runs) entries)
       else (if nat_lt (length runs) 4 then 0 else length runs)
 
   pub same_takes : index_takes S i ≡ stage_takes S s

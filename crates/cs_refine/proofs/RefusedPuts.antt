@@ -12,12 +12,12 @@ use Rattle.cs_model.proofs.Needs.{appends_fit_by, fits_appends_by}
 use Rattle.cs_model.proofs.Outcomes.{all_generations_by}
 use Rattle.cs_model.specs.Append.{AppendAllBy, AppendsChunksBy, chunk_frames, page_counts}
 use Rattle.cs_model.specs.Element.{Locator}
-use Rattle.cs_model.specs.Events.{Chunked, Does}
+use Rattle.cs_model.specs.Events.{ArePayloads, Does}
 use Rattle.cs_model.specs.Extents.{Extents, Fits, FitsBy, ForPut}
 use Rattle.cs_model.specs.Grounds.{NoRoomToPut, PastLimit, WouldPass}
 use Rattle.cs_model.specs.Machine.{World}
 use Rattle.cs_model.specs.Sound.{Bounded, Sound}
-use Rattle.cs_model.specs.State.{Absent, Accepted, Delete, Put, Reply, State, map_now}
+use Rattle.cs_model.specs.State.{Absent, Accepted, Delete, Put, Reply, State, map_now, next_command}
 use Rattle.cs_refine.proofs.Fitting as fitting
 use Rattle.cs_refine.proofs.Numbers.{IsPast, all_numbers_by, past, past_too}
 use Rattle.cs_refine.proofs.Shapes.{store_format, store_shape}
@@ -118,9 +118,9 @@ module _ (x : ExtentsState) (g : GraphState) (i : IndexState) (s : State) (whole
       → AppendsChunksBy (shape x) (formats_of (shape x)) (shape x).apart s cs ls mid
   by_shape cs ls mid = subst (λ (b : Bool). AppendsChunksBy (shape x) (formats_of (shape x)) b s cs ls mid) (sym rule)
 
-  pub put_full_by : (bytes : List ℕ) → NoRoomToPut (shape x) (formats_of (shape x)) s bytes
-      ↔ ((cs : List (List ℕ)) → Chunked (shape x).chunk_bytes bytes cs → FitsBy (shape x) apart (extents_of x) ForPut (page_counts (frames cs)) → ⊥)
-  put_full_by bytes = (
+  pub put_full_by : (id : ℕ) (bytes : List ℕ) → NoRoomToPut (shape x) (formats_of (shape x)) s id bytes
+      ↔ ((cs : List (List ℕ)) → ArePayloads (shape x) (formats_of (shape x)) id (next_command s) bytes cs → FitsBy (shape x) apart (extents_of x) ForPut (page_counts (frames cs)) → ⊥)
+  put_full_by id bytes = (
     (λ none cs cut fits. let all = fits_appends_by (shape x) (store_shape x whole) apart s.world ForPut (frames cs) (there cs fits) in
         none cs all.0 (record s { world = all.1 }) cut (by_shape cs all.0 (record s { world = all.1 }) (all.1, all.2, refl))),
     (λ none cs ls mid cut appends. let as_ruled = by_rule cs ls mid appends in
@@ -188,7 +188,7 @@ module _ (x : ExtentsState) (g : GraphState) (i : IndexState) (s : State) (whole
 
     put_past : (id : ℕ) (bytes : List ℕ) (reply : Reply) (t : State) → Does (shape x) (formats_of (shape x)) s (Put id bytes) reply t
         → PastLimit (shape x) (formats_of (shape x)) t
-        → (cs : List (List ℕ)) × Chunked (shape x).chunk_bytes bytes cs × FitsBy (shape x) apart (extents_of x) ForPut (page_counts (frames cs)) × Over cs
+        → (cs : List (List ℕ)) × ArePayloads (shape x) (formats_of (shape x)) id (next_command s) bytes cs × FitsBy (shape x) apart (extents_of x) ForPut (page_counts (frames cs)) × Over cs
     put_past id bytes (Accepted n) t (cs, ls, mid, cut, appends, number, is) over =
         let as_ruled = by_rule cs ls mid appends in (
           cs,
@@ -200,7 +200,7 @@ module _ (x : ExtentsState) (g : GraphState) (i : IndexState) (s : State) (whole
     put_past id bytes reply t d over = absurd d
 
     pub put_worn_by : (id : ℕ) (bytes : List ℕ) → WouldPass (shape x) (formats_of (shape x)) s (Put id bytes)
-        ↔ ((cs : List (List ℕ)) × Chunked (shape x).chunk_bytes bytes cs × FitsBy (shape x) apart (extents_of x) ForPut (page_counts (frames cs)) × Over cs)
+        ↔ ((cs : List (List ℕ)) × ArePayloads (shape x) (formats_of (shape x)) id (next_command s) bytes cs × FitsBy (shape x) apart (extents_of x) ForPut (page_counts (frames cs)) × Over cs)
     put_worn_by id bytes = (
       (λ would. put_past id bytes would.0 would.1 would.2 would.3),
       (λ found. let all = fits_appends_by (shape x) (store_shape x whole) apart s.world ForPut (frames found.0) (there found.0 found.2) in (
@@ -213,12 +213,12 @@ module _ (x : ExtentsState) (g : GraphState) (i : IndexState) (s : State) (whole
 
 -- where chunks and runs may lie on one extent
 module _ (x : ExtentsState) (g : GraphState) (i : IndexState) (s : State) (whole : IsWhole x) (are : ArePartsOf x g i s) (together : (shape x).apart ≡ false) where
-  pub put_full : (bytes : List ℕ) → NoRoomToPut (shape x) (formats_of (shape x)) s bytes
-      ↔ ((cs : List (List ℕ)) → Chunked (shape x).chunk_bytes bytes cs → Fits (shape x) (extents_of x) ForPut (page_counts (chunk_frames (shape x) (formats_of (shape x)) cs)) → ⊥)
-  put_full bytes = put_full_by x g i s whole are false together bytes
+  pub put_full : (id : ℕ) (bytes : List ℕ) → NoRoomToPut (shape x) (formats_of (shape x)) s id bytes
+      ↔ ((cs : List (List ℕ)) → ArePayloads (shape x) (formats_of (shape x)) id (next_command s) bytes cs → Fits (shape x) (extents_of x) ForPut (page_counts (chunk_frames (shape x) (formats_of (shape x)) cs)) → ⊥)
+  put_full id bytes = put_full_by x g i s whole are false together id bytes
 
   pub put_worn : Sound (shape x) (formats_of (shape x)) s → Bounded (shape x) (formats_of (shape x)) s → (id : ℕ) (bytes : List ℕ)
       → WouldPass (shape x) (formats_of (shape x)) s (Put id bytes)
-      ↔ ((cs : List (List ℕ)) × Chunked (shape x).chunk_bytes bytes cs × Fits (shape x) (extents_of x) ForPut (page_counts (chunk_frames (shape x) (formats_of (shape x)) cs))
+      ↔ ((cs : List (List ℕ)) × ArePayloads (shape x) (formats_of (shape x)) id (next_command s) bytes cs × Fits (shape x) (extents_of x) ForPut (page_counts (chunk_frames (shape x) (formats_of (shape x)) cs))
       × (AreWorn x g.staging ForPut (page_counts (chunk_frames (shape x) (formats_of (shape x)) cs)) ⊎ (2 ^ 63 ≤ s.count + length s.commands + 1)))
   put_worn sound bounded id bytes = put_worn_by x g i s whole are false together sound bounded id bytes

@@ -46,21 +46,21 @@ module _ (x : ExtentsState) (F : Formats) (img : ℕ → Page) (n : ℕ) (m : Ma
 
   -- a page of section j, by the versions of the sections below k that were read
   abbrev page_by : (p j k : ℕ) → Page
-  page_by p j k = newest (λ (u : Superblock). (u.section == j) && nat_le u.version (found.versions j)) (λ (u : Superblock). F.superblock u.format j u.version u.pointers u.generations)
+  page_by p j k = newest (λ (u : Superblock). (u.section == j) && nat_le u.version (found.versions j)) (λ (u : Superblock). F.superblock u.format j u.version u.recorded u.pointers u.generations)
       (img p) (superblocks_of (superblocks_read (shape x) F img n m found k))
 
   section : (p k j : ℕ) → k < (shape x).sections → (shape x).kind p ≡ SectionPage j → ((k == j) && nat_le (found.versions k) (found.versions j)) ≡ true
-      → F.superblock (found.formats k) j (found.versions k) found.pointers found.generations ≡ img p
+      → F.superblock (found.formats k) j (found.versions k) (found.recorded k) found.pointers found.generations ≡ img p
   section p k j there kind test =
       let same : k ≡ j = eqb-true k j (and_left (k == j) (nat_le (found.versions k) (found.versions j)) test) in
-      subst (λ (i : ℕ). (shape x).kind p ≡ SectionPage i → F.superblock (found.formats k) i (found.versions k) found.pointers found.generations ≡ img p) same
+      subst (λ (i : ℕ). (shape x).kind p ≡ SectionPage i → F.superblock (found.formats k) i (found.versions k) (found.recorded k) found.pointers found.generations ≡ img p) same
       (λ at. sym (found.superblock k there) ∙ ap img (sym (is.section_only p k at))) kind
 
   section_as_read : (p j : ℕ) → (shape x).kind p ≡ SectionPage j → (k : ℕ) → k ≤ (shape x).sections → page_by p j k ≡ img p
   section_as_read p j kind zero le = refl
   section_as_read p j kind (suc k) le =
       let rest : page_by p j k ≡ img p = section_as_read p j kind k (let lt : suc k ≤ (shape x).sections = le in omega arith) in
-      either ((k == j) && nat_le (found.versions k) (found.versions j)) (F.superblock (found.formats k) j (found.versions k) found.pointers found.generations) (page_by p j k)
+      either ((k == j) && nat_le (found.versions k) (found.versions j)) (F.superblock (found.formats k) j (found.versions k) (found.recorded k) found.pointers found.generations) (page_by p j k)
       (λ test. section p k j le kind test ∙ sym rest) ∙ rest
 
   no_writes : (k : ℕ) → writes_of (superblocks_read (shape x) F img n m found k) ≡ []
@@ -105,15 +105,15 @@ module _ (x : ExtentsState) (image : Image) (versions : List ℕ) (root format l
   }
 
 -- what is read as a store is opened
-module _ (image : Image) (format : ℕ) (versions : List ℕ) (pages : ℕ) (written : List (ℕ × ℕ)) (root commands limit : ℕ) (runs : List StoredRun)
-    (are : ArePages (device_pages format (length written) pages (length versions)) (page image)) (read : IsStoreRead (page image) format versions pages written root commands runs) where
+module _ (image : Image) (format : ℕ) (versions records : List ℕ) (pages : ℕ) (written : List (ℕ × ℕ)) (root commands limit : ℕ) (runs : List StoredRun)
+    (are : ArePages (device_pages format (length written) pages (length versions)) (page image)) (read : IsStoreRead (page image) format versions records pages written root commands runs) where
   abbrev read_extents : ExtentsState
   read_extents = extents_at format pages (length versions) written
 
   pub read_started : (shape read_extents).apart ≡ false → (m : Map) × (found : Recovers (shape read_extents) (formats_of (shape read_extents)) (page image) commands m)
       × IsStartOf read_extents (graph_at versions root) (index_at (newest_first runs) format limit) image (opened_state (shape read_extents) (formats_of (shape read_extents)) (page image) commands m found)
-  read_started together = let f = read_recovers (page image) format versions pages written root commands runs read together are in
-      (f.0, f.1, started read_extents image versions root format limit commands (newest_first runs) f.0 f.1 (read_whole (page image) format versions pages written read.sections) f.2 together)
+  read_started together = let f = read_recovers (page image) format versions records pages written root commands runs read together are in
+      (f.0, f.1, started read_extents image versions root format limit commands (newest_first runs) f.0 f.1 (read_whole (page image) format versions records pages written read.sections) f.2 together)
 
 -- ---- the pages of a disk
 

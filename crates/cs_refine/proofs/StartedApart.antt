@@ -85,8 +85,8 @@ module _ (x y : ExtentsState) (image : Image) (versions : List ℕ) (root format
     record { parts = parts; same_copies = refl },
   )
 
-module _ (image : Image) (format : ℕ) (versions : List ℕ) (pages : ℕ) (written : List (ℕ × ℕ)) (root commands limit : ℕ) (runs : List StoredRun)
-    (are : ArePages (device_pages format (length written) pages (length versions)) (page image)) (read : IsVisibleStoreRead (page image) format versions pages written root commands runs) where
+module _ (image : Image) (format : ℕ) (versions records : List ℕ) (pages : ℕ) (written : List (ℕ × ℕ)) (root commands limit : ℕ) (runs : List StoredRun)
+    (are : ArePages (device_pages format (length written) pages (length versions)) (page image)) (read : IsVisibleStoreRead (page image) format versions records pages written root commands runs) where
   abbrev there : ExtentsState
   there = extents_at format pages (length versions) written
 
@@ -104,7 +104,7 @@ module _ (image : Image) (format : ℕ) (versions : List ℕ) (pages : ℕ) (wri
       → extents_of y ≡ freed_under (shape noted) (extents_of noted) (index_at (newest_first runs) format limit) [] root → Starts y (shape there)
   read_started noted y not on whole is same extents =
       let f = subst (λ (T : Shape). IsFound noted T) (sym is.same_shape)
-      (noted_recovers (page image) format versions pages written root commands runs read (λ stand. absurd (true≢false (sym stand ∙ not))) are noted on is) in
+      (noted_recovers (page image) format versions records pages written root commands runs read (λ stand. absurd (true≢false (sym stand ∙ not))) are noted on is) in
       let s = started noted y image versions root format limit commands (newest_first runs) f.0 f.1
       (subst (λ (T : Shape). T.apart ≡ true) (sym is.same_shape) on) whole f.2 same extents in
       subst (λ (T : Shape). Starts y T) is.same_shape (f.0, f.1, s.0, s.1)

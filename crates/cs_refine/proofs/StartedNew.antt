@@ -93,6 +93,6 @@ module _ (old : DiskState) (writes : List PageWrite) (format extents pages secti
       (found : Recovers (shape x) (formats_of (shape x)) (page image) 0 (λ id. None))
       × IsStartOf x (graph_at (replicate sections 1) 1) (index_at [] format limit) image (opened_state (shape x) (formats_of (shape x)) (page image) 0 (λ id. None) found))
   written_started superblocks root = new_started image format extents pages sections limit geometry
-      (λ j lt. subst (λ (b : Page). SpellsSuperblock b format 1 extents pages sections j (replicate (section_length extents sections j) (0, 0)))
+      (λ j lt. subst (λ (b : Page). SpellsSuperblock b format 1 0 extents pages sections j (replicate (section_length extents sections j) (0, 0)))
       (sym (as_viewed ((shape_of extents pages sections (section_size extents sections) format).section_page j) (below.sections j lt))) (superblocks j lt))
       (subst (λ (b : Page). SpellsRoot b format 1 0 []) (sym (as_viewed 1 below.root)) root)

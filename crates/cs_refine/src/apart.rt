@@ -9,12 +9,12 @@ ghost use Rattle.cs_index.specs.State.{IsSet, State as IndexState, index_of};
 ghost use Rattle.cs_model.specs.Apart.{AllCopied, MayNotBegin, reset_all, swept_aside, sweeping};
 ghost use Rattle.cs_model.specs.Append.{AppendAllBy, chunk_frames};
 ghost use Rattle.cs_model.specs.Element.{Copy};
-ghost use Rattle.cs_model.specs.Events.{Chunked, Does, mark};
+ghost use Rattle.cs_model.specs.Events.{ArePayloads, Does, mark};
 ghost use Rattle.cs_model.specs.Extents.{ForPut, Purpose as Reason, marked};
 ghost use Rattle.cs_model.specs.Device.{Shape};
 ghost use Rattle.cs_model.specs.Formats.{Formats};
 ghost use Rattle.cs_model.specs.Machine.{World};
-ghost use Rattle.cs_model.specs.State.{Abandon, Abandoned, Accepted, BeginSweep, Event, MoveOne, NoneLive, Put, Reply, Retire, Stage, State, Sweeping};
+ghost use Rattle.cs_model.specs.State.{Abandon, Abandoned, Accepted, BeginSweep, Event, MoveOne, NoneLive, Put, Reply, Retire, Stage, State, Sweeping, next_command};
 ghost use Rattle.cs_model.specs.Step.{Step};
 ghost use Rattle.cs_refine.specs.Copying.{AreAllPartsOf};
 ghost use Rattle.cs_refine.specs.Stores.{IsWorldOf};
@@ -35,7 +35,7 @@ pub fn worlds_apart_agree()
 pub fn put_apart_refines_put()
     ensures { (x y : ExtentsState) (g h : GraphState) (i j : IndexState) (copies : List Copy) (s : State) (id : ℕ) (bytes : List ℕ)
         (chunks : List (List ℕ)) (ls : List Locator)
-        → (shape x).apart ≡ true → IsWhole x → AreAllPartsOf x g i copies s → Chunked (shape x).chunk_bytes bytes chunks
+        → (shape x).apart ≡ true → IsWhole x → AreAllPartsOf x g i copies s → ArePayloads (shape x) (formats_of (shape x)) id (next_command s) bytes chunks
         → AreAppendedBy true x g ForPut (chunk_frames (shape x) (formats_of (shape x)) chunks) ls y h
         → IsSet i id (map place_of ls) j
         → (t : State) × Does (shape x) (formats_of (shape x)) s (Put id bytes) (Accepted (suc (length s.commands))) t

@@ -11,24 +11,30 @@ ghost use Rattle.cs_index.specs.State.{IsSet, State as IndexState, index_of};
 ghost use Rattle.cs_model.specs.Append.{chunk_frames};
 ghost use Rattle.cs_model.specs.Device.{Shape};
 ghost use Rattle.cs_model.specs.Element.{Entry, Locator as Place, Run};
-ghost use Rattle.cs_model.specs.Events.{Chunked, Does, ReadsNow, mark};
+ghost use Rattle.cs_model.specs.Events.{ArePayloads, Does, ReadsNow, mark};
 ghost use Rattle.cs_model.specs.Extents.{ForPut, ForRun, marked};
 ghost use Rattle.cs_model.specs.Formats.{ChunkFrame, Formats};
-ghost use Rattle.cs_model.specs.Index.{FirstLive, IsMergedRun, IsTableRun, NothingLive, entries_of, live_at, lookup, names};
+ghost use Rattle.cs_model.specs.Index.{FirstLive, IsMergedRun, IsTableRun, NothingLive, entries_of, live_at, lookup, named_weight, names, weight_with};
 ghost use Rattle.cs_model.specs.Sound.{Sound};
-ghost use Rattle.cs_model.specs.State.{Abandon, Abandoned, Accepted, BeginSweep, Delete, MoveOne, Moved, Put, Retire, Retired, Stage, Staged, State, Sweeping, map_now};
+ghost use Rattle.cs_model.specs.State.{Abandon, Abandoned, Accepted, BeginSweep, Delete, MoveOne, Moved, Put, Retire, Retired, Stage, Staged, State, Sweeping, map_now, next_command};
 ghost use Rattle.cs_reclaim.specs.Moves.{IsMoved};
 ghost use Rattle.cs_reclaim.specs.Retired.{IsRetired};
 ghost use Rattle.cs_reclaim.specs.Sweeps.{IsNotSweepable};
 ghost use Rattle.cs_refine.specs.Parts.{ArePartsOf, IsIndexOf};
 
-/// What is asked of an index is asked of the machine's: what each identifier has, how many are named, what its runs would
-/// be, and what lives on an extent.
+/// What is asked of an index is asked of the machine's: what each identifier has, how many are named and what their entries weigh, what its
+/// runs would be, and what lives on an extent.
 pub fn index_queries_agree()
     ensures lookups { (i : IndexState) (table : List Entry) (runs : List Run) → IsIndexOf i table runs
         → (id : ℕ) → lookup id (index_of i) ≡ lookup id (table ++ entries_of runs) }
     ensures named { (i : IndexState) (table : List Entry) (runs : List Run) → IsIndexOf i table runs
         → names (index_of i) ≡ names (table ++ entries_of runs) }
+    // By any rule of how much an entry weighs the newest ones weigh as much,
+    ensures weight { (weigh : (chunks : ℕ) → ℕ) (i : IndexState) (table : List Entry) (runs : List Run) → IsIndexOf i table runs
+        → named_weight weigh (index_of i) ≡ named_weight weigh (table ++ entries_of runs) }
+    // and so do they with an entry of so many chunks in place of what an identifier has.
+    ensures entered { (weigh : (chunks : ℕ) → ℕ) (i : IndexState) (table : List Entry) (runs : List Run) (id chunks : ℕ) → IsIndexOf i table runs
+        → weight_with weigh (index_of i) id chunks ≡ weight_with weigh (table ++ entries_of runs) id chunks }
     // The table of the one is empty exactly where that of the other is.
     ensures empty { (i : IndexState) (table : List Entry) (runs : List Run) → IsIndexOf i table runs
         → (i.table ≡ []) ↔ (table ≡ []) }
@@ -46,11 +52,12 @@ pub fn index_queries_agree()
         → NothingLive (index_of i) e ↔ NothingLive (table ++ entries_of runs) e }
 {}
 
-/// Where chunks and runs may lie on one extent the frames of a put and its entry are the machine's Put.
+/// Where chunks and runs may lie on one extent the frames of a put and its entry are the machine's Put. The payloads are those of the command
+/// that is accepted next.
 pub fn put_refines_put()
     ensures { (x y : ExtentsState) (g h : GraphState) (i j : IndexState) (s : State) (id : ℕ) (bytes : List ℕ)
         (chunks : List (List ℕ)) (ls : List Locator)
-        → (shape x).apart ≡ false → IsWhole x → ArePartsOf x g i s → Chunked (shape x).chunk_bytes bytes chunks
+        → (shape x).apart ≡ false → IsWhole x → ArePartsOf x g i s → ArePayloads (shape x) (formats_of (shape x)) id (next_command s) bytes chunks
         → AreAppended x g ForPut (chunk_frames (shape x) (formats_of (shape x)) chunks) ls y h
         → IsSet i id (map place_of ls) j
         → (t : State) × Does (shape x) (formats_of (shape x)) s (Put id bytes) (Accepted (suc (length s.commands))) t

@@ -47,10 +47,10 @@ pub fn new_store_refines_start()
 
 /// Where chunks and runs may lie on one extent a store that was read is a store of the machine, with as many commands as its root says.
 pub fn read_store_refines_start()
-    ensures { (image : Image) (format : ℕ) (versions : List ℕ) (pages : ℕ) (written : List (ℕ × ℕ)) (root commands limit : ℕ)
+    ensures { (image : Image) (format : ℕ) (versions records : List ℕ) (pages : ℕ) (written : List (ℕ × ℕ)) (root commands limit : ℕ)
         (runs : List StoredRun)
         → (shape (extents_at format pages (length versions) written)).apart ≡ false → ArePages (device_pages format (length written) pages (length versions)) (page image)
-        → IsStoreRead (page image) format versions pages written root commands runs
+        → IsStoreRead (page image) format versions records pages written root commands runs
         → (let x = extents_at format pages (length versions) written in
         (m : Map) × (found : Recovers (shape x) (formats_of (shape x)) (page image) commands m)
         × IsStartOf x (graph_at versions root) (index_at (newest_first runs) format limit) image

@@ -25,10 +25,10 @@ pub fn stores_apart_refine_start()
         → IsStartOf y (graph_at versions root) (index_at runs format limit) image (opened_state (shape x) (formats_of (shape x)) (page image) n m found)
         × AreAllPartsOf y (graph_at versions root) (index_at runs format limit) [] (opened_state (shape x) (formats_of (shape x)) (page image) n m found) }
     // A store that was read, of which a hidden entry may name what is gone, and of which it is noted on which extents runs lie.
-    ensures read { (image : Image) (format : ℕ) (versions : List ℕ) (pages : ℕ) (written : List (ℕ × ℕ)) (root commands limit : ℕ)
+    ensures read { (image : Image) (format : ℕ) (versions records : List ℕ) (pages : ℕ) (written : List (ℕ × ℕ)) (root commands limit : ℕ)
         (runs : List StoredRun) (noted y : ExtentsState)
         → ArePages (device_pages format (length written) pages (length versions)) (page image)
-        → IsVisibleStoreRead (page image) format versions pages written root commands runs
+        → IsVisibleStoreRead (page image) format versions records pages written root commands runs
         → (let x = extents_at format pages (length versions) written in
         (shape x).hidden_stand ≡ false → (shape x).apart ≡ true → IsWhole noted → AreExtentsNoted x (newest_first runs) noted
         → shape y ≡ shape noted → extents_of y ≡ freed_under (shape noted) (extents_of noted) (index_at (newest_first runs) format limit) [] root

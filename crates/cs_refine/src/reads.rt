@@ -15,7 +15,7 @@ ghost use Rattle.cs_index.specs.State.{State as IndexState, index_of};
 ghost use Rattle.cs_model.specs.Element.{Bytes, Damaged, Locator as Place};
 ghost use Rattle.cs_model.specs.Events.{ReadsNow};
 ghost use Rattle.cs_model.specs.Formats.{ChunkFrame};
-ghost use Rattle.cs_model.specs.Index.{joined, live_at};
+ghost use Rattle.cs_model.specs.Index.{joined_bodies, live_at};
 ghost use Rattle.cs_model.specs.Lists.{◌∈◌};
 ghost use Rattle.cs_model.specs.Sound.{Sound};
 ghost use Rattle.cs_model.specs.State.{State, map_now};
@@ -50,13 +50,14 @@ pub fn live_chunks_are_read()
         → ReadsNow (shape x) (formats_of (shape x)) s l ChunkFrame payload }
 {}
 
-/// By such extents a shard's chunks are the bytes that the map has; the first that is damaged is the damage that the map has.
+/// By such extents what is behind the heads of a shard's chunks is the bytes that the map has; the first that is damaged is the damage that
+/// the map has.
 pub fn get_refines_get()
     // The shard has chunks, and the frames of all of them are there: the map has their bytes.
     ensures found { (x : ExtentsState) (i : IndexState) (s : State) (held : Image) (id : ℕ) (chunks : List (List ℕ))
         → IsWhole x → Sound (shape x) (formats_of (shape x)) s → FoundAsMuch x s.world → IsIndexOf i s.table s.runs → live_at (index_of i) id ≢ []
         → AreChunksIn x (pages_now (shape x) s held) (map as_locator (live_at (index_of i) id)) chunks
-        → map_now s id ≡ Some (Bytes (joined chunks)) }
+        → map_now s id ≡ Some (Bytes (joined_bodies (formats_of (shape x)) chunks)) }
     // The chunks before place k are there, and a test of the frame at k fails: the map has the refusal of that fault.
     ensures damaged { (x : ExtentsState) (i : IndexState) (s : State) (held : Image) (id k : ℕ) (l : Locator)
         (chunks : List (List ℕ)) (f : FormatFault)

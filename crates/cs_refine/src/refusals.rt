@@ -13,7 +13,7 @@ ghost use Rattle.cs_index.specs.Staged.{IsFull, IsStageWorn, WritesRun};
 ghost use Rattle.cs_index.specs.State.{State as IndexState, index_of};
 ghost use Rattle.cs_model.specs.Append.{chunk_frames, page_counts};
 ghost use Rattle.cs_model.specs.Element.{Locator as Place};
-ghost use Rattle.cs_model.specs.Events.{Chunked, ReadsNow};
+ghost use Rattle.cs_model.specs.Events.{ArePayloads, ReadsNow};
 ghost use Rattle.cs_model.specs.Extents.{Fits, ForMove, ForPut, ForRun, NoPlace};
 ghost use Rattle.cs_model.specs.Formats.{ChunkFrame, Formats};
 ghost use Rattle.cs_model.specs.Grounds.{NoRoomForRun, NoRoomForTable, NoRoomToMove, NoRoomToPut, NoRoomToStage, Refuses, WouldPass};
@@ -21,7 +21,7 @@ ghost use Rattle.cs_model.specs.Index.{FirstLive, NothingLive};
 ghost use Rattle.cs_model.specs.Numbers.{number_of as number_in_machine};
 ghost use Rattle.cs_model.specs.Refusal.{NotSweepable, Refusal as Ground};
 ghost use Rattle.cs_model.specs.Sound.{Bounded, Sound};
-ghost use Rattle.cs_model.specs.State.{Abandon, BeginSweep, Delete, MoveOne, Put, Retire, Stage, State, map_now};
+ghost use Rattle.cs_model.specs.State.{Abandon, BeginSweep, Delete, MoveOne, Put, Retire, Stage, State, map_now, next_command};
 ghost use Rattle.cs_reclaim.specs.Moves.{chunk_frame};
 ghost use Rattle.cs_reclaim.specs.Retired.{IsRetireFull, IsRetireWorn};
 ghost use Rattle.cs_reclaim.specs.Sweeps.{IsNotSweepable};
@@ -31,17 +31,17 @@ ghost use Rattle.cs_refine.specs.Refusals.{refusal_for};
 /// Where chunks and runs may lie on one extent there is no room for a put where its chunks don't fit, and it would take a number past its
 /// greatest where its writes, its versions of a section or the commands would.
 pub fn put_refusals_agree()
-    // The machine has no room exactly where, in whatever chunks the bytes are, their frames don't fit.
-    ensures full { (x : ExtentsState) (g : GraphState) (i : IndexState) (s : State) (bytes : List ℕ)
+    // The machine has no room exactly where, in whatever payloads of the next command the bytes are, their frames don't fit.
+    ensures full { (x : ExtentsState) (g : GraphState) (i : IndexState) (s : State) (id : ℕ) (bytes : List ℕ)
         → (shape x).apart ≡ false → IsWhole x → ArePartsOf x g i s
-        → NoRoomToPut (shape x) (formats_of (shape x)) s bytes
-        ↔ ((chunks : List (List ℕ)) → Chunked (shape x).chunk_bytes bytes chunks
+        → NoRoomToPut (shape x) (formats_of (shape x)) s id bytes
+        ↔ ((chunks : List (List ℕ)) → ArePayloads (shape x) (formats_of (shape x)) id (next_command s) bytes chunks
         → ¬ Fits (shape x) (extents_of x) ForPut (page_counts (chunk_frames (shape x) (formats_of (shape x)) chunks))) }
     // A number would pass its greatest exactly where the frames fit, and one of theirs or that of the commands would.
     ensures worn { (x : ExtentsState) (g : GraphState) (i : IndexState) (s : State) (id : ℕ) (bytes : List ℕ)
         → (shape x).apart ≡ false → IsWhole x → ArePartsOf x g i s → Sound (shape x) (formats_of (shape x)) s → Bounded (shape x) (formats_of (shape x)) s
         → WouldPass (shape x) (formats_of (shape x)) s (Put id bytes)
-        ↔ ((chunks : List (List ℕ)) × Chunked (shape x).chunk_bytes bytes chunks
+        ↔ ((chunks : List (List ℕ)) × ArePayloads (shape x) (formats_of (shape x)) id (next_command s) bytes chunks
         × Fits (shape x) (extents_of x) ForPut (page_counts (chunk_frames (shape x) (formats_of (shape x)) chunks))
         × (AreWorn x g.staging ForPut (page_counts (chunk_frames (shape x) (formats_of (shape x)) chunks))
         ⊎ (2 ^ 63 ≤ s.count + length s.commands + 1))) }

@@ -8,13 +8,13 @@ ghost use Rattle.cs_index.specs.State.{State as IndexState, index_of};
 ghost use Rattle.cs_model.specs.Apart.{AllCopied, DamagedLeft, FirstLeft, FirstUncopied, MayNotBegin, NoRoomToCopy, NothingLeft};
 ghost use Rattle.cs_model.specs.Append.{chunk_frames, page_counts};
 ghost use Rattle.cs_model.specs.Element.{Copy, Locator as Place};
-ghost use Rattle.cs_model.specs.Events.{Chunked, ReadsNow};
+ghost use Rattle.cs_model.specs.Events.{ArePayloads, ReadsNow};
 ghost use Rattle.cs_model.specs.Extents.{FitsBy, ForMove, ForPut, GoesApart};
 ghost use Rattle.cs_model.specs.Formats.{ChunkFrame, Formats};
 ghost use Rattle.cs_model.specs.Grounds.{NoRoomToPut, Refuses, WouldPass};
 ghost use Rattle.cs_model.specs.Refusal.{NotSweepable, Refusal as Ground};
 ghost use Rattle.cs_model.specs.Sound.{Bounded, Sound};
-ghost use Rattle.cs_model.specs.State.{BeginSweep, MoveOne, Put, State};
+ghost use Rattle.cs_model.specs.State.{BeginSweep, MoveOne, Put, State, next_command};
 ghost use Rattle.cs_reclaim.specs.Moves.{chunk_frame};
 ghost use Rattle.cs_refine.specs.Copying.{AreAllPartsOf};
 ghost use Rattle.cs_refine.specs.Parts.{ArePartsOf};
@@ -22,18 +22,18 @@ ghost use Rattle.cs_refine.specs.Parts.{ArePartsOf};
 /// Where chunks and runs lie apart a put is refused for room where its chunks don't fit, and for a number where one of its writes, of its
 /// versions of a section or of the commands would pass its greatest.
 pub fn put_apart_refusals_agree()
-    // In whatever chunks the bytes are, their frames don't fit.
-    ensures full { (x : ExtentsState) (g : GraphState) (i : IndexState) (s : State) (bytes : List ℕ)
+    // In whatever payloads of the next command the bytes are, their frames don't fit.
+    ensures full { (x : ExtentsState) (g : GraphState) (i : IndexState) (s : State) (id : ℕ) (bytes : List ℕ)
         → (shape x).apart ≡ true → IsWhole x → ArePartsOf x g i s
-        → NoRoomToPut (shape x) (formats_of (shape x)) s bytes
-        ↔ ((chunks : List (List ℕ)) → Chunked (shape x).chunk_bytes bytes chunks
+        → NoRoomToPut (shape x) (formats_of (shape x)) s id bytes
+        ↔ ((chunks : List (List ℕ)) → ArePayloads (shape x) (formats_of (shape x)) id (next_command s) bytes chunks
         → ¬ FitsBy (shape x) true (extents_of x) ForPut (page_counts (chunk_frames (shape x) (formats_of (shape x)) chunks))) }
     // The frames fit, and one of their numbers or that of the commands would pass.
     ensures worn { (x : ExtentsState) (g : GraphState) (i : IndexState) (s : State) (id : ℕ) (bytes : List ℕ)
         → (shape x).apart ≡ true → IsWhole x → ArePartsOf x g i s
         → Sound (shape x) (formats_of (shape x)) s → Bounded (shape x) (formats_of (shape x)) s
         → WouldPass (shape x) (formats_of (shape x)) s (Put id bytes)
-        ↔ ((chunks : List (List ℕ)) × Chunked (shape x).chunk_bytes bytes chunks
+        ↔ ((chunks : List (List ℕ)) × ArePayloads (shape x) (formats_of (shape x)) id (next_command s) bytes chunks
         × FitsBy (shape x) true (extents_of x) ForPut (page_counts (chunk_frames (shape x) (formats_of (shape x)) chunks))
         × (AreWornBy true x g.staging ForPut (page_counts (chunk_frames (shape x) (formats_of (shape x)) chunks))
         ⊎ (2 ^ 63 ≤ s.count + length s.commands + 1))) }

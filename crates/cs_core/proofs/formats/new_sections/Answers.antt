@@ -25,7 +25,7 @@ loop-k-preserved c =
       room = omega (arith, c.loop-k.invariant.room, c.push_reserved.ensures.capacity);
       new_ones = subst (AreFirstNew g.format g.extents g.pages g.sections (c.loop-k.k + 1)) (sym items)
           (more_new g.format g.extents g.pages g.sections c.loop-k.k c.loop-k.sections.items it c.loop-k.invariant.new_ones
-          (new_section_is g.format g.extents g.pages g.sections c.loop-k.k c.sections-count.ensures.geometry lt it e.format e.version e.extents e.pages e.sections e.section e.rows));
+          (new_section_is g.format g.extents g.pages g.sections c.loop-k.k c.sections-count.ensures.geometry lt it e.format e.version e.recorded e.extents e.pages e.sections e.section e.rows));
     }
 
 pub returns : goal.returns

@@ -34,7 +34,7 @@ returns-clause-written g c = λ h.
     let it = c.args.superblock.now in
     let s = c.args.geometry in
     wrote c.write.result (g.D.PageDisk.state c.args.disk.now) (g.D.PageDisk.state c.write.new.self) c.section_page-number.result (head_page s.extents s.pages it.section) c.encode_superblock.result
-    (λ (b : List ℕ). SpellsSuperblock b s.format 1 s.extents s.pages s.sections it.section (replicate (section_length s.extents s.sections it.section) (0, 0))) c.section_page-number.ensures
+    (λ (b : List ℕ). SpellsSuperblock b s.format 1 0 s.extents s.pages s.sections it.section (replicate (section_length s.extents s.sections it.section) (0, 0))) c.section_page-number.ensures
     (spelled_new s.format s.extents s.pages s.sections it.section it c.requires.section c.encode_superblock.result c.encode_superblock.ensures) (c.write.ensures.ok h)
 
 pub returns-clause-failed : goal.returns-clause-failed

@@ -2,7 +2,7 @@ use Rattle.std.proofs.Common.{refl, subst, sym}
 use Rattle.cs_extent.specs.State.{IsWhole, State as ExtentsState}
 use Rattle.cs_image.specs.Openings.{index_at}
 use Rattle.cs_index.specs.State.{newest_first}
-use Rattle.cs_frame.specs.Geometries.{named_limit}
+use Rattle.cs_model.specs.Geometry.{most_weight_in}
 use Rattle.cs_core.specs.Openings.{AreExtentsOpened, AreLocatedBy}
 use Rattle.cs_core.specs.Stored.{IsKept}
 use Rattle.cs_core.proofs.Loading.{are_opened, is_loaded, kept_opened, live_in, loaded_as}
@@ -26,7 +26,7 @@ invariant_of-result c =
     refl refl c.in-Ok.ensures.loaded c.none-copies.ensures c.in-Ok.ensures.noted c.ready.ensures in
     subst IsKept (sym is)
     (kept_opened x.format graph.0 x.pages x.written root c.args.root.now.commands c.args.runs.items y (subst IsWhole same c.extent_count.ensures.whole)
-    (subst (λ (z : ExtentsState). AreExtentsOpened z (index_at (newest_first c.args.runs.items) x.format (named_limit x.format x.pages)) root y) same opened)
+    (subst (λ (z : ExtentsState). AreExtentsOpened z (index_at (newest_first c.args.runs.items) x.format (most_weight_in x.format x.pages)) root y) same opened)
     c.requires.commands c.requires.few (subst (λ (z : ExtentsState). AreLocatedBy z c.args.runs.items) same c.in-Ok.ensures.located))
 
 pub returns-clause-made : goal.returns-clause-made

@@ -1,7 +1,7 @@
 use Rattle.std.proofs.Common.{◌<◌, inl, inr, ⊎_elim}
 use Rattle.cs_extent.specs.State.{shape}
 use Rattle.cs_index.specs.State.{newest_first}
-use Rattle.cs_model.specs.Index.{entries_of, names}
+use Rattle.cs_model.specs.Index.{entries_of, named_weight}
 use Rattle.cs_core.proofs.Readying.{live_hidden, live_visible}
 use Rattle.cs_core.proofs.loads.load_visible.Goals as goal
 
@@ -10,7 +10,7 @@ returns-in-Ok-clause-located c = live_visible c.located_or_none.result c.args.ex
 
 pub returns-in-Ok-clause-why : goal.returns-in-Ok-clause-why
 returns-in-Ok-clause-why c = live_hidden c.located_or_none.result c.args.extents.now c.in-Ok.index c.args.runs.items _ _ c.in-Ok.ensures.loaded
-    ((shape c.args.extents.now).most_names < names (entries_of (newest_first c.args.runs.items))) c.located_or_none.ensures.why
+    ((shape c.args.extents.now).most_weight < named_weight (shape c.args.extents.now).weigh (entries_of (newest_first c.args.runs.items))) c.located_or_none.ensures.why
 
 pub returns-in-Err-clause-number : goal.returns-in-Err-clause-number
 returns-in-Err-clause-number c = c.in-Err.ensures.number

@@ -14,12 +14,17 @@ use Rattle.cs_image.specs.Reads.{extents_at}
 use Rattle.cs_core.proofs.Causes.{caused_loaded}
 use Rattle.cs_core.proofs.Loading.{fits_keep}
 use Rattle.cs_core.proofs.Opening.{extents_again, extents_by, index_damaged, run_damaged, store_made}
+use Rattle.cs_core.proofs.Recorded.{recorded_by}
 use Rattle.cs_core.proofs.openings.read_index.Given.{Over}
 use Rattle.cs_core.proofs.openings.read_index.Goals as goal
 
 -- the versions of these sections
 abbrev versions : List Superblock → List ℕ
 versions sections = map (λ (it : Superblock). it.version) sections
+
+-- and what they record
+abbrev records : List Superblock → List ℕ
+records sections = map (λ (it : Superblock). it.recorded) sections
 
 -- the extents that they record
 read_as : (sections : List Superblock) (x : ExtentsState) → x ≡ extents_at (format_of sections) (pages_of sections) (length sections) (rows_of sections)
@@ -79,26 +84,26 @@ load_store-requires-clause-places g c = c.in-Ok-read_runs.ensures.places
 pub returns-in-Ok-read_runs-clause-made : goal.returns-in-Ok-read_runs-clause-made
 returns-in-Ok-read_runs-clause-made g c =
     let sections : List Superblock = c.args.sections.now in
-    store_made (g.D.PageDisk.honest c.args.disk.now) (page (seen (g.D.PageDisk.state c.args.disk.now))) (format_of sections) (versions sections) (pages_of sections) (rows_of sections) c.args.root.now.version c.args.root.now.commands c.deref.result.now c.in-Ok-read_runs.runs.items
+    store_made (g.D.PageDisk.honest c.args.disk.now) (page (seen (g.D.PageDisk.state c.args.disk.now))) (format_of sections) (versions sections) (records sections) (pages_of sections) (rows_of sections) c.args.root.now.version c.args.root.now.commands c.deref.result.now c.in-Ok-read_runs.runs.items
     c.in-Ok.extents (read_as sections c.in-Ok.extents c.in-Ok.ensures) c.in-Ok-new_graph.graph c.in-Ok-new_graph.ensures c.requires.sections
-    (root_there g c.args.disk.now (format_of sections) c.args.root.now.version c.args.root.now.commands c.args.root.now.runs.items c.deref.result.now c.deref.ensures.value c.requires.root) c.in-Ok-read_runs.ensures.read
+    (root_there g c.args.disk.now (format_of sections) c.args.root.now.version c.args.root.now.commands c.args.root.now.runs.items c.deref.result.now c.deref.ensures.value c.requires.root) (recorded_by sections c.args.root.now.version c.requires.newest) c.in-Ok-read_runs.ensures.read
     c.load_store.result c.load_store.ensures.made c.load_store.ensures.commands c.load_store.ensures.live c.load_store.ensures.located c.load_store.ensures.named
 
 pub returns-in-Ok-read_runs-clause-why : goal.returns-in-Ok-read_runs-clause-why
 returns-in-Ok-read_runs-clause-why g c = λ h.
     let sections : List Superblock = c.args.sections.now in
-    index_damaged (g.D.PageDisk.honest c.args.disk.now) (page (seen (g.D.PageDisk.state c.args.disk.now))) (format_of sections) (versions sections) (pages_of sections) (rows_of sections) c.args.root.now.version c.args.root.now.commands c.deref.result.now c.in-Ok-read_runs.runs.items
+    index_damaged (g.D.PageDisk.honest c.args.disk.now) (page (seen (g.D.PageDisk.state c.args.disk.now))) (format_of sections) (versions sections) (records sections) (pages_of sections) (rows_of sections) c.args.root.now.version c.args.root.now.commands c.deref.result.now c.in-Ok-read_runs.runs.items
     c.in-Ok.extents (read_as sections c.in-Ok.extents c.in-Ok.ensures) c.in-Ok-new_graph.graph c.in-Ok-new_graph.ensures c.requires.sections
-    (root_there g c.args.disk.now (format_of sections) c.args.root.now.version c.args.root.now.commands c.args.root.now.runs.items c.deref.result.now c.deref.ensures.value c.requires.root) c.in-Ok-read_runs.ensures.read
+    (root_there g c.args.disk.now (format_of sections) c.args.root.now.version c.args.root.now.commands c.args.root.now.runs.items c.deref.result.now c.deref.ensures.value c.requires.root) (recorded_by sections c.args.root.now.version c.requires.newest) c.in-Ok-read_runs.ensures.read
     (g.D.PageDisk.page_count c.args.disk.now) (sized_as sections (g.D.PageDisk.page_count c.args.disk.now) c.requires.sized) h c.load_store.result c.load_store.ensures.why
 
 pub returns-in-Err-read_runs-clause-why : goal.returns-in-Err-read_runs-clause-why
 returns-in-Err-read_runs-clause-why g c = λ h.
     let sections : List Superblock = c.args.sections.now in
-    run_damaged (g.D.PageDisk.page_count c.args.disk.now) (page (seen (g.D.PageDisk.state c.args.disk.now))) (format_of sections) (versions sections) (pages_of sections) (rows_of sections) (c.requires.sections h)
+    run_damaged (g.D.PageDisk.page_count c.args.disk.now) (page (seen (g.D.PageDisk.state c.args.disk.now))) (format_of sections) (versions sections) (records sections) (pages_of sections) (rows_of sections) (c.requires.sections h)
     (sized_as sections (g.D.PageDisk.page_count c.args.disk.now) c.requires.sized) c.in-Err-read_runs.refusal
     c.args.root.now.version c.args.root.now.commands c.deref.result.now c.in-Ok.extents (read_as sections c.in-Ok.extents c.in-Ok.ensures)
-    (root_there g c.args.disk.now (format_of sections) c.args.root.now.version c.args.root.now.commands c.args.root.now.runs.items c.deref.result.now c.deref.ensures.value c.requires.root h) (c.in-Err-read_runs.ensures.why h)
+    (root_there g c.args.disk.now (format_of sections) c.args.root.now.version c.args.root.now.commands c.args.root.now.runs.items c.deref.result.now c.deref.ensures.value c.requires.root h) (recorded_by sections c.args.root.now.version c.requires.newest) (c.in-Err-read_runs.ensures.why h)
 
 pub returns-in-Ok-read_runs-clause-cause : goal.returns-in-Ok-read_runs-clause-cause
 returns-in-Ok-read_runs-clause-cause g c = caused_loaded _ _ _ c.read_runs.result c.load_store.result c.read_runs.ensures.cause c.load_store.ensures.why

@@ -11,7 +11,7 @@ returns-in-Err-clause-why g c = λ h. first_damaged (g.D.PageDisk.page_count c.a
 pub returns-then-pages-pages_of_device-clause-why : goal.returns-then-pages-pages_of_device-clause-why
 returns-then-pages-pages_of_device-clause-why g c = λ h.
     let it = c.in-Ok.superblock in
-    other_device (g.D.PageDisk.page_count c.args.disk.now) (page (seen (g.D.PageDisk.state c.args.disk.now))) it.format it.version it.extent_count it.pages it.sections it.section it.extents.items c.requires c.in-Ok.ensures.first (c.in-Ok.ensures.read h)
+    other_device (g.D.PageDisk.page_count c.args.disk.now) (page (seen (g.D.PageDisk.state c.args.disk.now))) it.format it.version it.recorded it.extent_count it.pages it.sections it.section it.extents.items c.requires c.in-Ok.ensures.first (c.in-Ok.ensures.read h)
     (λ same. c.if-pages-pages_of_device.true (c.pages.ensures ∙ c.read_first.ensures.disk.pages ∙ same ∙ sym c.pages_of_device.ensures))
 
 pub read_behind-requires-clause-sized : goal.read_behind-requires-clause-sized
@@ -21,7 +21,7 @@ pub read_behind-requires-clause-read : goal.read_behind-requires-clause-read
 read_behind-requires-clause-read g c = λ h.
     let before = c.read_first.ensures.disk.honesty.1 h in
     let it = c.in-Ok.superblock in
-    subst (λ (i : Image). SpellsPageZero (page i 0) it.format it.version it.extent_count it.pages it.sections it.section it.extents.items) (sym (ap seen (c.read_first.ensures.disk.same before))) (c.in-Ok.ensures.read before)
+    subst (λ (i : Image). SpellsPageZero (page i 0) it.format it.version it.recorded it.extent_count it.pages it.sections it.section it.extents.items) (sym (ap seen (c.read_first.ensures.disk.same before))) (c.in-Ok.ensures.read before)
 
 pub returns-clause-made : goal.returns-clause-made
 returns-clause-made g c =

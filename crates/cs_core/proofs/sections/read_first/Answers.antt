@@ -8,4 +8,4 @@ returns-in-Err-clause-why g c = λ h. damaged_first (page (seen (g.D.PageDisk.st
 pub returns-then-not-is_first-clause-why : goal.returns-then-not-is_first-clause-why
 returns-then-not-is_first-clause-why g c = λ h.
     let it = c.in-Ok.superblock in
-    other_first (page (seen (g.D.PageDisk.state c.args.disk.now)) 0) it.format it.version it.extent_count it.pages it.sections it.section it.extents.items (c.in-Ok.ensures.read h) c.if-not-is_first.ensures
+    other_first (page (seen (g.D.PageDisk.state c.args.disk.now)) 0) it.format it.version it.recorded it.extent_count it.pages it.sections it.section it.extents.items (c.in-Ok.ensures.read h) c.if-not-is_first.ensures

@@ -23,4 +23,4 @@ pub returns-clause-read : goal.returns-clause-read
 returns-clause-read g c = λ h.
     let image = seen (g.D.PageDisk.state c.args.disk.now) in
     let it = c.in-Ok.superblock in
-    subst (λ (n : ℕ). SpellsSuperblock (page image n) it.format it.version it.extent_count it.pages it.sections it.section it.extents.items) c.further_page-number.ensures (c.in-Ok.ensures.read h)
+    subst (λ (n : ℕ). SpellsSuperblock (page image n) it.format it.version it.recorded it.extent_count it.pages it.sections it.section it.extents.items) c.further_page-number.ensures (c.in-Ok.ensures.read h)

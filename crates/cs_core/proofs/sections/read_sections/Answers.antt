@@ -11,12 +11,12 @@ use Rattle.cs_core.proofs.sections.read_sections.Goals as goal
 pub alone-requires : goal.alone-requires
 alone-requires g c =
     let it = c.args.first in
-    (page_zero_fits c.requires.some.0 it.format it.version it.extent_count it.pages it.sections it.section it.extents.items c.requires.some.1).geometry.fewest_sections
+    (page_zero_fits c.requires.some.0 it.format it.version it.recorded it.extent_count it.pages it.sections it.section it.extents.items c.requires.some.1).geometry.fewest_sections
 
 pub read_section-requires-clause-known : goal.read_section-requires-clause-known
 read_section-requires-clause-known g c =
     let it = c.args.first in
-    (page_zero_fits c.requires.some.0 it.format it.version it.extent_count it.pages it.sections it.section it.extents.items c.requires.some.1).geometry.known
+    (page_zero_fits c.requires.some.0 it.format it.version it.recorded it.extent_count it.pages it.sections it.section it.extents.items c.requires.some.1).geometry.known
 
 pub read_section-requires-clause-sized : goal.read_section-requires-clause-sized
 read_section-requires-clause-sized g c = c.loop-k.invariant.disk.pages ∙ c.requires.sized
@@ -45,7 +45,7 @@ loop-k-preserved g c =
       read = subst (AreReadTo (g.D.PageDisk.honest c.args.disk.now) view it.format it.extent_count it.pages it.sections (c.loop-k.k + 1)) (sym items)
           (more_read (g.D.PageDisk.honest c.args.disk.now) view it.format it.extent_count it.pages it.sections c.loop-k.k c.loop-k.sections.items c.loop-k.invariant.read c.loop-k.invariant.size some
           c.in-Ok.superblock c.in-Ok.ensures.numbers c.in-Ok.ensures.some
-          (λ h. subst (λ (s : State). SpellsSuperblock (page (seen s) (1 + it.extent_count * it.pages + c.loop-k.k)) c.in-Ok.superblock.format c.in-Ok.superblock.version c.in-Ok.superblock.extent_count c.in-Ok.superblock.pages c.in-Ok.superblock.sections c.in-Ok.superblock.section c.in-Ok.superblock.extents.items)
+          (λ h. subst (λ (s : State). SpellsSuperblock (page (seen s) (1 + it.extent_count * it.pages + c.loop-k.k)) c.in-Ok.superblock.format c.in-Ok.superblock.version c.in-Ok.superblock.recorded c.in-Ok.superblock.extent_count c.in-Ok.superblock.pages c.in-Ok.superblock.sections c.in-Ok.superblock.section c.in-Ok.superblock.extents.items)
           (c.loop-k.invariant.disk.same h) (c.in-Ok.ensures.read (c.loop-k.invariant.disk.honesty.0 h))));
     }
 
@@ -67,7 +67,7 @@ returns-in-Err-clause-number g c = c.in-Err.ensures.number
 pub returns-clause-are : goal.returns-clause-are
 returns-clause-are g c =
     let it = c.args.first in
-    let some : 1 ≤ it.sections = (page_zero_fits c.requires.some.0 it.format it.version it.extent_count it.pages it.sections it.section it.extents.items c.requires.some.1).geometry.fewest_sections in
+    let some : 1 ≤ it.sections = (page_zero_fits c.requires.some.0 it.format it.version it.recorded it.extent_count it.pages it.sections it.section it.extents.items c.requires.some.1).geometry.fewest_sections in
     let end : c.loop-k.k ≡ it.sections = omega (arith, c.loop-k-test.false, c.loop-k.auto.k-end, some) in
     let view = page (seen (g.D.PageDisk.state c.args.disk.now)) in
     let read : AreReadTo (g.D.PageDisk.honest c.args.disk.now) view it.format it.extent_count it.pages it.sections it.sections c.loop-k.sections.items =
@@ -77,7 +77,7 @@ returns-clause-are g c =
 pub returns-clause-sized : goal.returns-clause-sized
 returns-clause-sized g c =
     let it = c.args.first in
-    let some : 1 ≤ it.sections = (page_zero_fits c.requires.some.0 it.format it.version it.extent_count it.pages it.sections it.section it.extents.items c.requires.some.1).geometry.fewest_sections in
+    let some : 1 ≤ it.sections = (page_zero_fits c.requires.some.0 it.format it.version it.recorded it.extent_count it.pages it.sections it.section it.extents.items c.requires.some.1).geometry.fewest_sections in
     let end : c.loop-k.k ≡ it.sections = omega (arith, c.loop-k-test.false, c.loop-k.auto.k-end, some) in
     let view = page (seen (g.D.PageDisk.state c.args.disk.now)) in
     let read : AreReadTo (g.D.PageDisk.honest c.args.disk.now) view it.format it.extent_count it.pages it.sections it.sections c.loop-k.sections.items =
@@ -87,7 +87,7 @@ returns-clause-sized g c =
 pub returns-clause-read : goal.returns-clause-read
 returns-clause-read g c = λ h.
     let it = c.args.first in
-    let some : 1 ≤ it.sections = (page_zero_fits c.requires.some.0 it.format it.version it.extent_count it.pages it.sections it.section it.extents.items c.requires.some.1).geometry.fewest_sections in
+    let some : 1 ≤ it.sections = (page_zero_fits c.requires.some.0 it.format it.version it.recorded it.extent_count it.pages it.sections it.section it.extents.items c.requires.some.1).geometry.fewest_sections in
     let end : c.loop-k.k ≡ it.sections = omega (arith, c.loop-k-test.false, c.loop-k.auto.k-end, some) in
     let view = page (seen (g.D.PageDisk.state c.args.disk.now)) in
     let read : AreReadTo (g.D.PageDisk.honest c.args.disk.now) view it.format it.extent_count it.pages it.sections it.sections c.loop-k.sections.items =

@@ -2,12 +2,14 @@ use Rattle.std.proofs.Common.{◌++◌, sym}
 use Rattle.cs_index.specs.State.{index_of}
 use Rattle.cs_model.specs.Index.{entries_of}
 use Rattle.cs_refine.proofs.events.index_queries_agree.Goals as goal
-use Rattle.cs_refine.proofs.Indexes.{as_many_named, first_live, looked_up, merged_run, none_too, nothing_live, table_run}
+use Rattle.cs_refine.proofs.Indexes.{as_heavy, as_heavy_with, as_many_named, first_live, looked_up, merged_run, none_too, nothing_live, table_run}
 
 pub returns : goal.returns
 returns c = record {
   lookups = λ i table runs is. looked_up i table runs is;
   named = λ i table runs is. as_many_named i table runs is;
+  weight = λ weigh i table runs is. as_heavy i table runs is weigh;
+  entered = λ weigh i table runs id chunks is. as_heavy_with i table runs is weigh id chunks;
   empty = λ i table runs is. (none_too i.table table is.lookups, none_too table i.table (λ id. sym (is.lookups id)));
   table_run = λ i table runs es is. (table_run i.table table is.lookups es, table_run table i.table (λ id. sym (is.lookups id)) es);
   merged_run = λ i table runs es is. (

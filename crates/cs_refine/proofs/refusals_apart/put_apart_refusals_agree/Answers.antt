@@ -4,6 +4,6 @@ use Rattle.cs_refine.proofs.RefusedPuts.{put_full_by, put_worn_by}
 
 pub returns : goal.returns
 returns c = record {
-  full = λ x g i s bytes on whole are. put_full_by x g i s whole are true on bytes;
+  full = λ x g i s id bytes on whole are. put_full_by x g i s whole are true on id bytes;
   worn = λ x g i s id bytes on whole are sound bounded. put_worn_by x g i s whole are true on sound bounded id bytes;
 }

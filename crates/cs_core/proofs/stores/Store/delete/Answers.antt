@@ -8,6 +8,7 @@ use Rattle.cs_core.proofs.Deletes.{delete_absent, delete_done, delete_last}
 use Rattle.cs_core.proofs.Kept.{inside_set, kept_on, noted_on}
 use Rattle.cs_core.proofs.KeptPuts.{kept_apart_delete}
 use Rattle.cs_core.proofs.Moves.{moves_none}
+use Rattle.cs_core.proofs.PutsMeant.{set_others}
 use Rattle.cs_core.proofs.stores.Store.delete.Goals as goal
 
 pub returns-then-not-is_live-clause-step : goal.returns-then-not-is_live-clause-step
@@ -36,3 +37,7 @@ returns-in-Ok-true-clause-step c = rw (← c.self.view_is) (λ runs s is.
     let v : Stored = the_view c.self.inside in
     let young : 2 ^ 63 ≤ v.base + v.accepted + 1 → ⊥ = (let few : v.base + v.accepted + 1 < 2 ^ 63 = subst (λ (u : Stored). u.base + u.accepted + 1 < 2 ^ 63) (sym c.self.view_is) c.if-is_worn.ensures in λ (last : 2 ^ 63 ≤ v.base + v.accepted + 1). omega arith) in
     delete_done v s c.extent_count.ensures.whole is (id_number c.args.id) runs c.if-not-is_live.ensures young c.erase.new.self (c.erase.ensures.entered (search rules)))
+
+pub returns-in-Ok-true-clause-meaning : goal.returns-in-Ok-true-clause-meaning
+returns-in-Ok-true-clause-meaning c = rw (← c.self.view_is) (
+    set_others (the_view c.self.inside).index c.erase.new.self (id_number c.args.id) [] (c.erase.ensures.entered (search rules)))

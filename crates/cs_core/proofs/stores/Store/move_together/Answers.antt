@@ -7,6 +7,7 @@ use Rattle.cs_core.proofs.Going.{round_told}
 use Rattle.cs_core.proofs.KeptMoves.{kept_moved, move_behind, move_round}
 use Rattle.cs_core.proofs.MoveSteps.{move_answers, move_unswept}
 use Rattle.cs_core.proofs.SweepSteps.{unswept}
+use Rattle.cs_core.proofs.Saying.{move_means}
 use Rattle.cs_core.proofs.stores.Store.move_together.Goals as goal
 use Rattle.cs_image.specs.Reads.{page_total}
 
@@ -55,3 +56,10 @@ returns-clause-round g c = rw (← c.self.view_is) (
           (λ is. let u = d.unchanged is in (u.0, u.1, u.2)) (λ id k is. let m = d.moved id k is in (m.0, m.1)) d.unstaged,
       refl,
     ))
+
+pub returns-clause-meaning : goal.returns-clause-meaning
+returns-clause-meaning g c = rw (← c.self.view_is) (
+    let v : Stored = the_view c.self.inside in
+    let d = c.move_one.ensures in
+    move_means v.index v.extents v.graph c.in-Some.sweep c.move_one.new.index c.move_one.new.extents c.move_one.new.graph c.move_one.result
+    (λ is. let u = d.unchanged is in (u.0, u.1, u.2)) (λ id k is. let m = d.moved id k is in (m.0, m.1)))

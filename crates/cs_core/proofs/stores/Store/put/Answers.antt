@@ -16,14 +16,16 @@ use Rattle.cs_core.proofs.Kept.{inside_live, inside_set, kept_on, noted_on, plac
 use Rattle.cs_core.proofs.KeptApart.{kept_apart_roomed}
 use Rattle.cs_core.proofs.KeptPuts.{kept_apart_put, placed_all}
 use Rattle.cs_core.proofs.Moves.{last_root, moves_all, moves_none, moves_refused, root_all}
-use Rattle.cs_core.proofs.Puts.{chunks_decline, last_declines, ok_not, put_done, set_from, test_declines}
+use Rattle.cs_core.proofs.Puts.{chunks_decline, last_declines, light_placed, ok_not, put_done, set_from, test_declines}
+use Rattle.cs_core.proofs.PutsMeant.{set_others}
+use Rattle.cs_core.proofs.Saying.{put_means}
 use Rattle.cs_core.proofs.stores.Store.put.Goals as goal
 
 pub returns-in-Err-clause-step : goal.returns-in-Err-clause-step
 returns-in-Err-clause-step c = rw (← c.self.view_is) (λ runs.
     let v : Stored = the_view c.self.inside in
     let e = c.in-Err.ensures in
-    test_declines v v c.test_put.ensures.whole (shape v.extents).apart refl c.self.invariant.limit runs refl (id_number c.args.id) c.args.bytes.now c.in-Err.refusal e.refusals (λ q. e.too_large.0 (ap Err q)) (λ q. e.index_full.0 (ap Err q)))
+    test_declines v v c.test_put.ensures.whole (shape v.extents).apart refl c.self.invariant.limit c.self.invariant.format runs refl (id_number c.args.id) c.args.bytes.now c.in-Err.refusal e.refusals (λ q. e.too_large.0 (ap Err q)) (λ q. e.index_full.0 (ap Err q)))
 
 pub returns-then-is_worn-clause-step : goal.returns-then-is_worn-clause-step
 returns-then-is_worn-clause-step c = rw (← c.self.view_is) (λ runs.
@@ -31,7 +33,7 @@ returns-then-is_worn-clause-step c = rw (← c.self.view_is) (λ runs.
     let e = c.in-Ok.ensures in
     let last : 2 ^ 63 ≤ v.base + v.accepted + 1 = subst (λ (u : Stored). 2 ^ 63 ≤ u.base + u.accepted + 1) (sym c.self.view_is) c.if-is_worn.ensures in
     let small = ok_not tt code.TooLarge e.too_large in
-    last_declines v v c.test_put.ensures.whole (shape v.extents).apart refl c.self.invariant.limit runs refl (id_number c.args.id) c.args.bytes.now c.why_worn.result small (λ h. ok_not tt code.IndexFull e.index_full (small, h.0, h.1)) last c.why_worn.ensures)
+    last_declines v v c.test_put.ensures.whole (shape v.extents).apart refl c.self.invariant.limit c.self.invariant.format runs refl (id_number c.args.id) c.args.bytes.now c.why_worn.result small (λ heavy. ok_not tt code.IndexFull e.index_full (small, heavy)) last c.why_worn.ensures)
 
 pub invariant_of-self : goal.invariant_of-self
 invariant_of-self c =
@@ -82,6 +84,13 @@ enter-requires-clause-marks c =
     subst (λ (f : ℕ). KeepFormat f ls) (sym (same_format s.index c.reserve.new.self c.reserve.ensures.rest ∙ c.self.invariant.format))
     (placed_all c.is_apart-apart.result s.extents c.put_chunks_by.new.extents s.graph c.put_chunks_by.new.graph ForPut _ ls c.in-Ok-put_chunks_by.ensures.chunks.2)
 
+pub enter-requires-clause-limit : goal.enter-requires-clause-limit
+enter-requires-clause-limit c =
+    let s : Stored = the_view c.self.inside in
+    let chunks = c.in-Ok-put_chunks_by.ensures.chunks in
+    light_placed c.is_apart-apart.result s.extents c.put_chunks_by.new.extents s.graph c.put_chunks_by.new.graph s.index c.reserve.new.self (id_number c.args.id) (s.base + s.accepted + 1) c.args.bytes.now chunks.0
+    c.in-Ok-put_chunks_by.places.items chunks.1 chunks.2 c.in-Ok.ensures.room c.reserve.ensures.rest
+
 pub returns-in-Err-put_chunks_by-clause-step : goal.returns-in-Err-put_chunks_by-clause-step
 returns-in-Err-put_chunks_by-clause-step c = rw (← c.self.view_is) (λ runs.
     let v : Stored = the_view c.self.inside in
@@ -94,8 +103,8 @@ returns-in-Err-put_chunks_by-clause-step c = rw (← c.self.view_is) (λ runs.
     let d = c.in-Err-put_chunks_by.ensures in
     let small = ok_not tt code.TooLarge e.too_large in
     let w : Stored = record v { extents = x; graph = g; index = i } in
-    round_told (λ (u : Stored). Declines v (Put (id_number c.args.id) c.args.bytes.now) c.in-Err-put_chunks_by.refusal u) w (ap (λ (k : GraphState). k.round) d.unstaged) (chunks_decline v w c.test_put.ensures.whole b rule c.self.invariant.limit runs (roomed v x g i d.refused d.unstaged c.reserve.ensures.rest) (id_number c.args.id) c.args.bytes.now c.in-Err-put_chunks_by.refusal
-    small (λ h. ok_not tt code.IndexFull e.index_full (small, h.0, h.1)) d.refusals (λ q. d.too_large.0 (ap Err q)) (λ q. d.full.0 (ap Err q)) (λ q. d.worn.0 (ap Err q))))
+    round_told (λ (u : Stored). Declines v (Put (id_number c.args.id) c.args.bytes.now) c.in-Err-put_chunks_by.refusal u) w (ap (λ (k : GraphState). k.round) d.unstaged) (chunks_decline v w c.test_put.ensures.whole b rule c.self.invariant.limit c.self.invariant.format runs (roomed v x g i d.refused d.unstaged c.reserve.ensures.rest) (id_number c.args.id) c.args.bytes.now c.in-Err-put_chunks_by.refusal
+    small (λ heavy. ok_not tt code.IndexFull e.index_full (small, heavy)) d.refusals (λ q. d.too_large.0 (ap Err q)) (λ q. d.full.0 (ap Err q)) (λ q. d.worn.0 (ap Err q))))
 
 pub returns-in-Ok-put_chunks_by-clause-step : goal.returns-in-Ok-put_chunks_by-clause-step
 returns-in-Ok-put_chunks_by-clause-step c = rw (← c.self.view_is) (λ runs.
@@ -107,7 +116,7 @@ returns-in-Ok-put_chunks_by-clause-step c = rw (← c.self.view_is) (λ runs.
     let small = ok_not tt code.TooLarge e.too_large in
     let young : 2 ^ 63 ≤ v.base + v.accepted + 1 → ⊥ = (let few : v.base + v.accepted + 1 < 2 ^ 63 = subst (λ (u : Stored). u.base + u.accepted + 1 < 2 ^ 63) (sym c.self.view_is) c.if-is_worn.ensures in λ (last : 2 ^ 63 ≤ v.base + v.accepted + 1). omega arith) in
     let m = moves_all b v.extents v.graph ForPut _ c.in-Ok-put_chunks_by.places.items c.put_chunks_by.new.extents c.put_chunks_by.new.graph d.chunks.2 in
-    round_told (λ (u : Stored). Steps v (Put (id_number c.args.id) c.args.bytes.now) (Accepted (v.accepted + 1)) u) (record v { graph = c.put_chunks_by.new.graph; extents = c.put_chunks_by.new.extents; index = c.enter.new.index; accepted = v.accepted + 1 }) m.round (λ s is. put_done v s c.test_put.ensures.whole is b rule (id_number c.args.id) c.args.bytes.now c.self.invariant.limit runs small (λ h. ok_not tt code.IndexFull e.index_full (small, h.0, h.1))
+    round_told (λ (u : Stored). Steps v (Put (id_number c.args.id) c.args.bytes.now) (Accepted (v.accepted + 1)) u) (record v { graph = c.put_chunks_by.new.graph; extents = c.put_chunks_by.new.extents; index = c.enter.new.index; accepted = v.accepted + 1 }) m.round (λ s is. put_done v s c.test_put.ensures.whole is b rule (id_number c.args.id) c.args.bytes.now c.self.invariant.limit c.self.invariant.format runs small (λ heavy. ok_not tt code.IndexFull e.index_full (small, heavy))
     (λ none. ok_not c.in-Ok-put_chunks_by.places code.Full d.full (small, none)) (λ out. ok_not c.in-Ok-put_chunks_by.places code.WornOut d.worn (small, out)) young
     c.put_chunks_by.new.extents c.put_chunks_by.new.graph c.enter.new.index d.chunks.0 c.in-Ok-put_chunks_by.places.items d.chunks.1 d.chunks.2
     (set_from (id_number c.args.id) v.index c.reserve.new.self c.enter.new.index _ c.reserve.ensures.rest c.enter.ensures) c.put_chunks_by.ensures.shape))
@@ -121,3 +130,14 @@ pub returns-in-Ok-put_chunks_by-clause-round : goal.returns-in-Ok-put_chunks_by-
 returns-in-Ok-put_chunks_by-clause-round c = rw (← c.self.view_is) (
     let s : Stored = the_view c.self.inside in
     ((moves_all c.is_apart-apart.result s.extents s.graph ForPut _ c.in-Ok-put_chunks_by.places.items c.put_chunks_by.new.extents c.put_chunks_by.new.graph c.in-Ok-put_chunks_by.ensures.chunks.2).round, refl))
+
+pub returns-in-Ok-put_chunks_by-clause-meaning : goal.returns-in-Ok-put_chunks_by-clause-meaning
+returns-in-Ok-put_chunks_by-clause-meaning c = rw (← c.self.view_is) (
+    let s : Stored = the_view c.self.inside in
+    let chunks = c.in-Ok-put_chunks_by.ensures.chunks in
+    let set = set_from (id_number c.args.id) s.index c.reserve.new.self c.enter.new.index _ c.reserve.ensures.rest c.enter.ensures in
+    let w : Stored = record s { graph = c.put_chunks_by.new.graph; extents = c.put_chunks_by.new.extents; index = c.enter.new.index; out = c.put_chunks_by.new.graph.round; accepted = s.accepted + 1 } in (
+      put_means s w c.test_put.ensures.whole c.is_apart-apart.result (id_number c.args.id) (s.base + s.accepted + 1) c.args.bytes.now chunks.0 c.in-Ok-put_chunks_by.places.items chunks.1 chunks.2
+          c.put_chunks_by.ensures.shape set,
+      set_others s.index c.enter.new.index (id_number c.args.id) _ set,
+    ))

@@ -10,7 +10,7 @@ use Rattle.cs_core.specs.Steps.{Declines, Steps}
 use Rattle.cs_core.specs.Stored.{AreInside, AreSwept, Stored, but_for_room}
 use Rattle.cs_core.proofs.Going.{round_told, same_index}
 use Rattle.cs_core.proofs.Kept.{kept_on, noted_on, noted_staged}
-use Rattle.cs_core.proofs.KeptStages.{kept_same, retired_adds, retired_inside, retired_kept, retired_moves, retired_swept}
+use Rattle.cs_core.proofs.KeptStages.{retired_means, kept_same, retired_adds, retired_inside, retired_kept, retired_moves, retired_swept}
 use Rattle.cs_core.proofs.Moves.{last_root, moves_refused}
 use Rattle.cs_core.proofs.Noted.{pushed_last}
 use Rattle.cs_core.proofs.StagesApart.{not_resumed, resumed, retire_apart_refused, retire_apart_steps, roomed_copies}
@@ -95,3 +95,9 @@ on_ok (Err e) P is ensured = absurd (let clash : false ≡ true = is in cc clash
 
 pub push_back_reserved-requires : goal.push_back_reserved-requires
 push_back_reserved-requires c = omega (arith, on_ok c.reserve.result _ c.if-is_err.ensures.negation c.reserve.ensures.ok)
+
+pub returns-in-Ok-clause-meaning : goal.returns-in-Ok-clause-meaning
+returns-in-Ok-clause-meaning c = rw (← c.self.view_is) (
+    let s : Stored = the_view c.self.inside in
+    let rule : (shape s.extents).apart ≡ true = subst (λ (u : Stored). (shape u.extents).apart ≡ true) (sym c.self.view_is) c.requires in
+    retired_means s.index s.extents s.graph s.copies c.args.extent c.in-Ok.version _ c.retire.new.index c.retire.new.extents c.retire.new.graph c.retire.new.self c.in-Ok.ensures.retired (c.self.invariant.apart rule).marks)

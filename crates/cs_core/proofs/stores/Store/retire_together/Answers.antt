@@ -17,6 +17,7 @@ use Rattle.cs_core.specs.Steps.{Declines, Steps}
 use Rattle.cs_core.proofs.Noted.{pushed_last}
 use Rattle.cs_core.proofs.StageSteps.{alive_not, retire_refused, retire_steps, settled_nothing}
 use Rattle.cs_core.proofs.SweepSteps.{retire_unmarked, unswept}
+use Rattle.cs_core.proofs.PutsMeant.{live_means}
 use Rattle.cs_core.proofs.stores.Store.retire_together.Goals as goal
 
 pub returns-in_default-clause-step : goal.returns-in_default-clause-step
@@ -96,3 +97,6 @@ on_ok (Err e) P is ensured = absurd (let clash : false ≡ true = is in cc clash
 
 pub push_back_reserved-requires : goal.push_back_reserved-requires
 push_back_reserved-requires c = omega (arith, on_ok c.reserve.result _ c.if-is_err.ensures.negation c.reserve.ensures.ok)
+
+pub returns-in-Ok-clause-meaning : goal.returns-in-Ok-clause-meaning
+returns-in-Ok-clause-meaning c = rw (← c.self.view_is) (live_means (the_view c.self.inside).index c.retire.new.index c.retire.ensures.map)

@@ -13,6 +13,8 @@ use Rattle.cs_core.specs.Steps.{Answers, Declines, Steps, deleted_or_not, staged
 use Rattle.cs_core.specs.Views.{Serves}
 use Rattle.std.specs.Prelude.{IfOk, MatchOption}
 use Rattle.cs_core.specs.Answered.{IsAnswered}
+use Rattle.cs_core.specs.Lookups.{AreMeantBytes}
+use Rattle.cs_core.specs.Puts.{MeansTheSame, MeansTheSameBut}
 use Rattle.cs_core.specs.Stored.{but_for_room}
 use Rattle.cs_core.specs.Writebacks.{AddsCommand, IsRoundBegun, Stages}
 use Rattle.cs_core.proofs.Answering.{abandon_so, begin_none_so, begin_refused_so, begin_so, begin_sweep_so, delete_absent_so, delete_so, if_refused_so, no_other, ok_of, put_so, refused_alone, retire_so, stage_none_so, stage_so}
@@ -43,7 +45,8 @@ pub returns-in-Ok-clause-answered : goal.returns-in-Ok-clause-answered
 returns-in-Ok-clause-answered c =
     let v = but_for_room c.args.self.now in
     let w = but_for_room c.put.new.self in
-    subst (λ (e : Asked). IsAnswered v e (told.Accepted c.in-Ok.n) w) (sym c.in-Put.is) (put_so v w c.in-Put.id c.in-Put.bytes c.in-Ok.n c.in-Ok.ensures.adds c.put.ensures.round c.in-Ok.ensures.behind)
+    subst (λ (e : Asked). IsAnswered v e (told.Accepted c.in-Ok.n) w) (sym c.in-Put.is) (put_so v w c.in-Put.id c.in-Put.bytes c.in-Ok.n c.in-Ok.ensures.adds c.put.ensures.round c.in-Ok.ensures.behind
+    (subst (λ (b : List ℕ). AreMeantBytes w (id_number c.in-Put.id) b × MeansTheSameBut (id_number c.in-Put.id) v.index w.index) c.as_slice.ensures c.in-Ok.ensures.meaning))
 
 pub returns-in-Err-delete-clause-step : goal.returns-in-Err-delete-clause-step
 returns-in-Err-delete-clause-step c = λ disk.
@@ -79,7 +82,7 @@ returns-in-Ok-Some-clause-answered c =
     let w = but_for_room c.delete.new.self in
     let is_ : c.delete.result ≡ Ok (Some c.in-Ok-Some.n) = search rules in
     let e = subst (λ (r : Result (Option ℕ) Code). IfOk r (λ deleted. MatchOption deleted (but_for_room c.delete.new.self ≡ but_for_room c.args.self.now) (λ n. AddsCommand n c.args.self.now c.delete.new.self))) is_ c.delete.ensures.adds in
-    subst (λ (e : Asked). IsAnswered v e (told.Accepted c.in-Ok-Some.n) w) (sym c.in-Delete.is) (delete_so v w c.in-Delete.id c.in-Ok-Some.n e c.delete.ensures.round c.delete.ensures.staging)
+    subst (λ (e : Asked). IsAnswered v e (told.Accepted c.in-Ok-Some.n) w) (sym c.in-Delete.is) (delete_so v w c.in-Delete.id c.in-Ok-Some.n e c.delete.ensures.round c.delete.ensures.staging (ok_of (MeansTheSameBut (id_number c.in-Delete.id) v.index w.index) c.delete.result (Some c.in-Ok-Some.n) is_ c.delete.ensures.meaning))
 
 pub returns-in-Ok-None-clause-answered : goal.returns-in-Ok-None-clause-answered
 returns-in-Ok-None-clause-answered c =
@@ -123,7 +126,8 @@ returns-in-Ok-Some-stage-clause-answered c =
     let w = but_for_room c.stage.new.self in
     let is_ : c.stage.result ≡ Ok (Some c.in-Ok-Some-stage.v) = search rules in
     let e = subst (λ (r : Result (Option ℕ) Code). IfOk r (λ staged. MatchOption staged ((c.args.self.now.index.table ≡ []) × (but_for_room c.stage.new.self ≡ but_for_room c.args.self.now)) (λ v. c.stage.new.self.index.table ≡ []))) is_ c.stage.ensures.staged in
-    subst (λ (e : Asked). IsAnswered v e (told.Staged c.in-Ok-Some-stage.v) w) (sym c.in-Stage.is) (stage_so v w c.in-Ok-Some-stage.v e c.stage.ensures.round (ok_of (Stages v w) c.stage.result (Some c.in-Ok-Some-stage.v) is_ c.stage.ensures.behind))
+    subst (λ (e : Asked). IsAnswered v e (told.Staged c.in-Ok-Some-stage.v) w) (sym c.in-Stage.is) (stage_so v w c.in-Ok-Some-stage.v e c.stage.ensures.round (ok_of (Stages v w) c.stage.result (Some c.in-Ok-Some-stage.v) is_ c.stage.ensures.behind)
+    (ok_of (MeansTheSame v.index w.index) c.stage.result (Some c.in-Ok-Some-stage.v) is_ c.stage.ensures.meaning))
 
 pub returns-in-Ok-None-stage-clause-answered : goal.returns-in-Ok-None-stage-clause-answered
 returns-in-Ok-None-stage-clause-answered c =
@@ -201,7 +205,7 @@ pub returns-in-Ok-begin_sweep-clause-answered : goal.returns-in-Ok-begin_sweep-c
 returns-in-Ok-begin_sweep-clause-answered c =
     let v = but_for_room c.args.self.now in
     let w = but_for_room c.begin_sweep.new.self in
-    subst (λ (e : Asked). IsAnswered v e told.Sweeping w) (sym c.in-BeginSweep.is) (begin_sweep_so v w c.in-BeginSweep.e c.begin_sweep.ensures.round c.begin_sweep.ensures.staging)
+    subst (λ (e : Asked). IsAnswered v e told.Sweeping w) (sym c.in-BeginSweep.is) (begin_sweep_so v w c.in-BeginSweep.e c.begin_sweep.ensures.round c.begin_sweep.ensures.staging c.in-Ok-begin_sweep.ensures.meaning)
 
 pub returns-in-Err-retire-clause-step : goal.returns-in-Err-retire-clause-step
 returns-in-Err-retire-clause-step c = λ disk.
@@ -227,7 +231,7 @@ pub returns-in-Ok-retire-clause-answered : goal.returns-in-Ok-retire-clause-answ
 returns-in-Ok-retire-clause-answered c =
     let v = but_for_room c.args.self.now in
     let w = but_for_room c.retire.new.self in
-    subst (λ (e : Asked). IsAnswered v e (told.Retired c.in-Ok-retire.v) w) (sym c.in-Retire.is) (retire_so v w c.in-Retire.e c.in-Ok-retire.v c.in-Ok-retire.ensures.staged c.retire.ensures.round c.in-Ok-retire.ensures.behind)
+    subst (λ (e : Asked). IsAnswered v e (told.Retired c.in-Ok-retire.v) w) (sym c.in-Retire.is) (retire_so v w c.in-Retire.e c.in-Ok-retire.v c.in-Ok-retire.ensures.staged c.retire.ensures.round c.in-Ok-retire.ensures.behind c.in-Ok-retire.ensures.meaning)
 
 pub returns-in-Err-abandon-clause-step : goal.returns-in-Err-abandon-clause-step
 returns-in-Err-abandon-clause-step c = λ disk.
@@ -253,7 +257,7 @@ pub returns-in-Ok-abandon-clause-answered : goal.returns-in-Ok-abandon-clause-an
 returns-in-Ok-abandon-clause-answered c =
     let v = but_for_room c.args.self.now in
     let w = but_for_room c.abandon.new.self in
-    subst (λ (e : Asked). IsAnswered v e told.Abandoned w) (sym c.in-Abandon.is) (abandon_so v w c.in-Abandon.e c.abandon.ensures.round c.abandon.ensures.staging)
+    subst (λ (e : Asked). IsAnswered v e told.Abandoned w) (sym c.in-Abandon.is) (abandon_so v w c.in-Abandon.e c.abandon.ensures.round c.abandon.ensures.staging c.in-Ok-abandon.ensures.meaning)
 
 pub unreachable-requires : goal.unreachable-requires
 unreachable-requires c =

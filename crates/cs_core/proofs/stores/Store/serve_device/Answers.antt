@@ -4,6 +4,7 @@ use Rattle.cs_deps.specs.declared.refusals.Refusal.{Refusal as Code}
 use Rattle.cs_deps.specs.declared.refusals.Refusal.TheVariants as code
 use Rattle.cs_frame.specs.declared.identifiers.ShardId.{ShardId}
 use Rattle.cs_core.specs.declared.events.Event.TheVariants as asked
+use Rattle.cs_core.specs.Puts.{MeansTheSame}
 use Rattle.cs_core.specs.Reads.{MoveAnswers}
 use Rattle.cs_core.specs.Stored.{but_for_room}
 use Rattle.cs_core.specs.Writebacks.{Stages}
@@ -48,7 +49,8 @@ returns-in-Ok-Some g c =
     let disk = g.D.PageDisk.state c.args.disk.now in
     let after = g.D.PageDisk.state c.move_one.new.disk in
     let is_ : c.move_one.result ≡ Ok (Some (c.in-Ok-Some.id, c.in-Ok-Some.chunk)) = search rules in
-    let answered = move_so (but_for_room c.args.self.now) (but_for_room c.move_one.new.self) c.in-MoveOne.e c.in-Ok-Some.id c.in-Ok-Some.chunk c.move_one.ensures.round (ok_of (Stages (but_for_room c.args.self.now) (but_for_room c.move_one.new.self)) c.move_one.result (Some (c.in-Ok-Some.id, c.in-Ok-Some.chunk)) is_ c.move_one.ensures.behind) in
+    let answered = move_so (but_for_room c.args.self.now) (but_for_room c.move_one.new.self) c.in-MoveOne.e c.in-Ok-Some.id c.in-Ok-Some.chunk c.move_one.ensures.round (ok_of (Stages (but_for_room c.args.self.now) (but_for_room c.move_one.new.self)) c.move_one.result (Some (c.in-Ok-Some.id, c.in-Ok-Some.chunk)) is_ c.move_one.ensures.behind)
+    (ok_of (MeansTheSame (but_for_room c.args.self.now).index (but_for_room c.move_one.new.self).index) c.move_one.result (Some (c.in-Ok-Some.id, c.in-Ok-Some.chunk)) is_ c.move_one.ensures.meaning) in
     let step = λ (honest : g.D.PageDisk.honest c.args.disk.now). moved_served c.args.self.now c.move_one.new.self disk after c.in-MoveOne.e (c.in-Ok-Some.id, c.in-Ok-Some.chunk) (c.move_one.ensures.disk.same honest)
     (subst (λ (r : Result (Option (ShardId × ℕ)) Code). MoveAnswers c.args.self.now disk c.in-MoveOne.e r c.move_one.new.self) is_ (c.move_one.ensures.step c.requires.running honest)) in
     search rules

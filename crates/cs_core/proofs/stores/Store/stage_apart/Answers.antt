@@ -15,6 +15,7 @@ use Rattle.cs_core.proofs.Moves.{behind_none, last_root, moves_refused}
 use Rattle.cs_core.proofs.Noted.{pushed_last}
 use Rattle.cs_core.proofs.StagesApart.{may_indeed, none_staged, roomed_copies, stage_apart_declines, stage_apart_none, stage_apart_steps}
 use Rattle.cs_core.proofs.StageSteps.{staged_none, staged_some}
+use Rattle.cs_core.proofs.PutsMeant.{live_means}
 use Rattle.cs_core.proofs.stores.Store.stage_apart.Goals as goal
 
 pub returns-in-Ok-None-clause-step : goal.returns-in-Ok-None-clause-step
@@ -113,3 +114,9 @@ pub returns-in-Ok-Some-clause-round : goal.returns-in-Ok-Some-clause-round
 returns-in-Ok-Some-clause-round c = rw (← c.self.view_is) (
     let s : Stored = the_view c.self.inside in
     ((swept_moves s.index s.extents s.graph s.copies c.in-Ok-Some.version _ c.stage.new.index c.stage.new.extents c.stage.new.graph c.stage.new.self (c.stage.ensures.staged c.in-Ok-Some.version (search rules)) c.extent_count.ensures.whole.geometry.fewest_sections).round, refl))
+
+pub returns-in-Ok-Some-clause-meaning : goal.returns-in-Ok-Some-clause-meaning
+returns-in-Ok-Some-clause-meaning c = rw (← c.self.view_is) (live_means (the_view c.self.inside).index c.stage.new.index c.stage.ensures.map)
+
+pub returns-in-Ok-None-clause-meaning : goal.returns-in-Ok-None-clause-meaning
+returns-in-Ok-None-clause-meaning c = rw (← c.self.view_is) (live_means (the_view c.self.inside).index c.stage.new.index c.stage.ensures.map)

@@ -13,6 +13,7 @@ use Rattle.cs_core.proofs.KeptStages.{kept_together}
 use Rattle.cs_core.proofs.Moves.{last_root, root_staged, stage_empties, stage_moves}
 use Rattle.cs_core.proofs.Noted.{pushed_last}
 use Rattle.cs_core.proofs.StageSteps.{stage_declines, stage_none, stage_steps, staged_none, staged_some}
+use Rattle.cs_core.proofs.PutsMeant.{live_means}
 use Rattle.cs_core.proofs.stores.Store.stage_together.Goals as goal
 
 pub returns-in-Ok-None-clause-step : goal.returns-in-Ok-None-clause-step
@@ -95,3 +96,9 @@ returns-in-Ok-Some-clause-round c = rw (← c.self.view_is) (
     let s : Stored = the_view c.self.inside in
     let e = c.stage.ensures in
     ((stage_moves c.stage.result _ s.index s.extents s.graph c.stage.new.self c.stage.new.extents c.stage.new.graph c.extent_count.ensures.whole.geometry.fewest_sections e.unchanged e.staged e.refused e.unwritten e.unstaged).0.round, refl))
+
+pub returns-in-Ok-Some-clause-meaning : goal.returns-in-Ok-Some-clause-meaning
+returns-in-Ok-Some-clause-meaning c = rw (← c.self.view_is) (live_means (the_view c.self.inside).index c.stage.new.self c.stage.ensures.map)
+
+pub returns-in-Ok-None-clause-meaning : goal.returns-in-Ok-None-clause-meaning
+returns-in-Ok-None-clause-meaning c = rw (← c.self.view_is) (live_means (the_view c.self.inside).index c.stage.new.self c.stage.ensures.map)
