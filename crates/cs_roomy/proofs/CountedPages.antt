@@ -91,7 +91,7 @@ module _ (v : Stored) (whole : IsWhole v.extents) (graph : IsWholeGraph v.graph)
   reads_all (k ∷ ls) content (inl (chunk, rest, here, more, was)) sane l (inl same) =
       (chunk, subst (λ (m : Place). ReadsHere m (F.frame ChunkFrame chunk)) (sym same) here)
   reads_all (k ∷ ls) content (inl (chunk, rest, here, more, was)) sane l (inr there) =
-      reads_all ls rest more (λ f bad. sane f (was ∙ ap (after chunk) bad)) l there
+      reads_all ls rest more (λ f bad. sane f (was ∙ ap (after (F.body chunk)) bad)) l there
   reads_all (k ∷ ls) content (inr (f, damage, was)) sane l there = absurd (sane f was)
 
   undamaged : NoneDamaged (map_now s) → (id : ℕ) (l : Place) → l ∈ live_at (index_of v.index) id → s.opening.damage l ≡ None

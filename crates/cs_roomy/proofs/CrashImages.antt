@@ -35,15 +35,15 @@ use Rattle.cs_roomy.specs.Images.{HasGeometry, HasRoomOn}
 none_of : (X : Cut) (F : Formats) (j : ℕ) (found : Page) (us : List Superblock)
     → ((u : Superblock) → u ∈ us → (u.section == j) ≡ false)
     → latest (λ (u : Superblock). (u.section == j) && nat_le u.version (X.superblocks j))
-    (λ u. F.superblock u.format j u.version u.pointers u.generations) found us ≡ found
+    (λ u. F.superblock u.format j u.version u.recorded u.pointers u.generations) found us ≡ found
 none_of X F j found [] none = refl
 none_of X F j found (u ∷ us) none = go (u.section == j) (none u (inl refl)) (none_of X F j found us (λ v there. none v (inr there)))
   where
     go : (b : Bool) → b ≡ false → latest (λ (v : Superblock). (v.section == j) && nat_le v.version (X.superblocks j))
-        (λ v. F.superblock v.format j v.version v.pointers v.generations) found us ≡ found
-        → (if b && nat_le u.version (X.superblocks j) then F.superblock u.format j u.version u.pointers u.generations
+        (λ v. F.superblock v.format j v.version v.recorded v.pointers v.generations) found us ≡ found
+        → (if b && nat_le u.version (X.superblocks j) then F.superblock u.format j u.version u.recorded u.pointers u.generations
         else latest (λ (v : Superblock). (v.section == j) && nat_le v.version (X.superblocks j))
-        (λ v. F.superblock v.format j v.version v.pointers v.generations) found us) ≡ found
+        (λ v. F.superblock v.format j v.version v.recorded v.pointers v.generations) found us) ≡ found
     go true wrong more = absurd (true≢false wrong)
     go false off more = more
 

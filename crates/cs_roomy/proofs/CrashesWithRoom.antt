@@ -25,6 +25,7 @@ sure : (honest : Type 0) (image : Image) (found : ℕ × ℕ) (store : Stored) �
 sure honest image found store there is = record {
   format = is.format;
   versions = is.versions;
+  records = is.records;
   pages = is.pages;
   written = is.written;
   root = is.root;

@@ -21,14 +21,15 @@ module _ (format extents pages sections : ℕ) (geometry : IsGeometry format ext
 
   pub have_room : IsFormatWithRoom S (formats_of S)
   have_room = record {
-    tells = λ f k j v w p g q h inside first second fits also same e lt at.
+    tells = λ f k j v w a b p g q h inside first second fits also same e lt at.
         tells S (not_first format geometry.known) (omega (arith, (bounds format extents pages sections geometry).most_pages)) (omega arith)
-        j p g q h fits also f k v w same e lt at;
+        j p g q h fits also f k v w a b same e lt at;
     fits = λ entries list. runs_fit extents pages sections format geometry entries list;
   }
 
   pub chunks_have_room : ChunksFit S (formats_of S)
-  chunks_have_room = λ chunk short. chunks_fit extents pages sections format geometry chunk short
+  chunks_have_room = λ id number count command piece short.
+      chunks_fit extents pages sections format geometry id number count command piece short
 
 module _ (x : ExtentsState) (geometry : HasGeometry x) where
   pub store_has_room : IsFormatWithRoom (shape x) (formats_of (shape x))

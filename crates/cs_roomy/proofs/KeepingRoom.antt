@@ -12,6 +12,7 @@ use Rattle.cs_model.specs.State as model
 use Rattle.cs_refine.proofs.Shapes.{shape_of_store}
 use Rattle.cs_room.proofs.MachineSteps.{young_history}
 use Rattle.cs_room.specs.OfMachine.{NoneWorn}
+use Rattle.cs_core.proofs.Saying.{puts_called}
 use Rattle.cs_core.specs.declared.events.Event.{Event}
 use Rattle.cs_core.specs.declared.events.Reply.{Reply}
 use Rattle.cs_core.specs.Calls.{AreCalls, IsCall}
@@ -119,6 +120,7 @@ module _ {D : Type 0} (disks : PageDisk D) where
       let total : page_total (shape v.store.extents) ≡ page_total (shape w.store.extents) = ap page_total (sym reaches.same) in record {
         device = call.pages ∙ core.device ∙ total;
         replaced = replaced_there v w core.replaced call.did;
+        puts = puts_called disks v w call.did core.puts;
         sized = λ h. ap length reaches.opened ∙ core.sized honest ∙ total;
         legal = λ h. (let s = core.legal honest in let t = reaches.leads honest s.0 s.1 in (t.0, t.1));
         begun = λ h. still_begun v w reaches.same reaches.opened reaches.found (core.begun honest);
@@ -157,6 +159,7 @@ module _ {D : Type 0} (disks : PageDisk D) where
       let total : page_total (shape v.store.extents) ≡ page_total (shape w.store.extents) = ap page_total (sym same_shape) in record {
         device = reads.pages ∙ core.device ∙ total;
         replaced = replaced_there v w core.replaced (inr (inl same));
+        puts = puts_called disks v w (inr (inl same)) core.puts;
         sized = λ h. ap length same.opened ∙ core.sized honest ∙ total;
         legal = λ h. (let s = core.legal honest in (s.0, untouched_in disks v w s.0 honest same s.1));
         begun = λ h. still_begun v w same_shape same.opened same.found (core.begun honest);

@@ -1,5 +1,5 @@
 -- What is opened on what a crash left has the shape of the store that it left it of, whatever is damaged there.
-use Rattle.std.proofs.Common.{◌≡◌, ℕ, ◌<◌, ◌≤◌, ◌==◌, true, false, List, [], None, inl, inr, length, slice_index, if◌then◌else◌, eq-eqb, ne_eqb, le_refl, refl, sym, ap, ◌∙◌, subst, arith}
+use Rattle.std.proofs.Common.{◌≡◌, ℕ, ◌<◌, ◌≤◌, ◌==◌, true, false, List, [], None, inl, inr, length, slice_index, if◌then◌else◌, eq-eqb, ne_eqb, refl, sym, ap, ◌∙◌, subst, arith}
 use Rattle.std.proofs.lemmas.Bool.{cases_Bool}
 use Rattle.cs_disk.specs.declared.disk.PageDisk.{Ghosts as PageDisk}
 use Rattle.cs_disk.specs.Disk.{Image, MayLeave, page}
@@ -29,9 +29,9 @@ use Rattle.cs_roomy.specs.Roomy.{IsRoomyCore}
 
 -- an image of which the sections are known reads as a store without runs, once its root is one of none
 module _ (S : Shape) (F : Formats) (shape : IsShape S) (opening : (pointers generations : ℕ → ℕ) → Opening) (img : ℕ → Page)
-    (n : ℕ) (m : Map) (but : RecoversBut S F opening img n m) (fits : F.fits_root 1 0 [] ≡ true) (some : 1 ≤ S.greatest_number) where
+    (n : ℕ) (m : Map) (but : RecoversBut S F opening img n m) (fits : F.fits_root but.version 0 [] ≡ true) where
   abbrev pub rooted : ℕ → Page
-  rooted p = if p == S.root_page then F.root 1 0 [] else img p
+  rooted p = if p == S.root_page then F.root but.version 0 [] else img p
 
   other : (p : ℕ) → (p == S.root_page) ≡ false → rooted p ≡ img p
   other p off = rw off refl
@@ -44,22 +44,24 @@ module _ (S : Shape) (F : Formats) (shape : IsShape S) (opening : (pointers gene
   emptied = record {
     formats = but.formats;
     versions = but.versions;
+    recorded = but.recorded;
     pointers = but.pointers;
     generations = but.generations;
     superblock = λ j lt. other (S.section_page j) (apart j lt) ∙ but.superblock j lt;
     versions_fit = but.versions_fit;
     extents_fit = but.extents_fit;
-    version = 1;
+    version = but.version;
+    recorded_fit = but.recorded_fit;
     runs = [];
     root = rw (eq-eqb S.root_page S.root_page refl) refl;
     root_fits = fits;
     runs_fit = λ run none. absurd none;
     bounds = record {
-      some_version = le_refl _;
-      version_fits = some;
+      some_version = but.bounds.some_version;
+      version_fits = but.bounds.version_fits;
       commands_fit = omega arith;
       few_runs = omega arith;
-      named = omega arith;
+      weight_fits = omega arith;
       chunks_fit = λ id. omega arith;
     };
     gives = record {
@@ -74,7 +76,7 @@ module _ (S : Shape) (F : Formats) (shape : IsShape S) (opening : (pointers gene
 
 -- an opened store's sections were read
 opened_sections : (honest : Type 0) (image : Image) (found : ℕ × ℕ) (store : Stored) (is : IsOpened honest image found store) → honest
-    → AreSectionsRead (page image) is.format is.versions is.pages is.written
+    → AreSectionsRead (page image) is.format is.versions is.records is.pages is.written
 opened_sections honest image found store is there =
     elim (cases_Bool (shape (extents_at is.format is.pages (length is.versions) is.written)).hidden_stand) [
       | inl stand ↦ ((is.read there).whole stand).sections
@@ -105,28 +107,29 @@ module _ {D : Type 0} (disks : PageDisk D) where
           let format : ℕ = v.store.extents.format in
           let extents : ℕ = length v.store.extents.written in
           let pages : ℕ = v.store.extents.pages in
-          let fits : (formats_of (shape v.store.extents)).fits_root 1 0 [] ≡ true =
-          root_fits_from v.store.extents.format 1 0 [] (record {
+          let last : but.version ≤ 9223372036854775807 = but.bounds.version_fits in
+          let fits : (formats_of (shape v.store.extents)).fits_root but.version 0 [] ≡ true =
+          root_fits_from v.store.extents.format but.version 0 [] (record {
             known = geometry.known;
-            first_version = omega arith;
-            last_version = omega arith;
+            first_version = but.bounds.some_version;
+            last_version = omega (arith, last);
             last_command = omega arith;
             count = omega arith;
             each = tt;
           }) in
           let sections = opened_sections honest image found store is there in
-          let spelled : SpellsPageZero (page image 0) is.format (slice_index is.versions 0) (length is.written) is.pages
-          (length is.versions) 0 (section_rows (extents_at is.format is.pages (length is.versions) is.written) 0) =
+          let spelled : SpellsPageZero (page image 0) is.format (slice_index is.versions 0) (slice_index is.records 0) (length is.written)
+          is.pages (length is.versions) 0 (section_rows (extents_at is.format is.pages (length is.versions) is.written) 0) =
           sections.each 0 sections.geometry.fewest_sections in
           let same = zero_same v.store.extents.format (length v.store.extents.written) v.store.extents.pages v.store.extents.sections
           geometry
           (rooted (shape v.store.extents) (formats_of (shape v.store.extents)) (shape_of_store v.store.extents geometry) opening img n m
-          but fits (omega arith)) 0 (λ id. None)
+          but fits) 0 (λ id. None)
           (emptied (shape v.store.extents) (formats_of (shape v.store.extents)) (shape_of_store v.store.extents geometry) opening img n m
-          but fits (omega arith)) is.format (slice_index is.versions 0) (length is.written) is.pages (length is.versions) 0
+          but fits) is.format (slice_index is.versions 0) (slice_index is.records 0) (length is.written) is.pages (length is.versions) 0
           (section_rows (extents_at is.format is.pages (length is.versions) is.written) 0)
-          (subst (λ (bytes : List ℕ). SpellsPageZero bytes is.format (slice_index is.versions 0) (length is.written) is.pages
-          (length is.versions) 0 (section_rows (extents_at is.format is.pages (length is.versions) is.written) 0)) (sym zero) spelled) in
+          (subst (λ (bytes : List ℕ). SpellsPageZero bytes is.format (slice_index is.versions 0) (slice_index is.records 0) (length is.written)
+          is.pages (length is.versions) 0 (section_rows (extents_at is.format is.pages (length is.versions) is.written) 0)) (sym zero) spelled) in
           ap (λ (u : Stored). shape u.extents) is.made ∙ is.opened.same_shape
           ∙ ap (λ (k : ℕ). shape_of (length is.written) is.pages (length is.versions) (section_size (length is.written)
           (length is.versions)) k) same.0

@@ -5,8 +5,8 @@ use Rattle.std.proofs.lemmas.Bool.{cases_lt}
 use Rattle.std.proofs.lemmas.Option.{get_or_from_slice_get}
 use Rattle.cs_extent.specs.State.{State as Extents, IsWhole, extents_of, shape}
 use Rattle.cs_frame.specs.Frames.{page_count}
-use Rattle.cs_frame.specs.Geometries.{named_limit, run_bytes}
-use Rattle.cs_model.specs.Geometry.{marks_in}
+use Rattle.cs_frame.specs.Geometries.{run_bytes, weight_bytes}
+use Rattle.cs_model.specs.Geometry.{marks_in, most_weight_in}
 use Rattle.cs_survey.specs.declared.extent_uses.ExtentUse.{ExtentUse}
 use Rattle.cs_survey.specs.Fewest.{IsFewestLive}
 use Rattle.cs_survey.specs.Uses.{AreExtents, HasNoGarbage, IsMostGarbage, garbage}
@@ -19,8 +19,12 @@ pub pages_all : (named limit dead : ℕ) → dead ≤ page_count (run_bytes (min
 pages_all named limit dead le = omega (arith, le)
 
 -- where an entry takes as many bytes whatever it has, this is how many may be named
-plain_limit : (format pages limit : ℕ) → marks_in format ≡ false → limit ≡ named_limit format pages → limit ≡ (4096 * pages - 45) / 81
-plain_limit format pages limit plain is = is ∙ ap (λ (marked : Bool). (4096 * pages - 45) / (if marked then 145 else 81)) plain
+plain_limit : (format pages limit : ℕ) → marks_in format ≡ false → limit ≡ most_weight_in format pages → limit ≡ (4096 * pages - 45) / 81
+plain_limit format pages limit plain is = is ∙ ap (λ (marked : Bool). if marked then 4096 * pages - 45 else (4096 * pages - 45) / 81) plain
+
+-- and a run has so many bytes for each
+plain_pages : (format named index_pages : ℕ) → marks_in format ≡ false → index_pages ≡ page_count (weight_bytes format named) → index_pages ≡ page_count (run_bytes named)
+plain_pages format named index_pages plain is = is ∙ ap (λ (marked : Bool). page_count (if marked then 4 + named else run_bytes named)) plain
 
 -- one that has as many entries as it may takes all pages of an extent
 full_run : (pages limit : ℕ) → limit ≡ (4096 * pages - 45) / 81 → pages ≤ page_count (run_bytes limit)
@@ -87,7 +91,7 @@ module _ (x held : Extents) (uses listed : List ExtentUse) (b : Bool) (whole : I
       (subst (λ (l : Option ℕ). ChoosesApart listed l (shape held).pages chosen) (lasts ∙ ap (λ (y : Extents). (extents_of y).last) same)
       (subst (λ (n : ℕ). ChoosesApart listed last n chosen) (given ∙ ap (λ (y : Extents). (shape y).pages) same) goes)))
 
-  module _ (named limit index_pages entries : ℕ) (limited : limit ≡ named_limit x.format x.pages) (pages : index_pages ≡ page_count (run_bytes (min named limit))) (all : named ≡ entries) where
+  module _ (named limit index_pages entries : ℕ) (limited : limit ≡ most_weight_in x.format x.pages) (pages : index_pages ≡ page_count (weight_bytes x.format (min named limit))) (all : named ≡ entries) where
     -- no more pages are dead than an extent has
     dead_within : (extent : ℕ) (used : ExtentUse) → slice_get uses extent ≡ Some used → used.pointer - used.live ≤ x.pages
     dead_within extent used at =
@@ -96,12 +100,16 @@ module _ (x held : Extents) (uses listed : List ExtentUse) (b : Bool) (whole : I
         let within : (extents_of x).pointer extent ≤ x.pages = whole.pointers extent in
         omega (arith, given, within)
 
+    -- the pages of the run, where chunks and runs may lie on one extent
+    pages_together : b ≡ false → index_pages ≡ page_count (run_bytes (min named limit))
+    pages_together together = plain_pages x.format (min named limit) index_pages (sym rule ∙ together) pages
+
     run_chosen : b ≡ false → (found : Option (ℕ × ℕ)) → ChoosesTogether uses index_pages found → ChoosesTogether uses (run_pages named) found
-    run_chosen together None goes = λ e used at. pages_all named limit (garbage used) (subst (λ (n : ℕ). garbage used ≤ n) pages (goes e used at))
+    run_chosen together None goes = λ e used at. pages_all named limit (garbage used) (subst (λ (n : ℕ). garbage used ≤ n) (pages_together together) (goes e used at))
     run_chosen together (Some (extent, dead)) (best, is, lt) =
         let all_of : garbage best.its ≡ best.its.pointer - best.its.live = all_dead best.its best.some in
         let within : best.its.pointer - best.its.live ≤ x.pages = dead_within extent best.its best.there in
-        (best, is, pages_fewer x.pages named limit dead (plain_limit x.format x.pages limit (sym rule ∙ together) limited) (omega (arith, all_of, within, is)) (subst (λ (n : ℕ). n < dead) pages lt))
+        (best, is, pages_fewer x.pages named limit dead (plain_limit x.format x.pages limit (sym rule ∙ together) limited) (omega (arith, all_of, within, is)) (subst (λ (n : ℕ). n < dead) (pages_together together) lt))
 
     pub by_garbage : (last : Option ℕ) (each : ℕ) → b ≡ false → ChoosesTogether listed index_pages chosen → ChoosesBy (shape held).apart uses (run_pages entries) last each chosen
     by_garbage last each is goes = subst (λ (a : Bool). ChoosesBy a uses (run_pages entries) last each chosen) (sym (rule_held false is))

@@ -22,7 +22,7 @@ pub enum PutError {
     /// 31 TooLarge: the shard has more than the greatest number of chunks.
     #[error("the shard is too large")]
     TooLarge,
-    /// 32 IndexFull: the index names as many identifiers as it may.
+    /// 32 IndexFull: the newest entries of the index would weigh more than they may; up to format 2 the index names as many identifiers as it may.
     #[error("the index is full")]
     IndexFull,
     /// 35 WornOut: a number would pass its greatest value.
@@ -374,6 +374,9 @@ pub enum OpenError {
     /// 26 Misplaced: a whole frame lies where a run of the index should, and it isn't the one that the root means; in stores of format 3 alone.
     #[error("another frame lies there")]
     Misplaced,
+    /// 27 RootLost: the root is older than one that a section of the superblock records as persistent; in stores of format 3 alone.
+    #[error("a newer root was lost")]
+    RootLost,
     /// 43 NotAStore: there is no store of that many pages.
     #[error("the device holds no store")]
     NotAStore,
@@ -396,6 +399,7 @@ impl OpenError {
             OpenError::BadVersion => Refusal::BadVersion,
             OpenError::OutOfOrder => Refusal::OutOfOrder,
             OpenError::Misplaced => Refusal::Misplaced,
+            OpenError::RootLost => Refusal::RootLost,
             OpenError::NotAStore => Refusal::NotAStore,
         }
     }
@@ -417,6 +421,7 @@ impl OpenError {
             Refusal::BadVersion => OpenError::BadVersion,
             Refusal::OutOfOrder => OpenError::OutOfOrder,
             Refusal::Misplaced => OpenError::Misplaced,
+            Refusal::RootLost => OpenError::RootLost,
             Refusal::NotAStore => OpenError::NotAStore,
             _ => unreachable!(),
         }

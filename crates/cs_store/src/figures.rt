@@ -1,5 +1,5 @@
 //! The figures of a store.
-ghost use Rattle.std.specs.Prelude.{◌≡◌, ◌≢◌, IfOk, List, None, [], length, map, ℕ};
+ghost use Rattle.std.specs.Prelude.{◌≡◌, ◌≢◌, IfOk, List, None, [], false, length, map, ℕ};
 ghost use Rattle.cs_chunk.specs.Newest.{AreNewest};
 ghost use Rattle.cs_chunk.specs.Reads.{OnlyReads};
 ghost use Rattle.cs_core.specs.Meanings.{commands_said};
@@ -10,7 +10,8 @@ ghost use Rattle.cs_image.specs.Counts.{HasCount};
 ghost use Rattle.cs_index.specs.State.{index_of};
 ghost use Rattle.cs_model.specs.Element.{Map};
 ghost use Rattle.cs_model.specs.Extents.{empties};
-ghost use Rattle.cs_model.specs.Index.{live_at, names};
+ghost use Rattle.cs_model.specs.Geometry.{marks_in, weigh_in};
+ghost use Rattle.cs_model.specs.Index.{live_at, named_weight, names};
 ghost use Rattle.cs_refine.specs.Crashes.{IsPrefix};
 ghost use Rattle.cs_store.specs.Maps.{HasMap};
 ghost use Rattle.cs_survey.specs.Chunks.{AreLiveChunks, Chunk};
@@ -59,7 +60,10 @@ impl<D: PageDisk> Store<D> {
         ensures empty { IfOk result (λ stats. stats.space.empty ≡ empties (extents_of self.old.store.extents).pointer (shape self.old.store.extents).extents) }
         ensures runs { IfOk result (λ stats. newest_uses stats.space.runs.items ≡ map run_figure self.old.store.index.runs) }
         ensures named { IfOk result (λ stats. stats.space.named ≡ names (index_of self.old.store.index)) }
-        ensures named_limit { IfOk result (λ stats. stats.space.named_limit ≡ self.old.store.index.limit) }
+        ensures weight { IfOk result (λ stats. stats.space.weight ≡ named_weight (weigh_in self.old.store.index.format) (index_of self.old.store.index)) }
+        // Where each entry weighs one that is how many identifiers have one.
+        ensures ones { marks_in self.old.store.index.format ≡ false → IfOk result (λ stats. stats.space.weight ≡ stats.space.named) }
+        ensures weight_limit { IfOk result (λ stats. stats.space.weight_limit ≡ self.old.store.index.limit) }
         // There are as many shards as the map has.
         ensures map { (m : Map) → HasMap self.old m → D.honest self.old.disk → IfOk result (λ stats. HasCount (λ id. m id ≢ None) stats.space.shards) }
         ensures chunks { IfOk result (λ stats. (chunks : List Chunk) → AreLiveChunks (index_of self.old.store.index) chunks → stats.space.chunks ≡ length chunks) }

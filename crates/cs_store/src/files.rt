@@ -52,7 +52,8 @@ impl Store<FileDisk> {
     /// Opens the store that is in a file, as it was made persistent or as a crash left it. The file is locked for as long as the store lives.
     ///
     /// Refused 1 DeviceFault where the operating system refuses a call, as where there is no such file or another process has it; 6 OddLength; 43 NotAStore
-    /// where no store of that many pages is in it; 20 to 26 for a page that is damaged; and 9 OutOfMemory. The file is as it was then.
+    /// where no store of that many pages is in it; 20 to 26 for a page that is damaged; in format 3 27 RootLost where the root is older than one that was persistent; and 9 OutOfMemory. The file
+    /// is as it was then.
     pub fn open_file<R: Files<File = File>>(
         rt: &R,
         alloc: Global,

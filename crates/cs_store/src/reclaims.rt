@@ -26,7 +26,7 @@ use crate::sweeps::sweep_ready;
 use cs_core::Core;
 use cs_deps::Refusal;
 use cs_disk::PageDisk;
-use cs_frame::{frame_pages, run_bytes};
+use cs_frame::{frame_pages, weight_bytes};
 use cs_survey::{ExtentUse, fewest_live, most_garbage, uses};
 use std::alloc::{AllocError, Global};
 
@@ -150,11 +150,11 @@ fn worth_sweeping<D: PageDisk>(
     let is_apart = extents.is_apart();
     let last = extents.last_copied();
     let pages = extents.extent_pages();
-    // An index names no more than one run has room for, which, where chunks and runs may lie on one extent, takes all pages of an extent then: more of
-    // them can't be dead.
-    let limit = extents.geometry().named_limit();
-    let named = core.index().named_count().min(limit);
-    let index_pages = frame_pages(run_bytes(named));
+    let geometry = extents.geometry();
+    // Up to format 2, where chunks and runs may lie on one extent, each entry weighs one. An index names no more there than one run has room for,
+    // which takes all pages of an extent then: more of them can't be dead.
+    let named = core.index().named_count().min(geometry.most_weight());
+    let index_pages = frame_pages(weight_bytes(geometry.format(), named));
     let uses = uses(alloc, core)?;
     if is_apart {
         return Ok(chosen_apart(&uses, last, pages));

@@ -70,7 +70,7 @@ impl<D: PageDisk> Store<D> {
     /// Of these the extents' pointers and the index are kept in memory; no shard is read.
     ///
     /// The disk comes back where it is refused: 43 NotAStore where no store of that many pages is on it, 20 to 26 for a page that is damaged,
-    /// 1 DeviceFault, and 9 OutOfMemory.
+    /// in format 3 27 RootLost where the root is older than one that was persistent, 1 DeviceFault, and 9 OutOfMemory.
     pub fn open(alloc: Global, disk: D, limits: Limits) -> Result<Self, (Refusal, D)>
         ensures new { IfOk result (λ opened. (opened.history ≡ []) × (opened.base ≡ 0) × (opened.limit ≡ limits.history)) }
         ensures image { IfOk result (λ opened. D.honest disk → (opened.opened ≡ seen (D.state disk)) × (D.state opened.disk ≡ flushed (D.state disk))) }
@@ -80,7 +80,7 @@ impl<D: PageDisk> Store<D> {
             → (let S = shape_of extents pages sections (section_size extents sections) format in Recovers S (formats_of S) (page (seen (D.state disk))) n m
             → MatchResult result (λ opened. (shape opened.store.extents ≡ S) × (opened.found.0 ≡ n) × HasCount (λ id. m id ≢ None) opened.found.1 × HasMap opened m) (λ refused. IsNoAnswer refused.0)) }
         ensures refusals { IfErr result (λ refused. D.honest disk → IsNoAnswer refused.0 ⊎ IsWhyNotOpened (D.page_count disk) (page (seen (D.state disk))) refused.0) }
-        // Whatever the disk answers: 1, 9, 20 to 26, or 43.
+        // Whatever the disk answers: 1, 9, 20 to 27, or 43.
         ensures number { IfErr result (λ refused. IsOpeningRefusal refused.0) }
         ensures small { D.page_count disk < 10 → result ≡ Err (Refusal.NotAStore, disk) }
         // Nothing but a flush is done to the disk, and a crash within leaves what one before it might have left.

@@ -2,7 +2,8 @@
 use Rattle.std.proofs.Common.{◌≡◌, ◌≢◌, ◌∙◌, ◌⊎◌, inl, inr, ⊎_elim, ◌++◌, ◌∷◌, ◌≤◌, ◌<◌, ◌==◌, ℕ, zero, suc, Bool, true, false, not, MatchBool, replicate, eq-eqb, ne_eqb, List, [], Option, None, Some, refl, sym, ap, subst, arith, length, length-append}
 use Rattle.std.proofs.lemmas.Bool.{cases_lt}
 use Rattle.cs_frame.specs.declared.identifiers.ShardId.{ShardId}
-use Rattle.cs_index.specs.State.{IsNext, id_number}
+use Rattle.cs_frame.specs.Identifiers.{id_number}
+use Rattle.cs_index.specs.State.{IsNext}
 use Rattle.cs_model.specs.Element.{Entry, Locator as Place}
 use Rattle.cs_model.specs.Index.{live, live_at}
 use Rattle.cs_model.specs.Lists.{◌∈◌}

@@ -1,12 +1,13 @@
 //! The figures of a store.
-ghost use Rattle.std.specs.Prelude.{◌≡◌, ◌≢◌, IfOk, [], List, ℕ, length, map};
+ghost use Rattle.std.specs.Prelude.{◌≡◌, ◌≢◌, IfOk, [], List, ℕ, false, length, map};
 ghost use Rattle.cs_chunk.specs.Newest.{AreNewest};
 ghost use Rattle.cs_chunk.specs.Reads.{OnlyReads};
 ghost use Rattle.cs_disk.specs.Disk.{Rises, seen};
 ghost use Rattle.cs_extent.specs.State.{extents_of, shape};
 ghost use Rattle.cs_index.specs.State.{index_of, newest_first};
 ghost use Rattle.cs_model.specs.Extents.{empties};
-ghost use Rattle.cs_model.specs.Index.{live_at, names};
+ghost use Rattle.cs_model.specs.Geometry.{marks_in, weigh_in};
+ghost use Rattle.cs_model.specs.Index.{live_at, named_weight, names};
 ghost use Rattle.cs_survey.specs.Chunks.{AreLiveChunks, Chunk};
 ghost use Rattle.cs_survey.specs.Listings.{AreAll};
 ghost use Rattle.cs_survey.specs.Stats.{newest_uses, run_figure};
@@ -42,8 +43,10 @@ pub struct Stats {
     pub runs: Vec<RunUse>,
     /// How many identifiers have an entry, deletions included.
     pub named: usize,
-    /// How many may have one.
-    pub named_limit: usize,
+    /// What the newest entry of each weighs, all together: up to format 2 each weighs one.
+    pub weight: usize,
+    /// What they may weigh.
+    pub weight_limit: usize,
     /// How many shards are there.
     pub shards: usize,
     /// How many chunks they have together.
@@ -69,7 +72,10 @@ impl Stats {
         ensures empty { IfOk result (λ stats. stats.empty ≡ empties (extents_of core.old.store.extents).pointer (shape core.old.store.extents).extents) }
         ensures runs { IfOk result (λ stats. newest_uses stats.runs.items ≡ map run_figure core.old.store.index.runs) }
         ensures named { IfOk result (λ stats. stats.named ≡ names (index_of core.old.store.index)) }
-        ensures limit { IfOk result (λ stats. stats.named_limit ≡ core.old.store.index.limit) }
+        ensures weight { IfOk result (λ stats. stats.weight ≡ named_weight (weigh_in core.old.store.index.format) (index_of core.old.store.index)) }
+        // Where each entry weighs one that is how many identifiers have one.
+        ensures ones { marks_in core.old.store.index.format ≡ false → IfOk result (λ stats. stats.weight ≡ stats.named) }
+        ensures limit { IfOk result (λ stats. stats.weight_limit ≡ core.old.store.index.limit) }
         ensures shards { IfOk result (λ stats. (ids : List ℕ) → AreAll (λ id. live_at (index_of core.old.store.index) id ≢ []) ids → stats.shards ≡ length ids) }
         ensures chunks { IfOk result (λ stats. (chunks : List Chunk) → AreLiveChunks (index_of core.old.store.index) chunks → stats.chunks ≡ length chunks) }
         ensures same { core.new ≡ record core.old { disk = core.new.disk } }
@@ -83,7 +89,8 @@ impl Stats {
             empty,
             runs: entries.runs,
             named: entries.named,
-            named_limit: entries.limit,
+            weight: entries.weight,
+            weight_limit: entries.limit,
             shards: entries.shards,
             chunks: entries.chunks,
         })
@@ -95,6 +102,7 @@ impl Stats {
 struct EntryFigures {
     runs: Vec<RunUse>,
     named: usize,
+    weight: usize,
     limit: usize,
     shards: usize,
     chunks: usize,
@@ -104,6 +112,8 @@ struct EntryFigures {
 fn entry_figures(alloc: Global, index: &Index) -> Result<EntryFigures, AllocError>
     ensures runs { IfOk result (λ figures. newest_uses figures.runs.items ≡ map run_figure index.now.runs) }
     ensures named { IfOk result (λ figures. figures.named ≡ names (index_of index.now)) }
+    ensures weight { IfOk result (λ figures. figures.weight ≡ named_weight (weigh_in index.now.format) (index_of index.now)) }
+    ensures ones { marks_in index.now.format ≡ false → IfOk result (λ figures. figures.weight ≡ figures.named) }
     ensures limit { IfOk result (λ figures. figures.limit ≡ index.now.limit) }
     ensures shards { IfOk result (λ figures. (ids : List ℕ) → AreAll (λ id. live_at (index_of index.now) id ≢ []) ids → figures.shards ≡ length ids) }
     ensures chunks { IfOk result (λ figures. (chunks : List Chunk) → AreLiveChunks (index_of index.now) chunks → figures.chunks ≡ length chunks) }
@@ -114,6 +124,7 @@ fn entry_figures(alloc: Global, index: &Index) -> Result<EntryFigures, AllocErro
     Ok(EntryFigures {
         runs,
         named: index.named_count(),
+        weight: index.weight(),
         limit: index.limit(),
         shards,
         chunks,

@@ -15,6 +15,10 @@ const DAMAGED: &str =
 const MISPLACED: &str =
     "A write went to a wrong page, or was lost: look to the device, and to what copies the file. A shard: put it again or delete it, others aren't affected; where the store can't be opened: restore the file from a copy. `scrub` lists what is misplaced.";
 
+/// Of a root that is older than one that was persistent.
+const ROOT_LOST: &str =
+    "The root is older than one that was persistent, so commands that were acknowledged would be lost: look to the device, and to what copies the file, and restore the file from a copy.";
+
 /// What whoever meets this refusal does about it, in a sentence. Of the same number each command says the same.
 pub fn advice(refusal: Refusal) -> &'static str
     ensures { 0 < length result.now }
@@ -38,6 +42,7 @@ pub fn advice(refusal: Refusal) -> &'static str
         | Refusal::BadVersion
         | Refusal::OutOfOrder => DAMAGED,
         Refusal::Misplaced => MISPLACED,
+        Refusal::RootLost => ROOT_LOST,
         Refusal::Full => {
             "`reclaim`, and try again; where that doesn't help `export` the shards into a larger store."
         }
@@ -45,7 +50,7 @@ pub fn advice(refusal: Refusal) -> &'static str
             "A shard has at most 8 chunks of an extent each: cut it into several shards, or `export` all into a store with more pages an extent."
         }
         Refusal::IndexFull => {
-            "As many identifiers are named as the store's geometry allows: delete some and `reclaim`, or `export` all into a store with more pages an extent."
+            "The index has as many entries as the store's geometry allows, in format 3 by their bytes: delete some shards and `reclaim`, or `export` all into a store with more pages an extent."
         }
         Refusal::NotSweepable => "No extent can be swept now: put something, and try again.",
         Refusal::StillLive => "Something lives on the extent still: try again.",

@@ -24,7 +24,7 @@ fn most_bytes<D: PageDisk>(store: &Store<D>) -> usize
     let geometry = store.geometry();
     // Called for its contract alone: what a geometry is.
     geometry.pages();
-    8 * geometry.payload_bytes()
+    8 * geometry.chunk_bytes()
 }
 
 /// Keeps all that the reader gives under an identifier, in place of what was there, and makes it persistent. Of more bytes than the store takes

@@ -25,6 +25,8 @@ struct Kept {
     events: usize,
     limit: usize,
     quota: Option<Quota>,
+    /// Up to format 2 each entry of the index weighs one: what they may weigh is how many identifiers may be named.
+    by_names: bool,
 }
 
 /// Prints how a store lies on its disk and how full it is.
@@ -46,6 +48,7 @@ pub fn stat<D: PageDisk, W: Write>(
         events: core.history().len(),
         limit: core.limit(),
         quota: Quota::of(core.extents()),
+        by_names: geometry.format() < 3,
     };
     match Stats::of(alloc, core) {
         Ok(stats) => report(geometry, kept, &stats, style, writer),
@@ -250,11 +253,29 @@ fn print_run<W: Write>(writer: &mut W, run: RunUse) -> io::Result<()>
 fn print_counts<W: Write>(writer: &mut W, kept: Kept, stats: &Stats) -> io::Result<()>
     ensures { OnOk result (GoesOn (W.contents writer.old) (W.contents writer.new)) }
 {
+    print_named(writer, kept.by_names, stats)?;
     writeln!(
         writer,
-        "named {} of {}\nshards {}\nchunks {}\nevents {} of {}",
-        stats.named, stats.named_limit, stats.shards, stats.chunks, kept.events, kept.limit
+        "shards {}\nchunks {}\nevents {} of {}",
+        stats.shards, stats.chunks, kept.events, kept.limit
     )
+}
+
+/// How many identifiers are named, and of how many that may be; or what their entries weigh, and how much they may.
+fn print_named<W: Write>(writer: &mut W, by_names: bool, stats: &Stats) -> io::Result<()>
+    ensures { OnOk result (GoesOn (W.contents writer.old) (W.contents writer.new)) }
+{
+    let Stats {
+        named,
+        weight,
+        weight_limit,
+        ..
+    } = stats;
+    if by_names {
+        writeln!(writer, "named {named} of {weight_limit}")
+    } else {
+        writeln!(writer, "named {named}\nweight {weight} of {weight_limit}")
+    }
 }
 
 /// All of it as one JSON object.
@@ -389,9 +410,34 @@ fn print_run_object<W: Write>(writer: &mut W, number: usize, run: RunUse) -> io:
 fn print_count_members<W: Write>(writer: &mut W, kept: Kept, stats: &Stats) -> io::Result<()>
     ensures { OnOk result (GoesOn (W.contents writer.old) (W.contents writer.new)) }
 {
+    print_named_members(writer, kept.by_names, stats)?;
     writeln!(
         writer,
-        "],\"named\":{},\"limit\":{},\"shards\":{},\"chunks\":{},\"events\":{},\"events_limit\":{}}}",
-        stats.named, stats.named_limit, stats.shards, stats.chunks, kept.events, kept.limit
+        "\"shards\":{},\"chunks\":{},\"events\":{},\"events_limit\":{}}}",
+        stats.shards, stats.chunks, kept.events, kept.limit
     )
+}
+
+/// The end of the runs, and the members of how many identifiers are named, of how many that may be where their number is limited, what
+/// their entries weigh, and how much they may.
+fn print_named_members<W: Write>(writer: &mut W, by_names: bool, stats: &Stats) -> io::Result<()>
+    ensures { OnOk result (GoesOn (W.contents writer.old) (W.contents writer.new)) }
+{
+    let Stats {
+        named,
+        weight,
+        weight_limit,
+        ..
+    } = stats;
+    if by_names {
+        write!(
+            writer,
+            "],\"named\":{named},\"limit\":{weight_limit},\"weight\":{weight},\"weight_limit\":{weight_limit},"
+        )
+    } else {
+        write!(
+            writer,
+            "],\"named\":{named},\"weight\":{weight},\"weight_limit\":{weight_limit},"
+        )
+    }
 }

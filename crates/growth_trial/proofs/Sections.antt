@@ -9,7 +9,7 @@ use Rattle.cs_core.proofs.SectionReads.{further_at}
 
 -- the one section of a superblock is all of it
 pub one_section : (it : Superblock) → it.sections ≡ 1 → it.section ≡ 0 → (bytes : List ℕ)
-    → SpellsSuperblock bytes it.format it.version it.extent_count it.pages it.sections it.section it.extents.items → AreSections (it ∷ [])
+    → SpellsSuperblock bytes it.format it.version it.recorded it.extent_count it.pages it.sections it.section it.extents.items → AreSections (it ∷ [])
 one_section it one first bytes spelled = record { some = omega arith; each = at }
   where
     here : IsSectionAt it.format it.extent_count it.pages 1 0 it

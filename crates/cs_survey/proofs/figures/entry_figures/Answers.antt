@@ -1,11 +1,19 @@
-use Rattle.std.proofs.Common.{◌≢◌, ◌∙◌, ℕ, List, [], ap, length, map, sym}
+use Rattle.std.proofs.Common.{◌≢◌, ◌∙◌, ◌+◌, ◌*◌, ℕ, Bool, List, [], ap, length, map, sym}
+use Rattle.std.specs.Prelude.{if◌then◌else◌}
 use Rattle.std.proofs.lemmas.List.{length-map}
 use Rattle.cs_index.specs.State.{id_number, index_of}
+use Rattle.cs_model.proofs.Weights.{ones_weigh}
+use Rattle.cs_model.specs.Geometry.{weigh_in}
 use Rattle.cs_model.specs.Index.{live_at}
 use Rattle.cs_survey.specs.Chunks.{Chunk, chunk_of}
 use Rattle.cs_survey.proofs.Counted.{all_one}
 use Rattle.cs_survey.proofs.Inside.{live_chunks_one}
 use Rattle.cs_survey.proofs.figures.entry_figures.Goals as goal
+
+pub returns-clause-ones : goal.returns-clause-ones
+returns-clause-ones c = λ plain. c.weight.ensures.weight
+    ∙ ones_weigh (weigh_in c.args.index.now.format) (λ n. ap (λ (b : Bool). if b then 17 + 16 * n else 1) plain) (index_of c.args.index.now)
+    ∙ sym c.named_count.ensures.count
 
 pub returns-clause-shards : goal.returns-clause-shards
 returns-clause-shards c = λ ids are.
