@@ -1,6 +1,7 @@
 """The typed store by the rules of docs/API.md, over the store of store_model.py: what its calls answer, with the count of its events, its device calls, of
 which one may fail, and its openings. It answers the lines of crates/calls_trial, and shares nothing with that program."""
-from rules import BAD_GEOMETRY, DEVICE_FAULT, HALTED, HISTORY_FULL, NOT_SWEEPABLE, RULES, Refused, frame_pages, most_names, run_bytes, run_pages
+from rules import (BAD_GEOMETRY, DEVICE_FAULT, HALTED, HISTORY_FULL, NOT_SWEEPABLE, RULES, Refused, frame_pages, head_bytes, most_weight, run_bytes,
+                   run_pages)
 from store_model import Store, bytes_of
 
 
@@ -164,7 +165,7 @@ class Calls(Store):
 
     def size_of_chunk(self, locator):
         self.read_first(locator)
-        return self.payload_of(locator)
+        return self.payload_of(locator) - head_bytes(self.rules)
 
     def call_sync(self):
         self.must_go_on()
@@ -197,7 +198,7 @@ class Calls(Store):
         live, unreadable = self.uses()
         lines = [f"{self.look(e)} live {live[e]} dead {self.pointer[e] - live[e]} unreadable {unreadable[e]}" for e in range(self.extents)]
         lines += [f"run extent {extent} page {page} entries {len(entries)}" for entries, (extent, page, _) in self.runs]
-        lines.append(f"empty {self.pointer.count(0)} named {len(self.named())} of {most_names(self.rules, self.pages)}"
+        lines.append(f"empty {self.pointer.count(0)} named {len(self.named())} weight {self.weight()} of {most_weight(self.rules, self.pages)}"
                      f" shards {len(self.live())} chunks {len(self.chunks())}")
         lines.append(f"events {self.events} of {self.limit} accepted {self.accepted} persistent {self.frontier()}")
         return "\n".join(lines)

@@ -5,10 +5,13 @@ from typing import NamedTuple
 
 PAGE = 4096
 NAMES = {6: "OddLength", 20: "BadMagic", 21: "BadDigest", 22: "BadLength", 23: "BadPadding", 24: "BadVersion", 25: "OutOfOrder", 26: "Misplaced",
-         43: "NotAStore"}
+         27: "RootLost", 43: "NotAStore"}
 GREATEST = 2**63
 # Of each format the least and the greatest number of extents, the greatest of their pages, of sections and of runs.
 BOUNDS = {2: (4, 2048, 256, 8, 4), 3: (5, 7680, 65535, 15, 24)}
+# How many bytes a chunk's head takes, and the record of a root in a section's page.
+HEADS = {2: 0, 3: 26}
+RECORDS = {2: 0, 3: 8}
 
 
 class Unread(Exception):
@@ -36,9 +39,21 @@ def geometry_of(form, extents, pages, sections):
     return most if most <= 512 and (sections - 1) * most < extents else None
 
 
+class Section(NamedTuple):
+    """A section of the superblock: which one of what store, the version of the root that was persistent as it was staged, 0 up to format 2, and the pointer and
+    the generation of each of its extents."""
+
+    form: int
+    extents: int
+    pages: int
+    sections: int
+    number: int
+    recorded: int
+    records: list
+
+
 def section(page, form=None):
-    """The store's format, extents, pages, sections, which section it is, and the pointer and the generation of each of its extents. Page 0 tells
-    the format by its fourth byte; another page has to be of it."""
+    """Page 0 tells the format by its fourth byte; another page has to be of it."""
     must(page[:3] == b"CSS", 20)
     must(page[3:4] in (b"1", b"2", b"3") if form is None else page[3] == 48 + form, 24)
     form = 3 if page[3:4] == b"3" else 2
@@ -46,6 +61,8 @@ def section(page, form=None):
     sections, number, at = (1, 0, 16) if page[3:4] == b"1" else (page[16], page[17], 18)
     most = geometry_of(form, extents, pages, sections)
     must(most is not None and number < sections, 22)
+    recorded = struct.unpack(">Q", page[at:at + 8])[0] if form == 3 else 0
+    at += RECORDS[form]
     count = min(most, extents - number * most)
     end = at + 6 * count + 32
     must(has_digest(page[:end]), 21)
@@ -53,7 +70,7 @@ def section(page, form=None):
     records = [struct.unpack(">HI", page[at + 6 * k:at + 6 * k + 6]) for k in range(count)]
     must(all(pointer <= pages for pointer, _ in records), 22)
     must(not any(page[end:]), 23)
-    return form, extents, pages, sections, number, records
+    return Section(form, extents, pages, sections, number, recorded, records)
 
 
 class Place(NamedTuple):
@@ -77,7 +94,7 @@ def places_in(form, text):
 
 
 def root(page, form):
-    """How many commands, and where the runs lie, oldest first."""
+    """Its version, how many commands, and where the runs lie, oldest first."""
     must(page[:3] == b"CSR", 20)
     must(page[3:4] == (b"3" if form == 3 else b"1"), 24)
     version, commands, count = struct.unpack(">QQB", page[4:21])
@@ -86,7 +103,7 @@ def root(page, form):
     must(has_digest(page[:end]), 21)
     must(1 <= version < GREATEST and commands < GREATEST, 24)
     must(not any(page[end:]), 23)
-    return commands, places_in(form, page[21:end - 32])
+    return version, commands, places_in(form, page[21:end - 32])
 
 
 def frame(pages, kind, mark):
@@ -100,6 +117,19 @@ def frame(pages, kind, mark):
     must(not any(pages[41 + length:-(-(41 + length) // PAGE) * PAGE]), 23)
     must(mark in (None, struct.unpack(">Q", pages[9:17])[0]), 26)
     return payload
+
+
+class Head(NamedTuple):
+    """What a chunk of format 3 begins with: whose it is, which of how many, and the number of the command that put it."""
+
+    name: bytes
+    number: int
+    count: int
+    command: int
+
+
+def head(payload):
+    return Head(bytes(payload[:16]), *struct.unpack(">BBQ", payload[16:HEADS[3]]))
 
 
 def packed_run(payload):
@@ -144,22 +174,27 @@ class Store:
         must(len(image) % PAGE == 0, 6)
         must(len(image) >= 10 * PAGE, 43)
         self.image = image
-        self.form, self.extents, self.pages, self.sections, first, records = section(self.page(0))
+        first = section(self.page(0))
+        self.form, self.extents, self.pages, self.sections = first[:4]
         kept = 1 + self.sections if self.form == 3 else 0
-        must(first == 0 and len(image) == PAGE * (1 + self.extents * self.pages + self.sections + kept), 43)
-        self.records = list(records)
+        must(first.number == 0 and len(image) == PAGE * (1 + self.extents * self.pages + self.sections + kept), 43)
+        self.records, recorded = list(first.records), first.recorded
         for number in range(1, self.sections):
-            *shape, found, records = section(self.page(1 + self.extents * self.pages + number), self.form)
-            must(shape == [self.form, self.extents, self.pages, self.sections] and found == number, 43)
-            self.records += records
-        self.commands, self.runs = root(self.page(1), self.form)
+            found = section(self.page(1 + self.extents * self.pages + number), self.form)
+            must(found[:5] == (*first[:4], number), 43)
+            self.records += found.records
+            recorded = max(recorded, found.recorded)
+        self.version, self.commands, self.runs = root(self.page(1), self.form)
+        must(self.version >= recorded, 27)
         self.entries, held = {}, []
         for place in self.runs:
             must(self.is_there(place), 43)
             payload = frame(self.rest(place), 1, place.mark)
             held.append(packed_run(payload) if self.form == 3 else run(payload))
             self.entries.update(held[-1])
-        must(len(self.entries) <= (PAGE * self.pages - 45) // (145 if self.form == 3 else 81), 43)
+        # What they take in one run: in format 3 each by its places.
+        taken = sum(17 + (16 * len(places) if self.form == 3 else 64) for places in self.entries.values())
+        must(taken <= PAGE * self.pages - 45, 43)
         # In format 3 an entry that a newer run hides may name what isn't there any more.
         asked = [self.entries] if self.form == 3 else held
         must(all(self.is_there(place) for entries in asked for places in entries.values() for place in places), 43)
@@ -187,6 +222,11 @@ class Store:
         except Unread as why:
             return why
         return None
+
+    def chunk(self, place):
+        """The head of a chunk, None up to format 2, and the bytes that it has of a shard."""
+        payload = frame(self.rest(place), 0, place.mark)
+        return (head(payload) if self.form == 3 else None), payload[HEADS[self.form]:]
 
     def damages(self):
         """The lines of a scrub, and which shards are damaged."""

@@ -3,6 +3,7 @@ from typing import NamedTuple
 
 PAGE = 4096
 HEADER = 41
+MOST_CHUNKS = 8
 # The families by number: section 0 of the superblock, the root, and the sections behind the first one.
 LETTERS = "srabcdefghijklmn"
 
@@ -26,13 +27,17 @@ class Rules(NamedTuple):
     fills: bool
     # A run's entry takes its identifier, its count and its places, each with the mark of its frame; else all have the same size.
     marks: bool
+    # A chunk begins with its head: whose it is, its number, of how many, and the number of the command that put it.
+    heads: bool
+    # A section of the superblock records the version of the root that was persistent as it was staged.
+    records: bool
 
 
 RULES = {
     2: Rules(extents=range(4, 2049), pages=range(2, 257), sections=range(1, 9), most_runs=4,
-             pages_first=True, by_size=False, apart=False, fills=False, marks=False),
+             pages_first=True, by_size=False, apart=False, fills=False, marks=False, heads=False, records=False),
     3: Rules(extents=range(5, 7681), pages=range(2, 65536), sections=range(1, 16), most_runs=24,
-             pages_first=False, by_size=True, apart=True, fills=True, marks=True),
+             pages_first=False, by_size=True, apart=True, fills=True, marks=True, heads=True, records=True),
 }
 
 
@@ -44,6 +49,7 @@ class Refused(Exception):
 DEVICE_FAULT = (1, "DeviceFault")
 IN_FLIGHT = (5, "InFlight")
 BAD_GEOMETRY = (7, "BadGeometry")
+ROOT_LOST = (27, "RootLost")
 FULL = (30, "Full")
 TOO_LARGE = (31, "TooLarge")
 INDEX_FULL = (32, "IndexFull")
@@ -57,9 +63,26 @@ def frame_pages(payload):
     return -(-(HEADER + payload) // PAGE)
 
 
+def head_of(rules, name, number, count, command):
+    """What a chunk begins with."""
+    if not rules.heads:
+        return b""
+    return bytes.fromhex(name.replace("-", "")) + bytes([number, count]) + command.to_bytes(8, "big")
+
+
+def head_bytes(rules):
+    """How many bytes a chunk's head takes."""
+    return 16 + 1 + 1 + 8 if rules.heads else 0
+
+
+def chunk_bytes(rules, pages):
+    """How many bytes of a shard a chunk has at most, of extents of so many pages."""
+    return PAGE * pages - HEADER - head_bytes(rules)
+
+
 def entry_bytes(rules, chunks):
     """How many bytes an entry of so many chunks takes in a run: an identifier, a count, and a place each; without marks there is room for eight places."""
-    return 17 + 16 * chunks if rules.marks else 17 + 8 * 8
+    return 17 + 16 * chunks if rules.marks else 17 + 8 * MOST_CHUNKS
 
 
 def run_bytes(rules, entries):
@@ -72,6 +95,12 @@ def run_pages(rules, entries):
     return frame_pages(run_bytes(rules, entries))
 
 
-def most_names(rules, pages):
-    """How many identifiers a store may name whose extents have so many pages: so many entries of eight chunks fit one run in one extent."""
-    return (PAGE * pages - HEADER - 4) // entry_bytes(rules, 8)
+def weigh(rules, chunks):
+    """What an entry of so many chunks counts of what a store may name: its bytes in a run, and one where all have the same size."""
+    return entry_bytes(rules, chunks) if rules.marks else 1
+
+
+def most_weight(rules, pages):
+    """What all entries may count together, each identifier's newest: so that one run of them fits in one extent."""
+    room = PAGE * pages - HEADER - 4
+    return room if rules.marks else room // entry_bytes(rules, 0)

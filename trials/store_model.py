@@ -6,7 +6,8 @@ import bisect
 import json
 
 from places import PUT, RUN, MERGE, Places
-from rules import FULL, HEADER, IN_FLIGHT, INDEX_FULL, LETTERS, PAGE, RULES, TOO_LARGE, Refused, frame_pages, most_names, run_bytes
+from rules import (FULL, IN_FLIGHT, INDEX_FULL, LETTERS, MOST_CHUNKS, ROOT_LOST, RULES, TOO_LARGE, Refused, chunk_bytes, frame_pages, head_bytes, head_of,
+                   most_weight, run_bytes, weigh)
 
 
 class BadLine(Exception):
@@ -55,7 +56,7 @@ class Store(Places):
         self.disk.durable = {1: (1, 0, [])}
         for section in range(sections):
             there = len(self.extents_of(section))
-            self.disk.durable[self.section_page(section)] = (1, [0] * there, [0] * there)
+            self.disk.durable[self.section_page(section)] = (1, 0, [0] * there, [0] * there)
         # whether a sync takes its rounds from one plan; else each is counted anew
         self.plans_once = False
         self.open()
@@ -78,7 +79,9 @@ class Store(Places):
         self.latest = [0, root] + [0] * (self.sections - 1)
         pointer, generation = [], []
         for section in range(self.sections):
-            version, pointers, generations = self.disk.durable[self.section_page(section)]
+            version, recorded, pointers, generations = self.disk.durable[self.section_page(section)]
+            if self.rules.records and root < recorded:
+                raise Refused(*ROOT_LOST)
             self.latest[self.family_of(section)] = version
             pointer += pointers
             generation += generations
@@ -125,8 +128,23 @@ class Store(Places):
 
     # ---- staging
 
-    def chunk_bytes(self):
-        return PAGE * self.pages - HEADER
+    def weight(self):
+        """What the newest entries count of what may be named."""
+        return sum(weigh(self.rules, len(found)) for found in self.entries().values())
+
+    def dead_weight(self):
+        """What those count of them that name nothing which lives."""
+        return (len(self.named()) - len(self.live())) * weigh(self.rules, 0)
+
+    def is_heavy(self, name, chunks):
+        """Whether the newest entries count more than they may with one of so many chunks in place of what the name has. Where all may have as many chunks as
+        there may be, nothing is counted."""
+        most = most_weight(self.rules, self.pages)
+        named = self.named()
+        if (len(named) + 1) * weigh(self.rules, MOST_CHUNKS) <= most:
+            return False
+        before = weigh(self.rules, len(self.lookup(name))) if name in named else 0
+        return most < self.weight() - before + weigh(self.rules, chunks)
 
     def stage(self, element):
         """Stages a version, which needs what the one before it needs too."""
@@ -155,7 +173,7 @@ class Store(Places):
         family = self.family_of(section)
         self.latest[family] += 1
         there = self.extents_of(section)
-        record = (self.latest[family], [self.pointer[e] for e in there], [self.generation[e] for e in there])
+        record = (self.latest[family], self.persistent[1], [self.pointer[e] for e in there], [self.generation[e] for e in there])
         needs = self.versions_with(1, max(self.reset_root[e] for e in there))
         page = self.section_page(section)
         through = self.written if self.rules.pages_first else 0
@@ -175,7 +193,7 @@ class Store(Places):
         after another, and as many more as a root has no place for; all where a quarter of the names that there may be are of nothing that lives."""
         if not self.rules.by_size:
             return 0 if len(self.runs) < self.rules.most_runs else len(self.runs)
-        if 4 * (len(self.named()) - len(self.live())) >= most_names(self.rules, self.pages):
+        if 4 * self.dead_weight() >= most_weight(self.rules, self.pages):
             return len(self.runs)
         count, size = 0, len(self.table)
         for left in range(len(self.runs), 0, -1):
@@ -228,12 +246,14 @@ class Store(Places):
     # ---- commands
 
     def put(self, name, data):
-        size = self.chunk_bytes()
-        chunks = [data[at:at + size] for at in range(0, len(data), size)] or [b""]
-        if len(chunks) > 8:
+        size = chunk_bytes(self.rules, self.pages)
+        pieces = [data[at:at + size] for at in range(0, len(data), size)] or [b""]
+        if len(pieces) > MOST_CHUNKS:
             raise Refused(*TOO_LARGE)
-        if name not in self.named() and len(self.named()) >= most_names(self.rules, self.pages):
+        if self.is_heavy(name, len(pieces)):
             raise Refused(*INDEX_FULL)
+        command = self.base + self.accepted + 1
+        chunks = [head_of(self.rules, name, number, len(pieces), command) + piece for number, piece in enumerate(pieces)]
         if self.room(PUT, [frame_pages(len(chunk)) for chunk in chunks]) is None:
             raise Refused(*FULL)
         self.table[name] = [self.append(len(chunk), ("chunk", chunk), PUT) for chunk in chunks]
@@ -242,9 +262,10 @@ class Store(Places):
 
     def get(self, name):
         found = self.lookup(name)
-        return None if not found else b"".join(self.read_chunk(locator) for locator in found)
+        return None if not found else b"".join(self.read_chunk(locator)[head_bytes(self.rules):] for locator in found)
 
     def read_chunk(self, locator):
+        """A chunk with its head."""
         page = self.page_of(locator)
         for element in reversed(self.elements):
             if element.page == page and not self.is_persistent(element):

@@ -50,10 +50,13 @@ fn print_run<R: Print>(rt: &R, run: RunUse) -> io::Result<()> {
 fn print_index<R: Print>(rt: &R, stats: &StoreStats) -> io::Result<()> {
     let empty = stats.space.empty;
     let named = stats.space.named;
-    let most = stats.space.named_limit;
+    let weight = stats.space.weight;
+    let most = stats.space.weight_limit;
     let shards = stats.space.shards;
     let chunks = stats.space.chunks;
-    println!(rt; "empty {empty} named {named} of {most} shards {shards} chunks {chunks}")
+    println!(rt;
+        "empty {empty} named {named} weight {weight} of {most} shards {shards} chunks {chunks}"
+    )
 }
 
 fn print_commands<R: Print>(rt: &R, stats: &StoreStats) -> io::Result<()> {

@@ -1,5 +1,5 @@
 -- The sections of a new store's superblock, one after another.
-use Rattle.std.proofs.Common.{◌≡◌, ◌∙◌, ◌⊎◌, inl, inr, ⊎_elim, ℕ, zero, suc, ◌+◌, ◌<◌, ◌≤◌, List, [], ◌∷◌, ◌++◌, None, Some, length, length-append, replicate, refl, sym, ap, subst, arith}
+use Rattle.std.proofs.Common.{◌≡◌, ◌∙◌, ◌⊎◌, inl, inr, ⊎_elim, ℕ, zero, suc, ◌+◌, ◌^◌, ◌<◌, ◌≤◌, Bool, true, false, if◌then◌else◌, List, [], ◌∷◌, ◌++◌, None, Some, length, length-append, replicate, refl, sym, ap, subst, arith}
 use Rattle.std.proofs.lemmas.List.{length-replicate}
 use Rattle.std.proofs.lemmas.Option.{same_Some}
 use Rattle.std.specs.List.{AllByRecursion}
@@ -7,6 +7,8 @@ use Rattle.std.specs.Prelude.{slice_get}
 use Rattle.cs_extent.specs.Sections.{AreSections, IsSectionAt}
 use Rattle.cs_frame.specs.declared.superblocks.Superblock.{Superblock}
 use Rattle.cs_frame.specs.Geometries.{IsGeometry, section_length}
+use Rattle.cs_frame.specs.Superblocks.{FitsRecord}
+use Rattle.cs_model.specs.Geometry.{records_in}
 
 -- these are the first of them, so many
 pub record AreFirst (format extents pages sections count : ℕ) (items : List Superblock) : Type 0 where
@@ -20,6 +22,14 @@ pair_is (a, b) h = ap (λ (n : ℕ). (n, b)) h.0 ∙ ap (λ (n : ℕ). (0, n)) h
 pub none_first : (format extents pages sections : ℕ) → AreFirst format extents pages sections 0 []
 none_first format extents pages sections = record { counted = refl; each = λ k it at. absurd (let clash : None ≡ Some it = at in cc clash) }
 
+-- that no root was persistent can be spelled
+none_fits : (format : ℕ) → FitsRecord format 0
+none_fits format = go (records_in format)
+  where
+    go : (b : Bool) → 0 < 256 ^ (if b then 8 else 0)
+    go true = (let small : 0 < 2 ^ 64 = omega arith in small)
+    go false = omega arith
+
 -- the last of a list, or one before it
 last_or : (xs : List Superblock) (y : Superblock) (k : ℕ) (x : Superblock) → slice_get (xs ++ y ∷ []) k ≡ Some x → (slice_get xs k ≡ Some x) ⊎ ((k ≡ length xs) × (y ≡ x))
 last_or [] y zero x at = inr (refl, same_Some y x at)
@@ -32,12 +42,13 @@ last_or (z ∷ xs) y (suc k) x at = ⊎_elim
 
 module _ (format extents pages sections : ℕ) (geometry : IsGeometry format extents pages sections) where
   -- one of them is the next
-  pub is_section : (k : ℕ) → k < sections → (it : Superblock) → it.format ≡ format → it.version ≡ 1 → it.extent_count ≡ extents → it.pages ≡ pages → it.sections ≡ sections → it.section ≡ k
+  pub is_section : (k : ℕ) → k < sections → (it : Superblock) → it.format ≡ format → it.version ≡ 1 → it.recorded ≡ 0 → it.extent_count ≡ extents → it.pages ≡ pages → it.sections ≡ sections → it.section ≡ k
       → it.extents.items ≡ replicate (section_length extents sections k) (0, 0) → IsSectionAt format extents pages sections k it
-  is_section k lt it written version counted same divided place rows = record {
+  is_section k lt it written version unrecorded counted same divided place rows = record {
     is = record {
       first_version = omega (arith, version);
       last_version = omega (arith, version);
+      recorded_fits = subst (λ (n : ℕ). FitsRecord it.format n) (sym unrecorded) (none_fits it.format);
       geometry = subst (λ (n : ℕ). IsGeometry n it.extent_count it.pages it.sections) (sym written)
           (subst (λ (n : ℕ). IsGeometry format n it.pages it.sections) (sym counted)
           (subst (λ (n : ℕ). IsGeometry format extents n it.sections) (sym same) (subst (λ (n : ℕ). IsGeometry format extents pages n) (sym divided) geometry)));

@@ -2,7 +2,7 @@
 ghost use Rattle.std.specs.Prelude.{◌<◌};
 ghost use Rattle.cs_extent.specs.State.{shape};
 
-use crate::stores::{Store, assert_families, assert_large, plays};
+use crate::stores::{Store, assert_families, assert_large, id, plays, plays_third};
 use crate::texts::{text_of, words_of};
 use cs_chunk::{
     pages_have_one_newest, put_chunks, read_chunks, read_frame, refusal_of_disk, refusal_of_fault,
@@ -15,10 +15,17 @@ use cs_frame::{FormatFault, FrameKind, Locator, Places};
 use std::alloc::Global;
 use std::process::Abort;
 
-/// Puts so many bytes.
+/// Puts so many bytes, as command 7, under the identifier that ends with 10.
 fn put(rt: &impl Abort, alloc: Global, store: &mut Store, bytes: &[u8]) -> Result<Places, Refusal> {
     assert_families(rt, &store.extents, &store.graph);
-    put_chunks(alloc, &mut store.extents, &mut store.graph, bytes)
+    put_chunks(
+        alloc,
+        &mut store.extents,
+        &mut store.graph,
+        id(10),
+        7,
+        bytes,
+    )
 }
 
 /// Asserts that a place lies in the extents.

@@ -112,7 +112,7 @@ fn encoded(rt: &(impl Abort + AllocGlobal), kind: FrameKind, payload: &[u8]) -> 
 }
 
 /// The payload of a frame.
-fn decoded(
+pub fn decoded(
     rt: &(impl Abort + AllocGlobal),
     kind: FrameKind,
     pages: &[[u8; 4096]],

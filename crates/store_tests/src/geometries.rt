@@ -1,7 +1,7 @@
 //! Geometries by scripts: which there are, and where what they divide lies. The numbers of a line are those of extents, of pages and, but
 //! after `new` and `new_third`, of sections. Those of format 3 have other words.
 use crate::texts::{byte, is_said, prints, sides, text_of, words_of};
-use cs_frame::{FormatFault, Geometry};
+use cs_frame::{FormatFault, Geometry, entry_weight};
 use std::process::Abort;
 
 /// A geometry, which has to be one.
@@ -139,11 +139,15 @@ extent 7 2 3 6 > 2
 pages 2048 256 4 > 524293
 section 2048 256 4 3 > (524292, 1536, 512)";
 
-/// How many extents of how many pages a geometry has, how many bytes a chunk, and how many identifiers an index.
-fn figures(geometry: Geometry) -> ((u16, u16), (usize, usize)) {
+/// How many extents of how many pages a geometry has, how many bytes a frame and a chunk of a shard, and what an index may weigh.
+fn figures(geometry: Geometry) -> ((u16, u16), (usize, usize, usize)) {
     (
         (geometry.extents(), geometry.pages()),
-        (geometry.payload_bytes(), geometry.named_limit()),
+        (
+            geometry.payload_bytes(),
+            geometry.chunk_bytes(),
+            geometry.most_weight(),
+        ),
     )
 }
 
@@ -157,8 +161,29 @@ fn lies_on(rt: &impl Abort, geometry: Geometry, (extent, page): (u16, u16), want
 #[test]
 fn extents_and_their_pages(rt: HostRuntime) {
     let six = geometry(&rt, 6, 2, 3);
-    prints(&rt, &figures(six), "((6, 2), (8151, 100))");
+    prints(&rt, &figures(six), "((6, 2), (8151, 8151, 100))");
     lies_on(&rt, six, (5, 1), 13);
     let widest = geometry(&rt, 2048, 256, 4);
-    prints(&rt, &figures(widest), "((2048, 256), (1048535, 12944))");
+    prints(
+        &rt,
+        &figures(widest),
+        "((2048, 256), (1048535, 1048535, 12944))",
+    );
+}
+
+/// A chunk has its head there, and an index weighs as many bytes as its entries take in one run.
+#[test]
+fn extents_of_format_3(rt: HostRuntime) {
+    let six = third(6, 2, None).expect(&rt, "a geometry");
+    prints(&rt, &figures(six), "((6, 2), (8151, 8125, 8147))");
+    let widest = third(7680, 65535, None).expect(&rt, "a geometry");
+    prints(
+        &rt,
+        &figures(widest),
+        "((7680, 65535), (268431319, 268431293, 268431315))",
+    );
+    assert!(rt; entry_weight(2, 0) == 1);
+    assert!(rt; entry_weight(2, 8) == 1);
+    assert!(rt; entry_weight(3, 0) == 17);
+    assert!(rt; entry_weight(3, 8) == 145);
 }

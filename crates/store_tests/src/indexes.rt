@@ -3,6 +3,7 @@ ghost use Rattle.std.specs.Prelude.{◌≡◌, ◌<◌, ◌^◌};
 
 use crate::stores::{
     Store, assert_families, assert_indexed, id, plays_divided, plays_large, plays_small,
+    plays_third,
 };
 use crate::texts::{byte, text_of, words_of};
 use cs_deps::{Element, Graph, Refusal};
@@ -12,7 +13,7 @@ use cs_index::{Entries, Index};
 use std::alloc::Global;
 use std::process::Abort;
 
-/// The place of a chunk, in a format in which places have no marks.
+/// The place of a chunk, of mark 0: up to format 2 places have no marks.
 fn place(page: u16) -> Locator
     ensures { result.mark ≡ 0 }
 {
@@ -34,6 +35,12 @@ fn set(
 ) -> Result<(), Refusal> {
     let locators = Places::from_slice(alloc, &[place(page)]).expect(rt, "memory");
     index.set(id(last), locators)
+}
+
+/// Whether an index has no room for so many locators of an identifier.
+fn is_full(rt: &impl Abort, index: &Index, last: u8, chunks: usize) -> bool {
+    assert!(rt; chunks <= 8);
+    index.is_full_for(id(last), chunks)
 }
 
 /// Replaces one locator of an identifier by another.
@@ -125,6 +132,8 @@ fn said_of(
         "at" => text_of(rt, &index.lookup(id(last))),
         "listed" => text_of(rt, &listed(index)),
         "counts" => text_of(rt, &(index.named_count(), index.run_count())),
+        "weight" => text_of(rt, &(index.weight(), index.limit())),
+        "full" => text_of(rt, &is_full(rt, index, last, usize::from(numbers[1]))),
         "reserve" => text_of(rt, &index.reserve(usize::from(numbers[0])).is_ok()),
         _ => text_of(rt, &index.is_table_empty()),
     }
@@ -170,6 +179,43 @@ index set 2 5 > Ok(())
 index erase 1 > true
 index set 3 5 > Err(IndexFull)
 index set 1 7 > Ok(())";
+
+/// In format 3 an entry of a chunk weighs 33, and a deletion 17, which makes room of 16. An identifier that is named may be refused more chunks.
+#[test]
+fn the_limit_is_a_weight(rt: HostRuntime) {
+    plays_third(&rt, 1, WEIGHT);
+}
+
+const WEIGHT: &str = "index weight > (0, 100)
+index set 1 5 > Ok(())
+index set 2 5 > Ok(())
+index set 3 5 > Ok(())
+index weight > (99, 100)
+index set 4 5 > Err(IndexFull)
+index set 3 6 > Ok(())
+index full 3 1 > false
+index full 3 2 > true
+index erase 1 > true
+index weight > (83, 100)
+index set 4 5 > Err(IndexFull)
+index full 1 1 > false
+index full 1 2 > true
+index erase 2 > true
+index weight > (67, 100)
+index full 4 1 > false
+index full 4 2 > true
+index set 4 5 > Ok(())
+index weight > (100, 100)
+index counts > (4, 0)
+index set 1 5 > Err(IndexFull)
+index full 5 0 > true
+index erase 3 > true
+index erase 4 > true
+index weight > (68, 100)
+index full 5 0 > false
+index full 5 1 > true
+index set 2 7 > Ok(())
+index weight > (84, 100)";
 
 #[test]
 fn five_stages_leave_one_run(rt: HostRuntime) {

@@ -25,7 +25,11 @@ mod geometries;
 #[cfg(test)]
 mod graphs;
 #[cfg(test)]
+mod heads;
+#[cfg(test)]
 mod indexes;
+#[cfg(test)]
+mod lost_roots;
 #[cfg(test)]
 mod machines;
 #[cfg(test)]

@@ -9,7 +9,7 @@ use crate::stores::geometry;
 use crate::superblocks::{SECOND_OF_THREE_FAULTS, first_format_page};
 use cs_core::{Core, Limits};
 use cs_disk::{FailAt, MemoryDisk};
-use cs_frame::{Geometry, encode_section};
+use cs_frame::{Geometry, encode_section, record_in};
 use std::alloc::Global;
 use std::process::Abort;
 
@@ -111,7 +111,8 @@ fn new_disk(rt: &(impl Abort + AllocGlobal)) -> MemoryDisk {
 fn section_page(rt: &impl Abort, geometry: Geometry, section: u8) -> [u8; 4096] {
     assert!(rt; section < geometry.sections());
     assert!(rt; geometry.section_length(section) == 2);
-    encode_section(1, geometry, section, &[(0, 0), (0, 0)])
+    let recorded = record_in(geometry.format(), 0);
+    encode_section(1, recorded, geometry, section, &[(0, 0), (0, 0)])
 }
 
 /// Asserts why a new store of three sections isn't opened of which a page has these bytes.

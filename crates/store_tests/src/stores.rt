@@ -40,6 +40,7 @@ pub fn geometry(rt: &impl Abort, extents: u64, sections: u64) -> Geometry {
 fn new_section(alloc: Global, geometry: Geometry, section: u8) -> Result<Superblock, AllocError>
     ensures format { IfOk result (λ it. it.format ≡ geometry.format) }
     ensures version { IfOk result (λ it. it.version ≡ 1) }
+    ensures record { IfOk result (λ it. it.recorded ≡ 0) }
     ensures extents { IfOk result (λ it. it.extent_count ≡ geometry.extents) }
     ensures pages { IfOk result (λ it. it.pages ≡ geometry.pages) }
     ensures sections { IfOk result (λ it. it.sections ≡ geometry.sections) }
@@ -49,6 +50,7 @@ fn new_section(alloc: Global, geometry: Geometry, section: u8) -> Result<Superbl
     Ok(Superblock {
         format: geometry.format(),
         version: 1,
+        recorded: 0,
         extent_count: geometry.extents(),
         pages: geometry.pages(),
         sections: geometry.sections(),
@@ -89,7 +91,7 @@ pub fn new_extents(rt: &impl Abort, alloc: Global, geometry: Geometry) -> Extent
     Extents::of(alloc, &sections).expect(rt, "memory")
 }
 
-/// An empty store of one section or of three for so many identifiers, with version 1 of each section and of the root persistent.
+/// An empty store of one section or of three whose index may weigh so much, with version 1 of each section and of the root persistent.
 fn new_store(rt: &impl Abort, alloc: Global, geometry: Geometry, limit: u16) -> Store {
     let extents = new_extents(rt, alloc, geometry);
     let graph = new_graph(rt, alloc, geometry.sections());
@@ -116,10 +118,11 @@ pub fn assert_families(rt: &impl Abort, extents: &Extents, graph: &Graph)
     assert!(rt; families == 1 + usize::from(sections));
 }
 
-/// Asserts that the index is that of a store of format 2 whose extents have two pages, so that it names at most a hundred identifiers.
+/// Asserts that the index is that of a store of format 2 whose extents have two pages, in which each entry weighs one, so that it names at most
+/// a hundred identifiers.
 pub fn assert_indexed(rt: &impl Abort, index: &Index, extents: &Extents)
     ensures format { index.now.format ≡ (shape extents.now).format }
-    ensures limit { index.now.limit ≡ (shape extents.now).most_names }
+    ensures limit { index.now.limit ≡ (shape extents.now).most_weight }
 {
     let geometry = extents.geometry();
     let pages = extents.extent_pages();
@@ -189,7 +192,7 @@ pub fn plays(rt: &(impl Abort + AllocGlobal), call: u64, script: &str) {
     plays_on(rt, geometry(rt, 6, 1), 100, call, script);
 }
 
-/// Does what a script says on an empty store whose index has at most so many identifiers.
+/// Does what a script says on an empty store of format 2 whose index has at most so many identifiers.
 pub fn plays_small(rt: &(impl Abort + AllocGlobal), limit: u16, script: &str) {
     plays_on(rt, geometry(rt, 6, 1), limit, 0, script);
 }
@@ -199,7 +202,7 @@ pub fn plays_large(rt: &(impl Abort + AllocGlobal), script: &str) {
     plays_on(rt, geometry(rt, 12, 1), 100, 0, script);
 }
 
-/// Does what a script says on an empty store of format 3, of 6 extents of 2 pages and of so many sections.
+/// Does what a script says on an empty store of format 3, of 6 extents of 2 pages and of so many sections, whose index may weigh 100 bytes.
 pub fn plays_third(rt: &(impl Abort + AllocGlobal), sections: u64, script: &str) {
     let third = Geometry::of_format(3, 6, 2, Some(sections)).expect(rt, "a geometry");
     plays_on(rt, third, 100, 0, script);

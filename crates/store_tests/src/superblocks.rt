@@ -107,6 +107,7 @@ fn a_superblock_of_one_section(rt: HostRuntime) {
     let superblock = Superblock {
         format: 2,
         version: 5,
+        recorded: 0,
         extent_count: 6,
         pages: 2,
         sections: 1,
@@ -121,12 +122,12 @@ fn a_superblock_of_one_section(rt: HostRuntime) {
 
 /// How that section prints.
 const ONE: &str =
-    "Superblock { format: 2, version: 5, extent_count: 6, pages: 2, sections: 1, section: 0, extents: [(2, 0), (2, 0), (0, 0), (0, 0), (0, 0), (0, 0)] }";
+    "Superblock { format: 2, version: 5, recorded: 0, extent_count: 6, pages: 2, sections: 1, section: 0, extents: [(2, 0), (2, 0), (0, 0), (0, 0), (0, 0), (0, 0)] }";
 
 #[test]
 fn a_section_of_three(rt: HostRuntime) {
     let geometry = Geometry::with_sections(6, 2, 3).expect(&rt, "a geometry");
-    let page = encode_section(3, geometry, 1, &[(1, 0), (0, 1)]);
+    let page = encode_section(3, 0, geometry, 1, &[(1, 0), (0, 1)]);
     assert!(rt; is_page(&page, &SECOND_OF_THREE));
     reads(&rt, &page, SECOND);
     reads_section(&rt, &page, SECOND);
@@ -134,7 +135,7 @@ fn a_section_of_three(rt: HostRuntime) {
 
 /// How that section prints.
 const SECOND: &str =
-    "Superblock { format: 2, version: 3, extent_count: 6, pages: 2, sections: 3, section: 1, extents: [(1, 0), (0, 1)] }";
+    "Superblock { format: 2, version: 3, recorded: 0, extent_count: 6, pages: 2, sections: 3, section: 1, extents: [(1, 0), (0, 1)] }";
 
 /// What page 0 spells in the first format is one section. No other page is read so.
 #[test]
@@ -147,7 +148,7 @@ fn a_superblock_of_the_first_format(rt: HostRuntime) {
 
 /// How it prints.
 const FIRST: &str =
-    "Superblock { format: 2, version: 3, extent_count: 6, pages: 2, sections: 1, section: 0, extents: [(2, 0), (0, 0), (0, 0), (0, 0), (0, 0), (0, 0)] }";
+    "Superblock { format: 2, version: 3, recorded: 0, extent_count: 6, pages: 2, sections: 1, section: 0, extents: [(2, 0), (0, 0), (0, 0), (0, 0), (0, 0), (0, 0)] }";
 
 #[test]
 fn damaged_first_formats(rt: HostRuntime) {

@@ -29,7 +29,14 @@ fn put(
     byte: u8,
 ) -> Result<(), Refusal> {
     assert_families(rt, &store.extents, &store.graph);
-    let places = put_chunks(alloc, &mut store.extents, &mut store.graph, &[byte])?;
+    let places = put_chunks(
+        alloc,
+        &mut store.extents,
+        &mut store.graph,
+        id(last),
+        1,
+        &[byte],
+    )?;
     let count = places.as_slice().len();
     assert!(rt; count == 1);
     // Up to format 2 it has no mark.

@@ -1,27 +1,40 @@
-//! A section, a root and a run of format 3 by their bytes, and by each byte that is damaged, and the marks of frames.
-use crate::frames::{Format, chunk_page, damaged, damaged_run, fault_of, is_page, number_of};
+//! A section, a root, a chunk and a run of format 3 by their bytes, and by each byte that is damaged, and the marks of frames.
+use crate::frames::{
+    Format, chunk_page, damaged, damaged_run, decoded, fault_of, is_page, number_of,
+};
 use crate::stores::id;
 use crate::texts::prints;
 use cs_frame::{
-    FormatFault, FrameKind, Geometry, Locator, Places, Root, Run, decode_meant_header, decode_root,
-    decode_run, decode_section, decode_superblock, encode_root, encode_run, encode_section,
-    frame_mark, read_frame_in, run_size,
+    ChunkHead, FormatFault, FrameKind, Geometry, Locator, Places, Root, Run, chunk_body,
+    decode_head, decode_meant_header, decode_root, decode_run, decode_section, decode_superblock,
+    encode_chunk, encode_head, encode_root, encode_run, encode_section, frame_mark, read_frame_in,
+    run_size,
 };
 use std::process::Abort;
 
 // The bytes are from a program in Python, which joins the three letters and the digit with the fields in the order of the layout, each
 // packed as a number without a sign, high byte first, and appends what hashlib's SHA-256 gives of all that.
 
-// The second of three sections of a store of 6 extents of 300 pages, as version 7: of one extent 299 pages are given, and the other was
-// reset once.
-const SECOND_OF_THREE: [u8; 62] = [
+// The second of three sections of a store of 6 extents of 300 pages, as version 7, as the fifth root was persistent: of one extent 299 pages are
+// given, and the other was reset once.
+const SECOND_OF_THREE: [u8; 70] = [
     0x43, 0x53, 0x53, 0x33, 0x00, 0x00, 0x00, 0x00, 0x00, 0x00, 0x00, 0x07, 0x00, 0x06, 0x01, 0x2c,
-    0x03, 0x01, 0x01, 0x2b, 0x00, 0x00, 0x00, 0x00, 0x00, 0x00, 0x00, 0x00, 0x00, 0x01, 0xbd, 0x08,
-    0xd0, 0xdc, 0xfa, 0xb6, 0xb9, 0x91, 0xd7, 0x4c, 0x24, 0xda, 0x52, 0xc1, 0x87, 0x06, 0x57, 0xec,
-    0x72, 0x3d, 0x2e, 0x40, 0x12, 0x38, 0x7f, 0xe7, 0xc4, 0x08, 0x10, 0x3e, 0x70, 0xcb,
+    0x03, 0x01, 0x00, 0x00, 0x00, 0x00, 0x00, 0x00, 0x00, 0x05, 0x01, 0x2b, 0x00, 0x00, 0x00, 0x00,
+    0x00, 0x00, 0x00, 0x00, 0x00, 0x01, 0x99, 0xb1, 0x31, 0xed, 0x7e, 0x12, 0x6f, 0xa1, 0x16, 0x57,
+    0xc6, 0x80, 0xc6, 0x2a, 0xc4, 0xaf, 0x2c, 0x69, 0xbe, 0xdb, 0xe6, 0x30, 0x78, 0x41, 0xb2, 0x53,
+    0x35, 0x6c, 0xb9, 0x7a, 0x50, 0x40,
 ];
 
-// The root of 9 commands over five runs, as version 2. The first two runs have the marks of the chunks of the byte 61 and of the byte 62, then
+// The frame of the only chunk of the shard 0a, which the first command put: the byte 61 behind its head.
+const HEADED: [u8; 68] = [
+    0x43, 0x53, 0x46, 0x31, 0x00, 0x00, 0x00, 0x00, 0x1b, 0xa8, 0x19, 0x8b, 0x9d, 0x14, 0x38, 0xaa,
+    0x25, 0x92, 0x95, 0xd5, 0xc7, 0xde, 0x94, 0x01, 0xe9, 0x2b, 0x1d, 0x64, 0x10, 0x3f, 0x79, 0x90,
+    0xb6, 0xaf, 0xae, 0x7a, 0x8a, 0x40, 0x2b, 0x6a, 0x5b, 0x00, 0x00, 0x00, 0x00, 0x00, 0x00, 0x00,
+    0x00, 0x00, 0x00, 0x00, 0x00, 0x00, 0x00, 0x00, 0x0a, 0x00, 0x01, 0x00, 0x00, 0x00, 0x00, 0x00,
+    0x00, 0x00, 0x01, 0x61,
+];
+
+// The root of 9 commands over five runs, as version 2. The first two runs have the marks of frames of the byte 61 and of the byte 62, then
 // there are the least marks and the greatest one.
 const FIVE_RUNS: [u8; 133] = [
     0x43, 0x53, 0x52, 0x33, 0x00, 0x00, 0x00, 0x00, 0x00, 0x00, 0x00, 0x02, 0x00, 0x00, 0x00, 0x00,
@@ -46,7 +59,7 @@ const TWO_PACKED: [u8; 70] = [
 
 /// How the section prints.
 const SECOND: &str =
-    "Superblock { format: 3, version: 7, extent_count: 6, pages: 300, sections: 3, section: 1, extents: [(299, 0), (0, 1)] }";
+    "Superblock { format: 3, version: 7, recorded: 5, extent_count: 6, pages: 300, sections: 3, section: 1, extents: [(299, 0), (0, 1)] }";
 
 /// How the root prints.
 const OF_FIVE: &str =
@@ -60,7 +73,7 @@ const OF_TWO: &str =
 #[test]
 fn a_section_of_format_3(rt: HostRuntime) {
     let geometry = Geometry::of_format(3, 6, 300, Some(3)).expect(&rt, "a geometry");
-    let page = encode_section(7, geometry, 1, &[(299, 0), (0, 1)]);
+    let page = encode_section(7, 5, geometry, 1, &[(299, 0), (0, 1)]);
     assert!(rt; is_page(&page, &SECOND_OF_THREE));
     let zero = decode_superblock(rt.alloc(), &page).expect(&rt, "a superblock");
     prints(&rt, &zero, SECOND);
@@ -70,7 +83,7 @@ fn a_section_of_format_3(rt: HostRuntime) {
     assert!(rt; found == 24);
 }
 
-/// The mark of the chunk of the byte 61, which is the front of its digest.
+/// The mark of a frame of the byte 61 alone, which is the front of its digest.
 const MARK: u64 = 0xca97_8112_ca1b_bdca;
 
 /// That of the byte 62.
@@ -108,6 +121,44 @@ fn a_root_over_five_runs(rt: HostRuntime) {
     prints(&rt, &read, OF_FIVE);
     let found = fault_of(&rt, Format::Root, &page);
     assert!(rt; found == 24);
+}
+
+/// The head of the only chunk of the shard 0a.
+fn head() -> ChunkHead {
+    ChunkHead {
+        id: id(10),
+        number: 0,
+        count: 1,
+        command: 1,
+    }
+}
+
+/// The digest, and with it the mark, is that of head and piece together. Up to format 2 there is no head.
+#[test]
+fn a_chunk_behind_its_head(rt: HostRuntime) {
+    let alloc = rt.alloc();
+    let pages = encode_chunk(alloc, 3, head(), b"a").expect(&rt, "a frame");
+    assert!(rt; pages.len() == 1);
+    assert!(rt; is_page(&pages[0], &HEADED));
+    assert!(rt; frame_mark(3, &pages[0]) == 0xa819_8b9d_1438_aa25);
+    let older = encode_chunk(alloc, 2, head(), b"a").expect(&rt, "a frame");
+    assert!(rt; older.len() == 1);
+    assert!(rt; older[0] == chunk_page(&rt));
+}
+
+/// What stands behind the head are the bytes of the shard.
+#[test]
+fn heads_are_read(rt: HostRuntime) {
+    let pages = encode_chunk(rt.alloc(), 3, head(), b"a").expect(&rt, "a frame");
+    let payload = decoded(&rt, FrameKind::Chunk, pages.as_slice()).expect(&rt, "bytes");
+    assert!(rt; payload.as_slice() == &HEADED[41..]);
+    assert!(rt; payload.len() == 27);
+    assert!(rt; payload[..26] == encode_head(head())[..]);
+    assert!(rt; decode_head(&payload) == Some(head()));
+    assert!(rt; decode_head(&payload[..25]) == None);
+    assert!(rt; chunk_body(3, &payload) == b"a".as_slice());
+    assert!(rt; chunk_body(2, &payload) == payload.as_slice());
+    assert!(rt; chunk_body(3, &payload[..25]).is_empty());
 }
 
 /// Entries take the bytes that they need.
@@ -167,7 +218,7 @@ fn why_not_read(rt: &(impl Abort + AllocGlobal), format: u8, mark: u64) -> u8 {
 
 #[test]
 fn damaged_pages_of_format_3(rt: HostRuntime) {
-    let section = [(3, 20), (4, 24), (62, 21), (4096, 23)];
+    let section = [(3, 20), (4, 24), (70, 21), (4096, 23)];
     damaged(&rt, Format::ThirdSection, &SECOND_OF_THREE, &section);
     let root = [(3, 20), (4, 24), (133, 21), (4096, 23)];
     damaged(&rt, Format::ThirdRoot, &FIVE_RUNS, &root);

@@ -25,7 +25,7 @@ loop-k-preserved c =
       room = omega (arith, c.loop-k.invariant.room, c.push_reserved.ensures.capacity);
       first = subst (AreFirst g.format g.extents g.pages g.sections (c.loop-k.k + 1)) (sym items)
           (more_first g.format g.extents g.pages g.sections is c.loop-k.k c.loop-k.sections.items it c.loop-k.invariant.first
-          (is_section g.format g.extents g.pages g.sections is c.loop-k.k lt it e.format e.version e.extents e.pages e.sections e.section e.rows));
+          (is_section g.format g.extents g.pages g.sections is c.loop-k.k lt it e.format e.version e.record e.extents e.pages e.sections e.section e.rows));
     }
 
 pub returns : goal.returns
