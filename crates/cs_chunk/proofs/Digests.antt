@@ -1,7 +1,7 @@
 -- What marks tell of chunks.
 use Rattle.std.proofs.Common.{◌≡◌, ◌≢◌, ◌∙◌, ◌⊎◌, ℕ, Bool, true, false, List, [], ◌∷◌, bytes_eq, eqb-true, refl, sym, ap₂, inl, inr, ⊎_elim}
 use Rattle.std.proofs.lemmas.Slice.Eq.{bytes_eq-Decides}
-use Rattle.cs_chunk.specs.Chunks.{AgreeInDigests, AreMeant, IsMeant}
+use Rattle.cs_chunk.specs.Chunks.{AgreeInDigests, AreMeant, IsMeant, TwoAgree}
 use Rattle.cs_extent.specs.State.{State, shape}
 use Rattle.cs_frame.specs.Frames.{digest_front, payload_mark, spelled_frame}
 use Rattle.cs_frame.specs.declared.locators.Locator.{Locator}
@@ -25,10 +25,6 @@ agree x [] [] (d ∷ ds) on a b = absurd b
 agree x (l ∷ ls) [] ds on a b = absurd a
 agree x (l ∷ ls) (c ∷ cs) [] on a b = absurd b
 
--- two different texts agree in eight bytes of their digests
-abbrev TwoAgree : Type 0
-TwoAgree = (c d : List ℕ) × (c ≢ d) × (digest_front c ≡ digest_front d)
-
 same_or_not : (c d : List ℕ) → (c ≡ d) ⊎ (c ≢ d)
 same_or_not c d = go (bytes_eq c d) refl
   where
@@ -36,14 +32,14 @@ same_or_not c d = go (bytes_eq c d) refl
     go true is = inl ((bytes_eq-Decides c d).0 is)
     go false is = inr (λ e. let on : bytes_eq c d ≡ true = (bytes_eq-Decides c d).1 e in cc (on, is))
 
-pub one_or_two : (cs ds : List (List ℕ)) → AgreeInDigests cs ds → (cs ≡ ds) ⊎ TwoAgree
+pub one_or_two : (cs ds : List (List ℕ)) → AgreeInDigests cs ds → (cs ≡ ds) ⊎ TwoAgree cs ds
 one_or_two [] [] are = inl refl
 one_or_two (c ∷ cs) (d ∷ ds) are = ⊎_elim
     (λ (same : c ≡ d). ⊎_elim
     (λ (rest : cs ≡ ds). inl (ap₂ (λ (y : List ℕ) (ys : List (List ℕ)). y ∷ ys) same rest))
-    (λ (two : TwoAgree). inr two)
+    (λ (two : TwoAgree cs ds). inr (inr two))
     (one_or_two cs ds are.1))
-    (λ (other : c ≢ d). inr (c, d, other, are.0))
+    (λ (other : c ≢ d). inr (inl (other, are.0)))
     (same_or_not c d)
 one_or_two [] (d ∷ ds) are = absurd are
 one_or_two (c ∷ cs) [] are = absurd are

@@ -1,5 +1,5 @@
 -- Where frames are read, and the chunks of a shard.
-use Rattle.std.specs.Prelude.{◌≡◌, ◌+◌, ◌≤◌, ℕ, true, List, [], ◌∷◌, length}
+use Rattle.std.specs.Prelude.{◌≡◌, ◌≢◌, ◌⊎◌, ◌+◌, ◌≤◌, ℕ, true, List, [], ◌∷◌, length}
 use Rattle.cs_extent.specs.State.{State, extents_of, shape}
 use Rattle.cs_frame.specs.declared.frames.FrameKind.{FrameKind as Kind}
 use Rattle.cs_frame.specs.declared.frames.FrameKind.TheVariants.{Chunk, Run}
@@ -49,3 +49,9 @@ AgreeInDigests [] [] = Unit {0}
 AgreeInDigests (c ∷ cs) (d ∷ ds) = (digest_front c ≡ digest_front d) × AgreeInDigests cs ds
 AgreeInDigests [] (d ∷ ds) = ⊥
 AgreeInDigests (c ∷ cs) [] = ⊥
+
+-- somewhere among these texts and those two different ones stand at one place, and their digests begin with the same eight bytes
+abbrev pub TwoAgree : List (List ℕ) → List (List ℕ) → Type 0
+TwoAgree (c ∷ cs) (d ∷ ds) = ((c ≢ d) × (digest_front c ≡ digest_front d)) ⊎ TwoAgree cs ds
+TwoAgree [] ds = ⊥
+TwoAgree (c ∷ cs) [] = ⊥

@@ -1,6 +1,6 @@
 //! Laws of what is read.
 ghost use Rattle.std.specs.Prelude.{◌≡◌, ◌≢◌, ◌⊎◌, ℕ, true, List};
-ghost use Rattle.cs_chunk.specs.Chunks.{AgreeInDigests, AreMeant};
+ghost use Rattle.cs_chunk.specs.Chunks.{AgreeInDigests, AreMeant, TwoAgree};
 ghost use Rattle.cs_chunk.specs.Newest.{AreNewest};
 ghost use Rattle.cs_chunk.specs.Stays.{IsBelow};
 ghost use Rattle.cs_deps.specs.State.{IsWhole as IsWholeGraph, State as GraphState};
@@ -9,7 +9,6 @@ ghost use Rattle.cs_extent.specs.Appended.{IsAppended, IsAppendedBy};
 ghost use Rattle.cs_extent.specs.State.{IsWhole, State, extents_of, shape};
 ghost use Rattle.cs_frame.specs.declared.locators.Locator.{Locator as Place};
 ghost use Rattle.cs_frame.specs.Formats.{formats_of};
-ghost use Rattle.cs_frame.specs.Frames.{digest_front};
 ghost use Rattle.cs_model.specs.Extents.{Extents as Given, Purpose, emptied};
 ghost use Rattle.cs_model.specs.Formats.{Stand};
 ghost use Rattle.cs_model.specs.Geometry.{marks_in};
@@ -36,11 +35,11 @@ pub fn what_was_put_stays()
 {}
 
 /// In a format that has marks, chunks that the same places mean have digests that begin with the same eight bytes, chunk by chunk: so their
-/// payloads are the same, or two different texts agree in eight bytes of their digests. What is read at the places of chunks that were put is
+/// payloads are the same, or at one place they are two different texts that agree in eight bytes of their digests. What is read at the places of chunks that were put is
 /// what was put, so far, whatever the disk answers.
 pub fn places_tell_digests()
     ensures digests { (x : State) (ls : List Place) (cs ds : List (List ℕ)) → marks_in x.format ≡ true
         → AreMeant (shape x) ls cs → AreMeant (shape x) ls ds → AgreeInDigests cs ds }
     ensures bytes { (cs ds : List (List ℕ)) → AgreeInDigests cs ds
-        → (cs ≡ ds) ⊎ ((c d : List ℕ) × (c ≢ d) × (digest_front c ≡ digest_front d)) }
+        → (cs ≡ ds) ⊎ TwoAgree cs ds }
 {}

@@ -59,3 +59,4 @@ pub mod TornCrashes
 pub mod Unstaged
 pub mod Versions
 pub mod Causes
+pub mod TwoTexts

@@ -1,10 +1,9 @@
 -- What the places of an identifier mean is what the map has.
 use Rattle.std.proofs.Common.{◌≡◌, ◌≢◌, ◌⊎◌, inl, inr, ⊎_elim, ◌∙◌, ℕ, true, List, [], ◌∷◌, ◌++◌, Some, map, sym, ap}
-use Rattle.cs_chunk.proofs.Digests.{agree, one_or_two}
+use Rattle.cs_core.proofs.TwoTexts.{same_or_two}
 use Rattle.cs_chunk.specs.Chunks.{AreMeant}
 use Rattle.cs_extent.specs.State.{State as ExtentsState, shape}
 use Rattle.cs_frame.specs.Formats.{as_locator, formats_of}
-use Rattle.cs_frame.specs.Frames.{digest_front}
 use Rattle.cs_index.specs.State.{index_of}
 use Rattle.cs_model.specs.Device.{Page}
 use Rattle.cs_model.specs.Element.{Bytes, Damaged, Locator as Place, Opening}
@@ -12,7 +11,7 @@ use Rattle.cs_model.specs.Events.{newest_page}
 use Rattle.cs_model.specs.Geometry.{marks_in}
 use Rattle.cs_model.specs.Index.{ReadsAs, joined_bodies, live_at}
 use Rattle.cs_model.specs.State.{State, map_now}
-use Rattle.cs_core.specs.Lookups.{AreMeantBytes}
+use Rattle.cs_core.specs.Lookups.{AreMeantBytes, SameOrTwoAgree}
 use Rattle.cs_core.specs.States.{IsStateOf}
 use Rattle.cs_core.specs.Stored.{Stored}
 use Rattle.cs_core.proofs.Sizes.{reads_there}
@@ -29,12 +28,9 @@ module _ (x : ExtentsState) (opening : Opening) (view : ℕ → Page) (pointers 
   meant_there (k ∷ ks) bytes (inl (chunk, Damaged f, reads, more, is)) = absurd (let e : Bytes bytes ≡ Damaged f = is in cc)
   meant_there (k ∷ ks) bytes (inr (f, damage, is)) = absurd (cc is)
 
--- bytes that they mean are those, or two different texts have one mark
+-- bytes that they mean are those, or two different texts at one place have one mark
 pub told_is_there : (v : Stored) (s : State) (id : ℕ) (bytes told : List ℕ) → IsStateOf v s → marks_in v.extents.format ≡ true → map_now s id ≡ Some (Bytes bytes)
-    → AreMeantBytes v id told → (told ≡ bytes) ⊎ ((c d : List ℕ) × (c ≢ d) × (digest_front c ≡ digest_front d))
+    → AreMeantBytes v id told → SameOrTwoAgree v id bytes told
 told_is_there v s id bytes told is on there meant =
-    let ks : List Place = live_at (index_of v.index) id in
-    let had = meant_there v.extents s.opening (newest_page s) s.world.extents.pointer s.world.extents.generation ks bytes
-    (reads_there (shape v.extents) (formats_of (shape v.extents)) s is.sound v.index is.parts.index id bytes there) in
-    ⊎_elim (λ (same : meant.0 ≡ had.0). inl (meant.2 ∙ ap (joined_bodies (formats_of (shape v.extents))) same ∙ sym had.2)) (λ two. inr two)
-    (one_or_two meant.0 had.0 (agree v.extents (map as_locator ks) meant.0 had.0 on meant.1 had.1))
+    same_or_two v id bytes told on (meant_there v.extents s.opening (newest_page s) s.world.extents.pointer s.world.extents.generation (live_at (index_of v.index) id) bytes
+    (reads_there (shape v.extents) (formats_of (shape v.extents)) s is.sound v.index is.parts.index id bytes there)) meant

@@ -2,7 +2,7 @@
 use Rattle.std.proofs.Common.{◌≡◌, ◌≢◌, ◌⊎◌, inl, inr, ⊎_elim, ◌∙◌, ℕ, ◌==◌, Bool, true, eq-eqb, ne_eqb, List, [], ◌∷◌, ◌++◌, None, Some, Ok, Err, map, refl, sym, ap, subst}
 use Rattle.std.proofs.lemmas.Bool.{cases_eq, cond-false, cond-true}
 use Rattle.std.specs.Prelude.{OnOk, Option, Result}
-use Rattle.cs_chunk.proofs.Digests.{agree, one_or_two}
+use Rattle.cs_core.proofs.TwoTexts.{same_or_two}
 use Rattle.cs_chunk.specs.Chunks.{AreMeant}
 use Rattle.cs_deps.specs.declared.refusals.Refusal.{Refusal as Code}
 use Rattle.cs_deps.specs.State.{State as GraphState}
@@ -12,7 +12,6 @@ use Rattle.cs_extent.specs.State.{IsWhole, State as ExtentsState, shape}
 use Rattle.cs_frame.specs.declared.identifiers.ShardId.{ShardId}
 use Rattle.cs_frame.specs.declared.locators.Locator.{Locator}
 use Rattle.cs_frame.specs.Formats.{as_locator, formats_of, place_of}
-use Rattle.cs_frame.specs.Frames.{digest_front}
 use Rattle.cs_index.specs.State.{IsSet, State as IndexState, id_number, index_of}
 use Rattle.cs_model.proofs.Payloads.{payloads_bytes}
 use Rattle.cs_model.specs.Append.{chunk_frames}
@@ -30,7 +29,7 @@ use Rattle.cs_core.specs.declared.events.Event.TheVariants.{Delete, Put}
 use Rattle.cs_core.specs.declared.events.Reply.{Reply}
 use Rattle.cs_core.specs.declared.events.Reply.TheVariants.{Accepted}
 use Rattle.cs_core.specs.Checkpoints.{Replaces}
-use Rattle.cs_core.specs.Lookups.{AreMeantBytes}
+use Rattle.cs_core.specs.Lookups.{AreMeantBytes, SameOrTwoAgree}
 use Rattle.cs_core.specs.Meanings.{command_said, commands_said}
 use Rattle.cs_core.specs.Puts.{ArePutsMeant, ChangesMeaning, MeansTheSame, MeansTheSameBut, marks_at, newest_command}
 use Rattle.cs_core.specs.Stored.{Stored}
@@ -127,9 +126,7 @@ module _ {D : Type 0} (disks : PageDisk D) where
 
 -- ---- what a get tells
 
--- bytes that the places of an identifier mean are those that were put under it last, or two different texts have one mark
+-- bytes that the places of an identifier mean are those that were put under it last, or two different texts at one place have one mark
 pub told_is_put : (v : Stored) (id : ℕ) (bytes told : List ℕ) → marks_in v.extents.format ≡ true → AreMeantBytes v id bytes → AreMeantBytes v id told
-    → (told ≡ bytes) ⊎ ((c d : List ℕ) × (c ≢ d) × (digest_front c ≡ digest_front d))
-told_is_put v id bytes told on had meant =
-    ⊎_elim (λ (same : meant.0 ≡ had.0). inl (meant.2 ∙ ap (joined_bodies (formats_of (shape v.extents))) same ∙ sym had.2)) (λ two. inr two)
-    (one_or_two meant.0 had.0 (agree v.extents (map as_locator (live_at (index_of v.index) id)) meant.0 had.0 on meant.1 had.1))
+    → SameOrTwoAgree v id bytes told
+told_is_put = same_or_two

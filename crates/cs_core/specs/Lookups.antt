@@ -1,7 +1,7 @@
 -- What a core answers outside of its history.
 use Rattle.std.specs.Prelude.{◌≡◌, ◌≢◌, ◌⊎◌, ℕ, List, [], MatchResult, Option, Some, None, Result, Ok, Err, Vec, length, map}
 use Rattle.std.specs.declared.alloc.Global.{Global}
-use Rattle.cs_chunk.specs.Chunks.{AreMeant}
+use Rattle.cs_chunk.specs.Chunks.{AreMeant, TwoAgree}
 use Rattle.cs_chunk.specs.Lengths.{AreHeadersIn, IsHeaderRefusal, IsOfHeaderIn, lengths_at}
 use Rattle.cs_chunk.specs.Reads.{IsNoAnswer}
 use Rattle.cs_deps.specs.declared.refusals.Refusal.{Refusal}
@@ -36,6 +36,12 @@ IsSize (Some (Damaged f)) result = MatchResult result (λ found. found ≢ None)
 -- bytes that the places of an identifier mean: what is behind the heads of the chunks whose frames these are, one by one
 abbrev pub AreMeantBytes : Stored → (id : ℕ) → (bytes : List ℕ) → Type 0
 AreMeantBytes v id bytes = (cs : List (List ℕ)) × AreMeant (shape v.extents) (map as_locator (live_at (index_of v.index) id)) cs × (bytes ≡ joined_bodies (formats_of (shape v.extents)) cs)
+
+-- What is told is these bytes; or the places of the identifier mean chunks of both, and a chunk of what is told and the one of these bytes at its
+-- place are two different texts that agree so.
+abbrev pub SameOrTwoAgree : Stored → (id : ℕ) → (bytes told : List ℕ) → Type 0
+SameOrTwoAgree v id bytes told = (told ≡ bytes)
+    ⊎ ((is_told : AreMeantBytes v id told) × (had : AreMeantBytes v id bytes) × TwoAgree is_told.0 had.0)
 
 -- whichever state store and disk are in, this is told of the size of what its map has
 unfoldable pub TellsSize : Stored → DiskState → (id : ℕ) → Result (Option ℕ) Refusal → Type 0

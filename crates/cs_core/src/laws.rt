@@ -7,7 +7,6 @@ ghost use Rattle.cs_deps.specs.Staging.{IsKept};
 ghost use Rattle.cs_disk.specs.Disk.{Image, LeavesOnly, MayLeave, State as DiskState, page};
 ghost use Rattle.cs_extent.specs.State.{shape};
 ghost use Rattle.cs_frame.specs.Formats.{formats_of};
-ghost use Rattle.cs_frame.specs.Frames.{digest_front};
 ghost use Rattle.cs_frame.specs.Geometries.{IsGeometry};
 ghost use Rattle.cs_model.specs.Apart.{MayStage as MayStageIn, by_rule};
 ghost use Rattle.cs_model.specs.Disk.{page_writes};
@@ -16,7 +15,7 @@ ghost use Rattle.cs_model.specs.Geometry.{marks_in};
 ghost use Rattle.cs_model.specs.State.{State, map_now};
 ghost use Rattle.cs_refine.specs.Crashes.{IsPrefix, IsTornFrom};
 ghost use Rattle.cs_refine.specs.Devices.{persistent_image};
-ghost use Rattle.cs_core.specs.Lookups.{AreMeantBytes};
+ghost use Rattle.cs_core.specs.Lookups.{AreMeantBytes, SameOrTwoAgree};
 ghost use Rattle.cs_core.specs.Meanings.{commands_said};
 ghost use Rattle.cs_core.specs.Puts.{newest_command};
 ghost use Rattle.cs_core.specs.Calls.{AreCalls, IsRoundDone};
@@ -42,21 +41,21 @@ pub fn what_may_be_staged_agrees()
 {}
 
 /// Of a store in a state of the machine: in a format that has marks, bytes that the places of an identifier mean are those that the map has, or
-/// two different texts agree in the first eight bytes of their digests. The clause `meant` of `Core::apply` says that a Get tells such bytes,
+/// one of their chunks and the one that the map has at its place differ and agree in the first eight bytes of their digests. The clause `meant` of `Core::apply` says that a Get tells such bytes,
 /// whatever the disk answers to it: a page that was written elsewhere, one that was lost, or an older one.
 pub fn what_places_mean_is_what_the_map_has()
     ensures { (v : Stored) (s : State) (id : ℕ) (bytes told : List ℕ) → IsStateOf v s → marks_in v.extents.format ≡ true
         → map_now s id ≡ Some (Bytes bytes) → AreMeantBytes v id told
-        → (told ≡ bytes) ⊎ ((c d : List ℕ) × (c ≢ d) × (digest_front c ≡ digest_front d)) }
+        → SameOrTwoAgree v id bytes told }
 {}
 
 /// Of a core over any disk: in a format that has marks, bytes that the places of an identifier mean are those that were put under it last since
-/// the core was opened, if nothing deleted it since, or two different texts agree in the first eight bytes of their digests. The clause `meant`
+/// the core was opened, if nothing deleted it since, or one of their chunks and the one that was put at its place differ and agree in the first eight bytes of their digests. The clause `meant`
 /// of `Core::apply` says that a Get tells such bytes.
 pub fn what_places_mean_is_what_was_put<D: PageDisk>()
     ensures { (v : View D) (id : ℕ) (bytes told : List ℕ) → IsCore D.PageDisk v → marks_in v.store.extents.format ≡ true
         → newest_command (commands_said v.history) id ≡ Some (Some bytes) → AreMeantBytes v.store id told
-        → (told ≡ bytes) ⊎ ((c d : List ℕ) × (c ≢ d) × (digest_front c ≡ digest_front d)) }
+        → SameOrTwoAgree v.store id bytes told }
 {}
 
 /// A round that begins and ends lowers by one the height of each element that waited as it began and waits still, whatever is

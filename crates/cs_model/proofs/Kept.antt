@@ -112,7 +112,7 @@ module _ (S : Shape) (F : Formats) where
         (by o.3 t _ _ o.6 (record { opened = refl; start = refl; opening = refl; count = refl; commands = refl })))
   ]
 
-  does_on : (s t : State) (event : Event) (reply : Reply) → Does S F s event reply t
+  pub does_on : (s t : State) (event : Event) (reply : Reply) → Does S F s event reply t
       → GoesOn s t (command_of event reply)
   does_on s t (Put id bytes) (Accepted n) d = by s t _ _ d.6
       (subst (λ (x : State). GoesOn s

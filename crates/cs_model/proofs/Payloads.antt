@@ -1,5 +1,5 @@
 -- The payloads of a put: the pieces of its bytes, each behind its head.
-use Rattle.std.proofs.Common.{◌≡◌, ℕ, suc, ◌*◌, ◌<◌, ◌≤◌, List, [], ◌∷◌, ◌++◌, length, refl, sym, ap, ap₂, ◌∙◌, le_of_eq, le_trans, arith}
+use Rattle.std.proofs.Common.{◌≡◌, ℕ, zero, suc, ◌+◌, Option, Some, ◌*◌, ◌<◌, ◌≤◌, List, [], ◌∷◌, ◌++◌, length, refl, sym, ap, ap₂, ◌∙◌, le_of_eq, le_trans, arith}
 use Rattle.cs_model.proofs.Chunks.{chunked_one, chunked_there}
 use Rattle.cs_model.proofs.Counting.{few_chunks}
 use Rattle.cs_model.specs.Device.{IsShape, Shape}
@@ -7,11 +7,27 @@ use Rattle.cs_model.specs.Events.{ArePayloads, with_heads}
 use Rattle.cs_model.specs.Formats.{Formats}
 use Rattle.cs_model.specs.Frames.{IsFormat}
 use Rattle.cs_model.specs.Index.{joined, joined_bodies}
+use Rattle.cs_model.specs.Lists.{nth}
+use Rattle.std.proofs.lemmas.Option.{same_Some}
 
 pub length_heads : (F : Formats) (id number count command : ℕ) (pieces : List (List ℕ))
     → length (with_heads F id number count command pieces) ≡ length pieces
 length_heads F id number count command [] = refl
 length_heads F id number count command (piece ∷ pieces) = ap suc (length_heads F id (suc number) count command pieces)
+
+-- each begins with the head of its number
+head_at : (F : Formats) (id number count command k : ℕ) (pieces : List (List ℕ)) (payload : List ℕ)
+    → nth (with_heads F id number count command pieces) k ≡ Some payload
+    → (piece : List ℕ) × (payload ≡ F.head id (number + k) count command ++ piece)
+head_at F id number count command k [] payload there = absurd (cc there)
+head_at F id number count command zero (piece ∷ pieces) payload there = (
+  piece,
+  sym (same_Some (F.head id number count command ++ piece) payload there)
+      ∙ ap (λ (n : ℕ). F.head id n count command ++ piece) (let e : number ≡ number + 0 = omega arith in e),
+)
+head_at F id number count command (suc k) (piece ∷ pieces) payload there =
+    let more = head_at F id (suc number) count command k pieces payload there in
+    (more.0, more.1 ∙ ap (λ (n : ℕ). F.head id n count command ++ more.0) (let e : suc number + k ≡ number + suc k = omega arith in e))
 
 module _ (S : Shape) (F : Formats) where
   -- behind the heads are the pieces
@@ -54,3 +70,14 @@ module _ (S : Shape) (F : Formats) where
       → ArePayloads S F id command bytes cs → length bytes ≤ S.most_chunks * S.chunk_bytes → length cs ≤ S.most_chunks
   payloads_few shape id command bytes cs a short = le_trans (le_of_eq (payloads_length id command bytes cs a))
       (few_chunks S.chunk_bytes S.most_chunks bytes a.0 shape.some_chunk a.1.2 a.1.0 short)
+
+  -- payload k begins with the head of chunk k
+  pub payloads_heads : (id command : ℕ) (bytes : List ℕ) (cs : List (List ℕ)) (k : ℕ) (payload : List ℕ)
+      → ArePayloads S F id command bytes cs → nth cs k ≡ Some payload
+      → (piece : List ℕ) × (payload ≡ F.head id k (length cs) command ++ piece)
+  payloads_heads id command bytes cs k payload a there =
+      let found = head_at F id 0 (length a.0) command k a.0 payload (ap (λ (xs : List (List ℕ)). nth xs k) (sym a.2) ∙ there) in (
+        found.0,
+        found.1 ∙ ap (λ (n : ℕ). F.head id n (length a.0) command ++ found.0) (let e : 0 + k ≡ k = omega arith in e)
+            ∙ ap (λ (n : ℕ). F.head id k n command ++ found.0) (sym (payloads_length id command bytes cs a)),
+      )

@@ -10,15 +10,15 @@ ghost use Rattle.cs_model.specs.Geometry.{shape_of};
 ghost use Rattle.cs_model.specs.Grounds.{NoRoomToStage, Refuses, TooHeavy};
 ghost use Rattle.cs_model.specs.Distinct.{AreDistinct};
 ghost use Rattle.cs_model.specs.Index.{joined_bodies};
-ghost use Rattle.cs_model.specs.Lists.{◌∈◌};
+ghost use Rattle.cs_model.specs.Lists.{◌∈◌, nth};
 ghost use Rattle.cs_model.specs.Refusal.{IndexFull};
 ghost use Rattle.cs_model.specs.Round.{IsMember, IsRound, NothingWaits};
 ghost use Rattle.cs_model.specs.Sound.{Bounded, Sound};
-ghost use Rattle.cs_model.specs.State.{Begin, Begun, Delete, End, Ended, Event, Issue, Issued, MoveOne, Put, Reply, Retire, Stage, Staged, State, after_all, commands_of, index_now, map_now};
+ghost use Rattle.cs_model.specs.State.{Accepted, Begin, Begun, Delete, End, Ended, Event, Issue, Issued, MoveOne, Put, Reply, Retire, Stage, Staged, State, after_all, commands_of, index_now, map_now, next_command};
 ghost use Rattle.cs_model.specs.Stays.{KeepsRound, RootsAfter};
 ghost use Rattle.cs_model.specs.Step.{DependsOn, History, Step};
 ghost use Rattle.cs_model.specs.Tally.{dead_weight, living_weight};
-ghost use Rattle.std.specs.Prelude.{◌≡◌, ◌≢◌, ◌↔◌, ◌<◌, ◌≤◌, ◌+◌, ◌-◌, ◌*◌, ◌/◌, ◌++◌, ◌∷◌, [], ℕ, true, false, List, length};
+ghost use Rattle.std.specs.Prelude.{◌≡◌, ◌≢◌, ◌↔◌, ◌<◌, ◌≤◌, ◌+◌, ◌-◌, ◌*◌, ◌/◌, ◌++◌, ◌∷◌, [], ℕ, suc, Some, true, false, List, length};
 
 /// In every sound state every event has an answer: it is refused, or does what it does. So the refusals are exact.
 pub fn events_are_total()
@@ -37,6 +37,9 @@ pub fn commands_go_on()
         → map_now t ≡ after_all (map_now s) (commands_of history) }
     ensures opened { (S : Shape) (F : Formats) (s t : State) (history : List (Event × Reply)) → History S F s history t
         → (t.opened ≡ s.opened) × (t.start ≡ s.start) × (t.opening ≡ s.opening) × (t.count ≡ s.count) }
+    // A put's number goes on from those of the root at open, and the next command's is one more.
+    ensures numbers { (S : Shape) (F : Formats) (s t : State) (id n : ℕ) (bytes : List ℕ) → Does S F s (Put id bytes) (Accepted n) t
+        → (next_command s ≡ s.count + n) × (next_command t ≡ suc (next_command s)) }
 {}
 
 /// Command n depends on a persistent root exactly where n is at most the frontier.
@@ -139,6 +142,10 @@ pub fn a_put_has_one_list_of_payloads()
         → length payloads ≡ length pieces }
     ensures bytes { (S : Shape) (F : Formats) (id command : ℕ) (bytes : List ℕ) (payloads : List (List ℕ)) → IsFormat S F
         → ArePayloads S F id command bytes payloads → joined_bodies F payloads ≡ bytes }
+    // Each says its number, counted from 0 on, and how many there are.
+    ensures heads { (S : Shape) (F : Formats) (id command : ℕ) (bytes : List ℕ) (payloads : List (List ℕ)) (k : ℕ) (payload : List ℕ)
+        → ArePayloads S F id command bytes payloads → nth payloads k ≡ Some payload
+        → (piece : List ℕ) × (payload ≡ F.head id k (length payloads) command ++ piece) }
 {}
 
 /// After a Stage that merges by size the deletions weigh less than a quarter of what the newest entries may. So a put isn't refused 32

@@ -14,3 +14,4 @@ pub mod RetireKeeps
 pub mod Retiring
 pub mod Sweeping
 pub mod SweptStays
+pub mod Marked

@@ -1,6 +1,6 @@
 //! Laws of sweeps.
 ghost use Rattle.std.specs.Prelude.{◌≡◌, ◌≢◌, Bool, ℕ, List};
-ghost use Rattle.cs_chunk.specs.Chunks.{AreChunksIn, IsFrameIn};
+ghost use Rattle.cs_chunk.specs.Chunks.{AreChunksIn, AreMeant, IsFrameIn};
 ghost use Rattle.cs_chunk.specs.Newest.{AreNewest};
 ghost use Rattle.cs_deps.specs.State.{IsWhole as IsWholeGraph, State as GraphState};
 ghost use Rattle.cs_disk.specs.Disk.{Image};
@@ -44,4 +44,10 @@ pub fn a_sweep_keeps_every_shard()
         → (ls : List Spot) (cs : List (List ℕ)) → AreBelow S x ls cs → AreBelow S y ls cs }
     ensures read { (x y : State) (e : ℕ) (b : Bool) (view : ℕ → List ℕ) → extents_of y ≡ marked (extents_of x) e b → shape y ≡ shape x
         → (ls : List Spot) (cs : List (List ℕ)) → AreChunksIn x view ls cs → AreChunksIn y view ls cs }
+{}
+
+/// A move leaves each chunk of each shard its mark, whatever the disk answered to the read. So what the places mean afterwards they meant before.
+pub fn moves_keep_marks()
+    ensures { (s t : IndexState) (x y : State) (g h : GraphState) (e id chunk : ℕ) (payload : List ℕ) → IsMoved s x g e id chunk payload t y h
+        → (d : ℕ) (cs : List (List ℕ)) → AreMeant (shape x) (places_at t d) cs → AreMeant (shape x) (places_at s d) cs }
 {}

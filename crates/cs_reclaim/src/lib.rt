@@ -16,5 +16,5 @@ mod sweeps;
 pub use apart::{a_sweep_apart_keeps_every_shard, a_swept_extent_stays_apart, copies_stay};
 pub use blanks::{free_blank, is_any_swept};
 pub use copies::Copies;
-pub use laws::{a_sweep_keeps_every_shard, a_swept_extent_stays};
+pub use laws::{a_sweep_keeps_every_shard, a_swept_extent_stays, moves_keep_marks};
 pub use sweeps::{Sweep, is_sweepable};
